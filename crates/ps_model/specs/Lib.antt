@@ -1,0 +1,4 @@
+pub mod Limits
+pub mod Grid
+pub mod Movement
+pub mod WeakMovement

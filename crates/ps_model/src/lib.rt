@@ -1,0 +1,17 @@
+//! The definitions that all contracts of Lizhakoven cite, and the plain types that they speak of.
+//!
+//! Nothing here runs: `specs/` says what a text, a board, a frame and a run mean, and each other crate
+//! proves that its code does just that.
+#![tactic(auto)]
+
+mod faults;
+mod memory;
+mod pieces;
+mod play;
+mod texts;
+
+pub use faults::{Fault, FaultKind};
+pub use memory::Memory;
+pub use pieces::{Direction, LayerId, Motion, ObjectId, Slot};
+pub use play::{Ending, Input, Key};
+pub use texts::{Cut, Section, Span};
