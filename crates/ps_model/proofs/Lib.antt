@@ -1,1 +1,3 @@
+pub mod BaseText
+mod LineRows
 mod MovementRows

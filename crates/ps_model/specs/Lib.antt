@@ -2,3 +2,5 @@ pub mod Limits
 pub mod Grid
 pub mod Movement
 pub mod WeakMovement
+pub mod Words
+pub mod Lines
