@@ -1,3 +1,4 @@
 pub mod BaseText
 mod LineRows
 mod MovementRows
+mod NameRows

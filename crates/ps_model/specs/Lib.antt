@@ -2,5 +2,8 @@ pub mod Limits
 pub mod Grid
 pub mod Movement
 pub mod WeakMovement
+pub mod OptionSteps
 pub mod Words
 pub mod Lines
+pub mod Names
+pub mod ThinNames

@@ -14,4 +14,4 @@ pub use faults::{Fault, FaultKind};
 pub use memory::Memory;
 pub use pieces::{Direction, LayerId, Motion, ObjectId, Slot};
 pub use play::{Ending, Input, Key};
-pub use texts::{Cut, Section, Span};
+pub use texts::{Cut, Joiner, ObjectStage, Section, Span};

@@ -32,3 +32,27 @@ pub enum Cut {
     /// At blanks and commas.
     Layers,
 }
+
+/// Where a reader of OBJECTS stands when it comes to a line.
+#[derive(Clone, Copy, PartialEq, Eq, Debug)]
+pub enum ObjectStage {
+    /// Between objects: a line that isn't blank names the next one.
+    Between,
+    /// Right below a name, where the colours stand.
+    Named,
+    /// Right below the colours: a sprite row, or else the end of this object.
+    Coloured,
+    /// Below so many sprite rows, one to four, that ask for the next.
+    Sprite(u32),
+}
+
+/// How a legend line joins the names on its right.
+#[derive(Clone, Copy, PartialEq, Eq, Debug)]
+pub enum Joiner {
+    /// There is one name alone: the line declares a synonym.
+    Alone,
+    /// By `and`: the line declares an aggregate.
+    And,
+    /// By `or`: the line declares a property.
+    Or,
+}
