@@ -2,3 +2,4 @@ pub mod BaseText
 mod LineRows
 mod MovementRows
 mod NameRows
+mod OutputRows

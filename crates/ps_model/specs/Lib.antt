@@ -7,3 +7,10 @@ pub mod Words
 pub mod Lines
 pub mod Names
 pub mod ThinNames
+pub mod Levels
+pub mod ThinLevels
+pub mod ThinGame
+pub mod Frames
+pub mod Keys
+pub mod Turns
+pub mod ThinOutput

@@ -1,0 +1,66 @@
+-- What a run of a game without rules writes: the opening, then a text for each key up to an ending.
+use Rattle.std.specs.Prelude.{◌≡◌, ℕ, List, [], ◌∷◌, ◌++◌, codes}
+use Rattle.ps_model.specs.declared.play.Ending.{Ending}
+use Rattle.ps_model.specs.declared.play.Ending.TheVariants.{Quit as Quits, EndOfKeys}
+use Rattle.ps_model.specs.declared.play.Input.{Input}
+use Rattle.ps_model.specs.declared.play.Key.{Key}
+use Rattle.ps_model.specs.declared.play.Key.TheVariants.{Move, Undo, Restart, Quit}
+use Rattle.ps_model.specs.Names.{Names}
+use Rattle.ps_model.specs.Grid.{Grid}
+use Rattle.ps_model.specs.Levels.{loaded}
+use Rattle.ps_model.specs.Movement.{slid}
+use Rattle.ps_model.specs.WeakMovement.{IsWeaklySlid}
+use Rattle.ps_model.specs.Frames.{written_line, frame}
+use Rattle.ps_model.specs.Turns.{with_input}
+use Rattle.ps_model.specs.Keys.{keys_of}
+use Rattle.ps_model.specs.ThinGame.{Game}
+
+-- what is written, and how it ends
+pub record Output : Type 0 where
+  pub written : List ℕ
+  pub ending : Ending
+
+-- a text before an output
+abbrev pub after_text : List ℕ → Output → Output
+after_text text rest = record { written = text ++ rest.written; ending = rest.ending }
+
+-- the line of each ending that a key or the end of the keys brings
+abbrev pub quit_line : List ℕ
+quit_line = codes "* quit\n"
+
+abbrev pub end_of_keys_line : List ℕ
+end_of_keys_line = codes "* end of keys\n"
+
+-- the grid after an input
+abbrev pub turned : Names → Input → Grid → Grid
+turned names input g = slid (with_input names input g)
+
+-- what the keys bring from a grid on; keys that take back or restart mean nothing yet
+abbrev pub output_from : Names → Grid → List Key → Output
+output_from names g [] = record { written = end_of_keys_line; ending = EndOfKeys }
+output_from names g (Move input ∷ keys) = let next : Grid = turned names input g in after_text (frame names next) (output_from names next keys)
+output_from names g (Undo ∷ keys) = output_from names g keys
+output_from names g (Restart ∷ keys) = output_from names g keys
+output_from names g (Quit ∷ keys) = record { written = quit_line; ending = Quits }
+
+-- the opening: the title, the number of the level, and its first frame
+abbrev pub opening : Game → List ℕ
+opening game = written_line (codes "= ") game.title ++ (codes "# level 1\n" ++ frame game.names (loaded game.names game.level))
+
+-- the output of a game on bytes
+abbrev pub output : Game → List ℕ → Output
+output game bytes = after_text (opening game) (output_from game.names (loaded game.names game.level) (keys_of bytes))
+
+-- what the keys may bring from a grid on, where each movement may be any weak slide
+abbrev pub MayBring : Names → Grid → List Key → Output → Type 0
+MayBring names g [] out = out ≡ record { written = end_of_keys_line; ending = EndOfKeys }
+MayBring names g (Move input ∷ keys) out =
+    (next : Grid) × (rest : Output) × IsWeaklySlid (with_input names input g) next × (out ≡ after_text (frame names next) rest) × MayBring names next keys rest
+MayBring names g (Undo ∷ keys) out = MayBring names g keys out
+MayBring names g (Restart ∷ keys) out = MayBring names g keys out
+MayBring names g (Quit ∷ keys) out = out ≡ record { written = quit_line; ending = Quits }
+
+-- the output of a game on bytes, where each movement may be any weak slide
+abbrev pub MayWrite : Game → List ℕ → Output → Type 0
+MayWrite game bytes out =
+    (rest : Output) × (out ≡ after_text (opening game) rest) × MayBring game.names (loaded game.names game.level) (keys_of bytes) rest
