@@ -1,0 +1,11 @@
+//! Boards: what a level looks like at one moment, as code reads and changes it.
+//!
+//! [`Board`] says what any board can do, in terms of the grid that it shows. [`ListBoard`] keeps its slots in one list.
+#![tactic(auto)]
+
+mod board;
+mod list_board;
+
+pub use board::Board;
+pub use list_board::ListBoard;
+pub use ps_model::{Direction, LayerId, Memory, Motion, ObjectId, Slot};

@@ -1,0 +1,205 @@
+//! A board that keeps its slots in one list.
+
+ghost use Rattle.std.specs.Prelude.{◌≡◌, ℕ, ◌+◌, ◌*◌, ◌<◌, ◌≤◌, IfOk, None, vec_len};
+ghost use Rattle.std.specs.Simd.{first_chunks};
+ghost use Rattle.ps_model.specs.Grid.{slot_at, slot_at_rest, slot_of};
+ghost use Rattle.ps_model.specs.Limits.{layer_limit, side_limit};
+
+use crate::board::Board;
+use ps_model::{LayerId, Memory, Motion, ObjectId, Slot};
+use std::alloc::Global;
+
+/// A board as one list of slots: the cells in the order of their numbers, and of each cell its layers, the lowest first.
+#[derive(Drop)]
+pub struct ListBoard {
+    width: u32,
+    height: u32,
+    layers: u32,
+    slots: Vec<Slot>,
+    ghost some_column: { 0 < width },
+    ghost columns: { width ≤ side_limit },
+    ghost some_row: { 0 < height },
+    ghost rows: { height ≤ side_limit },
+    ghost some_layer: { 0 < layers },
+    ghost few_layers: { layers ≤ layer_limit },
+    ghost whole: { vec_len slots ≡ width * height * layers },
+}
+
+impl ListBoard {
+    /// Where the slot of a cell on a layer stands in the list.
+    fn place(&self, cell: u32, layer: LayerId) -> usize
+        requires cell { cell < self.now.width * self.now.height }
+        requires layer { layer.0 < self.now.layers }
+        ensures place { result ≡ cell * self.now.layers + layer.0 }
+        ensures within { result < vec_len self.now.slots }
+    {
+        (cell * self.layers + layer.0) as usize
+    }
+
+    /// The slot of a cell on a layer.
+    fn slot(&self, cell: u32, layer: LayerId) -> Slot
+        requires cell { cell < self.now.width * self.now.height }
+        requires layer { layer.0 < self.now.layers }
+        ensures { result ≡ slot_at (⟦<ListBoard as Board>⟧.grid self.now) cell layer.0 }
+    {
+        self.slots[self.place(cell, layer)]
+    }
+}
+
+/// The same slot, its object at rest.
+fn rested(slot: Slot) -> Slot
+    ensures { result ≡ slot_at_rest slot }
+{
+    match slot {
+        Slot::Bare => Slot::Bare,
+        Slot::Holds { object, .. } => Slot::Holds {
+            object,
+            motion: Motion::Still,
+        },
+    }
+}
+
+/// The slot with an object and its motion, or without an object.
+fn slot_with(object: Option<ObjectId>, motion: Motion) -> Slot
+    ensures { result ≡ slot_of object motion }
+{
+    match object {
+        None => Slot::Bare,
+        Some(object) => Slot::Holds { object, motion },
+    }
+}
+
+impl Board for ListBoard {
+    ghost grid = { λ b. record { width = b.width; height = b.height; layers = b.layers; cells = first_chunks b.layers (b.width * b.height) b.slots.items } };
+
+    fn try_empty(alloc: Global, width: u32, height: u32, layers: u32) -> Result<ListBoard, Memory> {
+        let count = width * height * layers;
+        let slots = Vec::from_elem(alloc, Slot::Bare, count as usize)?;
+        Ok(ListBoard {
+            width,
+            height,
+            layers,
+            slots,
+        })
+    }
+
+    fn try_copy(&self, alloc: Global) -> Result<ListBoard, Memory> {
+        let slots = Vec::from_slice(alloc, &self.slots)?;
+        Ok(ListBoard {
+            width: self.width,
+            height: self.height,
+            layers: self.layers,
+            slots,
+        })
+    }
+
+    fn size(&self) -> (u32, u32) {
+        (self.width, self.height)
+    }
+
+    fn layers(&self) -> u32 {
+        self.layers
+    }
+
+    fn object(&self, cell: u32, layer: LayerId) -> Option<ObjectId> {
+        match self.slot(cell, layer) {
+            Slot::Bare => None,
+            Slot::Holds { object, .. } => Some(object),
+        }
+    }
+
+    fn motion(&self, cell: u32, layer: LayerId) -> Motion {
+        match self.slot(cell, layer) {
+            Slot::Bare => Motion::Still,
+            Slot::Holds { motion, .. } => motion,
+        }
+    }
+
+    fn put(&mut self, cell: u32, layer: LayerId, object: Option<ObjectId>, motion: Motion) {
+        let place = self.place(cell, layer);
+        self.slots[place] = slot_with(object, motion);
+    }
+
+    fn clear_moves(&mut self) {
+        for slot in self.slots.iter_mut() {
+            *slot = rested(*slot);
+        }
+    }
+
+    fn copy_into(&self, other: &mut ListBoard) {
+        other.slots.copy_from_slice(&self.slots);
+    }
+}
+
+#[cfg(test)]
+mod tests {
+    use super::*;
+    use ps_model::Direction;
+    use std::test::Fail;
+
+    const CRATE: ObjectId = ObjectId(7);
+
+    const PUSHED: Motion = Motion::Going(Direction::Left);
+
+    #[test]
+    fn an_empty_board_has_no_object(rt: HostRuntime) -> Result<(), Fail> {
+        let board = ListBoard::try_empty(rt.alloc(), 2, 1, 4)?;
+        assert_eq!(rt; board.size(), (2, 1));
+        assert_eq!(rt; board.layers(), 4);
+        for cell in 0..2u32 {
+            for layer in 0..4u32 {
+                assert_eq!(rt; board.object(cell, LayerId(layer)), None);
+                assert_eq!(rt; board.motion(cell, LayerId(layer)), Motion::Still);
+            }
+        }
+        Ok(())
+    }
+
+    #[test]
+    fn put_sets_one_slot_and_no_other(rt: HostRuntime) -> Result<(), Fail> {
+        let mut board = ListBoard::try_empty(rt.alloc(), 2, 1, 4)?;
+        board.put(1, LayerId(2), Some(CRATE), PUSHED);
+        for cell in 0..2u32 {
+            for layer in 0..4u32 {
+                let here = cell == 1 && layer == 2;
+                let (object, motion) = if here {
+                    (Some(CRATE), PUSHED)
+                } else {
+                    (None, Motion::Still)
+                };
+                assert_eq!(rt; board.object(cell, LayerId(layer)), object);
+                assert_eq!(rt; board.motion(cell, LayerId(layer)), motion);
+            }
+        }
+        Ok(())
+    }
+
+    #[test]
+    fn a_copy_is_equal_and_apart(rt: HostRuntime) -> Result<(), Fail> {
+        let mut board = ListBoard::try_empty(rt.alloc(), 1, 2, 1)?;
+        board.put(1, LayerId(0), Some(CRATE), PUSHED);
+        let copy = board.try_copy(rt.alloc())?;
+        board.put(1, LayerId(0), None, Motion::Still);
+        assert_eq!(rt; copy.size(), (1, 2));
+        assert_eq!(rt; copy.layers(), 1);
+        assert_eq!(rt; copy.object(0, LayerId(0)), None);
+        assert_eq!(rt; copy.object(1, LayerId(0)), Some(CRATE));
+        assert_eq!(rt; copy.motion(1, LayerId(0)), PUSHED);
+        Ok(())
+    }
+
+    #[test]
+    fn copies_into_another_and_rests(rt: HostRuntime) -> Result<(), Fail> {
+        let mut board = ListBoard::try_empty(rt.alloc(), 1, 2, 1)?;
+        let mut other = ListBoard::try_empty(rt.alloc(), 1, 2, 1)?;
+        board.put(1, LayerId(0), Some(CRATE), PUSHED);
+        board.copy_into(&mut other);
+        board.clear_moves();
+        assert_eq!(rt; board.object(1, LayerId(0)), Some(CRATE));
+        assert_eq!(rt; board.motion(1, LayerId(0)), Motion::Still);
+        assert_eq!(rt; other.object(0, LayerId(0)), None);
+        assert_eq!(rt; other.object(1, LayerId(0)), Some(CRATE));
+        assert_eq!(rt; other.motion(1, LayerId(0)), PUSHED);
+        Ok(())
+    }
+}
