@@ -1,0 +1,6 @@
+//! Plays a game of PuzzleScript at a terminal.
+#![tactic(auto)]
+
+mod devices;
+
+fn main(_rt: HostRuntime) {}
