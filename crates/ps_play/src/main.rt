@@ -5,6 +5,8 @@
 mod devices;
 mod report;
 mod run;
+#[cfg(test)]
+mod tests;
 
 use clap::error::ErrorKind;
 use clap::{Arg, ArgAction, Command};
