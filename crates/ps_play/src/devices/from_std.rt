@@ -1,0 +1,145 @@
+//! The system's streams as devices.
+
+ghost use Rattle.std.specs.Prelude.{◌≡◌, ◌≤◌, None, false, length, take, drop, IfOk, OnErr};
+ghost use Rattle.ps_play.specs.Devices.{Grows, Loses, IsSpent, most_calls};
+
+use super::traits::{ByteReader, ByteWriter, Failed};
+use std::io::{ErrorKind, Read, Write};
+
+/// How often a call that a signal interrupted is tried, in all.
+const TRIES: u32 = 64;
+
+/// How many bytes one call reads at most.
+const PIECE: usize = 4096;
+
+/// A reader or a writer of std's. It can't tell which bytes the system gave or took, and tells the rest: its
+/// failure, the number of its calls and what the last one gave.
+#[derive(Drop)]
+pub struct FromStd<T> {
+    stream: T,
+    failed: bool,
+    calls: u64,
+    last: usize,
+}
+
+impl<T: Drop> FromStd<T> {
+    /// The stream as a device that hasn't failed and has had no call.
+    pub fn new(stream: T) -> FromStd<T>
+        ensures { result ≡ record { stream = stream; failed = false; calls = 0; last = 0 } }
+    {
+        FromStd {
+            stream,
+            failed: false,
+            calls: 0,
+            last: 0,
+        }
+    }
+}
+
+impl<T: Read + Drop> ByteReader for FromStd<T> {
+    ghost remaining = { λ _. None };
+
+    ghost has_failed = { λ device. device.failed };
+
+    ghost last = { λ device. device.last };
+
+    ghost calls = { λ device. device.calls };
+
+    fn read_some(&mut self, buffer: &mut [u8]) -> Result<usize, Failed> {
+        self.last = 0;
+        if self.calls == u64::MAX {
+            self.failed = true;
+            return Err(Failed);
+        }
+        self.calls += 1;
+        match read_piece(&mut self.stream, buffer) {
+            Ok(count) => {
+                self.last = count;
+                Ok(count)
+            }
+            Err(Failed) => {
+                self.failed = true;
+                Err(Failed)
+            }
+        }
+    }
+}
+
+impl<T: Write + Drop> ByteWriter for FromStd<T> {
+    ghost contents = { λ _. None };
+
+    ghost has_failed = { λ device. device.failed };
+
+    fn write_some(&mut self, bytes: &[u8]) -> Result<usize, Failed> {
+        match write_piece(&mut self.stream, bytes) {
+            Ok(count) => {
+                if count == 0 && !bytes.is_empty() {
+                    self.failed = true;
+                }
+                Ok(count)
+            }
+            Err(Failed) => {
+                self.failed = true;
+                Err(Failed)
+            }
+        }
+    }
+}
+
+/// One read into the start of `buffer`, at most `PIECE` bytes. std doesn't say that a read leaves the rest of its
+/// buffer alone, so it has one of its own.
+fn read_piece<T: Read>(stream: &mut T, buffer: &mut [u8]) -> Result<usize, Failed>
+    ensures count { IfOk result (λ count. count ≤ length buffer.old) }
+    ensures rest { IfOk result (λ count. drop count buffer.new ≡ drop count buffer.old) }
+    ensures unread { OnErr result (buffer.new ≡ buffer.old) }
+{
+    let mut piece = [0u8; PIECE];
+    let room = buffer.len().min(PIECE);
+    let count = read_through(stream, &mut piece[..room])?;
+    copy_front(&piece, count, buffer);
+    Ok(count)
+}
+
+/// One read, tried again where a signal interrupted it.
+fn read_through<T: Read>(stream: &mut T, piece: &mut [u8]) -> Result<usize, Failed>
+    ensures { IfOk result (λ count. count ≤ length piece.old) }
+{
+    for _try in 0..TRIES {
+        match stream.read(piece) {
+            Ok(count) => return Ok(count),
+            Err(error) => {
+                if error.kind() != ErrorKind::Interrupted {
+                    return Err(Failed);
+                }
+            }
+        }
+    }
+    Err(Failed)
+}
+
+/// One write of a front of `bytes`.
+fn write_piece<T: Write>(stream: &mut T, bytes: &[u8]) -> Result<usize, Failed>
+    ensures { IfOk result (λ count. count ≤ length bytes.now) }
+{
+    for _try in 0..TRIES {
+        match stream.write(bytes) {
+            Ok(count) => return Ok(count),
+            Err(error) => {
+                if error.kind() != ErrorKind::Interrupted {
+                    return Err(Failed);
+                }
+            }
+        }
+    }
+    Err(Failed)
+}
+
+/// Copies the first `count` bytes of `from` to the start of `buffer`.
+pub(super) fn copy_front(from: &[u8], count: usize, buffer: &mut [u8])
+    requires there { count ≤ length from.now }
+    requires room { count ≤ length buffer.old }
+    ensures front { take count buffer.new ≡ take count from.now }
+    ensures rest { drop count buffer.new ≡ drop count buffer.old }
+{
+    buffer[..count].copy_from_slice(&from[..count]);
+}

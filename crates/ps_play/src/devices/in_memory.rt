@@ -1,0 +1,155 @@
+//! Devices in memory: they tell their bytes, give and take them in pieces, and fail where they are told to.
+
+ghost use Rattle.std.specs.Prelude.{◌≡◌, ◌≤◌, ℕ, Some, [], false, vec_len, vec_capacity, length, take, drop, IfOk};
+
+use super::from_std::copy_front;
+use super::traits::{ByteReader, ByteWriter, Failed};
+use ps_model::Memory;
+use std::alloc::Global;
+
+/// Reads what lies in memory.
+#[derive(Drop)]
+pub struct MemoryReader<'a> {
+    bytes: &'a [u8],
+    place: usize,
+    /// Where it ends, or fails.
+    stop: usize,
+    /// Whether it fails there.
+    fails: bool,
+    piece: usize,
+    failed: bool,
+    calls: u64,
+    last: usize,
+    ghost given: { place ≤ stop },
+    ghost within: { stop ≤ length bytes.now },
+    ghost ends: { fails ≡ false → stop ≡ length bytes.now },
+    ghost moves: { 1 ≤ piece },
+}
+
+impl<'a> MemoryReader<'a> {
+    /// Gives the bytes from the first on, at most `piece` in a call. Once it has given `fail_at` bytes, each
+    /// further call fails; without that number, or where there are fewer bytes, it ends.
+    pub fn new(bytes: &'a [u8], piece: usize, fail_at: Option<usize>) -> MemoryReader<'a>
+        requires { 1 ≤ piece }
+        ensures remaining { ⟦<MemoryReader<'a> as ByteReader>⟧.remaining result ≡ Some bytes.entry.now }
+        ensures has_failed { ⟦<MemoryReader<'a> as ByteReader>⟧.has_failed result ≡ false }
+        ensures last { ⟦<MemoryReader<'a> as ByteReader>⟧.last result ≡ 0 }
+        ensures calls { ⟦<MemoryReader<'a> as ByteReader>⟧.calls result ≡ 0 }
+        ensures given { result.place ≡ 0 }
+    {
+        let (stop, fails) = match fail_at {
+            Some(edge) if edge <= bytes.len() => (edge, true),
+            _ => (bytes.len(), false),
+        };
+        MemoryReader {
+            bytes,
+            place: 0,
+            stop,
+            fails,
+            piece,
+            failed: false,
+            calls: 0,
+            last: 0,
+        }
+    }
+
+    /// How many bytes it has given since it was made.
+    pub fn given(&self) -> usize
+        ensures { result ≡ self.now.place }
+    {
+        self.place
+    }
+}
+
+impl<'a> ByteReader for MemoryReader<'a> {
+    ghost remaining = { λ device. Some (drop device.place device.bytes.now) };
+
+    ghost has_failed = { λ device. device.failed };
+
+    ghost last = { λ device. device.last };
+
+    ghost calls = { λ device. device.calls };
+
+    fn read_some(&mut self, buffer: &mut [u8]) -> Result<usize, Failed> {
+        self.last = 0;
+        if self.calls == u64::MAX {
+            self.failed = true;
+            return Err(Failed);
+        }
+        self.calls += 1;
+        let left = self.stop - self.place;
+        if left == 0 && self.fails {
+            self.failed = true;
+            return Err(Failed);
+        }
+        let count = left.min(self.piece).min(buffer.len());
+        let (_, rest) = self.bytes.split_at(self.place);
+        copy_front(rest, count, buffer);
+        self.place += count;
+        self.last = count;
+        Ok(count)
+    }
+}
+
+/// Keeps what is written to it.
+#[derive(Drop)]
+pub struct MemoryWriter {
+    bytes: Vec<u8>,
+    room: usize,
+    piece: usize,
+    failed: bool,
+    ghost within: { vec_len bytes ≤ room },
+    ghost reserved: { room ≤ vec_capacity bytes },
+}
+
+impl MemoryWriter {
+    /// A writer with room for `room` bytes, which takes at most `piece` of them in a call. A `piece` of 0 takes
+    /// nothing at all. Once it has taken `room` bytes, each call that has more fails. Its calls take no memory.
+    ///
+    /// # Errors
+    ///
+    /// `Memory` where the room can't be had.
+    pub fn new(alloc: Global, room: usize, piece: usize) -> Result<MemoryWriter, Memory>
+        ensures contents { IfOk result (λ writer. ⟦<MemoryWriter as ByteWriter>⟧.contents writer ≡ Some []) }
+        ensures has_failed { IfOk result (λ writer. ⟦<MemoryWriter as ByteWriter>⟧.has_failed writer ≡ false) }
+        ensures room { IfOk result (λ writer. writer.room ≡ room) }
+        ensures piece { IfOk result (λ writer. writer.piece ≡ piece) }
+    {
+        Ok(MemoryWriter {
+            bytes: Vec::with_capacity(alloc, room)?,
+            room,
+            piece,
+            failed: false,
+        })
+    }
+
+    /// All bytes that it has taken.
+    pub fn bytes(&self) -> &[u8]
+        ensures { ⟦<MemoryWriter as ByteWriter>⟧.contents self.now ≡ Some result.now }
+    {
+        &self.bytes
+    }
+}
+
+impl ByteWriter for MemoryWriter {
+    ghost contents = { λ device. Some device.bytes.items };
+
+    ghost has_failed = { λ device. device.failed };
+
+    fn write_some(&mut self, bytes: &[u8]) -> Result<usize, Failed> {
+        let left = self.room - self.bytes.len();
+        if left == 0 && !bytes.is_empty() {
+            self.failed = true;
+            return Err(Failed);
+        }
+        let count = left.min(self.piece).min(bytes.len());
+        if count == 0 && !bytes.is_empty() {
+            self.failed = true;
+        }
+        let (front, _) = bytes.split_at(count);
+        match self.bytes.extend_from_slice(front) {
+            Ok(()) => Ok(count),
+            Err(_) => unreachable!(),
+        }
+    }
+}
