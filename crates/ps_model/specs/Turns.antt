@@ -23,11 +23,15 @@ motion_of Action = Acting
 abbrev pub players : Names → List ObjectId
 players names = members_named names (codes "player")
 
--- a slot as an input finds it: a Player has the input's motion, every other object is at rest
-abbrev pub slot_with_input : List ObjectId → Motion → Slot → Slot
-slot_with_input moved motion Bare = Bare
-slot_with_input moved motion (Holds object was) = Holds object (if is_among moved object then motion else Still)
+-- a slot whose object, if it is one of these, has the motion, and else is at rest
+abbrev pub slot_with_motion : List ObjectId → Motion → Slot → Slot
+slot_with_motion moved motion Bare = Bare
+slot_with_motion moved motion (Holds object was) = Holds object (if is_among moved object then motion else Still)
+
+-- the grid with a motion for each of these objects; all others are at rest
+abbrev pub with_motion : List ObjectId → Motion → Grid → Grid
+with_motion moved motion g = record g { cells = map (map (slot_with_motion moved motion)) g.cells }
 
 -- the grid with an input: all motions are none, and then every object of Player gets the input's
 abbrev pub with_input : Names → Input → Grid → Grid
-with_input names input g = record g { cells = map (map (slot_with_input (players names) (motion_of input))) g.cells }
+with_input names input g = with_motion (players names) (motion_of input) g

@@ -1,0 +1,17 @@
+-- How an input is given, slot by slot, to a board at rest.
+use Rattle.std.specs.Prelude.{ℕ, if◌then◌else◌, List, map, slice_set}
+use Rattle.ps_model.specs.declared.pieces.Motion.{Motion}
+use Rattle.ps_model.specs.declared.pieces.ObjectId.{ObjectId}
+use Rattle.ps_model.specs.declared.pieces.Slot.{Slot}
+use Rattle.ps_model.specs.declared.pieces.Slot.TheVariants.{Bare, Holds}
+use Rattle.ps_model.specs.Names.{is_among}
+use Rattle.ps_model.specs.Grid.{Grid}
+
+-- a slot whose object, if it is one of these, gets the motion, and else keeps its own
+abbrev pub slot_set_moving : List ObjectId → Motion → Slot → Slot
+slot_set_moving moved motion Bare = Bare
+slot_set_moving moved motion (Holds object was) = Holds object (if is_among moved object then motion else was)
+
+-- the grid with another cell in place of one
+abbrev pub grid_with_cell : Grid → ℕ → List Slot → Grid
+grid_with_cell g cell slots = record g { cells = slice_set g.cells cell slots }
