@@ -1,1 +1,4 @@
 mod MovementRows
+pub mod Slots
+pub mod Counts
+pub mod Neighbours
