@@ -15,3 +15,7 @@ slot_set_moving moved motion (Holds object was) = Holds object (if is_among move
 -- the grid with another cell in place of one
 abbrev pub grid_with_cell : Grid → ℕ → List Slot → Grid
 grid_with_cell g cell slots = record g { cells = slice_set g.cells cell slots }
+
+-- the grid with other cells
+abbrev pub grid_with_cells : Grid → List (List Slot) → Grid
+grid_with_cells g cells = record g { cells = cells }

@@ -1,3 +1,4 @@
 pub mod Devices
 pub mod Reports
 pub mod Inputs
+pub mod Runs

@@ -6,6 +6,7 @@ mod devices;
 mod keys;
 mod report;
 mod run;
+mod screen;
 #[cfg(test)]
 mod tests;
 mod turn;

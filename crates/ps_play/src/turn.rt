@@ -1,7 +1,7 @@
 //! What an input does to a board.
 
 ghost use Rattle.std.specs.Prelude.{◌≡◌, ◌*◌, ◌<◌, slice_set, map};
-ghost use Rattle.ps_model.specs.Grid.{IsPlace, cell_at, slot_at, with_slot, cell_count};
+ghost use Rattle.ps_model.specs.Grid.{IsGrid, IsPlace, cell_at, slot_at, with_slot, cell_count};
 ghost use Rattle.ps_model.specs.Names.{is_among};
 ghost use Rattle.ps_model.specs.Turns.{motion_of, with_motion};
 ghost use Rattle.ps_play.specs.Inputs.{slot_set_moving, grid_with_cell};
@@ -36,7 +36,8 @@ pub fn give_motion<B: Board>(board: &mut B, moved: &[ObjectId], motion: Motion)
 
 /// Gives the motion to those of the objects that stand in a cell.
 fn give_cell<B: Board>(board: &mut B, cell: u32, moved: &[ObjectId], motion: Motion)
-    requires { cell < cell_count (B.grid board.old) }
+    requires cell { cell < cell_count (B.grid board.old) }
+    requires shape { IsGrid (B.grid board.old) }
     ensures { B.grid board.new ≡ grid_with_cell (B.grid board.old) cell (map (slot_set_moving moved.now motion) (cell_at (B.grid board.old) cell)) }
 {
     for layer in 0..board.layers() {

@@ -1,0 +1,43 @@
+-- How far a run of a game without rules has come.
+use Rattle.std.specs.Prelude.{◌≡◌, ℕ, ◌==◌, Bool, ◌||◌, not, Option, Some, None, option_to_list, List, [], ◌∷◌, ◌++◌}
+use Rattle.std.specs.List.{flat_map, list_any}
+use Rattle.ps_model.specs.declared.play.Ending.{Ending}
+use Rattle.ps_model.specs.declared.play.Ending.TheVariants.{Quit as Quits}
+use Rattle.ps_model.specs.declared.play.Input.{Input}
+use Rattle.ps_model.specs.declared.play.Key.{Key}
+use Rattle.ps_model.specs.declared.play.Key.TheVariants.{Move, Undo, Restart, Quit}
+use Rattle.ps_model.specs.Names.{Names}
+use Rattle.ps_model.specs.Grid.{Grid}
+use Rattle.ps_model.specs.WeakMovement.{IsWeaklySlid}
+use Rattle.ps_model.specs.Frames.{frame}
+use Rattle.ps_model.specs.Keys.{key_of}
+use Rattle.ps_model.specs.Turns.{with_input}
+use Rattle.ps_model.specs.ThinOutput.{quit_line}
+
+-- the keys of bytes of which each is a key by itself or means nothing
+abbrev pub keys_apart : List ℕ → List Key
+keys_apart bytes = flat_map (λ byte. option_to_list (key_of byte)) bytes
+
+-- the byte is one that isn't listened to yet: ESC, with which arrows begin, or a key that takes back or restarts
+abbrev pub is_not_yet : ℕ → Bool
+is_not_yet byte = byte == 27 || (byte == 122 || byte == 114)
+
+-- no such byte is among the bytes
+abbrev pub are_heard : List ℕ → Bool
+are_heard bytes = not (list_any is_not_yet bytes)
+
+-- a key takes the grid to the next, with a text and perhaps an ending
+abbrev pub StepsTo : Names → Grid → Key → Grid → List ℕ → Option Ending → Type 0
+StepsTo names g (Move input) next text ending = IsWeaklySlid (with_input names input g) next × (text ≡ frame names next) × (ending ≡ None)
+StepsTo names g Undo next text ending = (next ≡ g) × (text ≡ []) × (ending ≡ None)
+StepsTo names g Restart next text ending = (next ≡ g) × (text ≡ []) × (ending ≡ None)
+StepsTo names g Quit next text ending = (next ≡ g) × (text ≡ quit_line) × (ending ≡ Some Quits)
+
+-- keys take the grid to the next without an ending, with a text
+abbrev pub Reaches : Names → Grid → List Key → List ℕ → Grid → Type 0
+Reaches names g [] text next = (text ≡ []) × (next ≡ g)
+Reaches names g (Move input ∷ keys) text next =
+    (mid : Grid) × (rest : List ℕ) × IsWeaklySlid (with_input names input g) mid × (text ≡ frame names mid ++ rest) × Reaches names mid keys rest next
+Reaches names g (Undo ∷ keys) text next = Reaches names g keys text next
+Reaches names g (Restart ∷ keys) text next = Reaches names g keys text next
+Reaches names g (Quit ∷ keys) text next = ⊥
