@@ -1,0 +1,6 @@
+//! Movement.
+#![tactic(auto)]
+
+mod movement;
+
+pub use movement::{Slid, slide};
