@@ -1,0 +1,91 @@
+-- How far a run has come, a key and a piece further.
+use Rattle.std.proofs.Common.{◌≡◌, ◌∙◌, ℕ, ◌==◌, ◌||◌, List, [], ◌∷◌, ◌++◌, Option, Some, None, Bool, true, false, refl, sym, ap, append_assoc, append-nil}
+use Rattle.std.specs.Prelude.{option_to_list, cond, not}
+use Rattle.std.specs.List.{flat_map, list_any}
+use Rattle.std.proofs.lemmas.Grind.{common_steps, flat_map-append}
+use Rattle.ps_model.specs.declared.play.Ending.{Ending}
+use Rattle.ps_model.specs.declared.play.Input.{Input}
+use Rattle.ps_model.specs.declared.play.Key.{Key}
+use Rattle.ps_model.specs.declared.play.Key.TheVariants.{Move, Undo, Restart, Quit}
+use Rattle.ps_model.specs.Names.{Names}
+use Rattle.ps_model.specs.Grid.{Grid}
+use Rattle.ps_model.specs.Frames.{frame}
+use Rattle.ps_model.specs.Keys.{key_of, leading_arrow, keys_behind, keys_of}
+use Rattle.ps_model.specs.ThinOutput.{Output, after_text, MayBring}
+use Rattle.ps_play.specs.Runs.{keys_apart, is_not_yet, are_heard, StepsTo, Reaches}
+
+-- outputs with equal texts and endings are equal
+out_with : {texts others : List ℕ} (ending : Ending) → texts ≡ others → let out : Output = record { written = texts; ending = ending } in out ≡ record { written = others; ending = ending }
+out_with ending e = ap (λ (t : List ℕ). let out : Output = record { written = t; ending = ending } in out) e
+
+-- what comes behind the keys that were reached
+pub reached_then : (names : Names) (g : Grid) (keys : List Key) (text : List ℕ) (mid : Grid) (more : List Key) (out : Output) →
+    Reaches names g keys text mid → MayBring names mid more out → MayBring names g (keys ++ more) (after_text text out)
+reached_then names g [] text mid more out reached brings =
+    let same : out ≡ after_text text out = rw reached.0 refl in
+    let bring : MayBring names g more out = rw (← reached.1) brings in
+    rw (← same) bring
+reached_then names g (Move input ∷ keys) text mid more out (next, rest, slides, is, reached) brings =
+    (next, after_text rest out, slides, out_with out.ending (ap (λ (t : List ℕ). t ++ out.written) is ∙ append_assoc (frame names next) rest out.written), reached_then names next keys rest mid more out reached brings)
+reached_then names g (Undo ∷ keys) text mid more out reached brings = reached_then names g keys text mid more out reached brings
+reached_then names g (Restart ∷ keys) text mid more out reached brings = reached_then names g keys text mid more out reached brings
+reached_then names g (Quit ∷ keys) text mid more out reached brings = absurd reached
+
+-- two stretches without an ending
+pub reached_twice : (names : Names) (g : Grid) (keys : List Key) (text : List ℕ) (mid : Grid) (more : List Key) (behind : List ℕ) (next : Grid) →
+    Reaches names g keys text mid → Reaches names mid more behind next → Reaches names g (keys ++ more) (text ++ behind) next
+reached_twice names g [] text mid more behind next first second = rw first.0 (rw (← first.1) second)
+reached_twice names g (Move input ∷ keys) text mid more behind next (then, rest, slides, is, reached) second =
+    (then, rest ++ behind, slides, ap (λ (t : List ℕ). t ++ behind) is ∙ append_assoc (frame names then) rest behind, reached_twice names then keys rest mid more behind next reached second)
+reached_twice names g (Undo ∷ keys) text mid more behind next first second = reached_twice names g keys text mid more behind next first second
+reached_twice names g (Restart ∷ keys) text mid more behind next first second = reached_twice names g keys text mid more behind next first second
+reached_twice names g (Quit ∷ keys) text mid more behind next first second = absurd first
+
+-- a key without an ending
+pub step_reaches : (names : Names) (g : Grid) (key : Key) (next : Grid) (text : List ℕ) → StepsTo names g key next text None → Reaches names g (key ∷ []) text next
+step_reaches names g (Move input) next text steps = (next, [], steps.0, rw append-nil steps.1, (refl, refl))
+step_reaches names g Undo next text steps = (steps.1, steps.0)
+step_reaches names g Restart next text steps = (steps.1, steps.0)
+step_reaches names g Quit next text steps = absurd (let e = steps.2 in cc)
+
+-- a key with an ending
+pub step_ends : (names : Names) (g : Grid) (key : Key) (next : Grid) (text : List ℕ) (ending : Ending) (more : List Key) →
+    StepsTo names g key next text (Some ending) → MayBring names g (key ∷ more) (record { written = text; ending = ending })
+step_ends names g (Move input) next text ending more steps = absurd (let e = steps.2 in cc)
+step_ends names g Undo next text ending more steps = absurd (let e = steps.2 in cc)
+step_ends names g Restart next text ending more steps = absurd (let e = steps.2 in cc)
+step_ends names g Quit next text ending more steps = let t = steps.1 in let e = steps.2 in cc
+
+-- the keys of two lists of bytes
+pub keys_apart-append : (first second : List ℕ) → keys_apart (first ++ second) ≡ keys_apart first ++ keys_apart second
+keys_apart-append first second = flat_map-append (λ byte. option_to_list (key_of byte)) first second
+
+-- without ESC no arrow begins
+no_arrow : (byte : ℕ) (bytes : List ℕ) → (byte == 27) ≡ false → leading_arrow (byte ∷ bytes) ≡ None
+no_arrow byte [] h = refl
+no_arrow byte (second ∷ []) h = refl
+no_arrow byte (second ∷ third ∷ others) h = rw h refl
+
+-- a byte that is heard isn't ESC
+not_escape : (escape undo restart others : Bool) → (escape || (undo || restart)) || others ≡ false → escape ≡ false
+not_escape true undo restart others h = h
+not_escape false undo restart others h = refl
+
+others_heard : (first others : Bool) → first || others ≡ false → others ≡ false
+others_heard true others h = absurd (let e = h in cc)
+others_heard false others h = h
+
+heard_keys : (bytes : List ℕ) → list_any is_not_yet bytes ≡ false → keys_behind 0 bytes ≡ keys_apart bytes
+heard_keys [] h = refl
+heard_keys (byte ∷ bytes) h =
+    let plain : leading_arrow (byte ∷ bytes) ≡ None = no_arrow byte bytes (not_escape (byte == 27) (byte == 122) (byte == 114) (list_any is_not_yet bytes) h) in
+    let rest : keys_behind 0 bytes ≡ keys_apart bytes = heard_keys bytes (others_heard (is_not_yet byte) (list_any is_not_yet bytes) h) in
+    rw (plain, keys_behind) (ap (λ (keys : List Key). option_to_list (key_of byte) ++ keys) rest)
+
+not_true : (b : Bool) → not b ≡ true → b ≡ false
+not_true true h = absurd (let e = h in cc)
+not_true false h = refl
+
+-- where all bytes are heard, each is a key by itself or means nothing
+pub keys_of-heard : (bytes : List ℕ) → are_heard bytes ≡ true → keys_of bytes ≡ keys_apart bytes
+keys_of-heard bytes h = heard_keys bytes (not_true (list_any is_not_yet bytes) h)
