@@ -1,3 +1,4 @@
+mod Objects
 mod Pieces
 mod Reaching
 mod Sweeps

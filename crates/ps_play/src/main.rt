@@ -3,6 +3,7 @@
 #![tactic(auto)]
 
 mod devices;
+mod frame;
 mod keys;
 mod report;
 mod run;
