@@ -12,7 +12,7 @@ use Rattle.ps_model.specs.Grid.{Grid}
 use Rattle.ps_model.specs.Frames.{frame}
 use Rattle.ps_model.specs.Keys.{key_of, leading_arrow, keys_behind, keys_of}
 use Rattle.ps_model.specs.ThinOutput.{Output, after_text, MayBring}
-use Rattle.ps_play.specs.Runs.{keys_apart, is_not_yet, are_heard, StepsTo, Reaches}
+use Rattle.ps_play.specs.Runs.{keys_apart, is_not_yet, are_heard, StepsTo, Reaches, Brings}
 
 -- outputs with equal texts and endings are equal
 out_with : {texts others : List ℕ} (ending : Ending) → texts ≡ others → let out : Output = record { written = texts; ending = ending } in out ≡ record { written = others; ending = ending }
@@ -89,3 +89,15 @@ not_true false h = refl
 -- where all bytes are heard, each is a key by itself or means nothing
 pub keys_of-heard : (bytes : List ℕ) → are_heard bytes ≡ true → keys_of bytes ≡ keys_apart bytes
 keys_of-heard bytes h = heard_keys bytes (not_true (list_any is_not_yet bytes) h)
+
+-- a key brings its text
+pub step_brings : (names : Names) (g : Grid) (key : Key) (next : Grid) (text : List ℕ) (ending : Option Ending) → StepsTo names g key next text ending → Brings names g (key ∷ []) next text ending
+step_brings names g key next text None steps = step_reaches names g key next text steps
+step_brings names g key next text (Some ending) steps = λ more. step_ends names g key next text ending more steps
+
+-- keys behind those that reached a grid
+pub brings_then : (names : Names) (g : Grid) (keys : List Key) (text : List ℕ) (mid : Grid) (more : List Key) (behind : List ℕ) (next : Grid) (ending : Option Ending) →
+    Reaches names g keys text mid → Brings names mid more next behind ending → Brings names g (keys ++ more) next (text ++ behind) ending
+brings_then names g keys text mid more behind next None reached brings = reached_twice names g keys text mid more behind next reached brings
+brings_then names g keys text mid more behind next (Some ending) reached brings =
+    λ others. rw (append_assoc keys more others) (reached_then names g keys text mid (more ++ others) (record { written = behind; ending = ending }) reached (brings others))

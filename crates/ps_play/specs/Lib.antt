@@ -2,3 +2,4 @@ pub mod Devices
 pub mod Reports
 pub mod Inputs
 pub mod Runs
+pub mod Faults

@@ -1,5 +1,5 @@
 -- How far a run of a game without rules has come.
-use Rattle.std.specs.Prelude.{◌≡◌, ℕ, ◌==◌, Bool, ◌||◌, not, Option, Some, None, option_to_list, List, [], ◌∷◌, ◌++◌}
+use Rattle.std.specs.Prelude.{◌≡◌, ℕ, ◌==◌, Bool, ◌||◌, not, Option, Some, None, Result, Ok, Err, option_to_list, true, List, [], ◌∷◌, ◌++◌}
 use Rattle.std.specs.List.{flat_map, list_any}
 use Rattle.ps_model.specs.declared.play.Ending.{Ending}
 use Rattle.ps_model.specs.declared.play.Ending.TheVariants.{Quit as Quits}
@@ -12,7 +12,9 @@ use Rattle.ps_model.specs.WeakMovement.{IsWeaklySlid}
 use Rattle.ps_model.specs.Frames.{frame}
 use Rattle.ps_model.specs.Keys.{key_of}
 use Rattle.ps_model.specs.Turns.{with_input}
-use Rattle.ps_model.specs.ThinOutput.{quit_line}
+use Rattle.ps_model.specs.ThinGame.{Game, thin_game}
+use Rattle.ps_model.specs.ThinOutput.{quit_line, MayBring, MayWrite}
+use Rattle.ps_play.specs.declared.run.RunFault.{RunFault}
 
 -- the keys of bytes of which each is a key by itself or means nothing
 abbrev pub keys_apart : List ℕ → List Key
@@ -41,3 +43,17 @@ Reaches names g (Move input ∷ keys) text next =
 Reaches names g (Undo ∷ keys) text next = Reaches names g keys text next
 Reaches names g (Restart ∷ keys) text next = Reaches names g keys text next
 Reaches names g (Quit ∷ keys) text next = ⊥
+
+-- keys bring a text: without an ending they reach the next grid; with one, whatever keys follow, the text and the ending are
+-- what the keys may bring
+abbrev pub Brings : Names → Grid → List Key → Grid → List ℕ → Option Ending → Type 0
+Brings names g keys next text None = Reaches names g keys text next
+Brings names g keys next text (Some ending) = (more : List Key) → MayBring names g (keys ++ more) (record { written = text; ending = ending })
+
+-- what a run may answer for a text, where its reader had all these bytes to give and its writer had taken some before and
+-- tells of more now
+abbrev pub Answers : List ℕ → List ℕ → List ℕ → Option (List ℕ) → Result Ending RunFault → Type 0
+Answers text all before told (Ok ending) =
+    (game : Game) × (thin_game text ≡ Some game)
+    × (are_heard all ≡ true → (written : List ℕ) × (told ≡ Some (before ++ written)) × MayWrite game all (record { written = written; ending = ending }))
+Answers text all before told (Err fault) = Unit {0}

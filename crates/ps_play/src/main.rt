@@ -5,9 +5,12 @@
 mod devices;
 mod frame;
 mod keys;
+mod meanings;
+mod reading;
 mod report;
 mod run;
 mod screen;
+mod session;
 #[cfg(test)]
 mod tests;
 mod turn;

@@ -1,12 +1,26 @@
 //! A run: a game's text and the keys in, the frames out.
 
-ghost use Rattle.std.specs.Prelude.{◌≡◌};
+ghost use Rattle.std.specs.Prelude.{◌≡◌, ◌≢◌, ◌+◌, ◌≤◌, ◌++◌, ◌∷◌, [], IfOk, IfErr, IfSome, OnOk, OnErr, IsSome, IsErrOf, List, ℕ, true};
+ghost use Rattle.ps_model.specs.Limits.{read_limit};
+ghost use Rattle.ps_model.specs.ThinGame.{thin_game};
+ghost use Rattle.ps_model.specs.ThinOutput.{MayBring, end_of_keys_line};
+ghost use Rattle.ps_play.specs.Devices.{Grows};
+ghost use Rattle.ps_play.specs.Faults.{IsRefusal, IsDeviceFault};
+ghost use Rattle.ps_play.specs.Runs.{keys_apart, Brings, Answers};
 
-use crate::devices::{ByteReader, ByteWriter};
+use crate::devices::{ByteReader, ByteWriter, write_whole};
+use crate::keys::read_key;
+use crate::reading::{ReadFault, read_game};
 use crate::report::words;
-use ps_model::{Ending, Fault, FaultKind};
+use crate::screen::Screen;
+use crate::session::Session;
+use ps_board::{Board, ListBoard};
+use ps_model::{Ending, Fault, Memory};
 use std::alloc::Global;
 use thiserror::Error;
+
+/// How many bytes are asked for by one call that reads keys.
+const PIECE: usize = 4096;
 
 /// Why a run didn't come to its end.
 #[derive(Clone, Copy, PartialEq, Eq, Debug, Error)]
@@ -17,7 +31,7 @@ pub enum RunFault {
     /// A growth was refused.
     #[error("out of memory")]
     Memory,
-    /// The reader failed.
+    /// The reader failed, or had more to give than a run reads.
     #[error("cannot read keys")]
     Read,
     /// The writer failed, or took nothing of what it was given.
@@ -25,24 +39,139 @@ pub enum RunFault {
     Write,
 }
 
-/// Plays the game whose text `game` is: reads keys from `reader` and writes frames to `writer`, until the game
-/// is won, the player quits or the keys end.
+impl From<Memory> for RunFault {
+    ghost use Rattle.ps_play.specs.declared.run.RunFault.TheVariants.{Memory};
+
+    ghost from_gives = { λ _ fault. fault ≡ Memory };
+
+    fn from(_error: Memory) -> RunFault {
+        RunFault::Memory
+    }
+}
+
+impl From<ReadFault> for RunFault {
+    ghost use Rattle.ps_play.specs.Faults.{fault_of};
+
+    ghost from_gives = { λ refusal fault. fault ≡ fault_of refusal };
+
+    fn from(refusal: ReadFault) -> RunFault {
+        match refusal {
+            ReadFault::Refused(fault) => RunFault::Refused(fault),
+            ReadFault::Memory => RunFault::Memory,
+        }
+    }
+}
+
+/// Plays the game whose text `game` is: reads keys from `reader` and writes frames to `writer`, until the game is
+/// won, the player quits or the keys end.
+///
+/// The opening is written before the first key is read, and the text of each key of a piece before the next piece
+/// is read. At most 4,096 bytes are asked for at a time.
 ///
 /// # Errors
 ///
-/// `Refused` where the text isn't a game that this version plays, which for now is each text: neither device is
-/// called then.
-pub fn run<R: ByteReader, W: ByteWriter>(
-    _alloc: Global,
-    _game: &[u8],
-    reader: &mut R,
-    writer: &mut W,
-) -> Result<Ending, RunFault>
-    ensures reader { reader.new ≡ reader.old }
-    ensures writer { writer.new ≡ writer.old }
+/// `Refused` where the text has a fault or isn't a game that this version plays: neither device is called then.
+/// `Memory` where a growth was refused, `Read` where the reader failed or had more than 16,777,216 pieces to give,
+/// `Write` where the writer failed or took nothing of some bytes.
+pub fn run<R: ByteReader, W: ByteWriter>(alloc: Global, game: &[u8], reader: &mut R, writer: &mut W) -> Result<Ending, RunFault>
+    ensures accepted { OnOk result (IsSome (thin_game game.now)) }
+    ensures refused { IfErr result (λ fault. IsRefusal game.now fault) }
+    ensures unread { (fault : Fault) → result ≡ Err (RunFault.Refused fault) → reader.new ≡ reader.old }
+    ensures unwritten { (fault : Fault) → result ≡ Err (RunFault.Refused fault) → writer.new ≡ writer.old }
+    ensures calls { R.calls reader.new ≤ R.calls reader.old + read_limit }
+    ensures writes { result ≢ Err RunFault.Write → W.has_failed writer.new ≡ W.has_failed writer.old }
+    ensures stopped { result ≡ Err RunFault.Write → W.has_failed writer.new ≡ true }
+    ensures answers { IfSome (R.remaining reader.old) (λ all. IfSome (W.contents writer.old) (λ before. Answers game.now all before (W.contents writer.new) result)) }
 {
-    Err(RunFault::Refused(Fault {
-        kind: FaultKind::NotYet,
-        line: 1,
-    }))
+    let game = read_game(alloc, game)?;
+    let mut screen = Screen::new(alloc);
+    let mut session = Session::<ListBoard>::start(alloc, &game, &mut screen)?;
+    write_screen(&screen, writer)?;
+    play(&mut session, &mut screen, reader, writer)
+}
+
+/// Plays the keys of a reader to an ending.
+fn play<B: Board, R: ByteReader, W: ByteWriter>(session: &mut Session<'_, B>, screen: &mut Screen, reader: &mut R, writer: &mut W) -> Result<Ending, RunFault>
+    ensures calls { R.calls reader.new ≤ R.calls reader.old + read_limit }
+    ensures writes { result ≢ Err RunFault.Write → W.has_failed writer.new ≡ W.has_failed writer.old }
+    ensures stopped { result ≡ Err RunFault.Write → W.has_failed writer.new ≡ true }
+    ensures well { IfErr result IsDeviceFault }
+    ensures brings { IfOk result (λ ending. IfSome (R.remaining reader.old) (λ all. (text : List ℕ) × Grows (W.contents writer.old) (W.contents writer.new) text
+        × MayBring session.old.game.now.names (B.grid session.old.board) (keys_apart all) (record { written = text; ending = ending }))) }
+{
+    let mut buffer = [0u8; PIECE];
+    for _call in 0..16777216u32 {
+        let Ok(count) = reader.read_some(&mut buffer) else {
+            return Err(RunFault::Read);
+        };
+        if count == 0 {
+            return end_of_keys(screen, writer);
+        }
+        let (piece, _) = buffer.split_at(count);
+        if let Some(ending) = play_piece(session, piece, screen, writer)? {
+            return Ok(ending);
+        }
+    }
+    Err(RunFault::Read)
+}
+
+/// Plays the keys of a piece of bytes, up to an ending.
+fn play_piece<B: Board, W: ByteWriter>(session: &mut Session<'_, B>, piece: &[u8], screen: &mut Screen, writer: &mut W) -> Result<Option<Ending>, RunFault>
+    ensures writes { result ≢ Err RunFault.Write → W.has_failed writer.new ≡ W.has_failed writer.old }
+    ensures stopped { result ≡ Err RunFault.Write → W.has_failed writer.new ≡ true }
+    ensures well { IfErr result IsDeviceFault }
+    ensures game { OnOk result (session.new.game.now ≡ session.old.game.now) }
+    ensures brings { IfOk result (λ ending. (text : List ℕ) × Grows (W.contents writer.old) (W.contents writer.new) text
+        × Brings session.old.game.now.names (B.grid session.old.board) (keys_apart piece.now) (B.grid session.new.board) text ending) }
+{
+    for byte in piece {
+        if let Some(ending) = play_byte(session, *byte, screen, writer)? {
+            return Ok(Some(ending));
+        }
+    }
+    Ok(None)
+}
+
+/// Plays the key of a byte, if it has one: makes its text whole, and then writes it.
+fn play_byte<B: Board, W: ByteWriter>(session: &mut Session<'_, B>, byte: u8, screen: &mut Screen, writer: &mut W) -> Result<Option<Ending>, RunFault>
+    ensures writes { result ≢ Err RunFault.Write → W.has_failed writer.new ≡ W.has_failed writer.old }
+    ensures stopped { result ≡ Err RunFault.Write → W.has_failed writer.new ≡ true }
+    ensures well { IfErr result IsDeviceFault }
+    ensures game { OnOk result (session.new.game.now ≡ session.old.game.now) }
+    ensures brings { IfOk result (λ ending. (text : List ℕ) × Grows (W.contents writer.old) (W.contents writer.new) text
+        × Brings session.old.game.now.names (B.grid session.old.board) (keys_apart (byte ∷ [])) (B.grid session.new.board) text ending) }
+{
+    let Some(key) = read_key(byte) else {
+        return Ok(None);
+    };
+    screen.clear();
+    let ending = session.key(key, screen)?;
+    write_screen(screen, writer)?;
+    Ok(ending)
+}
+
+/// Writes that the keys have ended.
+fn end_of_keys<W: ByteWriter>(screen: &mut Screen, writer: &mut W) -> Result<Ending, RunFault>
+    ensures writes { result ≢ Err RunFault.Write → W.has_failed writer.new ≡ W.has_failed writer.old }
+    ensures stopped { result ≡ Err RunFault.Write → W.has_failed writer.new ≡ true }
+    ensures well { IfErr result IsDeviceFault }
+    ensures written { IfOk result (λ ending. (ending ≡ Ending.EndOfKeys) × Grows (W.contents writer.old) (W.contents writer.new) end_of_keys_line) }
+{
+    screen.clear();
+    screen.add_line("* end of keys", "")?;
+    write_screen(screen, writer)?;
+    Ok(Ending::EndOfKeys)
+}
+
+/// Writes what the screen has.
+fn write_screen<W: ByteWriter>(screen: &Screen, writer: &mut W) -> Result<(), RunFault>
+    ensures written { OnOk result (Grows (W.contents writer.old) (W.contents writer.new) screen.now) }
+    ensures writes { OnOk result (W.has_failed writer.new ≡ W.has_failed writer.old) }
+    ensures stopped { OnErr result (W.has_failed writer.new ≡ true) }
+    ensures well { IfErr result (λ fault. fault ≡ RunFault.Write) }
+{
+    match write_whole(screen.bytes(), writer) {
+        Ok(()) => Ok(()),
+        Err(_) => Err(RunFault::Write),
+    }
 }

@@ -1,6 +1,6 @@
 //! What is to be written: bytes gathered before they go out.
 
-ghost use Rattle.std.specs.Prelude.{◌≡◌, [], ◌++◌, OnOk, OnErr};
+ghost use Rattle.std.specs.Prelude.{◌≡◌, [], ◌++◌, OnOk, OnErr, encode_utf8};
 ghost use Rattle.ps_model.specs.Frames.{written_line};
 
 use ps_model::Memory;
@@ -56,6 +56,19 @@ impl Screen {
     {
         self.text.extend_from_slice(bytes)?;
         Ok(())
+    }
+
+    /// Adds a character, in UTF-8.
+    ///
+    /// # Errors
+    ///
+    /// `Memory`, and the bytes are as before.
+    pub fn add_character(&mut self, character: char) -> Result<(), Memory>
+        ensures { OnOk result (self.new ≡ self.old ++ encode_utf8 character) }
+    {
+        let mut buffer = [0u8; 4];
+        let text = character.encode_utf8(&mut buffer);
+        self.add(text.as_bytes())
     }
 
     /// Adds a line: a mark, a text and a line feed.
