@@ -4,3 +4,4 @@ pub mod Movement
 pub mod WeakMovement
 pub mod Words
 pub mod Lines
+pub mod TextFaults
