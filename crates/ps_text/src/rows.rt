@@ -14,7 +14,7 @@ use std::alloc::Global;
 
 /// A line: its number, from 1, its bytes in the text, from `start` to before `end`, without the line feed,
 /// and the section that it stands in.
-#[derive(Clone, Copy)]
+#[derive(Clone, Copy, Debug)]
 pub struct Row {
     pub number: u32,
     pub start: u32,
