@@ -54,8 +54,8 @@ behind_feed : (bytes : List ℕ) → 0 < length bytes →
 behind_feed bytes h = elim (ends_or_not bytes) [
   | inl l ↦ ap without_empty_end (pieces_first bytes l) ∙ kept (take (feed_place bytes) bytes) (slice_split is_line_feed (drop (feed_place bytes + 1) bytes)) (some_pieces (drop (feed_place bytes + 1) bytes))
   | inr e ↦
-    let gone : drop (feed_place bytes + 1) bytes ≡ [] = drop_all _ bytes (omega arith) in
-    rw (gone, take_whole bytes _ e, one_piece bytes e) (kept_alone bytes h)
+      let gone : drop (feed_place bytes + 1) bytes ≡ [] = drop_all _ bytes (omega arith) in
+      rw (gone, take_whole bytes _ e, one_piece bytes e) (kept_alone bytes h)
 ]
 
 -- the lines of a text
@@ -63,8 +63,8 @@ at_start : (bytes : List ℕ) → as_lines (slice_split is_line_feed bytes) ≡ 
 at_start bytes = elim (ends_or_not bytes) [
   | inl l ↦ ap as_lines (pieces_first bytes l)
   | inr e ↦
-    let gone : drop (feed_place bytes + 1) bytes ≡ [] = drop_all _ bytes (omega arith) in
-    rw (gone, take_whole bytes _ e, one_piece bytes e) refl
+      let gone : drop (feed_place bytes + 1) bytes ≡ [] = drop_all _ bytes (omega arith) in
+      rw (gone, take_whole bytes _ e, one_piece bytes e) refl
 ]
 
 -- a line of a place

@@ -59,7 +59,12 @@ pub fn word_at<'a>(line: &'a str, row: Row, place: Place) -> Word<'a>
 /// The words of a line, from 1 to `source.lines()`, in order: its longest runs of bytes without one that parts words,
 /// which are blanks and, under `Cut::Layers`, commas; under `Cut::Legend` each `=` is a word by itself.
 /// `Memory` if there is no room for their list.
-pub fn words<'a>(alloc: Global, source: &'a Source, line: u32, cut: Cut) -> Result<Vec<Word<'a>>, Memory>
+pub fn words<'a>(
+    alloc: Global,
+    source: &'a Source,
+    line: u32,
+    cut: Cut,
+) -> Result<Vec<Word<'a>>, Memory>
     requires from_one { 1 ≤ line }
     requires there { line ≤ length (lines_of source.now) }
     ensures texts { IfOk result (λ words. map text_of words.items ≡ word_texts cut (line_at source.now line).bytes) }

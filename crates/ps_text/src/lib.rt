@@ -21,3 +21,6 @@ pub use naming::same_name;
 pub use ps_model::{Cut, Fault, FaultKind, Memory, Section, Span};
 pub use sources::Source;
 pub use texts::Text;
+
+#[cfg(test)]
+mod tests;

@@ -78,7 +78,11 @@ fn mark_len(text: &str) -> u32
     ensures cuttable { IsCharBoundary text.now result }
     ensures few { result ≤ 3 }
 {
-    if text.as_bytes().starts_with(b"\xef\xbb\xbf") { 3 } else { 0 }
+    if text.as_bytes().starts_with(b"\xef\xbb\xbf") {
+        3
+    } else {
+        0
+    }
 }
 
 /// The place of the first line feed from `start` on, or else the text's end.

@@ -77,7 +77,8 @@ fn checked(bytes: &[u8]) -> Result<&str, Fault>
 fn is_equals_alone(line: &[u8]) -> bool
     ensures { result ≡ list_all (λ byte. is_blank byte || byte == 61) line.now }
 {
-    line.iter().all(|byte| is_blank_byte(*byte) || *byte == b'=')
+    line.iter()
+        .all(|byte| is_blank_byte(*byte) || *byte == b'=')
 }
 
 /// Whether the line has a `=`.

@@ -14,7 +14,9 @@ fn begins_text(section: Section, word: &[u8]) -> bool
     ensures { result ≡ takes_text section (folded word.now) }
 {
     match section {
-        Section::Prelude => is_word(word, b"title") || is_word(word, b"author") || is_word(word, b"homepage"),
+        Section::Prelude => is_word(word, b"title")
+            || is_word(word, b"author")
+            || is_word(word, b"homepage"),
         Section::Levels => is_word(word, b"message"),
         _ => false,
     }

@@ -34,9 +34,9 @@ loop-place-preserved c =
     same_word_span c.word_at.result line place.start place.end (c.word_at.ensures.line ∙ c.row-row.ensures.number) (c.word_at.ensures.start ∙ ap (λ (n : ℕ). n + place.start) c.row-row.ensures.start) (c.word_at.ensures.end ∙ ap (λ (n : ℕ). n + place.end) c.row-row.ensures.start) in
     let slice : IsSliceOf c.args.source.now c.word_at.result =
     rw (c.word_at.ensures.start, c.word_at.ensures.end)
-      (c.word_at.ensures.text
-      ∙ part_of_text c.args.source.now c.row-row.result.start c.row-row.result.end text place.start place.end (c.row-row.ensures.bytes ∙ sym c.line_text-text.ensures)
-        (ap (λ (bytes : List ℕ). c.row-row.result.start + length bytes) c.line_text-text.ensures ∙ c.row-row.ensures.end) (omega (arith, whole.holds)) whole.end.0) in
+    (c.word_at.ensures.text
+    ∙ part_of_text c.args.source.now c.row-row.result.start c.row-row.result.end text place.start place.end (c.row-row.ensures.bytes ∙ sym c.line_text-text.ensures)
+    (ap (λ (bytes : List ℕ). c.row-row.result.start + length bytes) c.line_text-text.ensures ∙ c.row-row.ensures.end) (omega (arith, whole.holds)) whole.end.0) in
     record {
       texts = rw items (item_more text_of (bytes_at text) c.loop-place.words.items c.word_at.result before behind (place.start, place.end) _ c.word_at.ensures.text found c.loop-place.invariant.texts);
       spans = rw items (item_more span_of (span_at line) c.loop-place.words.items c.word_at.result before behind (place.start, place.end) _ span found c.loop-place.invariant.spans);

@@ -31,7 +31,7 @@ loop-last-preserved c =
     let rows : c.push-in-loop-last.new.self.items ≡ c.loop-last.rows.items ++ c.row_at-last-in-loop-last.result ∷ [] = search rules in
     record {
       told = rw rows (row_more c.args.text.now c.loop-last.rows.items c.row_at-last-in-loop-last.result (last.number + 1) (last.end + 1) last.section _
-        c.loop-last-test.true here.number here.start here.end here.section c.loop-last.invariant.told);
+          c.loop-last-test.true here.number here.start here.end here.section c.loop-last.invariant.told);
       whole = rw rows (All-push (IsRow c.args.text.now) c.loop-last.rows.items c.row_at-last-in-loop-last.result c.loop-last.invariant.whole here.row);
       last = here.row;
       number = rw rows (grind (arith, common_steps, here.number, c.loop-last.invariant.number));

@@ -23,5 +23,5 @@ returns-clause-text c =
     let place = c.in-Some.place in
     let whole = rw c.as_bytes.ensures.value at c.in-Some.ensures.place in
     let part = part_of_text c.args.self.now c.row-row.result.start c.row-row.result.end text place.start place.end (c.row-row.ensures.bytes ∙ sym c.line_text-text.ensures)
-      (ap (λ (bytes : List ℕ). c.row-row.result.start + length bytes) c.line_text-text.ensures ∙ c.row-row.ensures.end) whole.order whole.end.0 in
+    (ap (λ (bytes : List ℕ). c.row-row.result.start + length bytes) c.line_text-text.ensures ∙ c.row-row.ensures.end) whole.order whole.end.0 in
     rw (c.word_at.ensures.start, c.word_at.ensures.end) (c.word_at.ensures.text ∙ part)
