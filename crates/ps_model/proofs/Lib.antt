@@ -1,3 +1,5 @@
 pub mod BaseText
+pub mod LineLaws
+mod FaultRows
 mod LineRows
 mod MovementRows

@@ -1,10 +1,10 @@
 -- The lines from a place of a text on, a line further.
-use Rattle.std.proofs.Common.{◌≡◌, ℕ, suc, ◌+◌, ◌-◌, ◌<◌, ◌≤◌, ◌⊎◌, inl, inr, true, false, List, [], ◌∷◌, ◌++◌, length, take, drop, get_or, map, refl, sym, ◌∙◌, ap, arith, add-one}
+use Rattle.std.proofs.Common.{◌≡◌, ℕ, ◌+◌, ◌-◌, ◌<◌, ◌≤◌, ◌⊎◌, inl, inr, true, false, List, [], ◌∷◌, ◌++◌, length, take, drop, map, refl, sym, ◌∙◌, ap, arith, add-one}
 use Rattle.std.specs.Prelude.{nat_eq, slice_range, unwrap_or}
-use Rattle.std.specs.List.{slice_split, position_or_len, prefix_len, starts_with, All}
+use Rattle.std.specs.List.{slice_split, position_or_len, starts_with}
 use Rattle.std.specs.Str.{IsUtf8, IsCharBoundary}
 use Rattle.std.proofs.Math.Utf8.{encode}
-use Rattle.std.proofs.lemmas.Bool.Decides.{nat_tests, Decides-eqb}
+use Rattle.std.proofs.lemmas.Bool.Decides.{Decides-eqb}
 use Rattle.std.proofs.lemmas.Grind.{common_steps}
 use Rattle.std.proofs.lemmas.List.{drop_all, drop-drop, map-append, append_assoc}
 use Rattle.std.proofs.lemmas.List.Elements.{All-from_get_or}
@@ -14,7 +14,7 @@ use Rattle.std.proofs.lemmas.Slice.Eq.{starts_is}
 use Rattle.std.proofs.lemmas.Str.{IsCharBoundary-past_char}
 use Rattle.ps_model.specs.declared.texts.Section.{Section}
 use Rattle.ps_model.specs.declared.texts.Section.TheVariants.{Prelude}
-use Rattle.ps_model.specs.Lines.{Line, is_line_feed, mark_length, without_empty_end, as_lines, raw_lines, header_of, lines_from, lines_of}
+use Rattle.ps_model.specs.Lines.{Line, is_line_feed, mark_length, without_empty_end, as_lines, header_of, lines_from, lines_of}
 use Rattle.ps_text.specs.declared.rows.Row.{Row}
 use Rattle.ps_text.specs.Rows.{shown, lines_behind}
 

@@ -1,5 +1,5 @@
 -- The text of a line that is taken as it stands, by its place in the line.
-use Rattle.std.specs.Prelude.{ℕ, ◌+◌, ◌≤◌, Bool, true, false, Option, Some, None, List, [], length, drop, slice_index_or}
+use Rattle.std.specs.Prelude.{ℕ, ◌+◌, ◌≤◌, true, false, Option, Some, None, List, [], length, drop, slice_index_or}
 use Rattle.std.specs.List.{prefix_len}
 use Rattle.std.specs.Str.{IsCharBoundary}
 use Rattle.ps_model.specs.declared.texts.Cut.TheVariants.{Plain}

@@ -1,6 +1,6 @@
 //! The words of a line.
 
-ghost use Rattle.std.specs.Prelude.{◌≡◌, ◌+◌, ◌≤◌, length, map, slice_range, IfOk, All};
+ghost use Rattle.std.specs.Prelude.{◌≡◌, ◌+◌, ◌≤◌, ◌<◌, length, map, slice_range, IfOk, All};
 ghost use Rattle.std.specs.Str.{IsUtf8, IsCharBoundary};
 ghost use Rattle.ps_model.specs.Limits.{text_limit};
 ghost use Rattle.ps_model.specs.Lines.{lines_of, line_at};
@@ -68,6 +68,7 @@ pub fn words<'a>(
     requires from_one { 1 ≤ line }
     requires there { line ≤ length (lines_of source.now) }
     ensures texts { IfOk result (λ words. map text_of words.items ≡ word_texts cut (line_at source.now line).bytes) }
+    ensures hold { IfOk result (λ words. All (λ text. 0 < length text) (map text_of words.items)) }
     ensures spans { IfOk result (λ words. map span_of words.items ≡ map (span_at (line_at source.now line)) (words_in cut (line_at source.now line).bytes)) }
     ensures slices { IfOk result (λ words. All (IsSliceOf source.now) words.items) }
     ensures rising { IfOk result (λ words. AreRisingSpans (line_at source.now line).start (length source.now) (map span_of words.items)) }

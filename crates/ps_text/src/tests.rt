@@ -91,7 +91,10 @@ fn refuses_bytes(rt: HostRuntime) -> Result<(), Fail> {
         refused(FaultKind::NotUtf8, 2)
     );
     let spaces = spaces_of(rt.alloc(), 1048577)?;
-    assert_eq!(rt; Source::read(rt.alloc(), spaces.as_slice()).err(), refused(FaultKind::TooLong, 1));
+    assert_eq!(rt;
+        Source::read(rt.alloc(), spaces.as_slice()).err(),
+        refused(FaultKind::TooLong, 1)
+    );
     let most = Source::read(rt.alloc(), spaces_of(rt.alloc(), 1048576)?.as_slice())?;
     assert_eq!(rt; most.lines(), 1);
     assert_eq!(rt; Source::read(rt.alloc(), b"")?.lines(), 1);

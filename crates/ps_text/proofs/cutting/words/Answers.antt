@@ -1,11 +1,10 @@
-use Rattle.std.proofs.Common.{rules, ◌≡◌, ◌∙◌, ◌+◌, ◌≤◌, ◌<◌, ◌∷◌, [], ◌++◌, None, map, length, drop, refl, sym, ap, arith, ℕ, List}
-use Rattle.std.specs.Prelude.{slice_range}
+use Rattle.std.proofs.Common.{rules, ◌≡◌, ◌∙◌, ◌+◌, ◌∷◌, [], ◌++◌, None, map, length, drop, refl, sym, ap, arith, ℕ, List}
 use Rattle.std.proofs.lemmas.List.Elements.{All-push}
 use Rattle.std.proofs.lemmas.Str.{IsCharBoundary-start}
 use Rattle.ps_model.specs.Lines.{line_at}
-use Rattle.ps_model.specs.Words.{words_from, words_in}
+use Rattle.ps_model.specs.Words.{words_from, words_in, word_texts}
 use Rattle.ps_text.specs.WordViews.{span_of, text_of, span_at, bytes_at, IsSliceOf}
-use Rattle.ps_text.proofs.RisingWords.{rising_words, rising_spans}
+use Rattle.ps_text.proofs.RisingWords.{rising_words, rising_spans, words_hold}
 use Rattle.ps_text.proofs.Slices.{item_more, part_of_text}
 use Rattle.ps_text.proofs.WordSpans.{same_word_span}
 use Rattle.ps_text.proofs.cutting.words.Goals as goal
@@ -49,3 +48,9 @@ returns-clause-rising c =
     let line = line_at c.args.source.now c.args.line in
     let spans : map span_of c.loop-place.words.items ≡ map (span_at line) (words_in c.args.cut line.bytes) = search rules in
     rw spans (rising_spans line 0 (length line.bytes) line.start (length c.args.source.now) (words_in c.args.cut line.bytes) (rising_words c.args.cut line.bytes) (omega arith) (omega (arith, c.row-row.ensures.start, c.row-row.ensures.end, c.row-row.ensures.row.end.0)))
+
+pub returns-clause-hold : goal.returns-clause-hold
+returns-clause-hold c =
+    let line = line_at c.args.source.now c.args.line in
+    let texts : map text_of c.loop-place.words.items ≡ word_texts c.args.cut line.bytes = search rules in
+    rw texts (words_hold c.args.cut line.bytes)

@@ -1,7 +1,6 @@
-use Rattle.std.proofs.Common.{rules, ◌≡◌, ◌+◌, ◌≤◌, ◌<◌, ◌∷◌, [], ◌++◌, length, refl, sym, ◌∙◌, subst, arith, ℕ, drop}
+use Rattle.std.proofs.Common.{rules, ◌≡◌, ◌+◌, ◌<◌, ◌∷◌, [], ◌++◌, length, sym, arith}
 use Rattle.std.proofs.lemmas.Grind.{common_steps}
 use Rattle.std.proofs.lemmas.Str.{IsCharBoundary-after_ascii}
-use Rattle.ps_model.specs.Lines.{mark_length}
 use Rattle.std.proofs.lemmas.List.Elements.{All-push}
 use Rattle.ps_text.specs.Rows.{IsRow}
 use Rattle.ps_text.proofs.LineSteps.{one_row, row_more}

@@ -1,4 +1,4 @@
-use Rattle.std.proofs.Common.{rules, ◌≡◌, ◌+◌, ◌<◌, true, length, get_or, arith}
+use Rattle.std.proofs.Common.{rules, ◌≡◌, ◌<◌, true, length, get_or, arith}
 use Rattle.std.proofs.lemmas.Str.{IsCharBoundary-after_ascii}
 use Rattle.ps_model.specs.Words.{stands_alone}
 use Rattle.ps_text.proofs.WordSteps.{alone_is_ascii}

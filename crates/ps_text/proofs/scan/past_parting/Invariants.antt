@@ -1,4 +1,4 @@
-use Rattle.std.proofs.Common.{◌≡◌, ◌+◌, ◌≤◌, drop, None}
+use Rattle.std.proofs.Common.{◌≡◌, ◌+◌, drop, None}
 use Rattle.std.specs.List.{prefix_len}
 use Rattle.std.specs.Str.{IsCharBoundary}
 use Rattle.ps_model.specs.Words.{parts_words, words_from}

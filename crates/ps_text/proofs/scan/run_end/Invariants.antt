@@ -1,4 +1,4 @@
-use Rattle.std.proofs.Common.{◌≡◌, ◌+◌, ◌≤◌, drop, None, Some}
+use Rattle.std.proofs.Common.{◌≡◌, drop, None, Some}
 use Rattle.ps_model.specs.Words.{words_from}
 use Rattle.ps_text.proofs.scan.run_end.Given as goal
 

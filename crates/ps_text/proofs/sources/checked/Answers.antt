@@ -1,4 +1,4 @@
-use Rattle.std.proofs.Common.{◌≡◌, arith}
+use Rattle.std.proofs.Common.{arith}
 use Rattle.ps_text.proofs.Faults.{no_fault}
 use Rattle.ps_text.proofs.sources.checked.Goals as goal
 
