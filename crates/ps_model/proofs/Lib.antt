@@ -1,5 +1,7 @@
 pub mod BaseText
 pub mod Counts
+mod FaultRows
+pub mod LineLaws
 mod LineRows
 mod MovementRows
 mod NameRows

@@ -5,8 +5,10 @@ pub mod WeakMovement
 pub mod OptionSteps
 pub mod Words
 pub mod Lines
+pub mod TextFaults
 pub mod Names
 pub mod ThinNames
+pub mod NamesFacts
 pub mod Levels
 pub mod ThinLevels
 pub mod ThinGame

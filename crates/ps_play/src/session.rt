@@ -73,9 +73,9 @@ impl<'g, B: Board> Session<'g, B> {
         ensures moved { OnOk result (IsWeaklySlid (with_input self.old.game.now.names input (B.grid self.old.board)) (B.grid self.new.board)) }
         ensures shown { OnOk result (screen.new ≡ screen.old ++ frame self.old.game.now.names (B.grid self.new.board)) }
     {
-        let players = members_named(&self.game.names, "player");
-        give_motion(&mut self.board, players, motion_for(input));
+        let game = self.game;
+        give_motion(&mut self.board, members_named(&game.names, "player"), motion_for(input));
         let _ = slide(&mut self.board);
-        add_frame(self.alloc, &self.game.names, &self.board, screen)
+        add_frame(self.alloc, &game.names, &self.board, screen)
     }
 }
