@@ -1,0 +1,13 @@
+//! The names of a game: what each stands for, on which layer each object lies, and which characters show what.
+//!
+//! `read_names` reads the sections OBJECTS, LEGEND and COLLISIONLAYERS. For now it reads them in a thin form: each
+//! legend line names objects alone on its right, and `Background` and `Player` are objects.
+#![tactic(auto)]
+
+mod fault;
+mod meaning;
+mod table;
+
+pub use fault::NameFault;
+pub use meaning::Meaning;
+pub use ps_model::{LayerId, ObjectId};
