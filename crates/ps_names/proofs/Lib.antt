@@ -1,2 +1,4 @@
 pub mod Characters
 pub mod TableEntries
+pub mod LinesBetween
+pub mod ObjectSteps

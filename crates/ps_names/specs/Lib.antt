@@ -1,2 +1,6 @@
 pub mod Shown
 pub mod Entries
+pub mod Here
+pub mod ObjectLines
+pub mod LegendSides
+pub mod Places

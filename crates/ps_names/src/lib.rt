@@ -5,7 +5,10 @@
 #![tactic(auto)]
 
 mod fault;
+mod layers;
+mod legend;
 mod meaning;
+mod objects;
 mod table;
 
 pub use fault::NameFault;
