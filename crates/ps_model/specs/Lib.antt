@@ -7,3 +7,4 @@ pub mod Words
 pub mod Lines
 pub mod Names
 pub mod ThinNames
+pub mod TextFaults

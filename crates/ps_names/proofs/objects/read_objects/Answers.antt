@@ -1,4 +1,5 @@
 use Rattle.std.proofs.Common.{◌≡◌, ◌∙◌, ◌+◌, ◌++◌, sym, ap, refl, rules, arith, List, ℕ, None, true, false}
+use Rattle.std.proofs.lemmas.List.{append-nil}
 use Rattle.ps_model.specs.declared.texts.ObjectStage.TheVariants.{Between}
 use Rattle.ps_model.specs.Lines.{Line}
 use Rattle.ps_model.specs.ThinNames.{are_good_lines, name_words, lines_between, object_words, may_end}
@@ -17,7 +18,7 @@ returns-in_err-stage-clause-not_yet c =
     let step = between-step text line (line + 1) end (omega arith) (omega arith) (omega arith) refl in
     let fault : NameFault = c.in_err-stage.field-0.0 in
     let told : fault ≡ NotYet → object_words (lines_between text c.args.lines.start end) ≡ None =
-      λ e. no_words _ (sym c.loop-line.invariant.0 ∙ ap (λ (xs : List Line). are_good_lines c.loop-line.stage xs) step ∙ c.in_err-stage.ensures.not_yet e _) in
+      λ e. no_words (lines_between text c.args.lines.start end) (sym c.loop-line.invariant.0 ∙ ap (λ (xs : List Line). are_good_lines c.loop-line.stage xs) step ∙ c.in_err-stage.ensures.not_yet e _) in
     search (rules, told)
 
 pub loop-line-preserved : goal.loop-line-preserved
@@ -36,4 +37,4 @@ returns-clause-ok c =
     let ends : may_end c.loop-line.stage ≡ true = search rules in
     some_words (lines_between text c.args.lines.start c.args.lines.end) (all_words c.loop-line.made.items)
       (sym c.loop-line.invariant.0 ∙ ap (λ (xs : List Line). are_good_lines c.loop-line.stage xs) done ∙ ends)
-      (sym c.loop-line.invariant.1 ∙ ap (λ (xs : List Line). all_words c.loop-line.made.items ++ name_words c.loop-line.stage xs) done ∙ simp append_nil) ?
+      (sym c.loop-line.invariant.1 ∙ ap (λ (xs : List Line). all_words c.loop-line.made.items ++ name_words c.loop-line.stage xs) done ∙ simp append-nil) ?
