@@ -85,3 +85,20 @@ impl Table {
         Ok(())
     }
 }
+
+/// Whether a name as it is written, its letters folded, is the name given.
+pub fn folds_to(written: &str, name: &str) -> bool
+    ensures { result ≡ bytes_eq (folded written.now) name.now }
+{
+    let letters = written.as_bytes();
+    let wanted = name.as_bytes();
+    if letters.len() != wanted.len() {
+        return false;
+    }
+    for at in 0..letters.len() {
+        if letters[at].to_ascii_lowercase() != wanted[at] {
+            return false;
+        }
+    }
+    true
+}

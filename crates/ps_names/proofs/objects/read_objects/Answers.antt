@@ -1,5 +1,5 @@
 use Rattle.std.proofs.Common.{◌≡◌, ◌∙◌, ◌+◌, ◌++◌, sym, ap, refl, rules, arith, List, ℕ, None, true, false}
-use Rattle.std.proofs.lemmas.List.{append-nil}
+use Rattle.std.proofs.lemmas.List.{append-nil, length-map}
 use Rattle.ps_model.specs.declared.texts.ObjectStage.TheVariants.{Between}
 use Rattle.ps_model.specs.Lines.{Line}
 use Rattle.ps_model.specs.ThinNames.{are_good_lines, name_words, lines_between, object_words, may_end}
@@ -37,4 +37,4 @@ returns-clause-ok c =
     let ends : may_end c.loop-line.stage ≡ true = search rules in
     some_words (lines_between text c.args.lines.start c.args.lines.end) (all_words c.loop-line.made.items)
       (sym c.loop-line.invariant.0 ∙ ap (λ (xs : List Line). are_good_lines c.loop-line.stage xs) done ∙ ends)
-      (sym c.loop-line.invariant.1 ∙ ap (λ (xs : List Line). all_words c.loop-line.made.items ++ name_words c.loop-line.stage xs) done ∙ simp append-nil) ?
+      (sym c.loop-line.invariant.1 ∙ ap (λ (xs : List Line). all_words c.loop-line.made.items ++ name_words c.loop-line.stage xs) done ∙ simp append-nil) (rw length-map (omega (arith, c.loop-line.made.ok.0)))
