@@ -145,10 +145,14 @@ abbrev pub name_words : ObjectStage → List Line → List (List (List ℕ))
 name_words stage [] = []
 name_words stage (line ∷ lines) = (if names_object stage line then word_texts Plain line.bytes ∷ [] else []) ++ name_words (stage_after stage line) lines
 
+-- what the words of a line that names the object of a number declare
+abbrev pub object_declared : ℕ → List (List ℕ) → List Declared
+object_declared number words = map (λ word. declared_as word (One (record { 0 = number }))) words
+
 -- what the words of the lines that name objects declare, the objects numbered from a number on
 abbrev pub declared_from : ℕ → List (List (List ℕ)) → List Declared
 declared_from number [] = []
-declared_from number (words ∷ others) = map (λ word. declared_as word (One (record { 0 = number }))) words ++ declared_from (suc number) others
+declared_from number (words ∷ others) = object_declared number words ++ declared_from (suc number) others
 
 -- the words of the lines that name objects, if no line has a fault and the objects aren't too many
 abbrev pub object_words : List Line → Option (List (List (List ℕ)))

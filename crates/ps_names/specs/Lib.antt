@@ -5,3 +5,4 @@ pub mod Behind
 pub mod ObjectLines
 pub mod LegendSides
 pub mod Places
+pub mod GlyphsShown

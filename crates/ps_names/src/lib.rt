@@ -4,7 +4,10 @@
 //! legend line names objects alone on its right, and `Background` and `Player` are objects.
 #![tactic(auto)]
 
+mod apart;
+mod declaring;
 mod fault;
+mod glyphs;
 mod layers;
 mod legend;
 mod meaning;

@@ -1,11 +1,11 @@
 //! The table of declared names.
 
-ghost use Rattle.std.specs.Prelude.{◌≡◌, ◌++◌, ◌∷◌, [], false, true, IfOk, OnOk, IfErr, option_map};
+ghost use Rattle.std.specs.Prelude.{◌≡◌, ◌++◌, ◌∷◌, [], false, true, IfOk, OnOk, IfErr, option_map, ◌<◌, length, slice_index_or};
 ghost use Rattle.std.specs.Str.{bytes_eq, chars};
 ghost use Rattle.std.specs.List.{list_any};
 ghost use Rattle.std.specs.Map.{lookup};
 ghost use Rattle.ps_model.specs.Lines.{folded};
-ghost use Rattle.ps_model.specs.ThinNames.{entries_of, names_of, declared_as, one_character};
+ghost use Rattle.ps_model.specs.ThinNames.{entries_of, names_of, declared_as, one_character, Declared};
 ghost use Rattle.ps_names.specs.Shown.{meaning_shown};
 ghost use Rattle.ps_names.specs.declared.fault.NameFault.TheVariants.{NotYet};
 
@@ -68,6 +68,25 @@ impl Table {
             return None;
         };
         Some(&entry.meaning)
+    }
+
+    /// How many names are declared.
+    pub fn len(&self) -> usize
+        ensures { result ≡ length self.now }
+    {
+        self.names.len()
+    }
+
+    /// What the name of that place, in order of declaration, has.
+    pub fn entry(&self, at: usize) -> &Entry
+        requires { at < length self.now }
+        ensures character { (d : Declared) → (slice_index_or self.now at d).character ≡ result.now.character }
+        ensures meaning { (d : Declared) → (slice_index_or self.now at d).meaning ≡ meaning_shown result.now.meaning }
+    {
+        let Some((_, entry)) = self.names.get_index(at) else {
+            unreachable!()
+        };
+        entry
     }
 
     /// Declares a name as it is written. `NotYet`: it is declared already, and the table stays as it was.
