@@ -8,3 +8,4 @@ pub mod Lines
 pub mod Names
 pub mod ThinNames
 pub mod TextFaults
+pub mod NamesFacts
