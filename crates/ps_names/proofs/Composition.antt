@@ -3,15 +3,20 @@ use Rattle.std.proofs.Common.{◌≡◌, ℕ, true, false, List, ◌++◌, lengt
 use Rattle.std.specs.Prelude.{option_map}
 use Rattle.std.specs.List.{filter_map}
 use Rattle.ps_model.specs.declared.pieces.ObjectId.{ObjectId}
-use Rattle.ps_model.specs.Names.{Names}
+use Rattle.ps_model.specs.Names.{Names, Glyph}
 use Rattle.ps_model.specs.Lines.{Line}
 use Rattle.ps_model.specs.OptionSteps.{◌>>=◌, only_if}
 use Rattle.ps_model.specs.ThinNames.{Declared, object_words, object_names, legend_names, layer_lists, layers_of, entries_of, are_all_apart, glyph_of, thin_names}
+use Rattle.ps_names.proofs.Pairs.{same_first, same_second}
 use Rattle.ps_names.specs.Layered.{layered, with_count}
 
 -- the names of what is declared, with these layers
 abbrev pub names_with : List Declared → List ℕ → ℕ → Names
 names_with declared layers count = record { entries = entries_of declared; layers = layers; layer_count = count; glyphs = filter_map glyph_of declared }
+
+-- the names of what is declared, with these layers and these glyphs
+abbrev pub with_glyphs : List Declared → List ℕ → ℕ → List Glyph → Names
+with_glyphs declared layers count glyphs = record { entries = entries_of declared; layers = layers; layer_count = count; glyphs = glyphs }
 
 -- the names by the objects of each layer
 abbrev pub names_by : ℕ → List Declared → Option (List (List ObjectId)) → Option Names
@@ -25,8 +30,8 @@ by_layers : (declared : List Declared) (count : ℕ) (found : Option (List ℕ))
     → (found >>= λ found. only_if (are_all_apart found declared) (names_with declared found count)) ≡ only_if apart (names_with declared layers number)
 by_layers declared count None layers number apart e a = cc
 by_layers declared count (Some found) layers number apart e a =
-    let same : found ≡ layers = cc in
-    let long : count ≡ number = cc in
+    let same : found ≡ layers = same_first (found, count) (layers, number) e in
+    let long : count ≡ number = same_second (found, count) (layers, number) e in
     rw (same, long, a) refl
 
 pub names-layered : (objects : ℕ) (declared : List Declared) (lists : Option (List (List ObjectId))) (layers : List ℕ) (number : ℕ) (apart : Bool)

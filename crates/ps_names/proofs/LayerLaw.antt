@@ -1,16 +1,20 @@
 -- The layers that the code finds, one line after the other, are the last ones that name each object.
-use Rattle.std.proofs.Common.{◌≡◌, ℕ, suc, ◌+◌, ◌<◌, Bool, true, false, cond, List, [], ◌∷◌, map, length, get_or, replicate, refl, sym, ap, ◌∙◌, Option, Some, None, arith, ◌||◌}
-use Rattle.std.specs.Prelude.{nat_eq, slice_set, if◌then◌else◌}
+use Rattle.std.proofs.Common.{◌≡◌, ℕ, suc, ◌+◌, ◌<◌, ◌≤◌, Bool, true, false, cond, List, [], ◌∷◌, map, length, get_or, replicate, refl, sym, ap, ◌∙◌, Option, Some, None, arith, ◌||◌, rules, tests}
+use Rattle.std.specs.Prelude.{nat_eq, nat_le, slice_set, if◌then◌else◌, option_map}
 use Rattle.std.specs.List.{range_with_len}
 use Rattle.std.specs.Option.{option_or}
 use Rattle.std.proofs.lemmas.List.{same_lists, get_or-set_same, get_or-set_other, length-set, length-replicate, get_or-replicate}
 use Rattle.std.proofs.lemmas.List.FromFn.{length-map-range_with_len, get_or-map-range_with_len}
 use Rattle.std.proofs.lemmas.Bool.Decides.{nat_tests}
 use Rattle.ps_model.specs.declared.pieces.ObjectId.{ObjectId}
-use Rattle.ps_model.specs.Names.{is_among}
-use Rattle.ps_model.specs.OptionSteps.{all_there}
-use Rattle.ps_model.specs.ThinNames.{layer_among, layers_of}
-use Rattle.ps_names.specs.Places.{placed, placed_each}
+use Rattle.ps_model.specs.Names.{Meaning, is_among}
+use Rattle.ps_model.specs.Limits.{layer_limit}
+use Rattle.ps_model.specs.Lines.{Line}
+use Rattle.ps_model.specs.OptionSteps.{◌>>=◌, only_if, all_there}
+use Rattle.ps_model.specs.ThinNames.{layer_among, layers_of, layers_declared, layer_lists}
+use Rattle.ps_names.proofs.Pairs.{same_first, same_second}
+use Rattle.ps_names.specs.Places.{placed, placed_each, laid}
+use Rattle.ps_names.specs.Layered.{layered, with_count}
 
 pub length-placed : (layer : ℕ) (places : List (Option ℕ)) (objects : List ObjectId) → length (placed layer places objects) ≡ length places
 length-placed layer places [] = refl
@@ -69,3 +73,33 @@ layers-placed objects lists =
         placed_each-at 0 (replicate objects None) lists k d (rw length-replicate within)
         ∙ ap (option_or (layer k)) (get_or-replicate objects k None d within) ∙ or_none (layer k)
         ∙ sym (get_or-map-range_with_len layer 0 objects k k d within (omega arith))))
+
+-- what the places give, once all lines are read
+pub layered-laid : (objects : ℕ) (entries : List (List ℕ × Meaning)) (lines : List Line) (old new : List (Option ℕ)) (count : ℕ) → old ≡ replicate objects None
+    → laid old 0 (layers_declared entries lines) ≡ Some (new, count) → count ≤ layer_limit
+    → layered objects (layer_lists entries lines) ≡ option_map (with_count count) (all_there new)
+layered-laid objects entries lines old new count s e few = by (layers_declared entries lines) e
+  where
+    by : (declared : Option (List (List ObjectId))) → laid old 0 declared ≡ Some (new, count)
+        → layered objects (declared >>= λ lists. only_if (nat_le (length lists) layer_limit) lists) ≡ option_map (with_count count) (all_there new)
+    by None e = cc
+    by (Some lists) e =
+        let sum : 0 + length lists ≡ count = same_second (placed_each 0 old lists, 0 + length lists) (new, count) e in
+        let long : length lists ≡ count = omega arith in
+        let places : placed_each 0 old lists ≡ new = same_first (placed_each 0 old lists, 0 + length lists) (new, count) e in
+        let test : nat_le (length lists) layer_limit ≡ true = rw long (search (rules, tests)) in
+        rw (test, ← layers-placed objects lists, ← s, places, long) refl
+
+-- too many layers
+pub layered-many : (objects : ℕ) (entries : List (List ℕ × Meaning)) (lines : List Line) (old new : List (Option ℕ)) (count : ℕ)
+    → laid old 0 (layers_declared entries lines) ≡ Some (new, count) → layer_limit < count → layered objects (layer_lists entries lines) ≡ None
+layered-many objects entries lines old new count e many = by (layers_declared entries lines) e
+  where
+    by : (declared : Option (List (List ObjectId))) → laid old 0 declared ≡ Some (new, count)
+        → layered objects (declared >>= λ lists. only_if (nat_le (length lists) layer_limit) lists) ≡ None
+    by None e = cc
+    by (Some lists) e =
+        let sum : 0 + length lists ≡ count = same_second (placed_each 0 old lists, 0 + length lists) (new, count) e in
+        let long : length lists ≡ count = omega arith in
+        let test : nat_le (length lists) layer_limit ≡ false = rw long (search (rules, tests)) in
+        rw test refl

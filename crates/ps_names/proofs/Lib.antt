@@ -7,3 +7,5 @@ pub mod LegendSteps
 pub mod LayerSteps
 pub mod LayerLaw
 pub mod Composition
+pub mod Pairs
+pub mod Facts

@@ -1,5 +1,5 @@
 -- One declared name more.
-use Rattle.std.proofs.Common.{◌≡◌, ℕ, suc, ◌<◌, ◌&&◌, ◌++◌, List, length, drop, get_or, refl, Option, Some, None}
+use Rattle.std.proofs.Common.{◌≡◌, ℕ, suc, ◌<◌, ◌&&◌, ◌++◌, List, length, drop, get_or, refl, sym, ap, ◌∙◌, append_assoc, Option, Some, None}
 use Rattle.std.specs.Prelude.{option_to_list}
 use Rattle.std.specs.List.{filter_map, cons_option}
 use Rattle.std.proofs.Math.Seq.{drop-cons}
@@ -18,3 +18,7 @@ pub glyph-step : (declared : List Declared) (k next : ℕ) (d : Declared) (chara
     → (get_or declared k d).character ≡ character → (get_or declared k d).meaning ≡ meaning
     → filter_map glyph_of (drop k declared) ≡ option_to_list (glyph_with character meaning) ++ filter_map glyph_of (drop next declared)
 glyph-step declared k next d character meaning less n e m = rw (n, drop-cons declared k d less, e, m) (with_glyph (glyph_with character meaning) _)
+
+-- what was made, with what is added
+pub made-more : (made added rest left whole : List Glyph) → left ≡ added ++ rest → made ++ left ≡ whole → (made ++ added) ++ rest ≡ whole
+made-more made added rest left whole e f = append_assoc made added rest ∙ ap (λ gs. made ++ gs) (sym e) ∙ f
