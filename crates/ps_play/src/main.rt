@@ -13,12 +13,10 @@ use clap::{Arg, ArgAction, Command};
 use devices::{ByteReader, ByteWriter, FromStd};
 use ps_model::Memory;
 use run::{RunFault, run};
-use std::env;
-use std::fs;
-use std::io;
 use std::io::Read;
 use std::process::ExitCode;
 use std::rt::{Env, Files};
+use std::{env, fs, io};
 
 /// How many bytes of a game are read at most: one more than a game may have, so that a longer one is known.
 const MOST_READ: u64 = 1048577;
@@ -78,7 +76,11 @@ fn main(rt: HostRuntime) -> ExitCode {
 }
 
 /// Plays the game that the command line names.
-fn play<R: Env + Files + AllocGlobal, I: ByteReader, O: ByteWriter>(rt: &R, keys: &mut I, screen: &mut O) -> Result<(), Stop> {
+fn play<R: Env + Files + AllocGlobal, I: ByteReader, O: ByteWriter>(
+    rt: &R,
+    keys: &mut I,
+    screen: &mut O,
+) -> Result<(), Stop> {
     let words = env::args(rt)
         .map_err(|error| stop_for(error, Stop::NotText))?
         .collect::<Vec<String>>(rt.alloc())

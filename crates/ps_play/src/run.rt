@@ -32,7 +32,12 @@ pub enum RunFault {
 ///
 /// `Refused` where the text isn't a game that this version plays, which for now is each text: neither device is
 /// called then.
-pub fn run<R: ByteReader, W: ByteWriter>(_alloc: Global, _game: &[u8], reader: &mut R, writer: &mut W) -> Result<Ending, RunFault>
+pub fn run<R: ByteReader, W: ByteWriter>(
+    _alloc: Global,
+    _game: &[u8],
+    reader: &mut R,
+    writer: &mut W,
+) -> Result<Ending, RunFault>
     ensures reader { reader.new ≡ reader.old }
     ensures writer { writer.new ≡ writer.old }
 {

@@ -1,7 +1,9 @@
 //! What the contracts of the devices don't say: that memory can be had, where the edges of a device in memory
 //! lie, and that an interrupted call is tried again.
 
-use crate::devices::{ByteReader, ByteWriter, Failed, FromStd, MemoryReader, MemoryWriter, write_whole};
+use crate::devices::{
+    ByteReader, ByteWriter, Failed, FromStd, MemoryReader, MemoryWriter, write_whole,
+};
 use crate::run::{RunFault, run};
 use ps_model::{Fault, FaultKind, Memory};
 use std::io;
@@ -25,7 +27,12 @@ fn reader_gives_pieces(rt: HostRuntime) {
 
 #[test]
 fn reader_fails_at_its_edge(rt: HostRuntime) {
-    for (edge, given, last) in [(0, 0, Err(Failed)), (2, 2, Err(Failed)), (5, 5, Err(Failed)), (6, 5, Ok(0))] {
+    for (edge, given, last) in [
+        (0, 0, Err(Failed)),
+        (2, 2, Err(Failed)),
+        (5, 5, Err(Failed)),
+        (6, 5, Ok(0)),
+    ] {
         let mut reader = MemoryReader::new(b"hello", 3, Some(edge));
         let mut buffer = [0u8; 8];
         let _ = reader.read_some(&mut buffer);
@@ -70,7 +77,10 @@ fn each_game_is_refused(rt: HostRuntime) -> Result<(), Memory> {
         kind: FaultKind::NotYet,
         line: 1,
     };
-    assert_eq!(rt; run(rt.alloc(), b"title T\n", &mut reader, &mut writer), Err(RunFault::Refused(refused)));
+    assert_eq!(rt;
+        run(rt.alloc(), b"title T\n", &mut reader, &mut writer),
+        Err(RunFault::Refused(refused))
+    );
     assert_eq!(rt; reader.given(), 0);
     assert_eq!(rt; writer.bytes(), b"".as_slice());
     Ok(())
@@ -119,8 +129,16 @@ fn interrupted_calls_are_tried_again(rt: HostRuntime) {
     for (signals, result) in [(0, Ok(1)), (63, Ok(1)), (64, Err(Failed))] {
         let mut buffer = [0u8; 4];
         let mut reader = FromStd::new(Interrupted { signals });
-        assert_eq!(rt; reader.read_some(&mut buffer), result, "after {signals} signals");
+        assert_eq!(rt;
+            reader.read_some(&mut buffer),
+            result,
+            "after {signals} signals"
+        );
         let mut writer = FromStd::new(Interrupted { signals });
-        assert_eq!(rt; writer.write_some(b"hello"), result, "after {signals} signals");
+        assert_eq!(rt;
+            writer.write_some(b"hello"),
+            result,
+            "after {signals} signals"
+        );
     }
 }
