@@ -1,0 +1,238 @@
+//! The movement of a turn: each object whose motion is a direction goes one cell on, where that cell is free.
+//!
+//! The cells are visited in the order of their numbers, in passes, until a pass moves nothing. An object that has moved is at
+//! rest, so that it goes one cell at most, and an object that waits for another to leave goes in the same pass or in a later one.
+
+ghost use Rattle.std.specs.Prelude.{◌≡◌, ℕ, ◌+◌, ◌*◌, ◌<◌, ◌≤◌, IfSome, is_some};
+ghost use Rattle.ps_model.specs.Grid.{IsGrid, IsPlace, at_rest, neighbour};
+ghost use Rattle.ps_model.specs.WeakMovement.{IsWeaklySlid};
+ghost use Rattle.ps_move.specs.Visits.{way, visited, going_count};
+ghost use Rattle.ps_move.specs.Midway.{IsPart};
+
+use ps_board::{Board, Direction, LayerId, Motion};
+use std::marker::Model;
+
+/// How a movement went. A contract sees the number of its passes.
+#[derive(Debug, Drop)]
+pub struct Slid {
+    passes: u32,
+}
+
+impl Model for Slid {
+    ghost use Rattle.std.specs.Prelude.{ℕ};
+
+    ghost Value = { ℕ };
+
+    ghost view = { λ s. s.passes };
+}
+
+impl Slid {
+    /// How many passes over the board were made. The last of them moved nothing.
+    pub fn passes_used(&self) -> u32
+        ensures { result ≡ self.now }
+    {
+        self.passes
+    }
+}
+
+/// Moves the objects of a board, and brings all to rest.
+///
+/// Each object whose motion is a direction goes one cell on in its layer, where that cell is on the board and has nothing on
+/// the layer, or becomes free in the same movement. Nothing else moves: two objects never change places, no ring of objects
+/// turns, and an object that acts stays where it is. (PuzzleScript documentation, collision layers.)
+pub fn slide<B: Board>(board: &mut B) -> Slid
+    ensures slid { IsWeaklySlid (B.grid board.old) (B.grid board.new) }
+    ensures some_pass { 0 < result }
+    ensures one_pass { result ≡ 1 → B.grid board.new ≡ at_rest (B.grid board.old) }
+    ensures few_passes { result ≤ going_count (B.grid board.old) + 1 }
+{
+    let mut passes = 1;
+    while pass(board) {
+        passes += 1;
+    }
+    board.clear_moves();
+    Slid { passes }
+}
+
+/// Visits each cell in the order of the numbers, and tells whether any object went.
+fn pass<B: Board>(board: &mut B) -> bool
+    ensures shape { IsGrid (B.grid board.old) }
+    ensures part { IsPart result (B.grid board.old) (B.grid board.new) }
+{
+    let (width, height) = board.size();
+    let mut went = false;
+    for cell in 0..width * height {
+        went |= visit_cell(board, cell);
+    }
+    went
+}
+
+/// Visits each layer of a cell, and tells whether any object went.
+fn visit_cell<B: Board>(board: &mut B, cell: u32) -> bool
+    requires shape { IsGrid (B.grid board.old) }
+    requires cell { cell < (B.grid board.old).width * (B.grid board.old).height }
+    ensures { IsPart result (B.grid board.old) (B.grid board.new) }
+{
+    let mut went = false;
+    for layer in 0..board.layers() {
+        went |= visit(board, cell, LayerId(layer));
+    }
+    went
+}
+
+/// Lets the object on a layer of a cell go, if it can go at once, and tells whether it went.
+fn visit<B: Board>(board: &mut B, cell: u32, layer: LayerId) -> bool
+    requires { IsPlace (B.grid board.old) cell layer.0 }
+    ensures grid { B.grid board.new ≡ visited (B.grid board.old) layer.0 cell }
+    ensures went { result ≡ is_some (way (B.grid board.old) layer.0 cell) }
+{
+    let Some(to) = way(board, cell, layer) else {
+        return false;
+    };
+    let object = board.object(cell, layer);
+    board.put(to, layer, object, Motion::Still);
+    board.put(cell, layer, None, Motion::Still);
+    true
+}
+
+/// The cell that the object on a layer of a cell can go to at once: the one that it wants to go to, if nothing stands there.
+fn way<B: Board>(board: &B, cell: u32, layer: LayerId) -> Option<u32>
+    requires { IsPlace (B.grid board.now) cell layer.0 }
+    ensures value { result ≡ way (B.grid board.now) layer.0 cell }
+    ensures within { IfSome result (λ to. to < (B.grid board.now).width * (B.grid board.now).height) }
+{
+    let Motion::Going(direction) = board.motion(cell, layer) else {
+        return None;
+    };
+    let Some(to) = neighbour(board, direction, cell) else {
+        return None;
+    };
+    match board.object(to, layer) {
+        Some(_) => None,
+        None => Some(to),
+    }
+}
+
+/// The cell one step on in a direction, if it is on the board.
+fn neighbour<B: Board>(board: &B, direction: Direction, cell: u32) -> Option<u32>
+    requires { cell < (B.grid board.now).width * (B.grid board.now).height }
+    ensures value { result ≡ neighbour (B.grid board.now) direction cell }
+    ensures within { IfSome result (λ to. to < (B.grid board.now).width * (B.grid board.now).height) }
+{
+    let (width, height) = board.size();
+    match direction {
+        Direction::Up if 0 < cell % height => Some(cell - 1),
+        Direction::Down if cell % height + 1 < height => Some(cell + 1),
+        Direction::Left if 0 < cell / height => Some(cell - height),
+        Direction::Right if cell / height + 1 < width => Some(cell + height),
+        _ => None,
+    }
+}
+
+#[cfg(test)]
+mod tests {
+    use super::*;
+    use ps_board::{ListBoard, ObjectId};
+    use std::alloc::Global;
+    use std::process::Abort;
+    use std::test::Fail;
+
+    /// What a letter stands for: `A` goes right, `B` left, `C` up, `D` down, `X` acts, `W` does nothing.
+    fn piece(letter: u8) -> Option<(ObjectId, Motion)> {
+        match letter {
+            b'A' => Some((ObjectId(0), Motion::Going(Direction::Right))),
+            b'B' => Some((ObjectId(1), Motion::Going(Direction::Left))),
+            b'C' => Some((ObjectId(2), Motion::Going(Direction::Up))),
+            b'D' => Some((ObjectId(3), Motion::Going(Direction::Down))),
+            b'X' => Some((ObjectId(4), Motion::Acting)),
+            b'W' => Some((ObjectId(5), Motion::Still)),
+            _ => None,
+        }
+    }
+
+    fn letter_of(rows: &[&str], x: u32, y: u32) -> u8 {
+        let Some(row) = rows.get(y as usize) else {
+            return b'.';
+        };
+        match row.as_bytes().get(x as usize) {
+            Some(letter) => *letter,
+            None => b'.',
+        }
+    }
+
+    fn lay<B: Board>(board: &mut B, x: u32, y: u32, letter: u8) {
+        let (width, height) = board.size();
+        if x < width && y < height {
+            if let Some((object, motion)) = piece(letter) {
+                board.put(x * height + y, LayerId(0), Some(object), motion);
+            }
+        }
+    }
+
+    fn look<B: Board>(board: &B, x: u32, y: u32) -> Option<(ObjectId, Motion)> {
+        let (width, height) = board.size();
+        if x < width && y < height {
+            let cell = x * height + y;
+            let object = board.object(cell, LayerId(0))?;
+            return Some((object, board.motion(cell, LayerId(0))));
+        }
+        None
+    }
+
+    /// Slides a board of one layer, its rows given from the top, and compares.
+    fn check(
+        rt: &impl Abort,
+        alloc: Global,
+        size: (u32, u32),
+        before: &[&str],
+        after: &[&str],
+        passes: u32,
+    ) -> Result<(), Fail>
+        requires width { (0 < size.0) × (size.0 ≤ 64) }
+        requires height { (0 < size.1) × (size.1 ≤ 64) }
+    {
+        let mut board = ListBoard::try_empty(alloc, size.0, size.1, 1)?;
+        for y in 0..size.1 {
+            for x in 0..size.0 {
+                lay(&mut board, x, y, letter_of(before, x, y));
+            }
+        }
+        let slid = slide(&mut board);
+        for y in 0..size.1 {
+            for x in 0..size.0 {
+                let wanted = piece(letter_of(after, x, y)).map(|found| (found.0, Motion::Still));
+                assert_eq!(rt; look(&board, x, y), wanted, "at column {x}, row {y}");
+            }
+        }
+        assert_eq!(rt; slid.passes_used(), passes);
+        Ok(())
+    }
+
+    // A slide that moves nothing, and only brings all to rest, meets the contract of `slide`: rows alone catch it.
+    #[test]
+    fn the_first_of_two_enters_a_bare_cell(rt: HostRuntime) -> Result<(), Fail> {
+        check(&rt, rt.alloc(), (3, 1), &["A.B"], &[".AB"], 2)
+    }
+
+    #[test]
+    fn the_next_in_order_enters_a_cell_that_is_left(rt: HostRuntime) -> Result<(), Fail> {
+        check(&rt, rt.alloc(), (3, 2), &["...", "ACB"], &[".C.", "AB."], 2)
+    }
+
+    #[test]
+    fn a_chain_moves(rt: HostRuntime) -> Result<(), Fail> {
+        check(&rt, rt.alloc(), (3, 1), &["AA."], &[".AA"], 3)
+    }
+
+    #[test]
+    fn two_never_change_places_and_no_ring_turns(rt: HostRuntime) -> Result<(), Fail> {
+        check(&rt, rt.alloc(), (2, 1), &["AB"], &["AB"], 1)?;
+        check(&rt, rt.alloc(), (2, 2), &["AD", "CB"], &["AD", "CB"], 1)
+    }
+
+    #[test]
+    fn nothing_leaves_the_board_or_acts_its_way(rt: HostRuntime) -> Result<(), Fail> {
+        check(&rt, rt.alloc(), (2, 2), &["BC", "DA"], &["BC", "DA"], 1)?;
+        check(&rt, rt.alloc(), (3, 1), &["X.W"], &["X.W"], 1)
+    }
+}
