@@ -1,5 +1,5 @@
 -- How often an object stands on a layer, in a grid whose slots were changed.
-use Rattle.std.proofs.Common.{◌≡◌, ◌≢◌, ℕ, ◌+◌, ◌<◌, ◌*◌, Bool, true, false, List, [], ◌∷◌, length, map, get_or, refl, sym, ◌∙◌, ap, arith, zero, suc, cond, count_by}
+use Rattle.std.proofs.Common.{◌≡◌, ◌≢◌, ℕ, ◌+◌, ◌<◌, Bool, List, [], ◌∷◌, length, map, get_or, refl, sym, ◌∙◌, ap, arith, cond, count_by}
 use Rattle.std.specs.Prelude.{slice_set}
 use Rattle.std.proofs.Math.ListN.{get_or-map}
 use Rattle.std.proofs.lemmas.List.{get_or-set_same, get_or-set_other}

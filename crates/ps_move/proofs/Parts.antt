@@ -1,6 +1,6 @@
 -- The parts of a movement: a visit, one part after another, and the rest at the end.
-use Rattle.std.proofs.Common.{◌≡◌, ◌≢◌, ℕ, ◌+◌, ◌*◌, ◌<◌, ◌≤◌, ◌||◌, Bool, true, false, cond, Option, Some, None, is_some, List, [], length, get_or, refl, sym, ◌∙◌, ap, subst, arith}
-use Rattle.std.specs.Prelude.{count_by, sum_by}
+use Rattle.std.proofs.Common.{◌≡◌, ℕ, ◌+◌, ◌*◌, ◌<◌, ◌≤◌, ◌||◌, Bool, true, false, cond, Option, Some, None, is_some, List, length, get_or, refl, sym, ◌∙◌, ap, subst, arith}
+use Rattle.std.specs.Prelude.{count_by}
 use Rattle.std.proofs.Math.Nat.{mul-le-mul}
 use Rattle.std.proofs.lemmas.List.Sums.{sum_by-le, count_by-le-length}
 use Rattle.ps_model.specs.declared.pieces.ObjectId.{ObjectId}
@@ -11,13 +11,13 @@ use Rattle.ps_model.specs.declared.pieces.Slot.{Slot}
 use Rattle.ps_model.specs.declared.pieces.Slot.TheVariants.{Bare, Holds}
 use Rattle.ps_model.specs.Limits.{side_limit, layer_limit}
 use Rattle.ps_model.specs.Grid.{Grid, IsGrid, IsPlace, slot_at, slot_at_rest, at_rest, with_slot, neighbour}
-use Rattle.ps_model.specs.Movement.{target, aim_of, is_bare, is_bare_slot}
-use Rattle.ps_model.specs.WeakMovement.{IsWeaklySlid, count_of, landing}
+use Rattle.ps_model.specs.Movement.{aim_of, is_bare_slot}
+use Rattle.ps_model.specs.WeakMovement.{IsWeaklySlid, landing}
 use Rattle.ps_model.proofs.Slots.{slot_at-at_rest, IsGrid-with_slot}
 use Rattle.ps_model.proofs.Counts.{count_of-at_rest}
 use Rattle.ps_model.proofs.Neighbours.{neighbour-within}
 use Rattle.ps_move.specs.Visits.{way, if_bare, gone, visited, is_going, going_count}
-use Rattle.ps_move.specs.Midway.{IsMidway, IsPart, motion_left}
+use Rattle.ps_move.specs.Midway.{IsMidway, IsPart}
 use Rattle.ps_move.proofs.Steps.{Goes, stepped, half_shape, step_midway, step_fewer}
 
 -- a part in which nothing goes
@@ -141,10 +141,10 @@ rest_slides before now m = record {
   layers = m.layers;
   goes = m.goes;
   lands = λ layer cell object motion stood.
-    slot_at-at_rest now (landing before m.goes layer cell) layer ∙ ap slot_at_rest (m.lands layer cell object motion stood);
+      slot_at-at_rest now (landing before m.goes layer cell) layer ∙ ap slot_at_rest (m.lands layer cell object motion stood);
   apart = m.apart;
   comes = λ layer cell object motion stands.
-    let held = held_at_rest (slot_at now cell layer) object motion (sym (slot_at-at_rest now cell layer) ∙ stands) in
-    m.comes layer cell object held.0 held.1;
+      let held = held_at_rest (slot_at now cell layer) object motion (sym (slot_at-at_rest now cell layer) ∙ stands) in
+      m.comes layer cell object held.0 held.1;
   as_often = λ layer object. count_of-at_rest now layer object ∙ m.as_often layer object;
 }

@@ -1,23 +1,22 @@
 -- One object more goes to its target.
-use Rattle.std.proofs.Common.{◌≡◌, ◌≢◌, ℕ, ◌+◌, ◌*◌, ◌<◌, ◌≤◌, ◌&&◌, ◌⊎◌, inl, inr, Bool, true, false, cond, Option, Some, None, unwrap_or, List, [], length, get_or, refl, sym, ◌∙◌, ap, subst, arith}
-use Rattle.std.specs.Prelude.{nat_eq, slice_set, count_by, sum_by}
+use Rattle.std.proofs.Common.{◌≡◌, ◌≢◌, ℕ, ◌+◌, ◌<◌, ◌&&◌, ◌⊎◌, inl, inr, Bool, true, false, Some, List, [], length, refl, sym, ◌∙◌, ap, arith}
+use Rattle.std.specs.Prelude.{nat_eq, slice_set, count_by}
 use Rattle.std.proofs.lemmas.Bool.Decides.{nat_tests, eqb_tells}
 use Rattle.std.proofs.lemmas.List.Sums.{sum_by-set}
 use Rattle.ps_model.specs.declared.pieces.ObjectId.{ObjectId}
 use Rattle.ps_model.specs.declared.pieces.Direction.{Direction}
 use Rattle.ps_model.specs.declared.pieces.Direction.TheVariants.{Up, Down, Left, Right}
 use Rattle.ps_model.specs.declared.pieces.Motion.{Motion}
-use Rattle.ps_model.specs.declared.pieces.Motion.TheVariants.{Still, Going, Acting}
+use Rattle.ps_model.specs.declared.pieces.Motion.TheVariants.{Still, Going}
 use Rattle.ps_model.specs.declared.pieces.Slot.{Slot}
 use Rattle.ps_model.specs.declared.pieces.Slot.TheVariants.{Bare, Holds}
-use Rattle.ps_model.specs.Grid.{Grid, IsGrid, IsPlace, cell_at, slot_at, slot_at_rest, with_slot, neighbour, at_rest}
-use Rattle.ps_model.specs.Movement.{target, aim_of, is_bare, is_bare_slot}
-use Rattle.ps_model.specs.WeakMovement.{IsWeaklySlid, count_of, landing, holds_object}
-use Rattle.ps_model.proofs.Slots.{cell_long, slot_at-with_same, slot_at-with_other_cell, slot_at-with_other_layer, IsGrid-with_slot, slot_at-at_rest}
-use Rattle.ps_model.proofs.Counts.{one_if, count_by-set, count_of-with_same, count_of-with_other, count_of-at_rest}
-use Rattle.ps_model.proofs.Neighbours.{neighbour-within}
-use Rattle.ps_move.specs.Visits.{way, if_bare, gone, visited, is_going, going_count}
-use Rattle.ps_move.specs.Midway.{IsMidway, IsPart, motion_left}
+use Rattle.ps_model.specs.Grid.{Grid, IsGrid, IsPlace, cell_at, slot_at, with_slot, neighbour}
+use Rattle.ps_model.specs.Movement.{target, aim_of}
+use Rattle.ps_model.specs.WeakMovement.{count_of, landing, holds_object}
+use Rattle.ps_model.proofs.Slots.{cell_long, slot_at-with_same, slot_at-with_other_cell, slot_at-with_other_layer, IsGrid-with_slot}
+use Rattle.ps_model.proofs.Counts.{one_if, count_by-set, count_of-with_same, count_of-with_other}
+use Rattle.ps_move.specs.Visits.{is_going, going_count}
+use Rattle.ps_move.specs.Midway.{IsMidway, motion_left}
 
 -- an object goes: it stands on a layer of a cell with a direction for motion, and its target is bare
 pub record Goes (g : Grid) (layer cell : ℕ) (object : ObjectId) (direction : Direction) (to : ℕ) : Type 0 where
@@ -151,7 +150,7 @@ kept : (g : Grid) (layer cell : ℕ) (object : ObjectId) (direction : Direction)
     (c l : ℕ) (o : ObjectId) (motion : Motion) → slot_at g c l ≡ Holds o motion → (l ≡ layer → c ≢ cell) → slot_at (stepped g layer cell object to) c l ≡ slot_at g c l
 kept g layer cell object direction to h c l o motion stands n = elim (eqb_tells l layer) [
   | inl e ↦ let apart : c ≢ to = λ (f : c ≡ to). bare_holds o motion (sym h.bare ∙ rw (← f, ← e.1) stands) in
-    rw e.1 (beside g layer cell object direction to h c layer (n e.1) apart)
+      rw e.1 (beside g layer cell object direction to h c layer (n e.1) apart)
   | inr e ↦ on_another_layer g layer cell object direction to h c l e.1
 ]
 
@@ -283,7 +282,7 @@ step_midway before now layer cell object direction to m h =
       goes = goes_more layer cell m.goes;
       lands = λ l c o motion stood. step_lands before now layer cell object direction to m h w aims l c o motion stood (place_cases layer cell l c);
       apart = λ l first second one other motion motion' stood stood' meets.
-        step_apart before now layer cell object direction to m h aims l first second one other motion motion' stood stood' meets (place_cases layer cell l first) (place_cases layer cell l second);
+          step_apart before now layer cell object direction to m h aims l first second one other motion motion' stood stood' meets (place_cases layer cell l first) (place_cases layer cell l second);
       comes = λ l c o motion stands. step_comes before now layer cell object direction to m h w aims l c o motion stands (eqb_tells l layer);
       as_often = λ l o. step_as_often now layer cell object direction to h l o (eqb_tells l layer) ∙ m.as_often l o;
     }

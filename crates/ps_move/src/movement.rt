@@ -4,7 +4,7 @@
 //! rest, so that it goes one cell at most, and an object that waits for another to leave goes in the same pass or in a later one.
 
 ghost use Rattle.std.specs.Prelude.{◌≡◌, ℕ, ◌+◌, ◌*◌, ◌<◌, ◌≤◌, IfSome, is_some};
-ghost use Rattle.ps_model.specs.Grid.{IsGrid, IsPlace, neighbour};
+ghost use Rattle.ps_model.specs.Grid.{IsGrid, IsPlace, at_rest, neighbour};
 ghost use Rattle.ps_model.specs.WeakMovement.{IsWeaklySlid};
 ghost use Rattle.ps_move.specs.Visits.{way, visited, going_count};
 ghost use Rattle.ps_move.specs.Midway.{IsPart};
@@ -43,6 +43,7 @@ impl Slid {
 pub fn slide<B: Board>(board: &mut B) -> Slid
     ensures slid { IsWeaklySlid (B.grid board.old) (B.grid board.new) }
     ensures some_pass { 0 < result }
+    ensures one_pass { result ≡ 1 → B.grid board.new ≡ at_rest (B.grid board.old) }
     ensures few_passes { result ≤ going_count (B.grid board.old) + 1 }
 {
     let mut passes = 1;
@@ -120,9 +121,118 @@ fn neighbour<B: Board>(board: &B, direction: Direction, cell: u32) -> Option<u32
 {
     let (width, height) = board.size();
     match direction {
-        Direction::Up => if 0 < cell % height { Some(cell - 1) } else { None },
-        Direction::Down => if cell % height + 1 < height { Some(cell + 1) } else { None },
-        Direction::Left => if 0 < cell / height { Some(cell - height) } else { None },
-        Direction::Right => if cell / height + 1 < width { Some(cell + height) } else { None },
+        Direction::Up if 0 < cell % height => Some(cell - 1),
+        Direction::Down if cell % height + 1 < height => Some(cell + 1),
+        Direction::Left if 0 < cell / height => Some(cell - height),
+        Direction::Right if cell / height + 1 < width => Some(cell + height),
+        _ => None,
+    }
+}
+
+#[cfg(test)]
+mod tests {
+    use super::*;
+    use ps_board::{ListBoard, ObjectId};
+    use std::alloc::Global;
+    use std::process::Abort;
+    use std::test::Fail;
+
+    /// What a letter stands for: `A` goes right, `B` left, `C` up, `D` down, `X` acts, `W` does nothing.
+    fn piece(letter: u8) -> Option<(ObjectId, Motion)> {
+        match letter {
+            b'A' => Some((ObjectId(0), Motion::Going(Direction::Right))),
+            b'B' => Some((ObjectId(1), Motion::Going(Direction::Left))),
+            b'C' => Some((ObjectId(2), Motion::Going(Direction::Up))),
+            b'D' => Some((ObjectId(3), Motion::Going(Direction::Down))),
+            b'X' => Some((ObjectId(4), Motion::Acting)),
+            b'W' => Some((ObjectId(5), Motion::Still)),
+            _ => None,
+        }
+    }
+
+    fn letter_of(rows: &[&str], x: u32, y: u32) -> u8 {
+        let Some(row) = rows.get(y as usize) else {
+            return b'.';
+        };
+        match row.as_bytes().get(x as usize) {
+            Some(letter) => *letter,
+            None => b'.',
+        }
+    }
+
+    fn lay<B: Board>(board: &mut B, x: u32, y: u32, letter: u8) {
+        let (width, height) = board.size();
+        if x < width && y < height {
+            if let Some((object, motion)) = piece(letter) {
+                board.put(x * height + y, LayerId(0), Some(object), motion);
+            }
+        }
+    }
+
+    fn look<B: Board>(board: &B, x: u32, y: u32) -> Option<(ObjectId, Motion)> {
+        let (width, height) = board.size();
+        if x < width && y < height {
+            let cell = x * height + y;
+            let object = board.object(cell, LayerId(0))?;
+            return Some((object, board.motion(cell, LayerId(0))));
+        }
+        None
+    }
+
+    /// Slides a board of one layer, its rows given from the top, and compares.
+    fn check(
+        rt: &impl Abort,
+        alloc: Global,
+        size: (u32, u32),
+        before: &[&str],
+        after: &[&str],
+        passes: u32,
+    ) -> Result<(), Fail>
+        requires width { (0 < size.0) × (size.0 ≤ 64) }
+        requires height { (0 < size.1) × (size.1 ≤ 64) }
+    {
+        let mut board = ListBoard::try_empty(alloc, size.0, size.1, 1)?;
+        for y in 0..size.1 {
+            for x in 0..size.0 {
+                lay(&mut board, x, y, letter_of(before, x, y));
+            }
+        }
+        let slid = slide(&mut board);
+        for y in 0..size.1 {
+            for x in 0..size.0 {
+                let wanted = piece(letter_of(after, x, y)).map(|found| (found.0, Motion::Still));
+                assert_eq!(rt; look(&board, x, y), wanted, "at column {x}, row {y}");
+            }
+        }
+        assert_eq!(rt; slid.passes_used(), passes);
+        Ok(())
+    }
+
+    // A slide that moves nothing, and only brings all to rest, meets the contract of `slide`: rows alone catch it.
+    #[test]
+    fn the_first_of_two_enters_a_bare_cell(rt: HostRuntime) -> Result<(), Fail> {
+        check(&rt, rt.alloc(), (3, 1), &["A.B"], &[".AB"], 2)
+    }
+
+    #[test]
+    fn the_next_in_order_enters_a_cell_that_is_left(rt: HostRuntime) -> Result<(), Fail> {
+        check(&rt, rt.alloc(), (3, 2), &["...", "ACB"], &[".C.", "AB."], 2)
+    }
+
+    #[test]
+    fn a_chain_moves(rt: HostRuntime) -> Result<(), Fail> {
+        check(&rt, rt.alloc(), (3, 1), &["AA."], &[".AA"], 3)
+    }
+
+    #[test]
+    fn two_never_change_places_and_no_ring_turns(rt: HostRuntime) -> Result<(), Fail> {
+        check(&rt, rt.alloc(), (2, 1), &["AB"], &["AB"], 1)?;
+        check(&rt, rt.alloc(), (2, 2), &["AD", "CB"], &["AD", "CB"], 1)
+    }
+
+    #[test]
+    fn nothing_leaves_the_board_or_acts_its_way(rt: HostRuntime) -> Result<(), Fail> {
+        check(&rt, rt.alloc(), (2, 2), &["BC", "DA"], &["BC", "DA"], 1)?;
+        check(&rt, rt.alloc(), (3, 1), &["X.W"], &["X.W"], 1)
     }
 }

@@ -1,5 +1,5 @@
 -- Pieces, one after the other.
-use Rattle.std.proofs.Common.{◌≡◌, ℕ, ◌+◌, List, ◌++◌, take, drop, take-add, ◌∙◌, sym, ap, refl, Option, Some, None, append_assoc}
+use Rattle.std.proofs.Common.{◌≡◌, ℕ, ◌+◌, List, ◌++◌, take, drop, sym, ap, refl, Option, Some, None, append_assoc}
 use Rattle.std.proofs.lemmas.List.{take-append-drop, drop-drop}
 use Rattle.ps_play.specs.Devices.{Grows, Loses}
 

@@ -1,6 +1,6 @@
 -- What a call of a device does to the bytes that the device tells of. A device that doesn't tell has None in
 -- place of its bytes, before a call and after it: then a word below says only that it goes on not telling.
-use Rattle.std.specs.Prelude.{◌≡◌, ℕ, ◌-◌, ◌^◌, List, [], ◌++◌, Option, Some, None, option_map}
+use Rattle.std.specs.Prelude.{◌≡◌, ℕ, ◌-◌, ◌^◌, List, [], ◌++◌, Option, Some, option_map}
 
 -- a writer that had taken old has taken old and then bytes
 abbrev pub Grows : Option (List ℕ) → Option (List ℕ) → List ℕ → Type 0

@@ -70,6 +70,7 @@ impl From<ReadFault> for RunFault {
 ///
 /// # Errors
 ///
+<<<<<<< HEAD
 /// `Refused` where the text has a fault or isn't a game that this version plays: neither device is called then.
 /// `Memory` where a growth was refused, `Read` where the reader failed or had more than 16,777,216 pieces to give,
 /// `Write` where the writer failed or took nothing of some bytes.
@@ -82,6 +83,18 @@ pub fn run<R: ByteReader, W: ByteWriter>(alloc: Global, game: &[u8], reader: &mu
     ensures writes { result ≢ Err RunFault.Write → W.has_failed writer.new ≡ W.has_failed writer.old }
     ensures stopped { result ≡ Err RunFault.Write → W.has_failed writer.new ≡ true }
     ensures answers { IfSome (R.remaining reader.old) (λ all. IfSome (W.contents writer.old) (λ before. Answers game.now all before (W.contents writer.new) result)) }
+=======
+/// `Refused` where the text isn't a game that this version plays, which for now is each text: neither device is
+/// called then.
+pub fn run<R: ByteReader, W: ByteWriter>(
+    _alloc: Global,
+    _game: &[u8],
+    reader: &mut R,
+    writer: &mut W,
+) -> Result<Ending, RunFault>
+    ensures reader { reader.new ≡ reader.old }
+    ensures writer { writer.new ≡ writer.old }
+>>>>>>> main
 {
     let game = read_game(alloc, game)?;
     let mut screen = Screen::new(alloc);

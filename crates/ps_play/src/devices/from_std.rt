@@ -1,7 +1,7 @@
 //! The system's streams as devices.
 
-ghost use Rattle.std.specs.Prelude.{◌≡◌, ◌≤◌, None, false, length, take, drop, IfOk, OnErr};
-ghost use Rattle.ps_play.specs.Devices.{Grows, Loses, IsSpent, most_calls};
+ghost use Rattle.std.specs.Prelude.{◌≡◌, ◌≤◌, ◌<◌, None, false, length, take, drop, IfOk, OnErr};
+ghost use Rattle.std.specs.Io.KnownBytes.{Appends, Consumes, IsAtEnd, Keeps};
 
 use super::traits::{ByteReader, ByteWriter, Failed};
 use std::io::{ErrorKind, Read, Write};
@@ -90,6 +90,9 @@ impl<T: Write + Drop> ByteWriter for FromStd<T> {
 /// buffer alone, so it has one of its own.
 fn read_piece<T: Read>(stream: &mut T, buffer: &mut [u8]) -> Result<usize, Failed>
     ensures count { IfOk result (λ count. count ≤ length buffer.old) }
+    ensures given { IfOk result (λ count. Consumes (T.remaining stream.old) (T.remaining stream.new) (take count buffer.new)) }
+    ensures end { IfOk result (λ count. count ≡ 0 → 0 < length buffer.old → IsAtEnd (T.remaining stream.new)) }
+    ensures stays { OnErr result (Keeps (T.remaining stream.old) (T.remaining stream.new)) }
     ensures rest { IfOk result (λ count. drop count buffer.new ≡ drop count buffer.old) }
     ensures unread { OnErr result (buffer.new ≡ buffer.old) }
 {
@@ -102,7 +105,10 @@ fn read_piece<T: Read>(stream: &mut T, buffer: &mut [u8]) -> Result<usize, Faile
 
 /// One read, tried again where a signal interrupted it.
 fn read_through<T: Read>(stream: &mut T, piece: &mut [u8]) -> Result<usize, Failed>
-    ensures { IfOk result (λ count. count ≤ length piece.old) }
+    ensures count { IfOk result (λ count. count ≤ length piece.old) }
+    ensures given { IfOk result (λ count. Consumes (T.remaining stream.old) (T.remaining stream.new) (take count piece.new)) }
+    ensures end { IfOk result (λ count. count ≡ 0 → 0 < length piece.old → IsAtEnd (T.remaining stream.new)) }
+    ensures stays { OnErr result (Keeps (T.remaining stream.old) (T.remaining stream.new)) }
 {
     for _try in 0..TRIES {
         match stream.read(piece) {
@@ -119,7 +125,9 @@ fn read_through<T: Read>(stream: &mut T, piece: &mut [u8]) -> Result<usize, Fail
 
 /// One write of a front of `bytes`.
 fn write_piece<T: Write>(stream: &mut T, bytes: &[u8]) -> Result<usize, Failed>
-    ensures { IfOk result (λ count. count ≤ length bytes.now) }
+    ensures count { IfOk result (λ count. count ≤ length bytes.now) }
+    ensures taken { IfOk result (λ count. Appends (T.contents stream.old) (T.contents stream.new) (take count bytes.now)) }
+    ensures stays { OnErr result (Keeps (T.contents stream.old) (T.contents stream.new)) }
 {
     for _try in 0..TRIES {
         match stream.write(bytes) {

@@ -1,6 +1,6 @@
 //! Devices in memory: they tell their bytes, give and take them in pieces, and fail where they are told to.
 
-ghost use Rattle.std.specs.Prelude.{◌≡◌, ◌≤◌, ℕ, Some, [], false, vec_len, vec_capacity, length, take, drop, IfOk};
+ghost use Rattle.std.specs.Prelude.{◌≡◌, ◌≤◌, Some, None, IfSome, [], true, false, vec_len, vec_capacity, length, drop, IfOk};
 
 use super::from_std::copy_front;
 use super::traits::{ByteReader, ByteWriter, Failed};
@@ -36,6 +36,9 @@ impl<'a> MemoryReader<'a> {
         ensures last { ⟦<MemoryReader<'a> as ByteReader>⟧.last result ≡ 0 }
         ensures calls { ⟦<MemoryReader<'a> as ByteReader>⟧.calls result ≡ 0 }
         ensures given { result.place ≡ 0 }
+        ensures piece { result.piece ≡ piece }
+        ensures ends { fail_at ≡ None → result.fails ≡ false }
+        ensures edge { IfSome fail_at (λ edge. edge ≤ length bytes.entry.now → (result.fails ≡ true) × (result.stop ≡ edge)) }
     {
         let (stop, fails) = match fail_at {
             Some(edge) if edge <= bytes.len() => (edge, true),

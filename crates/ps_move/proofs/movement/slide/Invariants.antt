@@ -1,4 +1,4 @@
-use Rattle.std.proofs.Common.{◌+◌, ◌*◌, ◌<◌, ◌≤◌}
+use Rattle.std.proofs.Common.{◌≡◌, ◌+◌, ◌*◌, ◌<◌, ◌≤◌}
 use Rattle.ps_model.specs.Limits.{side_limit, layer_limit}
 use Rattle.ps_model.specs.Grid.{IsGrid}
 use Rattle.ps_move.specs.Visits.{going_count}
@@ -10,6 +10,7 @@ invariant-loop-passes g l =
     record {
       midway : IsMidway (g.B.Board.grid l.fn.board) (g.B.Board.grid l.board);
       some : 0 < l.passes;
+      first : l.passes ≡ 1 → g.B.Board.grid l.board ≡ g.B.Board.grid l.fn.board;
       few : l.passes + going_count (g.B.Board.grid l.board) ≤ going_count (g.B.Board.grid l.fn.board) + 1;
       room : IsGrid (g.B.Board.grid l.board) → going_count (g.B.Board.grid l.fn.board) ≤ side_limit * side_limit * layer_limit;
     }

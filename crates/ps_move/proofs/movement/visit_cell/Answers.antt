@@ -1,4 +1,4 @@
-use Rattle.std.proofs.Common.{◌≡◌, ◌*◌, ◌<◌, arith, rules}
+use Rattle.std.proofs.Common.{◌<◌}
 use Rattle.ps_move.proofs.Parts.{part_then_visit}
 use Rattle.ps_move.proofs.movement.visit_cell.Goals as goal
 

@@ -1,4 +1,4 @@
-use Rattle.std.proofs.Common.{arith, take-add, ◌∙◌, rules}
+use Rattle.std.proofs.Common.{arith, take-add, rules}
 use Rattle.std.proofs.lemmas.Grind.{common_steps}
 use Rattle.ps_play.proofs.Pieces.{grows_twice}
 use Rattle.ps_play.proofs.devices.traits.write_whole.Goals as goal

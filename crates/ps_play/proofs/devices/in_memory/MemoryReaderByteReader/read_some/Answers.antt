@@ -1,4 +1,4 @@
-use Rattle.std.proofs.Common.{◌≡◌, ◌∙◌, ap, Some, take, List, ℕ}
+use Rattle.std.proofs.Common.{◌∙◌, ap, Some, take, List, ℕ}
 use Rattle.ps_play.proofs.Pieces.{left_more}
 use Rattle.ps_play.proofs.devices.in_memory.MemoryReaderByteReader.read_some.Goals as goal
 
