@@ -1,5 +1,5 @@
 -- What is written: lines, and frames, which show the board row by row from the top.
-use Rattle.std.specs.Prelude.{ℕ, ◌+◌, ◌*◌, Bool, ◌&&◌, not, Option, Some, None, List, [], ◌∷◌, ◌++◌, find, filter, codes, encode_utf8}
+use Rattle.std.specs.Prelude.{option_to_list, slice_get, length, ℕ, ◌+◌, ◌-◌, ◌*◌, Bool, ◌&&◌, not, Option, Some, None, List, [], ◌∷◌, ◌++◌, find, filter, codes, encode_utf8}
 use Rattle.std.specs.List.{list_all, flat_map, filter_map, range_with_len}
 use Rattle.ps_model.specs.declared.pieces.ObjectId.{ObjectId}
 use Rattle.ps_model.specs.declared.pieces.Slot.{Slot}
@@ -23,10 +23,9 @@ same_objects first second = list_all (is_among second) first && list_all (is_amo
 abbrev pub glyph_for : Names → List ObjectId → Option Glyph
 glyph_for names objects = find (λ glyph. same_objects (members glyph.meaning) objects) names.glyphs
 
--- the object on the topmost occupied layer, alone
+-- the object on the topmost occupied layer, alone: the last of a cell's objects
 abbrev pub topmost : List ObjectId → List ObjectId
-topmost [] = []
-topmost (object ∷ objects) = elim objects [ [] ↦ object ∷ [] | next ∷ others ↦ topmost objects ]
+topmost objects = option_to_list (slice_get objects (length objects - 1))
 
 -- the first of three glyphs that is there
 abbrev pub first_of_three : Option Glyph → Option Glyph → Option Glyph → Option Glyph

@@ -1,4 +1,6 @@
+mod Bringing
 mod Objects
+mod Painting
 mod Pieces
 mod Reaching
 mod Sweeps

@@ -3,11 +3,12 @@
 //! A cell is shown by the first glyph that fits: one for exactly its objects; else one for exactly those but for the
 //! background layer's; else one for the object on its topmost occupied layer alone; else by `?`.
 
-ghost use Rattle.std.specs.Prelude.{◌≡◌, ◌++◌, ◌<◌, OnOk, IfOk, option_to_list, option_map, map, filter, find, not};
+ghost use Rattle.std.specs.Prelude.{◌≡◌, [], ◌∷◌, ◌++◌, ◌<◌, OnOk, IfOk, option_to_list, option_map, map, filter, find, not};
 ghost use Rattle.ps_model.specs.Grid.{IsGrid, cell_at, cell_count, slot_at};
 ghost use Rattle.std.specs.List.{list_all};
 ghost use Rattle.ps_model.specs.Names.{is_among, members};
 ghost use Rattle.ps_model.specs.Levels.{background_layer, is_ground};
+ghost use Rattle.ps_names.specs.GlyphShown.{glyph_shown};
 ghost use Rattle.ps_model.specs.Frames.{objects_in, same_objects, topmost, glyph_of_objects, character_of, shown_character, frame_row, frame};
 
 use crate::meanings::{members, members_named};
@@ -17,13 +18,19 @@ use ps_board::Board;
 use ps_model::{LayerId, Memory, ObjectId};
 use ps_names::{Glyph, Names};
 use std::alloc::Global;
+use std::slice;
 
 /// Adds a frame of a board: its rows from the top, then an empty line.
 ///
 /// # Errors
 ///
 /// `Memory`, and a part of the frame may have been added.
-pub fn add_frame<B: Board>(alloc: Global, names: &Names, board: &B, screen: &mut Screen) -> Result<(), Memory>
+pub fn add_frame<B: Board>(
+    alloc: Global,
+    names: &Names,
+    board: &B,
+    screen: &mut Screen,
+) -> Result<(), Memory>
     ensures { OnOk result (screen.new ≡ screen.old ++ frame names.now (B.grid board.now)) }
 {
     let ground = ground_layer(names);
@@ -36,7 +43,14 @@ pub fn add_frame<B: Board>(alloc: Global, names: &Names, board: &B, screen: &mut
 }
 
 /// Adds a row of a frame.
-fn add_row<B: Board>(names: &Names, ground: LayerId, board: &B, row: u32, room: &mut Room, screen: &mut Screen) -> Result<(), Memory>
+fn add_row<B: Board>(
+    names: &Names,
+    ground: LayerId,
+    board: &B,
+    row: u32,
+    room: &mut Room,
+    screen: &mut Screen,
+) -> Result<(), Memory>
     requires ground { ground.0 ≡ background_layer names.now }
     requires row { row < (B.grid board.now).height }
     ensures { OnOk result (screen.new ≡ screen.old ++ frame_row names.now (B.grid board.now) row) }
@@ -50,7 +64,13 @@ fn add_row<B: Board>(names: &Names, ground: LayerId, board: &B, row: u32, room: 
 }
 
 /// The character that shows a cell.
-fn cell_character<B: Board>(names: &Names, ground: LayerId, board: &B, cell: u32, room: &mut Room) -> Result<char, Memory>
+fn cell_character<B: Board>(
+    names: &Names,
+    ground: LayerId,
+    board: &B,
+    cell: u32,
+    room: &mut Room,
+) -> Result<char, Memory>
     requires ground { ground.0 ≡ background_layer names.now }
     requires cell { cell < cell_count (B.grid board.now) }
     requires shape { IsGrid (B.grid board.now) }
@@ -61,7 +81,12 @@ fn cell_character<B: Board>(names: &Names, ground: LayerId, board: &B, cell: u32
 }
 
 /// The character that shows a cell with these objects, the lowest layer first.
-fn objects_character(names: &Names, ground: LayerId, objects: &[ObjectId], above: &mut Vec<ObjectId>) -> Result<char, Memory>
+fn objects_character(
+    names: &Names,
+    ground: LayerId,
+    objects: &[ObjectId],
+    above: &mut Vec<ObjectId>,
+) -> Result<char, Memory>
     requires ground { ground.0 ≡ background_layer names.now }
     ensures { IfOk result (λ character. character ≡ character_of (glyph_of_objects names.now objects.now)) }
 {
@@ -72,10 +97,7 @@ fn objects_character(names: &Names, ground: LayerId, objects: &[ObjectId], above
     if let Some(character) = glyph_for(names.glyphs(), above) {
         return Ok(character);
     }
-    match glyph_for(names.glyphs(), topmost(objects)) {
-        Some(character) => Ok(character),
-        None => Ok('?'),
-    }
+    Ok(glyph_for(names.glyphs(), topmost(objects)).unwrap_or('?'))
 }
 
 /// Room for the objects of one cell: all of them, and those above the background layer.
@@ -108,16 +130,36 @@ fn ground_layer(names: &Names) -> LayerId
 /// # Errors
 ///
 /// `Memory`, and `above` holds some of them.
-fn gather_above(names: &Names, ground: LayerId, objects: &[ObjectId], above: &mut Vec<ObjectId>) -> Result<(), Memory>
+fn gather_above(
+    names: &Names,
+    ground: LayerId,
+    objects: &[ObjectId],
+    above: &mut Vec<ObjectId>,
+) -> Result<(), Memory>
     requires { ground.0 ≡ background_layer names.now }
     ensures { OnOk result (above.new.items ≡ filter (λ object. not (is_ground names.now object)) objects.now) }
 {
     above.clear();
     for object in objects {
-        if names.layer_of(*object) != ground {
-            above.push(*object)?;
-        }
+        push_above(names, ground, *object, above)?;
     }
+    Ok(())
+}
+
+/// Adds an object that doesn't lie on the background layer; of one that does, nothing.
+fn push_above(
+    names: &Names,
+    ground: LayerId,
+    object: ObjectId,
+    above: &mut Vec<ObjectId>,
+) -> Result<(), Memory>
+    requires { ground.0 ≡ background_layer names.now }
+    ensures { OnOk result (above.new.items ≡ above.old.items ++ filter (λ object. not (is_ground names.now object)) (object ∷ [])) }
+{
+    if names.layer_of(object).0 == ground.0 {
+        return Ok(());
+    }
+    above.push(object)?;
     Ok(())
 }
 
@@ -125,9 +167,9 @@ fn gather_above(names: &Names, ground: LayerId, objects: &[ObjectId], above: &mu
 fn topmost(objects: &[ObjectId]) -> &[ObjectId]
     ensures { result.now ≡ topmost objects.now }
 {
-    match objects.len() {
-        0 => objects,
-        count => &objects[count - 1..],
+    match objects.last() {
+        Some(object) => slice::from_ref(object),
+        None => &[],
     }
 }
 

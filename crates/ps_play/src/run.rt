@@ -3,14 +3,15 @@
 ghost use Rattle.std.specs.Prelude.{◌≡◌, ◌≢◌, ◌+◌, ◌≤◌, ◌++◌, ◌∷◌, [], IfOk, IfErr, IfSome, OnOk, OnErr, IsSome, IsErrOf, List, ℕ, true};
 ghost use Rattle.ps_model.specs.Limits.{read_limit};
 ghost use Rattle.ps_model.specs.ThinGame.{thin_game};
-ghost use Rattle.ps_model.specs.ThinOutput.{MayBring, end_of_keys_line};
+ghost use Rattle.ps_model.specs.Levels.{loaded};
+ghost use Rattle.ps_model.specs.ThinOutput.{MayBring, end_of_keys_line, opening};
 ghost use Rattle.ps_play.specs.Devices.{Grows};
 ghost use Rattle.ps_play.specs.Faults.{IsRefusal, IsDeviceFault};
 ghost use Rattle.ps_play.specs.Runs.{keys_apart, Brings, Answers};
 
 use crate::devices::{ByteReader, ByteWriter, write_whole};
 use crate::keys::read_key;
-use crate::reading::{ReadFault, read_game};
+use crate::reading::{Game, ReadFault, read_game};
 use crate::report::words;
 use crate::screen::Screen;
 use crate::session::Session;
@@ -70,11 +71,15 @@ impl From<ReadFault> for RunFault {
 ///
 /// # Errors
 ///
-<<<<<<< HEAD
 /// `Refused` where the text has a fault or isn't a game that this version plays: neither device is called then.
 /// `Memory` where a growth was refused, `Read` where the reader failed or had more than 16,777,216 pieces to give,
 /// `Write` where the writer failed or took nothing of some bytes.
-pub fn run<R: ByteReader, W: ByteWriter>(alloc: Global, game: &[u8], reader: &mut R, writer: &mut W) -> Result<Ending, RunFault>
+pub fn run<R: ByteReader, W: ByteWriter>(
+    alloc: Global,
+    game: &[u8],
+    reader: &mut R,
+    writer: &mut W,
+) -> Result<Ending, RunFault>
     ensures accepted { OnOk result (IsSome (thin_game game.now)) }
     ensures refused { IfErr result (λ fault. IsRefusal game.now fault) }
     ensures unread { (fault : Fault) → result ≡ Err (RunFault.Refused fault) → reader.new ≡ reader.old }
@@ -83,28 +88,41 @@ pub fn run<R: ByteReader, W: ByteWriter>(alloc: Global, game: &[u8], reader: &mu
     ensures writes { result ≢ Err RunFault.Write → W.has_failed writer.new ≡ W.has_failed writer.old }
     ensures stopped { result ≡ Err RunFault.Write → W.has_failed writer.new ≡ true }
     ensures answers { IfSome (R.remaining reader.old) (λ all. IfSome (W.contents writer.old) (λ before. Answers game.now all before (W.contents writer.new) result)) }
-=======
-/// `Refused` where the text isn't a game that this version plays, which for now is each text: neither device is
-/// called then.
-pub fn run<R: ByteReader, W: ByteWriter>(
-    _alloc: Global,
-    _game: &[u8],
+{
+    let game = read_game(alloc, game)?;
+    let ending = play_game(alloc, &game, reader, writer)?;
+    Ok(ending)
+}
+
+/// Writes the opening of a game, and plays the keys of a reader to an ending.
+fn play_game<R: ByteReader, W: ByteWriter>(
+    alloc: Global,
+    game: &Game,
     reader: &mut R,
     writer: &mut W,
 ) -> Result<Ending, RunFault>
-    ensures reader { reader.new ≡ reader.old }
-    ensures writer { writer.new ≡ writer.old }
->>>>>>> main
+    ensures calls { R.calls reader.new ≤ R.calls reader.old + read_limit }
+    ensures writes { result ≢ Err RunFault.Write → W.has_failed writer.new ≡ W.has_failed writer.old }
+    ensures stopped { result ≡ Err RunFault.Write → W.has_failed writer.new ≡ true }
+    ensures well { IfErr result IsDeviceFault }
+    ensures brings { IfOk result (λ ending. IfSome (R.remaining reader.old) (λ all. (text : List ℕ)
+        × Grows (W.contents writer.old) (W.contents writer.new) (opening game.now ++ text)
+        × MayBring game.now.names (loaded game.now.names game.now.level) (keys_apart all) (record { written = text; ending = ending }))) }
 {
-    let game = read_game(alloc, game)?;
     let mut screen = Screen::new(alloc);
-    let mut session = Session::<ListBoard>::start(alloc, &game, &mut screen)?;
+    let mut session = Session::<ListBoard>::start(alloc, game, &mut screen)?;
     write_screen(&screen, writer)?;
-    play(&mut session, &mut screen, reader, writer)
+    let ending = play(&mut session, &mut screen, reader, writer)?;
+    Ok(ending)
 }
 
 /// Plays the keys of a reader to an ending.
-fn play<B: Board, R: ByteReader, W: ByteWriter>(session: &mut Session<'_, B>, screen: &mut Screen, reader: &mut R, writer: &mut W) -> Result<Ending, RunFault>
+fn play<B: Board, R: ByteReader, W: ByteWriter>(
+    session: &mut Session<'_, B>,
+    screen: &mut Screen,
+    reader: &mut R,
+    writer: &mut W,
+) -> Result<Ending, RunFault>
     ensures calls { R.calls reader.new ≤ R.calls reader.old + read_limit }
     ensures writes { result ≢ Err RunFault.Write → W.has_failed writer.new ≡ W.has_failed writer.old }
     ensures stopped { result ≡ Err RunFault.Write → W.has_failed writer.new ≡ true }
@@ -118,7 +136,8 @@ fn play<B: Board, R: ByteReader, W: ByteWriter>(session: &mut Session<'_, B>, sc
             return Err(RunFault::Read);
         };
         if count == 0 {
-            return end_of_keys(screen, writer);
+            write_end_of_keys(screen, writer)?;
+            return Ok(Ending::EndOfKeys);
         }
         let (piece, _) = buffer.split_at(count);
         if let Some(ending) = play_piece(session, piece, screen, writer)? {
@@ -129,7 +148,12 @@ fn play<B: Board, R: ByteReader, W: ByteWriter>(session: &mut Session<'_, B>, sc
 }
 
 /// Plays the keys of a piece of bytes, up to an ending.
-fn play_piece<B: Board, W: ByteWriter>(session: &mut Session<'_, B>, piece: &[u8], screen: &mut Screen, writer: &mut W) -> Result<Option<Ending>, RunFault>
+fn play_piece<B: Board, W: ByteWriter>(
+    session: &mut Session<'_, B>,
+    piece: &[u8],
+    screen: &mut Screen,
+    writer: &mut W,
+) -> Result<Option<Ending>, RunFault>
     ensures writes { result ≢ Err RunFault.Write → W.has_failed writer.new ≡ W.has_failed writer.old }
     ensures stopped { result ≡ Err RunFault.Write → W.has_failed writer.new ≡ true }
     ensures well { IfErr result IsDeviceFault }
@@ -146,7 +170,12 @@ fn play_piece<B: Board, W: ByteWriter>(session: &mut Session<'_, B>, piece: &[u8
 }
 
 /// Plays the key of a byte, if it has one: makes its text whole, and then writes it.
-fn play_byte<B: Board, W: ByteWriter>(session: &mut Session<'_, B>, byte: u8, screen: &mut Screen, writer: &mut W) -> Result<Option<Ending>, RunFault>
+fn play_byte<B: Board, W: ByteWriter>(
+    session: &mut Session<'_, B>,
+    byte: u8,
+    screen: &mut Screen,
+    writer: &mut W,
+) -> Result<Option<Ending>, RunFault>
     ensures writes { result ≢ Err RunFault.Write → W.has_failed writer.new ≡ W.has_failed writer.old }
     ensures stopped { result ≡ Err RunFault.Write → W.has_failed writer.new ≡ true }
     ensures well { IfErr result IsDeviceFault }
@@ -164,16 +193,15 @@ fn play_byte<B: Board, W: ByteWriter>(session: &mut Session<'_, B>, byte: u8, sc
 }
 
 /// Writes that the keys have ended.
-fn end_of_keys<W: ByteWriter>(screen: &mut Screen, writer: &mut W) -> Result<Ending, RunFault>
+fn write_end_of_keys<W: ByteWriter>(screen: &mut Screen, writer: &mut W) -> Result<(), RunFault>
     ensures writes { result ≢ Err RunFault.Write → W.has_failed writer.new ≡ W.has_failed writer.old }
     ensures stopped { result ≡ Err RunFault.Write → W.has_failed writer.new ≡ true }
     ensures well { IfErr result IsDeviceFault }
-    ensures written { IfOk result (λ ending. (ending ≡ Ending.EndOfKeys) × Grows (W.contents writer.old) (W.contents writer.new) end_of_keys_line) }
+    ensures written { OnOk result (Grows (W.contents writer.old) (W.contents writer.new) end_of_keys_line) }
 {
     screen.clear();
     screen.add_line("* end of keys", "")?;
-    write_screen(screen, writer)?;
-    Ok(Ending::EndOfKeys)
+    write_screen(screen, writer)
 }
 
 /// Writes what the screen has.

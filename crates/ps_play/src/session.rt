@@ -32,7 +32,11 @@ impl<'g, B: Board> Session<'g, B> {
     /// # Errors
     ///
     /// `Memory`, and a part of the opening may have been added.
-    pub fn start(alloc: Global, game: &'g Game, screen: &mut Screen) -> Result<Session<'g, B>, Memory>
+    pub fn start(
+        alloc: Global,
+        game: &'g Game,
+        screen: &mut Screen,
+    ) -> Result<Session<'g, B>, Memory>
         ensures game { IfOk result (λ session. session.game.now ≡ game.entry.now) }
         ensures board { IfOk result (λ session. B.grid session.board ≡ loaded game.entry.now.names game.entry.now.level) }
         ensures opened { OnOk result (screen.new ≡ screen.old ++ opening game.entry.now) }
@@ -74,7 +78,11 @@ impl<'g, B: Board> Session<'g, B> {
         ensures shown { OnOk result (screen.new ≡ screen.old ++ frame self.old.game.now.names (B.grid self.new.board)) }
     {
         let game = self.game;
-        give_motion(&mut self.board, members_named(&game.names, "player"), motion_for(input));
+        give_motion(
+            &mut self.board,
+            members_named(&game.names, "player"),
+            motion_for(input),
+        );
         let _ = slide(&mut self.board);
         add_frame(self.alloc, &game.names, &self.board, screen)
     }
