@@ -14,3 +14,4 @@ pub mod Frames
 pub mod Keys
 pub mod Turns
 pub mod ThinOutput
+pub mod TextFaults

@@ -1,0 +1,35 @@
+-- The words of a line rise: each holds a byte at least, and ends where the next begins or before.
+use Rattle.std.proofs.Common.{◌≡◌, ℕ, suc, ◌+◌, ◌<◌, ◌≤◌, Bool, true, false, Option, Some, None, List, [], ◌∷◌, ◌++◌, length, map, refl, arith}
+use Rattle.ps_model.specs.declared.texts.Cut.{Cut}
+use Rattle.ps_model.specs.Words.{parts_words, stands_alone, run_to, words_from, words_in}
+use Rattle.ps_model.specs.Lines.{Line}
+use Rattle.ps_text.specs.WordViews.{span_at, AreRising, AreRisingSpans}
+
+-- an open run begins behind what was read before, and holds a byte at least
+abbrev pub IsOpen : Option ℕ → ℕ → ℕ → Type 0
+IsOpen None place low = low ≤ place
+IsOpen (Some start) place low = (low ≤ start) × (start < place)
+
+at_byte : (cut : Cut) (place : ℕ) (run : Option ℕ) (byte : ℕ) (bytes : List ℕ) (low high : ℕ) (parting alone : Bool) → parts_words cut byte ≡ parting → stands_alone cut byte ≡ alone → IsOpen run place low →
+    ((run' : Option ℕ) (low' : ℕ) → IsOpen run' (suc place) low' → AreRising low' high (words_from cut (suc place) run' bytes)) → AreRising low high (words_from cut place run (byte ∷ bytes))
+at_byte cut place None byte bytes low high true alone h a o next = rw (words_from, h) (next None low (omega arith))
+at_byte cut place (Some start) byte bytes low high true alone h a o next = rw (words_from, h) (o.0, o.1, next None place (omega arith))
+at_byte cut place None byte bytes low high false true h a o next = rw (words_from, h, a) (o, omega arith, next None (suc place) (omega arith))
+at_byte cut place (Some start) byte bytes low high false true h a o next = rw (words_from, h, a) (o.0, o.1, (omega arith, omega arith, next None (suc place) (omega arith)))
+at_byte cut place None byte bytes low high false false h a o next = rw (words_from, h, a) (next (Some place) low (o, omega arith))
+at_byte cut place (Some start) byte bytes low high false false h a o next = rw (words_from, h, a) (next (Some start) low (o.0, omega arith))
+
+pub rising_from : (cut : Cut) (place : ℕ) (run : Option ℕ) (bytes : List ℕ) (low high : ℕ) → IsOpen run place low → place + length bytes ≤ high → AreRising low high (words_from cut place run bytes)
+rising_from cut place None [] low high o e = omega arith
+rising_from cut place (Some start) [] low high o e = (o.0, o.1, omega arith)
+rising_from cut place run (byte ∷ bytes) low high o e =
+    at_byte cut place run byte bytes low high _ _ refl refl o (λ run' low' o'. rising_from cut (suc place) run' bytes low' high o' (omega arith))
+
+-- the words of a line
+pub rising_words : (cut : Cut) (line : List ℕ) → AreRising 0 (length line) (words_in cut line)
+rising_words cut line = rising_from cut 0 None line 0 (length line) (omega arith) (omega arith)
+
+-- and their spans
+pub rising_spans : (line : Line) (low high from top : ℕ) (places : List (ℕ × ℕ)) → AreRising low high places → from ≤ line.start + low → line.start + high ≤ top → AreRisingSpans from top (map (span_at line) places)
+rising_spans line low high from top [] r f t = omega arith
+rising_spans line low high from top (place ∷ places) r f t = (omega (arith, r.0), omega (arith, r.1), rising_spans line place.1 high (line.start + place.1) top places r.2 (omega arith) t)
