@@ -2,3 +2,5 @@ pub mod Devices
 pub mod Reports
 pub mod Inputs
 pub mod Runs
+pub mod Stretches
+pub mod Sections

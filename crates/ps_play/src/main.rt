@@ -4,6 +4,7 @@
 
 mod devices;
 mod keys;
+mod reading;
 mod report;
 mod run;
 mod screen;
