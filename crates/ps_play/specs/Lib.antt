@@ -4,3 +4,4 @@ pub mod Inputs
 pub mod Runs
 pub mod Stretches
 pub mod Sections
+pub mod Rows

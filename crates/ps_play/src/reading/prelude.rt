@@ -1,12 +1,11 @@
 //! What stands above all sections: the title, and options.
 
-ghost use Rattle.std.specs.Prelude.{◌≡◌, length, IfOk, IfSome, slice_index_or, [], option_map, map};
+ghost use Rattle.std.specs.Prelude.{◌≡◌, ◌≤◌, length, IfOk, IfSome, slice_index_or, [], option_map, map};
 ghost use Rattle.std.specs.List.{list_any};
 ghost use Rattle.std.specs.Str.{bytes_eq};
 ghost use Rattle.ps_model.specs.Lines.{lines_of, line_at, folded, taken_text};
 ghost use Rattle.ps_model.specs.ThinNames.{lines_between};
 ghost use Rattle.ps_model.specs.ThinGame.{is_option, is_title, option_words, text_at, title_of};
-ghost use Rattle.ps_model.specs.ThinLevels.{is_message};
 ghost use Rattle.ps_text.specs.WordViews.{text_of};
 ghost use Rattle.ps_play.specs.Stretches.{IsStretch};
 
@@ -55,16 +54,6 @@ fn is_title(alloc: Global, source: &Source, line: u32) -> Result<bool, Memory>
 {
     let words = words(alloc, source, line, Cut::Plain)?;
     Ok(begins_with(&words, "title"))
-}
-
-/// Whether the line begins with `message`.
-pub fn is_message(alloc: Global, source: &Source, line: u32) -> Result<bool, Memory>
-    requires from_one { 1 ≤ line }
-    requires there { line ≤ length (lines_of source.now) }
-    ensures { IfOk result (λ told. told ≡ is_message (line_at source.now line)) }
-{
-    let words = words(alloc, source, line, Cut::Plain)?;
-    Ok(begins_with(&words, "message"))
 }
 
 /// Whether a line of the stretch is one of an option.
