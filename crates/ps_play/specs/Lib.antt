@@ -5,3 +5,5 @@ pub mod Runs
 pub mod Stretches
 pub mod Sections
 pub mod Rows
+pub mod ReadFaults
+pub mod Playable

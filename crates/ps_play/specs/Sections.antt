@@ -1,11 +1,11 @@
 -- Where the lines of each section stand, by their numbers.
-use Rattle.std.specs.Prelude.{◌≡◌, ℕ, ◌+◌, Bool, true, false, ◌&&◌, nat_lt, Option, Some, None, List, if◌then◌else◌}
-use Rattle.std.specs.List.{prefix_len}
+use Rattle.std.specs.Prelude.{◌≡◌, ℕ, ◌+◌, Bool, true, false, ◌&&◌, not, nat_lt, Option, Some, None, List, if◌then◌else◌}
+use Rattle.std.specs.List.{prefix_len, list_any, list_all}
 use Rattle.ps_model.specs.declared.texts.Section.{Section}
 use Rattle.ps_model.specs.declared.texts.Section.TheVariants.{Prelude, Objects, Legend, Layers, Rules, Wins, Levels}
-use Rattle.ps_model.specs.Lines.{Line, lines_of, is_header}
+use Rattle.ps_model.specs.Lines.{Line, lines_of, is_header, is_blank_line}
 use Rattle.ps_model.specs.ThinNames.{lines_between}
-use Rattle.ps_model.specs.ThinGame.{rank, are_in_order, header_sections, has_section, section_lines}
+use Rattle.ps_model.specs.ThinGame.{rank, are_in_order, header_sections, has_section, section_lines, is_option}
 use Rattle.ps_play.specs.Stretches.{IsStretch}
 use Rattle.ps_play.specs.declared.reading.sections.Sections.{Sections}
 
@@ -52,3 +52,8 @@ pub record AreAllSections (text : List ℕ) (sections : Sections) : Type 0 where
 abbrev pub AreSections : List ℕ → Option Sections → Type 0
 AreSections text None = is_whole (lines_of text) ≡ false
 AreSections text (Some sections) = AreAllSections text sections
+
+-- no line of an option, and no rule and no win condition
+abbrev pub is_thin : List Line → Bool
+is_thin lines =
+    not (list_any is_option (section_lines lines Prelude)) && (list_all is_blank_line (section_lines lines Rules) && list_all is_blank_line (section_lines lines Wins))

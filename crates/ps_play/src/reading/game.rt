@@ -1,11 +1,16 @@
 //! The game of a text.
 
-ghost use Rattle.std.specs.Prelude.{◌≡◌, ◌×◌, ◌⊎◌, IfOk, IfErr, Some, None};
+ghost use Rattle.std.specs.Prelude.{◌≡◌, ◌==◌, ◌⊎◌, IfOk, IfErr, Some, None};
 ghost use Rattle.std.specs.List.{list_any};
 ghost use Rattle.ps_model.specs.declared.faults.Fault.{Fault as TheFault};
 ghost use Rattle.ps_model.specs.TextFaults.{text_fault};
-ghost use Rattle.ps_model.specs.ThinGame.{thin_game, has_no_comment};
-ghost use Rattle.ps_play.specs.declared.reading.game.ReadFault.TheVariants.{Refused, Memory as OfMemory};
+ghost use Rattle.ps_model.specs.Lines.{lines_of};
+ghost use Rattle.ps_model.specs.ThinGame.{thin_game, game_of_lines};
+ghost use Rattle.ps_play.specs.Playable.{IsPlayable};
+ghost use Rattle.ps_play.specs.Sections.{AreAllSections, is_thin};
+ghost use Rattle.ps_play.specs.ReadFaults.{not_yet, of_text, of_part, of_names};
+ghost use Rattle.ps_play.specs.declared.reading.fault.PartFault.TheVariants.{NotYet};
+ghost use Rattle.ps_play.specs.declared.reading.game.ReadFault.TheVariants.{Memory as OfMemory};
 
 use super::fault::PartFault;
 use super::level::{Level, read_level};
@@ -61,6 +66,8 @@ impl From<Memory> for ReadFault {
 }
 
 impl From<TextFault> for ReadFault {
+    ghost from_gives = { λ error e. e ≡ of_text error };
+
     fn from(error: TextFault) -> ReadFault {
         match error {
             TextFault::Refused(fault) => ReadFault::Refused(fault),
@@ -70,6 +77,8 @@ impl From<TextFault> for ReadFault {
 }
 
 impl From<PartFault> for ReadFault {
+    ghost from_gives = { λ error e. e ≡ of_part error };
+
     fn from(error: PartFault) -> ReadFault {
         match error {
             PartFault::NotYet => NOT_YET,
@@ -79,6 +88,8 @@ impl From<PartFault> for ReadFault {
 }
 
 impl From<NameFault> for PartFault {
+    ghost from_gives = { λ error e. e ≡ of_names error };
+
     fn from(error: NameFault) -> PartFault {
         match error {
             NameFault::NotYet => PartFault::NotYet,
@@ -95,7 +106,10 @@ fn has_comment(bytes: &[u8]) -> bool
 }
 
 /// Whether the sections that are not read yet have no lines that do anything.
-fn is_thin(alloc: Global, source: &Source, sections: &Sections) -> Result<bool, Memory> {
+fn is_thin(alloc: Global, source: &Source, sections: &Sections) -> Result<bool, Memory>
+    requires { AreAllSections source.now sections.now }
+    ensures { IfOk result (λ told. told ≡ is_thin (lines_of source.now)) }
+{
     if has_option(alloc, source, sections.prelude.start..sections.prelude.end)? {
         return Ok(false);
     }
@@ -106,7 +120,11 @@ fn is_thin(alloc: Global, source: &Source, sections: &Sections) -> Result<bool, 
 }
 
 /// Reads the game of a text without comments from its sections.
-fn read_parts(alloc: Global, source: &Source) -> Result<Game, PartFault> {
+fn read_parts(alloc: Global, source: &Source) -> Result<Game, PartFault>
+    ensures ok { IfOk result (λ game. game_of_lines source.now (lines_of source.now) ≡ Some game) }
+    ensures playable { IfOk result (λ game. IsPlayable game.names game.level) }
+    ensures not_yet { IfErr result (λ e. e ≡ NotYet → game_of_lines source.now (lines_of source.now) ≡ None) }
+{
     let Some(sections) = read_sections(source) else {
         return Err(PartFault::NotYet);
     };
@@ -125,7 +143,11 @@ fn read_parts(alloc: Global, source: &Source) -> Result<Game, PartFault> {
 ///
 /// `Refused` with the text's own fault where it is too long or isn't UTF-8, and else with `NotYet` at line 1 where it isn't a
 /// game that this version plays.
-pub fn read_game(alloc: Global, bytes: &[u8]) -> Result<Game, ReadFault> {
+pub fn read_game(alloc: Global, bytes: &[u8]) -> Result<Game, ReadFault>
+    ensures ok { IfOk result (λ game. thin_game bytes.now ≡ Some game) }
+    ensures playable { IfOk result (λ game. IsPlayable game.names game.level) }
+    ensures refused { IfErr result (λ e. (fault : TheFault) → e ≡ ReadFault.Refused fault → (text_fault bytes.now ≡ Some fault) ⊎ ((fault ≡ not_yet) × (thin_game bytes.now ≡ None))) }
+{
     let source = Source::read(alloc, bytes)?;
     if has_comment(bytes) {
         return Err(NOT_YET);

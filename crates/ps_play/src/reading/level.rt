@@ -1,8 +1,11 @@
 //! The level of a game.
 
-ghost use Rattle.std.specs.Prelude.{◌≡◌, ◌≤◌, ◌<◌, length, IfOk, IfErr, Some, None, All, map};
+ghost use Rattle.std.specs.Prelude.{◌≡◌, ◌≤◌, ◌<◌, ◌++◌, [], true, length, IfOk, OnOk, IfErr, Some, None, map, nat_eq, nat_lt, slice_index_or};
 ghost use Rattle.ps_model.specs.ThinNames.{lines_between};
-ghost use Rattle.ps_model.specs.ThinLevels.{thin_level, columns};
+ghost use Rattle.ps_model.specs.ThinLevels.{thin_level, columns, are_rows, first_length};
+ghost use Rattle.std.specs.List.{list_all};
+ghost use Rattle.ps_play.specs.Playable.{IsPlayable};
+ghost use Rattle.ps_play.specs.Rows.{cells_shown, rows_shown};
 ghost use Rattle.ps_play.specs.Stretches.{IsStretch};
 ghost use Rattle.ps_play.specs.declared.reading.fault.PartFault.TheVariants.{NotYet};
 
@@ -59,16 +62,42 @@ impl Level {
     }
 }
 
-/// How long all rows are, if they are of one length, and there are at least one and at most 64 of them, and of their cells.
-fn width_of(rows: &[Vec<&[ObjectId]>]) -> Option<usize> {
-    let width = rows.first()?.len();
-    if width == 0 || width > SIDE_LIMIT || rows.len() > SIDE_LIMIT {
-        return None;
+/// Whether each row has so many cells.
+fn have_width(rows: &[Vec<&[ObjectId]>], width: usize) -> bool
+    ensures { result ≡ list_all (λ row. nat_eq (length row) width) (rows_shown rows.now) }
+{
+    for row in rows {
+        if row.len() != width {
+            return false;
+        }
     }
-    if rows.iter().any(|row| row.len() != width) {
-        return None;
+    true
+}
+
+/// How many cells the first row has; of no rows, none.
+fn first_width(rows: &[Vec<&[ObjectId]>]) -> usize
+    ensures { result ≡ first_length (rows_shown rows.now) }
+{
+    if rows.is_empty() {
+        return 0;
     }
-    Some(width)
+    rows[0].len()
+}
+
+/// Whether the rows are of this length, and there are at least one and at most 64 of them, and of their cells.
+fn are_rows(rows: &[Vec<&[ObjectId]>], width: usize) -> bool
+    ensures { result ≡ are_rows width (rows_shown rows.now) }
+{
+    if width == 0 {
+        return false;
+    }
+    if width > SIDE_LIMIT {
+        return false;
+    }
+    if rows.len() > SIDE_LIMIT {
+        return false;
+    }
+    have_width(rows, width)
 }
 
 /// Adds a column's cells, from the top.
@@ -76,7 +105,10 @@ fn add_column<'a>(
     rows: &[Vec<&'a [ObjectId]>],
     column: usize,
     cells: &mut Vec<&'a [ObjectId]>,
-) -> Result<(), Memory> {
+) -> Result<(), Memory>
+    requires { list_all (λ row. nat_lt column (length row)) (rows_shown rows.now) ≡ true }
+    ensures { OnOk result (cells_shown cells.new.items ≡ cells_shown cells.old.items ++ map (λ row. slice_index_or row column []) (rows_shown rows.now)) }
+{
     for row in rows {
         cells.push(row[column])?;
     }
@@ -88,7 +120,10 @@ fn columns<'a>(
     alloc: Global,
     rows: &[Vec<&'a [ObjectId]>],
     width: usize,
-) -> Result<Vec<&'a [ObjectId]>, Memory> {
+) -> Result<Vec<&'a [ObjectId]>, Memory>
+    requires { are_rows width (rows_shown rows.now) ≡ true }
+    ensures { IfOk result (λ cells. cells_shown cells.items ≡ columns width (rows_shown rows.now)) }
+{
     let mut cells = Vec::new(alloc);
     for column in 0..width {
         add_column(rows, column, &mut cells)?;
@@ -106,6 +141,7 @@ pub fn read_level(
 ) -> Result<Level, PartFault>
     requires stretch { IsStretch source.now lines.start lines.end }
     ensures ok { IfOk result (λ level. thin_level names.now (lines_between source.now lines.start lines.end) ≡ Some level) }
+    ensures playable { IfOk result (λ level. IsPlayable names.now level) }
     ensures not_yet { IfErr result (λ e. e ≡ NotYet → thin_level names.now (lines_between source.now lines.start lines.end) ≡ None) }
 {
     let end = lines.end;
@@ -115,9 +151,10 @@ pub fn read_level(
     if !are_blank(source, behind..end) {
         return Err(PartFault::NotYet);
     }
-    let Some(width) = width_of(&rows) else {
+    let width = first_width(&rows);
+    if !are_rows(&rows, width) {
         return Err(PartFault::NotYet);
-    };
+    }
     let cells = columns(alloc, &rows, width)?;
     let cells = fill_ground(alloc, names, &cells)?;
     Ok(Level {

@@ -1,15 +1,15 @@
 //! The rows of a level, as they stand in the text.
 
-ghost use Rattle.std.specs.Prelude.{◌≡◌, ◌≤◌, ◌+◌, length, IfOk, IfErr, Some, None, option_map, map};
+ghost use Rattle.std.specs.Prelude.{◌≡◌, ◌≤◌, ◌+◌, ◌++◌, List, length, IfOk, OnOk, IfErr, Some, None, option_map, map};
 ghost use Rattle.std.specs.Str.{chars};
-ghost use Rattle.ps_model.specs.Lines.{lines_of, line_at};
-ghost use Rattle.ps_model.specs.Levels.{objects_shown, shown_objects};
+ghost use Rattle.ps_model.specs.Lines.{Line, lines_of, line_at};
+ghost use Rattle.ps_model.specs.Levels.{objects_shown};
 ghost use Rattle.ps_model.specs.OptionSteps.{all_there};
 ghost use Rattle.ps_model.specs.ThinNames.{lines_between};
 ghost use Rattle.ps_model.specs.ThinLevels.{row_word, row_objects};
 ghost use Rattle.ps_text.specs.WordViews.{text_of};
-ghost use Rattle.ps_play.specs.Stretches.{IsStretch};
-ghost use Rattle.ps_play.specs.Rows.{cells_shown, rows_shown};
+ghost use Rattle.ps_play.specs.Stretches.{IsStretch, here};
+ghost use Rattle.ps_play.specs.Rows.{behind, cells_shown, rows_shown};
 ghost use Rattle.ps_play.specs.declared.reading.fault.PartFault.TheVariants.{NotYet};
 
 use super::fault::PartFault;
@@ -91,6 +91,8 @@ fn add_row<'a>(
 ) -> Result<(), PartFault>
     requires from_one { 1 ≤ line }
     requires there { line ≤ length (lines_of source.now) }
+    ensures ok { OnOk result ((lines : List Line) → behind (rows_shown rows.new.items) (all_there (map (row_objects names.now) lines)) ≡ behind (rows_shown rows.old.items) (all_there (map (row_objects names.now) (here source.now line ++ lines)))) }
+    ensures not_yet { IfErr result (λ e. e ≡ NotYet → (lines : List Line) → all_there (map (row_objects names.now) (here source.now line ++ lines)) ≡ None) }
 {
     if !source.is_there(line) {
         return Ok(());
