@@ -15,3 +15,4 @@ pub mod Keys
 pub mod Turns
 pub mod ThinOutput
 pub mod TextFaults
+pub mod NamesFacts

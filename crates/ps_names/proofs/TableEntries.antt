@@ -1,10 +1,12 @@
 -- Look-ups in the code's table are look-ups among what is declared.
-use Rattle.std.proofs.Common.{◌≡◌, ℕ, List, [], ◌∷◌, ◌++◌, Bool, true, false, cond, map, refl, sym, ap, ◌∙◌, Option, None, Some, String, Global, is_some, ◌||◌, option_map}
+use Rattle.std.proofs.Common.{◌≡◌, ℕ, List, [], ◌∷◌, ◌++◌, Bool, true, false, cond, map, refl, sym, ap, ◌∙◌, Option, None, Some, String, Global, is_some, ◌||◌, option_map, drop, suc, slice_get}
 use Rattle.std.specs.String.{string_bytes, string_eq}
 use Rattle.std.specs.Map.{lookup}
 use Rattle.std.specs.List.{list_any}
 use Rattle.std.specs.Str.{bytes_eq}
 use Rattle.std.proofs.lemmas.List.{map-append}
+use Rattle.std.proofs.lemmas.Option.{slice_get_within, get_or_from_slice_get}
+use Rattle.std.proofs.Math.Seq.{drop-cons}
 use Rattle.indexmap.specs.IndexMap.{IndexMap, insert_entry, get}
 use Rattle.indexmap.proofs.CallerLemmas.{insert_entry-new}
 use Rattle.ps_model.specs.Names as model
@@ -58,3 +60,17 @@ pub insert-declared : {S : Type 0} (m : IndexMap (String Global) Entry S) (es : 
     → map declared_shown es ≡ old ++ declared_as written (meaning_shown meaning) ∷ []
 insert-declared m es k character meaning written old v e b ch none =
     insert-shown m es k (record { character = character; meaning = meaning }) (folded written) e b none ∙ rw (v, b, ch) refl
+
+drop-got : {A : Type 0} (xs : List A) (k : ℕ) (x : A) → slice_get xs k ≡ Some x → drop k xs ≡ x ∷ drop (suc k) xs
+drop-got xs k x e = drop-cons xs k x (slice_get_within xs k x e) ∙ ap (λ y. y ∷ drop (suc k) xs) (get_or_from_slice_get xs k x x e)
+
+module _ (name : List ℕ) (es : List (String Global × Entry)) (k next : ℕ) (key : String Global) (entry : Entry) where
+  -- the entry of a place is the one that is looked for
+  pub find-hit : slice_get es k ≡ Some (key, entry) → bytes_eq name (string_bytes key) ≡ true
+      → lookup (bytes_eq name) (entries_of (map declared_shown (drop k es))) ≡ Some (meaning_shown entry.meaning)
+  find-hit e h = rw (drop-got es k (key, entry) e, h) refl
+
+  -- it isn't
+  pub find-miss : next ≡ suc k → slice_get es k ≡ Some (key, entry) → bytes_eq name (string_bytes key) ≡ false
+      → lookup (bytes_eq name) (entries_of (map declared_shown (drop k es))) ≡ lookup (bytes_eq name) (entries_of (map declared_shown (drop next es)))
+  find-miss n e h = rw (n, drop-got es k (key, entry) e, h) refl

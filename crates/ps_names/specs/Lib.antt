@@ -6,3 +6,5 @@ pub mod ObjectLines
 pub mod LegendSides
 pub mod Places
 pub mod GlyphsShown
+pub mod NamesShown
+pub mod Layered

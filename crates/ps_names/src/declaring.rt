@@ -19,9 +19,9 @@ use std::alloc::Global;
 
 /// Declares the names of the object of a number. `NotYet`: one of them is declared already.
 fn declare_object(alloc: Global, table: &mut Table, object: ObjectLine<'_>, number: u32) -> Result<(), NameFault>
-    ensures ok { OnOk result (table.new ≡ table.old ++ object_declared number (words_of object)) }
-    ensures new { OnOk result ((names : List (List ℕ)) → are_new (names_of table.old) (names_of (object_declared number (words_of object)) ++ names) ≡ are_new (names_of table.new) names) }
-    ensures not_yet { IfErr result (λ e. e ≡ NotYet → (names : List (List ℕ)) → are_new (names_of table.old) (names_of (object_declared number (words_of object)) ++ names) ≡ false) }
+    ensures ok { OnOk result (table.new ≡ table.old ++ object_declared number (words_of object.entry)) }
+    ensures new { OnOk result ((names : List (List ℕ)) → are_new (names_of table.old) (names_of (object_declared number (words_of object.entry)) ++ names) ≡ are_new (names_of table.new) names) }
+    ensures not_yet { IfErr result (λ e. e ≡ NotYet → (names : List (List ℕ)) → are_new (names_of table.old) (names_of (object_declared number (words_of object.entry)) ++ names) ≡ false) }
 {
     table.declare(alloc, object.name, Meaning::One(ObjectId(number)))?;
     let Some(second) = object.second else {

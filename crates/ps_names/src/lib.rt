@@ -11,9 +11,14 @@ mod glyphs;
 mod layers;
 mod legend;
 mod meaning;
+mod names;
 mod objects;
+mod read;
 mod table;
 
 pub use fault::NameFault;
+pub use glyphs::Glyph;
 pub use meaning::Meaning;
+pub use names::Names;
 pub use ps_model::{LayerId, ObjectId};
+pub use read::read_names;

@@ -1,6 +1,6 @@
 //! The table of declared names.
 
-ghost use Rattle.std.specs.Prelude.{◌≡◌, ◌++◌, ◌∷◌, [], false, true, IfOk, OnOk, IfErr, option_map, ◌<◌, length, slice_index_or};
+ghost use Rattle.std.specs.Prelude.{◌≡◌, ◌++◌, ◌∷◌, [], false, true, IfOk, OnOk, IfErr, option_map, ◌<◌, length, slice_index_or, IsTrue};
 ghost use Rattle.std.specs.Str.{bytes_eq, chars};
 ghost use Rattle.std.specs.List.{list_any};
 ghost use Rattle.std.specs.Map.{lookup};
@@ -70,6 +70,24 @@ impl Table {
         Some(&entry.meaning)
     }
 
+    /// What a name as it is written stands for. Takes no memory; a name with a capital letter is compared with each.
+    pub fn find(&self, name: &str) -> Option<&Meaning>
+        ensures { option_map (λ m. meaning_shown m.now) result ≡ lookup (bytes_eq (folded name.now)) (entries_of self.now) }
+    {
+        if is_folded(name) {
+            return self.get(name);
+        }
+        for at in 0..self.names.len() {
+            let Some((key, entry)) = self.names.get_index(at) else {
+                unreachable!()
+            };
+            if folds_to(name, key.as_str()) {
+                return Some(&entry.meaning);
+            }
+        }
+        None
+    }
+
     /// How many names are declared.
     pub fn len(&self) -> usize
         ensures { result ≡ length self.now }
@@ -116,6 +134,19 @@ pub fn folds_to(written: &str, name: &str) -> bool
     }
     for at in 0..letters.len() {
         if letters[at].to_ascii_lowercase() != wanted[at] {
+            return false;
+        }
+    }
+    true
+}
+
+/// Whether a name has no capital letter.
+fn is_folded(name: &str) -> bool
+    ensures { IsTrue result → folded name.now ≡ name.now }
+{
+    let letters = name.as_bytes();
+    for at in 0..letters.len() {
+        if letters[at].to_ascii_lowercase() != letters[at] {
             return false;
         }
     }
