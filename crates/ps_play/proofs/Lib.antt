@@ -1,6 +1,11 @@
 mod Bringing
+mod LinesBetween
 mod Objects
 mod Painting
 mod Pieces
 mod Reaching
+mod SectionEnds
+mod SectionLines
+mod SectionsTold
+mod Stretches
 mod Sweeps

@@ -1,5 +1,10 @@
 pub mod Devices
-pub mod Reports
-pub mod Inputs
-pub mod Runs
 pub mod Faults
+pub mod Inputs
+pub mod Playable
+pub mod ReadFaults
+pub mod Reports
+pub mod Rows
+pub mod Runs
+pub mod Sections
+pub mod Stretches

@@ -6,9 +6,9 @@
 ghost use Rattle.std.specs.Prelude.{◌≡◌, [], ◌∷◌, ◌++◌, ◌<◌, OnOk, IfOk, option_to_list, option_map, map, filter, find, not};
 ghost use Rattle.ps_model.specs.Grid.{IsGrid, cell_at, cell_count, slot_at};
 ghost use Rattle.std.specs.List.{list_all};
-ghost use Rattle.ps_model.specs.Names.{is_among, members};
+ghost use Rattle.ps_model.specs.Names.{is_among, layer_of, members};
 ghost use Rattle.ps_model.specs.Levels.{background_layer, is_ground};
-ghost use Rattle.ps_names.specs.GlyphShown.{glyph_shown};
+ghost use Rattle.ps_names.specs.GlyphsShown.{glyph_shown, glyphs_shown};
 ghost use Rattle.ps_model.specs.Frames.{objects_in, same_objects, topmost, glyph_of_objects, character_of, shown_character, frame_row, frame};
 
 use crate::meanings::{members, members_named};
@@ -122,7 +122,17 @@ fn ground_layer(names: &Names) -> LayerId
 {
     let grounds = members_named(names, "background");
     let first = grounds.first().copied().unwrap_or(ObjectId(0));
-    names.layer_of(first)
+    layer_for(names, first)
+}
+
+/// The layer of an object. One that isn't the game's, which no board of the game has, counts as of the lowest layer.
+fn layer_for(names: &Names, object: ObjectId) -> LayerId
+    ensures { result.0 ≡ layer_of names.now object }
+{
+    if names.object_count() <= object.0 {
+        return LayerId(0);
+    }
+    names.layer_of(object)
 }
 
 /// Gathers those of the objects that don't lie on the background layer, in place of what `above` held.
@@ -156,7 +166,7 @@ fn push_above(
     requires { ground.0 ≡ background_layer names.now }
     ensures { OnOk result (above.new.items ≡ above.old.items ++ filter (λ object. not (is_ground names.now object)) (object ∷ [])) }
 {
-    if names.layer_of(object).0 == ground.0 {
+    if layer_for(names, object).0 == ground.0 {
         return Ok(());
     }
     above.push(object)?;
@@ -175,7 +185,7 @@ fn topmost(objects: &[ObjectId]) -> &[ObjectId]
 
 /// The character of the first glyph that shows just these objects.
 fn glyph_for(glyphs: &[Glyph], objects: &[ObjectId]) -> Option<char>
-    ensures { result ≡ option_map (λ glyph. glyph.character) (find (λ glyph. same_objects (members glyph.meaning) objects.now) (map glyph_shown glyphs.now)) }
+    ensures { result ≡ option_map (λ glyph. glyph.character) (find (λ glyph. same_objects (members glyph.meaning) objects.now) (glyphs_shown glyphs.now)) }
 {
     for glyph in glyphs {
         if are_same(members(&glyph.meaning), objects) {

@@ -7,6 +7,8 @@ ghost use Rattle.ps_model.specs.Levels.{loaded};
 ghost use Rattle.ps_model.specs.ThinOutput.{MayBring, end_of_keys_line, opening};
 ghost use Rattle.ps_play.specs.Devices.{Grows};
 ghost use Rattle.ps_play.specs.Faults.{IsRefusal, IsDeviceFault};
+ghost use Rattle.ps_play.specs.Playable.{IsPlayable};
+ghost use Rattle.ps_play.specs.Playable.{IsPlayable};
 ghost use Rattle.ps_play.specs.Runs.{keys_apart, Brings, Answers};
 
 use crate::devices::{ByteReader, ByteWriter, write_whole};
@@ -101,6 +103,7 @@ fn play_game<R: ByteReader, W: ByteWriter>(
     reader: &mut R,
     writer: &mut W,
 ) -> Result<Ending, RunFault>
+    requires { IsPlayable game.now.names game.now.level }
     ensures calls { R.calls reader.new ≤ R.calls reader.old + read_limit }
     ensures writes { result ≢ Err RunFault.Write → W.has_failed writer.new ≡ W.has_failed writer.old }
     ensures stopped { result ≡ Err RunFault.Write → W.has_failed writer.new ≡ true }

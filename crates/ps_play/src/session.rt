@@ -6,6 +6,7 @@ ghost use Rattle.ps_model.specs.Frames.{frame};
 ghost use Rattle.ps_model.specs.ThinOutput.{opening};
 ghost use Rattle.ps_model.specs.Turns.{with_input};
 ghost use Rattle.ps_model.specs.WeakMovement.{IsWeaklySlid};
+ghost use Rattle.ps_play.specs.Playable.{IsPlayable};
 ghost use Rattle.ps_play.specs.Runs.{StepsTo};
 
 use crate::frame::add_frame;
@@ -37,6 +38,7 @@ impl<'g, B: Board> Session<'g, B> {
         game: &'g Game,
         screen: &mut Screen,
     ) -> Result<Session<'g, B>, Memory>
+        requires { IsPlayable game.entry.now.names game.entry.now.level }
         ensures game { IfOk result (λ session. session.game.now ≡ game.entry.now) }
         ensures board { IfOk result (λ session. B.grid session.board ≡ loaded game.entry.now.names game.entry.now.level) }
         ensures opened { OnOk result (screen.new ≡ screen.old ++ opening game.entry.now) }
