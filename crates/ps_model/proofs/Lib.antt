@@ -8,3 +8,4 @@ mod NameRows
 pub mod Neighbours
 mod OutputRows
 pub mod Slots
+pub mod Winners
