@@ -3,6 +3,7 @@ mod Stretches
 mod SectionLines
 mod SectionEnds
 mod SectionsTold
+mod Games
 mod Pieces
 mod Reaching
 mod Sweeps
