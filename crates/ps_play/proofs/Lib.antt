@@ -4,6 +4,7 @@ mod SectionLines
 mod SectionEnds
 mod SectionsTold
 mod Games
+mod RowSteps
 mod Pieces
 mod Reaching
 mod Sweeps

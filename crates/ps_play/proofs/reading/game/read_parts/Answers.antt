@@ -1,5 +1,5 @@
 use Rattle.std.proofs.Common.{rules}
-use Rattle.ps_play.proofs.Games.{not_whole, not_thin, plain, no_game, no_names, no_level, the_game}
+use Rattle.ps_play.proofs.Games.{the_game}
 use Rattle.ps_play.proofs.reading.game.read_parts.Goals as goal
 
 pub returns-clause-ok : goal.returns-clause-ok
