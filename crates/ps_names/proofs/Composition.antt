@@ -1,5 +1,5 @@
 -- The names put together from what the sections give.
-use Rattle.std.proofs.Common.{◌≡◌, ℕ, true, false, List, ◌++◌, length, refl, sym, ap, ◌∙◌, Option, Some, None, Bool}
+use Rattle.std.proofs.Common.{◌≡◌, ℕ, List, ◌++◌, length, refl, ap, Option, Some, None, Bool}
 use Rattle.std.specs.Prelude.{option_map}
 use Rattle.std.specs.List.{filter_map}
 use Rattle.ps_model.specs.declared.pieces.ObjectId.{ObjectId}

@@ -1,10 +1,10 @@
 -- What holds of the names that three sections give.
-use Rattle.std.proofs.Common.{◌≡◌, ℕ, suc, ◌+◌, ◌<◌, ◌≤◌, Bool, true, false, cond, List, [], ◌∷◌, ◌++◌, map, length, get_or, refl, sym, ap, ◌∙◌, Option, Some, None, arith, ◌||◌, ◌&&◌, is_some, All, subst}
-use Rattle.std.specs.Prelude.{if◌then◌else◌, option_map, IfSome, slice_get, codes}
+use Rattle.std.proofs.Common.{◌≡◌, ℕ, suc, ◌+◌, ◌<◌, ◌≤◌, Bool, true, false, cond, List, [], ◌∷◌, ◌++◌, map, length, refl, sym, ap, ◌∙◌, Option, Some, None, arith, ◌&&◌, is_some, All, subst}
+use Rattle.std.specs.Prelude.{if◌then◌else◌, option_map, IfSome, codes}
 use Rattle.std.specs.List.{range_with_len, filter_map, cons_option}
 use Rattle.std.specs.Map.{lookup}
 use Rattle.std.specs.Str.{bytes_eq}
-use Rattle.std.proofs.lemmas.List.Elements.{All-nil, All-cons, All-head, All-tail, All-append, All-map, All-same, All-push}
+use Rattle.std.proofs.lemmas.List.Elements.{All-nil, All-cons, All-head, All-tail, All-append, All-map, All-same}
 use Rattle.std.proofs.lemmas.List.FromFn.{length-map-range_with_len}
 use Rattle.std.proofs.lemmas.Map.Entries.{All-lookup}
 use Rattle.ps_model.specs.declared.pieces.ObjectId.{ObjectId}
@@ -15,9 +15,9 @@ use Rattle.ps_model.specs.Words.{word_texts}
 use Rattle.ps_model.specs.Limits.{object_limit, layer_limit}
 use Rattle.ps_model.specs.Lines.{Line, folded}
 use Rattle.ps_model.specs.OptionSteps.{◌>>=◌, only_if, all_there}
-use Rattle.ps_model.specs.Names.{Meaning, One, AllOf, AnyOf, Glyph, Names, is_among}
+use Rattle.ps_model.specs.Names.{Meaning, One, AllOf, AnyOf, Glyph, is_among}
 use Rattle.ps_model.specs.NamesFacts.{IsBelow, AreNames}
-use Rattle.ps_model.specs.ThinNames.{Declared, declared_as, entries_of, entry_of, names_of, are_new, if_new, one_object, object_named, object_declared, declared_from, has_both, object_names, first_mentions, meaning_by, declared_words, declared_by, legend_sides, legend_declared, legend_names, written_lines, layer_among, layers_of, glyph_with, glyph_of, names_one}
+use Rattle.ps_model.specs.ThinNames.{Declared, declared_as, entries_of, entry_of, if_new, one_object, object_named, object_declared, declared_from, has_both, object_names, first_mentions, meaning_by, declared_words, declared_by, legend_sides, legend_declared, legend_names, written_lines, layer_among, layers_of, glyph_with, glyph_of, names_one}
 use Rattle.ps_names.specs.Layered.{layered, with_count}
 use Rattle.ps_names.proofs.Pairs.{same_first, same_second}
 use Rattle.ps_names.proofs.Composition.{names_with}
@@ -73,8 +73,8 @@ objects-stay : (n number : ℕ) (words : List (List (List ℕ))) → number + le
 objects-stay n number [] h = All-nil (Stays n)
 objects-stay n number (line ∷ words) h =
     All-append (Stays n) (object_declared number line) (declared_from (suc number) words)
-      (All-map (Stays n) (λ word. declared_as word (One (record { 0 = number }))) line (λ k d less. one-below n (record { 0 = number }) (omega arith)))
-      (objects-stay n (suc number) words (omega arith))
+    (All-map (Stays n) (λ word. declared_as word (One (record { 0 = number }))) line (λ k d less. one-below n (record { 0 = number }) (omega arith)))
+    (objects-stay n (suc number) words (omega arith))
 
 entries-stay : (n : ℕ) (declared : List Declared) → All (Stays n) declared → All (λ (e : List ℕ × Meaning). IsBelow n e.1) (entries_of declared)
 entries-stay n declared h = All-map (λ (e : List ℕ × Meaning). IsBelow n e.1) entry_of declared h
@@ -96,7 +96,7 @@ mentions-stay P before [] h = h
 mentions-stay P before (object ∷ objects) h =
     let rest : All P objects = All-tail P object objects h in
     if-stays P (is_among before object) object (first_mentions before objects) (first_mentions (before ++ object ∷ []) objects) (All-head P object objects h)
-      (mentions-stay P before objects rest) (mentions-stay P (before ++ object ∷ []) objects rest)
+    (mentions-stay P before objects rest) (mentions-stay P (before ++ object ∷ []) objects rest)
 
 below-same : (n : ℕ) (a b : Meaning) → a ≡ b → IsBelow n a → IsBelow n b
 below-same n a b e h = subst (IsBelow n) e h
@@ -114,8 +114,8 @@ words-stay n declared line words made h e =
     let objects = step-is (all_there (map (object_named (entries_of declared)) sides.0.1.mentions)) _ made sides.2 in
     let meaning = step-is (meaning_by sides.0.1.joiner line objects.0) _ made objects.2 in
     let are : All (IsObject n) objects.0 =
-      all-gave (IsObject n) (object_named (entries_of declared)) sides.0.1.mentions objects.0
-        (λ name object q. object-found n (lookup (bytes_eq (folded name)) (entries_of declared)) object (All-lookup (IsBelow n) (bytes_eq (folded name)) (entries_of declared) (entries-stay n declared h)) q) objects.1 in
+    all-gave (IsObject n) (object_named (entries_of declared)) sides.0.1.mentions objects.0
+    (λ name object q. object-found n (lookup (bytes_eq (folded name)) (entries_of declared)) object (All-lookup (IsBelow n) (bytes_eq (folded name)) (entries_of declared) (entries-stay n declared h)) q) objects.1 in
     let same : declared_as sides.0.0 meaning.0 ≡ made = cc in
     below-same n meaning.0 made.meaning (ap (λ d. d.meaning) same) (meaning-stays n sides.0.1.joiner line objects.0 meaning.0 are meaning.1)
 
@@ -124,7 +124,7 @@ legend-stays n objects lines legend h e =
     let made = step-is (legend_declared (entries_of objects) lines) (if_new objects) legend e in
     let new = only_if-is _ made.0 legend made.2 in
     All-same (Stays n) legend made.0 (sym new.1)
-      (all-gave (Stays n) (declared_by (entries_of objects)) (written_lines lines) made.0 (λ line d q. words-stay n objects line.number (word_texts Legend line.bytes) d h q) made.1)
+    (all-gave (Stays n) (declared_by (entries_of objects)) (written_lines lines) made.0 (λ line d q. words-stay n objects line.number (word_texts Legend line.bytes) d h q) made.1)
 
 -- glyphs are of declared names
 glyph-stays : (n : ℕ) (character : Option ℕ) (meaning : Meaning) (glyphs : List Glyph) → IsBelow n meaning → All (λ (g : Glyph). IsBelow n g.meaning) glyphs
@@ -202,7 +202,7 @@ are-names words objects declared legend_lines lists layers count e l y few_objec
     let gave : layers_of n by_lists.0 ≡ Some layers = found.1 ∙ ap Some same in
     let long : length layers ≡ n = length-all_there _ layers gave ∙ length-map-range_with_len (λ number. layer_among 0 by_lists.0 (record { 0 = number })) 0 n in
     let below : All (λ layer. layer < length by_lists.0) layers =
-      all-gave (λ layer. layer < length by_lists.0) (λ number. layer_among 0 by_lists.0 (record { 0 = number })) (range_with_len 0 n) layers (λ number layer q. let less : layer < 0 + length by_lists.0 = layer-below 0 by_lists.0 (record { 0 = number }) layer q in omega arith) gave in
+    all-gave (λ layer. layer < length by_lists.0) (λ number. layer_among 0 by_lists.0 (record { 0 = number })) (range_with_len 0 n) layers (λ number layer q. let less : layer < 0 + length by_lists.0 = layer-below 0 by_lists.0 (record { 0 = number }) layer q in omega arith) gave in
     let below' : All (λ layer. layer < count) layers = subst (λ (m : ℕ). All (λ layer. layer < m) layers) counted below in
     let some : 1 ≤ n = some-words words (ap has_both are ∙ named) in
     record {
@@ -214,5 +214,5 @@ are-names words objects declared legend_lines lists layers count e l y few_objec
       names_below = subst (λ (m : ℕ). All (λ (e : List ℕ × Meaning). IsBelow m e.1) (entries_of declared)) (sym long) (entries-stay n declared all);
       glyphs_below = subst (λ (m : ℕ). All (λ (g : Glyph). IsBelow m g.meaning) (filter_map glyph_of declared)) (sym long) (glyphs-stay n declared all);
       background = subst (λ d. is_some (one_object (lookup (bytes_eq (folded (codes "background"))) (entries_of d))) ≡ true) legend.2 (still-one (bytes_eq (folded (codes "background"))) objects legend.0 each.0);
-      player = subst (λ d. is_some (one_object (lookup (bytes_eq (folded (codes "player"))) (entries_of d))) ≡ true) legend.2 (still-one (bytes_eq (folded (codes "player"))) objects legend.0 each.1)
+      player = subst (λ d. is_some (one_object (lookup (bytes_eq (folded (codes "player"))) (entries_of d))) ≡ true) legend.2 (still-one (bytes_eq (folded (codes "player"))) objects legend.0 each.1);
     }

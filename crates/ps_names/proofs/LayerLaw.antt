@@ -1,5 +1,5 @@
 -- The layers that the code finds, one line after the other, are the last ones that name each object.
-use Rattle.std.proofs.Common.{◌≡◌, ℕ, suc, ◌+◌, ◌<◌, ◌≤◌, Bool, true, false, cond, List, [], ◌∷◌, map, length, get_or, replicate, refl, sym, ap, ◌∙◌, Option, Some, None, arith, ◌||◌, rules, tests}
+use Rattle.std.proofs.Common.{◌≡◌, ℕ, suc, ◌+◌, ◌<◌, ◌≤◌, Bool, true, false, List, [], ◌∷◌, map, length, get_or, replicate, refl, sym, ap, ◌∙◌, Option, Some, None, arith, ◌||◌, rules, tests}
 use Rattle.std.specs.Prelude.{nat_eq, nat_le, slice_set, if◌then◌else◌, option_map}
 use Rattle.std.specs.List.{range_with_len}
 use Rattle.std.specs.Option.{option_or}
@@ -68,11 +68,11 @@ layers-placed objects lists =
     let layer : ℕ → Option ℕ = λ number. layer_among 0 lists (the_object number) in
     let long : length (placed_each 0 (replicate objects None) lists) ≡ objects = length-placed_each 0 (replicate objects None) lists ∙ length-replicate objects None in
     ap all_there (same_lists (placed_each 0 (replicate objects None) lists) (map layer (range_with_len 0 objects)) (long ∙ sym (length-map-range_with_len layer 0 objects))
-      (λ k d less.
-        let within : k < objects = omega (arith, long) in
-        placed_each-at 0 (replicate objects None) lists k d (rw length-replicate within)
-        ∙ ap (option_or (layer k)) (get_or-replicate objects k None d within) ∙ or_none (layer k)
-        ∙ sym (get_or-map-range_with_len layer 0 objects k k d within (omega arith))))
+    (λ k d less.
+    let within : k < objects = omega (arith, long) in
+    placed_each-at 0 (replicate objects None) lists k d (rw length-replicate within)
+    ∙ ap (option_or (layer k)) (get_or-replicate objects k None d within) ∙ or_none (layer k)
+    ∙ sym (get_or-map-range_with_len layer 0 objects k k d within (omega arith))))
 
 -- what the places give, once all lines are read
 pub layered-laid : (objects : ℕ) (entries : List (List ℕ × Meaning)) (lines : List Line) (old new : List (Option ℕ)) (count : ℕ) → old ≡ replicate objects None

@@ -1,7 +1,6 @@
 -- One name of a layer more, and one layer more.
-use Rattle.std.proofs.Common.{◌≡◌, ℕ, suc, ◌+◌, ◌<◌, drop, get_or, true, false, List, [], ◌∷◌, ◌++◌, map, length, refl, sym, ap, ◌∙◌, Option, Some, None, arith}
+use Rattle.std.proofs.Common.{◌≡◌, ℕ, suc, ◌+◌, ◌<◌, drop, get_or, true, false, List, [], ◌∷◌, ◌++◌, map, length, refl, ap, Option, Some, None, arith}
 use Rattle.std.specs.Prelude.{option_map, slice_set}
-use Rattle.std.specs.List.{flat_map}
 use Rattle.ps_model.specs.declared.pieces.ObjectId.{ObjectId}
 use Rattle.ps_model.specs.Names.{Meaning}
 use Rattle.ps_model.specs.Lines.{Line, line_at, is_there, is_blank_line}
@@ -11,7 +10,7 @@ use Rattle.ps_model.specs.ThinNames.{layer_objects, layer_named, layers_declared
 use Rattle.ps_text.specs.declared.cutting.Word.{Word}
 use Rattle.ps_text.specs.WordViews.{text_of}
 use Rattle.ps_names.specs.Here.{here}
-use Rattle.ps_names.specs.Places.{placed, placed_each, placed_all, laid}
+use Rattle.ps_names.specs.Places.{placed, placed_all, laid}
 
 pub placed-append : (layer : ℕ) (places : List (Option ℕ)) (xs ys : List ObjectId) → placed layer places (xs ++ ys) ≡ placed layer (placed layer places xs) ys
 placed-append layer places [] ys = refl

@@ -1,5 +1,5 @@
 -- The lines of a range of numbers, one after the other.
-use Rattle.std.proofs.Common.{◌≡◌, ℕ, zero, suc, ◌+◌, ◌-◌, ◌<◌, ◌≤◌, Bool, true, false, cond, List, [], ◌∷◌, ◌++◌, length, take, drop, get_or, filter, refl, sym, ap, ◌∙◌, arith, rules}
+use Rattle.std.proofs.Common.{◌≡◌, ℕ, zero, suc, ◌+◌, ◌-◌, ◌<◌, ◌≤◌, Bool, true, false, cond, List, [], ◌∷◌, ◌++◌, length, drop, refl, ◌∙◌, arith}
 use Rattle.std.specs.Prelude.{if◌then◌else◌, slice_index_or}
 use Rattle.std.proofs.Math.Seq.{drop-cons}
 use Rattle.ps_model.specs.declared.texts.Section.{Section}
@@ -24,7 +24,7 @@ between-step text line next end one less within e =
     let count : end - line ≡ suc (end - next) = omega arith in
     let place : next - 1 ≡ suc (line - 1) = omega arith in
     let first : drop (line - 1) (lines_of text) ≡ line_at text line ∷ drop (next - 1) (lines_of text) =
-      rw place (drop-cons (lines_of text) (line - 1) no_line (omega arith)) in
+    rw place (drop-cons (lines_of text) (line - 1) no_line (omega arith)) in
     rw (count, first) (one_more (is_there (line_at text line)) (line_at text line) (lines_between text next end))
 
 pub between-end : (text : List ℕ) (line end : ℕ) → end ≤ line → lines_between text line end ≡ []

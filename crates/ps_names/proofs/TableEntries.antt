@@ -1,5 +1,5 @@
 -- Look-ups in the code's table are look-ups among what is declared.
-use Rattle.std.proofs.Common.{◌≡◌, ℕ, List, [], ◌∷◌, ◌++◌, Bool, true, false, cond, map, refl, sym, ap, ◌∙◌, Option, None, Some, String, Global, is_some, ◌||◌, option_map, drop, suc, slice_get}
+use Rattle.std.proofs.Common.{◌≡◌, ℕ, List, [], ◌∷◌, ◌++◌, Bool, true, false, cond, map, refl, ap, ◌∙◌, Option, None, Some, String, Global, is_some, ◌||◌, option_map, drop, suc, slice_get}
 use Rattle.std.specs.String.{string_bytes, string_eq}
 use Rattle.std.specs.Map.{lookup}
 use Rattle.std.specs.List.{list_any}

@@ -1,7 +1,6 @@
 -- The entries of the code's table as what the definitions say is declared.
-use Rattle.std.specs.Prelude.{ℕ, List, String, string_bytes}
+use Rattle.std.specs.Prelude.{String, string_bytes}
 use Rattle.std.specs.Global.{Global}
-use Rattle.ps_model.specs.Names as model
 use Rattle.ps_model.specs.ThinNames.{Declared}
 use Rattle.ps_names.specs.declared.table.Entry.{Entry}
 use Rattle.ps_names.specs.Shown.{meaning_shown}

@@ -1,5 +1,5 @@
 -- The layers of the objects as they are known above a line of COLLISIONLAYERS, by the objects' numbers.
-use Rattle.std.specs.Prelude.{ℕ, suc, ◌+◌, List, [], ◌∷◌, Option, Some, None, option_map, slice_set, length}
+use Rattle.std.specs.Prelude.{ℕ, suc, ◌+◌, List, [], ◌∷◌, Option, Some, option_map, slice_set, length}
 use Rattle.std.specs.List.{flat_map}
 use Rattle.ps_model.specs.declared.pieces.ObjectId.{ObjectId}
 

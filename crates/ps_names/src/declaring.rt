@@ -18,7 +18,12 @@ use ps_model::ObjectId;
 use std::alloc::Global;
 
 /// Declares the names of the object of a number. `NotYet`: one of them is declared already.
-fn declare_object(alloc: Global, table: &mut Table, object: ObjectLine<'_>, number: u32) -> Result<(), NameFault>
+fn declare_object(
+    alloc: Global,
+    table: &mut Table,
+    object: ObjectLine<'_>,
+    number: u32,
+) -> Result<(), NameFault>
     ensures ok { OnOk result (table.new ≡ table.old ++ object_declared number (words_of object.entry)) }
     ensures new { OnOk result ((names : List (List ℕ)) → are_new (names_of table.old) (names_of (object_declared number (words_of object.entry)) ++ names) ≡ are_new (names_of table.new) names) }
     ensures not_yet { IfErr result (λ e. e ≡ NotYet → (names : List (List ℕ)) → are_new (names_of table.old) (names_of (object_declared number (words_of object.entry)) ++ names) ≡ false) }
@@ -64,7 +69,11 @@ pub fn has_both(table: &Table) -> bool
 }
 
 /// Declares what a legend line does. `NotYet`: its name is declared already.
-fn declare_line(alloc: Global, table: &mut Table, declaration: &Declaration<'_>) -> Result<(), NameFault>
+fn declare_line(
+    alloc: Global,
+    table: &mut Table,
+    declaration: &Declaration<'_>,
+) -> Result<(), NameFault>
     ensures ok { OnOk result (table.new ≡ table.old ++ declaration_shown declaration.now ∷ []) }
     ensures new { OnOk result ((names : List (List ℕ)) → are_new (names_of table.old) ((declaration_shown declaration.now).name ∷ names) ≡ are_new (names_of table.new) names) }
     ensures not_yet { IfErr result (λ e. e ≡ NotYet → (names : List (List ℕ)) → are_new (names_of table.old) ((declaration_shown declaration.now).name ∷ names) ≡ false) }
@@ -75,7 +84,11 @@ fn declare_line(alloc: Global, table: &mut Table, declaration: &Declaration<'_>)
 }
 
 /// Declares what the legend does. `NotYet`: a name is declared already, or twice.
-pub fn declare_legend(alloc: Global, table: &mut Table, legend: &[Declaration<'_>]) -> Result<(), NameFault>
+pub fn declare_legend(
+    alloc: Global,
+    table: &mut Table,
+    legend: &[Declaration<'_>],
+) -> Result<(), NameFault>
     ensures ok { OnOk result (table.new ≡ table.old ++ all_declared legend.now) }
     ensures new { OnOk result (if_new table.old (all_declared legend.now) ≡ Some (all_declared legend.now)) }
     ensures not_yet { IfErr result (λ e. e ≡ NotYet → if_new table.old (all_declared legend.now) ≡ None) }

@@ -39,7 +39,11 @@ fn place_each(places: &mut [Option<u32>], layer: u32, objects: &[ObjectId])
 }
 
 /// Puts on a layer what a name of its line stands for: an object, or the members of a property.
-fn place_meaning(places: &mut [Option<u32>], layer: u32, meaning: Option<&Meaning>) -> Result<(), NameFault>
+fn place_meaning(
+    places: &mut [Option<u32>],
+    layer: u32,
+    meaning: Option<&Meaning>,
+) -> Result<(), NameFault>
     ensures ok { OnOk result (option_map (placed layer places.old) (layer_meaning (option_map (λ m. meaning_shown m.now) meaning.entry)) ≡ Some places.new) }
     ensures not_yet { IfErr result (λ e. e ≡ NotYet → layer_meaning (option_map (λ m. meaning_shown m.now) meaning.entry) ≡ None) }
 {
@@ -58,7 +62,13 @@ fn place_meaning(places: &mut [Option<u32>], layer: u32, meaning: Option<&Meanin
 }
 
 /// Puts on a layer what a name stands for.
-fn place_named(alloc: Global, places: &mut [Option<u32>], layer: u32, table: &Table, name: &str) -> Result<(), NameFault>
+fn place_named(
+    alloc: Global,
+    places: &mut [Option<u32>],
+    layer: u32,
+    table: &Table,
+    name: &str,
+) -> Result<(), NameFault>
     ensures ok { OnOk result (option_map (placed layer places.old) (layer_named (entries_of table.now) name.now) ≡ Some places.new) }
     ensures not_yet { IfErr result (λ e. e ≡ NotYet → layer_named (entries_of table.now) name.now ≡ None) }
 {
@@ -68,7 +78,13 @@ fn place_named(alloc: Global, places: &mut [Option<u32>], layer: u32, table: &Ta
 }
 
 /// Puts on a layer what the words of its line name.
-fn place_words(alloc: Global, places: &mut [Option<u32>], layer: u32, table: &Table, words: &[Word<'_>]) -> Result<(), NameFault>
+fn place_words(
+    alloc: Global,
+    places: &mut [Option<u32>],
+    layer: u32,
+    table: &Table,
+    words: &[Word<'_>],
+) -> Result<(), NameFault>
     ensures ok { OnOk result (option_map (placed layer places.old) (layer_words (entries_of table.now) (map text_of words.now)) ≡ Some places.new) }
     ensures not_yet { IfErr result (λ e. e ≡ NotYet → layer_words (entries_of table.now) (map text_of words.now) ≡ None) }
 {
@@ -82,7 +98,14 @@ fn place_words(alloc: Global, places: &mut [Option<u32>], layer: u32, table: &Ta
 }
 
 /// Goes over a line, if it is there and not blank: it is the next layer. Tells how many layers there are up to it.
-fn over(alloc: Global, source: &Source, line: u32, table: &Table, places: &mut [Option<u32>], count: u32) -> Result<u32, NameFault>
+fn over(
+    alloc: Global,
+    source: &Source,
+    line: u32,
+    table: &Table,
+    places: &mut [Option<u32>],
+    count: u32,
+) -> Result<u32, NameFault>
     requires from_one { 1 ≤ line }
     requires there { line ≤ length (lines_of source.now) }
     requires few { count < line }
@@ -103,7 +126,13 @@ fn over(alloc: Global, source: &Source, line: u32, table: &Table, places: &mut [
 
 /// Goes over the lines of COLLISIONLAYERS: puts each object on the last layer that names it, and tells how many layers
 /// there are. `NotYet`: a line isn't of the form that is read.
-pub fn read_layers(alloc: Global, source: &Source, lines: Range<u32>, table: &Table, places: &mut [Option<u32>]) -> Result<u32, NameFault>
+pub fn read_layers(
+    alloc: Global,
+    source: &Source,
+    lines: Range<u32>,
+    table: &Table,
+    places: &mut [Option<u32>],
+) -> Result<u32, NameFault>
     requires from_one { 1 ≤ lines.start }
     requires ordered { lines.start ≤ lines.end }
     requires there { lines.end ≤ length (lines_of source.now) + 1 }

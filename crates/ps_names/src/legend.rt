@@ -47,7 +47,11 @@ fn has_word(words: &[Word<'_>], wanted: &str) -> bool
 }
 
 /// The names of words of which every other one, between two names, is the joiner, which is given with its letters folded.
-fn joined_names<'a>(alloc: Global, words: &[Word<'a>], joiner: &str) -> Result<Vec<&'a str>, NameFault>
+fn joined_names<'a>(
+    alloc: Global,
+    words: &[Word<'a>],
+    joiner: &str,
+) -> Result<Vec<&'a str>, NameFault>
     ensures ok { IfOk result (λ names. joined_by joiner.now (map text_of words.now) ≡ Some (map (λ n. n.now) names.items)) }
     ensures not_yet { IfErr result (λ e. e ≡ NotYet → joined_by joiner.now (map text_of words.now) ≡ None) }
 {
@@ -78,14 +82,23 @@ fn read_right_side<'a>(alloc: Global, words: &[Word<'a>]) -> Result<RightSide<'a
     if words.len() == 1 {
         let mut names = Vec::new(alloc);
         names.push(words[0].text())?;
-        return Ok(RightSide { joiner: Joiner::Alone, names });
+        return Ok(RightSide {
+            joiner: Joiner::Alone,
+            names,
+        });
     }
     if folds_to(words[1].text(), "and") {
         let names = joined_names(alloc, words, "and")?;
-        return Ok(RightSide { joiner: Joiner::And, names });
+        return Ok(RightSide {
+            joiner: Joiner::And,
+            names,
+        });
     }
     let names = joined_names(alloc, words, "or")?;
-    Ok(RightSide { joiner: Joiner::Or, names })
+    Ok(RightSide {
+        joiner: Joiner::Or,
+        names,
+    })
 }
 
 /// The object of a name, by the names of the objects.
@@ -138,7 +151,12 @@ fn first_mentions(alloc: Global, objects: &[ObjectId]) -> Result<List<ObjectId>,
 }
 
 /// What a name stands for whose legend line names these objects.
-fn meaning_by(alloc: Global, joiner: Joiner, line: u32, objects: &[ObjectId]) -> Result<Meaning, NameFault>
+fn meaning_by(
+    alloc: Global,
+    joiner: Joiner,
+    line: u32,
+    objects: &[ObjectId],
+) -> Result<Meaning, NameFault>
     ensures ok { IfOk result (λ meaning. meaning_by joiner line objects.now ≡ Some (meaning_shown meaning)) }
     ensures not_yet { IfErr result (λ e. e ≡ NotYet → meaning_by joiner line objects.now ≡ None) }
 {
@@ -180,7 +198,12 @@ fn read_sides<'a>(alloc: Global, words: &[Word<'a>]) -> Result<RightSide<'a>, Na
 }
 
 /// What the words of a legend line declare.
-fn read_declaration<'a>(alloc: Global, objects: &Table, line: u32, words: &[Word<'a>]) -> Result<Declaration<'a>, NameFault>
+fn read_declaration<'a>(
+    alloc: Global,
+    objects: &Table,
+    line: u32,
+    words: &[Word<'a>],
+) -> Result<Declaration<'a>, NameFault>
     ensures ok { IfOk result (λ made. declared_words (entries_of objects.now) line (map text_of words.now) ≡ Some (declaration_shown made)) }
     ensures not_yet { IfErr result (λ e. e ≡ NotYet → declared_words (entries_of objects.now) line (map text_of words.now) ≡ None) }
 {
@@ -192,7 +215,13 @@ fn read_declaration<'a>(alloc: Global, objects: &Table, line: u32, words: &[Word
 }
 
 /// Goes over a line, if it is there and not blank: keeps what it declares.
-fn over<'a>(alloc: Global, source: &'a Source, line: u32, objects: &Table, made: &mut Vec<Declaration<'a>>) -> Result<(), NameFault>
+fn over<'a>(
+    alloc: Global,
+    source: &'a Source,
+    line: u32,
+    objects: &Table,
+    made: &mut Vec<Declaration<'a>>,
+) -> Result<(), NameFault>
     requires from_one { 1 ≤ line }
     requires there { line ≤ length (lines_of source.now) }
     ensures ok { OnOk result ((rest : List Line) → behind (all_declared made.new.items) (legend_declared (entries_of objects.now) rest) ≡ behind (all_declared made.old.items) (legend_declared (entries_of objects.now) (here source.now line ++ rest))) }
@@ -211,7 +240,12 @@ fn over<'a>(alloc: Global, source: &'a Source, line: u32, objects: &Table, made:
 }
 
 /// What the lines of LEGEND declare over the names of the objects, in order. `NotYet`: a line isn't of the form that is read.
-pub fn read_legend<'a>(alloc: Global, source: &'a Source, lines: Range<u32>, objects: &Table) -> Result<Vec<Declaration<'a>>, NameFault>
+pub fn read_legend<'a>(
+    alloc: Global,
+    source: &'a Source,
+    lines: Range<u32>,
+    objects: &Table,
+) -> Result<Vec<Declaration<'a>>, NameFault>
     requires from_one { 1 ≤ lines.start }
     requires ordered { lines.start ≤ lines.end }
     requires there { lines.end ≤ length (lines_of source.now) + 1 }

@@ -15,6 +15,8 @@ mod names;
 mod objects;
 mod read;
 mod table;
+#[cfg(test)]
+mod tests;
 
 pub use fault::NameFault;
 pub use glyphs::Glyph;

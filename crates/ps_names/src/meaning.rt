@@ -28,18 +28,24 @@ fn objects_copied(alloc: Global, objects: &List<ObjectId>) -> Result<List<Object
 
 impl Meaning {
     /// The same meaning once more.
-    pub fn copied(&self, alloc: Global) -> Result<Meaning, AllocError>
+    pub(crate) fn copied(&self, alloc: Global) -> Result<Meaning, AllocError>
         ensures { IfOk result (λ copy. copy ≡ self.now) }
     {
         match self {
             Meaning::One(object) => Ok(Meaning::One(*object)),
             Meaning::All { line, objects } => {
                 let objects = objects_copied(alloc, objects)?;
-                Ok(Meaning::All { line: *line, objects })
+                Ok(Meaning::All {
+                    line: *line,
+                    objects,
+                })
             }
             Meaning::Any { line, objects } => {
                 let objects = objects_copied(alloc, objects)?;
-                Ok(Meaning::Any { line: *line, objects })
+                Ok(Meaning::Any {
+                    line: *line,
+                    objects,
+                })
             }
         }
     }

@@ -72,7 +72,10 @@ fn named<'a>(words: &[Word<'a>]) -> Option<ObjectLine<'a>>
     if one_character(second).is_none() {
         return None;
     }
-    Some(ObjectLine { name, second: Some(second) })
+    Some(ObjectLine {
+        name,
+        second: Some(second),
+    })
 }
 
 /// Whether the line names an object.
@@ -142,7 +145,13 @@ fn may_end(stage: ObjectStage) -> bool
 }
 
 /// Goes over a line that is there: keeps what it names, and tells how to go on.
-fn over_line<'a>(alloc: Global, source: &'a Source, line: u32, stage: ObjectStage, made: &mut Vec<ObjectLine<'a>>) -> Result<ObjectStage, NameFault>
+fn over_line<'a>(
+    alloc: Global,
+    source: &'a Source,
+    line: u32,
+    stage: ObjectStage,
+    made: &mut Vec<ObjectLine<'a>>,
+) -> Result<ObjectStage, NameFault>
     requires from_one { 1 ≤ line }
     requires there { line ≤ length (lines_of source.now) }
     ensures good { OnOk result (is_good_line stage (line_at source.now line) ≡ true) }
@@ -165,7 +174,13 @@ fn over_line<'a>(alloc: Global, source: &'a Source, line: u32, stage: ObjectStag
 }
 
 /// Goes over a line as `over_line` does, if it is there.
-fn over<'a>(alloc: Global, source: &'a Source, line: u32, stage: ObjectStage, made: &mut Vec<ObjectLine<'a>>) -> Result<ObjectStage, NameFault>
+fn over<'a>(
+    alloc: Global,
+    source: &'a Source,
+    line: u32,
+    stage: ObjectStage,
+    made: &mut Vec<ObjectLine<'a>>,
+) -> Result<ObjectStage, NameFault>
     requires from_one { 1 ≤ line }
     requires there { line ≤ length (lines_of source.now) }
     ensures good { IfOk result (λ next. (rest : List Line) → are_good_lines stage (here source.now line ++ rest) ≡ are_good_lines next rest) }
@@ -180,7 +195,11 @@ fn over<'a>(alloc: Global, source: &'a Source, line: u32, stage: ObjectStage, ma
 }
 
 /// The lines that name objects, in order. `NotYet`: a line has a fault, or there are more objects than the limit.
-pub fn read_objects<'a>(alloc: Global, source: &'a Source, lines: Range<u32>) -> Result<Vec<ObjectLine<'a>>, NameFault>
+pub fn read_objects<'a>(
+    alloc: Global,
+    source: &'a Source,
+    lines: Range<u32>,
+) -> Result<Vec<ObjectLine<'a>>, NameFault>
     requires from_one { 1 ≤ lines.start }
     requires ordered { lines.start ≤ lines.end }
     requires there { lines.end ≤ length (lines_of source.now) + 1 }

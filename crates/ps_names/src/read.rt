@@ -41,7 +41,12 @@ fn name_objects(alloc: Global, objects: &[ObjectLine<'_>]) -> Result<Table, Name
 
 /// Reads LEGEND, and declares its names beside those of the objects. `NotYet`: a line isn't of the form that is read, or
 /// a name is declared twice.
-fn name_others(alloc: Global, source: &Source, lines: Range<u32>, table: &mut Table) -> Result<(), NameFault>
+fn name_others(
+    alloc: Global,
+    source: &Source,
+    lines: Range<u32>,
+    table: &mut Table,
+) -> Result<(), NameFault>
     requires from_one { 1 ≤ lines.start }
     requires ordered { lines.start ≤ lines.end }
     requires there { lines.end ≤ length (lines_of source.now) + 1 }
@@ -62,7 +67,13 @@ struct Layering {
 
 /// Reads COLLISIONLAYERS. `NotYet`: a line isn't of the form that is read, there are more layers than the limit, or an
 /// object has none.
-fn layer_objects(alloc: Global, source: &Source, lines: Range<u32>, table: &Table, objects: usize) -> Result<Layering, NameFault>
+fn layer_objects(
+    alloc: Global,
+    source: &Source,
+    lines: Range<u32>,
+    table: &Table,
+    objects: usize,
+) -> Result<Layering, NameFault>
     requires from_one { 1 ≤ lines.start }
     requires ordered { lines.start ≤ lines.end }
     requires there { lines.end ≤ length (lines_of source.now) + 1 }
@@ -84,7 +95,13 @@ fn layer_objects(alloc: Global, source: &Source, lines: Range<u32>, table: &Tabl
 ///
 /// `NotYet` if a section has a fault or isn't of the thin form: a legend line names anything but objects on its right,
 /// or `Background` or `Player` isn't an object. `Memory` if a growth was refused.
-pub fn read_names(alloc: Global, source: &Source, objects: Range<u32>, legend: Range<u32>, layers: Range<u32>) -> Result<Names, NameFault>
+pub fn read_names(
+    alloc: Global,
+    source: &Source,
+    objects: Range<u32>,
+    legend: Range<u32>,
+    layers: Range<u32>,
+) -> Result<Names, NameFault>
     requires objects_from_one { 1 ≤ objects.start }
     requires objects_ordered { objects.start ≤ objects.end }
     requires objects_there { objects.end ≤ length (lines_of source.now) + 1 }
@@ -106,5 +123,10 @@ pub fn read_names(alloc: Global, source: &Source, objects: Range<u32>, legend: R
         return Err(NameFault::NotYet);
     }
     let glyphs = all_glyphs(alloc, &table)?;
-    Ok(Names { table, layers: layering.layers, layer_count: layering.count, glyphs })
+    Ok(Names {
+        table,
+        layers: layering.layers,
+        layer_count: layering.count,
+        glyphs,
+    })
 }

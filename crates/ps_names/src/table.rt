@@ -9,11 +9,11 @@ ghost use Rattle.ps_model.specs.ThinNames.{entries_of, names_of, declared_as, on
 ghost use Rattle.ps_names.specs.Shown.{meaning_shown};
 ghost use Rattle.ps_names.specs.declared.fault.NameFault.TheVariants.{NotYet};
 
-use std::alloc::Global;
-use std::marker::Model;
-use indexmap::IndexMap;
 use crate::fault::NameFault;
 use crate::meaning::Meaning;
+use indexmap::IndexMap;
+use std::alloc::Global;
+use std::marker::Model;
 
 /// What a declared name has.
 #[derive(Drop)]
@@ -57,7 +57,9 @@ impl Table {
     pub fn new(alloc: Global) -> Table
         ensures { result ≡ [] }
     {
-        Table { names: IndexMap::new(alloc) }
+        Table {
+            names: IndexMap::new(alloc),
+        }
     }
 
     /// What a name stands for, which is given with its letters folded.
@@ -108,7 +110,12 @@ impl Table {
     }
 
     /// Declares a name as it is written. `NotYet`: it is declared already, and the table stays as it was.
-    pub fn declare(&mut self, alloc: Global, written: &str, meaning: Meaning) -> Result<(), NameFault>
+    pub fn declare(
+        &mut self,
+        alloc: Global,
+        written: &str,
+        meaning: Meaning,
+    ) -> Result<(), NameFault>
         ensures ok { OnOk result (self.new ≡ self.old ++ declared_as written.now (meaning_shown meaning) ∷ []) }
         ensures new { OnOk result (list_any (bytes_eq (folded written.now)) (names_of self.old) ≡ false) }
         ensures again { IfErr result (λ e. e ≡ NotYet → list_any (bytes_eq (folded written.now)) (names_of self.old) ≡ true) }

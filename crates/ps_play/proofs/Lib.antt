@@ -1,9 +1,11 @@
 mod Bringing
+mod Games
 mod LinesBetween
 mod Objects
 mod Painting
 mod Pieces
 mod Reaching
+mod RowSteps
 mod SectionEnds
 mod SectionLines
 mod SectionsTold

@@ -13,4 +13,4 @@ pub record IsPlayable (names : Names) (level : Level) : Type 0 where
   pub rows : level.height ≤ side_limit
   pub cells : length level.cells ≡ level.width * level.height
   pub objects : AreObjects names level.cells
-  pub names : AreNames names
+  pub facts : AreNames names

@@ -1,9 +1,9 @@
 //! What stands above all sections: the title, and options.
 
-ghost use Rattle.std.specs.Prelude.{◌≡◌, ◌≤◌, length, IfOk, IfSome, slice_index_or, [], option_map, map};
+ghost use Rattle.std.specs.Prelude.{◌≡◌, ◌≤◌, ◌&&◌, length, IfOk, IfSome, slice_index_or, [], option_map, map};
 ghost use Rattle.std.specs.List.{list_any};
 ghost use Rattle.std.specs.Str.{bytes_eq};
-ghost use Rattle.ps_model.specs.Lines.{lines_of, line_at, folded, taken_text};
+ghost use Rattle.ps_model.specs.Lines.{lines_of, line_at, folded, is_there, taken_text};
 ghost use Rattle.ps_model.specs.ThinNames.{lines_between};
 ghost use Rattle.ps_model.specs.ThinGame.{is_option, is_title, option_words, text_at, title_of};
 ghost use Rattle.ps_text.specs.WordViews.{text_of};
@@ -36,22 +36,28 @@ fn begin_option(words: &[Word<'_>]) -> bool
         || begins_with(words, "realtime_interval")
 }
 
-/// Whether the line is one of an option, or asks for real time.
+/// Whether the line is there and is one of an option, or asks for real time.
 fn is_option(alloc: Global, source: &Source, line: u32) -> Result<bool, Memory>
     requires from_one { 1 ≤ line }
     requires there { line ≤ length (lines_of source.now) }
-    ensures { IfOk result (λ told. told ≡ is_option (line_at source.now line)) }
+    ensures { IfOk result (λ told. told ≡ (is_there (line_at source.now line) && is_option (line_at source.now line))) }
 {
+    if !source.is_there(line) {
+        return Ok(false);
+    }
     let words = words(alloc, source, line, Cut::Plain)?;
     Ok(begin_option(&words))
 }
 
-/// Whether the line begins with `title`.
+/// Whether the line is there and begins with `title`.
 fn is_title(alloc: Global, source: &Source, line: u32) -> Result<bool, Memory>
     requires from_one { 1 ≤ line }
     requires there { line ≤ length (lines_of source.now) }
-    ensures { IfOk result (λ told. told ≡ is_title (line_at source.now line)) }
+    ensures { IfOk result (λ told. told ≡ (is_there (line_at source.now line) && is_title (line_at source.now line))) }
 {
+    if !source.is_there(line) {
+        return Ok(false);
+    }
     let words = words(alloc, source, line, Cut::Plain)?;
     Ok(begins_with(&words, "title"))
 }
@@ -62,7 +68,7 @@ pub fn has_option(alloc: Global, source: &Source, lines: Range<u32>) -> Result<b
     ensures { IfOk result (λ told. told ≡ list_any is_option (lines_between source.now lines.start lines.end)) }
 {
     for line in lines.start..lines.end {
-        if source.is_there(line) && is_option(alloc, source, line)? {
+        if is_option(alloc, source, line)? {
             return Ok(true);
         }
     }
@@ -87,7 +93,7 @@ pub fn read_title(alloc: Global, source: &Source, lines: Range<u32>) -> Result<T
     ensures { IfOk result (λ title. title ≡ title_of source.now (lines_between source.now lines.start lines.end)) }
 {
     for line in lines.start..lines.end {
-        if source.is_there(line) && is_title(alloc, source, line)? {
+        if is_title(alloc, source, line)? {
             return text_taken(alloc, source, line);
         }
     }

@@ -6,5 +6,5 @@ use Rattle.ps_names.proofs.layers.place_words.Goals as goal
 pub loop-word-preserved : goal.loop-word-preserved
 loop-word-preserved c =
     word-step c.args.layer c.loop-word.places c.place_named.new.places (entries_of c.args.table.now) c.args.words.now c.loop-word.word-index (c.loop-word.word-index + 1) _ c.text.result.now
-      (omega arith) (omega arith) c.text.ensures c.in_ok-place_named.ensures.ok
+    (omega arith) (omega arith) c.text.ensures c.in_ok-place_named.ensures.ok
     ∙ c.loop-word.invariant

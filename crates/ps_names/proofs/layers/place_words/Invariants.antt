@@ -1,10 +1,8 @@
 use Rattle.std.proofs.Common.{◌≡◌, map, drop}
-use Rattle.std.specs.Prelude.{option_map}
-use Rattle.std.specs.List.{flat_map}
 use Rattle.ps_model.specs.OptionSteps.{all_there}
 use Rattle.ps_model.specs.ThinNames.{layer_named, entries_of}
 use Rattle.ps_text.specs.WordViews.{text_of}
-use Rattle.ps_names.specs.Places.{placed, placed_all}
+use Rattle.ps_names.specs.Places.{placed_all}
 use Rattle.ps_names.proofs.layers.place_words.Given as goal
 
 abbrev pub invariant-loop-word : goal.invariant-loop-word

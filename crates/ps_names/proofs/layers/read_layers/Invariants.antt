@@ -7,4 +7,4 @@ abbrev pub invariant-loop-line : goal.invariant-loop-line
 invariant-loop-line l =
     (l.count < l.line)
     × (laid l.places l.count (layers_declared (entries_of l.table) (lines_between l.source l.line l.fn.lines.end))
-      ≡ laid l.initial.places 0 (layers_declared (entries_of l.table) (lines_between l.source l.fn.lines.start l.fn.lines.end)))
+    ≡ laid l.initial.places 0 (layers_declared (entries_of l.table) (lines_between l.source l.fn.lines.start l.fn.lines.end)))

@@ -1,12 +1,11 @@
-use Rattle.std.proofs.Common.{◌≡◌, ◌∙◌, ◌+◌, sym, ap, refl, rules, arith, List, ℕ, None, Option, Some}
-use Rattle.std.specs.Prelude.{option_map}
+use Rattle.std.proofs.Common.{◌≡◌, ◌∙◌, ◌+◌, sym, ap, refl, rules, arith, List, ℕ, None}
 use Rattle.ps_model.specs.Lines.{Line}
-use Rattle.ps_model.specs.ThinNames.{Declared, entries_of, legend_declared, lines_between}
+use Rattle.ps_model.specs.ThinNames.{entries_of, legend_declared, lines_between}
 use Rattle.ps_names.specs.declared.fault.NameFault.{NameFault}
 use Rattle.ps_names.specs.declared.fault.NameFault.TheVariants.{NotYet}
 use Rattle.ps_names.specs.Behind.{behind}
 use Rattle.ps_names.specs.LegendSides.{all_declared}
-use Rattle.ps_names.proofs.LinesBetween.{between-step, between-end}
+use Rattle.ps_names.proofs.LinesBetween.{between-step}
 use Rattle.ps_names.proofs.legend.read_legend.Goals as goal
 
 pub returns-in_err-over-clause-not_yet : goal.returns-in_err-over-clause-not_yet
@@ -17,7 +16,7 @@ returns-in_err-over-clause-not_yet c =
     let step = between-step text line (line + 1) end (omega arith) (omega arith) (omega arith) refl in
     let fault : NameFault = c.in_err-over.field-0.0 in
     let told : fault ≡ NotYet → legend_declared (entries_of c.args.objects.now) (lines_between text c.args.lines.start end) ≡ None =
-      λ e. sym c.loop-line.invariant ∙ ap (behind (all_declared c.loop-line.made.items)) (ap (legend_declared (entries_of c.args.objects.now)) step ∙ c.in_err-over.ensures.not_yet e (lines_between text (line + 1) end)) in
+    λ e. sym c.loop-line.invariant ∙ ap (behind (all_declared c.loop-line.made.items)) (ap (legend_declared (entries_of c.args.objects.now)) step ∙ c.in_err-over.ensures.not_yet e (lines_between text (line + 1) end)) in
     search (rules, told)
 
 pub loop-line-preserved : goal.loop-line-preserved

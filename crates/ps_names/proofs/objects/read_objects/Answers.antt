@@ -1,6 +1,5 @@
-use Rattle.std.proofs.Common.{◌≡◌, ◌∙◌, ◌+◌, ◌++◌, sym, ap, refl, rules, arith, List, ℕ, None, true, false}
+use Rattle.std.proofs.Common.{◌≡◌, ◌∙◌, ◌+◌, ◌++◌, sym, ap, refl, rules, arith, List, ℕ, None, true}
 use Rattle.std.proofs.lemmas.List.{append-nil, length-map}
-use Rattle.ps_model.specs.declared.texts.ObjectStage.TheVariants.{Between}
 use Rattle.ps_model.specs.Lines.{Line}
 use Rattle.ps_model.specs.ThinNames.{are_good_lines, name_words, lines_between, object_words, may_end}
 use Rattle.ps_names.specs.declared.fault.NameFault.{NameFault}
@@ -18,7 +17,7 @@ returns-in_err-stage-clause-not_yet c =
     let step = between-step text line (line + 1) end (omega arith) (omega arith) (omega arith) refl in
     let fault : NameFault = c.in_err-stage.field-0.0 in
     let told : fault ≡ NotYet → object_words (lines_between text c.args.lines.start end) ≡ None =
-      λ e. no_words (lines_between text c.args.lines.start end) (sym c.loop-line.invariant.0 ∙ ap (λ (xs : List Line). are_good_lines c.loop-line.stage xs) step ∙ c.in_err-stage.ensures.not_yet e _) in
+    λ e. no_words (lines_between text c.args.lines.start end) (sym c.loop-line.invariant.0 ∙ ap (λ (xs : List Line). are_good_lines c.loop-line.stage xs) step ∙ c.in_err-stage.ensures.not_yet e _) in
     search (rules, told)
 
 pub loop-line-preserved : goal.loop-line-preserved
@@ -26,9 +25,10 @@ loop-line-preserved c =
     let text : List ℕ = c.args.source.now in
     let end : ℕ = c.args.lines.end in
     let line : ℕ = c.loop-line.line in
-    let step = between-step text line (line + 1) end (omega arith) (omega arith) (omega arith) refl in
-    (sym (c.in_ok-stage.ensures.good _) ∙ ap (λ (xs : List Line). are_good_lines c.loop-line.stage xs) (sym step) ∙ c.loop-line.invariant.0,
-      c.in_ok-stage.ensures.made _ ∙ ap (λ (xs : List Line). all_words c.loop-line.made.items ++ name_words c.loop-line.stage xs) (sym step) ∙ c.loop-line.invariant.1)
+    let step = between-step text line (line + 1) end (omega arith) (omega arith) (omega arith) refl in (
+      sym (c.in_ok-stage.ensures.good _) ∙ ap (λ (xs : List Line). are_good_lines c.loop-line.stage xs) (sym step) ∙ c.loop-line.invariant.0,
+      c.in_ok-stage.ensures.made _ ∙ ap (λ (xs : List Line). all_words c.loop-line.made.items ++ name_words c.loop-line.stage xs) (sym step) ∙ c.loop-line.invariant.1,
+    )
 
 pub returns-clause-ok : goal.returns-clause-ok
 returns-clause-ok c =
@@ -36,5 +36,5 @@ returns-clause-ok c =
     let done = between-end text c.loop-line.line c.args.lines.end (omega arith) in
     let ends : may_end c.loop-line.stage ≡ true = search rules in
     some_words (lines_between text c.args.lines.start c.args.lines.end) (all_words c.loop-line.made.items)
-      (sym c.loop-line.invariant.0 ∙ ap (λ (xs : List Line). are_good_lines c.loop-line.stage xs) done ∙ ends)
-      (sym c.loop-line.invariant.1 ∙ ap (λ (xs : List Line). all_words c.loop-line.made.items ++ name_words c.loop-line.stage xs) done ∙ simp append-nil) (rw length-map (omega (arith, c.loop-line.made.ok.0)))
+    (sym c.loop-line.invariant.0 ∙ ap (λ (xs : List Line). are_good_lines c.loop-line.stage xs) done ∙ ends)
+    (sym c.loop-line.invariant.1 ∙ ap (λ (xs : List Line). all_words c.loop-line.made.items ++ name_words c.loop-line.stage xs) done ∙ simp append-nil) (rw length-map (omega (arith, c.loop-line.made.ok.0)))

@@ -1,4 +1,4 @@
-use Rattle.std.proofs.Common.{◌≡◌, ◌++◌, ◌≤◌}
+use Rattle.std.proofs.Common.{◌≡◌, ◌++◌}
 use Rattle.ps_model.specs.declared.texts.ObjectStage.TheVariants.{Between}
 use Rattle.ps_model.specs.ThinNames.{are_good_lines, name_words, lines_between}
 use Rattle.ps_names.specs.ObjectLines.{all_words}

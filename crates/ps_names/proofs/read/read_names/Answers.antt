@@ -1,15 +1,12 @@
-use Rattle.std.proofs.Common.{◌≡◌, ◌∙◌, ◌++◌, ◌≤◌, ap, sym, rules, arith, None, Some, List, ℕ, length, true, false, subst}
-use Rattle.std.specs.Prelude.{Option, option_map}
-use Rattle.std.specs.List.{filter_map}
+use Rattle.std.proofs.Common.{◌≡◌, ◌∙◌, ◌++◌, ◌≤◌, ap, sym, rules, None, Some, List, ℕ, length, true, false, subst}
+use Rattle.std.specs.Prelude.{option_map}
 use Rattle.std.proofs.lemmas.List.{length-map}
 use Rattle.ps_model.specs.Limits.{object_limit}
 use Rattle.ps_model.specs.Lines.{Line}
-use Rattle.ps_model.specs.Names.{Names, Glyph}
+use Rattle.ps_model.specs.Names.{Glyph}
 use Rattle.ps_model.specs.NamesFacts.{AreNames}
-use Rattle.ps_model.specs.ThinNames.{Declared, entries_of, lines_between, object_words, object_names, layer_lists, are_all_apart, thin_names, glyph_of, legend_names}
+use Rattle.ps_model.specs.ThinNames.{entries_of, lines_between, object_words, object_names, layer_lists, are_all_apart, thin_names, legend_names}
 use Rattle.ps_names.specs.ObjectLines.{words_of, all_words}
-use Rattle.ps_names.specs.GlyphsShown.{glyphs_shown}
-use Rattle.ps_names.specs.NamesShown.{names_shown}
 use Rattle.ps_names.specs.Layered.{layered}
 use Rattle.ps_names.specs.declared.fault.NameFault.{NameFault}
 use Rattle.ps_names.specs.declared.fault.NameFault.TheVariants.{NotYet}
@@ -29,9 +26,9 @@ returns-in_err-layering-clause-not_yet c =
     let count : c.len.result ≡ length words = c.len.ensures ∙ c.in_ok-lines.lines.ok.0 ∙ sym (length-map c.in_ok-lines.lines.items words_of) in
     let fault : NameFault = c.in_err-layering.field-0.0 in
     let told : fault ≡ NotYet → thin_names object_lines legend_lines layer_lines ≡ None =
-      λ e. thin-declared object_lines legend_lines layer_lines words c.in_ok-table.table c.name_others.new.table read named others
-      ∙ names-none (length words) c.name_others.new.table (layer_lists (entries_of c.name_others.new.table) layer_lines)
-        (ap (λ (n : ℕ). layered n (layer_lists (entries_of c.name_others.new.table) layer_lines)) (sym count) ∙ c.in_err-layering.ensures.not_yet e) in
+    λ e. thin-declared object_lines legend_lines layer_lines words c.in_ok-table.table c.name_others.new.table read named others
+    ∙ names-none (length words) c.name_others.new.table (layer_lists (entries_of c.name_others.new.table) layer_lines)
+    (ap (λ (n : ℕ). layered n (layer_lists (entries_of c.name_others.new.table) layer_lines)) (sym count) ∙ c.in_err-layering.ensures.not_yet e) in
     search (rules, told)
 
 pub returns-then-not-branch-clause-not_yet : goal.returns-then-not-branch-clause-not_yet
@@ -45,7 +42,7 @@ returns-then-not-branch-clause-not_yet c = λ e.
     let others : option_map (λ legend. c.in_ok-table.table ++ legend) (legend_names c.in_ok-table.table legend_lines) ≡ Some c.name_others.new.table = search rules in
     let count : c.len.result ≡ length words = c.len.ensures ∙ c.in_ok-lines.lines.ok.0 ∙ sym (length-map c.in_ok-lines.lines.items words_of) in
     let layered_here : layered (length words) (layer_lists (entries_of c.name_others.new.table) layer_lines) ≡ Some (c.in_ok-layering.layering.layers.items, c.in_ok-layering.layering.count) =
-      ap (λ (n : ℕ). layered n (layer_lists (entries_of c.name_others.new.table) layer_lines)) (sym count) ∙ c.in_ok-layering.ensures.ok in
+    ap (λ (n : ℕ). layered n (layer_lists (entries_of c.name_others.new.table) layer_lines)) (sym count) ∙ c.in_ok-layering.ensures.ok in
     let apart : are_all_apart c.in_ok-layering.layering.layers.items c.name_others.new.table ≡ false = search rules in
     thin-declared object_lines legend_lines layer_lines words c.in_ok-table.table c.name_others.new.table read named others
     ∙ names-layered (length words) c.name_others.new.table (layer_lists (entries_of c.name_others.new.table) layer_lines) _ _ false layered_here apart
@@ -61,7 +58,7 @@ returns-clause-names c =
     let others : option_map (λ legend. c.in_ok-table.table ++ legend) (legend_names c.in_ok-table.table legend_lines) ≡ Some c.name_others.new.table = search rules in
     let count : c.len.result ≡ length words = c.len.ensures ∙ c.in_ok-lines.lines.ok.0 ∙ sym (length-map c.in_ok-lines.lines.items words_of) in
     let layered_here : layered (length words) (layer_lists (entries_of c.name_others.new.table) layer_lines) ≡ Some (c.in_ok-layering.layering.layers.items, c.in_ok-layering.layering.count) =
-      ap (λ (n : ℕ). layered n (layer_lists (entries_of c.name_others.new.table) layer_lines)) (sym count) ∙ c.in_ok-layering.ensures.ok in
+    ap (λ (n : ℕ). layered n (layer_lists (entries_of c.name_others.new.table) layer_lines)) (sym count) ∙ c.in_ok-layering.ensures.ok in
     let apart : are_all_apart c.in_ok-layering.layering.layers.items c.name_others.new.table ≡ true = search rules in
     thin-declared object_lines legend_lines layer_lines words c.in_ok-table.table c.name_others.new.table read named others
     ∙ names-layered (length words) c.name_others.new.table (layer_lists (entries_of c.name_others.new.table) layer_lines) _ _ true layered_here apart
@@ -78,10 +75,10 @@ invariant_of-result c =
     let others : option_map (λ legend. c.in_ok-table.table ++ legend) (legend_names c.in_ok-table.table legend_lines) ≡ Some c.name_others.new.table = search rules in
     let count : c.len.result ≡ length words = c.len.ensures ∙ c.in_ok-lines.lines.ok.0 ∙ sym (length-map c.in_ok-lines.lines.items words_of) in
     let layered_here : layered (length words) (layer_lists (entries_of c.name_others.new.table) layer_lines) ≡ Some (c.in_ok-layering.layering.layers.items, c.in_ok-layering.layering.count) =
-      ap (λ (n : ℕ). layered n (layer_lists (entries_of c.name_others.new.table) layer_lines)) (sym count) ∙ c.in_ok-layering.ensures.ok in
+    ap (λ (n : ℕ). layered n (layer_lists (entries_of c.name_others.new.table) layer_lines)) (sym count) ∙ c.in_ok-layering.ensures.ok in
     let few : length words ≤ object_limit = rw length-map c.in_ok-lines.ensures.few in
     subst (λ (glyphs : List Glyph). AreNames (with_glyphs c.name_others.new.table c.in_ok-layering.layering.layers.items c.in_ok-layering.layering.count glyphs)) (sym c.in_ok-glyphs.ensures)
-      (are-names words c.in_ok-table.table c.name_others.new.table legend_lines (layer_lists (entries_of c.name_others.new.table) layer_lines) _ _ named others layered_here few c.in_ok-layering.ensures.few)
+    (are-names words c.in_ok-table.table c.name_others.new.table legend_lines (layer_lists (entries_of c.name_others.new.table) layer_lines) _ _ named others layered_here few c.in_ok-layering.ensures.few)
 
 pub returns-clause-facts : goal.returns-clause-facts
 returns-clause-facts c =
@@ -94,7 +91,7 @@ returns-clause-facts c =
     let others : option_map (λ legend. c.in_ok-table.table ++ legend) (legend_names c.in_ok-table.table legend_lines) ≡ Some c.name_others.new.table = search rules in
     let count : c.len.result ≡ length words = c.len.ensures ∙ c.in_ok-lines.lines.ok.0 ∙ sym (length-map c.in_ok-lines.lines.items words_of) in
     let layered_here : layered (length words) (layer_lists (entries_of c.name_others.new.table) layer_lines) ≡ Some (c.in_ok-layering.layering.layers.items, c.in_ok-layering.layering.count) =
-      ap (λ (n : ℕ). layered n (layer_lists (entries_of c.name_others.new.table) layer_lines)) (sym count) ∙ c.in_ok-layering.ensures.ok in
+    ap (λ (n : ℕ). layered n (layer_lists (entries_of c.name_others.new.table) layer_lines)) (sym count) ∙ c.in_ok-layering.ensures.ok in
     let few : length words ≤ object_limit = rw length-map c.in_ok-lines.ensures.few in
     subst (λ (glyphs : List Glyph). AreNames (with_glyphs c.name_others.new.table c.in_ok-layering.layering.layers.items c.in_ok-layering.layering.count glyphs)) (sym c.in_ok-glyphs.ensures)
-      (are-names words c.in_ok-table.table c.name_others.new.table legend_lines (layer_lists (entries_of c.name_others.new.table) layer_lines) _ _ named others layered_here few c.in_ok-layering.ensures.few)
+    (are-names words c.in_ok-table.table c.name_others.new.table legend_lines (layer_lists (entries_of c.name_others.new.table) layer_lines) _ _ named others layered_here few c.in_ok-layering.ensures.few)

@@ -1,4 +1,4 @@
-use Rattle.std.proofs.Common.{◌≡◌, [], sym, ◌∙◌, arith, true, false, List, ℕ, length, true≢false}
+use Rattle.std.proofs.Common.{◌≡◌, [], sym, ◌∙◌, arith, true≢false}
 use Rattle.std.proofs.lemmas.Grind.{common_steps}
 use Rattle.ps_names.proofs.Characters.{one_alone, more_than_one}
 use Rattle.ps_names.proofs.table.one_character.Goals as goal

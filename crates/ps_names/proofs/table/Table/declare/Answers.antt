@@ -1,4 +1,4 @@
-use Rattle.std.proofs.Common.{rules, ◌≡◌, ◌∙◌, sym, ap, List, ℕ, false, true, is_some, map}
+use Rattle.std.proofs.Common.{rules, ◌≡◌, ◌∙◌, sym, ap, List, ℕ, false, true, is_some}
 use Rattle.std.specs.Str.{bytes_eq}
 use Rattle.std.specs.String.{string_bytes}
 use Rattle.std.specs.List.{list_any}
@@ -28,4 +28,4 @@ returns-clause-ok c =
     let same : c.as_str.result.now ≡ name = search rules in
     let none : is_some (lookup (λ k. bytes_eq name (string_bytes k)) c.self.inside.names.entries) ≡ false = rw (← same) (sym c.if-contains_key.ensures) in
     insert-declared c.self.inside.names c.insert.new.self.entries c.in_ok-name.name c.one_character-character.result c.args.meaning c.args.written.now c.args.self.now
-      c.self.view_is c.in_ok-insert.ensures.entries c.in_ok-name.ensures.ok c.one_character-character.ensures none
+    c.self.view_is c.in_ok-insert.ensures.entries c.in_ok-name.ensures.ok c.one_character-character.ensures none

@@ -1,4 +1,4 @@
-use Rattle.std.proofs.Common.{rules, ◌≡◌, ◌∙◌, sym, ap, option_map, Some, None, Option, List}
+use Rattle.std.proofs.Common.{◌∙◌, ap, option_map, List}
 use Rattle.std.specs.Str.{bytes_eq}
 use Rattle.std.specs.Map.{lookup}
 use Rattle.ps_model.specs.ThinNames.{Declared, entries_of}
