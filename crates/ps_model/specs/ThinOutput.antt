@@ -9,7 +9,6 @@ use Rattle.ps_model.specs.Names.{Names}
 use Rattle.ps_model.specs.Grid.{Grid}
 use Rattle.ps_model.specs.Levels.{loaded}
 use Rattle.ps_model.specs.Movement.{slid}
-use Rattle.ps_model.specs.WeakMovement.{IsWeaklySlid}
 use Rattle.ps_model.specs.Frames.{written_line, frame}
 use Rattle.ps_model.specs.Turns.{with_input}
 use Rattle.ps_model.specs.Keys.{keys_of}
@@ -50,17 +49,3 @@ opening game = written_line (codes "= ") game.title ++ (codes "# level 1\n" ++ f
 -- the output of a game on bytes
 abbrev pub output : Game → List ℕ → Output
 output game bytes = after_text (opening game) (output_from game.names (loaded game.names game.level) (keys_of bytes))
-
--- what the keys may bring from a grid on, where each movement may be any weak slide
-abbrev pub MayBring : Names → Grid → List Key → Output → Type 0
-MayBring names g [] out = out ≡ record { written = end_of_keys_line; ending = EndOfKeys }
-MayBring names g (Move input ∷ keys) out =
-    (next : Grid) × (rest : Output) × IsWeaklySlid (with_input names input g) next × (out ≡ after_text (frame names next) rest) × MayBring names next keys rest
-MayBring names g (Undo ∷ keys) out = MayBring names g keys out
-MayBring names g (Restart ∷ keys) out = MayBring names g keys out
-MayBring names g (Quit ∷ keys) out = out ≡ record { written = quit_line; ending = Quits }
-
--- the output of a game on bytes, where each movement may be any weak slide
-abbrev pub MayWrite : Game → List ℕ → Output → Type 0
-MayWrite game bytes out =
-    (rest : Output) × (out ≡ after_text (opening game) rest) × MayBring game.names (loaded game.names game.level) (keys_of bytes) rest

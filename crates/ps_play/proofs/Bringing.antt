@@ -9,11 +9,11 @@ use Rattle.ps_model.specs.declared.play.Ending.TheVariants.{EndOfKeys}
 use Rattle.ps_model.specs.declared.play.Key.{Key}
 use Rattle.ps_model.specs.Names.{Names}
 use Rattle.ps_model.specs.Grid.{Grid}
-use Rattle.ps_model.specs.ThinOutput.{Output, MayBring, end_of_keys_line, opening}
+use Rattle.ps_model.specs.ThinOutput.{Output, after_text, output, output_from, end_of_keys_line, opening}
 use Rattle.ps_model.specs.ThinGame.{Game, thin_game}
 use Rattle.ps_model.specs.Levels.{loaded}
 use Rattle.ps_play.specs.Devices.{Grows, Loses, IsSpent}
-use Rattle.ps_play.specs.Runs.{keys_apart, Reaches, Brings, Answers}
+use Rattle.ps_play.specs.Runs.{keys_apart, Reaches, Outputs, Brings, Answers}
 use Rattle.ps_play.proofs.Pieces.{grows_twice}
 use Rattle.ps_play.proofs.Reaching.{reached_then, brings_then, keys_apart-append, keys_of-heard}
 
@@ -56,14 +56,14 @@ all_given old now gone all lost spent told =
 
 -- the end of the keys behind what was reached
 pub keys_end : (names : Names) (g : Grid) (gone all text : List ℕ) (mid : Grid) → Reaches names g (keys_apart gone) text mid → all ≡ gone →
-    MayBring names g (keys_apart all) (record { written = text ++ end_of_keys_line; ending = EndOfKeys })
+    Outputs names g (keys_apart all) (text ++ end_of_keys_line) EndOfKeys
 keys_end names g gone all text mid reached same =
-    rw (same, ← append-nil (keys_apart gone)) (reached_then names g (keys_apart gone) text mid [] (record { written = end_of_keys_line; ending = EndOfKeys }) reached refl)
+    rw (same, ← append-nil (keys_apart gone)) (reached_then names g (keys_apart gone) text mid [] end_of_keys_line EndOfKeys reached refl)
 
 -- an ending in a piece behind what was reached: what follows the piece doesn't count
 pub run_ends : (names : Names) (g : Grid) (gone piece left all text : List ℕ) (mid : Grid) (behind : List ℕ) (next : Grid) (ending : Ending) →
     Reaches names g (keys_apart gone) text mid → Brings names mid (keys_apart piece) next behind (Some ending) → all ≡ (gone ++ piece) ++ left →
-    MayBring names g (keys_apart all) (record { written = text ++ behind; ending = ending })
+    Outputs names g (keys_apart all) (text ++ behind) ending
 run_ends names g gone piece left all text mid behind next ending reached brings same =
     let front = brings_then names g (keys_apart gone) text mid (keys_apart piece) behind next (Some ending) reached brings in
     let split : keys_apart all ≡ (keys_apart gone ++ keys_apart piece) ++ keys_apart left =
@@ -87,19 +87,24 @@ one_call old new most counted held = elim (cases_lt old most) [ inl below ↦ (l
 
 -- what is brought behind an opening that was written
 pub opened : (remaining old mid new : Option (List ℕ)) (screen start : List ℕ) (names those : Names) (g that : Grid) (ending : Ending) →
-    IfSome remaining (λ all. (text : List ℕ) × Grows mid new text × MayBring those that (keys_apart all) (record { written = text; ending = ending })) →
+    IfSome remaining (λ all. (text : List ℕ) × Grows mid new text × Outputs those that (keys_apart all) text ending) →
     Grows old mid screen → screen ≡ start → those ≡ names → that ≡ g →
-    IfSome remaining (λ all. (text : List ℕ) × Grows old new (start ++ text) × MayBring names g (keys_apart all) (record { written = text; ending = ending }))
+    IfSome remaining (λ all. (text : List ℕ) × Grows old new (start ++ text) × Outputs names g (keys_apart all) text ending)
 opened None old mid new screen start names those g that ending brings grows shown same_names same_grid = tt
 opened (Some all) old mid new screen start names those g that ending (text, more, brings) grows shown same_names same_grid =
     (text, grows_twice old mid new screen text (start ++ text) grows more (ap (λ s. s ++ text) (sym shown)), rw (← same_names, ← same_grid) brings)
 
 -- what is brought behind the opening of a text's game is what a run may answer
 pub answered : (text : List ℕ) (game : Game) (remaining old new : Option (List ℕ)) (ending : Ending) → thin_game text ≡ Some game →
-    IfSome remaining (λ all. (behind : List ℕ) × Grows old new (opening game ++ behind) × MayBring game.names (loaded game.names game.level) (keys_apart all) (record { written = behind; ending = ending })) →
+    IfSome remaining (λ all. (behind : List ℕ) × Grows old new (opening game ++ behind) × Outputs game.names (loaded game.names game.level) (keys_apart all) behind ending) →
     IfSome remaining (λ all. IfSome old (λ before. Answers text all before new (Ok ending)))
 answered text game None old new ending is brings = tt
 answered text game (Some all) None new ending is brings = tt
-answered text game (Some all) (Some before) new ending is (behind, grows, brings) =
-    let rest : Output = record { written = behind; ending = ending } in
-    (game, is, λ heard. (opening game ++ behind, grows, (rest, refl, rw (keys_of-heard all heard) brings)))
+answered text game (Some all) (Some before) new ending is (behind, grows, brings) = (
+  game,
+  is,
+  λ heard.
+      let whole : output game all ≡ record { written = opening game ++ behind; ending = ending } =
+      ap (after_text (opening game)) (ap (output_from game.names (loaded game.names game.level)) (keys_of-heard all heard) ∙ brings) in
+      (grows ∙ ap (λ (out : Output). Some (before ++ out.written)) (sym whole), ap (λ (out : Output). out.ending) (sym whole)),
+)

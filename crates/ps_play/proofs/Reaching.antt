@@ -11,46 +11,44 @@ use Rattle.ps_model.specs.Names.{Names}
 use Rattle.ps_model.specs.Grid.{Grid}
 use Rattle.ps_model.specs.Frames.{frame}
 use Rattle.ps_model.specs.Keys.{key_of, leading_arrow, keys_behind, keys_of}
-use Rattle.ps_model.specs.ThinOutput.{Output, after_text, MayBring}
-use Rattle.ps_play.specs.Runs.{keys_apart, is_not_yet, are_heard, StepsTo, Reaches, Brings}
+use Rattle.ps_model.specs.ThinOutput.{Output, after_text, turned}
+use Rattle.ps_play.specs.Runs.{keys_apart, is_not_yet, are_heard, StepsTo, Reaches, Outputs, Brings}
 
 -- outputs with equal texts and endings are equal
 out_with : {texts others : List ℕ} (ending : Ending) → texts ≡ others → let out : Output = record { written = texts; ending = ending } in out ≡ record { written = others; ending = ending }
 out_with ending e = ap (λ (t : List ℕ). let out : Output = record { written = t; ending = ending } in out) e
 
--- what comes behind the keys that were reached
-pub reached_then : (names : Names) (g : Grid) (keys : List Key) (text : List ℕ) (mid : Grid) (more : List Key) (out : Output) →
-    Reaches names g keys text mid → MayBring names mid more out → MayBring names g (keys ++ more) (after_text text out)
-reached_then names g [] text mid more out reached brings =
-    let same : out ≡ after_text text out = rw reached.0 refl in
-    let bring : MayBring names g more out = rw (← reached.1) brings in
-    rw (← same) bring
-reached_then names g (Move input ∷ keys) text mid more out (next, rest, slides, is, reached) brings =
-    (next, after_text rest out, slides, out_with out.ending (ap (λ (t : List ℕ). t ++ out.written) is ∙ append_assoc (frame names next) rest out.written), reached_then names next keys rest mid more out reached brings)
-reached_then names g (Undo ∷ keys) text mid more out reached brings = reached_then names g keys text mid more out reached brings
-reached_then names g (Restart ∷ keys) text mid more out reached brings = reached_then names g keys text mid more out reached brings
-reached_then names g (Quit ∷ keys) text mid more out reached brings = absurd reached
+-- the output of what comes behind the keys that were reached
+pub reached_then : (names : Names) (g : Grid) (keys : List Key) (text : List ℕ) (mid : Grid) (more : List Key) (behind : List ℕ) (ending : Ending) →
+    Reaches names g keys text mid → Outputs names mid more behind ending → Outputs names g (keys ++ more) (text ++ behind) ending
+reached_then names g [] text mid more behind ending reached outputs = rw (reached.0) (rw (← reached.1) outputs)
+reached_then names g (Move input ∷ keys) text mid more behind ending (rest, is, reached) outputs =
+    ap (after_text (frame names (turned names input g))) (reached_then names (turned names input g) keys rest mid more behind ending reached outputs)
+    ∙ out_with ending (sym (append_assoc (frame names (turned names input g)) rest behind) ∙ ap (λ (t : List ℕ). t ++ behind) (sym is))
+reached_then names g (Undo ∷ keys) text mid more behind ending reached outputs = reached_then names g keys text mid more behind ending reached outputs
+reached_then names g (Restart ∷ keys) text mid more behind ending reached outputs = reached_then names g keys text mid more behind ending reached outputs
+reached_then names g (Quit ∷ keys) text mid more behind ending reached outputs = absurd reached
 
 -- two stretches without an ending
 pub reached_twice : (names : Names) (g : Grid) (keys : List Key) (text : List ℕ) (mid : Grid) (more : List Key) (behind : List ℕ) (next : Grid) →
     Reaches names g keys text mid → Reaches names mid more behind next → Reaches names g (keys ++ more) (text ++ behind) next
 reached_twice names g [] text mid more behind next first second = rw first.0 (rw (← first.1) second)
-reached_twice names g (Move input ∷ keys) text mid more behind next (then, rest, slides, is, reached) second =
-    (then, rest ++ behind, slides, ap (λ (t : List ℕ). t ++ behind) is ∙ append_assoc (frame names then) rest behind, reached_twice names then keys rest mid more behind next reached second)
+reached_twice names g (Move input ∷ keys) text mid more behind next (rest, is, reached) second =
+    (rest ++ behind, ap (λ (t : List ℕ). t ++ behind) is ∙ append_assoc (frame names (turned names input g)) rest behind, reached_twice names (turned names input g) keys rest mid more behind next reached second)
 reached_twice names g (Undo ∷ keys) text mid more behind next first second = reached_twice names g keys text mid more behind next first second
 reached_twice names g (Restart ∷ keys) text mid more behind next first second = reached_twice names g keys text mid more behind next first second
 reached_twice names g (Quit ∷ keys) text mid more behind next first second = absurd first
 
 -- a key without an ending
-pub step_reaches : (names : Names) (g : Grid) (key : Key) (next : Grid) (text : List ℕ) → StepsTo names g key next text None → Reaches names g (key ∷ []) text next
-step_reaches names g (Move input) next text steps = (next, [], steps.0, rw append-nil steps.1, (refl, refl))
+step_reaches : (names : Names) (g : Grid) (key : Key) (next : Grid) (text : List ℕ) → StepsTo names g key next text None → Reaches names g (key ∷ []) text next
+step_reaches names g (Move input) next text steps = ([], steps.1 ∙ ap (frame names) steps.0 ∙ sym (append-nil (frame names (turned names input g))), (refl, steps.0))
 step_reaches names g Undo next text steps = (steps.1, steps.0)
 step_reaches names g Restart next text steps = (steps.1, steps.0)
 step_reaches names g Quit next text steps = absurd (let e = steps.2 in cc)
 
 -- a key with an ending
-pub step_ends : (names : Names) (g : Grid) (key : Key) (next : Grid) (text : List ℕ) (ending : Ending) (more : List Key) →
-    StepsTo names g key next text (Some ending) → MayBring names g (key ∷ more) (record { written = text; ending = ending })
+step_ends : (names : Names) (g : Grid) (key : Key) (next : Grid) (text : List ℕ) (ending : Ending) (more : List Key) →
+    StepsTo names g key next text (Some ending) → Outputs names g (key ∷ more) text ending
 step_ends names g (Move input) next text ending more steps = absurd (let e = steps.2 in cc)
 step_ends names g Undo next text ending more steps = absurd (let e = steps.2 in cc)
 step_ends names g Restart next text ending more steps = absurd (let e = steps.2 in cc)
@@ -100,4 +98,4 @@ pub brings_then : (names : Names) (g : Grid) (keys : List Key) (text : List ℕ)
     Reaches names g keys text mid → Brings names mid more next behind ending → Brings names g (keys ++ more) next (text ++ behind) ending
 brings_then names g keys text mid more behind next None reached brings = reached_twice names g keys text mid more behind next reached brings
 brings_then names g keys text mid more behind next (Some ending) reached brings =
-    λ others. rw (append_assoc keys more others) (reached_then names g keys text mid (more ++ others) (record { written = behind; ending = ending }) reached (brings others))
+    λ others. rw (append_assoc keys more others) (reached_then names g keys text mid (more ++ others) behind ending reached (brings others))

@@ -8,12 +8,10 @@ use Rattle.ps_model.specs.declared.play.Key.{Key}
 use Rattle.ps_model.specs.declared.play.Key.TheVariants.{Move, Undo, Restart, Quit}
 use Rattle.ps_model.specs.Names.{Names}
 use Rattle.ps_model.specs.Grid.{Grid}
-use Rattle.ps_model.specs.WeakMovement.{IsWeaklySlid}
 use Rattle.ps_model.specs.Frames.{frame}
 use Rattle.ps_model.specs.Keys.{key_of}
-use Rattle.ps_model.specs.Turns.{with_input}
 use Rattle.ps_model.specs.ThinGame.{Game, thin_game}
-use Rattle.ps_model.specs.ThinOutput.{quit_line, MayBring, MayWrite}
+use Rattle.ps_model.specs.ThinOutput.{quit_line, turned, output_from, output}
 use Rattle.ps_play.specs.declared.run.RunFault.{RunFault}
 
 -- the keys of bytes of which each is a key by itself or means nothing
@@ -30,7 +28,7 @@ are_heard bytes = not (list_any is_not_yet bytes)
 
 -- a key takes the grid to the next, with a text and perhaps an ending
 abbrev pub StepsTo : Names → Grid → Key → Grid → List ℕ → Option Ending → Type 0
-StepsTo names g (Move input) next text ending = IsWeaklySlid (with_input names input g) next × (text ≡ frame names next) × (ending ≡ None)
+StepsTo names g (Move input) next text ending = (next ≡ turned names input g) × (text ≡ frame names next) × (ending ≡ None)
 StepsTo names g Undo next text ending = (next ≡ g) × (text ≡ []) × (ending ≡ None)
 StepsTo names g Restart next text ending = (next ≡ g) × (text ≡ []) × (ending ≡ None)
 StepsTo names g Quit next text ending = (next ≡ g) × (text ≡ quit_line) × (ending ≡ Some Quits)
@@ -38,22 +36,25 @@ StepsTo names g Quit next text ending = (next ≡ g) × (text ≡ quit_line) × 
 -- keys take the grid to the next without an ending, with a text
 abbrev pub Reaches : Names → Grid → List Key → List ℕ → Grid → Type 0
 Reaches names g [] text next = (text ≡ []) × (next ≡ g)
-Reaches names g (Move input ∷ keys) text next =
-    (mid : Grid) × (rest : List ℕ) × IsWeaklySlid (with_input names input g) mid × (text ≡ frame names mid ++ rest) × Reaches names mid keys rest next
+Reaches names g (Move input ∷ keys) text next = (rest : List ℕ) × (text ≡ frame names (turned names input g) ++ rest) × Reaches names (turned names input g) keys rest next
 Reaches names g (Undo ∷ keys) text next = Reaches names g keys text next
 Reaches names g (Restart ∷ keys) text next = Reaches names g keys text next
 Reaches names g (Quit ∷ keys) text next = ⊥
 
--- keys bring a text: without an ending they reach the next grid; with one, whatever keys follow, the text and the ending are
--- what the keys may bring
+-- the output of keys from a grid on is that text, and then that ending
+abbrev pub Outputs : Names → Grid → List Key → List ℕ → Ending → Type 0
+Outputs names g keys text ending = output_from names g keys ≡ record { written = text; ending = ending }
+
+-- keys bring a text: without an ending they reach the next grid; with one, the text and the ending are the output, whatever
+-- keys follow
 abbrev pub Brings : Names → Grid → List Key → Grid → List ℕ → Option Ending → Type 0
 Brings names g keys next text None = Reaches names g keys text next
-Brings names g keys next text (Some ending) = (more : List Key) → MayBring names g (keys ++ more) (record { written = text; ending = ending })
+Brings names g keys next text (Some ending) = (more : List Key) → Outputs names g (keys ++ more) text ending
 
 -- what a run may answer for a text, where its reader had all these bytes to give and its writer had taken some before and
--- tells of more now
+-- tells of more now: with an ending, the text has a game, and where all bytes are heard the writer took the whole output of
+-- that game on those bytes and nothing else, and the ending is the output's
 abbrev pub Answers : List ℕ → List ℕ → List ℕ → Option (List ℕ) → Result Ending RunFault → Type 0
 Answers text all before told (Ok ending) =
-    (game : Game) × (thin_game text ≡ Some game)
-    × (are_heard all ≡ true → (written : List ℕ) × (told ≡ Some (before ++ written)) × MayWrite game all (record { written = written; ending = ending }))
+    (game : Game) × (thin_game text ≡ Some game) × (are_heard all ≡ true → (told ≡ Some (before ++ (output game all).written)) × (ending ≡ (output game all).ending))
 Answers text all before told (Err fault) = Unit {0}

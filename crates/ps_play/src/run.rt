@@ -4,12 +4,11 @@ ghost use Rattle.std.specs.Prelude.{◌≡◌, ◌≢◌, ◌+◌, ◌≤◌, �
 ghost use Rattle.ps_model.specs.Limits.{read_limit};
 ghost use Rattle.ps_model.specs.ThinGame.{thin_game};
 ghost use Rattle.ps_model.specs.Levels.{loaded};
-ghost use Rattle.ps_model.specs.ThinOutput.{MayBring, end_of_keys_line, opening};
+ghost use Rattle.ps_model.specs.ThinOutput.{end_of_keys_line, opening};
 ghost use Rattle.ps_play.specs.Devices.{Grows};
 ghost use Rattle.ps_play.specs.Faults.{IsRefusal, IsDeviceFault};
 ghost use Rattle.ps_play.specs.Playable.{IsPlayable};
-ghost use Rattle.ps_play.specs.Playable.{IsPlayable};
-ghost use Rattle.ps_play.specs.Runs.{keys_apart, Brings, Answers};
+ghost use Rattle.ps_play.specs.Runs.{keys_apart, Outputs, Brings, Answers};
 
 use crate::devices::{ByteReader, ByteWriter, write_whole};
 use crate::keys::read_key;
@@ -110,7 +109,7 @@ fn play_game<R: ByteReader, W: ByteWriter>(
     ensures well { IfErr result IsDeviceFault }
     ensures brings { IfOk result (λ ending. IfSome (R.remaining reader.old) (λ all. (text : List ℕ)
         × Grows (W.contents writer.old) (W.contents writer.new) (opening game.now ++ text)
-        × MayBring game.now.names (loaded game.now.names game.now.level) (keys_apart all) (record { written = text; ending = ending }))) }
+        × Outputs game.now.names (loaded game.now.names game.now.level) (keys_apart all) text ending)) }
 {
     let mut screen = Screen::new(alloc);
     let mut session = Session::<ListBoard>::start(alloc, game, &mut screen)?;
@@ -131,7 +130,7 @@ fn play<B: Board, R: ByteReader, W: ByteWriter>(
     ensures stopped { result ≡ Err RunFault.Write → W.has_failed writer.new ≡ true }
     ensures well { IfErr result IsDeviceFault }
     ensures brings { IfOk result (λ ending. IfSome (R.remaining reader.old) (λ all. (text : List ℕ) × Grows (W.contents writer.old) (W.contents writer.new) text
-        × MayBring session.old.game.now.names (B.grid session.old.board) (keys_apart all) (record { written = text; ending = ending }))) }
+        × Outputs session.old.game.now.names (B.grid session.old.board) (keys_apart all) text ending)) }
 {
     let mut buffer = [0u8; PIECE];
     for _call in 0..16777216u32 {

@@ -15,6 +15,6 @@ returns-clause-ok c =
     let told : AreAllSections text c.in-Some.sections = c.in-Some.ensures in
     let thin : is_thin lines ≡ true = search rules in
     let names : thin_names (section_lines lines Objects) (section_lines lines Legend) (section_lines lines Layers) ≡ Some c.in_ok-names.names =
-        rw (told.objects.same, told.legend.same, told.layers.same) c.in_ok-names.ensures.names in
+    rw (told.objects.same, told.legend.same, told.layers.same) c.in_ok-names.ensures.names in
     let level : thin_level c.in_ok-names.names (section_lines lines Levels) ≡ Some c.in_ok-level.level = rw told.levels.same c.in_ok-level.ensures.ok in
     the_game text lines c.in_ok-title.title c.in_ok-names.names c.in_ok-level.level (plain lines told.whole thin) (c.in_ok-title.ensures ∙ ap (title_of text) (sym told.prelude.same)) names level

@@ -1,0 +1,16 @@
+use Rattle.std.proofs.Common.{◌≡◌, ◌∙◌, ap, ap₂, List}
+use Rattle.std.specs.Prelude.{codes}
+use Rattle.ps_model.specs.declared.pieces.Motion.{Motion}
+use Rattle.ps_model.specs.declared.pieces.ObjectId.{ObjectId}
+use Rattle.ps_model.specs.Grid.{Grid}
+use Rattle.ps_model.specs.Movement.{slid}
+use Rattle.ps_model.specs.Names.{members_named}
+use Rattle.ps_model.specs.Turns.{with_motion}
+use Rattle.ps_model.specs.ThinGame.{Game}
+use Rattle.ps_play.proofs.session.Session.act.Goals as goal
+
+pub returns-clause-moved : goal.returns-clause-moved
+returns-clause-moved g c =
+    let before : Grid = g.B.Board.grid c.args.self.now.board in
+    let moved = c.members_named.ensures ∙ ap (λ (game : Game). members_named game.names (codes "player")) c.game.view_is in
+    c.slide.ensures.exact ∙ ap slid (c.give_motion.ensures ∙ ap₂ (λ (objects : List ObjectId) (motion : Motion). with_motion objects motion before) moved c.motion_for.ensures)
