@@ -2,3 +2,4 @@ mod MovementRows
 pub mod Slots
 pub mod Counts
 pub mod Neighbours
+pub mod Winners

@@ -5,9 +5,10 @@
 
 ghost use Rattle.std.specs.Prelude.{◌≡◌, ℕ, ◌+◌, ◌*◌, ◌<◌, ◌≤◌, IfSome, is_some};
 ghost use Rattle.ps_model.specs.Grid.{IsGrid, IsPlace, at_rest, neighbour};
+ghost use Rattle.ps_model.specs.Movement.{slid};
 ghost use Rattle.ps_model.specs.WeakMovement.{IsWeaklySlid};
 ghost use Rattle.ps_move.specs.Visits.{way, visited, going_count};
-ghost use Rattle.ps_move.specs.Midway.{IsPart};
+ghost use Rattle.ps_move.specs.Parts.{IsPart};
 
 use ps_board::{Board, Direction, LayerId, Motion};
 use std::marker::Model;
@@ -41,6 +42,7 @@ impl Slid {
 /// the layer, or becomes free in the same movement. Nothing else moves: two objects never change places, no ring of objects
 /// turns, and an object that acts stays where it is. (PuzzleScript documentation, collision layers.)
 pub fn slide<B: Board>(board: &mut B) -> Slid
+    ensures exact { B.grid board.new ≡ slid (B.grid board.old) }
     ensures slid { IsWeaklySlid (B.grid board.old) (B.grid board.new) }
     ensures some_pass { 0 < result }
     ensures one_pass { result ≡ 1 → B.grid board.new ≡ at_rest (B.grid board.old) }
@@ -57,7 +59,7 @@ pub fn slide<B: Board>(board: &mut B) -> Slid
 /// Visits each cell in the order of the numbers, and tells whether any object went.
 fn pass<B: Board>(board: &mut B) -> bool
     ensures shape { IsGrid (B.grid board.old) }
-    ensures part { IsPart result (B.grid board.old) (B.grid board.new) }
+    ensures part { IsPart result (B.grid board.old) (B.grid board.new) (0, 0) ((B.grid board.old).width * (B.grid board.old).height, 0) }
 {
     let (width, height) = board.size();
     let mut went = false;
@@ -71,7 +73,7 @@ fn pass<B: Board>(board: &mut B) -> bool
 fn visit_cell<B: Board>(board: &mut B, cell: u32) -> bool
     requires shape { IsGrid (B.grid board.old) }
     requires cell { cell < (B.grid board.old).width * (B.grid board.old).height }
-    ensures { IsPart result (B.grid board.old) (B.grid board.new) }
+    ensures { IsPart result (B.grid board.old) (B.grid board.new) (cell, 0) (cell + 1, 0) }
 {
     let mut went = false;
     for layer in 0..board.layers() {
