@@ -1,16 +1,10 @@
 -- Who wins a cell, and which objects slide.
-use Rattle.std.proofs.Common.{◌≡◌, ◌≢◌, ℕ, suc, zero, ◌+◌, ◌<◌, ◌≤◌, ◌&&◌, ◌⊎◌, inl, inr, Bool, true, false, cond, Option, Some, None, refl, sym, ◌∙◌, ap, arith}
-use Rattle.std.specs.Prelude.{nat_eq, nat_lt, find}
+use Rattle.std.proofs.Common.{◌≡◌, ◌≢◌, ℕ, suc, zero, ◌+◌, ◌<◌, ◌≤◌, ◌&&◌, ◌⊎◌, inl, inr, Bool, true, false, cond, Option, Some, None, refl, ◌∙◌, ap, arith}
+use Rattle.std.specs.Prelude.{nat_lt, find}
 use Rattle.std.specs.List.{range_with_len}
 use Rattle.std.proofs.lemmas.Bool.Decides.{nat_tests, eqb_tells}
-use Rattle.ps_model.specs.declared.pieces.ObjectId.{ObjectId}
-use Rattle.ps_model.specs.declared.pieces.Direction.{Direction}
-use Rattle.ps_model.specs.declared.pieces.Motion.{Motion}
-use Rattle.ps_model.specs.declared.pieces.Motion.TheVariants.{Still, Going, Acting}
-use Rattle.ps_model.specs.declared.pieces.Slot.{Slot}
-use Rattle.ps_model.specs.declared.pieces.Slot.TheVariants.{Bare, Holds}
-use Rattle.ps_model.specs.Grid.{Grid, cell_count, slot_at, neighbour}
-use Rattle.ps_model.specs.Movement.{target, aim_of, is_bare, is_number, least_contender, or_else, winner, slides_within}
+use Rattle.ps_model.specs.Grid.{Grid, cell_count}
+use Rattle.ps_model.specs.Movement.{target, is_bare, is_number, least_contender, or_else, winner, slides_within}
 
 -- the first number of a range that passes
 find_first : (p : ℕ → Bool) (a n c : ℕ) → a ≤ c → c < a + n → p c ≡ true → ((s : ℕ) → s < c → p s ≡ false) → find p (range_with_len a n) ≡ Some c
@@ -64,7 +58,7 @@ least-is g layer cell passes c within aims passing least =
     let p : ℕ → Bool = λ from. is_number (target g layer from) cell && passes from in
     let here : p c ≡ true = rw (is_number-own (target g layer c) cell aims) passing in
     let below : (s : ℕ) → s < c → p s ≡ false = λ (s : ℕ) (low : s < c). passes-false (is_number (target g layer s) cell) (passes s)
-      (λ (n : is_number (target g layer s) cell ≡ true) (y : passes s ≡ true). let l = least s (is_number-true (target g layer s) cell n) y in absurd (omega arith)) in
+    (λ (n : is_number (target g layer s) cell ≡ true) (y : passes s ≡ true). let l = least s (is_number-true (target g layer s) cell n) y in absurd (omega arith)) in
     find_first p 0 (cell_count g) c (omega arith) (omega arith) here below
 
 least-none : (g : Grid) (layer cell : ℕ) (passes : ℕ → Bool) → ((s : ℕ) → target g layer s ≡ Some cell → passes s ≡ true → ⊥) → least_contender g layer cell passes ≡ None
@@ -113,14 +107,14 @@ winner-of_left g layer cell c bare within aims apart behind over ahead = rw (bar
   next : (b : Bool) → nat_lt cell c ≡ b → or_else (least_contender g layer cell (nat_lt cell)) (least_contender g layer cell (λ from. true)) ≡ Some c
   next true e =
       let first : least_contender g layer cell (nat_lt cell) ≡ Some c = least-is g layer cell (nat_lt cell) c within aims e
-        (λ s a y. let higher = above_is cell s y in not_under s c s cell (behind s a) (omega arith)) in
+      (λ s a y. let higher = above_is cell s y in not_under s c s cell (behind s a) (omega arith)) in
       rw first refl
   next false e =
       let not_above : c ≤ cell = grind (arith, nat_tests, e) in
       let none : least_contender g layer cell (nat_lt cell) ≡ None = least-none g layer cell (nat_lt cell)
-        (λ s a y. let higher = above_is cell s y in let below = ahead s a not_above in omega arith) in
+      (λ s a y. let higher = above_is cell s y in let below = ahead s a not_above in omega arith) in
       let first : least_contender g layer cell (λ from. true) ≡ Some c = least-is g layer cell (λ from. true) c within aims refl
-        (λ s a y. not_under s c cell c (over s a) not_above) in
+      (λ s a y. not_under s c cell c (over s a) not_above) in
       rw none first
 
 -- one link more: to a bare cell, or to one whose object slides

@@ -1,25 +1,22 @@
 -- The end of a pass, and the end of the movement: what slides is what went.
-use Rattle.std.proofs.Common.{◌≡◌, ◌≢◌, ℕ, zero, suc, ◌+◌, ◌*◌, ◌<◌, ◌≤◌, ◌⊎◌, inl, inr, Bool, true, false, Option, Some, None, List, [], length, map, get_or, refl, sym, ◌∙◌, ap, subst, arith}
-use Rattle.std.specs.Prelude.{unwrap_or}
+use Rattle.std.proofs.Common.{◌≡◌, ℕ, zero, suc, ◌*◌, ◌<◌, ◌≤◌, ◌⊎◌, inl, inr, Bool, true, false, Option, Some, None, List, [], length, map, get_or, refl, sym, ◌∙◌, ap, subst, arith}
 use Rattle.std.specs.List.{range_with_len}
 use Rattle.std.proofs.lemmas.Bool.Decides.{leb_tells}
 use Rattle.std.proofs.lemmas.Option.{same_Some}
 use Rattle.std.proofs.lemmas.List.{get_or_past, get_or-map, same_lists, length-map}
 use Rattle.std.proofs.lemmas.List.FromFn.{length-map-range_with_len, get_or-map-range_with_len}
 use Rattle.ps_model.specs.declared.pieces.ObjectId.{ObjectId}
-use Rattle.ps_model.specs.declared.pieces.Direction.{Direction}
 use Rattle.ps_model.specs.declared.pieces.Motion.{Motion}
-use Rattle.ps_model.specs.declared.pieces.Motion.TheVariants.{Still, Going}
+use Rattle.ps_model.specs.declared.pieces.Motion.TheVariants.{Going}
 use Rattle.ps_model.specs.declared.pieces.Slot.{Slot}
 use Rattle.ps_model.specs.declared.pieces.Slot.TheVariants.{Bare, Holds}
 use Rattle.ps_model.specs.Grid.{Grid, IsGrid, cell_count, cell_at, slot_at, slot_at_rest, at_rest}
-use Rattle.ps_model.specs.Movement.{target, aim_of, is_bare, is_bare_slot, winner, slides_within, slides, if_slides, entrant, slid_slot, slid}
+use Rattle.ps_model.specs.Movement.{target, is_bare, is_bare_slot, winner, slides_within, slides, if_slides, entrant, slid_slot, slid}
 use Rattle.ps_model.specs.WeakMovement.{landing}
-use Rattle.ps_model.proofs.Slots.{slot_at-at_rest}
 use Rattle.ps_model.proofs.Winners.{IsLink, link_of, winner-contends, slides_within-more}
 use Rattle.ps_move.specs.Visits.{way}
 use Rattle.ps_move.specs.Midway.{IsMidway, motion_left}
-use Rattle.ps_move.specs.Order.{next_on, ComesBefore, InTime, HasWon, IsInOrder}
+use Rattle.ps_move.specs.Order.{ComesBefore, IsInOrder}
 use Rattle.ps_move.proofs.Steps.{bare_holds, landed_at}
 use Rattle.ps_move.proofs.Order.{aim_some, way_some, still_aims, next_first}
 
@@ -34,7 +31,7 @@ goes_within g layer cell to shape goes = elim (cell_or_past cell (length g.cells
       absurd (bare_holds found.0 (Going found.1) (sym (off_board g layer cell high) ∙ found.2))
 ] where
   cell_or_past : (a b : ℕ) → (a < b) ⊎ (b ≤ a)
-  cell_or_past a b = elim (leb_tells b a) [ | inl e ↦ inr e.1 | inr e ↦ inl (omega (arith, e.1)) ]
+  cell_or_past a b = elim (leb_tells b a) [ inl e ↦ inr e.1 | inr e ↦ inl (omega (arith, e.1)) ]
 
 -- the next pass begins anew
 pub next_pass : (before now : Grid) (went : Bool) (cells : ℕ) → IsGrid now → cells ≡ now.width * now.height → IsInOrder before now went (cells, 0) → IsInOrder before now false (0, 0)
@@ -75,6 +72,7 @@ stands_from : (before now : Grid) (went : Bool) (place : ℕ × ℕ) → (o : Is
 stands_from before now went place o layer cell object motion stands = by_going (o.midway.goes layer found.0) refl where
   found : (from : ℕ) × (was : Motion) × (slot_at before from layer ≡ Holds object was) × (landing before o.midway.goes layer from ≡ cell)
   found = o.midway.comes layer cell object motion stands
+
   by_going : (b : Bool) → o.midway.goes layer found.0 ≡ b →
       ((o.midway.goes layer cell ≡ false) × (was : Motion) × (slot_at before cell layer ≡ Holds object was)) ⊎ ((from : ℕ) × (winner before layer cell ≡ Some from) × (o.midway.goes layer from ≡ true))
   by_going true e =
@@ -92,6 +90,7 @@ slides_went before now went place o layer none zero from e = absurd (cc)
 slides_went before now went place o layer none (suc links) from e = by_going (λ to f. slides_went before now went place o layer none links to f) (o.midway.goes layer from) refl where
   link : IsLink before layer links from
   link = link_of before layer links from e
+
   free : ((to : ℕ) → slides_within before layer links to ≡ true → o.midway.goes layer to ≡ true) → o.midway.goes layer from ≡ false → (slot : Slot) → slot_at now link.to layer ≡ slot → slot ≡ Bare
   free again f Bare s = refl
   free again f (Holds object motion) s = elim (stands_from before now went place o layer link.to object motion s) [
@@ -103,6 +102,7 @@ slides_went before now went place o layer none (suc links) from e = by_going (λ
         let left : o.midway.goes layer from ≡ true = subst (λ (c : ℕ). o.midway.goes layer c ≡ true) same entered.2 in
         absurd (cc)
   ]
+
   by_going : ((to : ℕ) → slides_within before layer links to ≡ true → o.midway.goes layer to ≡ true) → (b : Bool) → o.midway.goes layer from ≡ b → o.midway.goes layer from ≡ true
   by_going again true f = f
   by_going again false f = absurd (none from link.to (still_aims before now o.midway layer from link.to link.aims (free again f (slot_at now link.to layer) refl)))
@@ -162,10 +162,12 @@ end_slot before now layer cell e = by_winner (winner before layer cell) refl whe
       slot_at now cell layer ≡ slot
   by_stood Bare s none f = end_bare before now layer cell e none (inr s)
   by_stood (Holds object motion) s none f = end_stays before now layer cell e object motion s f
+
   by_own : (b : Bool) → slides before layer cell ≡ b → entrant before layer cell ≡ None → ((from : ℕ) → winner before layer cell ≡ Some from → e.midway.goes layer from ≡ true → ⊥) →
       slot_at_rest (slot_at now cell layer) ≡ slid_slot before layer cell
   by_own true g nobody none = rw (nobody, g, slid_slot) (ap slot_at_rest (end_bare before now layer cell e none (inl (e.went cell ∙ g))))
   by_own false g nobody none = rw (nobody, g, slid_slot) (ap slot_at_rest (by_stood (slot_at before cell layer) refl none (e.went cell ∙ g)))
+
   by_slides : (from : ℕ) (b : Bool) → winner before layer cell ≡ Some from → slides before layer from ≡ b → slot_at_rest (slot_at now cell layer) ≡ slid_slot before layer cell
   by_slides from true f g =
       let enters : entrant before layer cell ≡ Some from = ap (if_slides before layer) f ∙ ap (λ (b : Bool). elim b [ true ↦ Some from | false ↦ None ]) g in
@@ -174,8 +176,9 @@ end_slot before now layer cell e = by_winner (winner before layer cell) refl whe
       let nobody : entrant before layer cell ≡ None = ap (if_slides before layer) f ∙ ap (λ (b : Bool). elim b [ true ↦ Some from | false ↦ None ]) g in
       by_own (slides before layer cell) refl nobody
       (λ other h k. let same : other ≡ from = same_Some other from (sym h ∙ f) in
-        let slid_too : slides before layer from ≡ true = subst (λ (c : ℕ). slides before layer c ≡ true) same (sym (e.went other) ∙ k) in
-        cc)
+      let slid_too : slides before layer from ≡ true = subst (λ (c : ℕ). slides before layer c ≡ true) same (sym (e.went other) ∙ k) in
+      cc)
+
   by_winner : (w : Option ℕ) → winner before layer cell ≡ w → slot_at_rest (slot_at now cell layer) ≡ slid_slot before layer cell
   by_winner None f = by_own (slides before layer cell) refl (ap (if_slides before layer) f) (λ other h k. let bad : Some other ≡ None = sym h ∙ f in cc)
   by_winner (Some from) f = by_slides from (slides before layer from) f refl
@@ -191,36 +194,43 @@ same_grids a b w h l c = same_fields a.width b.width a.height b.height a.layers 
 pub rest_exact : (before now : Grid) (cells : ℕ) → IsGrid now → cells ≡ now.width * now.height → IsInOrder before now false (cells, 0) → at_rest now ≡ slid before
 rest_exact before now cells shape all o = same_grids (at_rest now) (slid before) o.midway.width o.midway.height o.midway.layers
     (same_lists (map (map slot_at_rest) now.cells) (slid before).cells many (λ k d h. each k d h)) where
-  ended : (layer : ℕ) → layer < now.layers → IsEnd before now layer
-  ended layer within = record {
-    midway = o.midway;
-    went = λ from. same_tests (o.midway.goes layer from) (slides before layer from)
-        (went_slides before now false (cells, 0) o shape layer from)
-        (slides_went before now false (cells, 0) o layer (λ from to goes. stuck before now cells shape all o layer from to within goes) (cell_count before) from);
-    comes = stands_from before now false (cells, 0) o layer;
-  }
-  slot_after : ℕ → ℕ → Slot
-  slot_after cell layer = slid_slot before layer cell
-  cell_after : ℕ → List Slot
-  cell_after cell = map (slot_after cell) (range_with_len 0 before.layers)
-  whole : cell_count now ≡ cell_count before
-  whole = rw (o.midway.width, o.midway.height) refl
-  many : length (map (map slot_at_rest) now.cells) ≡ length (map cell_after (range_with_len 0 (cell_count before)))
-  many = length-map now.cells (map slot_at_rest) ∙ shape.cells ∙ whole ∙ sym (length-map-range_with_len cell_after 0 (cell_count before))
-  long : (k : ℕ) → k < length now.cells → length (map slot_at_rest (cell_at now k)) ≡ length (cell_after k)
-  long k h = length-map (cell_at now k) slot_at_rest ∙ shape.slots k [] h ∙ o.midway.layers ∙ sym (length-map-range_with_len (slot_after k) 0 before.layers)
-  slots : (k : ℕ) → k < length now.cells → (j : ℕ) (d : Slot) → j < length (map slot_at_rest (cell_at now k)) → get_or (map slot_at_rest (cell_at now k)) j d ≡ get_or (cell_after k) j d
-  slots k h j d h' =
-      let wide : length (map slot_at_rest (cell_at now k)) ≡ length (cell_at now k) = length-map (cell_at now k) slot_at_rest in
-      let full : length (cell_at now k) ≡ now.layers = shape.slots k [] h in
-      get_or-map slot_at_rest (cell_at now k) j Bare d (omega arith)
-      ∙ end_slot before now j k (ended j (omega arith))
-      ∙ sym (get_or-map-range_with_len (slot_after k) 0 before.layers j j d (omega (arith, o.midway.layers)) (omega arith))
-  each : (k : ℕ) (d : List Slot) → k < length (map (map slot_at_rest) now.cells) → get_or (map (map slot_at_rest) now.cells) k d ≡ get_or (map cell_after (range_with_len 0 (cell_count before))) k d
-  each k d h =
-      let same : length (map (map slot_at_rest) now.cells) ≡ length now.cells = length-map now.cells (map slot_at_rest) in
-      let within : k < length now.cells = omega arith in
-      let within' : k < cell_count before = omega (arith, shape.cells, whole) in
-      get_or-map (map slot_at_rest) now.cells k [] d within
-      ∙ same_lists (map slot_at_rest (cell_at now k)) (cell_after k) (long k within) (slots k within)
-      ∙ sym (get_or-map-range_with_len cell_after 0 (cell_count before) k k d within' (omega arith))
+      ended : (layer : ℕ) → layer < now.layers → IsEnd before now layer
+      ended layer within = record {
+        midway = o.midway;
+        went = λ from. same_tests (o.midway.goes layer from) (slides before layer from)
+            (went_slides before now false (cells, 0) o shape layer from)
+            (slides_went before now false (cells, 0) o layer (λ from to goes. stuck before now cells shape all o layer from to within goes) (cell_count before) from);
+        comes = stands_from before now false (cells, 0) o layer;
+      }
+
+      slot_after : ℕ → ℕ → Slot
+      slot_after cell layer = slid_slot before layer cell
+
+      cell_after : ℕ → List Slot
+      cell_after cell = map (slot_after cell) (range_with_len 0 before.layers)
+
+      whole : cell_count now ≡ cell_count before
+      whole = rw (o.midway.width, o.midway.height) refl
+
+      many : length (map (map slot_at_rest) now.cells) ≡ length (map cell_after (range_with_len 0 (cell_count before)))
+      many = length-map now.cells (map slot_at_rest) ∙ shape.cells ∙ whole ∙ sym (length-map-range_with_len cell_after 0 (cell_count before))
+
+      long : (k : ℕ) → k < length now.cells → length (map slot_at_rest (cell_at now k)) ≡ length (cell_after k)
+      long k h = length-map (cell_at now k) slot_at_rest ∙ shape.slots k [] h ∙ o.midway.layers ∙ sym (length-map-range_with_len (slot_after k) 0 before.layers)
+
+      slots : (k : ℕ) → k < length now.cells → (j : ℕ) (d : Slot) → j < length (map slot_at_rest (cell_at now k)) → get_or (map slot_at_rest (cell_at now k)) j d ≡ get_or (cell_after k) j d
+      slots k h j d h' =
+          let wide : length (map slot_at_rest (cell_at now k)) ≡ length (cell_at now k) = length-map (cell_at now k) slot_at_rest in
+          let full : length (cell_at now k) ≡ now.layers = shape.slots k [] h in
+          get_or-map slot_at_rest (cell_at now k) j Bare d (omega arith)
+          ∙ end_slot before now j k (ended j (omega arith))
+          ∙ sym (get_or-map-range_with_len (slot_after k) 0 before.layers j j d (omega (arith, o.midway.layers)) (omega arith))
+
+      each : (k : ℕ) (d : List Slot) → k < length (map (map slot_at_rest) now.cells) → get_or (map (map slot_at_rest) now.cells) k d ≡ get_or (map cell_after (range_with_len 0 (cell_count before))) k d
+      each k d h =
+          let same : length (map (map slot_at_rest) now.cells) ≡ length now.cells = length-map now.cells (map slot_at_rest) in
+          let within : k < length now.cells = omega arith in
+          let within' : k < cell_count before = omega (arith, shape.cells, whole) in
+          get_or-map (map slot_at_rest) now.cells k [] d within
+          ∙ same_lists (map slot_at_rest (cell_at now k)) (cell_after k) (long k within) (slots k within)
+          ∙ sym (get_or-map-range_with_len cell_after 0 (cell_count before) k k d within' (omega arith))

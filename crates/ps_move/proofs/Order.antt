@@ -1,6 +1,6 @@
 -- The order of the visits: the object that goes is its target's winner.
 use Rattle.std.proofs.Common.{◌≡◌, ◌≢◌, ℕ, suc, ◌+◌, ◌<◌, ◌≤◌, ◌⊎◌, inl, inr, Bool, true, false, Option, Some, None, List, length, refl, sym, ◌∙◌, ap, subst, arith}
-use Rattle.std.specs.Prelude.{nat_lt, nat_eq, slice_index_or}
+use Rattle.std.specs.Prelude.{nat_eq, slice_index_or}
 use Rattle.std.proofs.lemmas.Bool.Decides.{nat_tests, eqb_tells}
 use Rattle.std.proofs.lemmas.List.{length-set}
 use Rattle.std.proofs.lemmas.List.Sums.{count_by-le-length}
@@ -10,14 +10,14 @@ use Rattle.ps_model.specs.declared.pieces.Motion.{Motion}
 use Rattle.ps_model.specs.declared.pieces.Motion.TheVariants.{Still, Going, Acting}
 use Rattle.ps_model.specs.declared.pieces.Slot.{Slot}
 use Rattle.ps_model.specs.declared.pieces.Slot.TheVariants.{Bare, Holds}
-use Rattle.ps_model.specs.Grid.{Grid, IsGrid, cell_count, slot_at, neighbour}
-use Rattle.ps_model.specs.Movement.{target, aim_of, is_bare, is_bare_slot, winner, slides_within}
+use Rattle.ps_model.specs.Grid.{Grid, cell_count, slot_at, neighbour}
+use Rattle.ps_model.specs.Movement.{target, aim_of, is_bare, is_bare_slot, winner}
 use Rattle.ps_model.specs.WeakMovement.{landing}
-use Rattle.ps_model.proofs.Winners.{IsLink, slides_by, winner-contends, winner-of_bare, winner-of_left}
+use Rattle.ps_model.proofs.Winners.{slides_by, winner-of_bare, winner-of_left}
 use Rattle.ps_move.specs.Visits.{way, if_bare, is_going}
 use Rattle.ps_move.specs.Midway.{IsMidway, motion_left}
 use Rattle.ps_move.specs.Order.{next_on, ComesBefore, InTime, going_on, HasWon, IsInOrder}
-use Rattle.ps_move.proofs.Steps.{Goes, Waits, waits, stepped, entered, left_bare, beside, on_another_layer, step_midway, step_goes, step_going_on, step_going_on_other, neighbour-same, bare_holds, landed_at}
+use Rattle.ps_move.proofs.Steps.{Goes, waits, stepped, entered, left_bare, beside, on_another_layer, step_midway, step_goes, step_going_on, step_going_on_other, neighbour-same, bare_holds, landed_at}
 
 -- what it means that an object aims somewhere
 pub aim_some : (g : Grid) (cell : ℕ) (slot : Slot) (to : ℕ) → aim_of g cell slot ≡ Some to →
@@ -57,6 +57,7 @@ pub still_aims : (before now : Grid) (m : IsMidway before now) (layer from to : 
 still_aims before now m layer from to aims bare = by_going (m.goes layer from) refl where
   found : (object : ObjectId) × (direction : Direction) × (slot_at before from layer ≡ Holds object (Going direction)) × (neighbour before direction from ≡ Some to)
   found = aim_some before from (slot_at before from layer) to aims
+
   by_going : (b : Bool) → m.goes layer from ≡ b → way now layer from ≡ Some to
   by_going true e =
       let left : Motion = motion_left (m.goes layer from) (Going found.1) in
@@ -165,8 +166,10 @@ way_after : (now : Grid) (layer cell : ℕ) (object : ObjectId) (direction : Dir
 way_after now layer cell object direction to h l from t goes = by_layer (eqb_tells l layer) where
   after : Grid
   after = stepped now layer cell object to
+
   found : (target after l from ≡ Some t) × (slot_at after t l ≡ Bare)
   found = way_some after l (target after l from) t goes
+
   by_layer : ((nat_eq l layer ≡ true) × (l ≡ layer)) ⊎ ((nat_eq l layer ≡ false) × (l ≢ layer)) →
       ((way now l from ≡ Some t) × (l ≡ layer → from ≢ cell)) ⊎ ((l ≡ layer) × (t ≡ cell) × (from ≢ cell))
   by_layer (inl e) =
@@ -213,6 +216,7 @@ left_gone before now m layer cell stood bare = by_slot (slot_at before cell laye
       let stays : landing before m.goes layer cell ≡ cell = rw (f, landing) refl in
       absurd (bare_holds object (motion_left (m.goes layer cell) motion)
       (sym bare ∙ landed_at now layer (landing before m.goes layer cell) cell object (motion_left (m.goes layer cell) motion) stays (m.lands layer cell object motion e)))
+
   by_slot : (slot : Slot) → slot_at before cell layer ≡ slot → is_bare_slot slot ≡ false → m.goes layer cell ≡ true
   by_slot Bare e f = absurd (cc)
   by_slot (Holds object motion) e f = by_going object motion (m.goes layer cell) e refl
@@ -223,8 +227,10 @@ step_wins : (before now : Grid) (went : Bool) (layer cell : ℕ) (object : Objec
 step_wins before now went layer cell object direction to o h aims = by_bare (is_bare before layer to) refl where
   within : cell < cell_count before
   within = rw (← o.midway.width, ← o.midway.height) h.here.0
+
   goes : (s : ℕ) → target before layer s ≡ Some to → way now layer s ≡ Some to
   goes s a = still_aims before now o.midway layer s to a h.bare
+
   by_bare : (b : Bool) → is_bare before layer to ≡ b → winner before layer to ≡ Some cell
   by_bare true e = winner-of_bare before layer to cell e within aims
       (λ s a. subst (λ (k : ℕ). k ≤ s) (next_own cell layer) (o.time.to_bare layer s to h.here.1 (goes s a) e))
@@ -241,6 +247,7 @@ step_chain : (before now : Grid) (went : Bool) (layer cell : ℕ) (object : Obje
 step_chain before now went layer cell object direction to o h aims = by_bare (is_bare before layer to) refl where
   wins : winner before layer to ≡ Some cell
   wins = step_wins before now went layer cell object direction to o h aims
+
   by_bare : (b : Bool) → is_bare before layer to ≡ b → HasWon before (stepped now layer cell object to) layer cell
   by_bare true e =
       let all = count_by-le-length (λ (c : List Slot). is_going (slice_index_or c layer Bare)) now.cells in

@@ -1,8 +1,7 @@
 -- The parts of a movement.
-use Rattle.std.specs.Prelude.{◌≡◌, ℕ, ◌+◌, ◌≤◌, ◌||◌, Bool, true, false, cond}
+use Rattle.std.specs.Prelude.{◌≡◌, ℕ, ◌+◌, ◌≤◌, ◌||◌, Bool, false, cond}
 use Rattle.ps_model.specs.Grid.{Grid, IsGrid}
 use Rattle.ps_move.specs.Visits.{going_count}
-use Rattle.ps_move.specs.Midway.{IsMidway}
 use Rattle.ps_move.specs.Order.{IsInOrder}
 
 -- the visits from one place, a layer of a cell, to another lead from one grid to another, and tell whether any object went:

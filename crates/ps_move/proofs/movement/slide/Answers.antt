@@ -1,6 +1,5 @@
-use Rattle.std.proofs.Common.{◌≡◌, ◌∙◌, ◌+◌, ◌*◌, ◌≤◌, Bool, true, false, cond, ap, sym, subst, arith, refl}
+use Rattle.std.proofs.Common.{◌≡◌, ◌∙◌, ◌+◌, ◌*◌, ◌≤◌, Bool, false, cond, subst, arith, refl}
 use Rattle.ps_model.specs.Grid.{Grid, IsGrid, at_rest}
-use Rattle.ps_model.specs.Movement.{slid}
 use Rattle.ps_model.specs.WeakMovement.{IsWeaklySlid}
 use Rattle.ps_move.specs.Visits.{going_count}
 use Rattle.ps_move.specs.Order.{IsInOrder}

@@ -1,5 +1,5 @@
 use Rattle.std.proofs.Common.{◌≡◌, ◌<◌, arith}
-use Rattle.ps_move.proofs.Parts.{part_none, part_cell, part_then_visit}
+use Rattle.ps_move.proofs.Parts.{part_cell, part_then_visit}
 use Rattle.ps_move.proofs.movement.visit_cell.Goals as goal
 
 pub loop-layer-preserved : goal.loop-layer-preserved
