@@ -20,25 +20,29 @@ pub count_by-set : {X : Type 0} (p : X → Bool) (xs : List X) (i : ℕ) (y d : 
     count_by p (slice_set xs i y) + one_if (p (get_or xs i d)) ≡ count_by p xs + one_if (p y)
 count_by-set p xs i y d h = sum_by-set (λ x. cond (p x) 1 0) xs i y d h
 
+-- how many slots of a layer pass a test
+abbrev pub count_on : (Slot → Bool) → Grid → ℕ → ℕ
+count_on test g layer = count_by (λ cell. test (get_or cell layer Bare)) g.cells
+
 -- one slot changed, counted on its own layer
-pub count_of-with_same : (g : Grid) (cell layer : ℕ) (slot : Slot) (object : ObjectId) → IsGrid g → IsPlace g cell layer →
-    count_of (with_slot g cell layer slot) layer object + one_if (holds_object object (slot_at g cell layer)) ≡ count_of g layer object + one_if (holds_object object slot)
-count_of-with_same g cell layer slot object shape place =
+pub count_on-with_same : (test : Slot → Bool) (g : Grid) (cell layer : ℕ) (slot : Slot) → IsGrid g → IsPlace g cell layer →
+    count_on test (with_slot g cell layer slot) layer + one_if (test (slot_at g cell layer)) ≡ count_on test g layer + one_if (test slot)
+count_on-with_same test g cell layer slot shape place =
     let within : cell < length g.cells = rw shape.cells place.0 in
-    let p : List Slot → Bool = λ c. holds_object object (get_or c layer Bare) in
+    let p : List Slot → Bool = λ c. test (get_or c layer Bare) in
     let e = count_by-set p g.cells cell (slice_set (cell_at g cell) layer slot) [] within in
     let s : get_or (slice_set (cell_at g cell) layer slot) layer Bare ≡ slot = get_or-set_same (cell_at g cell) layer slot Bare (cell_long g cell layer shape place) in
-    e ∙ ap (λ (x : Slot). count_of g layer object + one_if (holds_object object x)) s
+    e ∙ ap (λ (x : Slot). count_on test g layer + one_if (test x)) s
 
 -- one slot changed, counted on another layer
-pub count_of-with_other : (g : Grid) (cell layer l : ℕ) (slot : Slot) (object : ObjectId) → IsGrid g → IsPlace g cell layer → l ≢ layer →
-    count_of (with_slot g cell layer slot) l object ≡ count_of g l object
-count_of-with_other g cell layer l slot object shape place apart =
+pub count_on-with_other : (test : Slot → Bool) (g : Grid) (cell layer l : ℕ) (slot : Slot) → IsGrid g → IsPlace g cell layer → l ≢ layer →
+    count_on test (with_slot g cell layer slot) l ≡ count_on test g l
+count_on-with_other test g cell layer l slot shape place apart =
     let within : cell < length g.cells = rw shape.cells place.0 in
-    let p : List Slot → Bool = λ c. holds_object object (get_or c l Bare) in
+    let p : List Slot → Bool = λ c. test (get_or c l Bare) in
     let e = count_by-set p g.cells cell (slice_set (cell_at g cell) layer slot) [] within in
     let s : get_or (slice_set (cell_at g cell) layer slot) l Bare ≡ get_or (cell_at g cell) l Bare = get_or-set_other (cell_at g cell) layer l slot Bare apart in
-    let f : one_if (p (slice_set (cell_at g cell) layer slot)) ≡ one_if (p (cell_at g cell)) = ap (λ (x : Slot). one_if (holds_object object x)) s in
+    let f : one_if (p (slice_set (cell_at g cell) layer slot)) ≡ one_if (p (cell_at g cell)) = ap (λ (x : Slot). one_if (test x)) s in
     omega arith
 
 -- rest keeps a slot's object

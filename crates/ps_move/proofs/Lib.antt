@@ -1,2 +1,4 @@
 mod Steps
+mod Order
+mod Ends
 mod Parts

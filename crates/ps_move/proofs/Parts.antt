@@ -1,6 +1,7 @@
 -- The parts of a movement: a visit, one part after another, and the rest at the end.
 use Rattle.std.proofs.Common.{◌≡◌, ℕ, ◌+◌, ◌*◌, ◌<◌, ◌≤◌, ◌||◌, Bool, true, false, cond, Option, Some, None, is_some, List, length, get_or, refl, sym, ◌∙◌, ap, subst, arith}
 use Rattle.std.specs.Prelude.{count_by}
+use Rattle.std.proofs.Math.Bool.{or-false, or-true, or_assoc}
 use Rattle.std.proofs.Math.Nat.{mul-le-mul}
 use Rattle.std.proofs.lemmas.List.Sums.{sum_by-le, count_by-le-length}
 use Rattle.ps_model.specs.declared.pieces.ObjectId.{ObjectId}
@@ -11,23 +12,26 @@ use Rattle.ps_model.specs.declared.pieces.Slot.{Slot}
 use Rattle.ps_model.specs.declared.pieces.Slot.TheVariants.{Bare, Holds}
 use Rattle.ps_model.specs.Limits.{side_limit, layer_limit}
 use Rattle.ps_model.specs.Grid.{Grid, IsGrid, IsPlace, slot_at, slot_at_rest, at_rest, with_slot, neighbour}
-use Rattle.ps_model.specs.Movement.{aim_of, is_bare_slot}
+use Rattle.ps_model.specs.Movement.{target, aim_of, is_bare, is_bare_slot}
 use Rattle.ps_model.specs.WeakMovement.{IsWeaklySlid, landing}
 use Rattle.ps_model.proofs.Slots.{slot_at-at_rest, IsGrid-with_slot}
 use Rattle.ps_model.proofs.Counts.{count_of-at_rest}
 use Rattle.ps_model.proofs.Neighbours.{neighbour-within}
 use Rattle.ps_move.specs.Visits.{way, if_bare, gone, visited, is_going, going_count}
-use Rattle.ps_move.specs.Midway.{IsMidway, IsPart}
-use Rattle.ps_move.proofs.Steps.{Goes, stepped, half_shape, step_midway, step_fewer}
+use Rattle.ps_move.specs.Midway.{IsMidway}
+use Rattle.ps_move.specs.Order.{IsInOrder}
+use Rattle.ps_move.specs.Parts.{IsPart}
+use Rattle.ps_move.proofs.Steps.{Goes, stepped, half_shape, step_fewer}
+use Rattle.ps_move.proofs.Order.{way_some, time_stays, step_order, next_cell, next_first}
 
--- a part in which nothing goes
-pub part_none : (g : Grid) → IsPart false g g
-part_none g = record {
+-- nothing at all
+pub part_none : (g : Grid) (place : ℕ × ℕ) → IsPart false g g place place
+part_none g place = record {
   shape = λ shape. shape;
   width = refl;
   height = refl;
   layers = refl;
-  midway = λ before m. m;
+  order = λ before moved o. subst (λ (b : Bool). IsInOrder before g b place) (sym (or-false moved)) o;
   fewer = omega arith;
   same = λ e. refl;
 }
@@ -41,49 +45,48 @@ none_of true b e = absurd (cc)
 none_of false b e = (refl, e)
 
 -- one part after another
-pub part_then : (a b : Bool) (old now new : Grid) → IsPart a old now → IsPart b now new → IsPart (a || b) old new
-part_then a b old now new p q = record {
+pub part_then : (a b : Bool) (old now new : Grid) (first next last : ℕ × ℕ) → IsPart a old now first next → IsPart b now new next last → IsPart (a || b) old new first last
+part_then a b old now new first next last p q = record {
   shape = λ shape. q.shape (p.shape shape);
   width = q.width ∙ p.width;
   height = q.height ∙ p.height;
   layers = q.layers ∙ p.layers;
-  midway = λ before m. q.midway before (p.midway before m);
+  order = λ before moved o. subst (λ (c : Bool). IsInOrder before new c last) (or_assoc moved a b) (q.order before (moved || a) (p.order before moved o));
   fewer = any_of a b (going_count old) (going_count now) (going_count new) p.fewer q.fewer;
   same = λ e. let none = none_of a b e in q.same none.1 ∙ p.same none.0;
 }
 
--- what it means that a cell's layer is bare
-bare_way : (g : Grid) (layer n to : ℕ) (slot : Slot) → slot_at g n layer ≡ slot → if_bare g layer (Some n) ≡ Some to → (n ≡ to) × (slot_at g to layer ≡ Bare)
-bare_way g layer n to Bare e w =
-    let P : Slot → Type 0 = λ s. elim (is_bare_slot s) [ true ↦ Some n | false ↦ None ] ≡ Some to in
-    let w' : Some n ≡ Some to = subst P e w in
-    let same : n ≡ to = cc in
-    (same, rw (← same) e)
-bare_way g layer n to (Holds object motion) e w =
-    let P : Slot → Type 0 = λ s. elim (is_bare_slot s) [ true ↦ Some n | false ↦ None ] ≡ Some to in
-    let w' : None ≡ Some to = subst P e w in
-    absurd (cc)
+-- a visit in which nothing goes
+part_stays : (g : Grid) (layer cell : ℕ) → way g layer cell ≡ None → IsPart false g g (cell, layer) (cell, layer + 1)
+part_stays g layer cell none = record {
+  shape = λ shape. shape;
+  width = refl;
+  height = refl;
+  layers = refl;
+  order = λ before moved o. subst (λ (b : Bool). IsInOrder before g b (cell, layer + 1)) (sym (or-false moved))
+      (record { midway = o.midway; won = o.won; time = time_stays before g moved layer cell none o.time });
+  fewer = omega arith;
+  same = λ e. refl;
+}
 
-way_some : (g : Grid) (layer : ℕ) (aim : Option ℕ) (to : ℕ) → if_bare g layer aim ≡ Some to → (aim ≡ Some to) × (slot_at g to layer ≡ Bare)
-way_some g layer None to w = absurd (cc)
-way_some g layer (Some n) to w = let found = bare_way g layer n to (slot_at g n layer) refl w in (ap Some found.0, found.1)
-
--- the part in which one object goes
-part_step : (g : Grid) (layer cell : ℕ) (object : ObjectId) (direction : Direction) (to : ℕ) → Goes g layer cell object direction to → IsPart true g (stepped g layer cell object to)
-part_step g layer cell object direction to h = record {
+-- a visit in which one object goes
+part_goes : (g : Grid) (layer cell : ℕ) (object : ObjectId) (direction : Direction) (to : ℕ) → Goes g layer cell object direction to →
+    IsPart true g (stepped g layer cell object to) (cell, layer) (cell, layer + 1)
+part_goes g layer cell object direction to h = record {
   shape = λ shape. IsGrid-with_slot (with_slot g to layer (Holds object Still)) cell layer Bare (half_shape g layer cell object direction to h) h.here;
   width = refl;
   height = refl;
   layers = refl;
-  midway = λ before m. step_midway before g layer cell object direction to m h;
+  order = λ before moved o. subst (λ (b : Bool). IsInOrder before (stepped g layer cell object to) b (cell, layer + 1)) (sym (or-true moved))
+      (step_order before g moved layer cell object direction to o h);
   fewer = let less = step_fewer g layer cell object direction to h in omega arith;
   same = λ e. absurd (cc);
 }
 
 -- what a visit does, by what stands there and where it can go
 part_gone : (g : Grid) (layer cell : ℕ) (slot : Slot) (to : Option ℕ) → IsGrid g → IsPlace g cell layer → slot_at g cell layer ≡ slot → if_bare g layer (aim_of g cell slot) ≡ to →
-    IsPart (is_some to) g (gone g layer cell to)
-part_gone g layer cell slot None shape place e w = part_none g
+    IsPart (is_some to) g (gone g layer cell to) (cell, layer) (cell, layer + 1)
+part_gone g layer cell slot None shape place e w = part_stays g layer cell (ap (λ (s : Slot). if_bare g layer (aim_of g cell s)) e ∙ w)
 part_gone g layer cell Bare (Some to) shape place e w = absurd (cc)
 part_gone g layer cell (Holds object Still) (Some to) shape place e w = absurd (cc)
 part_gone g layer cell (Holds object Acting) (Some to) shape place e w = absurd (cc)
@@ -91,19 +94,31 @@ part_gone g layer cell (Holds object (Going direction)) (Some to) shape place e 
     let free = way_some g layer (neighbour g direction cell) to w in
     let near = neighbour-within g direction cell to shape.some_row place.0 free.0 in
     let h : Goes g layer cell object direction to = record { shape = shape; here = place; there = (near.0, place.1); apart = near.1; stands = e; bare = free.1; aims = free.0 } in
-    let P : Slot → Type 0 = λ s. IsPart true g (with_slot (with_slot g to layer (slot_at_rest s)) cell layer Bare) in
-    subst P (sym e) (part_step g layer cell object direction to h)
+    let P : Slot → Type 0 = λ s. IsPart true g (with_slot (with_slot g to layer (slot_at_rest s)) cell layer Bare) (cell, layer) (cell, layer + 1) in
+    subst P (sym e) (part_goes g layer cell object direction to h)
 
 -- a visit is a part
-pub part_visit : (g : Grid) (layer cell : ℕ) → IsGrid g → IsPlace g cell layer → IsPart (is_some (way g layer cell)) g (visited g layer cell)
+pub part_visit : (g : Grid) (layer cell : ℕ) → IsGrid g → IsPlace g cell layer → IsPart (is_some (way g layer cell)) g (visited g layer cell) (cell, layer) (cell, layer + 1)
 part_visit g layer cell shape place = part_gone g layer cell (slot_at g cell layer) (way g layer cell) shape place refl refl
 
 -- a visit after a part
-pub part_then_visit : (went moved : Bool) (old now new : Grid) (layer cell : ℕ) → IsGrid old → IsPlace old cell layer → IsPart went old now →
-    new ≡ visited now layer cell → moved ≡ is_some (way now layer cell) → IsPart (went || moved) old new
-part_then_visit went moved old now new layer cell shape place p grid told =
+pub part_then_visit : (went moved : Bool) (old now new : Grid) (first : ℕ × ℕ) (layer cell : ℕ) → IsGrid old → IsPlace old cell layer → IsPart went old now first (cell, layer) →
+    new ≡ visited now layer cell → moved ≡ is_some (way now layer cell) → IsPart (went || moved) old new first (cell, layer + 1)
+part_then_visit went moved old now new first layer cell shape place p grid told =
     let place' : IsPlace now cell layer = rw (p.width, p.height, p.layers) place in
-    rw (grid, told) (part_then went (is_some (way now layer cell)) old now (visited now layer cell) p (part_visit now layer cell (p.shape shape) place'))
+    rw (grid, told) (part_then went (is_some (way now layer cell)) old now (visited now layer cell) first (cell, layer) (cell, layer + 1) p (part_visit now layer cell (p.shape shape) place'))
+
+-- after the last layer of a cell comes the first of the next
+pub part_cell : (went : Bool) (old new : Grid) (first : ℕ × ℕ) (cell layer : ℕ) → layer ≡ new.layers → IsPart went old new first (cell, layer) → IsPart went old new first (cell + 1, 0)
+part_cell went old new first cell layer end p = record {
+  shape = p.shape;
+  width = p.width;
+  height = p.height;
+  layers = p.layers;
+  order = λ before moved o. next_cell before new (moved || went) cell layer end (p.order before moved o);
+  fewer = p.fewer;
+  same = p.same;
+}
 
 -- how many objects there can be
 pub going_count-bound : (g : Grid) → IsGrid g → going_count g ≤ side_limit * side_limit * layer_limit
@@ -117,7 +132,7 @@ going_count-bound g shape =
     omega arith
 
 -- before anything went
-pub midway_none : (g : Grid) → IsMidway g g
+midway_none : (g : Grid) → IsMidway g g
 midway_none g = record {
   width = refl;
   height = refl;
@@ -127,6 +142,23 @@ midway_none g = record {
   apart = λ layer first second one other motion motion' stood stood' meets. meets;
   comes = λ layer cell object motion stands. (cell, motion, stands, refl);
   as_often = λ layer object. refl;
+}
+
+none_waits : (g : Grid) (went : Bool) (layer from to : ℕ) → way g layer from ≡ Some to → is_bare g layer to ≡ false → ⊥
+none_waits g went layer from to goes taken =
+    let free : is_bare g layer to ≡ true = ap is_bare_slot (way_some g layer (target g layer from) to goes).1 in
+    cc
+
+pub order_none : (g : Grid) → IsInOrder g g false (0, 0)
+unfolding midway_none
+order_none g = record {
+  midway = midway_none g;
+  won = λ layer from e. absurd (cc);
+  time = record {
+    to_bare = λ l from to within goes bare. rw next_first (omega arith);
+    to_left = λ l from to within goes left. absurd (none_waits g false l from to goes left);
+    unmoved = λ e l from to within goes. rw next_first (omega arith);
+  };
 }
 
 held_at_rest : (slot : Slot) (object : ObjectId) (motion : Motion) → slot_at_rest slot ≡ Holds object motion → (was : Motion) × (slot ≡ Holds object was)

@@ -14,9 +14,10 @@ use Rattle.ps_model.specs.Grid.{Grid, IsGrid, IsPlace, cell_at, slot_at, with_sl
 use Rattle.ps_model.specs.Movement.{target, aim_of}
 use Rattle.ps_model.specs.WeakMovement.{count_of, landing, holds_object}
 use Rattle.ps_model.proofs.Slots.{cell_long, slot_at-with_same, slot_at-with_other_cell, slot_at-with_other_layer, IsGrid-with_slot}
-use Rattle.ps_model.proofs.Counts.{one_if, count_by-set, count_of-with_same, count_of-with_other}
+use Rattle.ps_model.proofs.Counts.{one_if, count_by-set, count_on-with_same, count_on-with_other}
 use Rattle.ps_move.specs.Visits.{is_going, going_count}
 use Rattle.ps_move.specs.Midway.{IsMidway, motion_left}
+use Rattle.ps_move.specs.Order.{going_on}
 
 -- an object goes: it stands on a layer of a cell with a direction for motion, and its target is bare
 pub record Goes (g : Grid) (layer cell : ℕ) (object : ObjectId) (direction : Direction) (to : ℕ) : Type 0 where
@@ -106,9 +107,9 @@ lands_own : (before : Grid) (goes : ℕ → ℕ → Bool) (layer cell to : ℕ) 
 lands_own before goes layer cell to aims = rw (goes_own goes layer cell, landing, aims) refl
 
 -- an object with a direction for motion has not gone yet: its place and its motion before the movement
-record Waits (before : Grid) (goes : ℕ → ℕ → Bool) (layer cell : ℕ) (object : ObjectId) (direction : Direction) : Type 0 where
-  stood : slot_at before cell layer ≡ Holds object (Going direction)
-  stays : landing before goes layer cell ≡ cell
+pub record Waits (before : Grid) (goes : ℕ → ℕ → Bool) (layer cell : ℕ) (object : ObjectId) (direction : Direction) : Type 0 where
+  pub stood : slot_at before cell layer ≡ Holds object (Going direction)
+  pub stays : landing before goes layer cell ≡ cell
 
 waits_from : (before : Grid) (goes : ℕ → ℕ → Bool) (layer cell from : ℕ) (object : ObjectId) (was : Motion) (direction : Direction) (went : Bool) →
     goes layer from ≡ went → slot_at before from layer ≡ Holds object was → landing before goes layer from ≡ cell → Going direction ≡ motion_left went was →
@@ -123,19 +124,19 @@ waits_from before goes layer cell from object was direction false e stood lands 
 holds_motion : (object other : ObjectId) (motion motion' : Motion) → Holds object motion ≡ Holds other motion' → motion ≡ motion'
 holds_motion object other motion motion' e = cc
 
-landed_at : (now : Grid) (layer at cell : ℕ) (object : ObjectId) (motion : Motion) → at ≡ cell → slot_at now at layer ≡ Holds object motion → slot_at now cell layer ≡ Holds object motion
+pub landed_at : (now : Grid) (layer at cell : ℕ) (object : ObjectId) (motion : Motion) → at ≡ cell → slot_at now at layer ≡ Holds object motion → slot_at now cell layer ≡ Holds object motion
 landed_at now layer at cell object motion e h = rw (← e) h
 
 layered_at : (now : Grid) (l layer cell : ℕ) (object : ObjectId) (motion : Motion) → l ≡ layer → slot_at now cell l ≡ Holds object motion → slot_at now cell layer ≡ Holds object motion
 layered_at now l layer cell object motion e h = rw (← e) h
 
-bare_holds : (object : ObjectId) (motion : Motion) → Bare ≡ Holds object motion → ⊥
+pub bare_holds : (object : ObjectId) (motion : Motion) → Bare ≡ Holds object motion → ⊥
 bare_holds object motion e = cc
 
 holds_object_same : (object other : ObjectId) (motion motion' : Motion) → Holds object motion ≡ Holds other motion' → object ≡ other
 holds_object_same object other motion motion' e = cc
 
-waits : (before now : Grid) (layer cell : ℕ) (object : ObjectId) (direction : Direction) → (m : IsMidway before now) → slot_at now cell layer ≡ Holds object (Going direction) →
+pub waits : (before now : Grid) (layer cell : ℕ) (object : ObjectId) (direction : Direction) → (m : IsMidway before now) → slot_at now cell layer ≡ Holds object (Going direction) →
     Waits before m.goes layer cell object direction
 waits before now layer cell object direction m stands =
     let found = m.comes layer cell object (Going direction) stands in
@@ -258,16 +259,16 @@ step_as_often : (g : Grid) (layer cell : ℕ) (object : ObjectId) (direction : D
     ((nat_eq l layer ≡ true) × (l ≡ layer)) ⊎ ((nat_eq l layer ≡ false) × (l ≢ layer)) → count_of (stepped g layer cell object to) l o ≡ count_of g l o
 step_as_often g layer cell object direction to h l o (inl e) =
     let half : Grid = with_slot g to layer (Holds object Still) in
-    let first = count_of-with_same g to layer (Holds object Still) o h.shape h.there in
-    let second = count_of-with_same half cell layer Bare o (half_shape g layer cell object direction to h) h.here in
+    let first = count_on-with_same (holds_object o) g to layer (Holds object Still) h.shape h.there in
+    let second = count_on-with_same (holds_object o) half cell layer Bare (half_shape g layer cell object direction to h) h.here in
     let bare : one_if (holds_object o (slot_at g to layer)) ≡ 0 = ap (λ (s : Slot). one_if (holds_object o s)) h.bare in
     let stands : slot_at half cell layer ≡ Holds object (Going direction) = slot_at-with_other_cell g to layer cell layer (Holds object Still) (λ (f : cell ≡ to). h.apart (sym f)) ∙ h.stands in
     let held : one_if (holds_object o (slot_at half cell layer)) ≡ one_if (holds_object o (Holds object Still)) = ap (λ (s : Slot). one_if (holds_object o s)) stands in
     let equal : count_of (stepped g layer cell object to) layer o ≡ count_of g layer o = omega arith in
     rw e.1 equal
 step_as_often g layer cell object direction to h l o (inr e) =
-    count_of-with_other (with_slot g to layer (Holds object Still)) cell layer l Bare o (half_shape g layer cell object direction to h) h.here e.1
-    ∙ count_of-with_other g to layer l (Holds object Still) o h.shape h.there e.1
+    count_on-with_other (holds_object o) (with_slot g to layer (Holds object Still)) cell layer l Bare (half_shape g layer cell object direction to h) h.here e.1
+    ∙ count_on-with_other (holds_object o) g to layer l (Holds object Still) h.shape h.there e.1
 
 -- a movement that has begun goes on
 pub step_midway : (before now : Grid) (layer cell : ℕ) (object : ObjectId) (direction : Direction) (to : ℕ) → IsMidway before now → Goes now layer cell object direction to →
@@ -308,3 +309,30 @@ step_fewer g layer cell object direction to h =
     let stands : slot_at half cell layer ≡ Holds object (Going direction) = slot_at-with_other_cell g to layer cell layer (Holds object Still) (λ (f : cell ≡ to). h.apart (sym f)) ∙ h.stands in
     let held : one_if (is_going (slot_at half cell layer)) ≡ 1 = ap (λ (s : Slot). one_if (is_going s)) stands in
     omega arith
+
+-- on its layer one fewer, and as many on each other layer
+pub step_going_on : (g : Grid) (layer cell : ℕ) (object : ObjectId) (direction : Direction) (to : ℕ) → Goes g layer cell object direction to →
+    going_on (stepped g layer cell object to) layer + 1 ≡ going_on g layer
+step_going_on g layer cell object direction to h =
+    let half : Grid = with_slot g to layer (Holds object Still) in
+    let first = count_on-with_same is_going g to layer (Holds object Still) h.shape h.there in
+    let second = count_on-with_same is_going half cell layer Bare (half_shape g layer cell object direction to h) h.here in
+    let bare : one_if (is_going (slot_at g to layer)) ≡ 0 = ap (λ (s : Slot). one_if (is_going s)) h.bare in
+    let stands : slot_at half cell layer ≡ Holds object (Going direction) = slot_at-with_other_cell g to layer cell layer (Holds object Still) (λ (f : cell ≡ to). h.apart (sym f)) ∙ h.stands in
+    let held : one_if (is_going (slot_at half cell layer)) ≡ 1 = ap (λ (s : Slot). one_if (is_going s)) stands in
+    omega arith
+
+pub step_going_on_other : (g : Grid) (layer cell : ℕ) (object : ObjectId) (direction : Direction) (to : ℕ) → Goes g layer cell object direction to →
+    (l : ℕ) → l ≢ layer → going_on (stepped g layer cell object to) l ≡ going_on g l
+step_going_on_other g layer cell object direction to h l n =
+    count_on-with_other is_going (with_slot g to layer (Holds object Still)) cell layer l Bare (half_shape g layer cell object direction to h) h.here n
+    ∙ count_on-with_other is_going g to layer l (Holds object Still) h.shape h.there n
+
+-- which objects went after the step
+pub step_goes : (before now : Grid) (layer cell : ℕ) (object : ObjectId) (direction : Direction) (to : ℕ) → (m : IsMidway before now) → (h : Goes now layer cell object direction to) →
+    (l c : ℕ) → (step_midway before now layer cell object direction to m h).goes l c ≡ true → ((l ≡ layer) × (c ≡ cell)) ⊎ (m.goes l c ≡ true)
+unfolding step_midway
+step_goes before now layer cell object direction to m h l c e = elim (place_cases layer cell l c) [
+  | inl p ↦ inl p
+  | inr n ↦ inr (sym (goes_else m.goes layer cell l c n) ∙ e)
+]

@@ -1,2 +1,4 @@
 pub mod Visits
 pub mod Midway
+pub mod Order
+pub mod Parts

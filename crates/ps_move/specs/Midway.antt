@@ -1,13 +1,12 @@
 -- A movement that has begun: some objects went to their targets and are at rest there, and the others stand where they stood,
 -- each with its motion.
-use Rattle.std.specs.Prelude.{◌≡◌, ℕ, ◌+◌, ◌≤◌, Bool, true, false, cond}
+use Rattle.std.specs.Prelude.{◌≡◌, ℕ, Bool, true, false}
 use Rattle.ps_model.specs.declared.pieces.ObjectId.{ObjectId}
 use Rattle.ps_model.specs.declared.pieces.Motion.{Motion}
 use Rattle.ps_model.specs.declared.pieces.Motion.TheVariants.{Still}
 use Rattle.ps_model.specs.declared.pieces.Slot.TheVariants.{Holds}
-use Rattle.ps_model.specs.Grid.{Grid, IsGrid, slot_at}
+use Rattle.ps_model.specs.Grid.{Grid, slot_at}
 use Rattle.ps_model.specs.WeakMovement.{count_of, landing}
-use Rattle.ps_move.specs.Visits.{going_count}
 
 -- the motion of an object that may have gone
 abbrev pub motion_left : Bool → Motion → Motion
@@ -29,14 +28,3 @@ pub record IsMidway (before now : Grid) : Type 0 where
   pub comes : (layer cell : ℕ) (object : ObjectId) (motion : Motion) → slot_at now cell layer ≡ Holds object motion →
       (from : ℕ) × (was : Motion) × (slot_at before from layer ≡ Holds object was) × (landing before goes layer from ≡ cell)
   pub as_often : (layer : ℕ) (object : ObjectId) → count_of now layer object ≡ count_of before layer object
-
--- a part of a movement leads from one grid to another, and tells whether any object went: then fewer have a direction for
--- motion, and else nothing changed
-pub record IsPart (went : Bool) (old new : Grid) : Type 0 where
-  pub shape : IsGrid old → IsGrid new
-  pub width : new.width ≡ old.width
-  pub height : new.height ≡ old.height
-  pub layers : new.layers ≡ old.layers
-  pub midway : (before : Grid) → IsMidway before old → IsMidway before new
-  pub fewer : going_count new + cond went 1 0 ≤ going_count old
-  pub same : went ≡ false → new ≡ old

@@ -1,8 +1,7 @@
 //! The movement of a turn.
 //!
-//! [`slide`] moves the objects of a board whose motion is a direction, and brings all to rest. What it promises is the weak
-//! slide: each object stands where it stood or in its target, none is lost or made, and no slot holds two. Which of several
-//! objects enters a cell, and that whatever can move does, is not promised yet; tests compare rows.
+//! [`slide`] moves the objects of a board whose motion is a direction, and brings all to rest. Its contract says which board
+//! comes out: `slid` of `ps_model` gives each slot, by who wins a cell and which objects slide, with no word of passes.
 #![tactic(auto)]
 
 mod movement;

@@ -2,12 +2,15 @@
 //!
 //! The cells are visited in the order of their numbers, in passes, until a pass moves nothing. An object that has moved is at
 //! rest, so that it goes one cell at most, and an object that waits for another to leave goes in the same pass or in a later one.
+//! Of several that want to enter a cell, the visits come first to the one that may: the least, or, where an object left the
+//! cell, the next one after it.
 
 ghost use Rattle.std.specs.Prelude.{◌≡◌, ℕ, ◌+◌, ◌*◌, ◌<◌, ◌≤◌, IfSome, is_some};
 ghost use Rattle.ps_model.specs.Grid.{IsGrid, IsPlace, at_rest, neighbour};
+ghost use Rattle.ps_model.specs.Movement.{slid};
 ghost use Rattle.ps_model.specs.WeakMovement.{IsWeaklySlid};
 ghost use Rattle.ps_move.specs.Visits.{way, visited, going_count};
-ghost use Rattle.ps_move.specs.Midway.{IsPart};
+ghost use Rattle.ps_move.specs.Parts.{IsPart};
 
 use ps_board::{Board, Direction, LayerId, Motion};
 use std::marker::Model;
@@ -40,7 +43,11 @@ impl Slid {
 /// Each object whose motion is a direction goes one cell on in its layer, where that cell is on the board and has nothing on
 /// the layer, or becomes free in the same movement. Nothing else moves: two objects never change places, no ring of objects
 /// turns, and an object that acts stays where it is. (PuzzleScript documentation, collision layers.)
+///
+/// `exact` says where everything stands afterwards, and `slid` what that means for each object: it stands where it stood or in
+/// its target, and none is lost or made.
 pub fn slide<B: Board>(board: &mut B) -> Slid
+    ensures exact { B.grid board.new ≡ slid (B.grid board.old) }
     ensures slid { IsWeaklySlid (B.grid board.old) (B.grid board.new) }
     ensures some_pass { 0 < result }
     ensures one_pass { result ≡ 1 → B.grid board.new ≡ at_rest (B.grid board.old) }
@@ -57,7 +64,7 @@ pub fn slide<B: Board>(board: &mut B) -> Slid
 /// Visits each cell in the order of the numbers, and tells whether any object went.
 fn pass<B: Board>(board: &mut B) -> bool
     ensures shape { IsGrid (B.grid board.old) }
-    ensures part { IsPart result (B.grid board.old) (B.grid board.new) }
+    ensures part { IsPart result (B.grid board.old) (B.grid board.new) (0, 0) ((B.grid board.old).width * (B.grid board.old).height, 0) }
 {
     let (width, height) = board.size();
     let mut went = false;
@@ -71,7 +78,7 @@ fn pass<B: Board>(board: &mut B) -> bool
 fn visit_cell<B: Board>(board: &mut B, cell: u32) -> bool
     requires shape { IsGrid (B.grid board.old) }
     requires cell { cell < (B.grid board.old).width * (B.grid board.old).height }
-    ensures { IsPart result (B.grid board.old) (B.grid board.new) }
+    ensures { IsPart result (B.grid board.old) (B.grid board.new) (cell, 0) (cell + 1, 0) }
 {
     let mut went = false;
     for layer in 0..board.layers() {
@@ -150,8 +157,8 @@ mod tests {
         }
     }
 
-    fn letter_of(rows: &[&str], x: u32, y: u32) -> u8 {
-        let Some(row) = rows.get(y as usize) else {
+    fn letter_of(rows: &[&str], x: u32, row: u32) -> u8 {
+        let Some(row) = rows.get(row as usize) else {
             return b'.';
         };
         match row.as_bytes().get(x as usize) {
@@ -160,79 +167,130 @@ mod tests {
         }
     }
 
-    fn lay<B: Board>(board: &mut B, x: u32, y: u32, letter: u8) {
+    fn lay<B: Board>(board: &mut B, layer: u32, x: u32, y: u32, letter: u8) {
         let (width, height) = board.size();
-        if x < width && y < height {
+        if x < width && y < height && layer < board.layers() {
             if let Some((object, motion)) = piece(letter) {
-                board.put(x * height + y, LayerId(0), Some(object), motion);
+                board.put(x * height + y, LayerId(layer), Some(object), motion);
             }
         }
     }
 
-    fn look<B: Board>(board: &B, x: u32, y: u32) -> Option<(ObjectId, Motion)> {
+    fn look<B: Board>(board: &B, layer: u32, x: u32, y: u32) -> Option<(ObjectId, Motion)> {
         let (width, height) = board.size();
-        if x < width && y < height {
+        if x < width && y < height && layer < board.layers() {
             let cell = x * height + y;
-            let object = board.object(cell, LayerId(0))?;
-            return Some((object, board.motion(cell, LayerId(0))));
+            let object = board.object(cell, LayerId(layer))?;
+            return Some((object, board.motion(cell, LayerId(layer))));
         }
         None
     }
 
-    /// Slides a board of one layer, its rows given from the top, and compares.
+    /// Slides a board, its rows given from the top and its layers from the lowest, and compares.
     fn check(
         rt: &impl Abort,
         alloc: Global,
-        size: (u32, u32),
+        size: (u32, u32, u32),
         before: &[&str],
         after: &[&str],
         passes: u32,
     ) -> Result<(), Fail>
         requires width { (0 < size.0) × (size.0 ≤ 64) }
         requires height { (0 < size.1) × (size.1 ≤ 64) }
+        requires layers { (0 < size.2) × (size.2 ≤ 32) }
     {
-        let mut board = ListBoard::try_empty(alloc, size.0, size.1, 1)?;
-        for y in 0..size.1 {
-            for x in 0..size.0 {
-                lay(&mut board, x, y, letter_of(before, x, y));
+        let (width, height, layers) = size;
+        let mut board = ListBoard::try_empty(alloc, width, height, layers)?;
+        for layer in 0..layers {
+            for y in 0..height {
+                for x in 0..width {
+                    lay(
+                        &mut board,
+                        layer,
+                        x,
+                        y,
+                        letter_of(before, x, layer * height + y),
+                    );
+                }
             }
         }
         let slid = slide(&mut board);
-        for y in 0..size.1 {
-            for x in 0..size.0 {
-                let wanted = piece(letter_of(after, x, y)).map(|found| (found.0, Motion::Still));
-                assert_eq!(rt; look(&board, x, y), wanted, "at column {x}, row {y}");
+        for layer in 0..layers {
+            for y in 0..height {
+                for x in 0..width {
+                    let wanted = piece(letter_of(after, x, layer * height + y)).map(|found| (
+                        found.0,
+                        Motion::Still,
+                    ));
+                    assert_eq!(rt;
+                        look(&board, layer, x, y),
+                        wanted,
+                        "at column {x}, row {y}, layer {layer}"
+                    );
+                }
             }
         }
         assert_eq!(rt; slid.passes_used(), passes);
         Ok(())
     }
 
-    // A slide that moves nothing, and only brings all to rest, meets the contract of `slide`: rows alone catch it.
     #[test]
     fn the_first_of_two_enters_a_bare_cell(rt: HostRuntime) -> Result<(), Fail> {
-        check(&rt, rt.alloc(), (3, 1), &["A.B"], &[".AB"], 2)
+        check(&rt, rt.alloc(), (3, 1, 1), &["A.B"], &[".AB"], 2)
     }
 
     #[test]
     fn the_next_in_order_enters_a_cell_that_is_left(rt: HostRuntime) -> Result<(), Fail> {
-        check(&rt, rt.alloc(), (3, 2), &["...", "ACB"], &[".C.", "AB."], 2)
+        check(
+            &rt,
+            rt.alloc(),
+            (3, 2, 1),
+            &["...", "ACB"],
+            &[".C.", "AB."],
+            2,
+        )
     }
 
     #[test]
     fn a_chain_moves(rt: HostRuntime) -> Result<(), Fail> {
-        check(&rt, rt.alloc(), (3, 1), &["AA."], &[".AA"], 3)
+        check(&rt, rt.alloc(), (3, 1, 1), &["AA."], &[".AA"], 3)?;
+        check(&rt, rt.alloc(), (4, 1, 1), &[".BBB"], &["BBB."], 2)
+    }
+
+    #[test]
+    fn a_chain_that_ends_at_something_stays(rt: HostRuntime) -> Result<(), Fail> {
+        check(&rt, rt.alloc(), (3, 1, 1), &["AAW"], &["AAW"], 1)
+    }
+
+    #[test]
+    fn a_row_of_63_moves_in_64_passes(rt: HostRuntime) -> Result<(), Fail> {
+        let before = "AAAAAAAAAAAAAAAAAAAAAAAAAAAAAAAAAAAAAAAAAAAAAAAAAAAAAAAAAAAAAAA.";
+        let after = ".AAAAAAAAAAAAAAAAAAAAAAAAAAAAAAAAAAAAAAAAAAAAAAAAAAAAAAAAAAAAAAA";
+        check(&rt, rt.alloc(), (64, 1, 1), &[before], &[after], 64)
+    }
+
+    #[test]
+    fn layers_do_not_act_on_one_another(rt: HostRuntime) -> Result<(), Fail> {
+        check(&rt, rt.alloc(), (2, 1, 2), &["A.", ".B"], &[".A", "B."], 2)?;
+        check(
+            &rt,
+            rt.alloc(),
+            (4, 1, 2),
+            &["AA.W", ".BBB"],
+            &[".AAW", "BBB."],
+            3,
+        )
     }
 
     #[test]
     fn two_never_change_places_and_no_ring_turns(rt: HostRuntime) -> Result<(), Fail> {
-        check(&rt, rt.alloc(), (2, 1), &["AB"], &["AB"], 1)?;
-        check(&rt, rt.alloc(), (2, 2), &["AD", "CB"], &["AD", "CB"], 1)
+        check(&rt, rt.alloc(), (2, 1, 1), &["AB"], &["AB"], 1)?;
+        check(&rt, rt.alloc(), (2, 2, 1), &["AD", "CB"], &["AD", "CB"], 1)
     }
 
     #[test]
     fn nothing_leaves_the_board_or_acts_its_way(rt: HostRuntime) -> Result<(), Fail> {
-        check(&rt, rt.alloc(), (2, 2), &["BC", "DA"], &["BC", "DA"], 1)?;
-        check(&rt, rt.alloc(), (3, 1), &["X.W"], &["X.W"], 1)
+        check(&rt, rt.alloc(), (2, 2, 1), &["BC", "DA"], &["BC", "DA"], 1)?;
+        check(&rt, rt.alloc(), (3, 1, 1), &["X.W"], &["X.W"], 1)
     }
 }

@@ -1,5 +1,5 @@
-use Rattle.ps_move.specs.Midway.{IsPart}
+use Rattle.ps_move.specs.Parts.{IsPart}
 use Rattle.ps_move.proofs.movement.pass.Given as goal
 
 abbrev pub invariant-loop-cell : goal.invariant-loop-cell
-invariant-loop-cell g l = IsPart l.went (g.B.Board.grid l.fn.board) (g.B.Board.grid l.board)
+invariant-loop-cell g l = IsPart l.went (g.B.Board.grid l.fn.board) (g.B.Board.grid l.board) (0, 0) (l.cell, 0)

@@ -1,14 +1,14 @@
-use Rattle.std.proofs.Common.{◌≡◌, ◌+◌, ◌*◌, ◌<◌, ◌≤◌}
+use Rattle.std.proofs.Common.{false, ◌≡◌, ◌+◌, ◌*◌, ◌<◌, ◌≤◌}
 use Rattle.ps_model.specs.Limits.{side_limit, layer_limit}
 use Rattle.ps_model.specs.Grid.{IsGrid}
 use Rattle.ps_move.specs.Visits.{going_count}
-use Rattle.ps_move.specs.Midway.{IsMidway}
+use Rattle.ps_move.specs.Order.{IsInOrder}
 use Rattle.ps_move.proofs.movement.slide.Given as goal
 
 abbrev pub invariant-loop-passes : goal.invariant-loop-passes
 invariant-loop-passes g l =
     record {
-      midway : IsMidway (g.B.Board.grid l.fn.board) (g.B.Board.grid l.board);
+      order : IsInOrder (g.B.Board.grid l.fn.board) (g.B.Board.grid l.board) false (0, 0);
       some : 0 < l.passes;
       first : l.passes ≡ 1 → g.B.Board.grid l.board ≡ g.B.Board.grid l.fn.board;
       few : l.passes + going_count (g.B.Board.grid l.board) ≤ going_count (g.B.Board.grid l.fn.board) + 1;

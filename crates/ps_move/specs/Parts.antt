@@ -1,0 +1,16 @@
+-- The parts of a movement.
+use Rattle.std.specs.Prelude.{◌≡◌, ℕ, ◌+◌, ◌≤◌, ◌||◌, Bool, false, cond}
+use Rattle.ps_model.specs.Grid.{Grid, IsGrid}
+use Rattle.ps_move.specs.Visits.{going_count}
+use Rattle.ps_move.specs.Order.{IsInOrder}
+
+-- the visits from one place, a layer of a cell, to another lead from one grid to another, and tell whether any object went:
+-- then fewer have a direction for motion, and else nothing changed
+pub record IsPart (went : Bool) (old new : Grid) (first last : ℕ × ℕ) : Type 0 where
+  pub shape : IsGrid old → IsGrid new
+  pub width : new.width ≡ old.width
+  pub height : new.height ≡ old.height
+  pub layers : new.layers ≡ old.layers
+  pub order : (before : Grid) (moved : Bool) → IsInOrder before old moved first → IsInOrder before new (moved || went) last
+  pub fewer : going_count new + cond went 1 0 ≤ going_count old
+  pub same : went ≡ false → new ≡ old
