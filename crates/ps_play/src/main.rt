@@ -9,6 +9,8 @@ mod meanings;
 mod reading;
 mod report;
 mod run;
+#[cfg(test)]
+mod run_tests;
 mod screen;
 mod session;
 #[cfg(test)]

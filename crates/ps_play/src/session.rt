@@ -36,7 +36,7 @@ impl<'g, B: Board> Session<'g, B> {
         game: &'g Game,
         screen: &mut Screen,
     ) -> Result<Session<'g, B>, Memory>
-        requires { IsPlayable game.entry.now.names game.entry.now.level }
+        requires { IsPlayable game.now.names game.now.level }
         ensures game { IfOk result (λ session. session.game.now ≡ game.entry.now) }
         ensures board { IfOk result (λ session. B.grid session.board ≡ loaded game.entry.now.names game.entry.now.level) }
         ensures opened { OnOk result (screen.new ≡ screen.old ++ opening game.entry.now) }

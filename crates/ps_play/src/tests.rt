@@ -4,8 +4,7 @@
 use crate::devices::{
     ByteReader, ByteWriter, Failed, FromStd, MemoryReader, MemoryWriter, write_whole,
 };
-use crate::run::{RunFault, run};
-use ps_model::{Fault, FaultKind, Memory};
+use ps_model::Memory;
 use std::io;
 use std::io::{ErrorKind, Read, Write};
 
@@ -66,23 +65,6 @@ fn whole_is_written_a_byte_at_a_time(rt: HostRuntime) -> Result<(), Memory> {
     assert_eq!(rt; write_whole(b"hello", &mut writer), Ok(()));
     assert_eq!(rt; write_whole(b" world", &mut writer), Err(Failed));
     assert_eq!(rt; writer.bytes(), b"hello wo".as_slice());
-    Ok(())
-}
-
-#[test]
-fn each_game_is_refused(rt: HostRuntime) -> Result<(), Memory> {
-    let mut reader = MemoryReader::new(b"dddq", 1, None);
-    let mut writer = MemoryWriter::new(rt.alloc(), 100, 100)?;
-    let refused = Fault {
-        kind: FaultKind::NotYet,
-        line: 1,
-    };
-    assert_eq!(rt;
-        run(rt.alloc(), b"title T\n", &mut reader, &mut writer),
-        Err(RunFault::Refused(refused))
-    );
-    assert_eq!(rt; reader.given(), 0);
-    assert_eq!(rt; writer.bytes(), b"".as_slice());
     Ok(())
 }
 
