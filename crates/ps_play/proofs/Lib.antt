@@ -5,6 +5,8 @@ mod SectionEnds
 mod SectionsTold
 mod Games
 mod RowSteps
+mod Letters
+mod Grounds
 mod Pieces
 mod Reaching
 mod Sweeps
