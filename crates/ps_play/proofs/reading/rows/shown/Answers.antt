@@ -3,7 +3,7 @@ use Rattle.std.specs.Prelude.{encode_utf8, option_map}
 use Rattle.std.specs.Char.{to_ascii_lowercase}
 use Rattle.std.specs.Map.{lookup}
 use Rattle.std.specs.Str.{bytes_eq}
-use Rattle.std.proofs.lemmas.Char.{lowercase-lowercase}
+use Rattle.std.proofs.lemmas.Str.Ascii.{lowercase-lowercase}
 use Rattle.ps_model.specs.Lines.{folded}
 use Rattle.ps_model.specs.Names.{Names, Meaning, meaning_of}
 use Rattle.ps_model.specs.Levels.{objects_shown, shown_objects}
