@@ -20,7 +20,9 @@ use Rattle.ps_model.specs.declared.faults.Fault.{Fault}
 use Rattle.ps_model.specs.Limits.{text_limit}
 use Rattle.ps_model.specs.TextFaults.{text_fault}
 use Rattle.ps_model.specs.ThinGame.{thin_game, is_readable, has_no_comment}
-use Rattle.ps_play.specs.ReadFaults.{not_yet, of_part}
+use Rattle.ps_play.specs.ReadFaults.{not_yet, of_part, of_names}
+use Rattle.ps_names.specs.declared.fault.NameFault.{NameFault}
+use Rattle.ps_names.specs.declared.fault.NameFault.TheVariants as names
 use Rattle.ps_play.specs.declared.reading.fault.PartFault.{PartFault}
 use Rattle.ps_play.specs.declared.reading.fault.PartFault.TheVariants.{NotYet, Memory}
 use Rattle.ps_play.specs.declared.reading.game.ReadFault.{ReadFault}
@@ -117,3 +119,7 @@ commented text e = ap (λ (test : Bool). only_if test text >>= (λ readable. gam
 pub refused_as : (bytes : List ℕ) (fault : PartFault) → (fault ≡ NotYet → thin_game bytes ≡ None) → (told : Fault) → of_part fault ≡ Refused told → (text_fault bytes ≡ Some told) ⊎ ((told ≡ not_yet) × (thin_game bytes ≡ None))
 refused_as bytes NotYet h told e = inr (cc, h refl)
 refused_as bytes Memory h told e = absurd (cc)
+
+pub names_lost : {A : Type 0} (fault : NameFault) → (fault ≡ names.NotYet → A) → of_names fault ≡ NotYet → A
+names_lost names.NotYet h e = h refl
+names_lost names.Memory h e = absurd (cc)

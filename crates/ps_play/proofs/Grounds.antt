@@ -3,6 +3,14 @@ use Rattle.std.proofs.Common.{◌≡◌, ℕ, ◌+◌, ◌<◌, Bool, true, fals
 use Rattle.std.specs.Prelude.{find, is_some, if◌then◌else◌, codes}
 use Rattle.std.specs.List.{list_any}
 use Rattle.std.specs.Str.{bytes_eq}
+use Rattle.std.proofs.Common.{suc, get_or, drop, subst}
+use Rattle.std.specs.Prelude.{All, unwrap_or, option_or}
+use Rattle.std.specs.List.{flat_map}
+use Rattle.std.specs.Borrow.{Bor}
+use Rattle.std.proofs.Math.Seq.{drop-cons}
+use Rattle.std.proofs.lemmas.List.{get_or-map, length-map}
+use Rattle.std.proofs.lemmas.List.Folds.{find-append}
+use Rattle.ps_play.specs.Rows.{AreObjects, cells_shown}
 use Rattle.std.proofs.lemmas.Map.Entries.{All-lookup}
 use Rattle.ps_model.specs.declared.pieces.ObjectId.{ObjectId}
 use Rattle.ps_model.specs.Lines.{folded}
@@ -28,3 +36,28 @@ has_ground names filler objects e = ap (λ (b : Bool). if b then objects else ob
 
 pub lacks_ground : (names : Names) (filler : ObjectId) (objects : List ObjectId) → is_some (find (is_ground names) objects) ≡ false → with_ground names filler objects ≡ objects ++ filler ∷ []
 lacks_ground names filler objects e = ap (λ (b : Bool). if b then objects else objects ++ filler ∷ []) (any_is_found (is_ground names) objects ∙ e)
+
+-- one of the cells
+pub all_at : (names : Names) (cells : List (Bor (List ObjectId))) (i : ℕ) (d : Bor (List ObjectId)) → AreObjects names (cells_shown cells) → i < length cells → All (λ object. object.0 < object_count names) (get_or cells i d).now
+all_at names cells i d all h =
+    let within : i < length (cells_shown cells) = omega (arith, length-map cells (λ (cell : Bor (List ObjectId)). cell.now)) in
+    subst (λ (objects : List ObjectId). All (λ object. object.0 < object_count names) objects) (get_or-map (λ (cell : Bor (List ObjectId)). cell.now) cells i d [] h) (all i [] within)
+
+-- the objects of the cells from one on
+pub from_cell : (f : ObjectId → Bool) (cells : List (Bor (List ObjectId))) (i : ℕ) (d : Bor (List ObjectId)) → i < length cells →
+    find f (flat_map (λ objects. objects) (cells_shown (drop i cells))) ≡ option_or (find f (get_or cells i d).now) (find f (flat_map (λ objects. objects) (cells_shown (drop (i + 1) cells))))
+from_cell f cells i d h =
+    let more : i + 1 ≡ suc i = omega arith in
+    let first : drop i cells ≡ get_or cells i d ∷ drop (i + 1) cells = rw more (drop-cons cells i d h) in
+    ap (λ (rest : List (Bor (List ObjectId))). find f (flat_map (λ objects. objects) (cells_shown rest))) first
+    ∙ find-append f (get_or cells i d).now (flat_map (λ objects. objects) (cells_shown (drop (i + 1) cells)))
+
+pub first_here : (f : ObjectId → Bool) (cells : List (Bor (List ObjectId))) (i : ℕ) (d : Bor (List ObjectId)) (object other : ObjectId) → i < length cells → find f (get_or cells i d).now ≡ Some object →
+    unwrap_or (find f (flat_map (λ objects. objects) (cells_shown (drop i cells)))) other ≡ object
+first_here f cells i d object other h e =
+    ap (λ (found : Option ObjectId). unwrap_or found other) (from_cell f cells i d h)
+    ∙ ap (λ (found : Option ObjectId). unwrap_or (option_or found (find f (flat_map (λ objects. objects) (cells_shown (drop (i + 1) cells))))) other) e
+
+pub none_here : (f : ObjectId → Bool) (cells : List (Bor (List ObjectId))) (i : ℕ) (d : Bor (List ObjectId)) → i < length cells → find f (get_or cells i d).now ≡ None →
+    find f (flat_map (λ objects. objects) (cells_shown (drop i cells))) ≡ find f (flat_map (λ objects. objects) (cells_shown (drop (i + 1) cells)))
+none_here f cells i d h e = from_cell f cells i d h ∙ ap (λ (found : Option ObjectId). option_or found (find f (flat_map (λ objects. objects) (cells_shown (drop (i + 1) cells))))) e

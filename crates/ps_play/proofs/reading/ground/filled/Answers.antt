@@ -20,5 +20,5 @@ returns c =
     let objects = c.args.objects.now in
     let same : c.object_on.result ≡ find (is_ground names) objects = c.object_on.ensures ∙ ap (λ (n : ℕ). find (λ object. nat_eq (layer_of names object) n) objects) c.requires.layer in
     let found : is_some c.object_on.result ≡ false = search rules in
-    let items : c.from_vec.result ≡ objects ++ c.args.filler ∷ [] = search rules in
+    let items : c.from_vec-2.result ≡ objects ++ c.args.filler ∷ [] = search rules in
     items ∙ sym (lacks_ground names c.args.filler objects (ap is_some (sym same) ∙ found))
