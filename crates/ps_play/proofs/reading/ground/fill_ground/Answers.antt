@@ -2,8 +2,8 @@ use Rattle.std.proofs.Common.{rules, ◌≡◌, ◌∙◌, ◌+◌, [], sym, ap,
 use Rattle.std.specs.Prelude.{find, nat_eq, unwrap_or, Bool}
 use Rattle.std.specs.Borrow.{Bor}
 use Rattle.ps_model.specs.declared.pieces.ObjectId.{ObjectId}
-use Rattle.ps_model.specs.Names.{layer_of}
-use Rattle.ps_play.proofs.Grounds.{all_at}
+use Rattle.ps_model.specs.Levels.{with_ground}
+use Rattle.ps_play.proofs.Grounds.{all_at, grown, grounds}
 use Rattle.ps_play.proofs.reading.ground.fill_ground.Goals as goal
 
 abbrev no_cell : Bor (List ObjectId)
@@ -13,7 +13,11 @@ pub filled-requires-clause-objects : goal.filled-requires-clause-objects
 filled-requires-clause-objects c = all_at c.args.names.now c.args.cells.now c.loop-objects.objects-index no_cell c.requires (omega arith)
 
 pub loop-objects-preserved : goal.loop-objects-preserved
-loop-objects-preserved c = ?
+loop-objects-preserved c =
+    grown (with_ground c.args.names.now c.first_on-filler.result) c.args.cells.now c.loop-objects.objects-index no_cell c.loop-objects.made.items c.push.new.self.items c.in_ok-filled.field-0 (omega arith)
+        c.loop-objects.invariant c.in_ok-push.ensures.items c.in_ok-filled.ensures
 
 pub returns : goal.returns
-returns c = ?
+returns c =
+    c.from_vec.ensures ∙ grounds c.args.names.now c.args.cells.now c.loop-objects.objects-index c.loop-objects.made.items c.background-background.result c.first_on-filler.result c.layer_of-layer.result.0 (omega arith)
+        c.background-background.ensures.background c.layer_of-layer.ensures.layer c.first_on-filler.ensures c.loop-objects.invariant
