@@ -31,9 +31,9 @@ unfolding encode
 kept c h =
     let large : nat_lt c 128 ≡ false = grind (arith, nat_tests) in
     rw large (by_tests (nat_lt c 2048) (nat_lt c 65536) _ _ _
-        (two _ _ (omega arith) (omega arith))
-        (more _ _ (omega arith) (two _ _ (omega arith) (omega arith)))
-        (more _ _ (omega arith) (more _ _ (omega arith) (two _ _ (omega arith) (omega arith)))))
+    (two _ _ (omega arith) (omega arith))
+    (more _ _ (omega arith) (two _ _ (omega arith) (omega arith)))
+    (more _ _ (omega arith) (more _ _ (omega arith) (two _ _ (omega arith) (omega arith)))))
 
 either : (c : ℕ) → (c < 128) ⊎ (128 ≤ c)
 either c = grind arith

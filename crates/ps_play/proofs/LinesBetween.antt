@@ -24,9 +24,8 @@ between-step text line next end one less within e =
     let count : end - line ≡ suc (end - next) = omega arith in
     let place : next - 1 ≡ suc (line - 1) = omega arith in
     let first : drop (line - 1) (lines_of text) ≡ line_at text line ∷ drop (next - 1) (lines_of text) =
-      rw place (drop-cons (lines_of text) (line - 1) no_line (omega arith)) in
+    rw place (drop-cons (lines_of text) (line - 1) no_line (omega arith)) in
     rw (count, first) (one_more (is_there (line_at text line)) (line_at text line) (lines_between text next end))
 
 pub between-end : (text : List ℕ) (line end : ℕ) → end ≤ line → lines_between text line end ≡ []
 between-end text line end past = let none : end - line ≡ 0 = omega arith in rw none refl
-

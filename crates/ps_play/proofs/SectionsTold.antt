@@ -62,6 +62,6 @@ pub is_whole-all : (text : List ℕ) (objects legend layers rules levels end : �
     objects ≢ legend → layers ≢ rules → levels ≢ end → is_whole (lines_of text) ≡ true
 is_whole-all text objects legend layers rules levels end o e1 e2 e4 e5 e7 e8 n1 n2 n3 =
     all_true _ _ _ _ o
-        (section_has text Objects objects legend (omega arith) o e1 e2 ∙ other_less objects legend (omega (arith, e1, e2, boundary_rises text 1 2 refl)) n1)
-        (section_has text Layers layers rules (omega arith) o e4 e5 ∙ other_less layers rules (omega (arith, e4, e5, boundary_rises text 4 5 refl)) n2)
-        (section_has text Levels levels end (omega arith) o e7 e8 ∙ other_less levels end (omega (arith, e7, e8, boundary_rises text 7 8 refl)) n3)
+    (section_has text Objects objects legend (omega arith) o e1 e2 ∙ other_less objects legend (omega (arith, e1, e2, boundary_rises text 1 2 refl)) n1)
+    (section_has text Layers layers rules (omega arith) o e4 e5 ∙ other_less layers rules (omega (arith, e4, e5, boundary_rises text 4 5 refl)) n2)
+    (section_has text Levels levels end (omega arith) o e7 e8 ∙ other_less levels end (omega (arith, e7, e8, boundary_rises text 7 8 refl)) n3)

@@ -18,8 +18,8 @@ parted text from mid end one low high =
     let place : (from - 1) + (mid - from) ≡ mid - 1 = omega arith in
     let behind : drop (mid - from) (drop (from - 1) (lines_of text)) ≡ drop (mid - 1) (lines_of text) = drop-drop (mid - from) (from - 1) (lines_of text) ∙ ap (λ (n : ℕ). drop n (lines_of text)) place in
     let cut : take (end - from) (drop (from - 1) (lines_of text)) ≡ take (mid - from) (drop (from - 1) (lines_of text)) ++ take (end - mid) (drop (mid - 1) (lines_of text)) =
-        ap (λ (n : ℕ). take n (drop (from - 1) (lines_of text))) count ∙ take-add (mid - from) (end - mid) (drop (from - 1) (lines_of text))
-        ∙ ap (λ (lines : List Line). take (mid - from) (drop (from - 1) (lines_of text)) ++ take (end - mid) lines) behind in
+    ap (λ (n : ℕ). take n (drop (from - 1) (lines_of text))) count ∙ take-add (mid - from) (end - mid) (drop (from - 1) (lines_of text))
+    ∙ ap (λ (lines : List Line). take (mid - from) (drop (from - 1) (lines_of text)) ++ take (end - mid) lines) behind in
     ap (filter is_there) cut ∙ filter-append is_there (take (mid - from) (drop (from - 1) (lines_of text))) (take (end - mid) (drop (mid - 1) (lines_of text)))
 
 -- a line more at the end
@@ -55,16 +55,18 @@ not_true false h = refl
 -- a written line stands first, and isn't blank
 pub written_first : (text : List ℕ) (line end : ℕ) → 1 ≤ line → line < end → end ≤ length (lines_of text) + 1 → is_written (line_at text line) ≡ true →
     (lines_between text line end ≡ line_at text line ∷ lines_between text (line + 1) end) × (is_blank_line (line_at text line) ≡ false)
-written_first text line end one less within h =
-    (between-step text line (line + 1) end one less within refl ∙ there_by (line_at text line) (lines_between text (line + 1) end) (is_there (line_at text line)) (not (is_blank_line (line_at text line))) h,
-    not_true (is_blank_line (line_at text line)) (other_by (is_there (line_at text line)) (not (is_blank_line (line_at text line))) h))
+written_first text line end one less within h = (
+  between-step text line (line + 1) end one less within refl ∙ there_by (line_at text line) (lines_between text (line + 1) end) (is_there (line_at text line)) (not (is_blank_line (line_at text line))) h,
+  not_true (is_blank_line (line_at text line)) (other_by (is_there (line_at text line)) (not (is_blank_line (line_at text line))) h),
+)
 
 -- a blank line stands first
 pub blank_first : (text : List ℕ) (line end : ℕ) → 1 ≤ line → line < end → end ≤ length (lines_of text) + 1 → is_there (line_at text line) && is_blank_line (line_at text line) ≡ true →
     (lines_between text line end ≡ line_at text line ∷ lines_between text (line + 1) end) × (is_blank_line (line_at text line) ≡ true)
-blank_first text line end one less within h =
-    (between-step text line (line + 1) end one less within refl ∙ there_by (line_at text line) (lines_between text (line + 1) end) (is_there (line_at text line)) (is_blank_line (line_at text line)) h,
-    other_by (is_there (line_at text line)) (is_blank_line (line_at text line)) h)
+blank_first text line end one less within h = (
+  between-step text line (line + 1) end one less within refl ∙ there_by (line_at text line) (lines_between text (line + 1) end) (is_there (line_at text line)) (is_blank_line (line_at text line)) h,
+  other_by (is_there (line_at text line)) (is_blank_line (line_at text line)) h,
+)
 
 pub row_skipped : (x : Line) (xs : List Line) → is_blank_line x ≡ true → from_first_row (x ∷ xs) ≡ from_first_row xs
 row_skipped x xs e = let more : 1 + prefix_len is_blank_line xs ≡ suc (prefix_len is_blank_line xs) = omega arith in rw (e, more) refl

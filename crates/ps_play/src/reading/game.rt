@@ -132,9 +132,19 @@ fn read_parts(alloc: Global, source: &Source) -> Result<Game, PartFault>
         return Err(PartFault::NotYet);
     }
     let title = read_title(alloc, source, sections.prelude)?;
-    let names = read_names(alloc, source, sections.objects, sections.legend, sections.layers)?;
+    let names = read_names(
+        alloc,
+        source,
+        sections.objects,
+        sections.legend,
+        sections.layers,
+    )?;
     let level = read_level(alloc, source, &names, sections.levels)?;
-    Ok(Game { title, names, level })
+    Ok(Game {
+        title,
+        names,
+        level,
+    })
 }
 
 /// Reads the game of a text, in time linear in the text.

@@ -48,7 +48,11 @@ fn row_word<'a>(words: &[Word<'a>]) -> Option<&'a str>
 }
 
 /// The objects of each character of a row's word.
-fn cells_of<'a>(alloc: Global, names: &'a Names, word: &str) -> Result<Vec<&'a [ObjectId]>, PartFault>
+fn cells_of<'a>(
+    alloc: Global,
+    names: &'a Names,
+    word: &str,
+) -> Result<Vec<&'a [ObjectId]>, PartFault>
     ensures ok { IfOk result (λ cells. all_there (map (objects_shown names.now) (chars word.now)) ≡ Some (cells_shown cells.items)) }
     ensures not_yet { IfErr result (λ e. e ≡ NotYet → all_there (map (objects_shown names.now) (chars word.now)) ≡ None) }
 {

@@ -39,7 +39,15 @@ fn refuses_what_is_not_read_yet(rt: HostRuntime) -> Result<(), Fail> {
         kind: FaultKind::NotYet,
         line: 1,
     });
-    for level in ["", "P.\n#\n", "P\n\n#\n", "message\n", "P x\n", "P\n(\n", "P\nOBJECTS\n"] {
+    for level in [
+        "",
+        "P.\n#\n",
+        "P\n\n#\n",
+        "message\n",
+        "P x\n",
+        "P\n(\n",
+        "P\nOBJECTS\n",
+    ] {
         let text = format!(in rt.alloc(); "{HEAD}{level}")?;
         assert!(rt; read_game(rt.alloc(), text.as_bytes()).err() == Some(not_yet));
     }

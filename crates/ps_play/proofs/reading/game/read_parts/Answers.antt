@@ -20,7 +20,7 @@ returns-clause-ok c =
     let told : AreAllSections text c.in-Some.sections = c.in-Some.ensures in
     let thin : is_thin lines ≡ true = search rules in
     let names : thin_names (section_lines lines Objects) (section_lines lines Legend) (section_lines lines Layers) ≡ Some c.in_ok-names.names =
-        rw (told.objects.same, told.legend.same, told.layers.same) c.in_ok-names.ensures.names in
+    rw (told.objects.same, told.legend.same, told.layers.same) c.in_ok-names.ensures.names in
     let level : thin_level c.in_ok-names.names (section_lines lines Levels) ≡ Some c.in_ok-level.level = rw told.levels.same c.in_ok-level.ensures.ok in
     the_game text lines c.in_ok-title.title c.in_ok-names.names c.in_ok-level.level (plain lines told.whole thin) (c.in_ok-title.ensures ∙ ap (title_of text) (sym told.prelude.same)) names level
 
@@ -43,7 +43,7 @@ returns-in_err-names-clause-not_yet c =
     let told : AreAllSections text c.in-Some.sections = c.in-Some.ensures in
     let fault : NameFault = c.in_err-names.field-0.0 in
     let lost : fault ≡ names.NotYet → game_of_lines text lines ≡ None =
-        λ e. no_names text lines (rw (told.objects.same, told.legend.same, told.layers.same) (c.in_err-names.ensures.not_yet e)) in
+    λ e. no_names text lines (rw (told.objects.same, told.legend.same, told.layers.same) (c.in_err-names.ensures.not_yet e)) in
     let there : of_names fault ≡ NotYet → game_of_lines text lines ≡ None = names_lost fault lost in
     search (rules, there)
 
@@ -53,7 +53,7 @@ returns-in_err-level-clause-not_yet c =
     let lines = lines_of text in
     let told : AreAllSections text c.in-Some.sections = c.in-Some.ensures in
     let found : thin_names (section_lines lines Objects) (section_lines lines Legend) (section_lines lines Layers) ≡ Some c.in_ok-names.names =
-        rw (told.objects.same, told.legend.same, told.layers.same) c.in_ok-names.ensures.names in
+    rw (told.objects.same, told.legend.same, told.layers.same) c.in_ok-names.ensures.names in
     let fault : PartFault = c.in_err-level.field-0.0 in
     let lost : fault ≡ NotYet → game_of_lines text lines ≡ None = λ e. no_level text lines c.in_ok-names.names found (rw told.levels.same (c.in_err-level.ensures.not_yet e)) in
     search (rules, lost)

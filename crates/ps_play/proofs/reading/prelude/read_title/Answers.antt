@@ -14,8 +14,8 @@ returns-then-branch c =
     let rest = lines_between text (c.loop-line.line + 1) c.args.lines.end in
     let told : is_there line && is_title line ≡ true = search rules in
     let found : find is_title (lines_between text c.args.lines.start c.args.lines.end) ≡ Some line =
-        sym c.loop-line.invariant ∙ ap (find is_title) (between-step text c.loop-line.line (c.loop-line.line + 1) c.args.lines.end (omega arith) (omega arith) (omega arith) refl)
-        ∙ find_step is_title line rest (is_there line) ∙ ap (λ (b : Bool). cond b (Some line) (find is_title rest)) told in
+    sym c.loop-line.invariant ∙ ap (find is_title) (between-step text c.loop-line.line (c.loop-line.line + 1) c.args.lines.end (omega arith) (omega arith) (omega arith) refl)
+    ∙ find_step is_title line rest (is_there line) ∙ ap (λ (b : Bool). cond b (Some line) (find is_title rest)) told in
     let same : text_at text (taken_text line) ≡ title_of text (lines_between text c.args.lines.start c.args.lines.end) = ap (text_of_line text) (sym found) in
     subst (λ (t : List ℕ). IfOk c.text_taken.result (λ title. title ≡ t)) same c.text_taken.ensures
 

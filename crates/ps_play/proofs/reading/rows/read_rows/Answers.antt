@@ -17,7 +17,7 @@ returns-in_err-add_row-clause-not_yet c =
     let step = between-step text c.loop-line.line (c.loop-line.line + 1) c.args.lines.end (omega arith) (omega arith) (omega arith) refl in
     let fault : PartFault = c.in_err-add_row.field-0.0 in
     let told : fault ≡ NotYet → all_there (map reads (lines_between text c.args.lines.start c.args.lines.end)) ≡ None =
-        λ e. sym c.loop-line.invariant ∙ ap (λ (lines : List Line). behind before (all_there (map reads lines))) step ∙ ap (behind before) (c.in_err-add_row.ensures.not_yet e _) in
+    λ e. sym c.loop-line.invariant ∙ ap (λ (lines : List Line). behind before (all_there (map reads lines))) step ∙ ap (behind before) (c.in_err-add_row.ensures.not_yet e _) in
     search (rules, told)
 
 pub loop-line-preserved : goal.loop-line-preserved
