@@ -11,6 +11,22 @@ use Rattle.ps_model.specs.ThinNames.{thin_names}
 use Rattle.ps_model.specs.ThinLevels.{thin_level}
 use Rattle.ps_model.specs.ThinGame.{Game, is_plain, section_lines, title_of, game_of_lines, are_in_order, header_sections, has_section, is_option}
 use Rattle.ps_play.specs.Sections.{is_whole, is_thin}
+use Rattle.std.proofs.Common.{◌⊎◌, inl, inr, ◌≤◌, length, arith}
+use Rattle.std.specs.Prelude.{nat_le, ◌==◌}
+use Rattle.std.specs.Str.{IsUtf8, is_utf8}
+use Rattle.std.proofs.lemmas.Str.{is_utf8-from_IsUtf8}
+use Rattle.std.proofs.lemmas.Bool.Decides.{nat_tests}
+use Rattle.ps_model.specs.declared.faults.Fault.{Fault}
+use Rattle.ps_model.specs.Limits.{text_limit}
+use Rattle.ps_model.specs.TextFaults.{text_fault}
+use Rattle.ps_model.specs.ThinGame.{thin_game, is_readable, has_no_comment}
+use Rattle.ps_play.specs.ReadFaults.{not_yet, of_part, of_names}
+use Rattle.ps_names.specs.declared.fault.NameFault.{NameFault}
+use Rattle.ps_names.specs.declared.fault.NameFault.TheVariants as names
+use Rattle.ps_play.specs.declared.reading.fault.PartFault.{PartFault}
+use Rattle.ps_play.specs.declared.reading.fault.PartFault.TheVariants.{NotYet, Memory}
+use Rattle.ps_play.specs.declared.reading.game.ReadFault.{ReadFault}
+use Rattle.ps_play.specs.declared.reading.game.ReadFault.TheVariants.{Refused}
 
 joined : (a b c d e f : Bool) → (a && (b && (c && (d && (e && f))))) ≡ ((a && (b && (c && d))) && (e && f))
 joined true true true d e f = refl
@@ -79,3 +95,31 @@ the_game text lines title names level p t n l =
     ∙ ap (λ (found : Option Level). found >>= (λ level. only_if (is_plain lines) (let g : Game = record { title = title_of text (section_lines lines Prelude); names = names; level = level } in g))) l
     ∙ ap (λ (test : Bool). only_if test (let g : Game = record { title = title_of text (section_lines lines Prelude); names = names; level = level } in g)) p
     ∙ ap (λ (written : List ℕ). Some (let g : Game = record { title = written; names = names; level = level } in g)) (sym t)
+
+-- the whole text ------------------------------------------------------------------------------------------------------------
+
+both : (a b c : Bool) → a ≡ true → b ≡ true → c ≡ false → (a && b) && not c ≡ true
+both a b c e f g = rw (e, f, g) refl
+
+pub is_text : (text : List ℕ) → length text ≤ text_limit → IsUtf8 text → list_any (λ byte. byte == 40) text ≡ false → is_readable text && has_no_comment text ≡ true
+is_text text l u c =
+    let short : nat_le (length text) text_limit ≡ true = grind (arith, nat_tests) in
+    both (nat_le (length text) text_limit) (is_utf8 text) (list_any (λ byte. byte == 40) text) short (is_utf8-from_IsUtf8 text u) c
+
+pub game_of_text : (text : List ℕ) → is_readable text && has_no_comment text ≡ true → thin_game text ≡ game_of_lines text (lines_of text)
+game_of_text text e = ap (λ (test : Bool). only_if test text >>= (λ readable. game_of_lines readable (lines_of readable))) e
+
+no_comment_false : (a b : Bool) → b ≡ true → a && not b ≡ false
+no_comment_false true b e = rw e refl
+no_comment_false false b e = refl
+
+pub commented : (text : List ℕ) → list_any (λ byte. byte == 40) text ≡ true → thin_game text ≡ None
+commented text e = ap (λ (test : Bool). only_if test text >>= (λ readable. game_of_lines readable (lines_of readable))) (no_comment_false (is_readable text) (list_any (λ byte. byte == 40) text) e)
+
+pub refused_as : (bytes : List ℕ) (fault : PartFault) → (fault ≡ NotYet → thin_game bytes ≡ None) → (told : Fault) → of_part fault ≡ Refused told → (text_fault bytes ≡ Some told) ⊎ ((told ≡ not_yet) × (thin_game bytes ≡ None))
+refused_as bytes NotYet h told e = inr (cc, h refl)
+refused_as bytes Memory h told e = absurd (cc)
+
+pub names_lost : {A : Type 0} (fault : NameFault) → (fault ≡ names.NotYet → A) → of_names fault ≡ NotYet → A
+names_lost names.NotYet h e = h refl
+names_lost names.Memory h e = absurd (cc)

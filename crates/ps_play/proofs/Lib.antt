@@ -1,5 +1,7 @@
 mod Bringing
 mod Games
+mod Grounds
+mod Letters
 mod LinesBetween
 mod Objects
 mod Painting

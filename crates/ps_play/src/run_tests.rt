@@ -13,22 +13,56 @@ const HEAD: &str =
 #[test]
 fn writes_frames(rt: HostRuntime) -> Result<(), Fail> {
     for (rows, keys, written, ending) in [
-        ("P..\n", "dddq", "P..\n\n.P.\n\n..P\n\n..P\n\n* quit\n", Ending::Quit),
+        (
+            "P..\n",
+            "dddq",
+            "P..\n\n.P.\n\n..P\n\n..P\n\n* quit\n",
+            Ending::Quit,
+        ),
         ("P..", "", "P..\n\n* end of keys\n", Ending::EndOfKeys),
         ("P..", "kQ1", "P..\n\n* end of keys\n", Ending::EndOfKeys),
         ("P..", "qd", "P..\n\n* quit\n", Ending::Quit),
-        ("PP.", "d", "PP.\n\n.PP\n\n* end of keys\n", Ending::EndOfKeys),
-        (".PPP", "a", ".PPP\n\nPPP.\n\n* end of keys\n", Ending::EndOfKeys),
-        ("PP#", "d", "PP#\n\nPP#\n\n* end of keys\n", Ending::EndOfKeys),
-        ("...\n.P.", "wax", "...\n.P.\n\n.P.\n...\n\nP..\n...\n\nP..\n...\n\n* end of keys\n", Ending::EndOfKeys),
-        ("p@o", "d", "P@O\n\nP@O\n\n* end of keys\n", Ending::EndOfKeys),
+        (
+            "PP.",
+            "d",
+            "PP.\n\n.PP\n\n* end of keys\n",
+            Ending::EndOfKeys,
+        ),
+        (
+            ".PPP",
+            "a",
+            ".PPP\n\nPPP.\n\n* end of keys\n",
+            Ending::EndOfKeys,
+        ),
+        (
+            "PP#",
+            "d",
+            "PP#\n\nPP#\n\n* end of keys\n",
+            Ending::EndOfKeys,
+        ),
+        (
+            "...\n.P.",
+            "wax",
+            "...\n.P.\n\n.P.\n...\n\nP..\n...\n\nP..\n...\n\n* end of keys\n",
+            Ending::EndOfKeys,
+        ),
+        (
+            "p@o",
+            "d",
+            "P@O\n\nP@O\n\n* end of keys\n",
+            Ending::EndOfKeys,
+        ),
         ("PO", "d", "PO\n\n.P\n\n* end of keys\n", Ending::EndOfKeys),
     ] {
         let text = format!(in rt.alloc(); "{HEAD}{rows}")?;
         let wanted = format!(in rt.alloc(); "= T\n# level 1\n{written}")?;
         let mut reader = MemoryReader::new(keys.as_bytes(), 2, None);
         let mut writer = MemoryWriter::new(rt.alloc(), 200, 3)?;
-        assert_eq!(rt; run(rt.alloc(), text.as_bytes(), &mut reader, &mut writer), Ok(ending), "{rows} {keys}");
+        assert_eq!(rt;
+            run(rt.alloc(), text.as_bytes(), &mut reader, &mut writer),
+            Ok(ending),
+            "{rows} {keys}"
+        );
         assert_eq!(rt; writer.bytes(), wanted.as_bytes(), "{rows} {keys}");
     }
     Ok(())
@@ -42,7 +76,10 @@ fn moves_a_row_of_players(rt: HostRuntime) -> Result<(), Fail> {
     let wanted = format!(in rt.alloc(); "= T\n# level 1\n{crowd}.\n\n.{crowd}\n\n* end of keys\n")?;
     let mut reader = MemoryReader::new(b"d", 1, None);
     let mut writer = MemoryWriter::new(rt.alloc(), 400, 400)?;
-    assert_eq!(rt; run(rt.alloc(), text.as_bytes(), &mut reader, &mut writer), Ok(Ending::EndOfKeys));
+    assert_eq!(rt;
+        run(rt.alloc(), text.as_bytes(), &mut reader, &mut writer),
+        Ok(Ending::EndOfKeys)
+    );
     assert_eq!(rt; writer.bytes(), wanted.as_bytes());
     Ok(())
 }
@@ -70,11 +107,20 @@ fn tells_of_devices_that_fail(rt: HostRuntime) -> Result<(), Fail> {
     let opening = b"= T\n# level 1\nP..\n\n".as_slice();
     let mut reader = MemoryReader::new(b"dd", 1, Some(1));
     let mut writer = MemoryWriter::new(rt.alloc(), 100, 100)?;
-    assert_eq!(rt; run(rt.alloc(), text.as_bytes(), &mut reader, &mut writer), Err(RunFault::Read));
-    assert_eq!(rt; writer.bytes(), b"= T\n# level 1\nP..\n\n.P.\n\n".as_slice());
+    assert_eq!(rt;
+        run(rt.alloc(), text.as_bytes(), &mut reader, &mut writer),
+        Err(RunFault::Read)
+    );
+    assert_eq!(rt;
+        writer.bytes(),
+        b"= T\n# level 1\nP..\n\n.P.\n\n".as_slice()
+    );
     let mut keys = MemoryReader::new(b"dd", 1, None);
     let mut full = MemoryWriter::new(rt.alloc(), opening.len(), 5)?;
-    assert_eq!(rt; run(rt.alloc(), text.as_bytes(), &mut keys, &mut full), Err(RunFault::Write));
+    assert_eq!(rt;
+        run(rt.alloc(), text.as_bytes(), &mut keys, &mut full),
+        Err(RunFault::Write)
+    );
     assert_eq!(rt; full.bytes(), opening);
     assert_eq!(rt; keys.given(), 1);
     Ok(())

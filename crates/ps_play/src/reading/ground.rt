@@ -61,9 +61,10 @@ fn filled(
     ensures { IfOk result (λ made. made ≡ with_ground names.now filler objects.now) }
 {
     let mut items = Vec::from_slice(alloc, objects)?;
-    if object_on(names, layer, objects).is_none() {
-        items.push(filler)?;
+    if object_on(names, layer, objects).is_some() {
+        return Ok(List::from_vec(items));
     }
+    items.push(filler)?;
     Ok(List::from_vec(items))
 }
 
