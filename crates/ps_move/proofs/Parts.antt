@@ -144,11 +144,13 @@ midway_none g = record {
   as_often = λ layer object. refl;
 }
 
-none_waits : (g : Grid) (went : Bool) (layer from to : ℕ) → way g layer from ≡ Some to → is_bare g layer to ≡ false → ⊥
-none_waits g went layer from to goes taken =
+-- what can go has a bare target
+none_waits : (g : Grid) (layer from to : ℕ) → way g layer from ≡ Some to → is_bare g layer to ≡ false → ⊥
+none_waits g layer from to goes taken =
     let free : is_bare g layer to ≡ true = ap is_bare_slot (way_some g layer (target g layer from) to goes).1 in
     cc
 
+-- at the start of the first pass
 pub order_none : (g : Grid) → IsInOrder g g false (0, 0)
 unfolding midway_none
 order_none g = record {
@@ -156,7 +158,7 @@ order_none g = record {
   won = λ layer from e. absurd (cc);
   time = record {
     to_bare = λ l from to within goes bare. rw next_first (omega arith);
-    to_left = λ l from to within goes left. absurd (none_waits g false l from to goes left);
+    to_left = λ l from to within goes left. absurd (none_waits g l from to goes left);
     unmoved = λ e l from to within goes. rw next_first (omega arith);
   };
 }

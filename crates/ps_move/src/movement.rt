@@ -3,7 +3,7 @@
 //! The cells are visited in the order of their numbers, in passes, until a pass moves nothing. An object that has moved is at
 //! rest, so that it goes one cell at most, and an object that waits for another to leave goes in the same pass or in a later one.
 //! Of several that want to enter a cell, the visits come first to the one that may: the least, or, where an object left the
-//! cell, the next one after it.
+//! cell, the next one after it, and after the last cell the first.
 
 ghost use Rattle.std.specs.Prelude.{◌≡◌, ℕ, ◌+◌, ◌*◌, ◌<◌, ◌≤◌, IfSome, is_some};
 ghost use Rattle.ps_model.specs.Grid.{IsGrid, IsPlace, at_rest, neighbour};
