@@ -3,6 +3,7 @@ mod Games
 mod Grounds
 mod Letters
 mod LinesBetween
+mod Loading
 mod Objects
 mod Painting
 mod Pieces

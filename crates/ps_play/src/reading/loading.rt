@@ -3,7 +3,7 @@
 ghost use Rattle.std.specs.Prelude.{◌≡◌, ◌<◌, IfOk, All, fold, slice_set};
 ghost use Rattle.ps_model.specs.declared.pieces.Motion.TheVariants.{Still};
 ghost use Rattle.ps_model.specs.declared.pieces.Slot.TheVariants.{Holds};
-ghost use Rattle.ps_model.specs.Grid.{cell_at, cell_count};
+ghost use Rattle.ps_model.specs.Grid.{IsGrid, cell_at, cell_count};
 ghost use Rattle.ps_model.specs.Names.{layer_of, object_count};
 ghost use Rattle.ps_model.specs.Levels.{loaded};
 ghost use Rattle.ps_play.specs.Inputs.{grid_with_cell};
@@ -17,6 +17,7 @@ use std::alloc::Global;
 
 /// Puts the objects of a cell on the board, each at rest on its own layer.
 fn fill_cell<B: Board>(board: &mut B, names: &Names, cell: u32, objects: &[ObjectId])
+    requires shape { IsGrid (B.grid board.old) }
     requires place { cell < cell_count (B.grid board.old) }
     requires layers { (B.grid board.old).layers ≡ names.now.layer_count }
     requires objects { All (λ object. object.0 < object_count names.now) objects.now }
