@@ -7,6 +7,9 @@ mod Games
 mod RowSteps
 mod Letters
 mod Grounds
+mod Columns
+mod LevelSteps
+mod Below
 mod Pieces
 mod Reaching
 mod Sweeps
