@@ -10,6 +10,7 @@ mod Grounds
 mod Columns
 mod LevelSteps
 mod Below
+mod Playing
 mod Pieces
 mod Reaching
 mod Sweeps
