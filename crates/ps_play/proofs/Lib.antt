@@ -1,12 +1,16 @@
+mod Below
 mod Bringing
+mod Columns
 mod Games
 mod Grounds
 mod Letters
+mod LevelSteps
 mod LinesBetween
 mod Loading
 mod Objects
 mod Painting
 mod Pieces
+mod Playing
 mod Reaching
 mod RowSteps
 mod SectionEnds

@@ -1,6 +1,7 @@
 //! The level of a game.
 
 ghost use Rattle.std.specs.Prelude.{◌≡◌, ◌≤◌, ◌<◌, ◌++◌, [], true, length, IfOk, OnOk, IfErr, Some, None, map, nat_eq, nat_lt, slice_index_or};
+ghost use Rattle.ps_model.specs.NamesFacts.{AreNames};
 ghost use Rattle.ps_model.specs.ThinNames.{lines_between};
 ghost use Rattle.ps_model.specs.ThinLevels.{thin_level, columns, are_rows, first_length};
 ghost use Rattle.std.specs.List.{list_all};
@@ -140,6 +141,7 @@ pub fn read_level(
     lines: Range<u32>,
 ) -> Result<Level, PartFault>
     requires stretch { IsStretch source.now lines.start lines.end }
+    requires names { AreNames names.now }
     ensures ok { IfOk result (λ level. thin_level names.now (lines_between source.now lines.start lines.end) ≡ Some level) }
     ensures playable { IfOk result (λ level. IsPlayable names.now level) }
     ensures not_yet { IfErr result (λ e. e ≡ NotYet → thin_level names.now (lines_between source.now lines.start lines.end) ≡ None) }
