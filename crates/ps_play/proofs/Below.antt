@@ -31,7 +31,7 @@ shown_by count (Some (AnyOf line each)) objects b e = absurd (let h = e in cc)
 objects_below : (names : Names) → AreNames names → (character : ℕ) (objects : List ObjectId) → objects_shown names character ≡ Some objects → AreBelow (object_count names) objects
 objects_below names facts character objects e =
     shown_by (object_count names) (lookup (bytes_eq (encode_utf8 (to_ascii_lowercase character))) names.entries) objects
-        (All-lookup (IsBelow (object_count names)) (bytes_eq (encode_utf8 (to_ascii_lowercase character))) names.entries facts.names_below) e
+    (All-lookup (IsBelow (object_count names)) (bytes_eq (encode_utf8 (to_ascii_lowercase character))) names.entries facts.names_below) e
 
 rest_by : {A : Type 0} (P : A → Type 0) (a : A) (rest : Option (List A)) (made : List A) → P a → ((items : List A) → rest ≡ Some items → All P items) → option_map (λ items. a ∷ items) rest ≡ Some made → All P made
 rest_by P a None made p r e = absurd (let h = e in cc)
@@ -72,5 +72,5 @@ flat_all P f each (x ∷ xs) = All-append P (f x) (flat_map f xs) (each x) (flat
 pub columns_below : (names : Names) (width : ℕ) (rows : List (List (List ObjectId))) → All (AreObjects names) rows → AreObjects names (columns width rows)
 columns_below names width rows all =
     flat_all (AreBelow (object_count names)) (λ column. map (λ row. get_or row column []) rows)
-        (λ column. All-map (AreBelow (object_count names)) (λ row. get_or row column []) rows (λ k d h. pick_by names (get_or rows k d) column (all k d h) (there_or_not column (length (get_or rows k d)))))
-        (range_with_len 0 width)
+    (λ column. All-map (AreBelow (object_count names)) (λ row. get_or row column []) rows (λ k d h. pick_by names (get_or rows k d) column (all k d h) (there_or_not column (length (get_or rows k d)))))
+    (range_with_len 0 width)

@@ -53,8 +53,8 @@ cell_more rows i row column x cells next before h e within is n told =
     let shown : rows_shown (take i rows ++ row ∷ []) ≡ rows_shown (take i rows) ++ cells_shown row.items ∷ [] = map-append (λ (r : Row). cells_shown r.items) (take i rows) (row ∷ []) in
     let cell : pick (cells_shown row.items) ≡ x.now = get_or-map (λ (c : Cell). c.now) row.items column x [] within ∙ ap (λ (c : Cell). c.now) (sym is) in
     let picked : map pick (rows_shown (take (i + 1) rows)) ≡ map pick (rows_shown (take i rows)) ++ x.now ∷ [] =
-        ap (λ (rs : List Row). map pick (rows_shown rs)) last ∙ ap (map pick) shown ∙ map-append pick (rows_shown (take i rows)) (cells_shown row.items ∷ [])
-        ∙ ap (λ (objects : List ObjectId). map pick (rows_shown (take i rows)) ++ objects ∷ []) cell in
+    ap (λ (rs : List Row). map pick (rows_shown rs)) last ∙ ap (map pick) shown ∙ map-append pick (rows_shown (take i rows)) (cells_shown row.items ∷ [])
+    ∙ ap (λ (objects : List ObjectId). map pick (rows_shown (take i rows)) ++ objects ∷ []) cell in
     let grown : cells_shown next ≡ cells_shown cells ++ x.now ∷ [] = ap cells_shown n ∙ map-append (λ (c : Cell). c.now) cells (x ∷ []) in
     grown ∙ ap (λ (items : Shown). items ++ x.now ∷ []) told ∙ simp append_assoc (ap (λ (items : Shown). before ++ items) (sym picked))
 
@@ -69,7 +69,7 @@ all_rows rows n column before cells h told = told ∙ ap (λ (rs : List Row). be
 pub column_more : (n : ℕ) (rows : List Shown) → columns (n + 1) rows ≡ columns n rows ++ map (λ (r : Shown). get_or r n []) rows
 column_more n rows =
     let range : range_with_len 0 (n + 1) ≡ range_with_len 0 n ++ n ∷ [] =
-        sym (map-id (range_with_len 0 (n + 1))) ∙ map-range_with_len_more (λ (k : ℕ). k) 0 n n (omega arith) ∙ ap (λ (ks : List ℕ). ks ++ n ∷ []) (map-id (range_with_len 0 n)) in
+    sym (map-id (range_with_len 0 (n + 1))) ∙ map-range_with_len_more (λ (k : ℕ). k) 0 n n (omega arith) ∙ ap (λ (ks : List ℕ). ks ++ n ∷ []) (map-id (range_with_len 0 n)) in
     let pick : ℕ → Shown = λ k. map (λ (r : Shown). get_or r k []) rows in
     ap (flat_map pick) range ∙ flat_map-append pick (range_with_len 0 n) (n ∷ []) ∙ ap (λ (items : Shown). columns n rows ++ items) (append-nil (pick n))
 
@@ -84,4 +84,4 @@ pub wide_enough : (rows : List Shown) (width column : ℕ) → are_rows width ro
 wide_enough rows width column h l =
     let each : list_all (λ (r : Shown). nat_eq (length r) width) rows ≡ true = last_of (nat_lt 0 width) (nat_le width side_limit) (nat_le (length rows) side_limit) (list_all (λ (r : Shown). nat_eq (length r) width) rows) h in
     list_all-from_AllPass (λ (r : Shown). nat_lt column (length r)) rows
-        (λ k d within. less column (length (get_or rows k d)) (omega (arith, is_same (length (get_or rows k d)) width (AllPass-from_list_all (λ (r : Shown). nat_eq (length r) width) rows each k d within))))
+    (λ k d within. less column (length (get_or rows k d)) (omega (arith, is_same (length (get_or rows k d)) width (AllPass-from_list_all (λ (r : Shown). nat_eq (length r) width) rows each k d within))))

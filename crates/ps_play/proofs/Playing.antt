@@ -53,7 +53,7 @@ background_below names d facts = one_by (object_count names) (meaning_of names (
 ground_below : (names : Names) (cells : List (List ObjectId)) → AreNames names → AreObjects names cells → (ground names cells).0 < object_count names
 ground_below names cells facts all =
     found_below (object_count names) (is_ground names) (flat_map (λ objects. objects) cells) (slice_index_or (members_named names (codes "background")) 0 (let o : ObjectId = record { 0 = 0 } in o))
-        (flat_below (object_count names) cells all) (background_below names (let o : ObjectId = record { 0 = 0 } in o) facts)
+    (flat_below (object_count names) cells all) (background_below names (let o : ObjectId = record { 0 = 0 } in o) facts)
 
 with_by : (count : ℕ) (objects : List ObjectId) (filler : ObjectId) (test : Bool) → AreBelow count objects → filler.0 < count → AreBelow count (if test then objects else objects ++ filler ∷ [])
 with_by count objects filler true all p = all
@@ -62,7 +62,7 @@ with_by count objects filler false all p = All-append (λ o. o.0 < count) object
 grounded_below : (names : Names) (cells : List (List ObjectId)) → AreNames names → AreObjects names cells → AreObjects names (grounded names cells)
 grounded_below names cells facts all =
     All-map (AreBelow (object_count names)) (with_ground names (ground names cells)) cells
-        (λ k d h. with_by (object_count names) (get_or cells k d) (ground names cells) _ (all k d h) (ground_below names cells facts all))
+    (λ k d h. with_by (object_count names) (get_or cells k d) (ground names cells) _ (all k d h) (ground_below names cells facts all))
 
 flat_length : (rows : List (List (List ObjectId))) (ks : List ℕ) → length (flat_map (λ column. map (λ row. get_or row column []) rows) ks) ≡ length ks * length rows
 flat_length rows [] = omega arith

@@ -25,8 +25,8 @@ returns-then-not-are_blank-clause-not_yet c =
     let above = lines_between text c.first_written-first.result c.first_blank-behind.result in
     let below = lines_between text c.first_blank-behind.result c.args.lines.end in
     let thin : thin_level names (lines_between text c.args.lines.start c.args.lines.end) ≡ leveled names (all_there (map (row_objects names) above)) (list_all is_blank_line below) =
-        thin_is names (lines_between text c.args.lines.start c.args.lines.end) started above below c.first_written-first.ensures.rows c.first_blank-behind.ensures.above
-            (parted text c.first_written-first.result c.first_blank-behind.result c.args.lines.end (omega arith) (omega arith) (omega arith)) in
+    thin_is names (lines_between text c.args.lines.start c.args.lines.end) started above below c.first_written-first.ensures.rows c.first_blank-behind.ensures.above
+    (parted text c.first_written-first.result c.first_blank-behind.result c.args.lines.end (omega arith) (omega arith) (omega arith)) in
     let blank : list_all is_blank_line below ≡ false = search rules in
     λ _. thin ∙ not_alone names (all_there (map (row_objects names) above)) (list_all is_blank_line below) blank
 
@@ -48,8 +48,8 @@ returns-clause-ok c =
     let above = lines_between text c.first_written-first.result c.first_blank-behind.result in
     let below = lines_between text c.first_blank-behind.result c.args.lines.end in
     let thin : thin_level names (lines_between text c.args.lines.start c.args.lines.end) ≡ leveled names (all_there (map (row_objects names) above)) (list_all is_blank_line below) =
-        thin_is names (lines_between text c.args.lines.start c.args.lines.end) started above below c.first_written-first.ensures.rows c.first_blank-behind.ensures.above
-            (parted text c.first_written-first.result c.first_blank-behind.result c.args.lines.end (omega arith) (omega arith) (omega arith)) in
+    thin_is names (lines_between text c.args.lines.start c.args.lines.end) started above below c.first_written-first.ensures.rows c.first_blank-behind.ensures.above
+    (parted text c.first_written-first.result c.first_blank-behind.result c.args.lines.end (omega arith) (omega arith) (omega arith)) in
     let shown = rows_shown c.in_ok-rows.rows.items in
     let found : all_there (map (row_objects names) above) ≡ Some shown = c.in_ok-rows.ensures.ok in
     let blank : list_all is_blank_line below ≡ true = search rules in
