@@ -1,9 +1,8 @@
 -- What holds of the names of every game: there are objects and layers, no more than the limits; each object lies on one of
 -- the layers; every object that a name or a glyph speaks of is one of the game's; and `Background` and `Player` are names.
-use Rattle.std.specs.Prelude.{ℕ, ◌≡◌, ◌≤◌, ◌<◌, Bool, true, Option, Some, None, is_some, List, length, All, codes}
-use Rattle.ps_model.specs.declared.pieces.ObjectId.{ObjectId}
+use Rattle.std.specs.Prelude.{ℕ, ◌≡◌, ◌≤◌, ◌<◌, true, is_some, List, All, codes}
 use Rattle.ps_model.specs.Limits.{object_limit, layer_limit}
-use Rattle.ps_model.specs.Names.{Meaning, One, AllOf, AnyOf, Names, meaning_of, members, object_count}
+use Rattle.ps_model.specs.Names.{Meaning, Names, meaning_of, members, object_count}
 use Rattle.ps_model.specs.ThinNames.{one_object}
 
 -- every object that the meaning speaks of is below the number

@@ -1,6 +1,6 @@
 -- Why bytes are refused as a text: there are too many of them, or they aren't UTF-8. The first cause in this order is
 -- told, with the line that has it: of a text that is too long its first, else the line of the first wrong byte.
-use Rattle.std.specs.Prelude.{ℕ, suc, nat_lt, Bool, true, false, Option, Some, None, List, length, take}
+use Rattle.std.specs.Prelude.{ℕ, suc, nat_lt, true, false, Option, Some, None, List, length, take}
 use Rattle.std.specs.List.{count_by}
 use Rattle.std.specs.Str.Lossy.{utf8_valid_len}
 use Rattle.ps_model.specs.declared.faults.Fault.{Fault}

@@ -1,6 +1,6 @@
 -- Reading a level, for now in a thin form: LEVELS has one level and no message, its rows have equal
 -- length, and each is one word.
-use Rattle.std.specs.Prelude.{ℕ, nat_lt, nat_le, nat_eq, Bool, ◌&&◌, not, Option, Some, None, List, [], ◌∷◌, length, map, drop, slice_index_or, codes}
+use Rattle.std.specs.Prelude.{ℕ, nat_lt, nat_le, nat_eq, Bool, ◌&&◌, not, Option, None, List, [], ◌∷◌, length, map, drop, slice_index_or, codes}
 use Rattle.std.specs.List.{list_all, flat_map, range_with_len, prefix_len, take_while}
 use Rattle.std.specs.Str.{bytes_eq, chars}
 use Rattle.ps_model.specs.declared.pieces.ObjectId.{ObjectId}

@@ -1,5 +1,5 @@
 -- What a run of a game without rules writes: the opening, then a text for each key up to an ending.
-use Rattle.std.specs.Prelude.{◌≡◌, ℕ, List, [], ◌∷◌, ◌++◌, codes}
+use Rattle.std.specs.Prelude.{ℕ, List, [], ◌∷◌, ◌++◌, codes}
 use Rattle.ps_model.specs.declared.play.Ending.{Ending}
 use Rattle.ps_model.specs.declared.play.Ending.TheVariants.{Quit as Quits, EndOfKeys}
 use Rattle.ps_model.specs.declared.play.Input.{Input}
