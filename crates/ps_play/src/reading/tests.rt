@@ -16,6 +16,9 @@ fn reads_title_and_cells(rt: HostRuntime) -> Result<(), Fail> {
     assert_eq!(rt; game.level.width(), 3);
     assert_eq!(rt; game.level.height(), 2);
     let board: ListBoard = load(rt.alloc(), &game.names, &game.level)?;
+    let (width, height) = board.size();
+    assert!(rt; width == 3 && height == 2);
+    assert!(rt; board.layers() == 3);
     let wanted = [
         [Some(0), None, Some(2)],
         [Some(0), None, Some(1)],
