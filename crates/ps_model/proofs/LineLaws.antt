@@ -5,7 +5,8 @@ use Rattle.std.specs.List.{slice_split}
 use Rattle.std.proofs.lemmas.List.Splits.{length-slice_split}
 use Rattle.ps_model.specs.declared.texts.Section.{Section}
 use Rattle.ps_model.specs.declared.texts.Section.TheVariants.{Prelude}
-use Rattle.ps_model.specs.Lines.{is_line_feed, mark_length, as_lines, raw_lines, header_of, lines_from, lines_of, line_at, no_line}
+use Rattle.ps_model.specs.Lines.{is_line_feed, mark_length, as_lines, raw_lines, header_of}
+use Rattle.ps_model.specs.ThinLines.{lines_from, lines_of, line_at, no_line}
 
 -- a line for each piece
 pub length-lines_from : (number start : ℕ) (above : Section) (pieces : List (List ℕ)) → length (lines_from number start above pieces) ≡ length pieces

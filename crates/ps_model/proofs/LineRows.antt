@@ -4,7 +4,8 @@ use Rattle.std.specs.Prelude.{codes}
 use Rattle.ps_model.specs.declared.texts.Cut.TheVariants.{Plain, Legend, Layers}
 use Rattle.ps_model.specs.declared.texts.Section.TheVariants.{Prelude, Objects, Layers as LayersSection, Rules, Levels}
 use Rattle.ps_model.specs.Words.{word_texts}
-use Rattle.ps_model.specs.Lines.{lines_of, line_at, raw_lines, taken_text, is_there}
+use Rattle.ps_model.specs.Lines.{raw_lines}
+use Rattle.ps_model.specs.ThinLines.{lines_of, line_at, taken_text, is_there}
 use Rattle.ps_model.proofs.BaseText.{base_text}
 
 -- an empty text has one empty line, a final line feed begins no further line, an empty line in between is one

@@ -11,7 +11,8 @@ use Rattle.ps_model.specs.declared.pieces.Motion.TheVariants.{Still}
 use Rattle.ps_model.specs.declared.pieces.Slot.{Slot}
 use Rattle.ps_model.specs.declared.pieces.Slot.TheVariants.{Bare, Holds}
 use Rattle.ps_model.specs.Words.{is_blank}
-use Rattle.ps_model.specs.Lines.{Line, without_blank_end}
+use Rattle.ps_model.specs.Lines.{without_blank_end}
+use Rattle.ps_model.specs.ThinLines.{Line}
 use Rattle.ps_model.specs.Names.{Meaning, One, AllOf, AnyOf, Names, layer_of, members_named}
 use Rattle.ps_model.specs.Grid.{Grid}
 

@@ -4,11 +4,16 @@ pub mod Movement
 pub mod WeakMovement
 pub mod OptionSteps
 pub mod Words
+pub mod RuleWords
 pub mod Lines
+pub mod ThinLines
+pub mod Faults
 pub mod TextFaults
 pub mod Names
 pub mod ThinNames
 pub mod NamesFacts
+pub mod SourceRules
+pub mod Wins
 pub mod Levels
 pub mod ThinLevels
 pub mod ThinGame

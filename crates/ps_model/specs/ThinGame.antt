@@ -7,7 +7,8 @@ use Rattle.ps_model.specs.declared.texts.Section.TheVariants.{Prelude, Objects, 
 use Rattle.ps_model.specs.declared.texts.Span.{Span}
 use Rattle.ps_model.specs.Limits.{text_limit}
 use Rattle.ps_model.specs.OptionSteps.{◌>>=◌, only_if}
-use Rattle.ps_model.specs.Lines.{Line, lines_of, is_there, is_blank_line, is_header, header_of, first_word, taken_text}
+use Rattle.ps_model.specs.Lines.{header_of}
+use Rattle.ps_model.specs.ThinLines.{Line, lines_of, is_there, is_blank_line, is_header, first_word, taken_text}
 use Rattle.ps_model.specs.Names.{Names}
 use Rattle.ps_model.specs.Levels.{Level}
 use Rattle.ps_model.specs.ThinNames.{thin_names}

@@ -8,7 +8,8 @@ use Rattle.ps_model.specs.Limits.{side_limit}
 use Rattle.ps_model.specs.OptionSteps.{◌>>=◌, only_if, all_there}
 use Rattle.ps_model.specs.Words.{word_texts}
 use Rattle.ps_model.specs.declared.texts.Cut.TheVariants.{Plain}
-use Rattle.ps_model.specs.Lines.{Line, folded, is_blank_line}
+use Rattle.ps_model.specs.Lines.{folded}
+use Rattle.ps_model.specs.ThinLines.{Line, is_blank_line}
 use Rattle.ps_model.specs.Names.{Names}
 use Rattle.ps_model.specs.Levels.{Level, objects_shown, grounded}
 

@@ -13,7 +13,8 @@ use Rattle.ps_model.specs.declared.texts.Joiner.TheVariants.{Alone, And, Or}
 use Rattle.ps_model.specs.Limits.{object_limit, layer_limit}
 use Rattle.ps_model.specs.OptionSteps.{◌>>=◌, only_if, all_there}
 use Rattle.ps_model.specs.Words.{word_texts}
-use Rattle.ps_model.specs.Lines.{Line, lines_of, folded, is_there, is_blank_line}
+use Rattle.ps_model.specs.Lines.{folded}
+use Rattle.ps_model.specs.ThinLines.{Line, lines_of, is_there, is_blank_line}
 use Rattle.ps_model.specs.Names.{Meaning, One, AllOf, AnyOf, Glyph, Names, is_among}
 
 -- the lines of a text from one number to before another, without those that aren't there

@@ -8,10 +8,12 @@ mod faults;
 mod memory;
 mod pieces;
 mod play;
+mod rules;
 mod texts;
 
 pub use faults::{Fault, FaultKind};
 pub use memory::Memory;
 pub use pieces::{Direction, LayerId, Motion, ObjectId, Slot};
 pub use play::{Ending, Input, Key};
+pub use rules::{MovementWord, Part, Quantifier};
 pub use texts::{Cut, Joiner, ObjectStage, Section, Span};

@@ -4,7 +4,7 @@ use Rattle.std.specs.Prelude.{option_map}
 use Rattle.std.specs.List.{filter_map}
 use Rattle.ps_model.specs.declared.pieces.ObjectId.{ObjectId}
 use Rattle.ps_model.specs.Names.{Names, Glyph}
-use Rattle.ps_model.specs.Lines.{Line}
+use Rattle.ps_model.specs.ThinLines.{Line}
 use Rattle.ps_model.specs.OptionSteps.{◌>>=◌, only_if}
 use Rattle.ps_model.specs.ThinNames.{Declared, object_words, object_names, legend_names, layer_lists, layers_of, entries_of, are_all_apart, glyph_of, thin_names}
 use Rattle.ps_names.proofs.Pairs.{same_first, same_second}

@@ -13,7 +13,8 @@ use Rattle.ps_model.specs.declared.texts.Joiner.TheVariants.{Alone, And, Or}
 use Rattle.ps_model.specs.declared.texts.Cut.TheVariants.{Legend}
 use Rattle.ps_model.specs.Words.{word_texts}
 use Rattle.ps_model.specs.Limits.{object_limit, layer_limit}
-use Rattle.ps_model.specs.Lines.{Line, folded}
+use Rattle.ps_model.specs.Lines.{folded}
+use Rattle.ps_model.specs.ThinLines.{Line}
 use Rattle.ps_model.specs.OptionSteps.{◌>>=◌, only_if, all_there}
 use Rattle.ps_model.specs.Names.{Meaning, One, AllOf, AnyOf, Glyph, is_among}
 use Rattle.ps_model.specs.NamesFacts.{IsBelow, AreNames}

@@ -9,7 +9,7 @@ use Rattle.std.proofs.lemmas.Bool.Decides.{nat_tests}
 use Rattle.ps_model.specs.declared.pieces.ObjectId.{ObjectId}
 use Rattle.ps_model.specs.Names.{Meaning, is_among}
 use Rattle.ps_model.specs.Limits.{layer_limit}
-use Rattle.ps_model.specs.Lines.{Line}
+use Rattle.ps_model.specs.ThinLines.{Line}
 use Rattle.ps_model.specs.OptionSteps.{◌>>=◌, only_if, all_there}
 use Rattle.ps_model.specs.ThinNames.{layer_among, layers_of, layers_declared, layer_lists}
 use Rattle.ps_names.proofs.Pairs.{same_first, same_second}

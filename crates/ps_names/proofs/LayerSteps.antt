@@ -3,7 +3,7 @@ use Rattle.std.proofs.Common.{◌≡◌, ℕ, suc, ◌+◌, ◌<◌, drop, get_o
 use Rattle.std.specs.Prelude.{option_map, slice_set}
 use Rattle.ps_model.specs.declared.pieces.ObjectId.{ObjectId}
 use Rattle.ps_model.specs.Names.{Meaning}
-use Rattle.ps_model.specs.Lines.{Line, line_at, is_there, is_blank_line}
+use Rattle.ps_model.specs.ThinLines.{Line, line_at, is_there, is_blank_line}
 use Rattle.ps_model.specs.OptionSteps.{all_there}
 use Rattle.std.proofs.Math.Seq.{drop-cons}
 use Rattle.ps_model.specs.ThinNames.{layer_objects, layer_named, layers_declared}

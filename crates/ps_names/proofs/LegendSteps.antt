@@ -2,7 +2,7 @@
 use Rattle.std.proofs.Common.{◌≡◌, ℕ, ◌≤◌, true, false, List, [], ◌∷◌, ◌++◌, length, refl, ap, append_assoc, Option, Some, None}
 use Rattle.std.specs.Prelude.{option_map}
 use Rattle.ps_model.specs.Names.{Meaning}
-use Rattle.ps_model.specs.Lines.{Line, lines_of, line_at, is_there, is_blank_line}
+use Rattle.ps_model.specs.ThinLines.{Line, lines_of, line_at, is_there, is_blank_line}
 use Rattle.ps_model.specs.Words.{word_texts}
 use Rattle.ps_model.specs.declared.texts.Cut.TheVariants.{Legend}
 use Rattle.ps_model.specs.ThinNames.{Declared, declared_words, declared_by, legend_declared}

@@ -3,7 +3,7 @@ use Rattle.std.proofs.Common.{◌≡◌, ℕ, zero, suc, ◌+◌, ◌-◌, ◌<�
 use Rattle.std.specs.Prelude.{if◌then◌else◌, slice_index_or}
 use Rattle.std.proofs.Math.Seq.{drop-cons}
 use Rattle.ps_model.specs.declared.texts.Section.{Section}
-use Rattle.ps_model.specs.Lines.{Line, lines_of, lines_from, line_at, no_line, is_there}
+use Rattle.ps_model.specs.ThinLines.{Line, lines_of, lines_from, line_at, no_line, is_there}
 use Rattle.ps_model.specs.ThinNames.{lines_between}
 use Rattle.ps_names.specs.Here.{here}
 

@@ -3,7 +3,7 @@ use Rattle.std.proofs.Common.{◌≡◌, ℕ, ◌≤◌, true, false, List, leng
 use Rattle.std.specs.Prelude.{nat_le}
 use Rattle.ps_model.specs.declared.texts.ObjectStage.TheVariants.{Between}
 use Rattle.ps_model.specs.Limits.{object_limit}
-use Rattle.ps_model.specs.Lines.{Line}
+use Rattle.ps_model.specs.ThinLines.{Line}
 use Rattle.ps_model.specs.ThinNames.{are_good_lines, name_words, object_words}
 
 pub no_words : (lines : List Line) → are_good_lines Between lines ≡ false → object_words lines ≡ None

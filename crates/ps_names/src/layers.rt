@@ -1,7 +1,7 @@
 //! COLLISIONLAYERS: which layer each object lies on.
 
 ghost use Rattle.std.specs.Prelude.{◌≡◌, ◌≤◌, ◌<◌, ◌+◌, ◌++◌, ◌∷◌, [], IfOk, OnOk, IfErr, option_map, map, length, List, Some, None, slice_set, replicate};
-ghost use Rattle.ps_model.specs.Lines.{Line, lines_of, line_at};
+ghost use Rattle.ps_model.specs.ThinLines.{Line, lines_of, line_at};
 ghost use Rattle.ps_model.specs.OptionSteps.{all_there};
 ghost use Rattle.ps_model.specs.ThinNames.{entries_of, layer_meaning, layer_named, layer_words, layers_declared, lines_between};
 ghost use Rattle.ps_text.specs.WordViews.{text_of};

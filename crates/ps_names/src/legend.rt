@@ -2,7 +2,8 @@
 
 ghost use Rattle.std.specs.Prelude.{◌≡◌, ◌≤◌, ◌<◌, ◌+◌, ◌++◌, ◌∷◌, [], ◌&&◌, not, false, true, IfOk, OnOk, IfErr, option_map, map, length, List, Some, None, codes, slice_index_or};
 ghost use Rattle.std.specs.Str.{bytes_eq};
-ghost use Rattle.ps_model.specs.Lines.{Line, lines_of, line_at, folded};
+ghost use Rattle.ps_model.specs.Lines.{folded};
+ghost use Rattle.ps_model.specs.ThinLines.{Line, lines_of, line_at};
 ghost use Rattle.ps_model.specs.OptionSteps.{all_there};
 ghost use Rattle.ps_model.specs.ThinNames.{has_word, is_mixed, joined_by, right_side, legend_sides, object_named, entries_of, first_mentions, meaning_by, declared_words, declared_by, legend_declared, lines_between};
 ghost use Rattle.ps_text.specs.WordViews.{text_of};

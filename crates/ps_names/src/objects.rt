@@ -1,7 +1,7 @@
 //! OBJECTS: which objects there are, and by which names.
 
 ghost use Rattle.std.specs.Prelude.{◌≡◌, ◌≤◌, ◌<◌, ◌+◌, ◌++◌, ◌∷◌, [], false, true, IfOk, OnOk, IfErr, option_map, map, length, List, if◌then◌else◌, Some, None};
-ghost use Rattle.ps_model.specs.Lines.{Line, lines_of, line_at};
+ghost use Rattle.ps_model.specs.ThinLines.{Line, lines_of, line_at};
 ghost use Rattle.ps_model.specs.Words.{word_texts};
 ghost use Rattle.ps_model.specs.OptionSteps.{only_if};
 ghost use Rattle.ps_model.specs.declared.texts.Cut.TheVariants.{Plain};

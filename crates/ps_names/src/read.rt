@@ -2,7 +2,7 @@
 
 ghost use Rattle.std.specs.Prelude.{◌≡◌, ◌≤◌, ◌+◌, IfOk, OnOk, IfErr, length, Some, None, option_map, ◌++◌};
 ghost use Rattle.ps_model.specs.Limits.{object_limit, layer_limit};
-ghost use Rattle.ps_model.specs.Lines.{lines_of};
+ghost use Rattle.ps_model.specs.ThinLines.{lines_of};
 ghost use Rattle.ps_model.specs.ThinNames.{lines_between, entries_of, object_names, legend_names, layer_lists, layers_of, thin_names};
 ghost use Rattle.ps_names.specs.ObjectLines.{all_words};
 ghost use Rattle.ps_names.specs.LegendSides.{all_declared};

@@ -12,7 +12,7 @@ use Rattle.ps_model.specs.declared.pieces.ObjectId.{ObjectId}
 use Rattle.ps_model.specs.declared.texts.Cut.TheVariants.{Plain}
 use Rattle.ps_model.specs.OptionSteps.{◌>>=◌, all_there}
 use Rattle.ps_model.specs.Words.{word_texts}
-use Rattle.ps_model.specs.Lines.{Line}
+use Rattle.ps_model.specs.ThinLines.{Line}
 use Rattle.ps_model.specs.Names.{Names, Meaning, One, AllOf, AnyOf, object_count}
 use Rattle.ps_model.specs.NamesFacts.{AreNames, IsBelow}
 use Rattle.ps_model.specs.Levels.{objects_shown, shown_objects}

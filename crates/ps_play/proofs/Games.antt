@@ -4,7 +4,7 @@ use Rattle.std.specs.Prelude.{not}
 use Rattle.std.specs.List.{list_any, list_all}
 use Rattle.ps_model.specs.OptionSteps.{◌>>=◌, only_if}
 use Rattle.ps_model.specs.declared.texts.Section.TheVariants.{Prelude, Objects, Legend, Layers, Rules, Wins, Levels}
-use Rattle.ps_model.specs.Lines.{Line, lines_of, is_blank_line}
+use Rattle.ps_model.specs.ThinLines.{Line, lines_of, is_blank_line}
 use Rattle.ps_model.specs.Names.{Names}
 use Rattle.ps_model.specs.Levels.{Level}
 use Rattle.ps_model.specs.ThinNames.{thin_names}

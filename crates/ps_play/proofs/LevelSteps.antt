@@ -3,7 +3,7 @@ use Rattle.std.proofs.Common.{◌≡◌, ℕ, Bool, true, false, List, [], ◌�
 use Rattle.std.specs.List.{list_all}
 use Rattle.ps_model.specs.declared.pieces.ObjectId.{ObjectId}
 use Rattle.ps_model.specs.OptionSteps.{◌>>=◌, only_if, all_there}
-use Rattle.ps_model.specs.Lines.{Line, is_blank_line}
+use Rattle.ps_model.specs.ThinLines.{Line, is_blank_line}
 use Rattle.ps_model.specs.Names.{Names}
 use Rattle.ps_model.specs.Levels.{Level, grounded}
 use Rattle.ps_model.specs.ThinLevels.{from_first_row, first_rows, below_rows, row_objects, columns, are_rows, first_length, level_of_rows, thin_level}

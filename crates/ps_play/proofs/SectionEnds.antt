@@ -7,7 +7,8 @@ use Rattle.std.proofs.lemmas.Bool.Decides.{nat_tests}
 use Rattle.std.proofs.lemmas.List.Sums.{prefix_len_passes, prefix_len_stops, prefix_len-le-length}
 use Rattle.ps_model.specs.declared.texts.Section.{Section}
 use Rattle.ps_model.specs.declared.texts.Section.TheVariants.{Prelude}
-use Rattle.ps_model.specs.Lines.{Line, lines_from, lines_of, line_at, header_of, is_header, mark_length, raw_lines, no_line}
+use Rattle.ps_model.specs.Lines.{header_of, mark_length, raw_lines}
+use Rattle.ps_model.specs.ThinLines.{Line, lines_from, lines_of, line_at, is_header, no_line}
 use Rattle.ps_model.specs.ThinGame.{rank, are_in_order, header_sections}
 use Rattle.ps_play.specs.Sections.{stands_above, boundary, place_below, place_by}
 

@@ -4,7 +4,7 @@ use Rattle.std.specs.Prelude.{nat_lt, if◌then◌else◌}
 use Rattle.std.proofs.lemmas.Bool.Decides.{nat_tests}
 use Rattle.ps_model.specs.declared.texts.Section.{Section}
 use Rattle.ps_model.specs.declared.texts.Section.TheVariants.{Prelude, Objects, Layers, Levels}
-use Rattle.ps_model.specs.Lines.{lines_of}
+use Rattle.ps_model.specs.ThinLines.{lines_of}
 use Rattle.ps_model.specs.ThinNames.{lines_between}
 use Rattle.ps_model.specs.ThinGame.{rank, are_in_order, header_sections, has_section}
 use Rattle.ps_play.specs.Stretches.{IsStretch}

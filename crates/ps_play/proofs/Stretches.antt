@@ -5,7 +5,7 @@ use Rattle.std.specs.List.{prefix_len}
 use Rattle.std.proofs.Math.Seq.{take-add}
 use Rattle.std.proofs.lemmas.List.{drop-drop, append-nil}
 use Rattle.std.proofs.lemmas.List.Elements.{filter-append}
-use Rattle.ps_model.specs.Lines.{Line, lines_of, line_at, is_there, is_blank_line}
+use Rattle.ps_model.specs.ThinLines.{Line, lines_of, line_at, is_there, is_blank_line}
 use Rattle.ps_model.specs.ThinNames.{lines_between}
 use Rattle.ps_model.specs.ThinLevels.{from_first_row}
 use Rattle.ps_play.specs.Stretches.{here, is_written, rows_above}

@@ -3,7 +3,7 @@ use Rattle.std.specs.Prelude.{◌≡◌, ℕ, ◌+◌, Bool, true, false, ◌&&�
 use Rattle.std.specs.List.{prefix_len, list_any, list_all}
 use Rattle.ps_model.specs.declared.texts.Section.{Section}
 use Rattle.ps_model.specs.declared.texts.Section.TheVariants.{Prelude, Objects, Legend, Layers, Rules, Wins, Levels}
-use Rattle.ps_model.specs.Lines.{Line, lines_of, is_header, is_blank_line}
+use Rattle.ps_model.specs.ThinLines.{Line, lines_of, is_header, is_blank_line}
 use Rattle.ps_model.specs.ThinNames.{lines_between}
 use Rattle.ps_model.specs.ThinGame.{rank, are_in_order, header_sections, has_section, section_lines, is_option}
 use Rattle.ps_play.specs.Stretches.{IsStretch}

@@ -1,7 +1,7 @@
 -- Stretches of lines of a text, from one number to before another.
 use Rattle.std.specs.Prelude.{ℕ, ◌+◌, ◌≤◌, Bool, ◌&&◌, not, List, [], ◌∷◌, length, if◌then◌else◌}
 use Rattle.std.specs.List.{take_while}
-use Rattle.ps_model.specs.Lines.{Line, lines_of, line_at, is_there, is_blank_line}
+use Rattle.ps_model.specs.ThinLines.{Line, lines_of, line_at, is_there, is_blank_line}
 
 -- the numbers are of lines of the text
 pub record IsStretch (text : List ℕ) (start end : ℕ) : Type 0 where

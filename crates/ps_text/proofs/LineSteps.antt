@@ -14,7 +14,8 @@ use Rattle.std.proofs.lemmas.Slice.Eq.{starts_is}
 use Rattle.std.proofs.lemmas.Str.{IsCharBoundary-past_char}
 use Rattle.ps_model.specs.declared.texts.Section.{Section}
 use Rattle.ps_model.specs.declared.texts.Section.TheVariants.{Prelude}
-use Rattle.ps_model.specs.Lines.{Line, is_line_feed, mark_length, without_empty_end, as_lines, header_of, lines_from, lines_of}
+use Rattle.ps_model.specs.Lines.{is_line_feed, mark_length, without_empty_end, as_lines, header_of}
+use Rattle.ps_model.specs.ThinLines.{Line, lines_from, lines_of}
 use Rattle.ps_text.specs.declared.rows.Row.{Row}
 use Rattle.ps_text.specs.Rows.{shown, lines_behind}
 

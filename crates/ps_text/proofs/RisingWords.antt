@@ -5,7 +5,7 @@ use Rattle.std.proofs.lemmas.Grind.{common_steps}
 use Rattle.std.proofs.lemmas.List.Elements.{All-nil, All-cons}
 use Rattle.ps_model.specs.declared.texts.Cut.{Cut}
 use Rattle.ps_model.specs.Words.{parts_words, stands_alone, words_from, words_in, word_texts}
-use Rattle.ps_model.specs.Lines.{Line}
+use Rattle.ps_model.specs.ThinLines.{Line}
 use Rattle.ps_text.specs.WordViews.{span_at, bytes_at, AreRising, AreRisingSpans}
 
 -- an open run begins behind what was read before, and holds a byte at least

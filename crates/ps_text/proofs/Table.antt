@@ -3,7 +3,7 @@ use Rattle.std.proofs.Common.{◌≡◌, ℕ, ◌+◌, ◌<◌, ◌≤◌, List,
 use Rattle.std.specs.Prelude.{slice_range}
 use Rattle.std.proofs.lemmas.List.{get_or-map, length-map}
 use Rattle.std.proofs.lemmas.Grind.{common_steps}
-use Rattle.ps_model.specs.Lines.{Line, lines_of, no_line}
+use Rattle.ps_model.specs.ThinLines.{Line, lines_of, no_line}
 use Rattle.ps_text.specs.declared.rows.Row.{Row}
 use Rattle.ps_text.specs.Rows.{shown, IsRow, IsTable}
 

@@ -7,7 +7,8 @@ use Rattle.ps_model.specs.declared.texts.Span.{Span}
 use Rattle.ps_model.specs.declared.texts.Section.{Section}
 use Rattle.ps_model.specs.declared.texts.Section.TheVariants.{Prelude, Objects, Legend, Sounds, Layers, Rules, Wins, Levels}
 use Rattle.ps_model.specs.Words.{is_blank}
-use Rattle.ps_model.specs.Lines.{Line, takes_text, first_word, first_word_end, taken_text, text_behind, without_blank_end}
+use Rattle.ps_model.specs.Lines.{without_blank_end}
+use Rattle.ps_model.specs.ThinLines.{Line, takes_text, first_word, first_word_end, taken_text, text_behind}
 use Rattle.ps_text.specs.TakenPlaces.{place_behind, taken_in}
 use Rattle.ps_text.specs.WordViews.{span_at}
 

@@ -4,7 +4,8 @@ use Rattle.std.specs.List.{slice_split}
 use Rattle.std.specs.Str.{IsCharBoundary}
 use Rattle.ps_model.specs.declared.texts.Section.{Section}
 use Rattle.ps_model.specs.Limits.{text_limit}
-use Rattle.ps_model.specs.Lines.{Line, is_line_feed, without_empty_end, lines_from, lines_of}
+use Rattle.ps_model.specs.Lines.{is_line_feed, without_empty_end}
+use Rattle.ps_model.specs.ThinLines.{Line, lines_from, lines_of}
 use Rattle.ps_text.specs.declared.rows.Row.{Row}
 
 -- the line that a row tells of

@@ -5,7 +5,8 @@ use Rattle.std.specs.Str.{IsCharBoundary}
 use Rattle.ps_model.specs.declared.texts.Cut.TheVariants.{Plain}
 use Rattle.ps_model.specs.declared.texts.Section.{Section}
 use Rattle.ps_model.specs.Words.{is_blank, words_in, word_texts}
-use Rattle.ps_model.specs.Lines.{folded, takes_text, without_blank_end}
+use Rattle.ps_model.specs.Lines.{folded, without_blank_end}
+use Rattle.ps_model.specs.ThinLines.{takes_text}
 use Rattle.ps_text.specs.declared.scan.Place.{Place}
 
 abbrev pub pair_of : Place → ℕ × ℕ

@@ -1,7 +1,7 @@
 -- The words that a text is cut into, by their spans and by their bytes, and what it is for spans to rise.
 use Rattle.std.specs.Prelude.{ℕ, ◌≡◌, ◌+◌, ◌≤◌, ◌<◌, List, [], ◌∷◌, slice_range}
 use Rattle.ps_model.specs.declared.texts.Span.{Span}
-use Rattle.ps_model.specs.Lines.{Line}
+use Rattle.ps_model.specs.ThinLines.{Line}
 use Rattle.ps_text.specs.declared.cutting.Word.{Word}
 
 abbrev pub span_of : Word → Span

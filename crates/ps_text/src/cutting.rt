@@ -3,7 +3,7 @@
 ghost use Rattle.std.specs.Prelude.{◌≡◌, ◌+◌, ◌≤◌, ◌<◌, length, map, slice_range, IfOk, All};
 ghost use Rattle.std.specs.Str.{IsUtf8, IsCharBoundary};
 ghost use Rattle.ps_model.specs.Limits.{text_limit};
-ghost use Rattle.ps_model.specs.Lines.{lines_of, line_at};
+ghost use Rattle.ps_model.specs.ThinLines.{lines_of, line_at};
 ghost use Rattle.ps_model.specs.Words.{words_in, word_texts};
 ghost use Rattle.ps_text.specs.TakenPlaces.{IsTextPlace};
 ghost use Rattle.ps_text.specs.WordViews.{span_of, text_of, span_at, IsSliceOf, AreRisingSpans};

@@ -2,7 +2,8 @@
 
 ghost use Rattle.std.specs.Prelude.{◌≡◌, ◌+◌, ◌≤◌, length, drop, option_map, IfSome};
 ghost use Rattle.std.specs.Str.{IsUtf8, IsCharBoundary};
-ghost use Rattle.ps_model.specs.Lines.{folded, takes_text, without_blank_end};
+ghost use Rattle.ps_model.specs.Lines.{folded, without_blank_end};
+ghost use Rattle.ps_model.specs.ThinLines.{takes_text};
 ghost use Rattle.ps_text.specs.TakenPlaces.{pair_of, taken_in, IsTextPlace};
 
 use crate::rows::is_word;

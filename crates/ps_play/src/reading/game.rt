@@ -4,7 +4,7 @@ ghost use Rattle.std.specs.Prelude.{◌≡◌, ◌==◌, ◌⊎◌, IfOk, IfErr,
 ghost use Rattle.std.specs.List.{list_any};
 ghost use Rattle.ps_model.specs.declared.faults.Fault.{Fault as TheFault};
 ghost use Rattle.ps_model.specs.TextFaults.{text_fault};
-ghost use Rattle.ps_model.specs.Lines.{lines_of};
+ghost use Rattle.ps_model.specs.ThinLines.{lines_of};
 ghost use Rattle.ps_model.specs.ThinGame.{thin_game, game_of_lines};
 ghost use Rattle.ps_play.specs.Playable.{IsPlayable};
 ghost use Rattle.ps_play.specs.Sections.{AreAllSections, is_thin};

@@ -3,7 +3,8 @@
 ghost use Rattle.std.specs.Prelude.{◌≡◌, ◌≤◌, ◌&&◌, length, IfOk, IfSome, slice_index_or, [], option_map, map};
 ghost use Rattle.std.specs.List.{list_any};
 ghost use Rattle.std.specs.Str.{bytes_eq};
-ghost use Rattle.ps_model.specs.Lines.{lines_of, line_at, folded, is_there, taken_text};
+ghost use Rattle.ps_model.specs.Lines.{folded};
+ghost use Rattle.ps_model.specs.ThinLines.{lines_of, line_at, is_there, taken_text};
 ghost use Rattle.ps_model.specs.ThinNames.{lines_between};
 ghost use Rattle.ps_model.specs.ThinGame.{is_option, is_title, option_words, text_at, title_of};
 ghost use Rattle.ps_text.specs.WordViews.{text_of};

@@ -2,7 +2,7 @@
 
 ghost use Rattle.std.specs.Prelude.{◌≡◌, ◌≤◌, ◌+◌, ◌++◌, List, length, IfOk, OnOk, IfErr, Some, None, option_map, map};
 ghost use Rattle.std.specs.Str.{chars};
-ghost use Rattle.ps_model.specs.Lines.{Line, lines_of, line_at};
+ghost use Rattle.ps_model.specs.ThinLines.{Line, lines_of, line_at};
 ghost use Rattle.ps_model.specs.Levels.{objects_shown};
 ghost use Rattle.ps_model.specs.OptionSteps.{all_there};
 ghost use Rattle.ps_model.specs.ThinNames.{lines_between};

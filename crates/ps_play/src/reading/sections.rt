@@ -2,7 +2,7 @@
 
 ghost use Rattle.std.specs.Prelude.{◌≡◌, ◌+◌, ◌-◌, ◌≤◌, ◌<◌, nat_lt, length, drop, true, false, if◌then◌else◌};
 ghost use Rattle.std.specs.List.{prefix_len};
-ghost use Rattle.ps_model.specs.Lines.{lines_of, line_at};
+ghost use Rattle.ps_model.specs.ThinLines.{lines_of, line_at};
 ghost use Rattle.ps_model.specs.ThinGame.{rank, are_in_order, header_sections};
 ghost use Rattle.ps_play.specs.Stretches.{IsStretch};
 ghost use Rattle.ps_play.specs.Sections.{place_below, boundary, AreSections};

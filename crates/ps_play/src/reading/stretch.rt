@@ -2,7 +2,7 @@
 
 ghost use Rattle.std.specs.Prelude.{◌≡◌, ◌+◌, ◌≤◌, ◌<◌, ◌&&◌, not, length, true};
 ghost use Rattle.std.specs.List.{list_all, take_while};
-ghost use Rattle.ps_model.specs.Lines.{lines_of, line_at, is_there, is_blank_line};
+ghost use Rattle.ps_model.specs.ThinLines.{lines_of, line_at, is_there, is_blank_line};
 ghost use Rattle.ps_model.specs.ThinNames.{lines_between};
 ghost use Rattle.ps_model.specs.ThinLevels.{from_first_row, first_rows, below_rows};
 ghost use Rattle.ps_play.specs.Stretches.{IsStretch, is_written, rows_above};

@@ -1,5 +1,5 @@
 use Rattle.std.proofs.Common.{◌≡◌, ◌+◌, rules, true, false, arith, map}
-use Rattle.ps_model.specs.Lines.{line_at, is_there, is_blank_line}
+use Rattle.ps_model.specs.ThinLines.{line_at, is_there, is_blank_line}
 use Rattle.ps_model.specs.ThinNames.{entries_of}
 use Rattle.ps_model.specs.declared.texts.Cut.TheVariants.{Layers}
 use Rattle.ps_model.specs.Words.{word_texts}

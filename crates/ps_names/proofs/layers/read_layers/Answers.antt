@@ -1,5 +1,5 @@
 use Rattle.std.proofs.Common.{◌≡◌, ◌∙◌, ◌+◌, sym, ap, refl, rules, arith, List, ℕ, None}
-use Rattle.ps_model.specs.Lines.{Line}
+use Rattle.ps_model.specs.ThinLines.{Line}
 use Rattle.ps_model.specs.ThinNames.{entries_of, layers_declared, lines_between}
 use Rattle.ps_names.specs.declared.fault.NameFault.{NameFault}
 use Rattle.ps_names.specs.declared.fault.NameFault.TheVariants.{NotYet}

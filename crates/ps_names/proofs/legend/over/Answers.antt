@@ -1,6 +1,6 @@
 use Rattle.std.proofs.Common.{◌≡◌, ◌∙◌, ◌++◌, ◌∷◌, [], map, rules, true, false}
 use Rattle.std.proofs.lemmas.List.{map-append}
-use Rattle.ps_model.specs.Lines.{line_at, is_there, is_blank_line}
+use Rattle.ps_model.specs.ThinLines.{line_at, is_there, is_blank_line}
 use Rattle.ps_model.specs.ThinNames.{entries_of}
 use Rattle.ps_text.specs.WordViews.{text_of}
 use Rattle.ps_model.specs.declared.texts.Cut.TheVariants.{Legend}

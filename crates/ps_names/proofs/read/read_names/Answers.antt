@@ -2,7 +2,7 @@ use Rattle.std.proofs.Common.{◌≡◌, ◌∙◌, ◌++◌, ◌≤◌, ap, sym
 use Rattle.std.specs.Prelude.{option_map}
 use Rattle.std.proofs.lemmas.List.{length-map}
 use Rattle.ps_model.specs.Limits.{object_limit}
-use Rattle.ps_model.specs.Lines.{Line}
+use Rattle.ps_model.specs.ThinLines.{Line}
 use Rattle.ps_model.specs.Names.{Glyph}
 use Rattle.ps_model.specs.NamesFacts.{AreNames}
 use Rattle.ps_model.specs.ThinNames.{entries_of, lines_between, object_words, object_names, layer_lists, are_all_apart, thin_names, legend_names}

@@ -1,7 +1,7 @@
 use Rattle.std.proofs.Common.{rules, ◌≡◌, ◌∙◌, ◌+◌, ◌∷◌, [], ◌++◌, None, map, length, drop, refl, sym, ap, arith, ℕ, List}
 use Rattle.std.proofs.lemmas.List.Elements.{All-push}
 use Rattle.std.proofs.lemmas.Str.{IsCharBoundary-start}
-use Rattle.ps_model.specs.Lines.{line_at}
+use Rattle.ps_model.specs.ThinLines.{line_at}
 use Rattle.ps_model.specs.Words.{words_from, words_in, word_texts}
 use Rattle.ps_text.specs.WordViews.{span_of, text_of, span_at, bytes_at, IsSliceOf}
 use Rattle.ps_text.proofs.RisingWords.{rising_words, rising_spans, words_hold}

@@ -1,7 +1,7 @@
 use Rattle.std.proofs.Common.{◌≡◌, ◌++◌, ◌-◌, map, length, drop, None}
 use Rattle.std.specs.Prelude.{All}
 use Rattle.std.specs.Str.{IsCharBoundary}
-use Rattle.ps_model.specs.Lines.{line_at}
+use Rattle.ps_model.specs.ThinLines.{line_at}
 use Rattle.ps_model.specs.Words.{words_from, words_in, word_texts}
 use Rattle.ps_text.specs.WordViews.{span_of, text_of, span_at, bytes_at, IsSliceOf}
 use Rattle.ps_text.proofs.cutting.words.Given as goal

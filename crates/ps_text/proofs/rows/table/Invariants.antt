@@ -1,6 +1,6 @@
 use Rattle.std.proofs.Common.{◌≡◌, ◌+◌, ◌-◌, ◌≤◌, ◌++◌, map, length}
 use Rattle.std.specs.Prelude.{All}
-use Rattle.ps_model.specs.Lines.{lines_of}
+use Rattle.ps_model.specs.ThinLines.{lines_of}
 use Rattle.ps_text.specs.Rows.{shown, lines_behind, IsRow}
 use Rattle.ps_text.proofs.rows.table.Given as goal
 

@@ -4,7 +4,7 @@ use Rattle.std.specs.List.{list_any}
 use Rattle.std.specs.Str.{IsUtf8}
 use Rattle.ps_model.specs.declared.faults.Fault.{Fault}
 use Rattle.ps_model.specs.Limits.{text_limit}
-use Rattle.ps_model.specs.Lines.{lines_of}
+use Rattle.ps_model.specs.ThinLines.{lines_of}
 use Rattle.ps_model.specs.TextFaults.{text_fault}
 use Rattle.ps_model.specs.ThinGame.{thin_game, game_of_lines, is_readable, has_no_comment}
 use Rattle.ps_play.specs.ReadFaults.{not_yet, of_part}

@@ -1,6 +1,6 @@
 use Rattle.std.proofs.Common.{rules, ◌≡◌, ◌∙◌, sym, ap, Some, None, true, false}
 use Rattle.ps_model.specs.declared.texts.Section.TheVariants.{Prelude, Objects, Legend, Layers, Levels}
-use Rattle.ps_model.specs.Lines.{lines_of}
+use Rattle.ps_model.specs.ThinLines.{lines_of}
 use Rattle.ps_model.specs.ThinNames.{thin_names}
 use Rattle.ps_model.specs.ThinLevels.{thin_level}
 use Rattle.ps_model.specs.ThinGame.{section_lines, title_of, game_of_lines}

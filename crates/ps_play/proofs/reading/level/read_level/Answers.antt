@@ -6,7 +6,7 @@ use Rattle.std.specs.Borrow.{Bor}
 use Rattle.std.proofs.lemmas.List.{length-map}
 use Rattle.ps_model.specs.declared.pieces.ObjectId.{ObjectId}
 use Rattle.ps_model.specs.OptionSteps.{all_there}
-use Rattle.ps_model.specs.Lines.{is_blank_line}
+use Rattle.ps_model.specs.ThinLines.{is_blank_line}
 use Rattle.ps_model.specs.Levels.{grounded}
 use Rattle.ps_model.specs.ThinNames.{lines_between}
 use Rattle.ps_model.specs.ThinLevels.{thin_level, row_objects, columns, are_rows, first_length}

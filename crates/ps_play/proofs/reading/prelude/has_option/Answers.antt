@@ -1,6 +1,6 @@
 use Rattle.std.proofs.Common.{rules, ◌≡◌, ◌∙◌, ◌+◌, ◌&&◌, ◌||◌, sym, ap, refl, arith, true, false, Bool}
 use Rattle.std.specs.List.{list_any}
-use Rattle.ps_model.specs.Lines.{line_at, is_there}
+use Rattle.ps_model.specs.ThinLines.{line_at, is_there}
 use Rattle.ps_model.specs.ThinNames.{lines_between}
 use Rattle.ps_model.specs.ThinGame.{is_option}
 use Rattle.ps_play.proofs.LinesBetween.{between-step}

@@ -1,6 +1,6 @@
 use Rattle.std.proofs.Common.{rules, ◌≡◌, ◌∙◌, ◌+◌, ◌&&◌, sym, ap, refl, subst, arith, true, false, Bool, cond, Some, List, ℕ}
 use Rattle.std.specs.Prelude.{find, IfOk}
-use Rattle.ps_model.specs.Lines.{Line, line_at, is_there, taken_text}
+use Rattle.ps_model.specs.ThinLines.{Line, line_at, is_there, taken_text}
 use Rattle.ps_model.specs.ThinNames.{lines_between}
 use Rattle.ps_model.specs.ThinGame.{is_title, text_at, text_of_line, title_of}
 use Rattle.ps_play.proofs.LinesBetween.{between-step}

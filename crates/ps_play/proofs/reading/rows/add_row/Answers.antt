@@ -2,7 +2,7 @@ use Rattle.std.proofs.Common.{rules, ◌≡◌, ◌∙◌, ◌++◌, ◌∷◌, 
 use Rattle.std.specs.Prelude.{if◌then◌else◌}
 use Rattle.std.proofs.lemmas.List.{map-append}
 use Rattle.ps_model.specs.declared.pieces.ObjectId.{ObjectId}
-use Rattle.ps_model.specs.Lines.{Line, line_at, is_there}
+use Rattle.ps_model.specs.ThinLines.{Line, line_at, is_there}
 use Rattle.ps_model.specs.OptionSteps.{all_there}
 use Rattle.ps_model.specs.ThinLevels.{row_objects}
 use Rattle.ps_play.specs.Stretches.{here}

@@ -1,5 +1,5 @@
 use Rattle.std.proofs.Common.{rules, ◌≡◌, ◌∙◌, ◌+◌, ◌-◌, sym, ap, refl, arith, ℕ, Option, Some, None, drop}
-use Rattle.ps_model.specs.Lines.{lines_of, line_at}
+use Rattle.ps_model.specs.ThinLines.{lines_of, line_at}
 use Rattle.ps_play.specs.Sections.{place_below}
 use Rattle.ps_play.proofs.SectionEnds.{order_step, order_behind}
 use Rattle.ps_play.proofs.reading.sections.are_in_order.Goals as goal

@@ -1,5 +1,5 @@
 use Rattle.std.proofs.Common.{◌≡◌, ◌-◌, ◌<◌, drop}
-use Rattle.ps_model.specs.Lines.{lines_of}
+use Rattle.ps_model.specs.ThinLines.{lines_of}
 use Rattle.ps_model.specs.ThinGame.{are_in_order, header_sections}
 use Rattle.ps_play.proofs.reading.sections.are_in_order.Given as goal
 

@@ -1,7 +1,7 @@
 use Rattle.std.proofs.Common.{rules, ◌≡◌, ◌∙◌, ◌+◌, sym, refl, arith, true, false}
 use Rattle.std.specs.Prelude.{nat_lt}
 use Rattle.ps_model.specs.declared.texts.Section.TheVariants.{Prelude, Objects, Legend, Layers, Rules, Wins, Levels}
-use Rattle.ps_model.specs.Lines.{lines_of}
+use Rattle.ps_model.specs.ThinLines.{lines_of}
 use Rattle.ps_model.specs.ThinGame.{are_in_order, header_sections}
 use Rattle.ps_play.specs.Sections.{boundary}
 use Rattle.ps_play.proofs.SectionEnds.{boundary_rises}

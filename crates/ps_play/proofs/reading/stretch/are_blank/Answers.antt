@@ -1,6 +1,6 @@
 use Rattle.std.proofs.Common.{rules, ◌≡◌, ◌∙◌, ◌+◌, sym, ap, refl, arith, ℕ, List, ◌∷◌, true, false}
 use Rattle.std.specs.List.{list_all}
-use Rattle.ps_model.specs.Lines.{Line, line_at, is_blank_line}
+use Rattle.ps_model.specs.ThinLines.{Line, line_at, is_blank_line}
 use Rattle.ps_model.specs.ThinNames.{lines_between}
 use Rattle.ps_play.specs.Stretches.{is_written}
 use Rattle.ps_play.proofs.Stretches.{unwritten_skipped, written_first}

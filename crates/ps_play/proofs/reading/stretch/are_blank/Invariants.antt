@@ -1,6 +1,6 @@
 use Rattle.std.proofs.Common.{◌≡◌}
 use Rattle.std.specs.List.{list_all}
-use Rattle.ps_model.specs.Lines.{is_blank_line}
+use Rattle.ps_model.specs.ThinLines.{is_blank_line}
 use Rattle.ps_model.specs.ThinNames.{lines_between}
 use Rattle.ps_play.proofs.reading.stretch.are_blank.Given as goal
 

@@ -1,6 +1,6 @@
 use Rattle.std.proofs.Common.{rules, ◌≡◌, ◌∙◌, ◌+◌, ◌++◌, ◌&&◌, sym, ap, refl, arith, ℕ, List, [], true, false, append_assoc}
 use Rattle.std.proofs.lemmas.List.{append-nil}
-use Rattle.ps_model.specs.Lines.{Line, line_at, is_there, is_blank_line}
+use Rattle.ps_model.specs.ThinLines.{Line, line_at, is_there, is_blank_line}
 use Rattle.ps_model.specs.ThinNames.{lines_between}
 use Rattle.ps_play.specs.Stretches.{here, rows_above}
 use Rattle.ps_play.proofs.Stretches.{blank_first, kept_above, none_above, one_more_line}

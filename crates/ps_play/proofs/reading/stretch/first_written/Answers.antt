@@ -1,5 +1,5 @@
 use Rattle.std.proofs.Common.{rules, ◌≡◌, ◌∙◌, ◌+◌, sym, ap, refl, arith, ℕ, List, true, false}
-use Rattle.ps_model.specs.Lines.{line_at}
+use Rattle.ps_model.specs.ThinLines.{line_at}
 use Rattle.ps_model.specs.ThinNames.{lines_between}
 use Rattle.ps_model.specs.ThinLevels.{from_first_row}
 use Rattle.ps_play.specs.Stretches.{is_written}

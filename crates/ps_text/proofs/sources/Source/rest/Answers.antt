@@ -1,6 +1,6 @@
 use Rattle.std.proofs.Common.{rules, ◌≡◌, ◌∙◌, ◌+◌, Some, length, sym, ap, ℕ, List}
 use Rattle.std.specs.Prelude.{option_map}
-use Rattle.ps_model.specs.Lines.{line_at}
+use Rattle.ps_model.specs.ThinLines.{line_at}
 use Rattle.ps_text.specs.TakenPlaces.{pair_of, taken_in}
 use Rattle.ps_text.specs.WordViews.{span_of, span_at}
 use Rattle.ps_text.proofs.Slices.{part_of_text}

@@ -1,6 +1,6 @@
 use Rattle.std.proofs.Common.{◌≡◌, ◌∙◌, ◌+◌, ◌-◌, ◌<◌, length, sym, subst, ap, arith}
 use Rattle.std.proofs.lemmas.List.Elements.{All-get_or}
-use Rattle.ps_model.specs.Lines.{Line, line_at}
+use Rattle.ps_model.specs.ThinLines.{Line, line_at}
 use Rattle.ps_text.specs.declared.rows.Row.{Row}
 use Rattle.ps_text.specs.Rows.{shown, IsRow, IsTable}
 use Rattle.ps_text.proofs.Table.{row_count, row_of_line, row_length}
