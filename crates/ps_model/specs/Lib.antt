@@ -13,6 +13,9 @@ pub mod Names
 pub mod ThinNames
 pub mod NamesFacts
 pub mod SourceRules
+pub mod Directions
+pub mod Occurrences
+pub mod Readings
 pub mod Wins
 pub mod Levels
 pub mod ThinLevels
