@@ -13,6 +13,12 @@ pub mod Names
 pub mod ThinNames
 pub mod NamesFacts
 pub mod SourceRules
+pub mod RuleSymbols
+pub mod RuleShape
+pub mod RuleTree
+pub mod RuleShapeFaults
+pub mod RuleNameFaults
+pub mod RuleLines
 pub mod Directions
 pub mod Occurrences
 pub mod Readings
