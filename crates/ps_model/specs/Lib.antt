@@ -16,6 +16,11 @@ pub mod SourceRules
 pub mod Directions
 pub mod Occurrences
 pub mod Readings
+pub mod RuleMeanings
+pub mod Wanted
+pub mod Fitting
+pub mod Rewriting
+pub mod ReadingMeanings
 pub mod Wins
 pub mod Levels
 pub mod ThinLevels
