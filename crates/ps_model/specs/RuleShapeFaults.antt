@@ -1,7 +1,7 @@
 -- The faults of a rule that lie in where its words stand: brackets, words out of place, rows of the right, movement words of a late
 -- rule, ellipses.
 use Rattle.std.specs.Prelude.{nat_eq, nat_lt, Bool, true, false, ◌&&◌, ◌||◌, not, if◌then◌else◌, List, [], ◌∷◌, ◌++◌, length, filter, reverse, slice_index_or}
-use Rattle.std.specs.List.{list_any, flat_map}
+use Rattle.std.specs.List.{list_any}
 use Rattle.ps_model.specs.Limits.{ellipsis_limit}
 use Rattle.ps_model.specs.RuleSymbols.{Symbol, Open, Ellipsis, Plus, Late, Without, Moves, Asks, Called, Token}
 use Rattle.ps_model.specs.RuleShape.{has, is_bar, is_ellipsis, is_late, has_rows, WrittenSide, RuleShape, words_behind, at_end, before_end, cells_in, words_in_cells, paired_rows, paired_cells}
