@@ -9,3 +9,7 @@ pub mod Neighbours
 mod OutputRows
 pub mod Slots
 pub mod Winners
+pub mod RuleTexts
+mod RuleShapeRows
+mod RuleNameRows
+mod RuleGroupRows

@@ -31,6 +31,7 @@ pub mod Places
 pub mod Attempts
 pub mod Programs
 pub mod RulePrograms
+pub mod ReadingFaults
 pub mod Wins
 pub mod Levels
 pub mod ThinLevels
