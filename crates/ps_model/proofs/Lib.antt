@@ -13,3 +13,5 @@ pub mod RuleTexts
 mod RuleShapeRows
 mod RuleNameRows
 mod RuleGroupRows
+mod RuleTreeRows
+mod ReadingFaultRows
