@@ -19,6 +19,7 @@ pub mod RuleTree
 pub mod RuleShapeFaults
 pub mod RuleNameFaults
 pub mod RuleLines
+pub mod RuleLineFaults
 pub mod Directions
 pub mod Occurrences
 pub mod Readings
