@@ -25,6 +25,7 @@ pub mod Places
 pub mod Attempts
 pub mod Programs
 pub mod RulePrograms
+pub mod Compiled
 pub mod Wins
 pub mod Levels
 pub mod ThinLevels
