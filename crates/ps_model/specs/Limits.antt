@@ -17,6 +17,10 @@ layer_limit = 32
 abbrev pub side_limit : ℕ
 side_limit = 64
 
+-- entries of LEVELS, messages among them
+abbrev pub entry_limit : ℕ
+entry_limit = 999
+
 -- calls by which a run reads keys
 abbrev pub read_limit : ℕ
 read_limit = 16777216
