@@ -1,6 +1,9 @@
 pub mod BaseText
 pub mod Counts
 mod FaultRows
+pub mod GameLaws
+mod GameRows
+mod LevelRows
 pub mod LineLaws
 mod LineRows
 mod MovementRows
@@ -9,3 +12,4 @@ pub mod Neighbours
 mod OutputRows
 pub mod Slots
 pub mod Winners
+mod WinRows

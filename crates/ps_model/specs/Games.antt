@@ -46,32 +46,36 @@ game_with lines names = record {
 abbrev pub game_read : List Line → Game
 game_read lines = game_with lines (names_read (section_lines lines Objects) (section_lines lines Legend) (section_lines lines Layers))
 
--- the faults of the lines of which this was read: headers and prelude; names; rules; levels; win conditions; then rules with too
--- many readings, and rules of which every reading is impossible
-abbrev pub line_faults : List Line → Game → List Fault
-line_faults lines read =
+-- the faults of lines, of which this was read: headers and prelude; names; rules; levels; win conditions; then rules with too many
+-- readings, and rules of which every reading is impossible
+abbrev pub faults_beside : Game → List Line → List Fault
+faults_beside read lines =
     heading_faults lines
     ++ (name_faults (header_number lines Objects) (section_lines lines Objects) (section_lines lines Legend) (section_lines lines Layers)
     ++ (rule_faults read.names (section_lines lines Rules)
     ++ (level_faults read.names (header_number lines Levels) (section_lines lines Levels)
     ++ (win_faults read.names (section_lines lines Wins) ++ reading_faults read.names read.rules))))
 
--- the faults of a text with these lines, of which this was read: bytes that are no text have that fault alone
-abbrev pub faults_by : List ℕ → List Line → Game → List Fault
-faults_by text lines read = elim (text_fault text) [ Some fault ↦ fault ∷ [] | None ↦ line_faults lines read ]
+-- the faults of lines
+abbrev pub line_faults : List Line → List Fault
+line_faults lines = faults_beside (game_read lines) lines
 
--- the faults of a text, in the order in which they are told
+-- the faults of a text, in the order in which they are told; of bytes that are no text that one alone
 abbrev pub faults : List ℕ → List Fault
-faults text = let lines : List Line = lines_of text in faults_by text lines (game_read lines)
+faults text = elim (text_fault text) [ Some fault ↦ fault ∷ [] | None ↦ line_faults (lines_of text) ]
 
 -- what was read, if there is no fault
 abbrev pub unless : List Fault → Game → Option Game
 unless [] read = Some read
 unless (fault ∷ others) read = None
 
--- the game of a text: what is read from its lines, if it has no fault
+-- the game of lines: what is read from them, if they have no fault
+abbrev pub game_of_lines : List Line → Option Game
+game_of_lines lines = let read : Game = game_read lines in unless (faults_beside read lines) read
+
+-- the game of a text, if it has no fault
 abbrev pub game : List ℕ → Option Game
-game text = let lines : List Line = lines_of text in let read : Game = game_read lines in unless (faults_by text lines read) read
+game text = elim (text_fault text) [ Some fault ↦ None | None ↦ game_of_lines (lines_of text) ]
 
 -- the text has that fault
 abbrev pub IsFaultOf : List ℕ → Fault → Type 0
