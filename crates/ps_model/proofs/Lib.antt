@@ -10,6 +10,7 @@ mod MovementRows
 mod NameRows
 pub mod Neighbours
 mod OutputRows
+mod SectionRows
 pub mod Slots
 pub mod Winners
 mod WinRows
