@@ -1,7 +1,7 @@
 -- The lines of a text. A line ends at a line feed; a last line feed begins no further line. A comment begins at `(` and ends at
 -- its `)`, comments nest, and what stands in one reads as blanks. Each line has the section that it stands in: the one of the
 -- last header at or above it, or the prelude. In three places the rest of a line is a text that is taken as it stands.
-use Rattle.std.specs.Prelude.{ℕ, suc, ◌+◌, ◌-◌, ◌==◌, nat_eq, nat_lt, Bool, true, false, ◌&&◌, ◌||◌, not, if◌then◌else◌, Option, Some, None, unwrap_or, is_some, option_map, List, [], ◌∷◌, ◌++◌, length, take, drop, reverse, replicate, fold, find, slice_index_or, slice_range, codes}
+use Rattle.std.specs.Prelude.{ℕ, suc, ◌+◌, ◌-◌, ◌==◌, nat_eq, nat_lt, Bool, ◌&&◌, ◌||◌, not, if◌then◌else◌, Option, Some, None, unwrap_or, is_some, option_map, List, [], ◌∷◌, ◌++◌, length, take, drop, reverse, replicate, fold, find, slice_index_or, slice_range, codes}
 use Rattle.std.specs.List.{slice_split, starts_with, prefix_len, list_all, list_any}
 use Rattle.std.specs.Str.{bytes_eq, str_to_ascii_lowercase}
 use Rattle.std.specs.Map.{lookup}

@@ -1,6 +1,5 @@
 -- What a run of a game without rules writes: the opening, then a text for each key up to an ending.
 use Rattle.std.specs.Prelude.{ℕ, List, [], ◌∷◌, ◌++◌, codes}
-use Rattle.ps_model.specs.declared.play.Ending.{Ending}
 use Rattle.ps_model.specs.declared.play.Ending.TheVariants.{Quit as Quits, EndOfKeys}
 use Rattle.ps_model.specs.declared.play.Input.{Input}
 use Rattle.ps_model.specs.declared.play.Key.{Key}
@@ -10,25 +9,10 @@ use Rattle.ps_model.specs.Grid.{Grid}
 use Rattle.ps_model.specs.Levels.{loaded}
 use Rattle.ps_model.specs.Movement.{slid}
 use Rattle.ps_model.specs.Frames.{written_line, frame}
-use Rattle.ps_model.specs.Turns.{with_input}
+use Rattle.ps_model.specs.Inputs.{with_input}
 use Rattle.ps_model.specs.Keys.{keys_of}
+use Rattle.ps_model.specs.Outputs.{Output, after_text, quit_line, end_of_keys_line}
 use Rattle.ps_model.specs.ThinGame.{Game}
-
--- what is written, and how it ends
-pub record Output : Type 0 where
-  pub written : List ℕ
-  pub ending : Ending
-
--- a text before an output
-abbrev pub after_text : List ℕ → Output → Output
-after_text text rest = record { written = text ++ rest.written; ending = rest.ending }
-
--- the line of each ending that a key or the end of the keys brings
-abbrev pub quit_line : List ℕ
-quit_line = codes "* quit\n"
-
-abbrev pub end_of_keys_line : List ℕ
-end_of_keys_line = codes "* end of keys\n"
 
 -- the grid after an input
 abbrev pub turned : Names → Input → Grid → Grid

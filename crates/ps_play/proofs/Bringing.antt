@@ -9,7 +9,8 @@ use Rattle.ps_model.specs.declared.play.Ending.TheVariants.{EndOfKeys}
 use Rattle.ps_model.specs.declared.play.Key.{Key}
 use Rattle.ps_model.specs.Names.{Names}
 use Rattle.ps_model.specs.Grid.{Grid}
-use Rattle.ps_model.specs.ThinOutput.{Output, after_text, output, output_from, end_of_keys_line, opening}
+use Rattle.ps_model.specs.ThinOutput.{output, output_from, opening}
+use Rattle.ps_model.specs.Outputs.{Output, after_text, end_of_keys_line}
 use Rattle.ps_model.specs.ThinGame.{Game, thin_game}
 use Rattle.ps_model.specs.Levels.{loaded}
 use Rattle.ps_play.specs.Devices.{Grows, Loses, IsSpent}

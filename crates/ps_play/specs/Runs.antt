@@ -11,7 +11,8 @@ use Rattle.ps_model.specs.Grid.{Grid}
 use Rattle.ps_model.specs.Frames.{frame}
 use Rattle.ps_model.specs.Keys.{key_of}
 use Rattle.ps_model.specs.ThinGame.{Game, thin_game}
-use Rattle.ps_model.specs.ThinOutput.{quit_line, turned, output_from, output}
+use Rattle.ps_model.specs.ThinOutput.{turned, output_from, output}
+use Rattle.ps_model.specs.Outputs.{quit_line}
 use Rattle.ps_play.specs.declared.run.RunFault.{RunFault}
 
 -- the keys of bytes of which each is a key by itself or means nothing

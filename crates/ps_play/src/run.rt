@@ -4,7 +4,8 @@ ghost use Rattle.std.specs.Prelude.{◌≡◌, ◌≢◌, ◌+◌, ◌≤◌, �
 ghost use Rattle.ps_model.specs.Limits.{read_limit};
 ghost use Rattle.ps_model.specs.ThinGame.{thin_game};
 ghost use Rattle.ps_model.specs.Levels.{loaded};
-ghost use Rattle.ps_model.specs.ThinOutput.{end_of_keys_line, opening};
+ghost use Rattle.ps_model.specs.ThinOutput.{opening};
+ghost use Rattle.ps_model.specs.Outputs.{end_of_keys_line};
 ghost use Rattle.ps_play.specs.Devices.{Grows};
 ghost use Rattle.ps_play.specs.Faults.{IsRefusal, IsDeviceFault};
 ghost use Rattle.ps_play.specs.Playable.{IsPlayable};

@@ -3,7 +3,7 @@
 ghost use Rattle.std.specs.Prelude.{◌≡◌, ◌*◌, ◌<◌, slice_set, map};
 ghost use Rattle.ps_model.specs.Grid.{IsGrid, IsPlace, cell_at, slot_at, with_slot, cell_count};
 ghost use Rattle.ps_model.specs.Names.{is_among};
-ghost use Rattle.ps_model.specs.Turns.{motion_of, with_motion};
+ghost use Rattle.ps_model.specs.Inputs.{motion_of, with_motion};
 ghost use Rattle.ps_play.specs.Inputs.{slot_set_moving, grid_with_cell};
 
 use ps_board::Board;

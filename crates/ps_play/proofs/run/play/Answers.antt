@@ -1,7 +1,7 @@
 use Rattle.std.proofs.Common.{◌≡◌, ◌∙◌, ◌++◌, ◌+◌, ◌≤◌, refl, ℕ, List, [], arith, rules, take, append-nil}
 use Rattle.ps_model.specs.Names.{Names}
 use Rattle.ps_model.specs.Grid.{Grid}
-use Rattle.ps_model.specs.ThinOutput.{end_of_keys_line}
+use Rattle.ps_model.specs.Outputs.{end_of_keys_line}
 use Rattle.ps_play.specs.Devices.{Loses}
 use Rattle.ps_play.proofs.Pieces.{grows_twice, loses_twice}
 use Rattle.ps_play.proofs.Bringing.{given_front, all_given, keys_end, run_ends, run_goes_on, if_some, one_call}

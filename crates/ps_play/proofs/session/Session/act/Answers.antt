@@ -5,7 +5,7 @@ use Rattle.ps_model.specs.declared.pieces.ObjectId.{ObjectId}
 use Rattle.ps_model.specs.Grid.{Grid}
 use Rattle.ps_model.specs.Movement.{slid}
 use Rattle.ps_model.specs.Names.{members_named}
-use Rattle.ps_model.specs.Turns.{with_motion}
+use Rattle.ps_model.specs.Inputs.{with_motion}
 use Rattle.ps_model.specs.ThinGame.{Game}
 use Rattle.ps_play.proofs.session.Session.act.Goals as goal
 
