@@ -14,15 +14,16 @@ use Rattle.ps_model.specs.Limits.{text_limit}
 use Rattle.ps_model.specs.Faults.{first_fault}
 use Rattle.ps_model.specs.TextFaults.{utf8_fault}
 use Rattle.ps_model.specs.Lines.{lines_of}
+use Rattle.ps_model.specs.Preludes.{Options}
 use Rattle.ps_model.specs.Names.{One, AllOf}
 use Rattle.ps_model.specs.Wins.{Win}
 use Rattle.ps_model.specs.LevelLines.{Entry, MessageEntry, LevelEntry}
 use Rattle.ps_model.specs.Games.{Game, line_faults, faults, game}
-use Rattle.ps_model.proofs.BaseText.{base_head, base_text}
+use Rattle.ps_model.proofs.BaseText.{base_head, base_text, base_game}
 
--- the base text with these lines of WINCONDITIONS, and these below LEVELS
+-- the base text without rules, with these lines of WINCONDITIONS and of LEVELS
 abbrev text_with : List ℕ → List ℕ → List ℕ
-text_with wins rows = base_head ++ (codes "RULES\nWINCONDITIONS\n" ++ (wins ++ (codes "LEVELS\n" ++ rows)))
+text_with wins rows = base_game [] wins rows
 
 -- the first fault of a text
 abbrev first : List ℕ → Option Fault
@@ -54,7 +55,7 @@ wins : option_map (λ read. read.wins) (game (text_with (codes "All Target on @\
 unfolding chars is_utf8 encode utf8_valid_len
 wins = refl
 
-prelude : option_map (λ read. (read.title, read.options)) (game (codes "noundo\n" ++ base_text (codes "P")))
+prelude : option_map {U = List ℕ × Options} (λ read. (read.title, read.options)) (game (codes "noundo\n" ++ base_text (codes "P")))
     ≡ Some (codes "T", record { no_action = false; no_undo = true; no_restart = false; require_player_movement = false; run_rules_on_level_start = false })
 unfolding chars is_utf8 encode utf8_valid_len
 prelude = refl
@@ -63,7 +64,7 @@ prelude = refl
 abbrev with_returns : List ℕ → List ℕ
 with_returns text = 239 ∷ 187 ∷ 191 ∷ flat_map (λ byte. if byte == 10 then 13 ∷ 10 ∷ [] else byte ∷ []) text
 
-line_ends : option_map (λ read. (read.title, read.entries)) (game (with_returns (text_with [] (codes "P@.\n")))) ≡ Some (codes "T", one_level ∷ [])
+line_ends : option_map {U = List ℕ × List Entry} (λ read. (read.title, read.entries)) (game (with_returns (text_with [] (codes "P@.\n")))) ≡ Some (codes "T", one_level ∷ [])
 unfolding chars is_utf8 encode utf8_valid_len
 line_ends = refl
 
@@ -97,8 +98,11 @@ wrong_byte : faults (codes "ti\n" ++ 255 ∷ []) ≡ record { kind = NotUtf8; li
 unfolding chars is_utf8 encode utf8_valid_len
 wrong_byte = refl
 
+abbrev faults_behind : Option Fault → List ℕ → List Fault
+faults_behind cause text = elim cause [ Some fault ↦ fault ∷ [] | None ↦ line_faults (lines_of text) ]
+
 too_long : (text : List ℕ) → nat_lt text_limit (length text) ≡ true → faults text ≡ record { kind = TooLong; line = 1 } ∷ []
-too_long text long = ap (λ test. elim (elim test [ true ↦ Some (record { kind = TooLong; line = 1 }) | false ↦ utf8_fault text ]) [ Some fault ↦ fault ∷ [] | None ↦ line_faults (lines_of text) ]) long
+too_long text long = ap (λ test. faults_behind (elim test [ true ↦ Some (record { kind = TooLong; line = 1 }) | false ↦ utf8_fault text ]) text) long
 
 -- no section at all, and a text of comment alone
 empty : first [] ≡ at_line 1 NoSection
