@@ -3,7 +3,7 @@ use Rattle.std.proofs.Common.{◌≡◌, ℕ, List, [], ◌∷◌, refl, Option,
 use Rattle.ps_model.specs.declared.faults.Fault.{Fault}
 use Rattle.ps_model.specs.Lines.{Line, lines_of}
 use Rattle.ps_model.specs.TextFaults.{text_fault}
-use Rattle.ps_model.specs.Games.{Game, game_read, line_faults, game_of_lines, unless, faults, game}
+use Rattle.ps_model.specs.Games.{game_read, line_faults, game_of_lines, unless, faults, game}
 
 game_at : (o : Option Fault) (lines : List Line)
     → elim o [ Some fault ↦ None | None ↦ game_of_lines lines ] ≡ unless (elim o [ Some fault ↦ fault ∷ [] | None ↦ line_faults lines ]) (game_read lines)

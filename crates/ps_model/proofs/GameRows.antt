@@ -9,16 +9,15 @@ use Rattle.ps_model.specs.declared.pieces.ObjectId.{ObjectId}
 use Rattle.ps_model.specs.declared.rules.Quantifier.TheVariants.{All}
 use Rattle.ps_model.specs.declared.faults.Fault.{Fault}
 use Rattle.ps_model.specs.declared.faults.FaultKind.{FaultKind}
-use Rattle.ps_model.specs.declared.faults.FaultKind.TheVariants.{TooLong, NotUtf8, SectionOrder, NoSection, Realtime, UnknownGlyph, PropertyGlyph, NoLevel, BadWin, UnknownWinName}
+use Rattle.ps_model.specs.declared.faults.FaultKind.TheVariants.{TooLong, NotUtf8, SectionOrder, NoSection, Realtime, UnknownGlyph, NoLevel, BadWin, UnknownWinName}
 use Rattle.ps_model.specs.Limits.{text_limit}
 use Rattle.ps_model.specs.Faults.{first_fault}
 use Rattle.ps_model.specs.TextFaults.{utf8_fault}
 use Rattle.ps_model.specs.Lines.{lines_of}
 use Rattle.ps_model.specs.Preludes.{Options}
 use Rattle.ps_model.specs.Names.{One, AllOf}
-use Rattle.ps_model.specs.Wins.{Win}
 use Rattle.ps_model.specs.LevelLines.{Entry, MessageEntry, LevelEntry}
-use Rattle.ps_model.specs.Games.{Game, line_faults, faults, game}
+use Rattle.ps_model.specs.Games.{line_faults, faults, game}
 use Rattle.ps_model.proofs.BaseText.{base_head, base_text, base_game}
 
 -- the base text without rules, with these lines of WINCONDITIONS and of LEVELS

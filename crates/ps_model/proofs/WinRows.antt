@@ -1,7 +1,6 @@
 -- Win conditions, their faults, and when they hold, worked by hand. The header stands in line 1.
 use Rattle.std.proofs.Common.{◌≡◌, ℕ, List, [], ◌∷◌, ◌++◌, map, refl, Option, Some, None, true, false, Bool}
 use Rattle.std.specs.Prelude.{codes}
-use Rattle.std.specs.List.{flat_map}
 use Rattle.std.specs.Str.{chars}
 use Rattle.std.proofs.Math.Utf8.{encode}
 use Rattle.ps_model.specs.declared.pieces.ObjectId.{ObjectId}
