@@ -1,11 +1,16 @@
 pub mod BaseText
 pub mod Counts
 mod FaultRows
+pub mod GameLaws
+mod GameRows
+mod LevelRows
 pub mod LineLaws
 mod LineRows
 mod MovementRows
 mod NameRows
 pub mod Neighbours
 mod OutputRows
+mod SectionRows
 pub mod Slots
 pub mod Winners
+mod WinRows
