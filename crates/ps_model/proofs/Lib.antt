@@ -1,4 +1,5 @@
 pub mod BaseText
+mod CommentRows
 pub mod Counts
 mod FaultRows
 pub mod LineLaws
