@@ -6,6 +6,7 @@ pub mod LineLaws
 mod LineRows
 mod MovementRows
 mod NameRows
+pub mod NameTexts
 pub mod Neighbours
 mod OutputRows
 pub mod Slots
