@@ -1,4 +1,5 @@
 pub mod BaseText
+mod CommentRows
 pub mod Counts
 mod FaultRows
 pub mod GameLaws
@@ -8,6 +9,7 @@ pub mod LineLaws
 mod LineRows
 mod MovementRows
 mod NameRows
+pub mod NameTexts
 pub mod Neighbours
 mod OutputRows
 mod SectionRows

@@ -6,10 +6,17 @@ pub mod OptionSteps
 pub mod Words
 pub mod RuleWords
 pub mod Lines
+pub mod WrittenLines
 pub mod ThinLines
 pub mod Faults
 pub mod TextFaults
 pub mod Names
+pub mod ObjectLines
+pub mod LegendLines
+pub mod Meanings
+pub mod LayerLines
+pub mod NamesRead
+pub mod NameFaults
 pub mod ThinNames
 pub mod NamesFacts
 pub mod SourceRules
