@@ -16,3 +16,9 @@ mod SectionRows
 pub mod Slots
 pub mod Winners
 mod WinRows
+pub mod RuleTexts
+mod RuleShapeRows
+mod RuleNameRows
+mod RuleGroupRows
+mod RuleTreeRows
+mod ReadingFaultRows

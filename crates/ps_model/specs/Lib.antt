@@ -20,6 +20,12 @@ pub mod NameFaults
 pub mod ThinNames
 pub mod NamesFacts
 pub mod SourceRules
+pub mod RuleSymbols
+pub mod RuleShape
+pub mod RuleTree
+pub mod RuleShapeFaults
+pub mod RuleNameFaults
+pub mod RuleLines
 pub mod Directions
 pub mod Occurrences
 pub mod Readings
@@ -33,6 +39,7 @@ pub mod Attempts
 pub mod Programs
 pub mod RulePrograms
 pub mod Compiled
+pub mod ReadingFaults
 pub mod Wins
 pub mod Levels
 pub mod ThinLevels
@@ -42,11 +49,7 @@ pub mod Sections
 pub mod LevelLines
 pub mod LevelFaults
 pub mod WinLines
-pub mod NamesRead
-pub mod NameFaults
-pub mod RuleLines
 pub mod RuleFaults
-pub mod ReadingFaults
 pub mod Games
 pub mod Frames
 pub mod Keys
