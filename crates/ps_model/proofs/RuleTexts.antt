@@ -10,7 +10,7 @@ use Rattle.ps_model.specs.Names.{Meaning, One, AllOf, AnyOf, Names}
 use Rattle.ps_model.specs.ThinNames.{thin_names, lines_between}
 use Rattle.ps_model.specs.Lines.{Line, lines_of, is_header}
 use Rattle.ps_model.specs.Faults.{first_fault}
-use Rattle.ps_model.specs.RuleLineFaults.{rule_faults}
+use Rattle.ps_model.specs.RuleFaults.{rule_faults}
 use Rattle.ps_model.proofs.BaseText.{base_head}
 
 abbrev pub object : ℕ → ObjectId

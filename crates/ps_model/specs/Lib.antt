@@ -26,7 +26,7 @@ pub mod RuleTree
 pub mod RuleShapeFaults
 pub mod RuleNameFaults
 pub mod RuleLines
-pub mod RuleLineFaults
+pub mod RuleFaults
 pub mod Directions
 pub mod Occurrences
 pub mod Readings
@@ -50,7 +50,6 @@ pub mod Sections
 pub mod LevelLines
 pub mod LevelFaults
 pub mod WinLines
-pub mod RuleFaults
 pub mod Games
 pub mod Frames
 pub mod Keys
