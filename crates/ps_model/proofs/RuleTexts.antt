@@ -1,17 +1,19 @@
 -- Names and lines for the worked rows on rules: the names of the base text, written out, and the lines below a header RULES, the
 -- first of which has the number 2.
 use Rattle.std.proofs.Common.{◌≡◌, ℕ, List, [], ◌∷◌, ◌++◌, map, refl, Option, Some}
-use Rattle.std.specs.Prelude.{codes, option_map, filter, not, ◌&&◌}
+use Rattle.std.specs.Prelude.{codes}
 use Rattle.std.specs.Str.{chars}
 use Rattle.ps_model.specs.declared.pieces.ObjectId.{ObjectId}
 use Rattle.ps_model.specs.declared.faults.Fault.{Fault}
 use Rattle.ps_model.specs.declared.faults.FaultKind.{FaultKind}
 use Rattle.ps_model.specs.Names.{Meaning, One, AllOf, AnyOf, Names}
-use Rattle.ps_model.specs.ThinNames.{thin_names, lines_between}
-use Rattle.ps_model.specs.Lines.{Line, lines_of, is_header}
+use Rattle.ps_model.specs.declared.texts.Section.TheVariants.{Rules}
+use Rattle.ps_model.specs.Lines.{Line, lines_of}
+use Rattle.ps_model.specs.Sections.{section_lines}
 use Rattle.ps_model.specs.Faults.{first_fault}
 use Rattle.ps_model.specs.RuleFaults.{rule_faults}
 use Rattle.ps_model.proofs.BaseText.{base_head}
+use Rattle.ps_model.proofs.NameTexts.{names_of_text}
 
 abbrev pub object : ℕ → ObjectId
 object number = record { 0 = number }
@@ -45,11 +47,11 @@ base_names = record {
   }
 
 -- they are what the base text says
-base_entries : option_map (λ names. names.entries) (thin_names (lines_between base_head 3 21) (lines_between base_head 22 24) (lines_between base_head 25 29)) ≡ Some base_names.entries
+base_entries : (names_of_text base_head).entries ≡ base_names.entries
 unfolding chars
 base_entries = refl
 
-base_layers : option_map (λ names. names.layers) (thin_names (lines_between base_head 3 21) (lines_between base_head 22 24) (lines_between base_head 25 29)) ≡ Some base_names.layers
+base_layers : (names_of_text base_head).layers ≡ base_names.layers
 unfolding chars
 base_layers = refl
 
@@ -59,7 +61,7 @@ with_name name meaning = record base_names { entries = base_names.entries ++ (na
 
 -- the lines below RULES
 abbrev pub lines_below : List ℕ → List Line
-lines_below rules = filter (λ line. line.is_there && not (is_header line)) (lines_of (codes "RULES\n" ++ rules))
+lines_below rules = section_lines (lines_of (codes "RULES\n" ++ rules)) Rules
 
 -- the fault that is told of lines below RULES
 abbrev pub told_with : Names → List ℕ → Option Fault

@@ -71,6 +71,11 @@ directions : map (λ line. line.directions) (rules_in (codes "[] -> win\nright [
     ≡ [] ∷ (Right ∷ []) ∷ (Left ∷ Right ∷ []) ∷ (Up ∷ Down ∷ []) ∷ (Up ∷ Down ∷ Left ∷ Right ∷ []) ∷ (Up ∷ Down ∷ Left ∷ []) ∷ []
 directions = refl
 
+-- the text of a message is what stands behind its word, blanks at the ends left out; there may be none
+messages : map (λ rule. rule.commands.message) (rules_in (codes "[] -> win message(a) b\n[] -> message\n[] -> [] MESSAGE  Two  blanks \t\r\n[] -> sfx0 win"))
+    ≡ Some (codes "(a) b") ∷ Some [] ∷ Some (codes "Two  blanks") ∷ None ∷ []
+messages = refl
+
 -- lines in their order; blank ones and those that aren't there are read past, and one of no form gives nothing
 lines : rules_read base_names (lines_below (codes "startloop\n\n(x)\n=\nEndLoop\nnonsense\n[] -> []\n")) ≡ LoopStart ∷ LoopEnd ∷ Rule (plain_rule 8 (((cell [] [] ∷ []) ∷ []) ∷ [])) ∷ []
 lines = refl

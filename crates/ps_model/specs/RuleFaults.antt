@@ -13,7 +13,7 @@ use Rattle.ps_model.specs.RuleSymbols.{Token, tokens_of, tokens_kept, is_left_ou
 use Rattle.ps_model.specs.RuleShape.{has_kind, RuleShape}
 use Rattle.ps_model.specs.RuleLines.{LineForm, StartForm, EndForm, RuleForm, NoForm, form_of, lines_with_words}
 use Rattle.ps_model.specs.RuleShapeFaults.{has_bad_bracket, has_unknown_word, has_other_rows, has_nothing_right, has_late_move, has_bad_ellipsis}
-use Rattle.ps_model.specs.RuleNameFaults.{has_name_twice, has_no_aggregate, has_unbound}
+use Rattle.ps_model.specs.RuleNameFaults.{has_name_twice, has_barred_aggregate, has_unbound}
 
 -- groups and loops ---------------------------------------------------------------------------------------------------------
 
@@ -81,7 +81,7 @@ faults_of_rule above line shape rule =
     ++ (when (has_other_rows shape) RowsDiffer line
     ++ (when (has_nothing_right shape) NothingRight line
     ++ (when (has_name_twice rule) NameTwice line
-    ++ (when (has_no_aggregate rule) NoAggregate line
+    ++ (when (has_barred_aggregate rule) NoAggregate line
     ++ (when (has_unbound rule) Unbound line
     ++ (when (has_late_move shape) LateMove line
     ++ (when (has_lone_plus above rule) PlusAlone line

@@ -44,8 +44,8 @@ bars_aggregate (No (AllOf line objects)) = true
 bars_aggregate other = false
 
 -- RU6: `no` before an aggregate
-abbrev pub has_no_aggregate : SourceRule → Bool
-has_no_aggregate rule = list_any (λ cell. list_any bars_aggregate (cell.left ++ cell.right)) (cells_of rule)
+abbrev pub has_barred_aggregate : SourceRule → Bool
+has_barred_aggregate rule = list_any (λ cell. list_any bars_aggregate (cell.left ++ cell.right)) (cells_of rule)
 
 -- RU7 ----------------------------------------------------------------------------------------------------------------------
 
