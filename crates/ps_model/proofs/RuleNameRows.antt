@@ -10,7 +10,7 @@ use Rattle.ps_model.proofs.RuleTexts.{AllTold, told_with, fault_at, with_name, o
 -- one side of a cell names one object or one property twice: by another name too, with a movement word or without, and an
 -- aggregate by its objects
 twice : AllTold (fault_at 2 NameTwice)
-    (codes "[ A A ] -> [ A ]" ∷ codes "[ A ] -> [ a B A ]" ∷ codes "[ Crate * ] -> cancel" ∷ codes "[ > A < A ] -> cancel" ∷ codes "[ B | | A B A ] -> cancel"
+    (codes "[ A A ] -> [ A ]" ∷ codes "[ A ] -> [ a B A ]" ∷ codes "[ Crate * ] -> cancel" ∷ codes "[ > A < A ] -> cancel" ∷ codes "[ B | | A B A ] -> cancel" ∷ codes "[ A B B ] -> cancel"
     ∷ codes "[ @ @ ] -> cancel" ∷ codes "[ @ Crate ] -> cancel" ∷ codes "[ Target @ ] -> cancel" ∷ codes "[ AT AT ] -> cancel" ∷ codes "[ AT ] -> [ AT > at ]"
     ∷ codes "[ A | ... A A | B ] -> cancel" ∷ [])
 twice = refl

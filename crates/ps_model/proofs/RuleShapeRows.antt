@@ -103,7 +103,7 @@ nothing_right = refl
 ellipses : AllTold (fault_at 2 Ellipsis)
     (codes "[ ... | A ] -> [ ... | A ]" ∷ codes "[ A | ... ] -> [ A | ... ]" ∷ codes "[ ... ] -> cancel" ∷ codes "[ A | ... | B ] -> [ A | B | C ]"
     ∷ codes "[ A | B | C ] -> [ A | ... | C ]" ∷ codes "[ A | ... | B | C ] -> [ A | B | ... | C ]" ∷ codes "[ A | ... | B | ... | C ] -> cancel"
-    ∷ codes "[ A | ... | ... | C ] -> cancel" ∷ codes "[ A | ... ... | C ] -> cancel" ∷ codes "[ A | ... B | C ] -> cancel" ∷ codes "[ A | B ... | C ] -> [ A | ... | C ]"
+    ∷ codes "[ A | ... | ... | C ] -> cancel" ∷ codes "[ A | ... ... | C ] -> cancel" ∷ codes "[ A | ... B | C ] -> cancel" ∷ codes "[ A | B ... | C ] -> [ A | ... | C ]" ∷ codes "[ A | ... | C ] -> [ A | ... B | C ]"
     ∷ codes "[ A ] [ B | ... ] -> cancel" ∷ codes "[ A | ... | B ] [ C | D | A ] -> [ A | ... | B ] [ C | ... | A ]" ∷ [])
 ellipses = refl
 
