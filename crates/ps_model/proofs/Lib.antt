@@ -1,6 +1,11 @@
 pub mod BaseText
 pub mod Counts
+pub mod EitherWay
+pub mod EqualAttempts
+pub mod EqualPlaces
+pub mod EqualPrograms
 mod FaultRows
+pub mod GameCells
 pub mod LineLaws
 mod LineRows
 mod MovementRows
@@ -9,3 +14,4 @@ pub mod Neighbours
 mod OutputRows
 pub mod Slots
 pub mod Winners
+pub mod Zipped

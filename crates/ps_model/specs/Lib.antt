@@ -24,6 +24,9 @@ pub mod ReadingMeanings
 pub mod Places
 pub mod Attempts
 pub mod Programs
+pub mod GameGrids
+pub mod EqualMeanings
+pub mod Settling
 pub mod RulePrograms
 pub mod Wins
 pub mod Levels
