@@ -95,7 +95,7 @@ attempt_by-same names a b h state shape combinations =
     let made = all_applied-same names a b h state.grid shape combinations in
     record {
       equal = ap₂ (λ (r : Rewritten) (queue : Commands). let result : Result = record { state = record { grid = r.grid; queue = queue }; changed = r.changed } in result)
-      made.equal (queue_after-same a b h.commands state.queue combinations);
+          made.equal (queue_after-same a b h.commands state.queue combinations);
       grid = made.grid;
     }
 

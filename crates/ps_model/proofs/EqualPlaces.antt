@@ -1,5 +1,5 @@
 -- Rows whose cells agree have the same places, and rules that are alike the same combinations.
-use Rattle.std.proofs.Common.{◌≡◌, ℕ, Bool, true, false, Option, Some, None, List, [], ◌∷◌, length, map, filter, flat_map, IfSome, slice_get, refl, ◌∙◌, ap, ap₂}
+use Rattle.std.proofs.Common.{◌≡◌, ℕ, Bool, true, false, Option, Some, None, List, [], ◌∷◌, map, filter, flat_map, IfSome, slice_get, refl, ◌∙◌, ap, ap₂}
 use Rattle.std.specs.List.{AllZip}
 use mathlib.Core.Path.{fun_ext}
 use Rattle.ps_model.specs.declared.pieces.Direction.{Direction}

@@ -1,5 +1,5 @@
 -- Rounds, groups, passes, loops, sections and programs of rules that are alike are equal, and keep the grid one of the game.
-use Rattle.std.proofs.Common.{◌≡◌, ℕ, zero, suc, Bool, true, false, List, [], ◌∷◌, refl, ◌∙◌, ap, ap₂}
+use Rattle.std.proofs.Common.{ℕ, zero, suc, Bool, true, false, List, [], ◌∷◌, refl, ◌∙◌, ap}
 use Rattle.std.specs.List.{AllZip}
 use Rattle.ps_model.specs.Limits.{round_limit, repeat_limit}
 use Rattle.ps_model.specs.Names.{Names}
@@ -7,7 +7,7 @@ use Rattle.ps_model.specs.GameGrids.{IsGridOf}
 use Rattle.ps_model.specs.RuleMeanings.{RuleMeaning}
 use Rattle.ps_model.specs.Attempts.{State, Result, attempt}
 use Rattle.ps_model.specs.Programs.{Section, Group, Loop, Progress, after_change, round, settled, group, pass, looped, section_run, sections_run, program_run}
-use Rattle.ps_model.specs.EqualMeanings.{SameRule, SameGroup, SameSection, EqualResults, EqualProgress, EqualStates}
+use Rattle.ps_model.specs.EqualMeanings.{SameGroup, SameSection, EqualResults, EqualProgress, EqualStates}
 use Rattle.ps_model.proofs.EitherWay.{kept_either}
 use Rattle.ps_model.proofs.EqualAttempts.{attempt-same}
 

@@ -1,5 +1,5 @@
 -- Reading and writing the cells of a grid of a game.
-use Rattle.std.proofs.Common.{◌≡◌, ℕ, List, length, All, IfSome, slice_get, inl, inr, ◌∙◌, subst}
+use Rattle.std.proofs.Common.{ℕ, List, All, IfSome, slice_get, inl, inr, ◌∙◌, subst}
 use Rattle.std.specs.Prelude.{slice_set}
 use Rattle.std.proofs.lemmas.List.{length-set}
 use Rattle.std.proofs.lemmas.List.Elements.{All-set}

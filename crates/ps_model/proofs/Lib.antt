@@ -12,6 +12,9 @@ mod MovementRows
 mod NameRows
 pub mod Neighbours
 mod OutputRows
+pub mod PassedLoops
+pub mod SettledGroups
 pub mod Slots
+pub mod Steps
 pub mod Winners
 pub mod Zipped

@@ -14,13 +14,11 @@ pub fn equal_meanings()
     ensures loops { EqualLoops }
     ensures sections { EqualSections }
     ensures programs { EqualPrograms }
-{
-}
+{}
 
 /// A group makes rounds until one changes nothing, or until their limit; a loop makes passes until one changes nothing, or until
 /// no repeat is left.
 pub fn settling()
     ensures groups { GroupsSettle }
     ensures loops { LoopsPass }
-{
-}
+{}
