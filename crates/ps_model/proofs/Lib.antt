@@ -1,10 +1,15 @@
 pub mod BaseText
 mod CommentRows
 pub mod Counts
+pub mod EitherWay
+pub mod EqualAttempts
+pub mod EqualPlaces
+pub mod EqualPrograms
 mod FaultRows
 pub mod GameLaws
 mod GameRows
 mod LevelRows
+pub mod GameCells
 pub mod LineLaws
 mod LineRows
 mod MovementRows
@@ -13,7 +18,10 @@ pub mod NameTexts
 pub mod Neighbours
 mod OutputRows
 mod SectionRows
+pub mod PassedLoops
+pub mod SettledGroups
 pub mod Slots
+pub mod Steps
 pub mod Winners
 mod WinRows
 pub mod RuleTexts
@@ -22,3 +30,4 @@ mod RuleNameRows
 mod RuleGroupRows
 mod RuleTreeRows
 mod ReadingFaultRows
+pub mod Zipped

@@ -37,6 +37,9 @@ pub mod ReadingMeanings
 pub mod Places
 pub mod Attempts
 pub mod Programs
+pub mod GameGrids
+pub mod EqualMeanings
+pub mod Settling
 pub mod RulePrograms
 pub mod Compiled
 pub mod ReadingFaults
