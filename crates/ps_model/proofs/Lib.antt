@@ -9,3 +9,7 @@ pub mod Neighbours
 mod OutputRows
 pub mod Slots
 pub mod Winners
+pub mod KeptPrograms
+pub mod KeptAttempts
+pub mod KeptSlides
+pub mod KeptRuns

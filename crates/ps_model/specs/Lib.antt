@@ -42,3 +42,5 @@ pub mod StartSteps
 pub mod KeySteps
 pub mod Outputs
 pub mod ThinOutput
+pub mod GameGrids
+pub mod KeptGrids

@@ -5,6 +5,7 @@
 #![tactic(auto)]
 
 mod faults;
+mod laws_of_grids;
 mod memory;
 mod pieces;
 mod play;
@@ -12,6 +13,11 @@ mod rules;
 mod texts;
 
 pub use faults::{Fault, FaultKind};
+pub use laws_of_grids::{
+    attempts_keep_grids, groups_keep_grids, loops_keep_grids, passes_keep_grids,
+    programs_keep_grids, rounds_keep_grids, runs_keep_grids, sections_keep_grids,
+    settling_keeps_grids, slides_keep_grids,
+};
 pub use memory::Memory;
 pub use pieces::{Direction, LayerId, Motion, ObjectId, Slot};
 pub use play::{Ending, Input, Key};
