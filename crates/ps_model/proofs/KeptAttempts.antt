@@ -1,11 +1,8 @@
 -- An attempt of a rule whose cells keep the cells of a game keeps the grids of the game.
 use Rattle.std.proofs.Common.{◌≡◌, ℕ, Bool, true, false, Option, Some, None, List, [], ◌∷◌, ◌++◌, map, fold, refl, ◌∙◌}
 use Rattle.std.specs.Prelude.{All, slice_get, slice_set}
-use Rattle.std.specs.List.{flat_map}
-use mathlib.Core.Path.{subst}
 use Rattle.std.proofs.lemmas.List.{length-set}
-use Rattle.std.proofs.lemmas.Option.{slice_get_within, get_or_from_slice_get}
-use Rattle.std.proofs.lemmas.List.Elements.{All-nil, All-head, All-tail, All-append, All-set}
+use Rattle.std.proofs.lemmas.List.Elements.{All-head, All-tail, All-set}
 use Rattle.ps_model.specs.declared.pieces.Slot.{Slot}
 use Rattle.ps_model.specs.Names.{Names}
 use Rattle.ps_model.specs.GameGrids.{IsCellOf, IsGridOf}
@@ -13,21 +10,11 @@ use Rattle.ps_model.specs.RuleMeanings.{CellMeaning, RuleMeaning}
 use Rattle.ps_model.specs.Places.{cells_in}
 use Rattle.ps_model.specs.Attempts.{State, Rewritten, with_cell, rewritten_cell, rewritten_along, all_fit, rewritten_rows, applied, all_applied, combinations_on, attempt}
 use Rattle.ps_model.specs.KeptGrids.{KeepsCells, Keeps}
-use Rattle.ps_model.proofs.KeptPrograms.{either_way}
-
--- what is read of a list has what all have
-pub All-slice_get : {X : Type 0} (P : X → Type 0) (xs : List X) (i : ℕ) (x : X) → All P xs → slice_get xs i ≡ Some x → P x
-All-slice_get P xs i x all e = subst P (get_or_from_slice_get xs i x x e) (all i x (slice_get_within xs i x e))
-
--- what all pieces' elements have, those of the whole have
-pub All-flat_map : {X Y : Type 0} (P : Y → Type 0) (f : X → List Y) (xs : List X) → All (λ x. All P (f x)) xs → All P (flat_map f xs)
-All-flat_map P f [] all = All-nil P
-All-flat_map P f (x ∷ xs) all =
-    All-append P (f x) (flat_map f xs) (All-head (λ y. All P (f y)) x xs all) (All-flat_map P f xs (All-tail (λ y. All P (f y)) x xs all))
+use Rattle.ps_model.proofs.Everywhere.{either_way, All-slice_get, All-joined}
 
 -- the cells of a row
 pub cells_in-keep : (names : Names) (row : List (List CellMeaning)) → All (All (KeepsCells names)) row → All (KeepsCells names) (cells_in row)
-cells_in-keep names row all = All-flat_map (KeepsCells names) (λ part. part) row all
+cells_in-keep names row all = All-joined (KeepsCells names) row all
 
 with_cell-keeps : (names : Names) (r : Rewritten) (number : ℕ) (old new : List Slot) → IsCellOf names new → IsGridOf names r.grid → IsGridOf names (with_cell r number old new).grid
 with_cell-keeps names r number old new one h = record {

@@ -7,11 +7,7 @@ use Rattle.ps_model.specs.Grid.{Grid}
 use Rattle.ps_model.specs.RuleMeanings.{RuleMeaning}
 use Rattle.ps_model.specs.Attempts.{State, Result, attempt}
 use Rattle.ps_model.specs.Programs.{Section, Group, Loop, Progress, round, settled, group, pass, looped, section_run, sections_run, program_run}
-
--- what two values have, the one that a test picks has
-pub either_way : {A : Type 0} (P : A → Type 0) (test : Bool) (first second : A) → P first → P second → P (elim test [ true ↦ first | false ↦ second ])
-either_way P true first second p q = p
-either_way P false first second p q = q
+use Rattle.ps_model.proofs.Everywhere.{either_way}
 
 module _ (Kept : Grid → Type 0) where
   -- the grid of a state has it; that of a result; that of what a program has come to

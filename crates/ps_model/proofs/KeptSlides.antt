@@ -11,7 +11,6 @@ use Rattle.ps_model.specs.Names.{Names}
 use Rattle.ps_model.specs.Grid.{Grid, cell_count, cell_at, slot_at, slot_at_rest}
 use Rattle.ps_model.specs.Movement.{entrant, slides, slid_slot, slid}
 use Rattle.ps_model.specs.GameGrids.{IsSlotOf, IsCellFrom, IsCellOf, IsGridOf}
-use Rattle.ps_model.proofs.KeptPrograms.{either_way}
 
 -- a slot of a cell, also where there is none
 pub IsSlotOf-read : (names : Names) (layer step : ℕ) (cell : List Slot) → IsCellFrom names layer cell → IsSlotOf names (layer + step) (get_or cell step Bare)

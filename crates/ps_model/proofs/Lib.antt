@@ -13,3 +13,6 @@ pub mod KeptPrograms
 pub mod KeptAttempts
 pub mod KeptSlides
 pub mod KeptRuns
+pub mod Everywhere
+pub mod KeptReadings
+pub mod KeptCells

@@ -43,4 +43,5 @@ pub mod KeySteps
 pub mod Outputs
 pub mod ThinOutput
 pub mod GameGrids
+pub mod GameRules
 pub mod KeptGrids
