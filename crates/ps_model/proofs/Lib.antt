@@ -16,3 +16,5 @@ pub mod KeptRuns
 pub mod Everywhere
 pub mod KeptReadings
 pub mod KeptCells
+pub mod KeptRules
+pub mod KeptTurns

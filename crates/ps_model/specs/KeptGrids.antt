@@ -1,6 +1,6 @@
 -- What keeps a grid one of its game: attempts, rounds, groups, passes, loops, sections and programs of rules whose cells keep the
--- cells of the game; and the movement.
-use Rattle.std.specs.Prelude.{ℕ, Bool, List, All}
+-- cells of the game, as those of a game's own rules do; the movement, rest and inputs; and so each turn.
+use Rattle.std.specs.Prelude.{ℕ, Bool, Option, List, All, ⊤}
 use Rattle.ps_model.specs.declared.pieces.Slot.{Slot}
 use Rattle.ps_model.specs.Names.{Names}
 use Rattle.ps_model.specs.Grid.{Grid}
@@ -9,6 +9,17 @@ use Rattle.ps_model.specs.RuleMeanings.{CellMeaning, RuleMeaning}
 use Rattle.ps_model.specs.Attempts.{State, attempt}
 use Rattle.ps_model.specs.Programs.{Section, Group, Loop, round, settled, group, pass, looped, section_run, sections_run, program_run}
 use Rattle.ps_model.specs.Movement.{slid}
+use Rattle.ps_model.specs.declared.play.Input.{Input}
+use Rattle.ps_model.specs.declared.rules.Part.{Part}
+use Rattle.ps_model.specs.Grid.{at_rest}
+use Rattle.ps_model.specs.Inputs.{with_input}
+use Rattle.ps_model.specs.SourceRules.{CellPair, SourceRule, RuleLine}
+use Rattle.ps_model.specs.Readings.{Reading, readings}
+use Rattle.ps_model.specs.ReadingMeanings.{cell_meaning, meanings}
+use Rattle.ps_model.specs.RulePrograms.{program_of}
+use Rattle.ps_model.specs.Games.{Game}
+use Rattle.ps_model.specs.Turns.{Script, script_of, Outcome, Blocked, Restarted, Finished, turn}
+use Rattle.ps_model.specs.GameRules.{IsPairOf, IsRuleOf, IsLineOf, IsReadingOf}
 
 -- a cell of a rule makes of each cell of the game, whether it fits or not, a cell of the game
 abbrev pub KeepsCells : Names → CellMeaning → Type 0
@@ -23,7 +34,13 @@ abbrev pub KeepsInSection : Names → Section → Type 0
 KeepsInSection names (Group rules) = All (Keeps names) rules
 KeepsInSection names (Loop body) = All (All (Keeps names)) body
 
--- the laws ---------------------------------------------------------------------------------------------------------------
+-- the board that an outcome has, if it has one, is a grid of the game
+abbrev pub IsOutcomeOf : Names → Outcome → Type 0
+IsOutcomeOf names (Blocked message) = ⊤
+IsOutcomeOf names (Restarted message) = ⊤
+IsOutcomeOf names (Finished done) = IsGridOf names done.board
+
+-- what keeps grids, whatever rules there are ---------------------------------------------------------------------------------------------------------------
 
 -- an attempt of a rule whose cells keep the cells of a game keeps each grid of the game
 abbrev pub AttemptsKeepGrids : Type 0
@@ -74,3 +91,41 @@ ProgramsKeepGrids =
 -- the movement keeps each grid of a game: objects stay on their layers
 abbrev pub SlidesKeepGrids : Type 0
 SlidesKeepGrids = (names : Names) (g : Grid) → IsGridOf names g → IsGridOf names (slid g)
+
+-- rest keeps each grid of a game
+abbrev pub RestKeepsGrids : Type 0
+RestKeepsGrids = (names : Names) (g : Grid) → IsGridOf names g → IsGridOf names (at_rest g)
+
+-- so does an input
+abbrev pub InputsKeepGrids : Type 0
+InputsKeepGrids = (names : Names) (input : Input) (g : Grid) → IsGridOf names g → IsGridOf names (with_input names input g)
+
+-- a turn of a script whose rules keep the cells of a game makes of each grid of the game one of the game
+abbrev pub TurnsKeepGrids : Type 0
+TurnsKeepGrids =
+    (script : Script) (input : Option Input) (g : Grid) → All (KeepsInSection script.names) script.plain → All (KeepsInSection script.names) script.late →
+    IsGridOf script.names g → IsOutcomeOf script.names (turn script input g)
+
+-- what a game's own rules keep -------------------------------------------------------------------------------------------
+
+-- the readings of a rule whose objects are all of the game choose objects of the game
+abbrev pub ReadingsAreOfGames : Type 0
+ReadingsAreOfGames = (names : Names) (rule : SourceRule) → IsRuleOf names rule → All (IsReadingOf names) (readings names rule)
+
+-- a cell whose objects are all of the game keeps the cells of the game, under each reading that chooses objects of the game, be
+-- it possible or not
+abbrev pub RuleCellsKeepCells : Type 0
+RuleCellsKeepCells =
+    (names : Names) (rule : SourceRule) (reading : Reading) (cell : CellPair) → IsReadingOf names reading → IsPairOf names cell → KeepsCells names (cell_meaning names rule reading cell)
+
+-- whatever a rule means whose objects are all of the game keeps the cells of the game
+abbrev pub RulesKeepCells : Type 0
+RulesKeepCells = (names : Names) (rule : SourceRule) → IsRuleOf names rule → All (Keeps names) (meanings names rule)
+
+-- so does each section of both programs of such rules
+abbrev pub RuleProgramsKeepCells : Type 0
+RuleProgramsKeepCells = (names : Names) (part : Part) (lines : List RuleLine) → All (IsLineOf names) lines → All (KeepsInSection names) (program_of names part lines)
+
+-- a turn of a game whose rules are of its names makes of each grid of the game one of the game
+abbrev pub GameTurnsKeepGrids : Type 0
+GameTurnsKeepGrids = (game : Game) (input : Option Input) (g : Grid) → All (IsLineOf game.names) game.rules → IsGridOf game.names g → IsOutcomeOf game.names (turn (script_of game) input g)
