@@ -1,5 +1,5 @@
 -- What all elements of a list have, and those of the lists that are made of it.
-use Rattle.std.proofs.Common.{◌≡◌, ℕ, Bool, true, false, cond, Option, Some, None, List, [], ◌∷◌, ◌++◌, map, get_or}
+use Rattle.std.proofs.Common.{◌≡◌, ℕ, Bool, true, false, cond, Option, Some, None, List, [], ◌∷◌, map, get_or}
 use mathlib.Core.Path.{subst}
 use Rattle.std.specs.Prelude.{All, IfSome, slice_get}
 use Rattle.std.specs.List.{flat_map, filter_map, cons_option, onto_first, slice_split}

@@ -1,6 +1,6 @@
 -- An attempt of a rule whose cells keep the cells of a game keeps the grids of the game.
-use Rattle.std.proofs.Common.{◌≡◌, ℕ, Bool, true, false, Option, Some, None, List, [], ◌∷◌, ◌++◌, map, fold, refl, ◌∙◌}
-use Rattle.std.specs.Prelude.{All, slice_get, slice_set}
+use Rattle.std.proofs.Common.{◌≡◌, ℕ, false, Option, Some, None, List, [], ◌∷◌, fold, refl, ◌∙◌}
+use Rattle.std.specs.Prelude.{All, slice_get}
 use Rattle.std.proofs.lemmas.List.{length-set}
 use Rattle.std.proofs.lemmas.List.Elements.{All-head, All-tail, All-set}
 use Rattle.ps_model.specs.declared.pieces.Slot.{Slot}
@@ -8,7 +8,7 @@ use Rattle.ps_model.specs.Names.{Names}
 use Rattle.ps_model.specs.GameGrids.{IsCellOf, IsGridOf}
 use Rattle.ps_model.specs.RuleMeanings.{CellMeaning, RuleMeaning}
 use Rattle.ps_model.specs.Places.{cells_in}
-use Rattle.ps_model.specs.Attempts.{State, Rewritten, with_cell, rewritten_cell, rewritten_along, all_fit, rewritten_rows, applied, all_applied, combinations_on, attempt}
+use Rattle.ps_model.specs.Attempts.{State, Rewritten, with_cell, rewritten_cell, rewritten_along, all_fit, rewritten_rows, applied, combinations_on, attempt}
 use Rattle.ps_model.specs.KeptGrids.{KeepsCells, Keeps}
 use Rattle.ps_model.proofs.Everywhere.{either_way, All-slice_get, All-joined}
 

@@ -1,23 +1,22 @@
 -- What a cell of a game's rule makes of a cell of the game is a cell of the game.
-use Rattle.std.proofs.Common.{◌≡◌, ℕ, suc, ◌<◌, ◌+◌, Bool, true, false, cond, Option, Some, None, unwrap_or, List, [], ◌∷◌, length, map, refl, sym, ◌∙◌, ap, subst}
-use Rattle.std.specs.Prelude.{All, IfSome, ⊤, nat_eq, find}
+use Rattle.std.proofs.Common.{◌≡◌, ℕ, suc, ◌<◌, Bool, true, false, cond, Option, Some, None, List, [], ◌∷◌, length, map, refl, ◌∙◌, ap}
+use Rattle.std.specs.Prelude.{All, IfSome, ⊤, nat_eq}
 use Rattle.std.specs.List.{flat_map}
 use Rattle.std.specs.Map.{lookup}
 use Rattle.std.proofs.lemmas.Bool.{eqb-true}
-use Rattle.std.proofs.lemmas.List.Elements.{All-nil, All-cons, All-head, All-tail, All-weaker, All-filter}
+use Rattle.std.proofs.lemmas.List.Elements.{All-nil, All-cons, All-head, All-tail, All-filter}
 use Rattle.ps_model.specs.declared.pieces.ObjectId.{ObjectId}
 use Rattle.ps_model.specs.declared.pieces.Motion.{Motion}
 use Rattle.ps_model.specs.declared.pieces.Slot.{Slot}
 use Rattle.ps_model.specs.declared.pieces.Slot.TheVariants.{Bare, Holds}
 use Rattle.ps_model.specs.Names.{Meaning, One, AllOf, AnyOf, Names, layer_of, is_among, object_count}
 use Rattle.ps_model.specs.NamesFacts.{IsBelow}
-use Rattle.ps_model.specs.Grid.{motion_in}
 use Rattle.ps_model.specs.SourceRules.{Item, Is, No, CellPair, SourceRule}
 use Rattle.ps_model.specs.Occurrences.{is_fixed, bound_name, bound_word}
 use Rattle.ps_model.specs.Readings.{Reading, readings}
-use Rattle.ps_model.specs.RuleMeanings.{CellMeaning, RuleMeaning}
+use Rattle.ps_model.specs.RuleMeanings.{CellMeaning}
 use Rattle.ps_model.specs.Wanted.{Wanted, Each, Any, Without, one_member, chosen_member, motion_of_word, wanted_name, wanted_right}
-use Rattle.ps_model.specs.Rewriting.{Claim, claims_of, loose_claim, slot_without, claim_on, kept_motion, claimed, rewritten_slot, rewritten_from, taken_away}
+use Rattle.ps_model.specs.Rewriting.{Claim, claims_of, loose_claim, slot_without, claim_on, claimed, rewritten_slot, rewritten_from, taken_away}
 use Rattle.ps_model.specs.ReadingMeanings.{left_of_cell, right_of_cell, cell_meaning, is_possible, reading_meaning, meanings}
 use Rattle.ps_model.specs.GameGrids.{IsSlotOf, IsCellFrom, IsCellOf}
 use Rattle.ps_model.specs.GameRules.{IsItemOf, IsPairOf, IsRuleOf, IsChoiceOf, IsReadingOf}
@@ -123,9 +122,10 @@ length-rewritten_from left right gone layer (slot ∷ slots) = ap suc (length-re
 rewritten_from-game : (names : Names) (left right : List Claim) (gone : List ObjectId) (layer : ℕ) (slots : List Slot) → All (IsClaimOf names) right → IsCellFrom names layer slots →
     IsCellFrom names layer (rewritten_from left right gone layer slots)
 rewritten_from-game names left right gone layer [] all h = tt
-rewritten_from-game names left right gone layer (slot ∷ slots) all h =
-    (rewritten_slot-game names layer (claim_on layer left) (claim_on layer right) (slot_without gone slot) (claim_on-game names layer right all) (slot_without-game names layer gone slot h.0),
-    rewritten_from-game names left right gone (suc layer) slots all h.1)
+rewritten_from-game names left right gone layer (slot ∷ slots) all h = (
+  rewritten_slot-game names layer (claim_on layer left) (claim_on layer right) (slot_without gone slot) (claim_on-game names layer right all) (slot_without-game names layer gone slot h.0),
+  rewritten_from-game names left right gone (suc layer) slots all h.1,
+)
 
 -- a cell rewritten by claims of a game
 pub rewritten-game : (names : Names) (left right : List Claim) (gone : List ObjectId) (cell : List Slot) → All (IsClaimOf names) right → IsCellOf names cell →
@@ -138,7 +138,7 @@ pub cell_meaning-keeps : (names : Names) (rule : SourceRule) (reading : Reading)
 cell_meaning-keeps names rule reading cell chosen h slots =
     let right : List Wanted = right_of_cell names rule reading cell in
     let wanted : All (IsWantedOf names) right =
-        All-mapped (IsWantedOf names) (IsItemOf names) (wanted_right names rule cell reading) cell.right (λ item. wanted_right-game names rule cell reading item chosen) h.right in
+    All-mapped (IsWantedOf names) (IsItemOf names) (wanted_right names rule cell reading) cell.right (λ item. wanted_right-game names rule cell reading item chosen) h.right in
     rewritten-game names (flat_map (claims_of names) (left_of_cell names rule reading cell)) (flat_map (claims_of names) right) (flat_map taken_away right) slots
     (All-flat_map (IsClaimOf names) (IsWantedOf names) (claims_of names) right (claims_of-game names) wanted)
 

@@ -1,15 +1,14 @@
 -- The readings of a game's rule choose objects of the game.
-use Rattle.std.proofs.Common.{ℕ, ◌<◌, Bool, true, false, Option, Some, None, List, [], ◌∷◌, map}
+use Rattle.std.proofs.Common.{ℕ, ◌<◌, Option, Some, None, List, [], ◌∷◌, map}
 use Rattle.std.specs.Prelude.{All, IfSome, ⊤}
 use Rattle.std.specs.List.{flat_map}
 use Rattle.std.proofs.lemmas.List.Elements.{All-nil, All-cons, All-head, All-tail}
 use Rattle.ps_model.specs.declared.pieces.ObjectId.{ObjectId}
-use Rattle.ps_model.specs.declared.pieces.Direction.{Direction}
 use Rattle.ps_model.specs.declared.pieces.Motion.{Motion}
 use Rattle.ps_model.specs.Names.{Names, members, object_count}
-use Rattle.ps_model.specs.SourceRules.{Item, Is, No, CellPair, SourceRule}
+use Rattle.ps_model.specs.SourceRules.{Item, Is, No, SourceRule}
 use Rattle.ps_model.specs.Occurrences.{cells_of, left_items, is_fixed}
-use Rattle.ps_model.specs.Readings.{Reading, one_of_each, member_choices, all_member_choices, all_move_choices, readings_in, directions_of, readings}
+use Rattle.ps_model.specs.Readings.{one_of_each, member_choices, all_member_choices, all_move_choices, readings_in, directions_of, readings}
 use Rattle.ps_model.specs.GameRules.{IsItemOf, IsPairOf, IsRuleOf, IsChoiceOf, IsReadingOf}
 use Rattle.ps_model.proofs.Everywhere.{either_one, All-always, All-mapped, All-flat_map, All-joined, All-filter_map}
 

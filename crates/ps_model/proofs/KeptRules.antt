@@ -1,14 +1,13 @@
 -- Both programs of a game's rules are made of what these rules mean.
-use Rattle.std.proofs.Common.{◌≡◌, Bool, true, false, Option, Some, None, List, [], ◌∷◌, ◌++◌, map}
+use Rattle.std.proofs.Common.{List, [], ◌∷◌}
 use Rattle.std.specs.Prelude.{All, IfSome, filter}
 use Rattle.std.specs.List.{flat_map, filter_map, slice_split}
 use Rattle.std.proofs.lemmas.List.Elements.{All-nil, All-cons, All-head, All-tail, All-append, All-filter}
 use Rattle.ps_model.specs.declared.rules.Part.{Part}
 use Rattle.ps_model.specs.Names.{Names}
 use Rattle.ps_model.specs.SourceRules.{SourceRule, RuleLine, Rule, LoopStart, LoopEnd}
-use Rattle.ps_model.specs.RuleMeanings.{RuleMeaning}
 use Rattle.ps_model.specs.ReadingMeanings.{meanings}
-use Rattle.ps_model.specs.Programs.{Section, Group, Loop}
+use Rattle.ps_model.specs.Programs.{Group, Loop}
 use Rattle.ps_model.specs.RulePrograms.{is_in_part, rule_in, is_start, is_end, is_joined, before_groups, groups_of, groups_in, loose_groups, loop_and_rest, sections_of_pieces, program_of}
 use Rattle.ps_model.specs.GameRules.{IsRuleOf, IsLineOf}
 use Rattle.ps_model.specs.KeptGrids.{Keeps, KeepsInSection}
@@ -37,7 +36,7 @@ groups_in-keep : (names : Names) (part : Part) (lines : List RuleLine) → All (
 groups_in-keep names part lines all =
     let rules : List SourceRule = filter (is_in_part part) (filter_map rule_in lines) in
     let game : All (IsRuleOf names) rules =
-        All-filter (is_in_part part) (IsRuleOf names) (filter_map rule_in lines) (All-filter_map (IsRuleOf names) (IsLineOf names) rule_in lines (rule_in-game names) all) in
+    All-filter (is_in_part part) (IsRuleOf names) (filter_map rule_in lines) (All-filter_map (IsRuleOf names) (IsLineOf names) rule_in lines (rule_in-game names) all) in
     All-mapped (All (Keeps names)) (All (IsRuleOf names)) (flat_map (meanings names)) (groups_of rules)
     (λ group. All-flat_map (Keeps names) (IsRuleOf names) (meanings names) group (meanings-keep names)) (All-groups_of (IsRuleOf names) rules game)
 

@@ -1,13 +1,11 @@
 -- Programs of rules whose cells keep the cells of a game keep the grids of the game, and so do their parts.
-use Rattle.std.proofs.Common.{ℕ, Bool, List}
+use Rattle.std.proofs.Common.{List}
 use Rattle.std.specs.Prelude.{All}
 use Rattle.std.proofs.lemmas.List.Elements.{All-weaker}
 use Rattle.ps_model.specs.Names.{Names}
-use Rattle.ps_model.specs.Grid.{Grid}
 use Rattle.ps_model.specs.GameGrids.{IsGridOf}
 use Rattle.ps_model.specs.RuleMeanings.{RuleMeaning}
-use Rattle.ps_model.specs.Attempts.{State}
-use Rattle.ps_model.specs.Programs.{Section, Group, Loop, round, settled, group, pass, looped, section_run, sections_run, program_run}
+use Rattle.ps_model.specs.Programs.{Section, Group, Loop}
 use Rattle.ps_model.specs.KeptGrids.{Keeps, KeepsInSection, RoundsKeepGrids, SettlingKeepsGrids, GroupsKeepGrids, PassesKeepGrids, LoopsKeepGrids, SectionsKeepGrids, RunsKeepGrids, ProgramsKeepGrids}
 use Rattle.ps_model.proofs.KeptPrograms.{RuleKeeps, SectionKeeps, round-keeps, settled-keeps, group-keeps, pass-keeps, looped-keeps, section_run-keeps, sections_run-keeps, program_run-keeps}
 use Rattle.ps_model.proofs.KeptAttempts.{attempt-keeps}

@@ -1,5 +1,5 @@
 -- The movement keeps the grids of a game: each slot of the grid after it is one of the same layer of the grid before, or bare.
-use Rattle.std.proofs.Common.{◌≡◌, ◌≢◌, ℕ, zero, suc, ◌+◌, ◌<◌, ◌≤◌, ◌⊎◌, inl, inr, Bool, true, false, Option, Some, None, List, [], ◌∷◌, length, map, get_or, refl, sym, ◌∙◌, ap, arith}
+use Rattle.std.proofs.Common.{◌≡◌, ℕ, zero, suc, ◌+◌, Bool, true, false, Option, Some, None, List, [], ◌∷◌, map, get_or, sym, ◌∙◌, arith}
 use mathlib.Core.Path.{subst}
 use Rattle.std.specs.Prelude.{All}
 use Rattle.std.specs.List.{range_with_len}
@@ -8,7 +8,7 @@ use Rattle.std.proofs.lemmas.List.Elements.{All-nil, All-cons, All-head, All-tai
 use Rattle.ps_model.specs.declared.pieces.Slot.{Slot}
 use Rattle.ps_model.specs.declared.pieces.Slot.TheVariants.{Bare, Holds}
 use Rattle.ps_model.specs.Names.{Names}
-use Rattle.ps_model.specs.Grid.{Grid, cell_count, cell_at, slot_at, slot_at_rest}
+use Rattle.ps_model.specs.Grid.{Grid, cell_count, slot_at, slot_at_rest}
 use Rattle.ps_model.specs.Movement.{entrant, slides, slid_slot, slid}
 use Rattle.ps_model.specs.GameGrids.{IsSlotOf, IsCellFrom, IsCellOf, IsGridOf}
 

@@ -1,5 +1,5 @@
 -- Rest, inputs and turns keep the grids of a game.
-use Rattle.std.proofs.Common.{◌≡◌, ℕ, suc, Bool, true, false, Option, Some, None, List, [], ◌∷◌, length, map, not, refl, ◌∙◌, ap}
+use Rattle.std.proofs.Common.{ℕ, suc, Option, Some, None, List, [], ◌∷◌, map, not, ◌∙◌}
 use Rattle.std.specs.Prelude.{All, if◌then◌else◌}
 use Rattle.std.proofs.lemmas.List.{length-map}
 use Rattle.ps_model.specs.declared.pieces.ObjectId.{ObjectId}
@@ -10,10 +10,10 @@ use Rattle.ps_model.specs.declared.play.Input.{Input}
 use Rattle.ps_model.specs.declared.rules.Part.TheVariants.{Plain, Late}
 use Rattle.ps_model.specs.Names.{Names}
 use Rattle.ps_model.specs.Grid.{Grid, slot_at_rest, at_rest}
-use Rattle.ps_model.specs.Inputs.{slot_with_motion, with_motion, players, motion_of, with_input}
+use Rattle.ps_model.specs.Inputs.{slot_with_motion, players, motion_of, with_input}
 use Rattle.ps_model.specs.SourceRules.{no_commands}
 use Rattle.ps_model.specs.Attempts.{State}
-use Rattle.ps_model.specs.Programs.{Section, program_run}
+use Rattle.ps_model.specs.Programs.{program_run}
 use Rattle.ps_model.specs.Games.{Game}
 use Rattle.ps_model.specs.Turns.{Script, script_of, Outcome, Blocked, Restarted, Finished, prepared, moved, played, same_cells, is_held, done_with, turn}
 use Rattle.ps_model.specs.GameGrids.{IsSlotOf, IsCellFrom, IsCellOf, IsGridOf}

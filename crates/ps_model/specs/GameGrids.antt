@@ -19,6 +19,7 @@ IsCellFrom names layer (slot ∷ slots) = IsSlotOf names layer slot × IsCellFro
 abbrev pub IsCellOf : Names → List Slot → Type 0
 IsCellOf names cell = (length cell ≡ names.layer_count) × IsCellFrom names 0 cell
 
+-- a grid has the layers of the game, cells of the game, and as many of them as its sides say
 pub record IsGridOf (names : Names) (g : Grid) : Type 0 where
   pub layers : g.layers ≡ names.layer_count
   pub cells : All (IsCellOf names) g.cells

@@ -1,5 +1,5 @@
 -- What rules of a game are: every object that a name in them speaks of is one of the game's.
-use Rattle.std.specs.Prelude.{ℕ, ◌<◌, List, All, ⊤}
+use Rattle.std.specs.Prelude.{ℕ, ◌<◌, All, ⊤}
 use Rattle.ps_model.specs.declared.pieces.ObjectId.{ObjectId}
 use Rattle.ps_model.specs.Names.{Names, object_count}
 use Rattle.ps_model.specs.NamesFacts.{IsBelow}

@@ -2,24 +2,23 @@
 -- cells of the game, as those of a game's own rules do; the movement, rest and inputs; and so each turn.
 use Rattle.std.specs.Prelude.{ℕ, Bool, Option, List, All, ⊤}
 use Rattle.ps_model.specs.declared.pieces.Slot.{Slot}
-use Rattle.ps_model.specs.Names.{Names}
-use Rattle.ps_model.specs.Grid.{Grid}
-use Rattle.ps_model.specs.GameGrids.{IsCellOf, IsGridOf}
-use Rattle.ps_model.specs.RuleMeanings.{CellMeaning, RuleMeaning}
-use Rattle.ps_model.specs.Attempts.{State, attempt}
-use Rattle.ps_model.specs.Programs.{Section, Group, Loop, round, settled, group, pass, looped, section_run, sections_run, program_run}
-use Rattle.ps_model.specs.Movement.{slid}
 use Rattle.ps_model.specs.declared.play.Input.{Input}
 use Rattle.ps_model.specs.declared.rules.Part.{Part}
-use Rattle.ps_model.specs.Grid.{at_rest}
-use Rattle.ps_model.specs.Inputs.{with_input}
+use Rattle.ps_model.specs.Names.{Names}
+use Rattle.ps_model.specs.Grid.{Grid, at_rest}
+use Rattle.ps_model.specs.GameGrids.{IsCellOf, IsGridOf}
 use Rattle.ps_model.specs.SourceRules.{CellPair, SourceRule, RuleLine}
+use Rattle.ps_model.specs.GameRules.{IsPairOf, IsRuleOf, IsLineOf, IsReadingOf}
 use Rattle.ps_model.specs.Readings.{Reading, readings}
+use Rattle.ps_model.specs.RuleMeanings.{CellMeaning, RuleMeaning}
 use Rattle.ps_model.specs.ReadingMeanings.{cell_meaning, meanings}
+use Rattle.ps_model.specs.Attempts.{State, attempt}
+use Rattle.ps_model.specs.Programs.{Section, Group, Loop, round, settled, group, pass, looped, section_run, sections_run, program_run}
 use Rattle.ps_model.specs.RulePrograms.{program_of}
+use Rattle.ps_model.specs.Movement.{slid}
+use Rattle.ps_model.specs.Inputs.{with_input}
 use Rattle.ps_model.specs.Games.{Game}
 use Rattle.ps_model.specs.Turns.{Script, script_of, Outcome, Blocked, Restarted, Finished, turn}
-use Rattle.ps_model.specs.GameRules.{IsPairOf, IsRuleOf, IsLineOf, IsReadingOf}
 
 -- a cell of a rule makes of each cell of the game, whether it fits or not, a cell of the game
 abbrev pub KeepsCells : Names → CellMeaning → Type 0
@@ -40,17 +39,17 @@ IsOutcomeOf names (Blocked message) = ⊤
 IsOutcomeOf names (Restarted message) = ⊤
 IsOutcomeOf names (Finished done) = IsGridOf names done.board
 
--- what keeps grids, whatever rules there are ---------------------------------------------------------------------------------------------------------------
+-- what keeps grids, whatever rules there are ----------------------------------------------------------------------------
 
 -- an attempt of a rule whose cells keep the cells of a game keeps each grid of the game
 abbrev pub AttemptsKeepGrids : Type 0
 AttemptsKeepGrids = (names : Names) (rule : RuleMeaning) (state : State) → Keeps names rule → IsGridOf names state.grid → IsGridOf names (attempt rule state).state.grid
 
--- so does a round of such rules
+-- so does a round of such rules: their attempts in order
 abbrev pub RoundsKeepGrids : Type 0
 RoundsKeepGrids = (names : Names) (rules : List RuleMeaning) (state : State) → All (Keeps names) rules → IsGridOf names state.grid → IsGridOf names (round rules state).state.grid
 
--- and so do rounds until one changes nothing, however many there may be
+-- so do rounds until one changes nothing, however many there may be
 abbrev pub SettlingKeepsGrids : Type 0
 SettlingKeepsGrids =
     (names : Names) (rules : List RuleMeaning) (rounds : ℕ) (changed : Bool) (state : State) →
