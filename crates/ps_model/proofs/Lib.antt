@@ -31,3 +31,12 @@ mod RuleGroupRows
 mod RuleTreeRows
 mod ReadingFaultRows
 pub mod Zipped
+pub mod KeptPrograms
+pub mod KeptAttempts
+pub mod KeptSlides
+pub mod KeptRuns
+pub mod Everywhere
+pub mod KeptReadings
+pub mod KeptCells
+pub mod KeptRules
+pub mod KeptTurns

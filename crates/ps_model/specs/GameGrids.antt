@@ -1,26 +1,25 @@
--- Cells and grids of a game: a cell has one slot for each of the game's layers, and each object in it is one of the game's and
--- stands on its own layer; a grid has the game's layers, and a cell of the game for each of its places.
-use Rattle.std.specs.Prelude.{◌≡◌, ℕ, suc, ◌*◌, ◌<◌, ⊤, List, [], ◌∷◌, All, length}
+-- What a grid of a game is: it has the game's layers, and each object on it is one of the game's and stands on its own layer.
+use Rattle.std.specs.Prelude.{ℕ, suc, ◌≡◌, ◌<◌, ◌*◌, List, [], ◌∷◌, All, length, ⊤}
 use Rattle.ps_model.specs.declared.pieces.Slot.{Slot}
 use Rattle.ps_model.specs.declared.pieces.Slot.TheVariants.{Bare, Holds}
-use Rattle.ps_model.specs.Grid.{Grid}
 use Rattle.ps_model.specs.Names.{Names, layer_of, object_count}
+use Rattle.ps_model.specs.Grid.{Grid}
 
--- what the slot holds, if it holds something, is an object of the game that belongs to the layer
+-- a slot of a layer: it is bare, or holds an object of the game that lies on that layer
 abbrev pub IsSlotOf : Names → ℕ → Slot → Type 0
 IsSlotOf names layer Bare = ⊤
 IsSlotOf names layer (Holds object motion) = (object.0 < object_count names) × (layer_of names object ≡ layer)
 
--- so it is with each slot, from that layer on
+-- the slots of a cell from a layer on
 abbrev pub IsCellFrom : Names → ℕ → List Slot → Type 0
 IsCellFrom names layer [] = ⊤
 IsCellFrom names layer (slot ∷ slots) = IsSlotOf names layer slot × IsCellFrom names (suc layer) slots
 
--- a cell of the game
+-- a cell has one slot for each layer of the game
 abbrev pub IsCellOf : Names → List Slot → Type 0
 IsCellOf names cell = (length cell ≡ names.layer_count) × IsCellFrom names 0 cell
 
--- a grid of the game
+-- a grid has the layers of the game, cells of the game, and as many of them as its sides say
 pub record IsGridOf (names : Names) (g : Grid) : Type 0 where
   pub layers : g.layers ≡ names.layer_count
   pub cells : All (IsCellOf names) g.cells

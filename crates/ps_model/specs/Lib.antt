@@ -64,3 +64,5 @@ pub mod StartSteps
 pub mod KeySteps
 pub mod Outputs
 pub mod ThinOutput
+pub mod GameRules
+pub mod KeptGrids
