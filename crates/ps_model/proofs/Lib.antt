@@ -40,3 +40,9 @@ pub mod KeptReadings
 pub mod KeptCells
 pub mod KeptRules
 pub mod KeptTurns
+pub mod WholeRuns
+mod PushRows
+mod RoundRows
+mod PropertyRows
+mod CommandRows
+mod RefusedRows

@@ -52,7 +52,6 @@ pub mod Sections
 pub mod LevelLines
 pub mod LevelFaults
 pub mod WinLines
-pub mod RuleFaults
 pub mod Games
 pub mod Frames
 pub mod Keys
@@ -66,3 +65,4 @@ pub mod Outputs
 pub mod ThinOutput
 pub mod GameRules
 pub mod KeptGrids
+pub mod Headline
