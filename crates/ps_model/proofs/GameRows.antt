@@ -9,7 +9,7 @@ use Rattle.ps_model.specs.declared.pieces.ObjectId.{ObjectId}
 use Rattle.ps_model.specs.declared.rules.Quantifier.TheVariants.{All}
 use Rattle.ps_model.specs.declared.faults.Fault.{Fault}
 use Rattle.ps_model.specs.declared.faults.FaultKind.{FaultKind}
-use Rattle.ps_model.specs.declared.faults.FaultKind.TheVariants.{TooLong, NotUtf8, SectionOrder, NoSection, Realtime, UnknownGlyph, NoLevel, BadWin, UnknownWinName}
+use Rattle.ps_model.specs.declared.faults.FaultKind.TheVariants.{TooLong, NotUtf8, SectionOrder, NoSection, Realtime, UnknownGlyph, PropertyGlyph, NoLevel, BadWin, UnknownWinName}
 use Rattle.ps_model.specs.Limits.{text_limit}
 use Rattle.ps_model.specs.Faults.{first_fault}
 use Rattle.ps_model.specs.TextFaults.{utf8_fault}
@@ -92,13 +92,14 @@ fine : first (text_with (codes "All Target on Crate\n") (codes "#P*O#\n")) ≡ N
 unfolding chars is_utf8 encode utf8_valid_len
 fine = refl
 
+-- the faults of a text that is none for this cause, if there is one
+abbrev faults_behind : Option Fault → List ℕ → List Fault
+faults_behind cause text = elim cause [ Some fault ↦ fault ∷ [] | None ↦ line_faults (lines_of text) ]
+
 -- bytes that are no text have that fault alone; too many bytes are told before wrong ones
 wrong_byte : faults (codes "ti\n" ++ 255 ∷ []) ≡ record { kind = NotUtf8; line = 2 } ∷ []
 unfolding chars is_utf8 encode utf8_valid_len
 wrong_byte = refl
-
-abbrev faults_behind : Option Fault → List ℕ → List Fault
-faults_behind cause text = elim cause [ Some fault ↦ fault ∷ [] | None ↦ line_faults (lines_of text) ]
 
 too_long : (text : List ℕ) → nat_lt text_limit (length text) ≡ true → faults text ≡ record { kind = TooLong; line = 1 } ∷ []
 too_long text long = ap (λ test. faults_behind (elim test [ true ↦ Some (record { kind = TooLong; line = 1 }) | false ↦ utf8_fault text ]) text) long
@@ -128,6 +129,10 @@ real_time = refl
 unknown_glyph : first (text_with [] (codes "P?")) ≡ at_line 32 UnknownGlyph
 unfolding chars is_utf8 encode utf8_valid_len
 unknown_glyph = refl
+
+property_glyph : first (codes "OBJECTS\nBackground .\ngreen\nPlayer P\nwhite\nLEGEND\nQ = Player or Background\nCOLLISIONLAYERS\nBackground\nPlayer\nLEVELS\n.\nPQ\n") ≡ at_line 13 PropertyGlyph
+unfolding chars is_utf8 encode utf8_valid_len
+property_glyph = refl
 
 no_level : first (text_with [] []) ≡ at_line 31 NoLevel
 unfolding chars is_utf8 encode utf8_valid_len
