@@ -130,7 +130,7 @@ unknown_glyph : first (text_with [] (codes "P?")) ≡ at_line 32 UnknownGlyph
 unfolding chars is_utf8 encode utf8_valid_len
 unknown_glyph = refl
 
-property_glyph : first (codes "OBJECTS\nBackground .\ngreen\nPlayer P\nwhite\nLEGEND\nQ = Player or Background\nCOLLISIONLAYERS\nBackground\nPlayer\nLEVELS\n.\nPQ\n") ≡ at_line 13 PropertyGlyph
+property_glyph : first (codes "OBJECTS\nBackground .\ngreen\nPlayer P\nwhite\nLEGEND\nQ = Player or Background\nCOLLISIONLAYERS\nBackground\nPlayer\nLEVELS\n..\nPQ\n") ≡ at_line 13 PropertyGlyph
 unfolding chars is_utf8 encode utf8_valid_len
 property_glyph = refl
 
