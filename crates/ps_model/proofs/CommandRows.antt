@@ -1,7 +1,7 @@
 -- Commands, messages, undo, restart, options and several entries, worked by hand: from the bytes of a text to the bytes that are
 -- written.
-use Rattle.std.proofs.Common.{◌≡◌, ℕ, List, [], ◌∷◌, ◌++◌, refl, Option, Some, None, Bool, true, false}
-use Rattle.std.specs.Prelude.{codes, option_map, is_some, length}
+use Rattle.std.proofs.Common.{◌≡◌, [], ◌∷◌, refl, Some}
+use Rattle.std.specs.Prelude.{codes}
 use Rattle.std.specs.Str.{chars, is_utf8}
 use Rattle.std.specs.Str.Lossy.{utf8_valid_len}
 use Rattle.std.specs.Fmt.{digits}
@@ -9,10 +9,8 @@ use Rattle.std.proofs.Math.Utf8.{encode}
 use Rattle.ps_model.specs.Programs.{group, program_run}
 use Rattle.ps_model.specs.StartSteps.{all_start_turns}
 use Rattle.ps_model.specs.KeySteps.{all_key_turns}
-use Rattle.ps_model.specs.declared.faults.Fault.{Fault}
-use Rattle.ps_model.specs.declared.faults.FaultKind.TheVariants as kind
-use Rattle.ps_model.proofs.BaseText.{base_head, base_game}
-use Rattle.ps_model.proofs.WholeRuns.{written, refused}
+use Rattle.ps_model.proofs.BaseText.{base_game, with_option}
+use Rattle.ps_model.proofs.WholeRuns.{written}
 
 
 -- `cancel` takes the turn back and shows its rule's message; nothing of later rules is queued
