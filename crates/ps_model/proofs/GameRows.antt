@@ -4,12 +4,13 @@ use Rattle.std.specs.Prelude.{codes, option_map, is_some, if◌then◌else◌, �
 use Rattle.std.specs.List.{flat_map}
 use Rattle.std.specs.Str.{chars, is_utf8}
 use Rattle.std.specs.Str.Lossy.{utf8_valid_len}
+use Rattle.std.specs.Fmt.{digits}
 use Rattle.std.proofs.Math.Utf8.{encode}
 use Rattle.ps_model.specs.declared.pieces.ObjectId.{ObjectId}
 use Rattle.ps_model.specs.declared.rules.Quantifier.TheVariants.{All}
 use Rattle.ps_model.specs.declared.faults.Fault.{Fault}
 use Rattle.ps_model.specs.declared.faults.FaultKind.{FaultKind}
-use Rattle.ps_model.specs.declared.faults.FaultKind.TheVariants.{TooLong, NotUtf8, SectionOrder, NoSection, Realtime, UnknownGlyph, PropertyGlyph, NoLevel, BadWin, UnknownWinName}
+use Rattle.ps_model.specs.declared.faults.FaultKind.TheVariants.{TooLong, NotUtf8, SectionOrder, NoSection, Realtime, UnknownGlyph, PropertyGlyph, NoLevel, BadWin, UnknownWinName, UnknownName, NothingRight, TooManyReadings, Impossible}
 use Rattle.ps_model.specs.Limits.{text_limit}
 use Rattle.ps_model.specs.Faults.{first_fault}
 use Rattle.ps_model.specs.TextFaults.{utf8_fault}
@@ -164,3 +165,36 @@ section_first = refl
 repeated_first : first (text_with (codes "No Q\n") (codes "P?\nLEVELS\n")) ≡ at_line 34 SectionOrder
 unfolding chars is_utf8 encode utf8_valid_len
 repeated_first = refl
+
+-- the order of the parts ---------------------------------------------------------------------------------------------------
+
+-- an unknown name on a layer line comes before a rule without a right side
+names_first : first (base_head ++ codes "Q\nRULES\n[ A ] ->\nWINCONDITIONS\nNo Q\nLEVELS\nP?\n") ≡ at_line 29 UnknownName
+unfolding chars digits is_utf8 encode utf8_valid_len
+names_first = refl
+
+-- that before the rows of levels and the win conditions
+rules_second : first (base_game (codes "[ A ] ->\n") (codes "No Q\n") (codes "P?")) ≡ at_line 30 NothingRight
+unfolding chars digits is_utf8 encode utf8_valid_len
+rules_second = refl
+
+-- a rule of which every reading is impossible comes behind them all
+abbrev impossible_rule : List ℕ
+impossible_rule = codes "[ Player Wall ] -> [ Player ]\n"
+
+levels_third : first (base_game impossible_rule (codes "No Q\n") (codes "P?")) ≡ at_line 34 UnknownGlyph
+unfolding chars digits is_utf8 encode utf8_valid_len
+levels_third = refl
+
+wins_fourth : first (base_game impossible_rule (codes "No Q\n") (codes "P")) ≡ at_line 32 UnknownWinName
+unfolding chars digits is_utf8 encode utf8_valid_len
+wins_fourth = refl
+
+impossible_last : first (base_game impossible_rule (codes "No A\n") (codes "P")) ≡ at_line 30 Impossible
+unfolding chars digits is_utf8 encode utf8_valid_len
+impossible_last = refl
+
+-- too many readings of a rule come before that, also in a line below it
+readings_before : first (base_game (impossible_rule ++ codes "right [ AT | AT | AT | AT | AT | AT | AT | AT | AT | AT | AT | AT | AT ] -> cancel\n") [] (codes "P")) ≡ at_line 31 TooManyReadings
+unfolding chars digits is_utf8 encode utf8_valid_len
+readings_before = refl
