@@ -123,6 +123,12 @@ hidden : first (base_head ++ codes "RULES (\nWINCONDITIONS\nLEVELS\nP.\n") ≡ a
 unfolding chars is_utf8 encode utf8_valid_len
 hidden = refl
 
+-- a text that is cut off: within the last header, behind it, behind the first character of a level
+cut_off : map (λ end. first (base_head ++ codes "WINCONDITIONS\n" ++ end)) (codes "LEVEL" ∷ codes "LEVELS" ∷ codes "LEVELS\n#" ∷ [])
+    ≡ at_line 30 NoSection ∷ at_line 30 NoLevel ∷ None ∷ []
+unfolding chars is_utf8 encode utf8_valid_len
+cut_off = refl
+
 real_time : first (codes "realtime_interval 1\n" ++ base_text (codes "P")) ≡ at_line 1 Realtime
 unfolding chars is_utf8 encode utf8_valid_len
 real_time = refl
