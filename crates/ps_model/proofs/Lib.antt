@@ -8,4 +8,6 @@ mod NameRows
 pub mod Neighbours
 mod OutputRows
 pub mod Slots
+pub mod Stages
+pub mod StagedReadings
 pub mod Winners

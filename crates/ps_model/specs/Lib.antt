@@ -16,6 +16,7 @@ pub mod SourceRules
 pub mod Directions
 pub mod Occurrences
 pub mod Readings
+pub mod Stages
 pub mod RuleMeanings
 pub mod Wanted
 pub mod Fitting

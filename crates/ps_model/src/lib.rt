@@ -5,6 +5,7 @@
 #![tactic(auto)]
 
 mod faults;
+mod laws_of_runs;
 mod memory;
 mod pieces;
 mod play;
@@ -12,6 +13,7 @@ mod rules;
 mod texts;
 
 pub use faults::{Fault, FaultKind};
+pub use laws_of_runs::{readings_by_stages};
 pub use memory::Memory;
 pub use pieces::{Direction, LayerId, Motion, ObjectId, Slot};
 pub use play::{Ending, Input, Key};
