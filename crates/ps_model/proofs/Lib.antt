@@ -1,6 +1,10 @@
 pub mod BaseText
 pub mod Counts
 mod FaultRows
+pub mod Endings
+pub mod Fronts
+pub mod HeldKeys
+mod HeldRows
 pub mod LineLaws
 mod LineRows
 mod MovementRows

@@ -32,6 +32,7 @@ pub mod ThinLevels
 pub mod ThinGame
 pub mod Frames
 pub mod Keys
+pub mod HeldKeys
 pub mod Inputs
 pub mod LevelLines
 pub mod Sections
@@ -42,4 +43,5 @@ pub mod Sessions
 pub mod StartSteps
 pub mod KeySteps
 pub mod Outputs
+pub mod Fronts
 pub mod ThinOutput

@@ -5,6 +5,7 @@
 #![tactic(auto)]
 
 mod faults;
+mod held;
 mod laws_of_runs;
 mod memory;
 mod pieces;
@@ -13,7 +14,8 @@ mod rules;
 mod texts;
 
 pub use faults::{Fault, FaultKind};
-pub use laws_of_runs::{readings_by_stages};
+pub use held::Held;
+pub use laws_of_runs::{ends_of_output, fronts_of_output, held_bytes, keys_in_pieces, readings_by_stages};
 pub use memory::Memory;
 pub use pieces::{Direction, LayerId, Motion, ObjectId, Slot};
 pub use play::{Ending, Input, Key};
