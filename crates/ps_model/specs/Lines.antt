@@ -199,6 +199,10 @@ is_blank_line line = are_blank line.bytes
 abbrev pub is_header : Line → Bool
 is_header line = is_some (header_of line.bytes)
 
+-- the text that a line takes as it stands; of a line that takes none, nothing
+abbrev pub taken_bytes : Line → List ℕ
+taken_bytes line = unwrap_or (option_map (λ taken. taken.bytes) line.taken) []
+
 -- the words of a line, cut at blanks
 abbrev pub plain_words : Line → List (List ℕ)
 plain_words line = word_texts Plain line.bytes

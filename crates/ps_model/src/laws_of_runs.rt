@@ -4,6 +4,7 @@
 ghost use Rattle.ps_model.specs.Stages.{MovesOneByOne, MembersOneByOne, ReadByStages, ReadOneInOther, ReadingsCounted};
 ghost use Rattle.ps_model.specs.HeldKeys.{HeldAtEnd, HeldIsBegun, HeldIsSilent, KeysInPieces, ReadPieceByPiece, ReadByteByByte, OneByteMore};
 ghost use Rattle.ps_model.specs.Fronts.{FrontGrows, FrontOfOutput, FrontInPieces, FrontOfMore, OutputOfEnded, OutputOfUnended, OutputOnceEnded, EndStays, EndsOtherwise, WrittenByEnding};
+ghost use Rattle.ps_model.specs.OneGame.{AtMostOneGame, FaultBarsGame, FaultlessIsGame, GameIsFaultless, GameOrFault};
 
 /// The readings of a rule can be made stage by stage, by directions, by moves and by members, each stage splitting all
 /// that is made so far by one occurrence after the other: they are the same, in the same order, and as many as are
@@ -54,5 +55,15 @@ pub fn ends_of_output()
     ensures stays { EndStays }
     ensures otherwise { EndsOtherwise }
     ensures by_ending { WrittenByEnding }
+{
+}
+
+/// A text has at most one game. It has one exactly where it has no fault.
+pub fn one_game()
+    ensures at_most { AtMostOneGame }
+    ensures barred { FaultBarsGame }
+    ensures faultless { FaultlessIsGame }
+    ensures of_game { GameIsFaultless }
+    ensures either { GameOrFault }
 {
 }

@@ -1,0 +1,16 @@
+-- What the rows of whole runs compare: the bytes that a text writes on keys, its first fault, and its last frame.
+use Rattle.std.proofs.Common.{ℕ, List, [], ◌∷◌, ◌++◌, Option, Some, None}
+use Rattle.std.specs.Prelude.{option_map, drop, length}
+use Rattle.ps_model.specs.declared.faults.Fault.{Fault}
+use Rattle.ps_model.specs.Faults.{first_fault}
+use Rattle.ps_model.specs.Games.{Game, faults, game}
+use Rattle.ps_model.specs.Turns.{script_of}
+use Rattle.ps_model.specs.Outputs.{output, end_of_keys_line}
+
+-- what a text writes on keys, if it is a game
+abbrev pub written : List ℕ → List ℕ → Option (List ℕ)
+written text keys = option_map (λ found. (output (script_of found) keys).written) (game text)
+
+-- the fault that a text is refused with, if it is
+abbrev pub refused : List ℕ → Option Fault
+refused text = first_fault (faults text)

@@ -1,0 +1,110 @@
+-- The tree of a rule: its cells with what they ask for on the left and what becomes of them on the right, its directions and its
+-- commands.
+use Rattle.std.specs.Prelude.{ℕ, nat_eq, Bool, true, ◌&&◌, Option, Some, None, option_map, List, [], ◌∷◌, ◌++◌, map, filter, fold}
+use Rattle.std.specs.List.{slice_split, list_all, list_any, flat_map}
+use Rattle.ps_model.specs.declared.pieces.Direction.{Direction}
+use Rattle.ps_model.specs.declared.pieces.Direction.TheVariants.{Up, Down, Left, Right}
+use Rattle.ps_model.specs.declared.rules.MovementWord.TheVariants as word
+use Rattle.ps_model.specs.Lines.{Line}
+use Rattle.ps_model.specs.SourceRules.{Item, Is, No, CellPair, Commands, no_commands, SourceRule}
+use Rattle.ps_model.specs.RuleSymbols.{Symbol, Open, Without, Moves, Asks, Called, Cancel, Restart, Again, Checkpoint, Win, Message, Token}
+use Rattle.ps_model.specs.RuleShape.{has, is_ellipsis, is_late, is_plus, has_rows, RuleShape, at_end, paired_rows, paired_cells}
+
+-- items --------------------------------------------------------------------------------------------------------------------
+
+-- the item of a name that stands right behind a word
+abbrev pub named_item : Symbol → ℕ → Symbol → List Item
+named_item (Moves word) at (Called meaning) = Is at (Some word) meaning ∷ []
+named_item Without at (Called meaning) = No meaning ∷ []
+named_item before at (Called meaning) = Is at None meaning ∷ []
+named_item before at other = []
+
+-- the items of words that stand behind a word: each name is one, with a movement word or `no` right before it
+abbrev pub items_behind : Symbol → List Token → List Item
+items_behind before [] = []
+items_behind before (token ∷ tokens) = named_item before token.at token.symbol ++ items_behind token.symbol tokens
+
+-- the items of a cell's words
+abbrev pub items_of : List Token → List Item
+items_of tokens = items_behind Open tokens
+
+-- cells and rows -----------------------------------------------------------------------------------------------------------
+
+-- the cell has `...` and nothing else
+abbrev pub is_gap : List Token × List Token → Bool
+is_gap words = has is_ellipsis words.0 && list_all (λ token. is_ellipsis token.symbol) (words.0 ++ words.1)
+
+-- a cell by its words on the left and on the right
+abbrev pub cell_of : List Token × List Token → CellPair
+cell_of words = record { left = items_of words.0; right = items_of words.1 }
+
+-- a row, parted by its ellipses
+abbrev pub row_of_cells : List (List Token × List Token) → List (List CellPair)
+row_of_cells cells = map (λ part. map cell_of part) (slice_split is_gap cells)
+
+-- the rows of a rule
+abbrev pub rows_of : RuleShape → List (List (List CellPair))
+rows_of shape = map (λ rows. row_of_cells (paired_cells rows)) (paired_rows shape)
+
+-- directions ---------------------------------------------------------------------------------------------------------------
+
+-- the directions that a word before the rows gives
+abbrev pub directions_given : Symbol → List Direction
+directions_given (Moves word.Up) = Up ∷ []
+directions_given (Moves word.Down) = Down ∷ []
+directions_given (Moves word.Left) = Left ∷ []
+directions_given (Moves word.Right) = Right ∷ []
+directions_given (Moves word.Horizontal) = Left ∷ Right ∷ []
+directions_given (Moves word.Vertical) = Up ∷ Down ∷ []
+directions_given (Moves word.Orthogonal) = Up ∷ Down ∷ Left ∷ Right ∷ []
+directions_given other = []
+
+-- the place of a direction among the directions
+abbrev pub direction_number : Direction → ℕ
+direction_number Up = 0
+direction_number Down = 1
+direction_number Left = 2
+direction_number Right = 3
+
+-- some of the words give the direction
+abbrev pub is_given : List Token → Direction → Bool
+is_given tokens direction =
+    list_any (λ given. nat_eq (direction_number given) (direction_number direction)) (flat_map (λ token. directions_given token.symbol) tokens)
+
+-- the directions that the words before the rows give, always in this order
+abbrev pub directions_of_words : List Token → List Direction
+directions_of_words tokens = filter (is_given tokens) (Up ∷ Down ∷ Left ∷ Right ∷ [])
+
+-- commands -----------------------------------------------------------------------------------------------------------------
+
+-- commands with one more; a message has the text that its line takes as it stands
+abbrev pub with_command : Option (List ℕ) → Commands → Symbol → Commands
+with_command text commands (Asks Cancel) = record commands { cancel = true }
+with_command text commands (Asks Restart) = record commands { restart = true }
+with_command text commands (Asks Again) = record commands { again = true }
+with_command text commands (Asks Checkpoint) = record commands { checkpoint = true }
+with_command text commands (Asks Win) = record commands { win = true }
+with_command text commands (Asks Message) = record commands { message = text }
+with_command text commands other = commands
+
+-- the text that a line takes as it stands
+abbrev pub text_of : Line → Option (List ℕ)
+text_of line = option_map (λ taken. taken.bytes) line.taken
+
+-- the commands of a line's words
+abbrev pub commands_of : Line → List Token → Commands
+commands_of line tokens = fold (λ commands token. with_command (text_of line) commands token.symbol) no_commands tokens
+
+-- the tree -----------------------------------------------------------------------------------------------------------------
+
+-- the tree of a line's rule
+abbrev pub rule_of : Line → RuleShape → SourceRule
+rule_of line shape = record {
+    line = line.number;
+    late = has is_late shape.left.ahead;
+    joined = has is_plus shape.left.ahead;
+    directions = directions_of_words shape.left.ahead;
+    rows = rows_of shape;
+    rewrites = has_rows shape.right.rows;
+    commands = commands_of line (at_end shape.right)
+  }
