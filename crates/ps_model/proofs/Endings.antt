@@ -13,11 +13,11 @@ use Rattle.ps_model.specs.LevelLines.{Entry, MessageEntry, LevelEntry}
 use Rattle.ps_model.specs.Keys.{keys_of}
 use Rattle.ps_model.specs.Turns.{Script, Done, Outcome, Blocked, Restarted, Finished, turn}
 use Rattle.ps_model.specs.Sessions.{Play, Pending, Nothing, LevelDone, KeyAgain, StartAgain, Session, Playing, Waiting, AtMessage, Ended, Step, quietly, remembered, with_turn}
-use Rattle.ps_model.specs.StartSteps.{start_pending, start_told, start_counted, start_turns, all_start_turns, started, started_by, start_step, entered, enter, fresh, first_of, level_done, restarted}
-use Rattle.ps_model.specs.KeySteps.{key_pending, key_told, key_counted, key_turns, all_key_turns, blocked, key_done, turn_taken, undone, unless_ignored, key_in_level, input_taken, gone_on, key_at_level_message, key_at_entry, key_step}
+use Rattle.ps_model.specs.StartSteps.{start_pending, start_told, start_counted, start_turns, all_start_turns, started, started_by, start_step, entered, enter, fresh, first_of, restarted}
+use Rattle.ps_model.specs.KeySteps.{key_pending, key_told, key_counted, key_turns, all_key_turns, turn_taken, undone, unless_ignored, key_in_level, input_taken, gone_on, key_at_level_message, key_at_entry, key_step}
 use Rattle.ps_model.specs.Outputs.{Output, output, opening_step, ending_of, end_of_keys_line}
 use Rattle.ps_model.specs.Fronts.{session_after, session_of, whole_front, EndsOtherwise, WrittenByEnding}
-use Rattle.ps_model.proofs.Fronts.{output-is, output_of_ended, output_of_unended}
+use Rattle.ps_model.proofs.Fronts.{output_of_ended, output_of_unended}
 
 -- the session hasn't ended for want of keys
 abbrev IsOwn : Session → Type 0

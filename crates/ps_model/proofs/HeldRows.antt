@@ -1,5 +1,5 @@
 -- What is held of some bytes, and the keys of the others.
-use Rattle.std.proofs.Common.{◌≡◌, List, [], ◌∷◌, ◌++◌, refl}
+use Rattle.std.proofs.Common.{◌≡◌, [], ◌∷◌, ◌++◌, refl}
 use Rattle.ps_model.specs.declared.play.Input.TheVariants.{Up, Right}
 use Rattle.ps_model.specs.declared.play.Key.TheVariants.{Move}
 use Rattle.ps_model.specs.Keys.{keys_of}

@@ -1,9 +1,9 @@
 -- A text has a game or faults.
-use Rattle.std.proofs.Common.{◌≡◌, ℕ, ◌<◌, ◌⊎◌, inl, inr, Option, Some, None, List, [], ◌∷◌, length, refl, sym, ◌∙◌, ap, arith}
+use Rattle.std.proofs.Common.{◌≡◌, ◌⊎◌, inl, inr, Some, None, List, [], ◌∷◌, refl, sym, ◌∙◌, ap, arith}
 use Rattle.std.specs.List.{IsAmong}
 use Rattle.ps_model.specs.declared.faults.Fault.{Fault}
 use Rattle.ps_model.specs.Lines.{lines_of}
-use Rattle.ps_model.specs.Games.{Game, game_read, unless, faults, game, IsFaultOf}
+use Rattle.ps_model.specs.Games.{Game, game_read, unless, faults}
 use Rattle.ps_model.specs.OneGame.{AtMostOneGame, FaultBarsGame, FaultlessIsGame, GameIsFaultless, GameOrFault}
 use Rattle.ps_model.proofs.GameLaws.{game_unless}
 

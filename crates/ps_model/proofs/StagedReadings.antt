@@ -10,8 +10,8 @@ use Rattle.ps_model.specs.declared.pieces.Motion.{Motion}
 use Rattle.ps_model.specs.Names.{Names}
 use Rattle.ps_model.specs.SourceRules.{Item, SourceRule}
 use Rattle.ps_model.specs.Occurrences.{left_items}
-use Rattle.ps_model.specs.Readings.{Reading, one_of_each, ways, directions_of, move_choices, member_choices, all_move_choices, all_member_choices, readings_in, readings, reading_count}
-use Rattle.ps_model.specs.Stages.{split_all, in_direction, with_move, with_member, split_reading, split_by_moves, split_by_members, staged_readings, ReadByStages, ReadOneInOther, ReadingsCounted}
+use Rattle.ps_model.specs.Readings.{Reading, one_of_each, ways, directions_of, move_choices, member_choices, all_move_choices, all_member_choices, readings_in, readings}
+use Rattle.ps_model.specs.Stages.{split_all, in_direction, with_move, with_member, split_reading, split_by_moves, split_by_members, ReadByStages, ReadOneInOther, ReadingsCounted}
 use Rattle.ps_model.proofs.Stages.{map-flat_map, flat_map-flat_map, same_map, same_flat_map, flat_map-each, split_all-one_of_each, length-flat_map_same, length-one_of_each}
 
 -- a reading with several more

@@ -1,15 +1,15 @@
 -- What a run has written when it has read so far: the front of its output. It grows with each key until the game ends, and the whole
 -- output is the front of all keys, with one more line where the keys end first.
-use Rattle.std.specs.Prelude.{ℕ, ◌≤◌, Option, Some, None, List, [], ◌∷◌, ◌++◌, length, ◌≡◌, ◌≢◌}
+use Rattle.std.specs.Prelude.{ℕ, ◌≤◌, Some, None, List, [], ◌∷◌, ◌++◌, length, ◌≡◌, ◌≢◌}
 use Rattle.ps_model.specs.declared.play.Ending.{Ending}
 use Rattle.ps_model.specs.declared.play.Ending.TheVariants.{EndOfKeys}
 use Rattle.ps_model.specs.declared.play.Key.{Key}
 use Rattle.ps_model.specs.Keys.{keys_of}
 use Rattle.ps_model.specs.HeldKeys.{held}
 use Rattle.ps_model.specs.Turns.{Script}
-use Rattle.ps_model.specs.Sessions.{Session, Ended, Step, quietly}
+use Rattle.ps_model.specs.Sessions.{Session, Ended, Step}
 use Rattle.ps_model.specs.KeySteps.{key_step}
-use Rattle.ps_model.specs.Outputs.{Output, output, opening_step, ending_of, end_of_keys_line, texts_of_keys, front}
+use Rattle.ps_model.specs.Outputs.{output, opening_step, ending_of, end_of_keys_line, texts_of_keys, front}
 
 -- the session behind keys
 abbrev pub session_after : Script → Session → List Key → Session

@@ -1,5 +1,5 @@
 -- A text and its game: it has one at most, and exactly where it has no fault.
-use Rattle.std.specs.Prelude.{◌≡◌, ℕ, ◌⊎◌, Option, Some, None, List, []}
+use Rattle.std.specs.Prelude.{◌≡◌, ℕ, ◌⊎◌, Some, None, List, []}
 use Rattle.ps_model.specs.declared.faults.Fault.{Fault}
 use Rattle.ps_model.specs.Lines.{lines_of}
 use Rattle.ps_model.specs.Games.{Game, game_read, faults, game, IsFaultOf}
