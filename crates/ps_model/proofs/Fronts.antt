@@ -28,7 +28,7 @@ texts_of_keys-append script session [] second = refl
 texts_of_keys-append script session (key ∷ keys) second =
     ap (λ l. (key_step script session key).text ++ l) (texts_of_keys-append script (key_step script session key).session keys second)
     ∙ sym (append_assoc (key_step script session key).text (texts_of_keys script (key_step script session key).session keys)
-      (texts_of_keys script (session_after script (key_step script session key).session keys) second))
+    (texts_of_keys script (session_after script (key_step script session key).session keys) second))
 
 -- keys after the end
 pub end_stays : EndStays
@@ -56,14 +56,14 @@ of_keys script session (Some ending) keys e =
     let is_end : session ≡ Ended ending = ended session ending e in
     let stays = end_stays script ending keys in
     sym (ap (λ (s : Session). after_text (texts_of_keys script s keys) (closing (ending_of (session_after script s keys)))) is_end
-      ∙ ap (λ (l : List ℕ). after_text l (closing (ending_of (session_after script (Ended ending) keys)))) stays.1
-      ∙ ap (λ (s : Session). after_text [] (closing (ending_of s))) stays.0)
+    ∙ ap (λ (l : List ℕ). after_text l (closing (ending_of (session_after script (Ended ending) keys)))) stays.1
+    ∙ ap (λ (s : Session). after_text [] (closing (ending_of s))) stays.0)
 of_keys script session None [] e = sym (ap closing e)
 of_keys script session None (key ∷ keys) e =
     let step : Step = key_step script session key in
     ap (after_text step.text) (of_keys script step.session (ending_of step.session) keys refl)
     ∙ ap (λ (l : List ℕ). let told : Output = record { written = l; ending = (closing (ending_of (session_after script step.session keys))).ending } in told)
-      (sym (append_assoc step.text (texts_of_keys script step.session keys) (closing (ending_of (session_after script step.session keys))).written))
+    (sym (append_assoc step.text (texts_of_keys script step.session keys) (closing (ending_of (session_after script step.session keys))).written))
 
 take_all : {A : Type 0} (items : List A) → take (length items) items ≡ items
 take_all items = grind (arith, common_steps)
@@ -75,7 +75,7 @@ from_start : (script : Script) (start : Step) (keys : List Key) →
 from_start script start keys =
     ap (after_text start.text) (of_keys script start.session (ending_of start.session) keys refl)
     ∙ ap (λ (l : List ℕ). let told : Output = record { written = l; ending = (closing (ending_of (session_after script start.session keys))).ending } in told)
-      (sym (append_assoc start.text (texts_of_keys script start.session keys) (closing (ending_of (session_after script start.session keys))).written))
+    (sym (append_assoc start.text (texts_of_keys script start.session keys) (closing (ending_of (session_after script start.session keys))).written))
     ∙ ap (λ (l : List Key). after_text (start.text ++ texts_of_keys script start.session l) (closing (ending_of (session_after script start.session keys)))) (sym (take_all keys))
 
 -- the output is the front of all keys, and what comes behind it
@@ -106,10 +106,11 @@ take_more : {A : Type 0} (few many : ℕ) (items : List A) → few ≤ many → 
 take_more few many items h = let sum : many ≡ few + (many - few) = omega (arith, h) in ap (λ (n : ℕ). take n items) sum ∙ take-add few (many - few) items
 
 pub front_grows : FrontGrows
-front_grows script bytes few many h =
-    ( texts_of_keys script (session_after script (opening_step script).session (take few (keys_of bytes))) (take (many - few) (drop few (keys_of bytes)))
-    , ap (λ (l : List Key). (opening_step script).text ++ texts_of_keys script (opening_step script).session l) (take_more few many (keys_of bytes) h)
-      ∙ front_then script (opening_step script) (take few (keys_of bytes)) (take (many - few) (drop few (keys_of bytes))))
+front_grows script bytes few many h = (
+  texts_of_keys script (session_after script (opening_step script).session (take few (keys_of bytes))) (take (many - few) (drop few (keys_of bytes))),
+  ap (λ (l : List Key). (opening_step script).text ++ texts_of_keys script (opening_step script).session l) (take_more few many (keys_of bytes) h)
+      ∙ front_then script (opening_step script) (take few (keys_of bytes)) (take (many - few) (drop few (keys_of bytes))),
+)
 
 -- the front of all keys, without a count
 pub whole_front-is : (script : Script) (bytes : List ℕ) → whole_front script bytes ≡ (opening_step script).text ++ texts_of_keys script (opening_step script).session (keys_of bytes)
@@ -118,33 +119,36 @@ whole_front-is script bytes = ap (λ (l : List Key). (opening_step script).text 
 pub front_of_output : FrontOfOutput
 front_of_output script bytes count =
     let texts : List ℕ = texts_of_keys script (session_after script (opening_step script).session (take count (keys_of bytes))) (drop count (keys_of bytes)) in
-    let close : List ℕ = (closing (ending_of (session_of script bytes))).written in
-    ( texts ++ close
-    , ap (λ (told : Output). told.written) (output-is script bytes)
-      ∙ ap (λ (l : List ℕ). l ++ close) (whole_front-is script bytes
-        ∙ ap (λ (l : List Key). (opening_step script).text ++ texts_of_keys script (opening_step script).session l) (sym (take-append-drop count (keys_of bytes)))
-        ∙ front_then script (opening_step script) (take count (keys_of bytes)) (drop count (keys_of bytes)))
-      ∙ append_assoc (front script bytes count) texts close)
+    let close : List ℕ = (closing (ending_of (session_of script bytes))).written in (
+      texts ++ close,
+      ap (λ (told : Output). told.written) (output-is script bytes)
+          ∙ ap (λ (l : List ℕ). l ++ close) (whole_front-is script bytes
+          ∙ ap (λ (l : List Key). (opening_step script).text ++ texts_of_keys script (opening_step script).session l) (sym (take-append-drop count (keys_of bytes)))
+          ∙ front_then script (opening_step script) (take count (keys_of bytes)) (drop count (keys_of bytes)))
+          ∙ append_assoc (front script bytes count) texts close,
+    )
 
 -- pieces ---------------------------------------------------------------------------------------------------------------
 
 pub front_in_pieces : FrontInPieces
-front_in_pieces script first second =
-    ( whole_front-is script (first ++ second)
+front_in_pieces script first second = (
+  whole_front-is script (first ++ second)
       ∙ ap (λ (l : List Key). (opening_step script).text ++ texts_of_keys script (opening_step script).session l) (keys_of-append first second)
       ∙ front_then script (opening_step script) (keys_of first) (keys_of (held first ++ second))
-      ∙ ap (λ (l : List ℕ). l ++ texts_of_keys script (session_of script first) (keys_of (held first ++ second))) (sym (whole_front-is script first))
-    , ap (session_after script (opening_step script).session) (keys_of-append first second)
-      ∙ session_after-append script (opening_step script).session (keys_of first) (keys_of (held first ++ second)))
+      ∙ ap (λ (l : List ℕ). l ++ texts_of_keys script (session_of script first) (keys_of (held first ++ second))) (sym (whole_front-is script first)),
+  ap (session_after script (opening_step script).session) (keys_of-append first second)
+      ∙ session_after-append script (opening_step script).session (keys_of first) (keys_of (held first ++ second)),
+)
 
 pub front_of_more : FrontOfMore
 front_of_more script first second =
     let texts : List ℕ = texts_of_keys script (session_of script first) (keys_of (held first ++ second)) in
-    let close : List ℕ = (closing (ending_of (session_of script (first ++ second)))).written in
-    ( texts ++ close
-    , ap (λ (told : Output). told.written) (output-is script (first ++ second))
-      ∙ ap (λ (l : List ℕ). l ++ close) (front_in_pieces script first second).0
-      ∙ append_assoc (whole_front script first) texts close)
+    let close : List ℕ = (closing (ending_of (session_of script (first ++ second)))).written in (
+      texts ++ close,
+      ap (λ (told : Output). told.written) (output-is script (first ++ second))
+          ∙ ap (λ (l : List ℕ). l ++ close) (front_in_pieces script first second).0
+          ∙ append_assoc (whole_front script first) texts close,
+    )
 
 pub output_once_ended : OutputOnceEnded
 output_once_ended script first second ending e =

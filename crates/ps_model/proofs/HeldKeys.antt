@@ -230,9 +230,10 @@ pub keys_in_pieces : KeysInPieces
 keys_in_pieces first second = keys_of-append first second ∙ ap (λ (l : List Key). l ++ keys_of (held first ++ second)) (sym (keys_of-before_held first))
 
 pub read_piece_by_piece : ReadPieceByPiece
-read_piece_by_piece read piece kept e = rw e
-    ( ap (λ (l : List Key). keys_of read ++ l) (keys_of-before_held (held read ++ piece)) ∙ sym (keys_of-append read piece)
-    , held-append read piece)
+read_piece_by_piece read piece kept e = rw e (
+  ap (λ (l : List Key). keys_of read ++ l) (keys_of-before_held (held read ++ piece)) ∙ sym (keys_of-append read piece),
+  held-append read piece,
+)
 
 read_byte : (byte : ℕ) (kept : Held) → keys_of (bytes_of kept ++ byte ∷ []) ≡ option_to_list (key_behind kept byte)
 read_byte byte kept =
@@ -240,6 +241,7 @@ read_byte byte kept =
     ∙ append-nil (option_to_list (key_behind kept byte))
 
 pub read_byte_by_byte : ReadByteByByte
-read_byte_by_byte read byte kept e =
-    ( ap (λ (l : List Key). keys_of read ++ l) (sym (read_byte byte kept) ∙ ap (λ (l : List ℕ). keys_of (l ++ byte ∷ [])) e) ∙ sym (keys_of-append read (byte ∷ []))
-    , sym (held-piece kept (byte ∷ [])) ∙ ap (λ (l : List ℕ). held (l ++ byte ∷ [])) e ∙ held-append read (byte ∷ []))
+read_byte_by_byte read byte kept e = (
+  ap (λ (l : List Key). keys_of read ++ l) (sym (read_byte byte kept) ∙ ap (λ (l : List ℕ). keys_of (l ++ byte ∷ [])) e) ∙ sym (keys_of-append read (byte ∷ [])),
+  sym (held-piece kept (byte ∷ [])) ∙ ap (λ (l : List ℕ). held (l ++ byte ∷ [])) e ∙ held-append read (byte ∷ []),
+)

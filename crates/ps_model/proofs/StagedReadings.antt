@@ -58,7 +58,7 @@ split_by_moves-all (item ∷ items) made =
     split_by_moves-all items (flat_map (λ reading. split_reading with_move (move_choices reading.direction item) reading) made)
     ∙ flat_map-flat_map _ _ made
     ∙ same_flat_map _ _ (λ reading. same_direction (move_choices reading.direction item) items reading
-      ∙ split_then with_move (move_choices reading.direction item) (filter_map (move_choices reading.direction) items) reading) made
+    ∙ split_then with_move (move_choices reading.direction item) (filter_map (move_choices reading.direction) items) reading) made
 
 -- the stage of the members
 split_by_members-all : (names : Names) (rule : SourceRule) (items : List Item) (made : List Reading) →
@@ -72,12 +72,12 @@ split_by_members-all names rule (item ∷ items) made =
 -- of one reading, a stage makes one for each choice
 pub split_by_moves-is : (items : List Item) (made : List Reading) →
     split_by_moves items made ≡ flat_map (λ reading. map (λ moves. let more : Reading = record { direction = reading.direction; moves = reading.moves ++ moves; members = reading.members } in more)
-      (one_of_each (filter_map (move_choices reading.direction) items))) made
+    (one_of_each (filter_map (move_choices reading.direction) items))) made
 split_by_moves-is items made = split_by_moves-all items made ∙ same_flat_map _ _ (λ reading. same_map _ _ (all_moves reading) (one_of_each (filter_map (move_choices reading.direction) items))) made
 
 pub split_by_members-is : (names : Names) (rule : SourceRule) (items : List Item) (made : List Reading) →
     split_by_members names rule items made ≡ flat_map (λ reading. map (λ members. let more : Reading = record { direction = reading.direction; moves = reading.moves; members = reading.members ++ members } in more)
-      (one_of_each (filter_map (member_choices names rule) items))) made
+    (one_of_each (filter_map (member_choices names rule) items))) made
 split_by_members-is names rule items made =
     split_by_members-all names rule items made ∙ same_flat_map _ _ (λ reading. same_map _ _ (all_members reading) (one_of_each (filter_map (member_choices names rule) items))) made
 
@@ -93,16 +93,16 @@ by_stages names rule =
 pub one_in_other : ReadOneInOther
 one_in_other names rule = sym (same_flat_map _ _ (λ direction.
     ap (λ (chosen : List (List (ℕ × ObjectId))). flat_map (λ moves. map (λ members. let made : Reading = record { direction = direction; moves = moves; members = members } in made) chosen)
-      (split_all (all_move_choices rule direction) ([] ∷ []))) (split_all-one_of_each (all_member_choices names rule))
+    (split_all (all_move_choices rule direction) ([] ∷ []))) (split_all-one_of_each (all_member_choices names rule))
     ∙ ap (flat_map (λ moves. map (λ members. let made : Reading = record { direction = direction; moves = moves; members = members } in made) (one_of_each (all_member_choices names rule))))
-      (split_all-one_of_each (all_move_choices rule direction))) (directions_of rule))
+    (split_all-one_of_each (all_move_choices rule direction))) (directions_of rule))
 
 -- as many readings in a direction as there are ways to choose
 length-readings_in : (names : Names) (rule : SourceRule) (direction : Direction) →
     length (readings_in (one_of_each (all_member_choices names rule)) rule direction) ≡ ways (all_move_choices rule direction) * ways (all_member_choices names rule)
 length-readings_in names rule direction =
     length-flat_map_same _ (ways (all_member_choices names rule)) (λ moves. length-map (one_of_each (all_member_choices names rule)) _ ∙ length-one_of_each (all_member_choices names rule))
-      (one_of_each (all_move_choices rule direction))
+    (one_of_each (all_move_choices rule direction))
     ∙ ap (λ n. n * ways (all_member_choices names rule)) (length-one_of_each (all_move_choices rule direction))
 
 -- the lengths of what each item gives, added up

@@ -40,7 +40,7 @@ pub one_of_each-append : {A : Type 0} (front behind : List (List A)) →
 one_of_each-append [] behind = sym (append-nil (map (λ second. second) (one_of_each behind)) ∙ map-id (one_of_each behind))
 one_of_each-append (items ∷ front) behind = same_flat_map _ _ (each (one_of_each-append front behind)) items ∙ sym (flat_map-flat_map _ _ items) where
   each : one_of_each (front ++ behind) ≡ flat_map (λ first. map (λ second. first ++ second) (one_of_each behind)) (one_of_each front) → (item : _) → map (λ rest. item ∷ rest) (one_of_each (front ++ behind))
-    ≡ flat_map (λ first. map (λ second. first ++ second) (one_of_each behind)) (map (λ rest. item ∷ rest) (one_of_each front))
+      ≡ flat_map (λ first. map (λ second. first ++ second) (one_of_each behind)) (map (λ rest. item ∷ rest) (one_of_each front))
   each shorter item =
       ap (map (λ rest. item ∷ rest)) shorter
       ∙ map-flat_map (λ rest. item ∷ rest) _ (one_of_each front)
@@ -54,13 +54,13 @@ split_all-is (items ∷ others) made =
     split_all-is others (split_by items made)
     ∙ flat_map-flat_map _ _ made
     ∙ same_flat_map _ _ each made where
-  each : (first : List _) → flat_map (λ l. map (λ second. l ++ second) (one_of_each others)) (map (λ item. first ++ item ∷ []) items)
-    ≡ map (λ second. first ++ second) (flat_map (λ item. map (λ rest. item ∷ rest) (one_of_each others)) items)
-  each first =
-      flat_map-map _ (λ item. first ++ item ∷ []) items
-      ∙ same_flat_map _ _ (λ item. same_map _ _ (λ second. append_assoc first (item ∷ []) second) (one_of_each others)
-        ∙ sym (map-map (λ second. first ++ second) (λ rest. item ∷ rest) (one_of_each others))) items
-      ∙ sym (map-flat_map (λ second. first ++ second) _ items)
+      each : (first : List _) → flat_map (λ l. map (λ second. l ++ second) (one_of_each others)) (map (λ item. first ++ item ∷ []) items)
+          ≡ map (λ second. first ++ second) (flat_map (λ item. map (λ rest. item ∷ rest) (one_of_each others)) items)
+      each first =
+          flat_map-map _ (λ item. first ++ item ∷ []) items
+          ∙ same_flat_map _ _ (λ item. same_map _ _ (λ second. append_assoc first (item ∷ []) second) (one_of_each others)
+          ∙ sym (map-map (λ second. first ++ second) (λ rest. item ∷ rest) (one_of_each others))) items
+          ∙ sym (map-flat_map (λ second. first ++ second) _ items)
 
 -- splitting from nothing makes one of each
 pub split_all-one_of_each : {A : Type 0} (choices : List (List A)) → split_all choices ([] ∷ []) ≡ one_of_each choices

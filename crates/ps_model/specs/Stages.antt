@@ -73,8 +73,8 @@ ReadByStages = (names : Names) (rule : SourceRule) → staged_readings names rul
 abbrev pub ReadOneInOther : Type 0
 ReadOneInOther = (names : Names) (rule : SourceRule) → readings names rule ≡
     flat_map (λ direction. flat_map (λ moves. map (λ members. record { direction = direction; moves = moves; members = members })
-      (split_all (all_member_choices names rule) ([] ∷ [])))
-      (split_all (all_move_choices rule direction) ([] ∷ [])))
+    (split_all (all_member_choices names rule) ([] ∷ [])))
+    (split_all (all_move_choices rule direction) ([] ∷ [])))
     (directions_of rule)
 
 -- the count of a rule's readings counts them

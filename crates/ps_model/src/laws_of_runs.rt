@@ -15,8 +15,7 @@ pub fn readings_by_stages()
     ensures stages { ReadByStages }
     ensures one_in_other { ReadOneInOther }
     ensures counted { ReadingsCounted }
-{
-}
+{}
 
 /// The bytes at the end of a piece that may begin an arrow are held. They are nothing, ESC, or ESC and `[`, and bring no
 /// key as yet.
@@ -24,8 +23,7 @@ pub fn held_bytes()
     ensures at_end { HeldAtEnd }
     ensures begun { HeldIsBegun }
     ensures silent { HeldIsSilent }
-{
-}
+{}
 
 /// Keys that come in pieces, or byte by byte: a reader needs nothing of the bytes before but what is held of them.
 pub fn keys_in_pieces()
@@ -33,8 +31,7 @@ pub fn keys_in_pieces()
     ensures piece_by_piece { ReadPieceByPiece }
     ensures byte_by_byte { ReadByteByByte }
     ensures one_byte_more { OneByteMore }
-{
-}
+{}
 
 /// What a run has written grows with each key, and each such front is a front of the whole output, whatever keys come
 /// behind them.
@@ -43,8 +40,7 @@ pub fn fronts_of_output()
     ensures of_output { FrontOfOutput }
     ensures in_pieces { FrontInPieces }
     ensures of_more { FrontOfMore }
-{
-}
+{}
 
 /// The whole output is the front of all keys, where the run has ended; where the keys end first, a line that says so
 /// stands behind it. Keys after the end change nothing.
@@ -55,8 +51,7 @@ pub fn ends_of_output()
     ensures stays { EndStays }
     ensures otherwise { EndsOtherwise }
     ensures by_ending { WrittenByEnding }
-{
-}
+{}
 
 /// A text has at most one game. It has one exactly where it has no fault.
 pub fn one_game()
@@ -65,5 +60,4 @@ pub fn one_game()
     ensures faultless { FaultlessIsGame }
     ensures of_game { GameIsFaultless }
     ensures either { GameOrFault }
-{
-}
+{}

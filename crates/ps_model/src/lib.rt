@@ -25,7 +25,9 @@ pub use laws_of_grids::{
     slides_keep_grids, turns_keep_grids,
 };
 pub use laws_of_rules::{equal_meanings, settling};
-pub use laws_of_runs::{ends_of_output, fronts_of_output, held_bytes, keys_in_pieces, one_game, readings_by_stages};
+pub use laws_of_runs::{
+    ends_of_output, fronts_of_output, held_bytes, keys_in_pieces, one_game, readings_by_stages,
+};
 pub use memory::Memory;
 pub use pieces::{Direction, LayerId, Motion, ObjectId, Slot};
 pub use play::{Ending, Input, Key};
