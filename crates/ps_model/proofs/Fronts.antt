@@ -12,7 +12,7 @@ use Rattle.ps_model.specs.Sessions.{Session, Playing, Waiting, AtMessage, Ended,
 use Rattle.ps_model.specs.KeySteps.{key_step}
 use Rattle.ps_model.specs.Outputs.{Output, after_text, output, output_of_keys, opening_step, ending_of, end_of_keys_line, texts_of_keys, front}
 use Rattle.ps_model.specs.Fronts.{session_after, session_of, whole_front, FrontGrows, OutputOfEnded, OutputOfUnended, FrontOfOutput, EndStays, FrontInPieces, FrontOfMore, OutputOnceEnded}
-use Rattle.ps_model.proofs.HeldKeys.{keys_of-append}
+use Rattle.ps_model.proofs.KeysInPieces.{keys_of-append}
 
 -- keys in a row --------------------------------------------------------------------------------------------------------
 

@@ -10,6 +10,7 @@ pub mod Endings
 pub mod Fronts
 pub mod HeldKeys
 mod HeldRows
+pub mod KeysInPieces
 pub mod GameLaws
 mod GameRows
 mod LevelRows

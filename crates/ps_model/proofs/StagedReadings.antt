@@ -11,7 +11,7 @@ use Rattle.ps_model.specs.Names.{Names}
 use Rattle.ps_model.specs.SourceRules.{Item, SourceRule}
 use Rattle.ps_model.specs.Occurrences.{left_items}
 use Rattle.ps_model.specs.Readings.{Reading, one_of_each, ways, directions_of, move_choices, member_choices, all_move_choices, all_member_choices, readings_in, readings}
-use Rattle.ps_model.specs.Stages.{split_all, in_direction, with_move, with_member, split_reading, split_by_moves, split_by_members, ReadByStages, ReadOneInOther, ReadingsCounted}
+use Rattle.ps_model.specs.Stages.{split_all, in_direction, with_move, with_member, split_reading, split_by_moves, split_by_members, nested_readings_in, ReadByStages, ReadOneInOther, ReadingsCounted}
 use Rattle.ps_model.proofs.Stages.{map-flat_map, flat_map-flat_map, same_map, same_flat_map, flat_map-each, split_all-one_of_each, length-flat_map_same, length-one_of_each}
 
 -- a reading with several more
@@ -90,12 +90,18 @@ by_stages names rule =
     ∙ same_flat_map _ _ (λ direction. flat_map-map _ _ (one_of_each (all_move_choices rule direction))) (directions_of rule)
 
 -- the readings of a rule, one choice in the other
+one_in_other_in : (names : Names) (rule : SourceRule) (direction : Direction) →
+    nested_readings_in names rule direction ≡ readings_in (one_of_each (all_member_choices names rule)) rule direction
+one_in_other_in names rule direction =
+    ap (λ (chosen : List (List (ℕ × ObjectId))).
+      flat_map (λ moves. map (λ members. let made : Reading = record { direction = direction; moves = moves; members = members } in made) chosen)
+        (split_all (all_move_choices rule direction) ([] ∷ [])))
+      (split_all-one_of_each (all_member_choices names rule))
+    ∙ ap (flat_map (λ moves. map (λ members. let made : Reading = record { direction = direction; moves = moves; members = members } in made)
+      (one_of_each (all_member_choices names rule)))) (split_all-one_of_each (all_move_choices rule direction))
+
 pub one_in_other : ReadOneInOther
-one_in_other names rule = sym (same_flat_map _ _ (λ direction.
-    ap (λ (chosen : List (List (ℕ × ObjectId))). flat_map (λ moves. map (λ members. let made : Reading = record { direction = direction; moves = moves; members = members } in made) chosen)
-    (split_all (all_move_choices rule direction) ([] ∷ []))) (split_all-one_of_each (all_member_choices names rule))
-    ∙ ap (flat_map (λ moves. map (λ members. let made : Reading = record { direction = direction; moves = moves; members = members } in made) (one_of_each (all_member_choices names rule))))
-    (split_all-one_of_each (all_move_choices rule direction))) (directions_of rule))
+one_in_other names rule = same_flat_map _ _ (one_in_other_in names rule) (directions_of rule)
 
 -- as many readings in a direction as there are ways to choose
 length-readings_in : (names : Names) (rule : SourceRule) (direction : Direction) →

@@ -9,6 +9,7 @@ use Rattle.ps_model.specs.HeldKeys.{held}
 use Rattle.ps_model.specs.Turns.{Script}
 use Rattle.ps_model.specs.Sessions.{Session, Ended, Step}
 use Rattle.ps_model.specs.KeySteps.{key_step}
+use Rattle.ps_model.specs.Headline.{IsFront}
 use Rattle.ps_model.specs.Outputs.{output, opening_step, ending_of, end_of_keys_line, texts_of_keys, front}
 
 -- the session behind keys
@@ -28,7 +29,7 @@ whole_front script bytes = front script bytes (length (keys_of bytes))
 
 -- the front of more keys goes on from the front of fewer
 abbrev pub FrontGrows : Type 0
-FrontGrows = (script : Script) (bytes : List ℕ) (few many : ℕ) → few ≤ many → (rest : List ℕ) × (front script bytes many ≡ front script bytes few ++ rest)
+FrontGrows = (script : Script) (bytes : List ℕ) (few many : ℕ) → few ≤ many → IsFront (front script bytes few) (front script bytes many)
 
 -- where the run has ended behind the keys, the front of all keys is the output, and that ending is its ending
 abbrev pub OutputOfEnded : Type 0
@@ -53,7 +54,7 @@ WrittenByEnding = (script : Script) (bytes : List ℕ) →
 
 -- each front is a front of the output
 abbrev pub FrontOfOutput : Type 0
-FrontOfOutput = (script : Script) (bytes : List ℕ) (count : ℕ) → (rest : List ℕ) × ((output script bytes).written ≡ front script bytes count ++ rest)
+FrontOfOutput = (script : Script) (bytes : List ℕ) (count : ℕ) → IsFront (front script bytes count) (output script bytes).written
 
 -- after the end keys change nothing, and write nothing
 abbrev pub EndStays : Type 0
@@ -69,7 +70,7 @@ FrontInPieces = (script : Script) (first second : List ℕ) →
 
 -- what is written for the bytes so far is a front of the output, whatever bytes come behind them
 abbrev pub FrontOfMore : Type 0
-FrontOfMore = (script : Script) (first second : List ℕ) → (rest : List ℕ) × ((output script (first ++ second)).written ≡ whole_front script first ++ rest)
+FrontOfMore = (script : Script) (first second : List ℕ) → IsFront (whole_front script first) (output script (first ++ second)).written
 
 -- and once the run has ended it is the output
 abbrev pub OutputOnceEnded : Type 0

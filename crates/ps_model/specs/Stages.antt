@@ -54,28 +54,48 @@ split_by_members names rule (item ∷ items) made =
 abbrev pub staged_readings : Names → SourceRule → List Reading
 staged_readings names rule = split_by_members names rule (left_items rule) (split_by_moves (left_items rule) (map in_direction (directions_of rule)))
 
+-- the readings in one direction, one choice in the other: each choice of moves is split by all members
+abbrev pub nested_readings_in : Names → SourceRule → Direction → List Reading
+nested_readings_in names rule direction =
+    let members_chosen : List (List (ℕ × ObjectId)) = split_all (all_member_choices names rule) ([] ∷ []) in
+    let moves_chosen : List (List (ℕ × Motion)) = split_all (all_move_choices rule direction) ([] ∷ []) in
+    flat_map (λ moves. map (λ members. record { direction = direction; moves = moves; members = members }) members_chosen) moves_chosen
+
+-- the readings of a rule, each direction by itself, and in it each choice of moves by itself
+abbrev pub nested_readings : Names → SourceRule → List Reading
+nested_readings names rule = flat_map (nested_readings_in names rule) (directions_of rule)
+
 -- laws -----------------------------------------------------------------------------------------------------------------
 
--- splitting all that is made so far by one occurrence after the other makes one of each, in order: of the moves
-abbrev pub MovesOneByOne : Type 0
-MovesOneByOne = (choices : List (List (ℕ × Motion))) → split_all choices ([] ∷ []) ≡ one_of_each choices
+-- splitting all that is made so far by one occurrence after the other makes one of each, in order
+abbrev pub OneByOne : Type 0 → Type 0
+OneByOne A = (choices : List (List A)) → split_all choices ([] ∷ []) ≡ one_of_each choices
 
--- and of the members
+-- one of each of all lists is one of each of the first lists, and behind each of these one of each of the others
+abbrev pub InTwoStages : Type 0 → Type 0
+InTwoStages A = (first second : List (List A)) →
+    one_of_each (first ++ second) ≡ flat_map (λ front. map (λ behind. front ++ behind) (one_of_each second)) (one_of_each first)
+
+-- both hold of moves, and of members
+abbrev pub MovesOneByOne : Type 0
+MovesOneByOne = OneByOne (ℕ × Motion)
+
 abbrev pub MembersOneByOne : Type 0
-MembersOneByOne = (choices : List (List (ℕ × ObjectId))) → split_all choices ([] ∷ []) ≡ one_of_each choices
+MembersOneByOne = OneByOne (ℕ × ObjectId)
+
+abbrev pub MovesInTwoStages : Type 0
+MovesInTwoStages = InTwoStages (ℕ × Motion)
+
+abbrev pub MembersInTwoStages : Type 0
+MembersInTwoStages = InTwoStages (ℕ × ObjectId)
 
 -- the readings made stage by stage are the readings of the rule, in their one order
 abbrev pub ReadByStages : Type 0
 ReadByStages = (names : Names) (rule : SourceRule) → staged_readings names rule ≡ readings names rule
 
--- each rule made by a stage may also be split by itself: for each direction, for each choice of the moves in it, for each choice
--- of the members, the reading that they make
+-- and so are those made one choice in the other: first by the moves, and then each of the rules so made by the members
 abbrev pub ReadOneInOther : Type 0
-ReadOneInOther = (names : Names) (rule : SourceRule) → readings names rule ≡
-    flat_map (λ direction. flat_map (λ moves. map (λ members. record { direction = direction; moves = moves; members = members })
-    (split_all (all_member_choices names rule) ([] ∷ [])))
-    (split_all (all_move_choices rule direction) ([] ∷ [])))
-    (directions_of rule)
+ReadOneInOther = (names : Names) (rule : SourceRule) → nested_readings names rule ≡ readings names rule
 
 -- the count of a rule's readings counts them
 abbrev pub ReadingsCounted : Type 0

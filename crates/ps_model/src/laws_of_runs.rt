@@ -1,7 +1,7 @@
 //! Laws over the definitions of readings, of keys and of runs. Each function does nothing: its contract is a law that the
 //! definitions keep.
 
-ghost use Rattle.ps_model.specs.Stages.{MovesOneByOne, MembersOneByOne, ReadByStages, ReadOneInOther, ReadingsCounted};
+ghost use Rattle.ps_model.specs.Stages.{MovesOneByOne, MembersOneByOne, MovesInTwoStages, MembersInTwoStages, ReadByStages, ReadOneInOther, ReadingsCounted};
 ghost use Rattle.ps_model.specs.HeldKeys.{HeldAtEnd, HeldIsBegun, HeldIsSilent, KeysInPieces, ReadPieceByPiece, ReadByteByByte, OneByteMore};
 ghost use Rattle.ps_model.specs.Fronts.{FrontGrows, FrontOfOutput, FrontInPieces, FrontOfMore, OutputOfEnded, OutputOfUnended, OutputOnceEnded, EndStays, EndsOtherwise, WrittenByEnding};
 ghost use Rattle.ps_model.specs.OneGame.{AtMostOneGame, FaultBarsGame, FaultlessIsGame, GameIsFaultless, GameOrFault};
@@ -12,6 +12,8 @@ ghost use Rattle.ps_model.specs.OneGame.{AtMostOneGame, FaultBarsGame, Faultless
 pub fn readings_by_stages()
     ensures moves { MovesOneByOne }
     ensures members { MembersOneByOne }
+    ensures moves_in_two { MovesInTwoStages }
+    ensures members_in_two { MembersInTwoStages }
     ensures stages { ReadByStages }
     ensures one_in_other { ReadOneInOther }
     ensures counted { ReadingsCounted }

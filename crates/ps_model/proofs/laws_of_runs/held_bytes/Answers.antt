@@ -1,4 +1,4 @@
-use Rattle.ps_model.proofs.HeldKeys.{held_at_end, held_is_begun, held_is_silent}
+use Rattle.ps_model.proofs.KeysInPieces.{held_at_end, held_is_begun, held_is_silent}
 use Rattle.ps_model.proofs.laws_of_runs.held_bytes.Goals as goal
 
 pub returns : goal.returns
