@@ -1,13 +1,12 @@
 -- One more byte behind what is held: its key, and what is held then.
-use Rattle.std.proofs.Common.{◌≡◌, ℕ, ◌==◌, Bool, true, false, Option, Some, None, List, [], ◌∷◌, ◌++◌, refl, sym, ◌∙◌, ap, arith, append_assoc}
+use Rattle.std.proofs.Common.{◌≡◌, ℕ, ◌==◌, Bool, true, false, Option, Some, None, List, [], ◌∷◌, ◌++◌, refl, sym, ◌∙◌, ap, arith}
 use Rattle.std.specs.Prelude.{option_to_list}
 use Rattle.std.proofs.lemmas.Bool.Decides.{nat_tests}
-use Rattle.std.proofs.lemmas.List.{append-nil}
 use Rattle.ps_model.specs.declared.held.Held.{Held}
 use Rattle.ps_model.specs.declared.held.Held.TheVariants.{Nothing, Escape, Bracket}
 use Rattle.ps_model.specs.declared.play.Key.{Key}
 use Rattle.ps_model.specs.Keys.{key_of, arrow_of, leading_arrow, keys_behind, keys_of}
-use Rattle.ps_model.specs.HeldKeys.{is_begun_arrow, held, before_held, bytes_of, key_unless_arrow, key_behind, held_unless_escape, held_behind, HeldAtEnd, HeldIsBegun, HeldIsSilent, KeysInPieces, ReadPieceByPiece, ReadByteByByte, OneByteMore}
+use Rattle.ps_model.specs.HeldKeys.{is_begun_arrow, held, bytes_of, key_unless_arrow, key_behind, held_unless_escape, held_behind, OneByteMore}
 
 is_number : (byte number : ℕ) → byte == number ≡ true → byte ≡ number
 is_number byte number e = grind (arith, nat_tests, e)

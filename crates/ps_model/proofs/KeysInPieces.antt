@@ -1,14 +1,12 @@
 -- Keys that come in pieces: what is held behind a piece, and the keys of two pieces.
-use Rattle.std.proofs.Common.{◌≡◌, ℕ, ◌==◌, Bool, true, false, Option, Some, None, List, [], ◌∷◌, ◌++◌, refl, sym, ◌∙◌, ap, arith, append_assoc}
+use Rattle.std.proofs.Common.{◌≡◌, ℕ, Bool, true, false, List, [], ◌∷◌, ◌++◌, refl, sym, ◌∙◌, ap, append_assoc}
 use Rattle.std.specs.Prelude.{option_to_list}
-use Rattle.std.proofs.lemmas.Bool.Decides.{nat_tests}
 use Rattle.std.proofs.lemmas.List.{append-nil}
 use Rattle.ps_model.specs.declared.held.Held.{Held}
 use Rattle.ps_model.specs.declared.held.Held.TheVariants.{Nothing, Escape, Bracket}
 use Rattle.ps_model.specs.declared.play.Key.{Key}
-use Rattle.ps_model.specs.Keys.{key_of, arrow_of, leading_arrow, keys_behind, keys_of}
-use Rattle.ps_model.specs.HeldKeys.{is_begun_arrow, held, before_held, bytes_of, key_unless_arrow, key_behind, held_unless_escape, held_behind, HeldAtEnd, HeldIsBegun, HeldIsSilent, KeysInPieces, ReadPieceByPiece, ReadByteByByte, OneByteMore}
-
+use Rattle.ps_model.specs.Keys.{keys_of}
+use Rattle.ps_model.specs.HeldKeys.{is_begun_arrow, held, before_held, bytes_of, key_behind, held_behind, HeldAtEnd, HeldIsBegun, HeldIsSilent, KeysInPieces, ReadPieceByPiece, ReadByteByByte}
 use Rattle.ps_model.proofs.HeldKeys.{one_byte_more, held_one_more}
 
 -- a piece --------------------------------------------------------------------------------------------------------------

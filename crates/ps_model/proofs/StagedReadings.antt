@@ -94,11 +94,11 @@ one_in_other_in : (names : Names) (rule : SourceRule) (direction : Direction) �
     nested_readings_in names rule direction ≡ readings_in (one_of_each (all_member_choices names rule)) rule direction
 one_in_other_in names rule direction =
     ap (λ (chosen : List (List (ℕ × ObjectId))).
-      flat_map (λ moves. map (λ members. let made : Reading = record { direction = direction; moves = moves; members = members } in made) chosen)
-        (split_all (all_move_choices rule direction) ([] ∷ [])))
-      (split_all-one_of_each (all_member_choices names rule))
+    flat_map (λ moves. map (λ members. let made : Reading = record { direction = direction; moves = moves; members = members } in made) chosen)
+    (split_all (all_move_choices rule direction) ([] ∷ [])))
+    (split_all-one_of_each (all_member_choices names rule))
     ∙ ap (flat_map (λ moves. map (λ members. let made : Reading = record { direction = direction; moves = moves; members = members } in made)
-      (one_of_each (all_member_choices names rule)))) (split_all-one_of_each (all_move_choices rule direction))
+    (one_of_each (all_member_choices names rule)))) (split_all-one_of_each (all_move_choices rule direction))
 
 pub one_in_other : ReadOneInOther
 one_in_other names rule = same_flat_map _ _ (one_in_other_in names rule) (directions_of rule)
