@@ -1,6 +1,6 @@
 -- Rules with too many readings, or without a possible one, worked by hand.
-use Rattle.std.proofs.Common.{◌≡◌, ℕ, List, [], ◌∷◌, ◌++◌, map, refl, Option, Some, None}
-use Rattle.std.specs.Prelude.{codes, replicate, option_map}
+use Rattle.std.proofs.Common.{◌≡◌, ℕ, List, [], ◌∷◌, ◌++◌, map, refl, Option, None}
+use Rattle.std.specs.Prelude.{codes, replicate}
 use Rattle.std.specs.List.{flat_map, filter_map}
 use Rattle.ps_model.specs.declared.faults.Fault.{Fault}
 use Rattle.ps_model.specs.declared.faults.FaultKind.TheVariants.{TooManyReadings, Impossible}
@@ -33,12 +33,18 @@ numbers = refl
 many_moves : counts base_names (row_of 4 (codes "moving A")) ≡ 3125 ∷ []
 many_moves = refl
 
+many_moves_told : told base_names (row_of 4 (codes "moving A")) ≡ None
+many_moves_told = refl
+
 four_directions : told base_names (codes "[ moving A | moving A | moving A | moving A | moving A ] -> cancel") ≡ fault_at 2 TooManyReadings
 four_directions = refl
 
 -- at the limit, and past it
 at_limit : counts base_names (row_of 11 (codes "AT")) ≡ 4096 ∷ []
 at_limit = refl
+
+at_limit_told : told base_names (row_of 11 (codes "AT")) ≡ None
+at_limit_told = refl
 
 past_limit : told base_names (codes "[ A ] -> [ B ]\n" ++ row_of 12 (codes "AT")) ≡ fault_at 3 TooManyReadings
 past_limit = refl

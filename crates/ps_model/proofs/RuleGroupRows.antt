@@ -4,7 +4,7 @@ use Rattle.std.specs.Prelude.{codes}
 use Rattle.ps_model.specs.declared.faults.Fault.{Fault}
 use Rattle.ps_model.specs.declared.faults.FaultKind.TheVariants.{UnknownWord, LateMove, PlusAlone, PlusLate, Loop, Ellipsis, NotInProfile, TooManyRules, NothingRight}
 use Rattle.ps_model.specs.Faults.{first_fault}
-use Rattle.ps_model.specs.RuleLines.{nothing_above, faults_below}
+use Rattle.ps_model.specs.RuleFaults.{nothing_above, faults_below}
 use Rattle.ps_model.proofs.RuleTexts.{AllTold, base_names, lines_below, told, fault_at}
 
 -- RU8 ----------------------------------------------------------------------------------------------------------------------

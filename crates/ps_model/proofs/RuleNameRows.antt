@@ -1,9 +1,9 @@
 -- Rules whose cells name what they can't, worked by hand.
-use Rattle.std.proofs.Common.{◌≡◌, List, [], ◌∷◌, map, refl, None}
+use Rattle.std.proofs.Common.{◌≡◌, [], ◌∷◌, map, refl, None}
 use Rattle.std.specs.Prelude.{codes}
 use Rattle.ps_model.specs.declared.faults.FaultKind.TheVariants.{NameTwice, NoAggregate, Unbound}
 use Rattle.ps_model.specs.Names.{AnyOf}
-use Rattle.ps_model.proofs.RuleTexts.{AllTold, told, told_with, fault_at, with_name, object, at, ac}
+use Rattle.ps_model.proofs.RuleTexts.{AllTold, told_with, fault_at, with_name, object, at, ac}
 
 -- RU5 ----------------------------------------------------------------------------------------------------------------------
 

@@ -1,5 +1,5 @@
 -- Rules whose words don't stand as they should, worked by hand.
-use Rattle.std.proofs.Common.{◌≡◌, List, [], ◌∷◌, refl, None}
+use Rattle.std.proofs.Common.{◌≡◌, [], ◌∷◌, refl, None}
 use Rattle.std.specs.Prelude.{codes}
 use Rattle.ps_model.specs.declared.faults.FaultKind.TheVariants.{BadBracket, UnknownWord, RowsDiffer, NothingRight, Ellipsis}
 use Rattle.ps_model.proofs.RuleTexts.{AllTold, told, told_with, fault_at, with_name, one}

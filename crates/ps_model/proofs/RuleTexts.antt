@@ -1,6 +1,6 @@
 -- Names and lines for the worked rows on rules: the names of the base text, written out, and the lines below a header RULES, the
 -- first of which has the number 2.
-use Rattle.std.proofs.Common.{◌≡◌, ℕ, List, [], ◌∷◌, ◌++◌, map, refl, Option, Some, Bool}
+use Rattle.std.proofs.Common.{◌≡◌, ℕ, List, [], ◌∷◌, ◌++◌, map, refl, Option, Some}
 use Rattle.std.specs.Prelude.{codes, option_map, filter, not, ◌&&◌}
 use Rattle.std.specs.Str.{chars}
 use Rattle.ps_model.specs.declared.pieces.ObjectId.{ObjectId}
@@ -10,7 +10,7 @@ use Rattle.ps_model.specs.Names.{Meaning, One, AllOf, AnyOf, Names}
 use Rattle.ps_model.specs.ThinNames.{thin_names, lines_between}
 use Rattle.ps_model.specs.Lines.{Line, lines_of, is_header}
 use Rattle.ps_model.specs.Faults.{first_fault}
-use Rattle.ps_model.specs.RuleLines.{rule_faults}
+use Rattle.ps_model.specs.RuleFaults.{rule_faults}
 use Rattle.ps_model.proofs.BaseText.{base_head}
 
 abbrev pub object : ℕ → ObjectId

@@ -1,10 +1,10 @@
 -- The words of lines of RULES and the trees that they give, worked by hand.
-use Rattle.std.proofs.Common.{◌≡◌, ℕ, List, [], ◌∷◌, map, refl, Option, Some, None, true, false}
+use Rattle.std.proofs.Common.{◌≡◌, ℕ, List, [], ◌∷◌, map, refl, Some, None, true, false}
 use Rattle.std.specs.Prelude.{codes}
 use Rattle.std.specs.List.{filter_map}
 use Rattle.ps_model.specs.declared.pieces.Direction.TheVariants.{Up, Down, Left, Right}
 use Rattle.ps_model.specs.declared.rules.MovementWord.TheVariants as word
-use Rattle.ps_model.specs.SourceRules.{Item, Is, No, CellPair, no_commands, SourceRule, RuleLine, Rule, LoopStart, LoopEnd}
+use Rattle.ps_model.specs.SourceRules.{Item, Is, No, CellPair, no_commands, SourceRule, Rule, LoopStart, LoopEnd}
 use Rattle.ps_model.specs.RuleSymbols.{Symbol, Open, Close, Bar, Arrow, Ellipsis, Plus, Late, Without, Moves, Asks, Cancel, Message, Sound, StartsLoop, LeftOut, Called, Unknown, tokens_of}
 use Rattle.ps_model.specs.RuleLines.{rules_read}
 use Rattle.ps_model.specs.RulePrograms.{rule_in}

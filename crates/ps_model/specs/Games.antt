@@ -13,7 +13,7 @@ use Rattle.ps_model.specs.NamesRead.{names_read}
 use Rattle.ps_model.specs.NameFaults.{name_faults}
 use Rattle.ps_model.specs.SourceRules.{RuleLine}
 use Rattle.ps_model.specs.RuleLines.{rules_read}
-use Rattle.ps_model.specs.RuleLines.{rule_faults}
+use Rattle.ps_model.specs.RuleFaults.{rule_faults}
 use Rattle.ps_model.specs.ReadingFaults.{reading_faults}
 use Rattle.ps_model.specs.LevelLines.{Entry, entries_read}
 use Rattle.ps_model.specs.LevelFaults.{level_faults}

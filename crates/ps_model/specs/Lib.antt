@@ -26,6 +26,7 @@ pub mod RuleTree
 pub mod RuleShapeFaults
 pub mod RuleNameFaults
 pub mod RuleLines
+pub mod RuleFaults
 pub mod Directions
 pub mod Occurrences
 pub mod Readings

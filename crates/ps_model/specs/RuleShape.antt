@@ -1,6 +1,6 @@
 -- The shape of a rule: `->` parts its line in a left and a right side, brackets part a side in rows and what stands outside
 -- them, and bars part a row in cells. Brackets that don't pair, or nest, make no shape.
-use Rattle.std.specs.Prelude.{Bool, true, false, not, Option, Some, None, List, [], ◌∷◌, map, reverse, drop, slice_index_or}
+use Rattle.std.specs.Prelude.{Bool, true, false, not, Option, Some, None, List, [], ◌∷◌, ◌++◌, map, fold, drop, slice_index_or}
 use Rattle.std.specs.List.{slice_split, list_any, flat_map}
 use Rattle.ps_model.specs.OptionSteps.{◌>>=◌, only_if, all_there}
 use Rattle.ps_model.specs.RuleSymbols.{Symbol, Open, Close, Bar, Arrow, Ellipsis, Plus, Late, Token}
@@ -45,8 +45,8 @@ abbrev pub cut_at : (Symbol → Bool) → List Token → List (List Token)
 cut_at kind tokens = slice_split (λ token. kind token.symbol) tokens
 
 -- some word is of that kind
-abbrev pub has : (Symbol → Bool) → List Token → Bool
-has kind tokens = list_any (λ token. kind token.symbol) tokens
+abbrev pub has_kind : (Symbol → Bool) → List Token → Bool
+has_kind kind tokens = list_any (λ token. kind token.symbol) tokens
 
 -- a row as it is written: the words of each cell, and those behind its `]` up to the next row or the side's end
 pub record WrittenRow : Type 0 where
@@ -79,7 +79,7 @@ abbrev pub side_of_parts : List (List Token) → Option WrittenSide
 side_of_parts [] = None
 side_of_parts (ahead ∷ parts) = do
   rows ← all_there (map row_of parts)
-  only_if (not (has is_close ahead)) (record { ahead = ahead; rows = rows })
+  only_if (not (has_kind is_close ahead)) (record { ahead = ahead; rows = rows })
 
 -- the side of the words left or right of `->`
 abbrev pub side_of : List Token → Option WrittenSide
@@ -104,21 +104,22 @@ abbrev pub has_rows : List WrittenRow → Bool
 has_rows [] = false
 has_rows (row ∷ rows) = true
 
--- what stands behind each row of a side
-abbrev pub behind_rows : WrittenSide → List (List Token)
-behind_rows side = map (λ row. row.behind) side.rows
-
 -- what stands behind the last row of a side, or all of it where it has no row: there a right side has its commands
 abbrev pub at_end : WrittenSide → List Token
-at_end side = slice_index_or (reverse (side.ahead ∷ behind_rows side)) 0 []
+at_end side = fold (λ words row. row.behind) side.ahead side.rows
+
+-- what stands outside brackets before rows: these words before the first of them, and those between two
+abbrev pub words_before : List Token → List WrittenRow → List Token
+words_before words [] = []
+words_before words (row ∷ rows) = words ++ words_before row.behind rows
 
 -- what stands outside brackets before the last row of a side
 abbrev pub before_end : WrittenSide → List Token
-before_end side = flat_map (λ words. words) (drop 1 (reverse (side.ahead ∷ behind_rows side)))
+before_end side = words_before side.ahead side.rows
 
 -- the words behind the rows of a side
 abbrev pub words_behind : WrittenSide → List Token
-words_behind side = flat_map (λ words. words) (behind_rows side)
+words_behind side = flat_map (λ row. row.behind) side.rows
 
 -- the cells of a side, whatever their rows
 abbrev pub cells_in : WrittenSide → List (List Token)

@@ -4,8 +4,8 @@ use Rattle.std.specs.Prelude.{nat_eq, nat_lt, Bool, true, false, ◌&&◌, ◌||
 use Rattle.std.specs.List.{list_any}
 use Rattle.ps_model.specs.Limits.{ellipsis_limit}
 use Rattle.ps_model.specs.RuleSymbols.{Symbol, Open, Ellipsis, Plus, Late, Without, Moves, Asks, Called, Token}
-use Rattle.ps_model.specs.RuleShape.{has, is_bar, is_ellipsis, is_late, has_rows, WrittenSide, RuleShape, words_behind, at_end, before_end, cells_in, words_in_cells, paired_rows, paired_cells}
-use Rattle.ps_model.specs.RuleTree.{directions_given}
+use Rattle.ps_model.specs.RuleShape.{has_kind, is_bar, is_ellipsis, is_late, has_rows, WrittenSide, RuleShape, words_behind, at_end, before_end, cells_in, words_in_cells, paired_rows, paired_cells}
+use Rattle.ps_model.specs.RuleTree.{is_direction_word}
 
 -- RU1 ----------------------------------------------------------------------------------------------------------------------
 
@@ -24,7 +24,7 @@ words_outside shape = words_behind shape.left ++ (shape.right.ahead ++ words_beh
 -- RU1: no row on the left; a `|` outside brackets; or a word of a cell outside brackets behind the first `[`
 abbrev pub has_bad_bracket : RuleShape → Bool
 has_bad_bracket shape =
-    not (has_rows shape.left.rows) || (has is_bar (shape.left.ahead ++ words_outside shape) || has is_cell_word (words_outside shape))
+    not (has_rows shape.left.rows) || (has_kind is_bar (shape.left.ahead ++ words_outside shape) || has_kind is_cell_word (words_outside shape))
 
 -- RU2 ----------------------------------------------------------------------------------------------------------------------
 
@@ -37,7 +37,7 @@ are_there (token ∷ tokens) = true
 abbrev pub is_rule_word : Symbol → Bool
 is_rule_word Plus = true
 is_rule_word Late = true
-is_rule_word symbol = nat_lt 0 (length (directions_given symbol))
+is_rule_word symbol = is_direction_word symbol
 
 -- a command
 abbrev pub is_command : Symbol → Bool
@@ -66,17 +66,17 @@ misses_name cell = misses_name_behind Open cell
 
 -- a side has a word in its brackets that can't stand there
 abbrev pub has_wrong_cell : WrittenSide → Bool
-has_wrong_cell side = has (λ symbol. not (is_cell_word symbol)) (words_in_cells side) || list_any misses_name (cells_in side)
+has_wrong_cell side = has_kind (λ symbol. not (is_cell_word symbol)) (words_in_cells side) || list_any misses_name (cells_in side)
 
 -- RU2: a word that means nothing, or stands where it can't: before the rows something else than `+`, `late` and direction words;
 -- behind a row of the left anything; on the right anything before the last row, and something else than commands behind it
 abbrev pub has_unknown_word : RuleShape → Bool
 has_unknown_word shape =
-    has (λ symbol. not (is_rule_word symbol)) shape.left.ahead
+    has_kind (λ symbol. not (is_rule_word symbol)) shape.left.ahead
     || (has_wrong_cell shape.left
     || (are_there (words_behind shape.left)
     || (are_there (before_end shape.right)
-    || (has_wrong_cell shape.right || has (λ symbol. not (is_command symbol)) (at_end shape.right)))))
+    || (has_wrong_cell shape.right || has_kind (λ symbol. not (is_command symbol)) (at_end shape.right)))))
 
 -- RU3 and RU4 --------------------------------------------------------------------------------------------------------------
 
@@ -91,7 +91,7 @@ has_other_rows shape =
 
 -- RU4: the right has neither rows nor commands
 abbrev pub has_nothing_right : RuleShape → Bool
-has_nothing_right shape = not (has_rows shape.right.rows) && not (has is_command (at_end shape.right))
+has_nothing_right shape = not (has_rows shape.right.rows) && not (has_kind is_command (at_end shape.right))
 
 -- RU8 and RU12 -------------------------------------------------------------------------------------------------------------
 
@@ -102,19 +102,19 @@ is_movement other = false
 
 -- RU8: a movement word in the brackets of a `late` rule
 abbrev pub has_late_move : RuleShape → Bool
-has_late_move shape = has is_late shape.left.ahead && has is_movement (words_in_cells shape.left ++ words_in_cells shape.right)
+has_late_move shape = has_kind is_late shape.left.ahead && has_kind is_movement (words_in_cells shape.left ++ words_in_cells shape.right)
 
 -- a cell has `...` with other items
 abbrev pub mixes_ellipsis : List Token → Bool
-mixes_ellipsis cell = has is_ellipsis cell && not (nat_eq (length cell) 1)
+mixes_ellipsis cell = has_kind is_ellipsis cell && not (nat_eq (length cell) 1)
 
 -- a row's first or last cell has `...`
 abbrev pub ends_in_ellipsis : List (List Token) → Bool
-ends_in_ellipsis cells = has is_ellipsis (slice_index_or cells 0 []) || has is_ellipsis (slice_index_or (reverse cells) 0 [])
+ends_in_ellipsis cells = has_kind is_ellipsis (slice_index_or cells 0 []) || has_kind is_ellipsis (slice_index_or (reverse cells) 0 [])
 
 -- a row has more cells with `...` than the limit
 abbrev pub has_many_ellipses : List (List Token) → Bool
-has_many_ellipses cells = nat_lt ellipsis_limit (length (filter (has is_ellipsis) cells))
+has_many_ellipses cells = nat_lt ellipsis_limit (length (filter (has_kind is_ellipsis) cells))
 
 -- a side has `...` with other items in a cell, first or last in a row, or too often in one
 abbrev pub has_wrong_ellipsis : WrittenSide → Bool
@@ -123,7 +123,7 @@ has_wrong_ellipsis side =
 
 -- a cell has `...` on one side alone
 abbrev pub has_lone_ellipsis : List Token × List Token → Bool
-has_lone_ellipsis words = if has is_ellipsis words.0 then not (has is_ellipsis words.1) else has is_ellipsis words.1
+has_lone_ellipsis words = if has_kind is_ellipsis words.0 then not (has_kind is_ellipsis words.1) else has_kind is_ellipsis words.1
 
 -- RU12: an ellipsis where none can stand, or, where the right has rows, not at the same place on both sides
 abbrev pub has_bad_ellipsis : RuleShape → Bool

@@ -1,14 +1,14 @@
 -- The tree of a rule: its cells with what they ask for on the left and what becomes of them on the right, its directions and its
 -- commands.
-use Rattle.std.specs.Prelude.{ℕ, nat_eq, Bool, true, ◌&&◌, Option, Some, None, option_map, List, [], ◌∷◌, ◌++◌, map, filter, fold}
-use Rattle.std.specs.List.{slice_split, list_all, list_any, flat_map}
+use Rattle.std.specs.Prelude.{ℕ, Bool, true, false, ◌&&◌, Option, Some, None, option_map, List, [], ◌∷◌, ◌++◌, map, filter, fold}
+use Rattle.std.specs.List.{slice_split, list_all, list_any}
 use Rattle.ps_model.specs.declared.pieces.Direction.{Direction}
 use Rattle.ps_model.specs.declared.pieces.Direction.TheVariants.{Up, Down, Left, Right}
 use Rattle.ps_model.specs.declared.rules.MovementWord.TheVariants as word
 use Rattle.ps_model.specs.Lines.{Line}
 use Rattle.ps_model.specs.SourceRules.{Item, Is, No, CellPair, Commands, no_commands, SourceRule}
 use Rattle.ps_model.specs.RuleSymbols.{Symbol, Open, Without, Moves, Asks, Called, Cancel, Restart, Again, Checkpoint, Win, Message, Token}
-use Rattle.ps_model.specs.RuleShape.{has, is_ellipsis, is_late, is_plus, has_rows, RuleShape, at_end, paired_rows, paired_cells}
+use Rattle.ps_model.specs.RuleShape.{has_kind, is_ellipsis, is_late, is_plus, has_rows, RuleShape, at_end, paired_rows, paired_cells}
 
 -- items --------------------------------------------------------------------------------------------------------------------
 
@@ -32,7 +32,7 @@ items_of tokens = items_behind Open tokens
 
 -- the cell has `...` and nothing else
 abbrev pub is_gap : List Token × List Token → Bool
-is_gap words = has is_ellipsis words.0 && list_all (λ token. is_ellipsis token.symbol) (words.0 ++ words.1)
+is_gap words = has_kind is_ellipsis words.0 && list_all (λ token. is_ellipsis token.symbol) (words.0 ++ words.1)
 
 -- a cell by its words on the left and on the right
 abbrev pub cell_of : List Token × List Token → CellPair
@@ -48,32 +48,33 @@ rows_of shape = map (λ rows. row_of_cells (paired_cells rows)) (paired_rows sha
 
 -- directions ---------------------------------------------------------------------------------------------------------------
 
--- the directions that a word before the rows gives
-abbrev pub directions_given : Symbol → List Direction
-directions_given (Moves word.Up) = Up ∷ []
-directions_given (Moves word.Down) = Down ∷ []
-directions_given (Moves word.Left) = Left ∷ []
-directions_given (Moves word.Right) = Right ∷ []
-directions_given (Moves word.Horizontal) = Left ∷ Right ∷ []
-directions_given (Moves word.Vertical) = Up ∷ Down ∷ []
-directions_given (Moves word.Orthogonal) = Up ∷ Down ∷ Left ∷ Right ∷ []
-directions_given other = []
+-- the word before the rows gives that direction
+abbrev pub gives : Direction → Symbol → Bool
+gives Up (Moves word.Up) = true
+gives Up (Moves word.Vertical) = true
+gives Up (Moves word.Orthogonal) = true
+gives Down (Moves word.Down) = true
+gives Down (Moves word.Vertical) = true
+gives Down (Moves word.Orthogonal) = true
+gives Left (Moves word.Left) = true
+gives Left (Moves word.Horizontal) = true
+gives Left (Moves word.Orthogonal) = true
+gives Right (Moves word.Right) = true
+gives Right (Moves word.Horizontal) = true
+gives Right (Moves word.Orthogonal) = true
+gives direction other = false
 
--- the place of a direction among the directions
-abbrev pub direction_number : Direction → ℕ
-direction_number Up = 0
-direction_number Down = 1
-direction_number Left = 2
-direction_number Right = 3
+-- the directions in their order
+abbrev pub all_directions : List Direction
+all_directions = Up ∷ Down ∷ Left ∷ Right ∷ []
 
--- some of the words give the direction
-abbrev pub is_given : List Token → Direction → Bool
-is_given tokens direction =
-    list_any (λ given. nat_eq (direction_number given) (direction_number direction)) (flat_map (λ token. directions_given token.symbol) tokens)
+-- the word is a direction word
+abbrev pub is_direction_word : Symbol → Bool
+is_direction_word symbol = list_any (λ direction. gives direction symbol) all_directions
 
--- the directions that the words before the rows give, always in this order
-abbrev pub directions_of_words : List Token → List Direction
-directions_of_words tokens = filter (is_given tokens) (Up ∷ Down ∷ Left ∷ Right ∷ [])
+-- the directions that the words before the rows give, always in that order
+abbrev pub directions_given : List Token → List Direction
+directions_given tokens = filter (λ direction. has_kind (gives direction) tokens) all_directions
 
 -- commands -----------------------------------------------------------------------------------------------------------------
 
@@ -101,9 +102,9 @@ commands_of line tokens = fold (λ commands token. with_command (text_of line) c
 abbrev pub rule_of : Line → RuleShape → SourceRule
 rule_of line shape = record {
     line = line.number;
-    late = has is_late shape.left.ahead;
-    joined = has is_plus shape.left.ahead;
-    directions = directions_of_words shape.left.ahead;
+    late = has_kind is_late shape.left.ahead;
+    joined = has_kind is_plus shape.left.ahead;
+    directions = directions_given shape.left.ahead;
     rows = rows_of shape;
     rewrites = has_rows shape.right.rows;
     commands = commands_of line (at_end shape.right)
