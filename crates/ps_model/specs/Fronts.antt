@@ -7,7 +7,7 @@ use Rattle.ps_model.specs.declared.play.Key.{Key}
 use Rattle.ps_model.specs.Keys.{keys_of}
 use Rattle.ps_model.specs.HeldKeys.{held}
 use Rattle.ps_model.specs.Turns.{Script}
-use Rattle.ps_model.specs.Sessions.{Session, Ended, Step}
+use Rattle.ps_model.specs.Sessions.{Session, Ended, Step, quietly}
 use Rattle.ps_model.specs.KeySteps.{key_step}
 use Rattle.ps_model.specs.Headline.{IsFront}
 use Rattle.ps_model.specs.Outputs.{output, opening_step, ending_of, end_of_keys_line, texts_of_keys, front}
@@ -56,7 +56,11 @@ WrittenByEnding = (script : Script) (bytes : List ℕ) →
 abbrev pub FrontOfOutput : Type 0
 FrontOfOutput = (script : Script) (bytes : List ℕ) (count : ℕ) → IsFront (front script bytes count) (output script bytes).written
 
--- after the end keys change nothing, and write nothing
+-- after the end a key changes nothing, and writes nothing
+abbrev pub EndIsQuiet : Type 0
+EndIsQuiet = (script : Script) (ending : Ending) (key : Key) → key_step script (Ended ending) key ≡ quietly (Ended ending)
+
+-- nor do more keys
 abbrev pub EndStays : Type 0
 EndStays = (script : Script) (ending : Ending) (keys : List Key) →
     (session_after script (Ended ending) keys ≡ Ended ending) × (texts_of_keys script (Ended ending) keys ≡ [])

@@ -3,7 +3,7 @@
 
 ghost use Rattle.ps_model.specs.Stages.{MovesOneByOne, MembersOneByOne, MovesInTwoStages, MembersInTwoStages, ReadByStages, ReadOneInOther, ReadingsCounted};
 ghost use Rattle.ps_model.specs.HeldKeys.{HeldAtEnd, HeldIsBegun, HeldIsSilent, KeysInPieces, ReadPieceByPiece, ReadByteByByte, OneByteMore};
-ghost use Rattle.ps_model.specs.Fronts.{FrontGrows, FrontOfOutput, FrontInPieces, FrontOfMore, OutputOfEnded, OutputOfUnended, OutputOnceEnded, EndStays, EndsOtherwise, WrittenByEnding};
+ghost use Rattle.ps_model.specs.Fronts.{FrontGrows, FrontOfOutput, FrontInPieces, FrontOfMore, OutputOfEnded, OutputOfUnended, OutputOnceEnded, EndIsQuiet, EndStays, EndsOtherwise, WrittenByEnding};
 ghost use Rattle.ps_model.specs.OneGame.{AtMostOneGame, FaultBarsGame, FaultlessIsGame, GameIsFaultless, GameOrFault};
 
 /// The readings of a rule can be made stage by stage, by directions, by moves and by members, each stage splitting all
@@ -50,6 +50,7 @@ pub fn ends_of_output()
     ensures ended { OutputOfEnded }
     ensures unended { OutputOfUnended }
     ensures once_ended { OutputOnceEnded }
+    ensures quiet { EndIsQuiet }
     ensures stays { EndStays }
     ensures otherwise { EndsOtherwise }
     ensures by_ending { WrittenByEnding }
