@@ -6,6 +6,11 @@ pub mod EqualAttempts
 pub mod EqualPlaces
 pub mod EqualPrograms
 mod FaultRows
+pub mod Endings
+pub mod Fronts
+pub mod HeldKeys
+mod HeldRows
+pub mod KeysInPieces
 pub mod GameLaws
 mod GameRows
 mod LevelRows
@@ -16,11 +21,14 @@ mod MovementRows
 mod NameRows
 pub mod NameTexts
 pub mod Neighbours
+pub mod OneGame
 mod OutputRows
 mod SectionRows
 pub mod PassedLoops
 pub mod SettledGroups
 pub mod Slots
+pub mod Stages
+pub mod StagedReadings
 pub mod Steps
 pub mod Winners
 mod WinRows
