@@ -4,12 +4,13 @@ use Rattle.std.specs.Prelude.{codes, option_map, is_some, if◌then◌else◌, �
 use Rattle.std.specs.List.{flat_map}
 use Rattle.std.specs.Str.{chars, is_utf8}
 use Rattle.std.specs.Str.Lossy.{utf8_valid_len}
+use Rattle.std.specs.Fmt.{digits}
 use Rattle.std.proofs.Math.Utf8.{encode}
 use Rattle.ps_model.specs.declared.pieces.ObjectId.{ObjectId}
 use Rattle.ps_model.specs.declared.rules.Quantifier.TheVariants.{All}
 use Rattle.ps_model.specs.declared.faults.Fault.{Fault}
 use Rattle.ps_model.specs.declared.faults.FaultKind.{FaultKind}
-use Rattle.ps_model.specs.declared.faults.FaultKind.TheVariants.{TooLong, NotUtf8, SectionOrder, NoSection, Realtime, UnknownGlyph, NoLevel, BadWin, UnknownWinName}
+use Rattle.ps_model.specs.declared.faults.FaultKind.TheVariants.{TooLong, NotUtf8, SectionOrder, NoSection, Realtime, UnknownGlyph, PropertyGlyph, NoLevel, BadWin, UnknownWinName, UnknownName, NothingRight, TooManyReadings, Impossible}
 use Rattle.ps_model.specs.Limits.{text_limit}
 use Rattle.ps_model.specs.Faults.{first_fault}
 use Rattle.ps_model.specs.TextFaults.{utf8_fault}
@@ -92,13 +93,14 @@ fine : first (text_with (codes "All Target on Crate\n") (codes "#P*O#\n")) ≡ N
 unfolding chars is_utf8 encode utf8_valid_len
 fine = refl
 
+-- the faults of a text that is none for this cause, if there is one
+abbrev faults_behind : Option Fault → List ℕ → List Fault
+faults_behind cause text = elim cause [ Some fault ↦ fault ∷ [] | None ↦ line_faults (lines_of text) ]
+
 -- bytes that are no text have that fault alone; too many bytes are told before wrong ones
 wrong_byte : faults (codes "ti\n" ++ 255 ∷ []) ≡ record { kind = NotUtf8; line = 2 } ∷ []
 unfolding chars is_utf8 encode utf8_valid_len
 wrong_byte = refl
-
-abbrev faults_behind : Option Fault → List ℕ → List Fault
-faults_behind cause text = elim cause [ Some fault ↦ fault ∷ [] | None ↦ line_faults (lines_of text) ]
 
 too_long : (text : List ℕ) → nat_lt text_limit (length text) ≡ true → faults text ≡ record { kind = TooLong; line = 1 } ∷ []
 too_long text long = ap (λ test. faults_behind (elim test [ true ↦ Some (record { kind = TooLong; line = 1 }) | false ↦ utf8_fault text ]) text) long
@@ -121,6 +123,12 @@ hidden : first (base_head ++ codes "RULES (\nWINCONDITIONS\nLEVELS\nP.\n") ≡ a
 unfolding chars is_utf8 encode utf8_valid_len
 hidden = refl
 
+-- a text that is cut off: within the last header, behind it, behind the first character of a level
+cut_off : map (λ end. first (base_head ++ codes "WINCONDITIONS\n" ++ end)) (codes "LEVEL" ∷ codes "LEVELS" ∷ codes "LEVELS\n#" ∷ [])
+    ≡ at_line 30 NoSection ∷ at_line 30 NoLevel ∷ None ∷ []
+unfolding chars is_utf8 encode utf8_valid_len
+cut_off = refl
+
 real_time : first (codes "realtime_interval 1\n" ++ base_text (codes "P")) ≡ at_line 1 Realtime
 unfolding chars is_utf8 encode utf8_valid_len
 real_time = refl
@@ -128,6 +136,10 @@ real_time = refl
 unknown_glyph : first (text_with [] (codes "P?")) ≡ at_line 32 UnknownGlyph
 unfolding chars is_utf8 encode utf8_valid_len
 unknown_glyph = refl
+
+property_glyph : first (codes "OBJECTS\nBackground .\ngreen\nPlayer P\nwhite\nLEGEND\nQ = Player or Background\nCOLLISIONLAYERS\nBackground\nPlayer\nLEVELS\n..\nPQ\n") ≡ at_line 13 PropertyGlyph
+unfolding chars is_utf8 encode utf8_valid_len
+property_glyph = refl
 
 no_level : first (text_with [] []) ≡ at_line 31 NoLevel
 unfolding chars is_utf8 encode utf8_valid_len
@@ -159,3 +171,36 @@ section_first = refl
 repeated_first : first (text_with (codes "No Q\n") (codes "P?\nLEVELS\n")) ≡ at_line 34 SectionOrder
 unfolding chars is_utf8 encode utf8_valid_len
 repeated_first = refl
+
+-- the order of the parts ---------------------------------------------------------------------------------------------------
+
+-- an unknown name on a layer line comes before a rule without a right side
+names_first : first (base_head ++ codes "Q\nRULES\n[ A ] ->\nWINCONDITIONS\nNo Q\nLEVELS\nP?\n") ≡ at_line 29 UnknownName
+unfolding chars digits is_utf8 encode utf8_valid_len
+names_first = refl
+
+-- that before the rows of levels and the win conditions
+rules_second : first (base_game (codes "[ A ] ->\n") (codes "No Q\n") (codes "P?")) ≡ at_line 30 NothingRight
+unfolding chars digits is_utf8 encode utf8_valid_len
+rules_second = refl
+
+-- a rule of which every reading is impossible comes behind them all
+abbrev impossible_rule : List ℕ
+impossible_rule = codes "[ Player Wall ] -> [ Player ]\n"
+
+levels_third : first (base_game impossible_rule (codes "No Q\n") (codes "P?")) ≡ at_line 34 UnknownGlyph
+unfolding chars digits is_utf8 encode utf8_valid_len
+levels_third = refl
+
+wins_fourth : first (base_game impossible_rule (codes "No Q\n") (codes "P")) ≡ at_line 32 UnknownWinName
+unfolding chars digits is_utf8 encode utf8_valid_len
+wins_fourth = refl
+
+impossible_last : first (base_game impossible_rule (codes "No A\n") (codes "P")) ≡ at_line 30 Impossible
+unfolding chars digits is_utf8 encode utf8_valid_len
+impossible_last = refl
+
+-- too many readings of a rule come before that, also in a line below it
+readings_before : first (base_game (impossible_rule ++ codes "right [ AT | AT | AT | AT | AT | AT | AT | AT | AT | AT | AT | AT | AT ] -> cancel\n") [] (codes "P")) ≡ at_line 31 TooManyReadings
+unfolding chars digits is_utf8 encode utf8_valid_len
+readings_before = refl

@@ -19,16 +19,16 @@ use Rattle.ps_model.specs.LevelFaults.{entries_faults, level_faults}
 abbrev object : ℕ → ObjectId
 object number = record { 0 = number }
 
--- the names of OBJECTS `Background .`, `Player P`, `Crate *`, `Target O`, `Rock` with the glyph e acute, and LEGEND
--- `@ = Crate and Target`, `Q = Player or Crate`, `# = Crate`, `% = Q`
+-- the names of OBJECTS `Background .`, `Player P`, `Crate *`, `Target O`, `Grass` with the glyph e acute, and LEGEND
+-- `@ = Crate and Target`, `Q = Player or Crate`, `# = Crate`, `% = Q`; the grass lies on the layer of Background
 abbrev names : Names
 names = record {
   entries =
     (codes "background", One (object 0)) ∷ (codes ".", One (object 0)) ∷ (codes "player", One (object 1)) ∷ (codes "p", One (object 1))
     ∷ (codes "crate", One (object 2)) ∷ (codes "*", One (object 2)) ∷ (codes "target", One (object 3)) ∷ (codes "o", One (object 3))
-    ∷ (codes "rock", One (object 4)) ∷ (195 ∷ 169 ∷ [], One (object 4)) ∷ (codes "@", AllOf 12 (object 2 ∷ object 3 ∷ []))
+    ∷ (codes "grass", One (object 4)) ∷ (195 ∷ 169 ∷ [], One (object 4)) ∷ (codes "@", AllOf 12 (object 2 ∷ object 3 ∷ []))
     ∷ (codes "q", AnyOf 13 (object 1 ∷ object 2 ∷ [])) ∷ (codes "#", One (object 2)) ∷ (codes "%", AnyOf 13 (object 1 ∷ object 2 ∷ [])) ∷ [];
-  layers = 0 ∷ 2 ∷ 2 ∷ 1 ∷ 2 ∷ [];
+  layers = 0 ∷ 2 ∷ 2 ∷ 1 ∷ 0 ∷ [];
   layer_count = 3;
   glyphs = []
 }
@@ -71,9 +71,14 @@ unfolding chars encode
 filled = refl
 
 -- a character of several bytes is one cell
-wide_character : entries (195 ∷ 169 ∷ codes ".\n.") ≡ level 2 2 ((4 ∷ 0 ∷ []) ∷ (0 ∷ []) ∷ (0 ∷ []) ∷ (0 ∷ []) ∷ []) ∷ []
+wide_character : entries (195 ∷ 169 ∷ codes ".\n.") ≡ level 2 2 ((4 ∷ []) ∷ (0 ∷ []) ∷ (0 ∷ []) ∷ (0 ∷ []) ∷ []) ∷ []
 unfolding chars encode
 wide_character = refl
+
+-- whatever object of the background layer is met first is the ground of cells without one, a Background or not
+grass_as_ground : entries (195 ∷ 169 ∷ codes "P.") ≡ level 3 1 ((4 ∷ []) ∷ (1 ∷ 4 ∷ []) ∷ (0 ∷ []) ∷ []) ∷ []
+unfolding chars encode
+grass_as_ground = refl
 
 -- the ground of a cell is the first object of the background layer that is met, column by column
 abbrev two_grounds : Names

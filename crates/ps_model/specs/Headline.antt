@@ -49,10 +49,10 @@ pub record EndsAsMeant (script : Script) (told : Told) (ending : Ending) : Type 
   pub ending_is : (output script told.all).ending ≡ ending
   pub wrote : told.wrote ≡ (output script told.all).written
 
--- the text was refused: it has that fault, and nothing was read or written
+-- the text was refused: it has that fault, and no key was asked for and nothing written
 pub record RefusesRightly (text : List ℕ) (told : Told) (fault : Fault) : Type 0 where
   pub has_fault : IsFaultOf text fault
-  pub read_nothing : told.read ≡ []
+  pub asked_nothing : told.calls ≡ 0
   pub wrote_nothing : told.wrote ≡ []
 
 -- memory was refused in play: what was written is the opening and the texts of so many keys, whole, and not fewer than were read
@@ -62,10 +62,10 @@ pub record StopsForMemory (script : Script) (told : Told) : Type 0 where
   pub enough : length (keys_of (read_before told)) ≤ keys
   pub wrote : told.wrote ≡ front script told.read keys
 
--- memory was refused before any key was read and anything was written; or in play
+-- memory was refused before keys were asked for and anything was written; or in play
 abbrev pub WantsMemoryRightly : List ℕ → Told → Type 0
 WantsMemoryRightly text told =
-    ((told.read ≡ []) × (told.wrote ≡ [])) ⊎ ((script : Script) × (script_of_text text ≡ Some script) × StopsForMemory script told)
+    ((told.calls ≡ 0) × (told.wrote ≡ [])) ⊎ ((script : Script) × (script_of_text text ≡ Some script) × StopsForMemory script told)
 
 -- keys couldn't be read: the reader failed, or gave as many times as it may; the texts of all keys read are written
 pub record CannotReadRightly (script : Script) (told : Told) : Type 0 where
@@ -77,7 +77,7 @@ pub record CannotReadRightly (script : Script) (told : Told) : Type 0 where
 pub record CannotWriteRightly (script : Script) (told : Told) : Type 0 where
   pub cause : told.writer_failed ≡ true
   pub wrote : IsFront told.wrote (output script told.read).written
-  pub whole_before : (told.read ≡ []) ⊎ IsFront (front script (read_before told) (length (keys_of (read_before told)))) told.wrote
+  pub whole_before : (told.calls ≡ 0) ⊎ IsFront (front script (read_before told) (length (keys_of (read_before told)))) told.wrote
 
 -- what a run may answer
 abbrev pub Answers : List ℕ → Told → Answer → Type 0

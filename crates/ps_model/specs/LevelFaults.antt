@@ -27,39 +27,39 @@ is_property (Some (One object)) = false
 is_property (Some (AllOf line objects)) = false
 is_property (Some (AnyOf line objects)) = true
 
--- a glyph that is a property, LV2: which of its objects is meant?
+-- a glyph that is a property, LV2: it doesn't say which of its objects stands there
 abbrev pub is_property_glyph : Names → ℕ → Bool
 is_property_glyph names character = is_property (character_meaning names character)
 
--- a row, by its place among the rows of its level, at which the level is too large, LV3: the first row where it is too long,
--- and the first row over the limit
+-- a level too large, LV3, at a row by its place in the level: at the first row where that is too long, and at the first row over
+-- the limit
 abbrev pub is_too_large : ℕ → ℕ → Bool
 is_too_large width place = (nat_eq place 0 && nat_lt side_limit width) || nat_eq place side_limit
 
--- the faults of a row, by its place in a level of that width; characters past the width aren't looked at
+-- the faults of a row at a place in a level of that width; characters past the width aren't looked at
 abbrev pub row_faults : Names → ℕ → ℕ → Line → List Fault
 row_faults names width place row =
     let characters : List ℕ = take width (characters_of row) in
     when (list_any (is_unknown_glyph names) characters) UnknownGlyph row.number
     ++ (when (list_any (is_property_glyph names) characters) PropertyGlyph row.number ++ when (is_too_large width place) TooLarge row.number)
 
--- the faults of rows of a level of that width, the first of which has that place
+-- the faults of rows in a level of that width, the first of them at that place
 abbrev pub rows_faults : Names → ℕ → ℕ → List Line → List Fault
 rows_faults names width place [] = []
 rows_faults names width place (row ∷ below) = row_faults names width place row ++ rows_faults names width (suc place) below
 
--- the first entry over the limit, LV5, by its place among the entries and its first line
+-- too many entries, LV5: the first over the limit, by its place among the entries, at its first line
 abbrev pub too_many : ℕ → Line → List Fault
 too_many place first = when (nat_eq place entry_limit) TooManyEntries first.number
 
--- the faults of an entry, by its place among the entries
+-- the faults of an entry at a place among the entries
 abbrev pub entry_faults : Names → ℕ → EntryLines → List Fault
 entry_faults names place (MessageLine line) = too_many place line
 entry_faults names place (LevelRows first below) =
     let width : ℕ = length (characters_of first) in
     row_faults names width 0 first ++ (too_many place first ++ rows_faults names width 1 below)
 
--- the faults of entries, the first of which has that place
+-- the faults of entries, the first of them at that place
 abbrev pub entries_faults : Names → ℕ → List EntryLines → List Fault
 entries_faults names place [] = []
 entries_faults names place (entry ∷ others) = entry_faults names place entry ++ entries_faults names (suc place) others
@@ -69,7 +69,7 @@ abbrev pub is_level : EntryLines → Bool
 is_level (MessageLine line) = false
 is_level (LevelRows first below) = true
 
--- the faults of LEVELS, whose header has that number: line by line; then LV4 at the header, where there is no level
+-- the faults of LEVELS, whose header has that number: line by line; then that there is no level, LV4, at the header
 abbrev pub level_faults : Names → ℕ → List Line → List Fault
 level_faults names header lines =
     let entries : List EntryLines = entry_lines lines in

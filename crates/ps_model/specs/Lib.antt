@@ -30,6 +30,7 @@ pub mod RuleFaults
 pub mod Directions
 pub mod Occurrences
 pub mod Readings
+pub mod Stages
 pub mod RuleMeanings
 pub mod Wanted
 pub mod Fitting
@@ -38,6 +39,9 @@ pub mod ReadingMeanings
 pub mod Places
 pub mod Attempts
 pub mod Programs
+pub mod GameGrids
+pub mod EqualMeanings
+pub mod Settling
 pub mod RulePrograms
 pub mod Compiled
 pub mod ReadingFaults
@@ -51,8 +55,10 @@ pub mod LevelLines
 pub mod LevelFaults
 pub mod WinLines
 pub mod Games
+pub mod OneGame
 pub mod Frames
 pub mod Keys
+pub mod HeldKeys
 pub mod Inputs
 pub mod Winning
 pub mod Turns
@@ -60,4 +66,8 @@ pub mod Sessions
 pub mod StartSteps
 pub mod KeySteps
 pub mod Outputs
+pub mod Fronts
 pub mod ThinOutput
+pub mod GameRules
+pub mod KeptGrids
+pub mod Headline

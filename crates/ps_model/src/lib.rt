@@ -5,6 +5,10 @@
 #![tactic(auto)]
 
 mod faults;
+mod held;
+mod laws_of_grids;
+mod laws_of_rules;
+mod laws_of_runs;
 mod memory;
 mod pieces;
 mod play;
@@ -12,6 +16,18 @@ mod rules;
 mod texts;
 
 pub use faults::{Fault, FaultKind};
+pub use held::Held;
+pub use laws_of_grids::{
+    attempts_keep_grids, game_turns_keep_grids, groups_keep_grids, inputs_keep_grids,
+    loops_keep_grids, passes_keep_grids, programs_keep_grids, readings_are_of_games,
+    rest_keeps_grids, rounds_keep_grids, rule_cells_keep_cells, rule_programs_keep_cells,
+    rules_keep_cells, runs_keep_grids, sections_keep_grids, settling_keeps_grids,
+    slides_keep_grids, turns_keep_grids,
+};
+pub use laws_of_rules::{equal_meanings, settling};
+pub use laws_of_runs::{
+    ends_of_output, fronts_of_output, held_bytes, keys_in_pieces, one_game, readings_by_stages,
+};
 pub use memory::Memory;
 pub use pieces::{Direction, LayerId, Motion, ObjectId, Slot};
 pub use play::{Ending, Input, Key};
