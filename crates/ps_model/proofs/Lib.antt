@@ -54,3 +54,10 @@ mod RoundRows
 mod PropertyRows
 mod CommandRows
 mod RefusedRows
+mod PlayedGames1Rows
+mod PlayedGames2Rows
+mod PlayedGames3Rows
+mod RefusedGames1Rows
+mod RefusedGames2Rows
+mod RefusedGames3Rows
+mod RefusedGames4Rows
