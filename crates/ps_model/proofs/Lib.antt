@@ -8,6 +8,7 @@ mod MovementRows
 mod NameRows
 pub mod NameTexts
 pub mod Neighbours
+mod ObjectRows
 mod OutputRows
 pub mod Slots
 pub mod Winners

@@ -1,7 +1,7 @@
 -- What the names of LEGEND stand for. A legend line may name what any other legend line declares, above it or below. A synonym
 -- stands for what its name stands for: a synonym of a property or of an aggregate is one and the same as that. Properties of
 -- properties and aggregates of aggregates are flattened: their objects are listed once each, where they are first mentioned.
-use Rattle.std.specs.Prelude.{ℕ, zero, suc, ◌+◌, nat_eq, Bool, true, false, Option, None, Some, is_some, option_and_then, List, [], ◌∷◌, ◌++◌, length, map, filter_map, sum_by, slice_get}
+use Rattle.std.specs.Prelude.{ℕ, zero, suc, ◌+◌, nat_eq, Bool, true, false, Option, None, Some, is_some, option_and_then, List, [], ◌∷◌, ◌++◌, length, map, filter_map, sum_by, slice_get, slice_index_or}
 use Rattle.std.specs.List.{list_any, list_all, enumerate_from}
 use Rattle.std.specs.Str.{bytes_eq}
 use Rattle.std.specs.Map.{lookup}
@@ -117,9 +117,14 @@ meaning_behind legend zero (OfLine place) = None
 meaning_behind legend (suc most) (OfLine place) =
     option_and_then (λ name. meaning_by (meaning_behind legend most) legend name.joiner name) (slice_get legend place)
 
--- what a mention stands for
-abbrev pub meaning_of_mention : List LegendName → Mention → Option Meaning
-meaning_of_mention legend mention = meaning_behind legend (length legend) mention
+-- what each name of the legend stands for
+abbrev pub legend_meanings : List LegendName → List (Option Meaning)
+legend_meanings legend = map (λ numbered. meaning_behind legend (length legend) (OfLine numbered.0)) (enumerate_from 0 legend)
+
+-- what a mention stands for, where the names of the legend stand for these
+abbrev pub meaning_of_mention : List (Option Meaning) → Mention → Option Meaning
+meaning_of_mention meanings (OfObject object) = Some (One object)
+meaning_of_mention meanings (OfLine place) = slice_index_or meanings place None
 
 -- it is an aggregate
 abbrev pub is_aggregate : Option Meaning → Bool
