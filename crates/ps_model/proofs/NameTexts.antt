@@ -1,6 +1,6 @@
 -- The names of whole texts, and small texts of which one section is given, for worked rows.
 use Rattle.std.proofs.Common.{ℕ, List, [], ◌∷◌, ◌++◌, Option, map}
-use Rattle.std.specs.Prelude.{codes, ◌&&◌, nat_eq, not, option_map, unwrap_or, filter, find}
+use Rattle.std.specs.Prelude.{codes, ◌+◌, ◌/◌, ◌%◌, ◌&&◌, nat_eq, not, option_map, unwrap_or, filter, find}
 use Rattle.ps_model.specs.declared.pieces.ObjectId.{ObjectId}
 use Rattle.ps_model.specs.declared.texts.Section.{Section}
 use Rattle.ps_model.specs.declared.texts.Section.TheVariants.{Objects, Legend, Layers}
@@ -51,7 +51,7 @@ with_objects objects layers = codes "OBJECTS\nBackground .\nx\nPlayer\nx\n" ++ (
 
 -- five objects, in 11 lines
 abbrev pub five_objects : List ℕ
-five_objects = codes "OBJECTS\nBackground\nx\nPlayer p\nx\nA\nx\nB b\nx\nC\nx\n"
+five_objects = codes "OBJECTS\nBackground\nx\nPlayer\nx\nA\nx\nB #\nx\nC\nx\n"
 
 -- a text with five objects, each on a layer of its own, and with these lines of LEGEND, from line 13 on
 abbrev pub with_legend : List ℕ → List ℕ
@@ -64,3 +64,7 @@ with_layers layers = five_objects ++ (codes "COLLISIONLAYERS\n" ++ layers)
 -- the same with one line of LEGEND, line 13; the lines of COLLISIONLAYERS are those from line 15 on
 abbrev pub with_both : List ℕ → List ℕ → List ℕ
 with_both legend layers = five_objects ++ (codes "LEGEND\n" ++ (legend ++ (codes "\nCOLLISIONLAYERS\n" ++ layers)))
+
+-- a number below 100 as a name
+abbrev pub two_digits : ℕ → List ℕ
+two_digits number = (48 + number / 10) ∷ (48 + number % 10) ∷ []

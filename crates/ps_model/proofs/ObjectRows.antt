@@ -1,13 +1,13 @@
 -- Texts with objects, good and bad, worked by hand.
 use Rattle.std.proofs.Common.{◌≡◌, ℕ, List, [], ◌∷◌, ◌++◌, map, refl, Option, Some, None}
-use Rattle.std.specs.Prelude.{codes, flat_map, ◌+◌, ◌/◌, ◌%◌}
+use Rattle.std.specs.Prelude.{codes, flat_map}
 use Rattle.std.specs.List.{range_with_len}
 use Rattle.std.specs.Str.{chars}
 use Rattle.ps_model.specs.declared.faults.Fault.{Fault}
 use Rattle.ps_model.specs.declared.faults.FaultKind.{FaultKind}
 use Rattle.ps_model.specs.declared.faults.FaultKind.TheVariants.{BadObject, Twice, TooManyNames}
 use Rattle.ps_model.specs.Names.{One}
-use Rattle.ps_model.proofs.NameTexts.{names_of_text, first_name_fault, with_objects, meanings_in, object}
+use Rattle.ps_model.proofs.NameTexts.{names_of_text, first_name_fault, with_objects, meanings_in, object, two_digits}
 
 -- a fault of that kind at a line
 abbrev at : FaultKind → ℕ → Option Fault
@@ -118,16 +118,12 @@ line_by_line = refl
 
 -- NA14 ------------------------------------------------------------------------------------------------------------------
 
--- a name of two digits
-abbrev named : ℕ → List ℕ
-named number = (48 + number / 10) ∷ (48 + number % 10) ∷ []
-
 -- objects with the names 01, 02 and so on, and these names on a layer
 abbrev named_by_numbers : ℕ → List ℕ
-named_by_numbers count = flat_map (λ number. named number ++ codes "\nx\n") (range_with_len 1 count)
+named_by_numbers count = flat_map (λ number. two_digits number ++ codes "\nx\n") (range_with_len 1 count)
 
 abbrev numbers_on_layer : ℕ → List ℕ
-numbers_on_layer count = flat_map (λ number. named number ++ codes " ") (range_with_len 1 count)
+numbers_on_layer count = flat_map (λ number. two_digits number ++ codes " ") (range_with_len 1 count)
 
 abbrev many_objects : ℕ → List ℕ
 many_objects count = with_objects (named_by_numbers count) (numbers_on_layer count)
