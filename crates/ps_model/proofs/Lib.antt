@@ -2,6 +2,7 @@ pub mod BaseText
 mod CommentRows
 pub mod Counts
 mod FaultRows
+mod LayerRows
 mod LegendRows
 pub mod LineLaws
 mod LineRows
