@@ -1,5 +1,5 @@
 -- Texts with layers, good and bad, and what is wrong with the names as a whole, worked by hand. The lines of COLLISIONLAYERS are
--- those from line 13 on, or from line 15 on where line 13 is one of LEGEND.
+-- those from line 13 on, or from line 15 on where there is a LEGEND of one line, from line 16 on where it has two.
 use Rattle.std.proofs.Common.{◌≡◌, ℕ, List, [], ◌∷◌, ◌++◌, map, refl, Option, Some, None}
 use Rattle.std.specs.Prelude.{codes, flat_map}
 use Rattle.std.specs.List.{range_with_len}
@@ -18,7 +18,7 @@ at kind line = Some (record { kind = kind; line = line })
 abbrev fault : List ℕ → Option Fault
 fault layers = first_name_fault (with_layers layers)
 
--- the first fault of a text with a line of LEGEND and these lines of COLLISIONLAYERS
+-- the first fault of a text with these lines of LEGEND and of COLLISIONLAYERS
 abbrev fault_with : List ℕ → List ℕ → Option Fault
 fault_with legend layers = first_name_fault (with_both legend layers)
 

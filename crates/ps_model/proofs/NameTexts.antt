@@ -1,6 +1,6 @@
 -- The names of whole texts, and small texts of which one section is given, for worked rows.
 use Rattle.std.proofs.Common.{ℕ, List, [], ◌∷◌, ◌++◌, Option, map}
-use Rattle.std.specs.Prelude.{codes, ◌+◌, ◌/◌, ◌%◌, ◌&&◌, nat_eq, not, option_map, unwrap_or, filter, find}
+use Rattle.std.specs.Prelude.{codes, ◌+◌, ◌/◌, ◌%◌, ◌&&◌, not, option_map, unwrap_or, filter, find}
 use Rattle.ps_model.specs.declared.pieces.ObjectId.{ObjectId}
 use Rattle.ps_model.specs.declared.texts.Section.{Section}
 use Rattle.ps_model.specs.declared.texts.Section.TheVariants.{Objects, Legend, Layers}
@@ -61,7 +61,7 @@ with_legend legend = five_objects ++ (codes "LEGEND\n" ++ (legend ++ codes "\nCO
 abbrev pub with_layers : List ℕ → List ℕ
 with_layers layers = five_objects ++ (codes "COLLISIONLAYERS\n" ++ layers)
 
--- the same with one line of LEGEND, line 13; the lines of COLLISIONLAYERS are those from line 15 on
+-- a text with five objects, these lines of LEGEND, from line 13 on, and these of COLLISIONLAYERS
 abbrev pub with_both : List ℕ → List ℕ → List ℕ
 with_both legend layers = five_objects ++ (codes "LEGEND\n" ++ (legend ++ (codes "\nCOLLISIONLAYERS\n" ++ layers)))
 

@@ -1,6 +1,6 @@
 -- The faults of the lines of OBJECTS, LEGEND and COLLISIONLAYERS, line by line: of OBJECTS, of LEGEND by the form of its lines,
 -- of LEGEND again by what they name, and of COLLISIONLAYERS. Within a line they stand in the order of their codes.
-use Rattle.std.specs.Prelude.{ℕ, suc, ◌==◌, Bool, true, false, ◌||◌, not, Option, List, [], ◌∷◌, ◌++◌, length, map, flat_map, option_to_list}
+use Rattle.std.specs.Prelude.{ℕ, suc, ◌==◌, Bool, false, ◌||◌, not, Option, List, [], ◌∷◌, ◌++◌, length, map, flat_map, option_to_list}
 use Rattle.std.specs.Option.{is_none}
 use Rattle.std.specs.List.{list_any, enumerate_from}
 use Rattle.std.specs.Str.{bytes_eq}

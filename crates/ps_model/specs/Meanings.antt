@@ -12,7 +12,7 @@ use Rattle.ps_model.specs.Lines.{folded}
 use Rattle.ps_model.specs.Names.{Meaning, One, AllOf, AnyOf, same_object}
 use Rattle.ps_model.specs.LegendLines.{Declaration}
 
--- a name on the right of a legend line is that of an object, or one that a legend line declares, by the line's place among those
+-- a name on the right of a legend line is that of an object, or that of a legend line, by its place among those that declare
 pub data Mention : Type 0 where
   OfObject : ObjectId → Mention
   OfLine : ℕ → Mention
@@ -23,7 +23,7 @@ pub record LegendName : Type 0 where
   pub line : ℕ
   -- the name, as it is written
   pub name : List ℕ
-  -- how the names on the right are joined, and what they are names of, without those that nothing declares
+  -- how the names on the right are joined, and whose names they are, without those that nothing declares
   pub joiner : Joiner
   pub mentions : List Mention
   -- something declares each name on the right
@@ -72,21 +72,22 @@ abbrev pub mentions_of : List LegendName → Mention → List Mention
 mentions_of legend (OfObject object) = []
 mentions_of legend (OfLine place) = mentions_of_name (slice_get legend place)
 
--- a list of mentions with others added, so many at most, and with all that these mention: each once, where it is first
--- mentioned, what a name mentions right behind the name
+-- a list to which mentions are added, in so many steps at most: one that the list has already is passed over; another is put at
+-- its end, and then what the mention's own line mentions is added before the others
 abbrev pub with_mentioned : List LegendName → ℕ → List Mention → List Mention → List Mention
-with_mentioned legend most before [] = before
-with_mentioned legend zero before (mention ∷ others) = before
-with_mentioned legend (suc most) before (mention ∷ others) = elim (list_any (same_mention mention) before) [
-  | true ↦ with_mentioned legend most before others
-  | false ↦ with_mentioned legend most (before ++ mention ∷ []) (mentions_of legend mention ++ others)
+with_mentioned legend steps listed [] = listed
+with_mentioned legend zero listed (mention ∷ others) = listed
+with_mentioned legend (suc steps) listed (mention ∷ others) = elim (list_any (same_mention mention) listed) [
+  | true ↦ with_mentioned legend steps listed others
+  | false ↦ with_mentioned legend steps (listed ++ mention ∷ []) (mentions_of legend mention ++ others)
 ]
 
 -- how many mentions the legend has
 abbrev pub mention_count : List LegendName → ℕ
 mention_count legend = sum_by (λ name. length name.mentions) legend
 
--- all that these mention, themselves among it; no mention of the legend need be followed twice
+-- these mentions and all that they mention through legend lines, each once, where it is first mentioned; as the mentions of a
+-- line are added once at most, the steps are enough
 abbrev pub all_mentioned : List LegendName → List Mention → List Mention
 all_mentioned legend mentions = with_mentioned legend (length mentions + mention_count legend) [] mentions
 

@@ -1,6 +1,6 @@
 -- The faults of the names of a text, in the order in which they are told: the lines of OBJECTS, LEGEND and COLLISIONLAYERS, one
 -- by one; then what is wrong with the whole, kind by kind, and each kind by its lines.
-use Rattle.std.specs.Prelude.{ℕ, nat_eq, Bool, true, false, ◌||◌, not, Option, List, [], ◌∷◌, ◌++◌, map, flat_map, filter, zip, slice_index_or, codes}
+use Rattle.std.specs.Prelude.{ℕ, nat_eq, Bool, false, ◌||◌, not, Option, List, [], ◌∷◌, ◌++◌, map, flat_map, filter, zip, slice_index_or, codes}
 use Rattle.std.specs.Option.{is_none}
 use Rattle.std.specs.List.{list_any, list_all}
 use Rattle.std.specs.Str.{bytes_eq}
@@ -26,7 +26,7 @@ no_layer_faults sections = flat_map (λ each. when (is_none each.1) NoLayer each
 abbrev pub meaning_named : NameSections → List ℕ → Option Meaning
 meaning_named sections name = lookup (bytes_eq name) (entries_of sections.declared)
 
--- a name that must be declared isn't: NA10, NA11
+-- Background isn't declared, NA10, or Player isn't, NA11: at the header OBJECTS
 abbrev pub missing_faults : ℕ → NameSections → List Fault
 missing_faults header sections =
     when (is_none (meaning_named sections (codes "background"))) NoBackground header ++ when (is_none (meaning_named sections (codes "player"))) NoPlayer header
@@ -53,14 +53,17 @@ repeat (number ∷ others) = list_any (nat_eq number) others || repeat others
 abbrev pub is_bad_background : List ℕ → Option Meaning → Bool
 is_bad_background layers meaning = is_aggregate meaning || differ (layers_among layers (members_if meaning))
 
--- a bad Background or Player, at the line that declares the name; a bad Player, NA13, is an aggregate
+-- it is told at the line that declares the name; that line is one of LEGEND, as an object is a good one
 abbrev pub background_faults : NameSections → List ℕ → List Fault
 background_faults sections layers =
     let bad : Bool = is_bad_background layers (meaning_named sections (codes "background")) in
     flat_map (λ line. when bad BadBackground line) (lines_declaring sections (codes "background"))
 
+-- a bad Player, NA13, an aggregate, at the line that declares the name
 abbrev pub player_faults : NameSections → List Fault
-player_faults sections = let bad : Bool = is_aggregate (meaning_named sections (codes "player")) in flat_map (λ line. when bad BadPlayer line) (lines_declaring sections (codes "player"))
+player_faults sections =
+    let bad : Bool = is_aggregate (meaning_named sections (codes "player")) in
+    flat_map (λ line. when bad BadPlayer line) (lines_declaring sections (codes "player"))
 
 -- a line that declares an aggregate with two objects of one layer, NA15
 abbrev pub shares_layer : List ℕ → Joiner → Option Meaning → Bool
@@ -69,7 +72,8 @@ shares_layer layers And meaning = repeat (layers_among layers (members_if meanin
 shares_layer layers Or meaning = false
 
 abbrev pub shared_layer_faults : NameSections → List ℕ → List Fault
-shared_layer_faults sections layers = flat_map (λ each. when (shares_layer layers each.0.joiner each.1) SameLayerAggregate each.0.line) (zip sections.legend sections.meanings)
+shared_layer_faults sections layers =
+    flat_map (λ each. when (shares_layer layers each.0.joiner each.1) SameLayerAggregate each.0.line) (zip sections.legend sections.meanings)
 
 -- what is wrong with the whole
 abbrev pub whole_faults : ℕ → NameSections → List Fault
