@@ -15,6 +15,8 @@ pub mod GameLaws
 mod GameRows
 mod LevelRows
 pub mod GameCells
+mod LayerRows
+mod LegendRows
 pub mod LineLaws
 mod LineRows
 mod MovementRows
@@ -22,6 +24,7 @@ mod NameRows
 pub mod NameTexts
 pub mod Neighbours
 pub mod OneGame
+mod ObjectRows
 mod OutputRows
 mod SectionRows
 pub mod PassedLoops

@@ -1,10 +1,11 @@
 -- The lines of LEGEND. `X = Y` makes X another name for Y, a synonym; `X = A and B` makes it an aggregate, all of the names that
 -- `and` joins; `X = A or B` a property, any of the names that `or` joins. Key words may be names.
-use Rattle.std.specs.Prelude.{ℕ, Bool, true, false, ◌&&◌, Option, None, Some, is_some, option_map, option_and_then, List, [], ◌∷◌, if◌then◌else◌, codes, filter_map}
+use Rattle.std.specs.Prelude.{ℕ, Bool, ◌&&◌, Option, None, Some, option_map, List, [], ◌∷◌, if◌then◌else◌, drop, codes, filter_map}
 use Rattle.std.specs.List.{list_any}
 use Rattle.std.specs.Str.{bytes_eq}
 use Rattle.ps_model.specs.declared.texts.Joiner.{Joiner}
 use Rattle.ps_model.specs.declared.texts.Joiner.TheVariants.{Alone, And, Or}
+use Rattle.ps_model.specs.OptionSteps.{◌>>=◌}
 use Rattle.ps_model.specs.Lines.{folded}
 use Rattle.ps_model.specs.WrittenLines.{WrittenLine}
 
@@ -24,7 +25,7 @@ pub record Declaration : Type 0 where
 abbrev pub is_key_word : List ℕ → List ℕ → Bool
 is_key_word key word = bytes_eq (folded word) key
 
--- the names of a list of words that begins and ends with a name and has the key word between any two names
+-- the names of a list of words that begins and ends with a name, and has the key word between each name and the next
 abbrev pub joined_by : List ℕ → List (List ℕ) → Option (List (List ℕ))
 joined_by key [] = None
 joined_by key (name ∷ []) = Some (name ∷ [])
@@ -47,15 +48,12 @@ name_declared [] = None
 name_declared (name ∷ []) = None
 name_declared (name ∷ second ∷ right) = if bytes_eq second (codes "=") then Some name else None
 
--- the words behind the first two
-abbrev pub words_of_right : List (List ℕ) → List (List ℕ)
-words_of_right [] = []
-words_of_right (name ∷ []) = []
-words_of_right (name ∷ second ∷ right) = right
-
 -- what a line declares; a line of another form declares nothing
 abbrev pub declared_by : WrittenLine → Option Declaration
-declared_by line = option_and_then (λ name. option_map (λ right. record { line = line.number; name = name; right = right }) (right_side (words_of_right line.words))) (name_declared line.words)
+declared_by line = do
+  name ← name_declared line.words
+  right ← right_side (drop 2 line.words)
+  Some (record { line = line.number; name = name; right = right })
 
 -- what the lines of LEGEND declare
 abbrev pub declarations : List WrittenLine → List Declaration

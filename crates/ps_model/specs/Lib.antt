@@ -16,6 +16,7 @@ pub mod LegendLines
 pub mod Meanings
 pub mod LayerLines
 pub mod NamesRead
+pub mod DeclarationFaults
 pub mod NameFaults
 pub mod ThinNames
 pub mod NamesFacts

@@ -1,7 +1,7 @@
 -- What the names of LEGEND stand for. A legend line may name what any other legend line declares, above it or below. A synonym
 -- stands for what its name stands for: a synonym of a property or of an aggregate is one and the same as that. Properties of
 -- properties and aggregates of aggregates are flattened: their objects are listed once each, where they are first mentioned.
-use Rattle.std.specs.Prelude.{ℕ, zero, suc, ◌+◌, nat_eq, Bool, true, false, Option, None, Some, is_some, option_and_then, List, [], ◌∷◌, ◌++◌, length, map, filter_map, sum_by, slice_get}
+use Rattle.std.specs.Prelude.{ℕ, zero, suc, ◌+◌, nat_eq, Bool, true, false, Option, None, Some, is_some, option_and_then, List, [], ◌∷◌, ◌++◌, length, map, filter_map, sum_by, slice_get, slice_index_or}
 use Rattle.std.specs.List.{list_any, list_all, enumerate_from}
 use Rattle.std.specs.Str.{bytes_eq}
 use Rattle.std.specs.Map.{lookup}
@@ -12,7 +12,7 @@ use Rattle.ps_model.specs.Lines.{folded}
 use Rattle.ps_model.specs.Names.{Meaning, One, AllOf, AnyOf, same_object}
 use Rattle.ps_model.specs.LegendLines.{Declaration}
 
--- a name on the right of a legend line is that of an object, or one that a legend line declares, by the line's place among those
+-- a name on the right of a legend line is that of an object, or that of a legend line, by its place among those that declare
 pub data Mention : Type 0 where
   OfObject : ObjectId → Mention
   OfLine : ℕ → Mention
@@ -23,7 +23,7 @@ pub record LegendName : Type 0 where
   pub line : ℕ
   -- the name, as it is written
   pub name : List ℕ
-  -- how the names on the right are joined, and what they are names of, without those that nothing declares
+  -- how the names on the right are joined, and whose names they are, without those that nothing declares
   pub joiner : Joiner
   pub mentions : List Mention
   -- something declares each name on the right
@@ -72,21 +72,22 @@ abbrev pub mentions_of : List LegendName → Mention → List Mention
 mentions_of legend (OfObject object) = []
 mentions_of legend (OfLine place) = mentions_of_name (slice_get legend place)
 
--- a list of mentions with others added, so many at most, and with all that these mention: each once, where it is first
--- mentioned, what a name mentions right behind the name
+-- a list to which mentions are added, in so many steps at most: one that the list has already is passed over; another is put at
+-- its end, and then what the mention's own line mentions is added before the others
 abbrev pub with_mentioned : List LegendName → ℕ → List Mention → List Mention → List Mention
-with_mentioned legend most before [] = before
-with_mentioned legend zero before (mention ∷ others) = before
-with_mentioned legend (suc most) before (mention ∷ others) = elim (list_any (same_mention mention) before) [
-  | true ↦ with_mentioned legend most before others
-  | false ↦ with_mentioned legend most (before ++ mention ∷ []) (mentions_of legend mention ++ others)
+with_mentioned legend steps listed [] = listed
+with_mentioned legend zero listed (mention ∷ others) = listed
+with_mentioned legend (suc steps) listed (mention ∷ others) = elim (list_any (same_mention mention) listed) [
+  | true ↦ with_mentioned legend steps listed others
+  | false ↦ with_mentioned legend steps (listed ++ mention ∷ []) (mentions_of legend mention ++ others)
 ]
 
 -- how many mentions the legend has
 abbrev pub mention_count : List LegendName → ℕ
 mention_count legend = sum_by (λ name. length name.mentions) legend
 
--- all that these mention, themselves among it; no mention of the legend need be followed twice
+-- these mentions and all that they mention through legend lines, each once, where it is first mentioned; as the mentions of a
+-- line are added once at most, the steps are enough
 abbrev pub all_mentioned : List LegendName → List Mention → List Mention
 all_mentioned legend mentions = with_mentioned legend (length mentions + mention_count legend) [] mentions
 
@@ -117,9 +118,14 @@ meaning_behind legend zero (OfLine place) = None
 meaning_behind legend (suc most) (OfLine place) =
     option_and_then (λ name. meaning_by (meaning_behind legend most) legend name.joiner name) (slice_get legend place)
 
--- what a mention stands for
-abbrev pub meaning_of_mention : List LegendName → Mention → Option Meaning
-meaning_of_mention legend mention = meaning_behind legend (length legend) mention
+-- what each name of the legend stands for
+abbrev pub legend_meanings : List LegendName → List (Option Meaning)
+legend_meanings legend = map (λ numbered. meaning_behind legend (length legend) (OfLine numbered.0)) (enumerate_from 0 legend)
+
+-- what a mention stands for, where the names of the legend stand for these
+abbrev pub meaning_of_mention : List (Option Meaning) → Mention → Option Meaning
+meaning_of_mention meanings (OfObject object) = Some (One object)
+meaning_of_mention meanings (OfLine place) = slice_index_or meanings place None
 
 -- it is an aggregate
 abbrev pub is_aggregate : Option Meaning → Bool

@@ -1,7 +1,7 @@
 -- The objects of OBJECTS. An object has a name line: its name, and behind it a second name of one character where it has one.
 -- Right below stand its colours, in a line that isn't blank, and right below these the five rows of its sprite, where it has one.
 -- Blank lines stand between objects and may be left out.
-use Rattle.std.specs.Prelude.{ℕ, zero, suc, ◌==◌, nat_le, Bool, true, false, ◌&&◌, ◌||◌, not, if◌then◌else◌, Option, None, Some, is_some, List, [], ◌∷◌, length, map, flat_map, take}
+use Rattle.std.specs.Prelude.{ℕ, zero, suc, ◌==◌, nat_le, Bool, true, false, ◌&&◌, ◌||◌, if◌then◌else◌, Option, None, Some, is_some, List, [], ◌∷◌, length, map, flat_map, take}
 use Rattle.std.specs.List.{list_all, prefix_len, enumerate_from}
 use Rattle.std.specs.Str.{chars}
 use Rattle.ps_model.specs.declared.pieces.ObjectId.{ObjectId}
@@ -79,9 +79,13 @@ names_well (name ∷ second ∷ third ∷ others) = false
 abbrev pub is_whole : ObjectText → Bool
 is_whole object = object.below == 1 || object.below == 6
 
+-- a name of an object
+abbrev pub name_of : ObjectId → List ℕ → List ℕ × ObjectId
+name_of object name = (name, object)
+
 -- the names that the object of a number declares
 abbrev pub names_of_object : ℕ × ObjectText → List (List ℕ × ObjectId)
-names_of_object numbered = map (λ name. let object : List ℕ × ObjectId = (name, record { 0 = numbered.0 }) in object) numbered.1.words
+names_of_object numbered = map (name_of (record { 0 = numbered.0 })) numbered.1.words
 
 -- the names of the objects as they are written, each with its object; objects are numbered in order of declaration
 abbrev pub object_names : List ObjectText → List (List ℕ × ObjectId)
