@@ -46,3 +46,4 @@ mod RoundRows
 mod PropertyRows
 mod CommandRows
 mod RefusedRows
+mod LanguageRows
