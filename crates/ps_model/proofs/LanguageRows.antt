@@ -13,6 +13,7 @@ use Rattle.ps_model.specs.Lines.{raw_lines, lines_of}
 use Rattle.ps_model.specs.Faults.{first_fault}
 use Rattle.ps_model.specs.TextFaults.{utf8_fault}
 use Rattle.ps_model.specs.Games.{game, line_faults}
+use Rattle.ps_model.specs.ThinGame.{thin_game}
 use Rattle.ps_model.specs.Programs.{group, program_run}
 use Rattle.ps_model.specs.StartSteps.{all_start_turns}
 use Rattle.ps_model.specs.KeySteps.{all_key_turns}
@@ -27,16 +28,28 @@ bytes_of lines = flat_map (λ line. line ++ 10 ∷ []) lines
 abbrev changed : ℕ → ℕ → List ℕ → List ℕ → List ℕ
 changed number count lines text = bytes_of (take (number - 1) (raw_lines text)) ++ (lines ++ bytes_of (drop (number - 1 + count) (raw_lines text)))
 
+-- so many times the same bytes
+abbrev many : ℕ → List ℕ → List ℕ
+many count bytes = flat_map (λ each. each) (replicate count bytes)
+
+-- the lines of so many objects `E1`, `E2` and so on
+abbrev objects : ℕ → List ℕ
+objects count = flat_map (λ number. codes "E" ++ (decimal number ++ codes "\nred\n")) (range_with_len 1 count)
+
 -- the game that docs/LANGUAGE.md begins with
 abbrev the_game : List ℕ
 the_game = base_game (codes "[ > Player | Crate ] -> [ > Player | > Crate ]\n") (codes "All Target on Crate\n") (codes "#P*O#\n")
 
 -- LANGUAGE.md: lines, levels and rules ---------------------------------------------------------------------------------------
 
-game : written the_game (codes "d")
-    ≡ Some (codes "= T\n# level 1\n#P*O#\n\n#.P@#\n\n* level 1 done\n* the end\n")
+whole_game : written the_game (codes "d") ≡ Some (codes "= T\n# level 1\n#P*O#\n\n#.P@#\n\n* level 1 done\n* the end\n")
 unfolding chars digits is_utf8 utf8_valid_len encode group program_run all_start_turns all_key_turns
-game = refl
+whole_game = refl
+
+-- what this version plays
+not_yet : thin_game the_game ≡ None
+unfolding chars is_utf8 encode
+not_yet = refl
 
 comment_in_object : written (changed 14 1 (codes "(a little\n\nred fruit)\nred\n") (base_game [] [] (codes "P\n"))) []
     ≡ Some (codes "= T\n# level 1\nP\n\n* end of keys\n")
@@ -61,8 +74,7 @@ rule_without_blanks : written (changed 30 1 (codes "[>Player|Crate]->[>Player|>C
 unfolding chars digits is_utf8 utf8_valid_len encode group program_run all_start_turns all_key_turns
 rule_without_blanks = refl
 
-rule_on_row : written (base_game (codes "[ A ] -> [ B ]\n") [] (codes "A\n")) (codes "x")
-    ≡ Some (codes "= T\n# level 1\nA\n\nB\n\n* end of keys\n")
+rule_on_row : written (base_game (codes "[ A ] -> [ B ]\n") [] (codes "A\n")) (codes "x") ≡ Some (codes "= T\n# level 1\nA\n\nB\n\n* end of keys\n")
 unfolding chars digits is_utf8 utf8_valid_len encode group program_run all_start_turns all_key_turns
 rule_on_row = refl
 
@@ -86,8 +98,7 @@ wide_gap : written (base_game (codes "right [ A | ... | B ] -> [ | ... | C ]\n")
 unfolding chars digits is_utf8 utf8_valid_len encode group program_run all_start_turns all_key_turns
 wide_gap = refl
 
-combinations : written (base_game (codes "[ A ] [ A ] -> [ B ] [ C ]\n") [] (codes "AA\n")) (codes "x")
-    ≡ Some (codes "= T\n# level 1\nAA\n\nCC\n\n* end of keys\n")
+combinations : written (base_game (codes "[ A ] [ A ] -> [ B ] [ C ]\n") [] (codes "AA\n")) (codes "x") ≡ Some (codes "= T\n# level 1\nAA\n\nCC\n\n* end of keys\n")
 unfolding chars digits is_utf8 utf8_valid_len encode group program_run all_start_turns all_key_turns
 combinations = refl
 
@@ -96,28 +107,23 @@ places_of_rounds : written (base_game (codes "right [ A | B ] -> [ B | A ]\n") [
 unfolding chars digits is_utf8 utf8_valid_len encode group program_run all_start_turns all_key_turns
 places_of_rounds = refl
 
-object_for_object : written (base_game (codes "[ A ] -> [ Crate ]\n") [] (codes "A\n")) (codes "x")
-    ≡ Some (codes "= T\n# level 1\nA\n\n*\n\n* end of keys\n")
+object_for_object : written (base_game (codes "[ A ] -> [ Crate ]\n") [] (codes "A\n")) (codes "x") ≡ Some (codes "= T\n# level 1\nA\n\n*\n\n* end of keys\n")
 unfolding chars digits is_utf8 utf8_valid_len encode group program_run all_start_turns all_key_turns
 object_for_object = refl
 
-empty_cell_fits : written (base_game (codes "right [ A | ] -> [ | A ]\n") [] (codes "A#\n")) (codes "x")
-    ≡ Some (codes "= T\n# level 1\nA#\n\n.A\n\n* end of keys\n")
+empty_cell_fits : written (base_game (codes "right [ A | ] -> [ | A ]\n") [] (codes "A#\n")) (codes "x") ≡ Some (codes "= T\n# level 1\nA#\n\n.A\n\n* end of keys\n")
 unfolding chars digits is_utf8 utf8_valid_len encode group program_run all_start_turns all_key_turns
 empty_cell_fits = refl
 
-no_takes_away : written (base_game (codes "[ Crate ] -> [ no Target ]\n") [] (codes "@\n")) (codes "x")
-    ≡ Some (codes "= T\n# level 1\n@\n\n.\n\n* end of keys\n")
+no_takes_away : written (base_game (codes "[ Crate ] -> [ no Target ]\n") [] (codes "@\n")) (codes "x") ≡ Some (codes "= T\n# level 1\n@\n\n.\n\n* end of keys\n")
 unfolding chars digits is_utf8 utf8_valid_len encode group program_run all_start_turns all_key_turns
 no_takes_away = refl
 
-split : written (base_game (codes "right [ AT | AT ] -> [ | ]\n") [] (codes "AOA\n")) (codes "x")
-    ≡ Some (codes "= T\n# level 1\nAOA\n\n..A\n\n* end of keys\n")
+split : written (base_game (codes "right [ AT | AT ] -> [ | ]\n") [] (codes "AOA\n")) (codes "x") ≡ Some (codes "= T\n# level 1\nAOA\n\n..A\n\n* end of keys\n")
 unfolding chars digits is_utf8 utf8_valid_len encode group program_run all_start_turns all_key_turns
 split = refl
 
-own_cell : written (base_game (codes "right [ AT | AT ] -> [ | AT ]\n") [] (codes "AO\n")) (codes "x")
-    ≡ Some (codes "= T\n# level 1\nAO\n\n.O\n\n* end of keys\n")
+own_cell : written (base_game (codes "right [ AT | AT ] -> [ | AT ]\n") [] (codes "AO\n")) (codes "x") ≡ Some (codes "= T\n# level 1\nAO\n\n.O\n\n* end of keys\n")
 unfolding chars digits is_utf8 utf8_valid_len encode group program_run all_start_turns all_key_turns
 own_cell = refl
 
@@ -203,8 +209,7 @@ again_without_change = refl
 
 -- DECISIONS.md: texts and lines ----------------------------------------------------------------------------------------------
 
-empty_line_in_comment : written (base_game [] [] (codes "P\n(a\n\nb)\nP\n")) []
-    ≡ Some (codes "= T\n# level 1\nP\nP\n\n* end of keys\n")
+empty_line_in_comment : written (base_game [] [] (codes "P\n(a\n\nb)\nP\n")) [] ≡ Some (codes "= T\n# level 1\nP\nP\n\n* end of keys\n")
 unfolding chars digits is_utf8 utf8_valid_len encode group program_run all_start_turns all_key_turns
 empty_line_in_comment = refl
 
@@ -212,28 +217,23 @@ comment_in_row : refused (base_game [] [] (codes "P(x)P\n")) ≡ Some (record { 
 unfolding chars is_utf8 utf8_valid_len encode
 comment_in_row = refl
 
-comment_behind_row : written (base_game [] [] (codes "P (x)\n")) []
-    ≡ Some (codes "= T\n# level 1\nP\n\n* end of keys\n")
+comment_behind_row : written (base_game [] [] (codes "P (x)\n")) [] ≡ Some (codes "= T\n# level 1\nP\n\n* end of keys\n")
 unfolding chars digits is_utf8 utf8_valid_len encode group program_run all_start_turns all_key_turns
 comment_behind_row = refl
 
-comment_before_row : written (base_game [] [] (codes "(xx)P\n")) []
-    ≡ Some (codes "= T\n# level 1\nP\n\n* end of keys\n")
+comment_before_row : written (base_game [] [] (codes "(xx)P\n")) [] ≡ Some (codes "= T\n# level 1\nP\n\n* end of keys\n")
 unfolding chars digits is_utf8 utf8_valid_len encode group program_run all_start_turns all_key_turns
 comment_before_row = refl
 
-comment_before_colours : written (changed 13 2 (codes "A\n(red)\nred\n") (base_game [] [] (codes "P\n"))) []
-    ≡ Some (codes "= T\n# level 1\nP\n\n* end of keys\n")
+comment_before_colours : written (changed 13 2 (codes "A\n(red)\nred\n") (base_game [] [] (codes "P\n"))) [] ≡ Some (codes "= T\n# level 1\nP\n\n* end of keys\n")
 unfolding chars digits is_utf8 utf8_valid_len encode group program_run all_start_turns all_key_turns
 comment_before_colours = refl
 
-divider_in_level : written (base_game [] [] (codes "P.\n===\nP.\n")) []
-    ≡ Some (codes "= T\n# level 1\nP.\nP.\n\n* end of keys\n")
+divider_in_level : written (base_game [] [] (codes "P.\n===\nP.\n")) [] ≡ Some (codes "= T\n# level 1\nP.\nP.\n\n* end of keys\n")
 unfolding chars digits is_utf8 utf8_valid_len encode group program_run all_start_turns all_key_turns
 divider_in_level = refl
 
-divider_before_colours : written (changed 13 2 (codes "A\n== (x) =\nred\n") (base_game [] [] (codes "P\n"))) []
-    ≡ Some (codes "= T\n# level 1\nP\n\n* end of keys\n")
+divider_before_colours : written (changed 13 2 (codes "A\n== (x) =\nred\n") (base_game [] [] (codes "P\n"))) [] ≡ Some (codes "= T\n# level 1\nP\n\n* end of keys\n")
 unfolding chars digits is_utf8 utf8_valid_len encode group program_run all_start_turns all_key_turns
 divider_before_colours = refl
 
@@ -249,18 +249,15 @@ header_as_colours : refused (changed 14 1 (codes "legend (red)\n") (base_game []
 unfolding chars is_utf8 utf8_valid_len encode
 header_as_colours = refl
 
-first_title : written (changed 1 1 (codes "title\ntitle X\n") (base_game [] [] (codes "P\n"))) []
-    ≡ Some (codes "= \n# level 1\nP\n\n* end of keys\n")
+first_title : written (changed 1 1 (codes "title\ntitle X\n") (base_game [] [] (codes "P\n"))) [] ≡ Some (codes "= \n# level 1\nP\n\n* end of keys\n")
 unfolding chars digits is_utf8 utf8_valid_len encode group program_run all_start_turns all_key_turns
 first_title = refl
 
-title_before_comment : written (changed 1 1 (codes "title(x)\n") (base_game [] [] (codes "P\n"))) []
-    ≡ Some (codes "= \n# level 1\nP\n\n* end of keys\n")
+title_before_comment : written (changed 1 1 (codes "title(x)\n") (base_game [] [] (codes "P\n"))) [] ≡ Some (codes "= \n# level 1\nP\n\n* end of keys\n")
 unfolding chars digits is_utf8 utf8_valid_len encode group program_run all_start_turns all_key_turns
 title_before_comment = refl
 
-title_behind_comment : written (changed 1 1 (codes "title (x) y\n") (base_game [] [] (codes "P\n"))) []
-    ≡ Some (codes "= \n# level 1\nP\n\n* end of keys\n")
+title_behind_comment : written (changed 1 1 (codes "title (x) y\n") (base_game [] [] (codes "P\n"))) [] ≡ Some (codes "= \n# level 1\nP\n\n* end of keys\n")
 unfolding chars digits is_utf8 utf8_valid_len encode group program_run all_start_turns all_key_turns
 title_behind_comment = refl
 
@@ -384,13 +381,11 @@ order_of_directions : written (base_game (codes "down up down [ A | B ] -> [ | C
 unfolding chars digits is_utf8 utf8_valid_len encode group program_run all_start_turns all_key_turns
 order_of_directions = refl
 
-empty_cell : written (base_game (codes "right [ A | ] -> [ A | B ]\n") [] (codes "A#\n")) (codes "x")
-    ≡ Some (codes "= T\n# level 1\nA#\n\nAB\n\n* end of keys\n")
+empty_cell : written (base_game (codes "right [ A | ] -> [ A | B ]\n") [] (codes "A#\n")) (codes "x") ≡ Some (codes "= T\n# level 1\nA#\n\nAB\n\n* end of keys\n")
 unfolding chars digits is_utf8 utf8_valid_len encode group program_run all_start_turns all_key_turns
 empty_cell = refl
 
-sound_alone : written (base_game (codes "[ A ] -> sfx0\n") [] (codes "A\n")) (codes "x")
-    ≡ Some (codes "= T\n# level 1\nA\n\nA\n\n* end of keys\n")
+sound_alone : written (base_game (codes "[ A ] -> sfx0\n") [] (codes "A\n")) (codes "x") ≡ Some (codes "= T\n# level 1\nA\n\nA\n\n* end of keys\n")
 unfolding chars digits is_utf8 utf8_valid_len encode group program_run all_start_turns all_key_turns
 sound_alone = refl
 
@@ -403,8 +398,7 @@ synonym_twice : refused (base_game (codes "[ Crate * ] -> cancel\n") [] (codes "
 unfolding chars is_utf8 utf8_valid_len encode
 synonym_twice = refl
 
-property_beside_member : written (base_game (codes "[ AT A ] -> cancel\n") [] (codes "P\n")) []
-    ≡ Some (codes "= T\n# level 1\nP\n\n* end of keys\n")
+property_beside_member : written (base_game (codes "[ AT A ] -> cancel\n") [] (codes "P\n")) [] ≡ Some (codes "= T\n# level 1\nP\n\n* end of keys\n")
 unfolding chars digits is_utf8 utf8_valid_len encode group program_run all_start_turns all_key_turns
 property_beside_member = refl
 
@@ -433,26 +427,6 @@ axis_of_the_direction : written (base_game (codes "right [ A ] [ B ] -> [ ] [ C 
 unfolding chars digits is_utf8 utf8_valid_len encode group program_run all_start_turns all_key_turns
 axis_of_the_direction = refl
 
-whole_property : written (changed 23 1 (codes "AC = A or C\n") (base_game (codes "[ > Player | AC ] -> [ > Player | > AC ]\n") [] (codes "PC.\n"))) (codes "d")
-    ≡ Some (codes "= T\n# level 1\nPC.\n\n.PC\n\n* end of keys\n")
-unfolding chars digits is_utf8 utf8_valid_len encode group program_run all_start_turns all_key_turns
-whole_property = refl
-
-last_changes_fastest : written (base_game (codes "right [ AT | AT ] -> [ | ]\n") [] (codes "AOA\n")) (codes "x")
-    ≡ Some (codes "= T\n# level 1\nAOA\n\n..A\n\n* end of keys\n")
-unfolding chars digits is_utf8 utf8_valid_len encode group program_run all_start_turns all_key_turns
-last_changes_fastest = refl
-
-choice_of_own_cell : written (base_game (codes "right [ AT | AT ] -> [ | AT ]\n") [] (codes "AO\n")) (codes "x")
-    ≡ Some (codes "= T\n# level 1\nAO\n\n.O\n\n* end of keys\n")
-unfolding chars digits is_utf8 utf8_valid_len encode group program_run all_start_turns all_key_turns
-choice_of_own_cell = refl
-
-choice_of_only_occurrence : written (base_game (codes "right [ AT | Crate ] -> [ | Crate AT ]\n") [] (codes "O*\n")) (codes "x")
-    ≡ Some (codes "= T\n# level 1\nO*\n\n.@\n\n* end of keys\n")
-unfolding chars digits is_utf8 utf8_valid_len encode group program_run all_start_turns all_key_turns
-choice_of_only_occurrence = refl
-
 choice_of_none : refused (base_game (codes "right [ AT | AT | Crate ] -> [ | | Crate AT ]\n") [] (codes "P\n")) ≡ Some (record { kind = kind.Unbound; line = 30 })
 unfolding chars is_utf8 utf8_valid_len encode
 choice_of_none = refl
@@ -476,18 +450,15 @@ barred_and_named : written (base_game (codes "[ Player ] -> [ Player no Player ]
 unfolding chars digits is_utf8 utf8_valid_len encode group program_run all_start_turns all_key_turns
 barred_and_named = refl
 
-named : written (base_game (codes "[ Player ] -> [ Player ]\n") [] (codes "P.\n")) (codes "d")
-    ≡ Some (codes "= T\n# level 1\nP.\n\n.P\n\n* end of keys\n")
+named : written (base_game (codes "[ Player ] -> [ Player ]\n") [] (codes "P.\n")) (codes "d") ≡ Some (codes "= T\n# level 1\nP.\n\n.P\n\n* end of keys\n")
 unfolding chars digits is_utf8 utf8_valid_len encode group program_run all_start_turns all_key_turns
 named = refl
 
-move_of_the_layer : written (base_game (codes "[ Player ] -> [ Crate ]\n") [] (codes "P.\n")) (codes "d")
-    ≡ Some (codes "= T\n# level 1\nP.\n\n.*\n\n* end of keys\n")
+move_of_the_layer : written (base_game (codes "[ Player ] -> [ Crate ]\n") [] (codes "P.\n")) (codes "d") ≡ Some (codes "= T\n# level 1\nP.\n\n.*\n\n* end of keys\n")
 unfolding chars digits is_utf8 utf8_valid_len encode group program_run all_start_turns all_key_turns
 move_of_the_layer = refl
 
-rows_meet : written (base_game (codes "[ A ] [ A ] -> [ B ] [ C ]\n") [] (codes "A\n")) (codes "x")
-    ≡ Some (codes "= T\n# level 1\nA\n\nC\n\n* end of keys\n")
+rows_meet : written (base_game (codes "[ A ] [ A ] -> [ B ] [ C ]\n") [] (codes "A\n")) (codes "x") ≡ Some (codes "= T\n# level 1\nA\n\nC\n\n* end of keys\n")
 unfolding chars digits is_utf8 utf8_valid_len encode group program_run all_start_turns all_key_turns
 rows_meet = refl
 
@@ -513,8 +484,7 @@ least_above : written (base_game (codes "[ A ] -> [ right A ]\n[ B ] -> [ left B
 unfolding chars digits is_utf8 utf8_valid_len encode group program_run all_start_turns all_key_turns
 least_above = refl
 
-folded_row : written (base_game [] [] (codes "p..\n")) []
-    ≡ Some (codes "= T\n# level 1\nP..\n\n* end of keys\n")
+folded_row : written (base_game [] [] (codes "p..\n")) [] ≡ Some (codes "= T\n# level 1\nP..\n\n* end of keys\n")
 unfolding chars digits is_utf8 utf8_valid_len encode group program_run all_start_turns all_key_turns
 folded_row = refl
 
@@ -531,8 +501,7 @@ too_wide : refused (base_game [] [] (replicate 65 46 ++ codes "\n")) ≡ Some (r
 unfolding chars is_utf8 utf8_valid_len encode
 too_wide = refl
 
-bare_cell : written (base_game (codes "[ Background ] -> [ ]\n") [] (codes ".P\n")) (codes "x")
-    ≡ Some (codes "= T\n# level 1\n.P\n\n?P\n\n* end of keys\n")
+bare_cell : written (base_game (codes "[ Background ] -> [ ]\n") [] (codes ".P\n")) (codes "x") ≡ Some (codes "= T\n# level 1\n.P\n\n?P\n\n* end of keys\n")
 unfolding chars digits is_utf8 utf8_valid_len encode group program_run all_start_turns all_key_turns
 bare_cell = refl
 
@@ -553,11 +522,6 @@ restart_again : written (base_game (codes "[ B ] -> restart\n[ action Player ] [
 unfolding chars digits is_utf8 utf8_valid_len encode group program_run all_start_turns all_key_turns
 restart_again = refl
 
-message_not_counted : written (base_game (codes "[ B ] -> message Hi\n[ action Player ] [ A ] -> [ Player ] [ B ] again\n") [] (codes "PA\n")) (codes "x")
-    ≡ Some (codes "= T\n# level 1\nPA\n\nPB\n\n* end of keys\n")
-unfolding chars digits is_utf8 utf8_valid_len encode group program_run all_start_turns all_key_turns
-message_not_counted = refl
-
 wins_dropped : written (with_option (codes "run_rules_on_level_start") (codes "[ B ] -> [ C ] win\n[ A ] -> [ B ] again\n") (codes "A\n")) []
     ≡ Some (codes "= T\n# level 1\nB\n\nC\n\n* end of keys\n")
 unfolding chars digits is_utf8 utf8_valid_len encode group program_run all_start_turns all_key_turns
@@ -575,8 +539,7 @@ win_before_again = refl
 
 -- DECISIONS.md: to come ------------------------------------------------------------------------------------------------------
 
-no_rooms_yet : written (changed 1 1 (codes "title T\nflickscreen 3 x 1\n") (base_game [] [] (codes "P\n"))) []
-    ≡ Some (codes "= T\n# level 1\nP\n\n* end of keys\n")
+no_rooms_yet : written (changed 1 1 (codes "title T\nflickscreen 3 x 1\n") (base_game [] [] (codes "P\n"))) [] ≡ Some (codes "= T\n# level 1\nP\n\n* end of keys\n")
 unfolding chars digits is_utf8 utf8_valid_len encode group program_run all_start_turns all_key_turns
 no_rooms_yet = refl
 
@@ -595,18 +558,15 @@ too_long text long = ap (λ test. told_of (elim test [ true ↦ Some (record { k
 
 -- LANGUAGE.md, faults: the game as a whole -----------------------------------------------------------------------------------
 
-section_order : refused (changed 29 4 (codes "WINCONDITIONS\nAll Target on Crate\nRULES\n") the_game)
-    ≡ Some (record { kind = kind.SectionOrder; line = 31 })
+section_order : refused (changed 29 4 (codes "WINCONDITIONS\nAll Target on Crate\nRULES\n") the_game) ≡ Some (record { kind = kind.SectionOrder; line = 31 })
 unfolding chars is_utf8 utf8_valid_len encode
 section_order = refl
 
-no_section : refused (changed 32 1 (codes "All Target on Crate (and here the comment goes on\n") the_game)
-    ≡ Some (record { kind = kind.NoSection; line = 34 })
+no_section : refused (changed 32 1 (codes "All Target on Crate (and here the comment goes on\n") the_game) ≡ Some (record { kind = kind.NoSection; line = 34 })
 unfolding chars is_utf8 utf8_valid_len encode
 no_section = refl
 
-realtime : refused (changed 2 0 (codes "realtime_interval 0.5\n") the_game)
-    ≡ Some (record { kind = kind.Realtime; line = 2 })
+realtime : refused (changed 2 0 (codes "realtime_interval 0.5\n") the_game) ≡ Some (record { kind = kind.Realtime; line = 2 })
 unfolding chars is_utf8 utf8_valid_len encode
 realtime = refl
 
@@ -615,65 +575,61 @@ too_many_readings : refused (changed 30 1 (codes "[ moving A | moving A | moving
 unfolding chars is_utf8 utf8_valid_len encode
 too_many_readings = refl
 
-impossible : refused (changed 30 1 (codes "[ Player Wall ] -> [ Player ]\n") the_game)
-    ≡ Some (record { kind = kind.Impossible; line = 30 })
+readings_in_one_direction : refused (changed 30 1 (codes "right [ moving A | moving A | moving A | moving A | moving A ] -> cancel\n") the_game) ≡ None
+unfolding chars is_utf8 utf8_valid_len encode
+readings_in_one_direction = refl
+
+impossible : refused (changed 30 1 (codes "[ Player Wall ] -> [ Player ]\n") the_game) ≡ Some (record { kind = kind.Impossible; line = 30 })
 unfolding chars is_utf8 utf8_valid_len encode
 impossible = refl
 
 -- LANGUAGE.md, faults: names -------------------------------------------------------------------------------------------------
 
-bad_object : refused (changed 15 0 (codes "..0..\n.000.\n") the_game)
-    ≡ Some (record { kind = kind.BadObject; line = 13 })
+bad_object : refused (changed 15 0 (codes "..0..\n.000.\n") the_game) ≡ Some (record { kind = kind.BadObject; line = 13 })
 unfolding chars is_utf8 utf8_valid_len encode
 bad_object = refl
 
-twice : refused (changed 15 1 (codes "a\n") the_game)
-    ≡ Some (record { kind = kind.Twice; line = 15 })
+bad_name_line : map (λ line. refused (changed 13 1 line the_game)) (codes "A ab\n" ∷ codes "A b c\n" ∷ []) ≡ replicate 2 (Some (record { kind = kind.BadObject; line = 13 }))
+unfolding chars is_utf8 utf8_valid_len encode
+bad_name_line = refl
+
+twice : refused (changed 15 1 (codes "a\n") the_game) ≡ Some (record { kind = kind.Twice; line = 15 })
 unfolding chars is_utf8 utf8_valid_len encode
 twice = refl
 
-mixed_and_or : refused (changed 23 1 (codes "AT = A and B or Target\n") the_game)
-    ≡ Some (record { kind = kind.MixedAndOr; line = 23 })
+mixed_and_or : refused (changed 23 1 (codes "AT = A and B or Target\n") the_game) ≡ Some (record { kind = kind.MixedAndOr; line = 23 })
 unfolding chars is_utf8 utf8_valid_len encode
 mixed_and_or = refl
 
-unknown_name : refused (changed 22 1 (codes "@ = Crate and Traget\n") the_game)
-    ≡ Some (record { kind = kind.UnknownName; line = 22 })
+unknown_name : refused (changed 22 1 (codes "@ = Crate and Traget\n") the_game) ≡ Some (record { kind = kind.UnknownName; line = 22 })
 unfolding chars is_utf8 utf8_valid_len encode
 unknown_name = refl
 
-cycle : refused (changed 22 2 (codes "Box = Case\nCase = Box\n") the_game)
-    ≡ Some (record { kind = kind.Cycle; line = 22 })
+cycle : refused (changed 22 2 (codes "Box = Case\nCase = Box\n") the_game) ≡ Some (record { kind = kind.Cycle; line = 22 })
 unfolding chars is_utf8 utf8_valid_len encode
 cycle = refl
 
-aggregate_in_property : refused (changed 23 1 (codes "AT = A or @\n") the_game)
-    ≡ Some (record { kind = kind.AggregateInProperty; line = 23 })
+aggregate_in_property : refused (changed 23 1 (codes "AT = A or @\n") the_game) ≡ Some (record { kind = kind.AggregateInProperty; line = 23 })
 unfolding chars is_utf8 utf8_valid_len encode
 aggregate_in_property = refl
 
-property_in_aggregate : refused (changed 22 1 (codes "@ = Crate and AT\n") the_game)
-    ≡ Some (record { kind = kind.PropertyInAggregate; line = 22 })
+property_in_aggregate : refused (changed 22 1 (codes "@ = Crate and AT\n") the_game) ≡ Some (record { kind = kind.PropertyInAggregate; line = 22 })
 unfolding chars is_utf8 utf8_valid_len encode
 property_in_aggregate = refl
 
-aggregate_in_layer : refused (changed 26 1 (codes "@\n") the_game)
-    ≡ Some (record { kind = kind.AggregateInLayer; line = 26 })
+aggregate_in_layer : refused (changed 26 1 (codes "@\n") the_game) ≡ Some (record { kind = kind.AggregateInLayer; line = 26 })
 unfolding chars is_utf8 utf8_valid_len encode
 aggregate_in_layer = refl
 
-no_layer : refused (changed 28 1 (codes "A B C\n") the_game)
-    ≡ Some (record { kind = kind.NoLayer; line = 19 })
+no_layer : refused (changed 28 1 (codes "A B C\n") the_game) ≡ Some (record { kind = kind.NoLayer; line = 19 })
 unfolding chars is_utf8 utf8_valid_len encode
 no_layer = refl
 
-no_background : refused (changed 25 1 (codes "Grass\n") (changed 3 1 (codes "Grass .\n") the_game))
-    ≡ Some (record { kind = kind.NoBackground; line = 2 })
+no_background : refused (changed 25 1 (codes "Grass\n") (changed 3 1 (codes "Grass .\n") the_game)) ≡ Some (record { kind = kind.NoBackground; line = 2 })
 unfolding chars is_utf8 utf8_valid_len encode
 no_background = refl
 
-no_player : refused (changed 27 1 (codes "Hero, Wall, Crate\n") (changed 7 1 (codes "Hero P\n") the_game))
-    ≡ Some (record { kind = kind.NoPlayer; line = 2 })
+no_player : refused (changed 27 1 (codes "Hero, Wall, Crate\n") (changed 7 1 (codes "Hero P\n") the_game)) ≡ Some (record { kind = kind.NoPlayer; line = 2 })
 unfolding chars is_utf8 utf8_valid_len encode
 no_player = refl
 
@@ -687,32 +643,29 @@ bad_player : refused (changed 27 1 (codes "Hero, Wall, Crate\n") (changed 22 1 (
 unfolding chars is_utf8 utf8_valid_len encode
 bad_player = refl
 
--- the lines of so many objects `E1`, `E2` and so on
-abbrev objects : ℕ → List ℕ
-objects count = flat_map (λ number. codes "E" ++ (decimal number ++ codes "\nred\n")) (range_with_len 1 count)
-
 too_many_names : refused (changed 21 0 (objects 56) the_game) ≡ Some (record { kind = kind.TooManyNames; line = 131 })
-unfolding chars is_utf8 utf8_valid_len encode
+unfolding chars digits is_utf8 utf8_valid_len encode
 too_many_names = refl
 
-too_many_layers : refused (changed 29 0 (flat_map (λ line. codes "A\n") (replicate 29 0)) the_game) ≡ Some (record { kind = kind.TooManyNames; line = 57 })
+too_many_layers : refused (changed 29 0 (many 29 (codes "A\n")) the_game) ≡ Some (record { kind = kind.TooManyNames; line = 57 })
 unfolding chars is_utf8 utf8_valid_len encode
 too_many_layers = refl
 
-same_layer_aggregate : refused (changed 22 1 (codes "@ = Crate and Player\n") the_game)
-    ≡ Some (record { kind = kind.SameLayerAggregate; line = 22 })
+same_layer_aggregate : refused (changed 22 1 (codes "@ = Crate and Player\n") the_game) ≡ Some (record { kind = kind.SameLayerAggregate; line = 22 })
 unfolding chars is_utf8 utf8_valid_len encode
 same_layer_aggregate = refl
 
-bad_line : refused (changed 22 1 (codes "@ = Crate Target\n") the_game)
-    ≡ Some (record { kind = kind.BadLine; line = 22 })
+bad_line : refused (changed 22 1 (codes "@ = Crate Target\n") the_game) ≡ Some (record { kind = kind.BadLine; line = 22 })
 unfolding chars is_utf8 utf8_valid_len encode
 bad_line = refl
 
+layer_without_name : refused (changed 26 1 (codes ", ,\n") the_game) ≡ Some (record { kind = kind.BadLine; line = 26 })
+unfolding chars is_utf8 utf8_valid_len encode
+layer_without_name = refl
+
 -- LANGUAGE.md, faults: rules -------------------------------------------------------------------------------------------------
 
-bad_bracket : refused (changed 30 1 (codes "[ > Player | Crate -> [ > Player | > Crate ]\n") the_game)
-    ≡ Some (record { kind = kind.BadBracket; line = 30 })
+bad_bracket : refused (changed 30 1 (codes "[ > Player | Crate -> [ > Player | > Crate ]\n") the_game) ≡ Some (record { kind = kind.BadBracket; line = 30 })
 unfolding chars is_utf8 utf8_valid_len encode
 bad_bracket = refl
 
@@ -728,8 +681,7 @@ bad_bracket_too : map (λ rule. refused (changed 30 1 rule the_game)) (codes "[ 
 unfolding chars is_utf8 utf8_valid_len encode
 bad_bracket_too = refl
 
-unknown_word : refused (changed 30 1 (codes "[ > Player | Carte ] -> [ > Player | > Crate ]\n") the_game)
-    ≡ Some (record { kind = kind.UnknownWord; line = 30 })
+unknown_word : refused (changed 30 1 (codes "[ > Player | Carte ] -> [ > Player | > Crate ]\n") the_game) ≡ Some (record { kind = kind.UnknownWord; line = 30 })
 unfolding chars is_utf8 utf8_valid_len encode
 unknown_word = refl
 
@@ -745,28 +697,23 @@ unknown_word_too : map (λ rule. refused (changed 30 1 rule the_game)) (codes "A
 unfolding chars is_utf8 utf8_valid_len encode
 unknown_word_too = refl
 
-rows_differ : refused (changed 30 1 (codes "[ > Player | Crate ] -> [ > Player ]\n") the_game)
-    ≡ Some (record { kind = kind.RowsDiffer; line = 30 })
+rows_differ : refused (changed 30 1 (codes "[ > Player | Crate ] -> [ > Player ]\n") the_game) ≡ Some (record { kind = kind.RowsDiffer; line = 30 })
 unfolding chars is_utf8 utf8_valid_len encode
 rows_differ = refl
 
-nothing_right : refused (changed 30 1 (codes "[ > Player | Crate ] ->\n") the_game)
-    ≡ Some (record { kind = kind.NothingRight; line = 30 })
+nothing_right : refused (changed 30 1 (codes "[ > Player | Crate ] ->\n") the_game) ≡ Some (record { kind = kind.NothingRight; line = 30 })
 unfolding chars is_utf8 utf8_valid_len encode
 nothing_right = refl
 
-name_twice : refused (changed 30 1 (codes "[ > Player | @ Crate ] -> [ > Player | > Crate ]\n") the_game)
-    ≡ Some (record { kind = kind.NameTwice; line = 30 })
+name_twice : refused (changed 30 1 (codes "[ > Player | @ Crate ] -> [ > Player | > Crate ]\n") the_game) ≡ Some (record { kind = kind.NameTwice; line = 30 })
 unfolding chars is_utf8 utf8_valid_len encode
 name_twice = refl
 
-no_aggregate : refused (changed 30 1 (codes "[ > Player | no @ ] -> [ Player | ]\n") the_game)
-    ≡ Some (record { kind = kind.NoAggregate; line = 30 })
+no_aggregate : refused (changed 30 1 (codes "[ > Player | no @ ] -> [ Player | ]\n") the_game) ≡ Some (record { kind = kind.NoAggregate; line = 30 })
 unfolding chars is_utf8 utf8_valid_len encode
 no_aggregate = refl
 
-unbound : refused (changed 30 1 (codes "[ AT | AT | Crate ] -> [ | | Crate AT ]\n") the_game)
-    ≡ Some (record { kind = kind.Unbound; line = 30 })
+unbound : refused (changed 30 1 (codes "[ AT | AT | Crate ] -> [ | | Crate AT ]\n") the_game) ≡ Some (record { kind = kind.Unbound; line = 30 })
 unfolding chars is_utf8 utf8_valid_len encode
 unbound = refl
 
@@ -779,28 +726,23 @@ unbound_too : map (λ rule. refused (changed 30 1 rule the_game)) (codes "[ A ] 
 unfolding chars is_utf8 utf8_valid_len encode
 unbound_too = refl
 
-late_move : refused (changed 30 1 (codes "late [ > Player | Crate ] -> [ Player | ]\n") the_game)
-    ≡ Some (record { kind = kind.LateMove; line = 30 })
+late_move : refused (changed 30 1 (codes "late [ > Player | Crate ] -> [ Player | ]\n") the_game) ≡ Some (record { kind = kind.LateMove; line = 30 })
 unfolding chars is_utf8 utf8_valid_len encode
 late_move = refl
 
-plus_alone : refused (changed 30 1 (codes "+ [ > Player | Crate ] -> [ > Player | > Crate ]\n") the_game)
-    ≡ Some (record { kind = kind.PlusAlone; line = 30 })
+plus_alone : refused (changed 30 1 (codes "+ [ > Player | Crate ] -> [ > Player | > Crate ]\n") the_game) ≡ Some (record { kind = kind.PlusAlone; line = 30 })
 unfolding chars is_utf8 utf8_valid_len encode
 plus_alone = refl
 
-plus_late : refused (changed 30 1 (codes "[ A ] -> [ B ]\n+ late [ B ] -> [ C ]\n") the_game)
-    ≡ Some (record { kind = kind.PlusLate; line = 31 })
+plus_late : refused (changed 30 1 (codes "[ A ] -> [ B ]\n+ late [ B ] -> [ C ]\n") the_game) ≡ Some (record { kind = kind.PlusLate; line = 31 })
 unfolding chars is_utf8 utf8_valid_len encode
 plus_late = refl
 
-loop : refused (changed 30 1 (codes "startloop\n[ A ] -> [ B ]\n") the_game)
-    ≡ Some (record { kind = kind.Loop; line = 30 })
+loop : refused (changed 30 1 (codes "startloop\n[ A ] -> [ B ]\n") the_game) ≡ Some (record { kind = kind.Loop; line = 30 })
 unfolding chars is_utf8 utf8_valid_len encode
 loop = refl
 
-ellipsis : refused (changed 30 1 (codes "[ > Player | ... ] -> [ > Player | ... ]\n") the_game)
-    ≡ Some (record { kind = kind.Ellipsis; line = 30 })
+ellipsis : refused (changed 30 1 (codes "[ > Player | ... ] -> [ > Player | ... ]\n") the_game) ≡ Some (record { kind = kind.Ellipsis; line = 30 })
 unfolding chars is_utf8 utf8_valid_len encode
 ellipsis = refl
 
@@ -811,24 +753,21 @@ ellipsis_too : map (λ rule. refused (changed 30 1 rule the_game)) (codes "[ A |
 unfolding chars is_utf8 utf8_valid_len encode
 ellipsis_too = refl
 
-not_in_profile : refused (changed 30 1 (codes "random [ A ] -> [ B ]\n") the_game)
-    ≡ Some (record { kind = kind.NotInProfile; line = 30 })
+not_in_profile : refused (changed 30 1 (codes "random [ A ] -> [ B ]\n") the_game) ≡ Some (record { kind = kind.NotInProfile; line = 30 })
 unfolding chars is_utf8 utf8_valid_len encode
 not_in_profile = refl
 
-too_many_rules : refused (changed 30 1 (flat_map (λ line. codes "[ A ] -> [ B ]\n") (replicate 1025 0)) the_game) ≡ Some (record { kind = kind.TooManyRules; line = 1054 })
+too_many_rules : refused (changed 30 1 (many 1025 (codes "[ A ] -> [ B ]\n")) the_game) ≡ Some (record { kind = kind.TooManyRules; line = 1054 })
 unfolding chars is_utf8 utf8_valid_len encode
 too_many_rules = refl
 
 -- LANGUAGE.md, faults: levels ------------------------------------------------------------------------------------------------
 
-unknown_glyph : refused (changed 34 1 (codes "#P*o? #\n") the_game)
-    ≡ Some (record { kind = kind.UnknownGlyph; line = 34 })
+unknown_glyph : refused (changed 34 1 (codes "#P*o? #\n") the_game) ≡ Some (record { kind = kind.UnknownGlyph; line = 34 })
 unfolding chars is_utf8 utf8_valid_len encode
 unknown_glyph = refl
 
-property_glyph : refused (changed 34 1 (codes "#P*Q#\n") (changed 23 1 (codes "Q = A or Target\n") the_game))
-    ≡ Some (record { kind = kind.PropertyGlyph; line = 34 })
+property_glyph : refused (changed 34 1 (codes "#P*Q#\n") (changed 23 1 (codes "Q = A or Target\n") the_game)) ≡ Some (record { kind = kind.PropertyGlyph; line = 34 })
 unfolding chars is_utf8 utf8_valid_len encode
 property_glyph = refl
 
@@ -837,23 +776,20 @@ too_large : refused (changed 34 1 (codes "P.....................................
 unfolding chars is_utf8 utf8_valid_len encode
 too_large = refl
 
-no_level : refused (changed 34 1 (codes "message To be continued\n") the_game)
-    ≡ Some (record { kind = kind.NoLevel; line = 33 })
+no_level : refused (changed 34 1 (codes "message To be continued\n") the_game) ≡ Some (record { kind = kind.NoLevel; line = 33 })
 unfolding chars is_utf8 utf8_valid_len encode
 no_level = refl
 
-too_many_entries : refused (changed 34 1 (flat_map (λ line. codes "message\n") (replicate 1000 0)) the_game) ≡ Some (record { kind = kind.TooManyEntries; line = 1033 })
+too_many_entries : refused (changed 34 1 (many 1000 (codes "message\n")) the_game) ≡ Some (record { kind = kind.TooManyEntries; line = 1033 })
 unfolding chars is_utf8 utf8_valid_len encode
 too_many_entries = refl
 
 -- LANGUAGE.md, faults: win conditions ----------------------------------------------------------------------------------------
 
-bad_win : refused (changed 32 1 (codes "All Target Crate\n") the_game)
-    ≡ Some (record { kind = kind.BadWin; line = 32 })
+bad_win : refused (changed 32 1 (codes "All Target Crate\n") the_game) ≡ Some (record { kind = kind.BadWin; line = 32 })
 unfolding chars is_utf8 utf8_valid_len encode
 bad_win = refl
 
-unknown_name_in_win : refused (changed 32 1 (codes "All Target on Box\n") the_game)
-    ≡ Some (record { kind = kind.UnknownWinName; line = 32 })
+unknown_name_in_win : refused (changed 32 1 (codes "All Target on Box\n") the_game) ≡ Some (record { kind = kind.UnknownWinName; line = 32 })
 unfolding chars is_utf8 utf8_valid_len encode
 unknown_name_in_win = refl
