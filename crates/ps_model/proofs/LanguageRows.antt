@@ -522,6 +522,11 @@ restart_again : written (base_game (codes "[ B ] -> restart\n[ action Player ] [
 unfolding chars digits is_utf8 utf8_valid_len encode group program_run all_start_turns all_key_turns
 restart_again = refl
 
+again_turns_of_a_restart : written (with_option (codes "run_rules_on_level_start") (codes "[ D ] -> restart\n[ B ] -> [ C ]\n[ A ] -> [ B ] again\n[ action Player ] [ C ] -> [ Player ] [ D ] again\n") (codes "PA\n")) (codes "x")
+    ≡ Some (codes "= T\n# level 1\nPB\n\nPC\n\nPD\n\nPB\n\nPC\n\n* end of keys\n")
+unfolding chars digits is_utf8 utf8_valid_len encode group program_run all_start_turns all_key_turns
+again_turns_of_a_restart = refl
+
 wins_dropped : written (with_option (codes "run_rules_on_level_start") (codes "[ B ] -> [ C ] win\n[ A ] -> [ B ] again\n") (codes "A\n")) []
     ≡ Some (codes "= T\n# level 1\nB\n\nC\n\n* end of keys\n")
 unfolding chars digits is_utf8 utf8_valid_len encode group program_run all_start_turns all_key_turns
