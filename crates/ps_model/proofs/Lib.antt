@@ -8,6 +8,7 @@ pub mod EqualPrograms
 mod FaultRows
 pub mod GameLaws
 mod GameRows
+mod LanguageRows
 mod LevelRows
 pub mod GameCells
 pub mod LineLaws
@@ -46,4 +47,3 @@ mod RoundRows
 mod PropertyRows
 mod CommandRows
 mod RefusedRows
-mod LanguageRows
