@@ -13,6 +13,7 @@ mod HeldRows
 pub mod KeysInPieces
 pub mod GameLaws
 mod GameRows
+mod LanguageRows
 mod LevelRows
 pub mod GameCells
 mod LayerRows
