@@ -12,7 +12,6 @@ use Rattle.ps_model.specs.KeySteps.{all_key_turns}
 use Rattle.ps_model.proofs.BaseText.{base_game, with_option}
 use Rattle.ps_model.proofs.WholeRuns.{written}
 
-
 -- `cancel` takes the turn back and shows its rule's message; nothing of later rules is queued
 cancel_with_message : written (base_game (codes "[ > Player | Wall ] -> cancel message Stop\n[ > Player | Wall ] -> win\n") ([]) (codes "P#\n")) (codes "dq")
     ≡ Some (codes "= T\n# level 1\nP#\n\nP#\n\n! Stop\n* quit\n")

@@ -24,13 +24,13 @@ object number = record { 0 = number }
 abbrev names : Names
 names = record {
   entries =
-    (codes "background", One (object 0)) ∷ (codes ".", One (object 0)) ∷ (codes "player", One (object 1)) ∷ (codes "p", One (object 1))
-    ∷ (codes "crate", One (object 2)) ∷ (codes "*", One (object 2)) ∷ (codes "target", One (object 3)) ∷ (codes "o", One (object 3))
-    ∷ (codes "grass", One (object 4)) ∷ (195 ∷ 169 ∷ [], One (object 4)) ∷ (codes "@", AllOf 12 (object 2 ∷ object 3 ∷ []))
-    ∷ (codes "q", AnyOf 13 (object 1 ∷ object 2 ∷ [])) ∷ (codes "#", One (object 2)) ∷ (codes "%", AnyOf 13 (object 1 ∷ object 2 ∷ [])) ∷ [];
+      (codes "background", One (object 0)) ∷ (codes ".", One (object 0)) ∷ (codes "player", One (object 1)) ∷ (codes "p", One (object 1))
+      ∷ (codes "crate", One (object 2)) ∷ (codes "*", One (object 2)) ∷ (codes "target", One (object 3)) ∷ (codes "o", One (object 3))
+      ∷ (codes "grass", One (object 4)) ∷ (195 ∷ 169 ∷ [], One (object 4)) ∷ (codes "@", AllOf 12 (object 2 ∷ object 3 ∷ []))
+      ∷ (codes "q", AnyOf 13 (object 1 ∷ object 2 ∷ [])) ∷ (codes "#", One (object 2)) ∷ (codes "%", AnyOf 13 (object 1 ∷ object 2 ∷ [])) ∷ [];
   layers = 0 ∷ 2 ∷ 2 ∷ 1 ∷ 0 ∷ [];
   layer_count = 3;
-  glyphs = []
+  glyphs = [];
 }
 
 -- the entries and the first fault of LEVELS with these bytes below the header
@@ -84,11 +84,11 @@ grass_as_ground = refl
 abbrev two_grounds : Names
 two_grounds = record {
   entries =
-    (codes "grass", One (object 0)) ∷ (codes "g", One (object 0)) ∷ (codes "sand", One (object 1)) ∷ (codes "s", One (object 1)) ∷ (codes "player", One (object 2))
-    ∷ (codes "p", One (object 2)) ∷ (codes "background", AnyOf 9 (object 0 ∷ object 1 ∷ [])) ∷ [];
+      (codes "grass", One (object 0)) ∷ (codes "g", One (object 0)) ∷ (codes "sand", One (object 1)) ∷ (codes "s", One (object 1)) ∷ (codes "player", One (object 2))
+      ∷ (codes "p", One (object 2)) ∷ (codes "background", AnyOf 9 (object 0 ∷ object 1 ∷ [])) ∷ [];
   layers = 0 ∷ 0 ∷ 1 ∷ [];
   layer_count = 2;
-  glyphs = []
+  glyphs = [];
 }
 
 abbrev on_grounds : List ℕ → List Entry

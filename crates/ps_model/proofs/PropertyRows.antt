@@ -12,7 +12,6 @@ use Rattle.ps_model.specs.declared.faults.FaultKind.TheVariants as kind
 use Rattle.ps_model.proofs.BaseText.{base_game}
 use Rattle.ps_model.proofs.WholeRuns.{written, refused}
 
-
 -- members are tried in their order, the first occurrence slowest
 last_occurrence_varies_fastest : written (base_game (codes "right [ AT | AT ] -> [ | ]\n") ([]) (codes "AOA\n")) (codes "x")
     ≡ Some (codes "= T\n# level 1\nAOA\n\n..A\n\n* end of keys\n")

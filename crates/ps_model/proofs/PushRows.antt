@@ -11,7 +11,6 @@ use Rattle.ps_model.specs.KeySteps.{all_key_turns}
 use Rattle.ps_model.proofs.BaseText.{base_game}
 use Rattle.ps_model.proofs.WholeRuns.{written}
 
-
 -- a crate is pushed onto a target, and the level is done
 push_onto_target : written (base_game (codes "[ > Player | Crate ] -> [ > Player | > Crate ]\n") (codes "All Target on Crate\n") (codes "#P*O#\n")) (codes "d")
     ≡ Some (codes "= T\n# level 1\n#P*O#\n\n#.P@#\n\n* level 1 done\n* the end\n")

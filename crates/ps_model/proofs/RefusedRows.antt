@@ -12,7 +12,6 @@ use Rattle.ps_model.specs.declared.faults.FaultKind.TheVariants as kind
 use Rattle.ps_model.proofs.BaseText.{base_head, base_game}
 use Rattle.ps_model.proofs.WholeRuns.{written, refused}
 
-
 -- rules
 rows_of_other_lengths : refused (base_game (codes "[ A | B ] -> [ A ]\n") ([]) (codes "P\n")) ≡ Some (record { kind = kind.RowsDiffer; line = 30 })
 unfolding chars digits is_utf8 utf8_valid_len encode group program_run all_start_turns all_key_turns

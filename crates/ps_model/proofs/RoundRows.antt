@@ -11,7 +11,6 @@ use Rattle.ps_model.specs.KeySteps.{all_key_turns}
 use Rattle.ps_model.proofs.BaseText.{base_game}
 use Rattle.ps_model.proofs.WholeRuns.{written}
 
-
 -- a group that never settles ends after two hundred rounds, and the rules behind it run
 two_hundred_rounds : written (base_game (codes "[ A ] -> [ B ]\n+ [ B ] -> [ A ]\n[ A ] -> [ C ]\n") ([]) (codes "A\n")) (codes "x")
     ≡ Some (codes "= T\n# level 1\nA\n\nC\n\n* end of keys\n")

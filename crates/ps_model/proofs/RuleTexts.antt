@@ -37,14 +37,14 @@ crate_on_target = AllOf 22 (object 3 ∷ object 4 ∷ [])
 -- the names of the base text, but for the glyphs
 abbrev pub base_names : Names
 base_names = record {
-    entries =
+  entries =
       (codes "background", one 0) ∷ (codes ".", one 0) ∷ (codes "wall", one 1) ∷ (codes "#", one 1) ∷ (codes "player", one 2) ∷ (codes "p", one 2)
       ∷ (codes "crate", one 3) ∷ (codes "*", one 3) ∷ (codes "target", one 4) ∷ (codes "o", one 4) ∷ (codes "a", one 5) ∷ (codes "b", one 6)
       ∷ (codes "c", one 7) ∷ (codes "d", one 8) ∷ (codes "@", crate_on_target) ∷ (codes "at", at) ∷ [];
-    layers = 0 ∷ 2 ∷ 2 ∷ 2 ∷ 1 ∷ 3 ∷ 3 ∷ 3 ∷ 3 ∷ [];
-    layer_count = 4;
-    glyphs = []
-  }
+  layers = 0 ∷ 2 ∷ 2 ∷ 2 ∷ 1 ∷ 3 ∷ 3 ∷ 3 ∷ 3 ∷ [];
+  layer_count = 4;
+  glyphs = [];
+}
 
 -- they are what the base text says
 base_entries : (names_of_text base_head).entries ≡ base_names.entries

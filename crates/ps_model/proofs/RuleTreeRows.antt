@@ -44,23 +44,26 @@ plain_rule line rows = record { line = line; late = false; joined = false; direc
 -- a push: the numbers of its items are the bytes at which their names begin
 push : rules_read base_names (lines_below (codes "[ > Player | Crate ] -> [ > Player | > Crate ]"))
     ≡ Rule (plain_rule 2 (((cell (Is 10 (Some word.Forwards) (one 2) ∷ []) (Is 34 (Some word.Forwards) (one 2) ∷ [])
-        ∷ cell (Is 19 None (one 3) ∷ []) (Is 45 (Some word.Forwards) (one 3) ∷ []) ∷ []) ∷ []) ∷ [])) ∷ []
+    ∷ cell (Is 19 None (one 3) ∷ []) (Is 45 (Some word.Forwards) (one 3) ∷ []) ∷ []) ∷ []) ∷ [])) ∷ []
 push = refl
 
 -- directions in their own order, a row in two parts, and commands alone on the right: the cells have nothing there
 commands_alone : rules_read base_names (lines_below (codes "+ left down [ no AT @ | ... | v B ] -> cancel again sfx3 message Hi (there) "))
     ≡ Rule (record (plain_rule 2 (((cell (No at ∷ Is 26 None crate_on_target ∷ []) [] ∷ []) ∷ (cell (Is 38 (Some word.TurnedRight) (one 6) ∷ []) [] ∷ []) ∷ []) ∷ [])) {
-        joined = true; directions = Down ∷ Left ∷ []; rewrites = false;
-        commands = record no_commands { cancel = true; again = true; message = Some (codes "Hi (there)") }
-      }) ∷ []
+      joined = true;
+      directions = Down ∷ Left ∷ [];
+      rewrites = false;
+      commands = record no_commands { cancel = true; again = true; message = Some (codes "Hi (there)") };
+    }) ∷ []
 commands_alone = refl
 
 -- two rows, empty cells, and an ellipsis with cells on both sides of it
 two_rows : rules_read base_names (lines_below (codes "late up late [] [A|...|B|] -> [ ] [ | ... | | A ] restart checkpoint win message"))
     ≡ Rule (record (plain_rule 2 (((cell [] [] ∷ []) ∷ []) ∷ ((cell (Is 23 None (one 5) ∷ []) [] ∷ []) ∷ (cell (Is 29 None (one 6) ∷ []) [] ∷ cell [] (Is 52 None (one 5) ∷ []) ∷ []) ∷ []) ∷ [])) {
-        late = true; directions = Up ∷ [];
-        commands = record no_commands { restart = true; checkpoint = true; win = true; message = Some [] }
-      }) ∷ []
+      late = true;
+      directions = Up ∷ [];
+      commands = record no_commands { restart = true; checkpoint = true; win = true; message = Some [] };
+    }) ∷ []
 two_rows = refl
 
 abbrev rules_in : List ℕ → List SourceRule

@@ -34,13 +34,13 @@ player_or_target = AnyOf 13 (object 1 ∷ object 3 ∷ [])
 abbrev names : Names
 names = record {
   entries =
-    (codes "background", One (object 0)) ∷ (codes ".", One (object 0)) ∷ (codes "player", One (object 1)) ∷ (codes "p", One (object 1))
-    ∷ (codes "crate", One (object 2)) ∷ (codes "*", One (object 2)) ∷ (codes "target", One (object 3)) ∷ (codes "o", One (object 3))
-    ∷ (codes "on", One (object 4)) ∷ (codes "@", crate_and_target) ∷ (codes "pt", player_or_target)
-    ∷ (codes "&", AllOf 14 (object 1 ∷ object 3 ∷ [])) ∷ [];
+      (codes "background", One (object 0)) ∷ (codes ".", One (object 0)) ∷ (codes "player", One (object 1)) ∷ (codes "p", One (object 1))
+      ∷ (codes "crate", One (object 2)) ∷ (codes "*", One (object 2)) ∷ (codes "target", One (object 3)) ∷ (codes "o", One (object 3))
+      ∷ (codes "on", One (object 4)) ∷ (codes "@", crate_and_target) ∷ (codes "pt", player_or_target)
+      ∷ (codes "&", AllOf 14 (object 1 ∷ object 3 ∷ [])) ∷ [];
   layers = 0 ∷ 2 ∷ 2 ∷ 1 ∷ 2 ∷ [];
   layer_count = 3;
-  glyphs = []
+  glyphs = [];
 }
 
 -- the win conditions, and the first fault, of these bytes below the header

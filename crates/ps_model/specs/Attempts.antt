@@ -93,8 +93,12 @@ first_message (Some text) second = Some text
 -- a queue and the commands of a rule together
 abbrev pub both : Commands → Commands → Commands
 both queue commands = record {
-  cancel = queue.cancel || commands.cancel; restart = queue.restart || commands.restart; again = queue.again || commands.again;
-  checkpoint = queue.checkpoint || commands.checkpoint; win = queue.win || commands.win; message = first_message queue.message commands.message
+  cancel = queue.cancel || commands.cancel;
+  restart = queue.restart || commands.restart;
+  again = queue.again || commands.again;
+  checkpoint = queue.checkpoint || commands.checkpoint;
+  win = queue.win || commands.win;
+  message = first_message queue.message commands.message;
 }
 
 -- the queue with the commands of a rule: behind `cancel` nothing enters, behind `restart` nothing but a rule with `cancel`; a rule

@@ -124,7 +124,10 @@ meaning_of_cell cell = record { fits = mask_fits cell.mask; rewritten = cell_wri
 
 abbrev pub meaning_of_rule : CompiledRule → RuleMeaning
 meaning_of_rule rule = record {
-  direction = rule.direction; rows = map (map (map meaning_of_cell)) rule.rows; rewrites = rule.rewrites; commands = rule.commands
+  direction = rule.direction;
+  rows = map (map (map meaning_of_cell)) rule.rows;
+  rewrites = rule.rewrites;
+  commands = rule.commands;
 }
 
 abbrev pub meaning_of_section : CompiledSection → Section

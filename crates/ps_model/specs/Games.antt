@@ -39,7 +39,7 @@ game_with lines names = record {
   names = names;
   rules = rules_read names (section_lines lines Rules);
   entries = entries_read names (section_lines lines Levels);
-  wins = wins_read names (section_lines lines Wins)
+  wins = wins_read names (section_lines lines Wins);
 }
 
 -- what is read from the lines of a text, with faults or without

@@ -183,8 +183,12 @@ lines_from number start depth above (raw ∷ others) =
     let section : Section = unwrap_or (header_of plain) above in
     let place : Option ℕ = text_place section plain in
     record {
-      number = number; start = start; section = section; bytes = bytes_left raw section plain place;
-      taken = text_taken raw start section place; is_there = is_read depth raw plain
+      number = number;
+      start = start;
+      section = section;
+      bytes = bytes_left raw section plain place;
+      taken = text_taken raw start section place;
+      is_there = is_read depth raw plain;
     } ∷ lines_from (suc number) (start + length raw + 1) (depth_below section place depth raw) section others
 
 -- the lines of a text, those among them that aren't there; a byte order mark at its start is read past

@@ -46,8 +46,11 @@ abbrev pub legend_name : List (List ℕ × Mention) → Declaration → LegendNa
 legend_name known declared =
     let found : List (Option Mention) = map (λ name. lookup (bytes_eq (folded name)) known) declared.right.mentions in
     record {
-      line = declared.line; name = declared.name; joiner = declared.right.joiner;
-      mentions = filter_map (λ mention. mention) found; all_declared = list_all is_some found
+      line = declared.line;
+      name = declared.name;
+      joiner = declared.right.joiner;
+      mentions = filter_map (λ mention. mention) found;
+      all_declared = list_all is_some found;
     }
 
 -- the names of the legend, in order of declaration

@@ -61,8 +61,13 @@ sections_of objects legend_lines layer_lines =
     let declared : List Declared = all_declared objects legend meanings in
     let layers : List Layer = layers_of_lines (entries_of declared) layer_lines in
     record {
-      objects = objects; legend_lines = legend_lines; legend = legend; meanings = meanings; declared = declared; layers = layers;
-      object_layers = layers_found (length objects) layers
+      objects = objects;
+      legend_lines = legend_lines;
+      legend = legend;
+      meanings = meanings;
+      declared = declared;
+      layers = layers;
+      object_layers = layers_found (length objects) layers;
     }
 
 -- the sections of their lines
@@ -89,8 +94,10 @@ layer_numbers layers = map (λ layer. unwrap_or layer 0) layers
 abbrev pub names_of : NameSections → Names
 names_of sections =
     record {
-      entries = entries_of sections.declared; layers = layer_numbers sections.object_layers; layer_count = length sections.layers;
-      glyphs = filter_map glyph_of sections.declared
+      entries = entries_of sections.declared;
+      layers = layer_numbers sections.object_layers;
+      layer_count = length sections.layers;
+      glyphs = filter_map glyph_of sections.declared;
     }
 
 -- the names that the lines of OBJECTS, LEGEND and COLLISIONLAYERS declare

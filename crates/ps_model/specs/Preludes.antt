@@ -33,7 +33,7 @@ options_of prelude = record {
   no_undo = is_set prelude (codes "noundo");
   no_restart = is_set prelude (codes "norestart");
   require_player_movement = is_set prelude (codes "require_player_movement");
-  run_rules_on_level_start = is_set prelude (codes "run_rules_on_level_start")
+  run_rules_on_level_start = is_set prelude (codes "run_rules_on_level_start");
 }
 
 -- the title: the text of the first line of the prelude that begins with `title`, empty or not; without such a line it is empty

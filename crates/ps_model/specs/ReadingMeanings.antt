@@ -47,7 +47,10 @@ is_possible names rule reading = list_all (λ row. list_all (list_all (is_possib
 -- the meaning of a rule under a reading
 abbrev pub reading_meaning : Names → SourceRule → Reading → RuleMeaning
 reading_meaning names rule reading = record {
-  direction = reading.direction; rows = map (map (map (cell_meaning names rule reading))) rule.rows; rewrites = rule.rewrites; commands = rule.commands
+  direction = reading.direction;
+  rows = map (map (map (cell_meaning names rule reading))) rule.rows;
+  rewrites = rule.rewrites;
+  commands = rule.commands;
 }
 
 -- the possible readings of a rule in their order: what it means

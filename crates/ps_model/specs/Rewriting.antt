@@ -47,7 +47,7 @@ claim_on layer claims = find (λ claim. nat_eq claim.layer layer) claims
 -- none otherwise
 abbrev pub kept_motion : Option Claim → Motion → Motion
 kept_motion None motion = Still
-kept_motion (Some left) motion = elim left.motion [ | None ↦ motion | Some asked ↦ Still ]
+kept_motion (Some left) motion = elim left.motion [ None ↦ motion | Some asked ↦ Still ]
 
 -- the slot that a claim of the right makes of a slot: the named object, or the one that stands there; with the word's motion, or
 -- the one that is kept

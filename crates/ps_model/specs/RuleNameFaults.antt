@@ -68,4 +68,3 @@ is_unbound rule cell (No meaning) = false
 -- RU7: a property or a word of several moves on the right that no left occurrence decides
 abbrev pub has_unbound : SourceRule → Bool
 has_unbound rule = list_any (λ cell. list_any (is_unbound rule cell) cell.right) (cells_of rule)
-

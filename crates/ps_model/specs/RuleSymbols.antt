@@ -67,7 +67,7 @@ command_words =
     (codes "cancel", Asks Cancel) ∷ (codes "restart", Asks Restart) ∷ (codes "again", Asks Again) ∷ (codes "checkpoint", Asks Checkpoint)
     ∷ (codes "win", Asks Win) ∷ (codes "message", Asks Message)
     ∷ map (λ word. (word, Asks Sound)) (codes "sfx0" ∷ codes "sfx1" ∷ codes "sfx2" ∷ codes "sfx3" ∷ codes "sfx4" ∷ codes "sfx5"
-        ∷ codes "sfx6" ∷ codes "sfx7" ∷ codes "sfx8" ∷ codes "sfx9" ∷ codes "sfx10" ∷ [])
+    ∷ codes "sfx6" ∷ codes "sfx7" ∷ codes "sfx8" ∷ codes "sfx9" ∷ codes "sfx10" ∷ [])
 
 -- the words of PuzzleScript that this profile leaves out
 abbrev pub left_out_words : List (List ℕ × Symbol)

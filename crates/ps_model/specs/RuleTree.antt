@@ -101,11 +101,11 @@ commands_of line tokens = fold (λ commands token. with_command (text_of line) c
 -- the tree of a line's rule
 abbrev pub rule_of : Line → RuleShape → SourceRule
 rule_of line shape = record {
-    line = line.number;
-    late = has_kind is_late shape.left.ahead;
-    joined = has_kind is_plus shape.left.ahead;
-    directions = directions_given shape.left.ahead;
-    rows = rows_of shape;
-    rewrites = has_rows shape.right.rows;
-    commands = commands_of line (at_end shape.right)
-  }
+  line = line.number;
+  late = has_kind is_late shape.left.ahead;
+  joined = has_kind is_plus shape.left.ahead;
+  directions = directions_given shape.left.ahead;
+  rows = rows_of shape;
+  rewrites = has_rows shape.right.rows;
+  commands = commands_of line (at_end shape.right);
+}

@@ -37,8 +37,8 @@ rule_words_from zero place open_run (byte ∷ bytes) = elim (is_blank byte) [
   | false ↦
       let own : ℕ = own_length (is_some open_run) (byte ∷ bytes) in
       elim (nat_lt 0 own) [
-      | true ↦ run_to open_run place ++ (place, place + own) ∷ rule_words_from (own - 1) (suc place) None bytes
-      | false ↦ rule_words_from 0 (suc place) (Some (unwrap_or open_run place)) bytes
+        | true ↦ run_to open_run place ++ (place, place + own) ∷ rule_words_from (own - 1) (suc place) None bytes
+        | false ↦ rule_words_from 0 (suc place) (Some (unwrap_or open_run place)) bytes
       ]
 ]
 

@@ -33,8 +33,13 @@ pub record Script : Type 0 where
 -- a game with its rules as they are written
 abbrev pub script_of : Game → Script
 script_of game = record {
-  title = game.title; options = game.options; names = game.names; plain = program_of game.names Plain game.rules;
-  late = program_of game.names Late game.rules; entries = game.entries; wins = game.wins
+  title = game.title;
+  options = game.options;
+  names = game.names;
+  plain = program_of game.names Plain game.rules;
+  late = program_of game.names Late game.rules;
+  entries = game.entries;
+  wins = game.wins;
 }
 
 -- a turn that is done: the board; whether it differs from that before; the first message; and whether a checkpoint is set, the
@@ -106,8 +111,12 @@ abbrev pub done_with : Script → State → Bool → Done
 done_with script last changed =
     let queue : Commands = last.queue in
     record {
-      board = last.grid; changed = changed; message = queue.message; checkpoint = queue.checkpoint;
-      win = queue.win || is_won script.wins last.grid; again = queue.again && changed
+      board = last.grid;
+      changed = changed;
+      message = queue.message;
+      checkpoint = queue.checkpoint;
+      win = queue.win || is_won script.wins last.grid;
+      again = queue.again && changed;
     }
 
 -- the outcome of a turn whose last state this is: blocked, where a Player has to move and none did; blocked by `cancel`; restarted
