@@ -45,11 +45,6 @@ odd_play_015 : written (codes "title T\nOBJECTS\nBackground .\ngreen\nWall #\nbr
 unfolding chars digits is_utf8 utf8_valid_len encode group program_run all_start_turns all_key_turns
 odd_play_015 = refl
 
-odd_play_018 : written (codes "noundo\ntitle T\nOBJECTS\nBackground .\ngreen\nWall #\nbrown\nPlayer P\nwhite\nCrate *\norange\nTarget O\nblue\nA\nred\nB\npink\nC\ngray\nD\nblack\nLEGEND\nX = A and A\n@ = Crate and Target\nAT = A or Target\nAB = A or B\nAC=A or C\nBD = B or D or AB\nQ = AT\nZ = @\nW2 = Wall\nCOLLISIONLAYERS\nBackground\nTarget\nPlayer, Wall, Crate\nA B C D\nRULES\nWINCONDITIONS\nLEVELS\n#P*O.\n") (codes "dxxx")
-    ≡ Some (codes "= T\n# level 1\n#P*O.\n\n#P*O.\n\n#P*O.\n\n#P*O.\n\n#P*O.\n\n* end of keys\n")
-unfolding chars digits is_utf8 utf8_valid_len encode group program_run all_start_turns all_key_turns
-odd_play_018 = refl
-
 odd_play_019 : written (codes "title T\nOBJECTS\nBackground .\ngreen\nWall #\nbrown\nPlayer P\nwhite\nCrate *\norange\nTarget O\nblue\nA\nred\nB\npink\nC\ngray\nD\nblack\nE0\nx\nE1\nx\nE2\nx\nE3\nx\nE4\nx\nE5\nx\nE6\nx\nE7\nx\nE8\nx\nE9\nx\nE10\nx\nE11\nx\nE12\nx\nE13\nx\nE14\nx\nE15\nx\nE16\nx\nE17\nx\nE18\nx\nE19\nx\nE20\nx\nE21\nx\nE22\nx\nE23\nx\nE24\nx\nE25\nx\nE26\nx\nE27\nx\nE28\nx\nE29\nx\nE30\nx\nE31\nx\nE32\nx\nE33\nx\nE34\nx\nE35\nx\nE36\nx\nE37\nx\nE38\nx\nE39\nx\nE40\nx\nE41\nx\nE42\nx\nE43\nx\nE44\nx\nE45\nx\nE46\nx\nE47\nx\nE48\nx\nE49\nx\nE50\nx\nE51\nx\nE52\nx\nE53\nx\nLEGEND\n@ = Crate and Target\nAT = A or Target\nAB = A or B\nAC=A or C\nBD = B or D or AB\nQ = AT\nZ = @\n; = A\nCOLLISIONLAYERS\nBackground\nTarget\nPlayer, Wall, Crate\nA B C D E0 E1 E2 E3 E4 E5 E6 E7 E8 E9 E10 E11 E12 E13 E14 E15 E16 E17 E18 E19 E20 E21 E22 E23 E24 E25 E26 E27 E28 E29 E30 E31 E32 E33 E34 E35 E36 E37 E38 E39 E40 E41 E42 E43 E44 E45 E46 E47 E48 E49 E50 E51 E52 E53\nRULES\nWINCONDITIONS\nLEVELS\n#P*O.\n..;..\n") (codes "xd")
     ≡ Some (codes "= T\n# level 1\n#P*O.\n..A..\n\n#P*O.\n..A..\n\n#P*O.\n..A..\n\n* end of keys\n")
 unfolding chars digits is_utf8 utf8_valid_len encode group program_run all_start_turns all_key_turns
@@ -59,6 +54,11 @@ odd_play_026 : written (codes "title T\nflickscreen 1x256 z\nOBJECTS\nBackground
     ≡ Some (codes "= T\n# level 1\n#P*O.\n\n#P*O.\n\n#P*O.\n\n#P*O.\n\n* end of keys\n")
 unfolding chars digits is_utf8 utf8_valid_len encode group program_run all_start_turns all_key_turns
 odd_play_026 = refl
+
+odd_play_028 : written (codes "title T\nOBJECTS\nBackground .\ngreen\nWall #\nbrown\nPlayer P\nwhite\nCrate *\norange\nTarget O\nblue\nA\nred\nB\npink\nC\ngray\nD\nblack\nLEGEND\n@ = Crate and Target\nAT = A or Target\n; = A\nCOLLISIONLAYERS\nAT\nBackground\nTarget\nPlayer, Wall, Crate\nA B C D\nRULES\nWINCONDITIONS\nLEVELS\n#P*O.\n..;..\n") (codes "dwd")
+    ≡ Some (codes "= T\n# level 1\n#P*O.\n..A..\n\n#P*O.\n..A..\n\n#P*O.\n..A..\n\n#P*O.\n..A..\n\n* end of keys\n")
+unfolding chars digits is_utf8 utf8_valid_len encode group program_run all_start_turns all_key_turns
+odd_play_028 = refl
 
 play_010 : written (codes "title x (c) y\nnorestart\nrun_rules_on_level_start\n=========\noBjeCTS\n==\nBackground\ntransparent\n\nPlayer  3\ngreen\nGem  &\ngreen\n\nwaLL\nlight-blue 12\n\nKey\ta ( -> [ | ] )\nblue\n\nagain2\t+\ntransparent\n\nD  v\ntransparent\nLEGEND\nP0 = Wall or Player\nP1 = P0 or Player\nP2 = D or again2 or Player\n2 = again2 and Player\n! =  Gem and again2 and D\n6 = Key and Player and Wall\n' = Background\ne = Wall\n===\nSOUNDS\n=====\nsfx0 123\nCrate MOVE 4\nCOLlIsionlAYers\nBackground\nGem, Player\nagain2, Key\nWall, D\nRULES\n[ > Player | Wall ] -> [ > Player | > Wall ]\n+ [  | ... | down Wall ' ] -> [  | ... | Key ]\n\nWINCONDITIONS\n\nAny P0 on e\nNo Wall\n=========\nLEVELS\n=\nmessage Hello\n\nv66\n3a'\n&3'\n\n") (codes "sdxdxdw" ++ ((27 ∷ []) ++ (codes "[A" ++ ((27 ∷ []) ++ (codes "[")))))
     ≡ Some (codes "= x\n! Hello\n# level 1\nD66\n3a'\n&3'\n\nD66\n'a'\n&'3\n\nD66\n'a'\n&'3\n\nD66\n'a3\n&'3\n\nD66\n'a3\n&'3\n\nD66\n'a3\n&'3\n\n* end of keys\n")

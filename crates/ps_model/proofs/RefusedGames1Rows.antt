@@ -41,6 +41,11 @@ fault_042 : refused (codes "title A  Long Title \nOBJECTS\n\nGrass  i\nlight-blu
 unfolding chars digits is_utf8 utf8_valid_len encode group program_run all_start_turns all_key_turns
 fault_042 = refl
 
+fault_069 : refused (codes "title T\ncolor_palette 2\nOBJECTS\nBackground  q\nlight-blue 12\nPlayer\t&\nred\nup1 6 ( -> [ | ] )\n#fff\n\nB '\ngreen\nGoal k\nblue\n44594\n009.5\n00935\n75719\n76403\nv2  _\ntransparent\n77317\n24.86\n47802\n8545.\n21661\ngeM 4\ngreen\n\nC m\nred\n76927\n38739\n00102\n.4026\n94.98\n\nLEGEND\n\nP0 = C or Gem or Goal or C\n3 = Goal and up1\nCOLLISIONLAYERS\nBackground\nC\nB, up1\nPlayer,v2\nGoal Gem\nWINCONDITIONS\nLEVELS\n&qqz\n\n")
+    ≡ Some (record { kind = kind.UnknownGlyph; line = 50 })
+unfolding chars digits is_utf8 utf8_valid_len encode group program_run all_start_turns all_key_turns
+fault_069 = refl
+
 fault_070 : refused (codes "author Me (you)\nOBJECTS\n\nBackground  @\n#fff\n\nPlayer\t;\nred\n\nwaLL\t!\ngreen\n023.7\n05703\n58498\n481.4\n71.98\nLEGEND\n\nP0 = Wall or Player\nP1 = Player or Wall\nP2 = P1 or Player\n=\nCOLLISIONLAYERS\n=========\n\nBackground\nPlayer,Wall\n====\nruleS\n=========\n[ Wall P0 ] -> [ Wall P0 ]\n[ < P1 ] [ P2 ] -> [ v P1 ] [  ] win\n[ sTATIOnaRy Player no Player |  ] [ no Player ] -> [|] [  ]\n[ OrThoGoNAL Wall | vertical Player ] -> [ OrThoGoNAL Wall |  ]\n======\nWINCONDITIONS\n=======\n\nNo P2\nLEVELS\n@@@@;\n\n;@;@\n@@;!\n@;@@?\n\n;\n;\n\n")
     ≡ Some (record { kind = kind.Impossible; line = 31 })
 unfolding chars digits is_utf8 utf8_valid_len encode group program_run all_start_turns all_key_turns
@@ -101,12 +106,7 @@ odd_fault_001 : refused (codes "title T\nOBJECTS\nBackground .\ngreen\nWall #\nb
 unfolding chars digits is_utf8 utf8_valid_len encode group program_run all_start_turns all_key_turns
 odd_fault_001 = refl
 
-odd_fault_003 : refused (codes "title T\nOBJECTS\nBackground .\ngreen\nWall #\nbrown\nPlayer P\nwhite\nCrate *\norange\nTarget O\nblue\non O\nred\nA\nred\nB\npink\nC\ngray\nD\nblack\nLEGEND\n@ = Crate and Target\nAT = A or Target\nAB = A or B\nAC=A or C\nBD = B or D or AB\nQ = AT\nWINCONDITIONS\nRULES\n[ A ] ->\nCOLLISIONLAYERS\nBackground\nTarget\nPlayer, Wall, Crate\n, ,\nA B C D\nLEVELS\n#P*O.\n")
-    ≡ Some (record { kind = kind.SectionOrder; line = 31 })
+odd_fault_002 : refused (codes "title T\nLEVELS\n#P*O.\nLEGEND\n@ = Crate and Target\nCOLLISIONLAYERS\nBackground\nTarget\nPlayer, Wall, Crate\nA B C D\nRULES\n[ Player Crate |  ] [ <Z action ] [ ^ @ > AB Zed ] -> [  | ... ] [ right Target ] [ down Z BD ]\nWINCONDITIONS\nOBJECTS\nBackground .\ngreen\nWall #\nbrown\nPlayer P\nwhite\nCrate *\norange\nTarget O\nblue\nA\nred\nB\npink\nC\ngray\nD\nblack\n")
+    ≡ Some (record { kind = kind.SectionOrder; line = 4 })
 unfolding chars digits is_utf8 utf8_valid_len encode group program_run all_start_turns all_key_turns
-odd_fault_003 = refl
-
-odd_fault_004 : refused (codes "title T\nOBJECTS\nBackground .\ngreen\nWall #\nbrown\nPlayer P\nwhite\nCrate *\norange\nX\nred\n00000\n00000\n00000\n00000\n00000\n00000\nTarget O\nblue\nA\nred\nB\npink\nC\ngray\nD\nblack\nLEGEND\n@ = Crate and Target\nAT = A or Target\nCOLLISIONLAYERS\nBackground\nTarget\nPlayer, Wall, Crate\nA B C D\nRULES\nWINCONDITIONS\nLEVELS\n#P*O.\n")
-    ≡ Some (record { kind = kind.BadObject; line = 28 })
-unfolding chars digits is_utf8 utf8_valid_len encode group program_run all_start_turns all_key_turns
-odd_fault_004 = refl
+odd_fault_002 = refl

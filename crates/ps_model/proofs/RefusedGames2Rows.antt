@@ -11,15 +11,15 @@ use Rattle.ps_model.specs.KeySteps.{all_key_turns}
 use Rattle.ps_model.specs.declared.faults.FaultKind.TheVariants as kind
 use Rattle.ps_model.proofs.WholeRuns.{refused}
 
-odd_fault_006 : refused (codes "title T\nOBJECTS\nBackground .\ngreen\nWall #\nbrown\nPlayer P\nwhite\nCrate *\norange\nTarget O\nblue\nA\nred\nB\npink\nC\ngray\nD\nblack\nLEGEND\n@ = Crate and Target\nAT = A or Target\nAB = A or B\nAC=A or C\nBD = B or D or AB\nQ = AT\nZ = @\nW2 = Wall\nCOLLISIONLAYERS\nBackground\nTarget\nPlayer, Wall, Crate\nA B C D\nRULES\nlate [ < Q perpendicular A |  | Target ] -> [ < Q perpendicular A |  | Target ] win\nWINCONDITIONS\nLEVELS\n#P*O.\n")
-    ≡ Some (record { kind = kind.LateMove; line = 36 })
+odd_fault_003 : refused (codes "title T\nOBJECTS\nBackground .\ngreen\nWall #\nbrown\nPlayer P\nwhite\nCrate *\norange\nTarget O\nblue\non O\nred\nA\nred\nB\npink\nC\ngray\nD\nblack\nLEGEND\n@ = Crate and Target\nAT = A or Target\nAB = A or B\nAC=A or C\nBD = B or D or AB\nQ = AT\nWINCONDITIONS\nRULES\n[ A ] ->\nCOLLISIONLAYERS\nBackground\nTarget\nPlayer, Wall, Crate\n, ,\nA B C D\nLEVELS\n#P*O.\n")
+    ≡ Some (record { kind = kind.SectionOrder; line = 31 })
 unfolding chars digits is_utf8 utf8_valid_len encode group program_run all_start_turns all_key_turns
-odd_fault_006 = refl
+odd_fault_003 = refl
 
-odd_fault_007 : refused (codes "title T\nOBJECTS\nBackground .\ngreen\nWall #\nbrown\nPlayer P\nwhite\nCrate *\norange\nTarget O\nblue\nA\nred\nB\npink\nC\ngray\nD\nblack\nLEGEND\nCOLLISIONLAYERS\nBackground\nTarget\nPlayer, Wall, Crate\nA B C D\nRULES\n[ horizontal B |  ] [ down Z |  | Target | Z up Wall ] [ D | AT ] -> [ ... | Wall Player ] [ vertical Wall AC | <B | horizontal AB | no D horizontal BD ] [ Crate | Zed down W2 ]\nWINCONDITIONS\nLEVELS\n#P*O.\n")
-    ≡ Some (record { kind = kind.UnknownWord; line = 28 })
+odd_fault_004 : refused (codes "title T\nOBJECTS\nBackground .\ngreen\nWall #\nbrown\nPlayer P\nwhite\nCrate *\norange\nX\nred\n00000\n00000\n00000\n00000\n00000\n00000\nTarget O\nblue\nA\nred\nB\npink\nC\ngray\nD\nblack\nLEGEND\n@ = Crate and Target\nAT = A or Target\nCOLLISIONLAYERS\nBackground\nTarget\nPlayer, Wall, Crate\nA B C D\nRULES\nWINCONDITIONS\nLEVELS\n#P*O.\n")
+    ≡ Some (record { kind = kind.BadObject; line = 28 })
 unfolding chars digits is_utf8 utf8_valid_len encode group program_run all_start_turns all_key_turns
-odd_fault_007 = refl
+odd_fault_004 = refl
 
 odd_fault_009 : refused (codes "title T\nOBJECTS\nBackground .\ngreen\nWall #\nbrown\nPlayer P\nwhite\nCrate *\norange\nTarget O\nblue\nA\nred\nB\npink\nC\ngray\nD\nblack\nLEGEND\n@ = Crate and Target\nAT = A or Target\nAB = A or B\nAC=A or C\nBD = B or D or AB\nCOLLISIONLAYERS\nBackground\nTarget\nPlayer, Wall, Crate\nA B C D\nRULES\n[  | A ] [  | right A ] [ @ no BD | horizontal AC ] [ B | stationary Zed ]\nWINCONDITIONS\n")
     ≡ Some (record { kind = kind.NoSection; line = 34 })
@@ -35,11 +35,6 @@ odd_fault_012 : refused (codes "title T\nOBJECTS\nBackground .\ngreen\nWall #\nb
     ≡ Some (record { kind = kind.UnknownGlyph; line = 34 })
 unfolding chars digits is_utf8 utf8_valid_len encode group program_run all_start_turns all_key_turns
 odd_fault_012 = refl
-
-odd_fault_016 : refused (codes "title T\nOBJECTS\nBackground .\ngreen\nWall #\nbrown\nOBJECTS\nred\nPlayer P\nwhite\nCrate *\norange\nTarget O\nblue\nA\nred\nB\npink\nC\ngray\nD\nblack\nLEGEND\nCOLLISIONLAYERS\nBackground\nTarget\nPlayer, Wall, Crate\nA B C D\nAT\nRULES\n[ Player Wall late | ... ] -> [ no AT W2 | W2 ] foo\nWINCONDITIONS\nLEVELS\n#P*O.\n")
-    ≡ Some (record { kind = kind.SectionOrder; line = 7 })
-unfolding chars digits is_utf8 utf8_valid_len encode group program_run all_start_turns all_key_turns
-odd_fault_016 = refl
 
 odd_fault_020 : refused (codes "title T\nOBJECTS\nBackground .\ngreen\nWall #\nbrown\nPlayer P\nwhite\nCrate *\norange\nTarget O\nblue\nX\nred\n.....\nA\nred\nB\npink\nC\ngray\nD\nblack\nLEGEND\n@ = Crate and Target\nAT = A or Target\nAB = A or B\nAC=A or C\nBD = B or D or AB\nQ = AT\nZ = @\nCOLLISIONLAYERS\nBackground\nTarget\nPlayer, Wall, Crate\nA B C D\nRULES\nWINCONDITIONS\nLEVELS\n#P*O.\n")
     ≡ Some (record { kind = kind.BadObject; line = 13 })
@@ -66,20 +61,15 @@ odd_fault_027 : refused (codes "title T\nOBJECTS\nBackground .\ngreen\nWall #\nb
 unfolding chars digits is_utf8 utf8_valid_len encode group program_run all_start_turns all_key_turns
 odd_fault_027 = refl
 
-odd_fault_029 : refused (codes "title T\nOBJECTS\nBackground .\ngreen\nWall #\nbrown\nPlayer P\nwhite\nCrate *\norange\nTarget O\nblue\nA\nred\nB\npink\nC\ngray\nD\nblack\nLEGEND\n@ = Crate and Target\nAT = A or Target\nCOLLISIONLAYERS\nBackground\nTarget\nPlayer, Wall, Crate\nA B C D\nRULES\nrandom [ no Player ] -> [ no Player ]\nmessage x [ up AT | right ] -> -> [ action Crate C | no AC perpendicular Zed ] [ up W2 ] win\n[ Q Wall ] -> [ Q Wall ] restart checkpoint\n+ [ parallel Z | BD Q | no B ] [ A ] [ v Q | no Crate | @ ] -> win\nWINCONDITIONS\nLEVELS\n#P*O.\n")
-    ≡ Some (record { kind = kind.NotInProfile; line = 30 })
+odd_fault_028 : refused (codes "title T\nOBJECTS\nBackground .\ngreen\nWall #\nbrown\nPlayer P\nwhite\nCrate *\norange\nTarget O\nblue\nA\nred\nB\npink\nC\ngray\nD\nblack\nLEGEND\n@ = Crate and Target\nAT = A or Target\nAB = A or B\nAC=A or C\nBD = B or D or AB\nQ = AT\nCOLLISIONLAYERS\nBackground\nTarget\nPlayer, Wall, Crate\nA B C D\nRULES\nCrate [ A | AC | AT | @ ] -> [ ... |  | Z v | down D ] cancel\nhorizontal [  | Wall | ...  -> [  | Q right | no Crate ]\nWINCONDITIONS\nLEVELS\n#P*O.\n")
+    ≡ Some (record { kind = kind.UnknownWord; line = 34 })
 unfolding chars digits is_utf8 utf8_valid_len encode group program_run all_start_turns all_key_turns
-odd_fault_029 = refl
+odd_fault_028 = refl
 
 odd_fault_032 : refused (codes "title T\nOBJECTS\nBackground .\ngreen\nWall #\nbrown\nPlayer P\nwhite\nCrate *\norange\nTarget O\nblue\nA\nred\nB\npink\nC\ngray\nD\nblack\nLEGEND\n@ = Crate and Target\nAT = A or Target\nAB = A or B\nAC=A or C\nX = A and\nCOLLISIONLAYERS\nBackground\nTarget\nPlayer, Wall, Crate\nA B C D\nRULES\nlate\nWINCONDITIONS\nLEVELS\n#P*O.\n")
     ≡ Some (record { kind = kind.BadLine; line = 26 })
 unfolding chars digits is_utf8 utf8_valid_len encode group program_run all_start_turns all_key_turns
 odd_fault_032 = refl
-
-odd_fault_033 : refused (codes "title T\nOBJECTS\nBackground .\ngreen\nWall #\nbrown\nPlayer P\nwhite\nCrate *\norange\nTarget O\nblue\nA\nred\nB\npink\nC\ngray\nD\nblack\nLEGEND\n@ = Crate and Target\nAT = A or Target\nAB = A or B\nAC=A or C\nBD = B or D or AB\nQ = AT\nZ = @\nW2 = Wall\nCOLLISIONLAYERS\nBackground\nTarget\nPlayer, Wall, Crate\nA B C D\nRULES\n-> [ A ]\nWINCONDITIONS\nLEVELS\n#P*O.\n")
-    ≡ Some (record { kind = kind.BadBracket; line = 36 })
-unfolding chars digits is_utf8 utf8_valid_len encode group program_run all_start_turns all_key_turns
-odd_fault_033 = refl
 
 odd_fault_034 : refused (codes "title T\nOBJECTS\nBackground .\ngreen\nWall #\nbrown\nPlayer P\nwhite\nCrate *\norange\nTarget O\nblue\nA\nred\nB\npink\nC\ngray\nD\nblack\nLEGEND\n@ = Crate and Target\nAT = A or Target\nAB = A or B\nCOLLISIONLAYERS\nBackground\nTarget\nPlayer, Wall, Crate\nA B C D\nRULES\nlate [ A ] -> [ B ]\n+ [ B ] -> [ A ]\n+ late [ @ |  | vertical Q no Z |  ] [  ] [ C | D AT ] -> [ @ |  | vertical Q no Z |  ] [  ] [ C | D AT ] foo\nWINCONDITIONS\nLEVELS\n#P*O.\n")
     ≡ Some (record { kind = kind.PlusLate; line = 32 })
@@ -110,3 +100,13 @@ odd_fault_039 : refused (codes "title T\nOBJECTS\nBackground .\ngreen\nWall #\nb
     ≡ Some (record { kind = kind.BadBracket; line = 29 })
 unfolding chars digits is_utf8 utf8_valid_len encode group program_run all_start_turns all_key_turns
 odd_fault_039 = refl
+
+odd_fault_040 : refused (codes "title T\nOBJECTS\nBackground .\ngreen\nWall #\nbrown\nPlayer P\nwhite\nCrate *\norange\nTarget O\nblue\nA\nred\nB\npink\nC\ngray\nD\nblack\nLEGEND\n@ = Crate and Target\nAT = A or Target\nAB = A or B\nCOLLISIONLAYERS\nBackground\na b\nTarget\nPlayer, Wall, Crate\nA B C D\nRULES\nright [ AT | AT | AT | AT | AT | AT | AT | AT | AT | AT | AT | AT | AT ] -> cancel\nWINCONDITIONS\nLEVELS\n#P*O.\n")
+    ≡ Some (record { kind = kind.TooManyReadings; line = 32 })
+unfolding chars digits is_utf8 utf8_valid_len encode group program_run all_start_turns all_key_turns
+odd_fault_040 = refl
+
+odd_fault_041 : refused (codes "title T\nOBJECTS\nBackground .\ngreen\nWall #\nbrown\nPlayer P\nwhite\nCrate *\norange\nTarget O\nblue\nA\nred\nB\npink\nC\ngray\nD\nblack\nLEGEND\n; = A\nCOLLISIONLAYERS\nBackground\nTarget\nPlayer, Wall, Crate\nA B C D\nRULES\nno [ right AT Player | no D ] [ perpendicular Z no D | AT | moving Target ] -> ->\nparallel [ no Player Q up ] [ ... ] [ Q | ... ] -> again\nWINCONDITIONS\nLEVELS\n#P*O.\n..;..\n")
+    ≡ Some (record { kind = kind.BadBracket; line = 29 })
+unfolding chars digits is_utf8 utf8_valid_len encode group program_run all_start_turns all_key_turns
+odd_fault_041 = refl

@@ -11,11 +11,6 @@ use Rattle.ps_model.specs.KeySteps.{all_key_turns}
 use Rattle.ps_model.specs.declared.faults.FaultKind.TheVariants as kind
 use Rattle.ps_model.proofs.WholeRuns.{refused}
 
-odd_fault_040 : refused (codes "title T\nOBJECTS\nBackground .\ngreen\nWall #\nbrown\nPlayer P\nwhite\nCrate *\norange\nTarget O\nblue\nA\nred\nB\npink\nC\ngray\nD\nblack\nLEGEND\n@ = Crate and Target\nAT = A or Target\nAB = A or B\nCOLLISIONLAYERS\nBackground\na b\nTarget\nPlayer, Wall, Crate\nA B C D\nRULES\nright [ AT | AT | AT | AT | AT | AT | AT | AT | AT | AT | AT | AT | AT ] -> cancel\nWINCONDITIONS\nLEVELS\n#P*O.\n")
-    ≡ Some (record { kind = kind.TooManyReadings; line = 32 })
-unfolding chars digits is_utf8 utf8_valid_len encode group program_run all_start_turns all_key_turns
-odd_fault_040 = refl
-
 odd_fault_043 : refused (codes "title T\nOBJECTS\nBackground .\ngreen\nWall #\nbrown\nPlayer P\nwhite\nCrate *\norange\nTarget O\nblue\nA\nred\nB\npink\nC\ngray\nD\nblack\nLEGEND\n; = A\nCOLLISIONLAYERS\nZed\nBackground\nTarget\nPlayer, Wall, Crate\nA B C D\nRULES\nWINCONDITIONS\nLEVELS\n#P*O.\n..;..\n")
     ≡ Some (record { kind = kind.UnknownName; line = 24 })
 unfolding chars digits is_utf8 utf8_valid_len encode group program_run all_start_turns all_key_turns
@@ -35,11 +30,6 @@ odd_fault_046 : refused (codes "title T\nOBJECTS\nBackground .\ngreen\nWall #\nb
     ≡ Some (record { kind = kind.NoLevel; line = 31 })
 unfolding chars digits is_utf8 utf8_valid_len encode group program_run all_start_turns all_key_turns
 odd_fault_046 = refl
-
-odd_fault_047 : refused (codes "title T\nOBJECTS\nBackground .\ngreen\nWall #\nbrown\nPlayer P\nwhite\nCrate *\norange\nTarget O\nblue\nA\nred\nB\npink\nC\ngray\nD\nblack\nLEGEND\n@ = Crate and Target\nAT = A or Target\nAB = A or B\nAC=A or C\nBD = B or D or AB\nQ = AT\nZ = @\nW2 = Wall\nCOLLISIONLAYERS\nBackground\nTarget\nPlayer, Wall, Crate\nA B C D\nRULES\nWINCONDITIONS\nLEVELS\n=Z\n#P*O.\n")
-    ≡ Some (record { kind = kind.UnknownGlyph; line = 38 })
-unfolding chars digits is_utf8 utf8_valid_len encode group program_run all_start_turns all_key_turns
-odd_fault_047 = refl
 
 odd_fault_050 : refused (codes "title T\nOBJECTS\nBackground .\ngreen\nWall #\nbrown\nPlayer P\nwhite\nCrate *\norange\nTarget O\nblue\nA\nred\nB\npink\nC\ngray\nD\nblack\nLEGEND\n@ = Crate and Target\nAT = A or Target\nAB = A or B\nAC=A or C\n; = A\nCOLLISIONLAYERS\nBackground\nTarget\nPlayer, Wall, Crate\nA B C D\nRULES\nWINCONDITIONS\nLEVELS\n#P*O.\n..;..\n===P\n")
     ≡ Some (record { kind = kind.UnknownGlyph; line = 37 })
@@ -110,3 +100,13 @@ odd_fault_070 : refused (codes "title T\nOBJECTS\nBackground .\ngreen\nWall #\nb
     ≡ Some (record { kind = kind.TooManyReadings; line = 36 })
 unfolding chars digits is_utf8 utf8_valid_len encode group program_run all_start_turns all_key_turns
 odd_fault_070 = refl
+
+odd_fault_071 : refused (codes "title T\nOBJECTS\nBackground .\ngreen\nWall #\nbrown\nPlayer P\nwhite\nCrate *\norange\nTarget O\nblue\nA\nred\nB\npink\nC\ngray\nD\nblack\nLEGEND\n@ = Crate and Target\nAT = A or Target\n= A\nCOLLISIONLAYERS\nBackground\nTarget\nPlayer, Wall, Crate\nA B C D\nRULES\nWINCONDITIONS\nSome\nLEVELS\n#P*O.\n")
+    ≡ Some (record { kind = kind.BadLine; line = 24 })
+unfolding chars digits is_utf8 utf8_valid_len encode group program_run all_start_turns all_key_turns
+odd_fault_071 = refl
+
+odd_fault_072 : refused (codes "title T\nOBJECTS\nGrass .\ngreen\nSand s\ny\nWall #\nbrown\nPlayer P\nwhite\nCrate *\norange\nTarget O\nblue\nA\nred\nB\npink\nC\ngray\nD\nblack\nLEGEND\n@ = Crate and Target\nAT = A or Target\nAB = A or B\nAC=A or C\nBD = B or D or AB\nQ = AT\n; = A\nBackground = Grass or Sand\nCOLLISIONLAYERS\nGrass\nSand\nTarget\nPlayer, Wall, Crate\nA B C D\nRULES\nWINCONDITIONS\nLEVELS\n#P*O.\nmessage hi (x)\n..;..\n")
+    ≡ Some (record { kind = kind.BadBackground; line = 31 })
+unfolding chars digits is_utf8 utf8_valid_len encode group program_run all_start_turns all_key_turns
+odd_fault_072 = refl

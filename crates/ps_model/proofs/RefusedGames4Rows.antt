@@ -11,16 +11,6 @@ use Rattle.ps_model.specs.KeySteps.{all_key_turns}
 use Rattle.ps_model.specs.declared.faults.FaultKind.TheVariants as kind
 use Rattle.ps_model.proofs.WholeRuns.{refused}
 
-odd_fault_071 : refused (codes "title T\nOBJECTS\nBackground .\ngreen\nWall #\nbrown\nPlayer P\nwhite\nCrate *\norange\nTarget O\nblue\nA\nred\nB\npink\nC\ngray\nD\nblack\nLEGEND\n@ = Crate and Target\nAT = A or Target\n= A\nCOLLISIONLAYERS\nBackground\nTarget\nPlayer, Wall, Crate\nA B C D\nRULES\nWINCONDITIONS\nSome\nLEVELS\n#P*O.\n")
-    ≡ Some (record { kind = kind.BadLine; line = 24 })
-unfolding chars digits is_utf8 utf8_valid_len encode group program_run all_start_turns all_key_turns
-odd_fault_071 = refl
-
-odd_fault_072 : refused (codes "title T\nOBJECTS\nGrass .\ngreen\nSand s\ny\nWall #\nbrown\nPlayer P\nwhite\nCrate *\norange\nTarget O\nblue\nA\nred\nB\npink\nC\ngray\nD\nblack\nLEGEND\n@ = Crate and Target\nAT = A or Target\nAB = A or B\nAC=A or C\nBD = B or D or AB\nQ = AT\n; = A\nBackground = Grass or Sand\nCOLLISIONLAYERS\nGrass\nSand\nTarget\nPlayer, Wall, Crate\nA B C D\nRULES\nWINCONDITIONS\nLEVELS\n#P*O.\nmessage hi (x)\n..;..\n")
-    ≡ Some (record { kind = kind.BadBackground; line = 31 })
-unfolding chars digits is_utf8 utf8_valid_len encode group program_run all_start_turns all_key_turns
-odd_fault_072 = refl
-
 odd_fault_073 : refused (codes "title T\nOBJECTS\nBackground .\ngreen\nWall #\nbrown\nPlayer P\nwhite\nCrate *\norange\nTarget O\nblue\nA\nred\nB\npink\nC\ngray\nD\nblack\nLEGEND\n@ = Crate and Target\nX = @ or A\nAT = A or Target\nX = A and A\nAB = A or B\nX = A and A\nCOLLISIONLAYERS\nBackground\nTarget\nPlayer, Wall, Crate\nA B C D\nRULES\nWINCONDITIONS\nLEVELS\n#P*O.\n")
     ≡ Some (record { kind = kind.Twice; line = 25 })
 unfolding chars digits is_utf8 utf8_valid_len encode group program_run all_start_turns all_key_turns
