@@ -65,3 +65,6 @@ mod RefusedGames1Rows
 mod RefusedGames2Rows
 mod RefusedGames3Rows
 mod RefusedGames4Rows
+mod CornerRows
+mod OddTextRows
+mod OddRuleRows
