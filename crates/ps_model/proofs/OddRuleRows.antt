@@ -146,10 +146,10 @@ once_by_legend : AllToldWithLegend None (codes "[ Q R ] -> cancel" ∷ codes "[ 
 unfolding chars is_utf8 encode utf8_valid_len
 once_by_legend = refl
 
--- a synonym of an aggregate is one
-barred_by_legend : AllToldWithLegend (at_line 30 kind.NoAggregate) (codes "[ no Z ] -> cancel" ∷ codes "[ A no h | B ] -> [ | ]" ∷ codes "[ A | B ] -> [ | A no z ]" ∷ [])
+-- `no` doesn't stand before a synonym of an aggregate either, on neither side
+no_before_synonym : AllToldWithLegend (at_line 30 kind.NoAggregate) (codes "[ no Z ] -> cancel" ∷ codes "[ A no h | B ] -> [ | ]" ∷ codes "[ A | B ] -> [ | A no z ]" ∷ [])
 unfolding chars is_utf8 encode utf8_valid_len
-barred_by_legend = refl
+no_before_synonym = refl
 
 -- what decides a property of the right may be another name of it; two occurrences of it in other cells decide nothing; a word is
 -- decided in its own cell by the same object, whatever its name there
@@ -159,13 +159,33 @@ unbound_by_legend : AllToldWithLegend (at_line 30 kind.Unbound)
 unfolding chars is_utf8 encode utf8_valid_len
 unbound_by_legend = refl
 
+-- one occurrence on the left decides it wherever it stands, and so does the one in its own cell
 bound_by_legend : AllToldWithLegend None
     (codes "[ S | ] -> [ | T ]" ∷ codes "[ Q | T ] -> [ S | Q ]" ∷ codes "[ moving A | moving B ] -> [ moving AA | ]" ∷ codes "[ Moving A ] -> [ MOVING C ]" ∷ codes "[ > Q | moving B ] -> [ moving T | ]"
     ∷ codes "[ moving S | D ] -> [ | moving T ]" ∷ codes "[ moving Z ] -> [ moving G ]" ∷ [])
 unfolding chars is_utf8 encode utf8_valid_len
 bound_by_legend = refl
 
--- readings -------------------------------------------------------------------------------------------------------------------
+-- how many rules, and how many readings ----------------------------------------------------------------------------------------
+
+-- what is told of 1,023 rules and these lines below them
+abbrev told_below_many : List ℕ → Option Fault
+told_below_many rules = told (flat_map (λ rule. rule) (replicate 1023 (codes "[]->win\n")) ++ rules)
+
+-- 1,024 rules are within the limit; the lines of a loop are none
+many_rules : told_below_many (codes "startloop\n[]->win\nendloop") ≡ None
+unfolding chars is_utf8 encode utf8_valid_len
+many_rules = refl
+
+-- the next rule isn't
+one_rule_more : told_below_many (codes "[]->win\n(x)\n\n[]->win\n[]->win") ≡ at_line 1056 kind.TooManyRules
+unfolding chars is_utf8 encode utf8_valid_len
+one_rule_more = refl
+
+-- the other faults of its line are told first
+one_rigid_rule_more : told_below_many (codes "[]->win\nrigid []->win") ≡ at_line 1054 kind.NotInProfile
+unfolding chars is_utf8 encode utf8_valid_len
+one_rigid_rule_more = refl
 
 -- so many items
 abbrev times : ℕ → List ℕ → List ℕ

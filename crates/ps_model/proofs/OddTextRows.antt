@@ -1,6 +1,6 @@
 -- Odd texts, worked by hand: what is told of them first, and at which line; or what they say where they are games.
-use Rattle.std.proofs.Common.{◌≡◌, ℕ, List, [], ◌∷◌, ◌++◌, map, refl, Option, Some, None}
-use Rattle.std.specs.Prelude.{codes, option_map, replicate}
+use Rattle.std.proofs.Common.{◌≡◌, ℕ, List, [], ◌∷◌, ◌++◌, ap, map, length, refl, Option, Some, None, true, false}
+use Rattle.std.specs.Prelude.{codes, option_map, replicate, nat_lt}
 use Rattle.std.specs.List.{flat_map, range_with_len}
 use Rattle.std.specs.Str.{chars, is_utf8}
 use Rattle.std.specs.Str.Lossy.{utf8_valid_len}
@@ -13,6 +13,8 @@ use Rattle.ps_model.specs.declared.pieces.ObjectId.{ObjectId}
 use Rattle.ps_model.specs.declared.faults.Fault.{Fault}
 use Rattle.ps_model.specs.declared.faults.FaultKind.{FaultKind}
 use Rattle.ps_model.specs.declared.faults.FaultKind.TheVariants as kind
+use Rattle.ps_model.specs.Limits.{text_limit}
+use Rattle.ps_model.specs.TextFaults.{text_fault, utf8_fault}
 use Rattle.ps_model.specs.Names.{One, AllOf, AnyOf, meaning_of}
 use Rattle.ps_model.specs.Games.{game}
 use Rattle.ps_model.proofs.BaseText.{base_game}
@@ -59,15 +61,20 @@ cut_by_line_feed : refused (codes "a\n" ++ 226 ∷ 130 ∷ 10 ∷ 172 ∷ []) �
 unfolding chars is_utf8 encode utf8_valid_len
 cut_by_line_feed = refl
 
--- the last characters of each length are characters, and so is a byte order mark; two of its three bytes are none
+-- the last character of each length is one, as is the last before the halves of pairs; a byte order mark alone is an empty line
 last_characters : AllRefused (at_line 1 kind.NoSection)
     ((0 ∷ []) ∷ (127 ∷ []) ∷ (223 ∷ 191 ∷ []) ∷ (237 ∷ 159 ∷ 191 ∷ []) ∷ (239 ∷ 191 ∷ 191 ∷ []) ∷ (244 ∷ 143 ∷ 191 ∷ 191 ∷ []) ∷ (239 ∷ 187 ∷ 191 ∷ []) ∷ [])
 unfolding chars is_utf8 encode utf8_valid_len
 last_characters = refl
 
+-- two bytes of a byte order mark are no character
 half_mark : refused (239 ∷ 187 ∷ codes "\nOBJECTS") ≡ at_line 1 kind.NotUtf8
 unfolding chars is_utf8 encode utf8_valid_len
 half_mark = refl
+
+-- a text of just as many bytes as the limit isn't too long
+as_long_as_may_be : (text : List ℕ) → length text ≡ text_limit → text_fault text ≡ utf8_fault text
+as_long_as_may_be text is_long = ap (λ size. elim (nat_lt text_limit size) [ true ↦ Some (record { kind = kind.TooLong; line = 1 }) | false ↦ utf8_fault text ]) is_long
 
 -- a byte order mark and two line feeds are two empty lines
 mark_and_feeds : refused (239 ∷ 187 ∷ 191 ∷ codes "\n\n") ≡ at_line 2 kind.NoSection
@@ -102,6 +109,7 @@ no_background : AllRefused (at_line 3 kind.NoBackground)
 unfolding chars is_utf8 encode utf8_valid_len
 no_background = refl
 
+-- an object that nothing names Player is none
 no_player : refused (codes "title T\n\nOBJECTS\nBackground\nx\nCOLLISIONLAYERS\nBackground\nLEVELS\n") ≡ at_line 3 kind.NoPlayer
 unfolding chars is_utf8 encode utf8_valid_len
 no_player = refl
@@ -117,20 +125,22 @@ header_below_name : refused (codes "OBJECTS\nBackground .\nx\nPlayer P\nCOLLISIO
 unfolding chars is_utf8 encode utf8_valid_len
 header_below_name = refl
 
--- nor a row of a level, nor a rule
+-- a header among the rows of a level isn't one of them
 header_among_rows : refused (base_game [] [] (codes "P\nrules\nP\n")) ≡ at_line 33 kind.SectionOrder
 unfolding chars is_utf8 encode utf8_valid_len
 header_among_rows = refl
 
+-- nor is one among rules a rule
 header_among_rules : refused (base_game (codes "[ A ] -> [ B ]\n(x) Sounds\n") [] (codes "P\n")) ≡ at_line 31 kind.SectionOrder
 unfolding chars is_utf8 encode utf8_valid_len
 header_among_rules = refl
 
--- `message` is a word like others in SOUNDS and in the prelude: a comment begins behind it, and hides the headers below
+-- `message` is a word like others in SOUNDS: a comment begins behind it, and hides the headers below
 message_in_sounds : refused (codes "OBJECTS\nBackground\nx\nPlayer\nx\nSOUNDS\nmessage (x\nCOLLISIONLAYERS\nBackground\nPlayer\nLEVELS\nPlayer") ≡ at_line 12 kind.NoSection
 unfolding chars is_utf8 encode utf8_valid_len
 message_in_sounds = refl
 
+-- so it is in the prelude, where a hidden header begins no section
 message_in_prelude : refused (codes "message (x\nOBJECTS\n) realtime_interval 1\nOBJECTS\n") ≡ at_line 3 kind.Realtime
 unfolding chars is_utf8 encode utf8_valid_len
 message_in_prelude = refl
@@ -161,12 +171,13 @@ good_names : AllRefused None
 unfolding chars is_utf8 encode utf8_valid_len
 good_names = refl
 
--- colours stand right below the name; a blank line there is none, nor is a comment or a line of `=`, which may stand between
+-- colours stand right below the name: a blank line is none, nor are a comment, a line of `=` and the next header
 no_colours : AllRefused (at_line 6 kind.BadObject)
     (text_with (codes "Rock\n\nx\n") [] [] ∷ text_with (codes "Rock\n") [] [] ∷ text_with (codes "Rock\n(x)\n") [] [] ∷ text_with (codes "Rock\n= =\n\t\nx\n") [] [] ∷ [])
 unfolding chars is_utf8 encode utf8_valid_len
 no_colours = refl
 
+-- but comments and lines of `=` may stand between a name and its colours
 colours_below_comments : refused (text_with (codes "Rock (a\n\nb)\n(x)\n==\n\tred (x)\n") [] (codes "Rock\n")) ≡ None
 unfolding chars is_utf8 encode utf8_valid_len
 colours_below_comments = refl
@@ -183,7 +194,7 @@ short_sprites : AllRefused (at_line 6 kind.BadObject)
 unfolding chars is_utf8 encode utf8_valid_len
 short_sprites = refl
 
--- what is no sprite row names the next object, which has no layer here: six characters, a sixth row, and a row below a blank line
+-- what is no sprite row names the next object, which has no layer here: six characters, a sixth row, one below a blank line, a dash
 sprite_or_name : map refused
     (text_with (codes "Rock\nx\n000000\nx\n") [] (codes "Rock\n") ∷ text_with (codes "Rock\nx\n00000\n11111\n22222\n33333\n44444\n55555\nx\n") [] (codes "Rock\n")
     ∷ text_with (codes "Rock\n12345\n\n00000\nx\n") [] (codes "Rock\n") ∷ text_with (codes "Rock\nx\n0000-\nx\n") [] (codes "Rock\n") ∷ [])
@@ -217,11 +228,12 @@ more_objects count = flat_map (λ number. name_of number ++ codes "\nx\n") (rang
 abbrev more_names : ℕ → List ℕ
 more_names count = flat_map (λ number. name_of number ++ codes " ") (range_with_len 0 count) ++ codes "\n"
 
--- 64 objects are within the limit, the 65th isn't, and is told behind its other faults
+-- 64 objects are within the limit
 sixty_four : refused (text_with (more_objects 62) [] (more_names 62)) ≡ None
 unfolding chars is_utf8 encode utf8_valid_len digits
 sixty_four = refl
 
+-- the 65th isn't, and is told behind its other faults
 sixty_five : map refused (text_with (more_objects 64) [] [] ∷ text_with (more_objects 62 ++ codes "e7\nx\n") [] [] ∷ text_with (more_objects 62 ++ codes "F\n") [] [] ∷ [])
     ≡ at_line 130 kind.TooManyNames ∷ at_line 130 kind.Twice ∷ at_line 130 kind.BadObject ∷ []
 unfolding chars is_utf8 encode utf8_valid_len digits
@@ -293,6 +305,7 @@ aggregates_in_properties : map refused
 unfolding chars is_utf8 encode utf8_valid_len
 aggregates_in_properties = refl
 
+-- an aggregate that names a property, by a synonym too; an aggregate of that aggregate isn't told
 properties_in_aggregates : map refused
     (with_three (codes "G = A and S\nS = Q\nQ = B or C\n") [] ∷ with_three (codes "G = H and C\nH = A and Q\nQ = B or C\n") [] ∷ with_three (codes "Q = A or A\nG = Q and B\nX = Nope\n") [] ∷ [])
     ≡ at_line 13 kind.PropertyInAggregate ∷ at_line 14 kind.PropertyInAggregate ∷ at_line 14 kind.PropertyInAggregate ∷ []
@@ -328,10 +341,11 @@ aggregates_on_layers : map refused
 unfolding chars is_utf8 encode utf8_valid_len
 aggregates_on_layers = refl
 
--- 32 layers are within the limit, blank lines aside; the next isn't, also where it has no name
+-- so many layers, all of Background
 abbrev layers : ℕ → List ℕ
 layers count = flat_map (λ line. line) (replicate count (codes "Background\n"))
 
+-- 32 layers are within the limit, blank lines aside; the next isn't, also where it has no name
 many_layers : map refused (text_with [] [] (layers 15 ++ codes "\n(x)\n" ++ layers 15) ∷ text_with [] [] (layers 31) ∷ text_with [] [] (layers 32 ++ codes ",\n") ∷ text_with [] [] (layers 32 ++ codes "Nope\n") ∷ [])
     ≡ None ∷ at_line 40 kind.TooManyNames ∷ at_line 40 kind.TooManyNames ∷ at_line 40 kind.UnknownName ∷ []
 unfolding chars is_utf8 encode utf8_valid_len
@@ -383,6 +397,7 @@ equal_sign : written (text_with_rows (codes "Rock =\nx\n") [] (codes "Rock\n") (
 unfolding chars digits is_utf8 utf8_valid_len encode group program_run all_start_turns all_key_turns
 equal_sign = refl
 
+-- without an object of that name `=` shows nothing in a row
 no_equal_sign : refused (base_game [] [] (codes "==\n=P\n")) ≡ at_line 33 kind.UnknownGlyph
 unfolding chars is_utf8 encode utf8_valid_len
 no_equal_sign = refl
@@ -398,6 +413,7 @@ wide_glyph : written (text_with_rows (codes "Rock " ++ (e_acute ++ codes "\nx\n"
 unfolding chars digits is_utf8 utf8_valid_len encode group program_run all_start_turns all_key_turns
 wide_glyph = refl
 
+-- 64 characters of two bytes are a row within the limit, 65 aren't
 wide_rows : map refused
     (map (λ count. text_with_rows (codes "Rock " ++ (e_acute ++ codes "\nx\n")) [] (codes "Rock\n") (flat_map (λ row. row) (replicate count e_acute))) (64 ∷ 65 ∷ []))
     ≡ None ∷ at_line 14 kind.TooLarge ∷ []

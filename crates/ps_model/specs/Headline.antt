@@ -1,12 +1,13 @@
--- What a run may answer, for every text and every stream of key bytes, in whatever pieces it comes: it refuses the text with a fault
--- that the text has, or writes exactly the output of the text's game on the keys. Where memory is refused, keys can't be read or
+-- What a run may answer, for every text and every stream of key bytes, in whatever pieces it comes: it refuses the text with the first
+-- fault that the text has, or writes exactly the output of the text's game on the keys. Where memory is refused, keys can't be read or
 -- nothing can be written, it stops and says so, and has written the front of that output that is said here.
 use Rattle.std.specs.Prelude.{◌≡◌, ℕ, ◌-◌, ◌≤◌, Bool, true, ◌⊎◌, Option, Some, option_map, List, [], ◌++◌, length, take}
 use Rattle.ps_model.specs.declared.faults.Fault.{Fault}
 use Rattle.ps_model.specs.declared.play.Ending.{Ending}
 use Rattle.ps_model.specs.Limits.{read_limit}
 use Rattle.ps_model.specs.Keys.{keys_of}
-use Rattle.ps_model.specs.Games.{game, IsFaultOf}
+use Rattle.ps_model.specs.Faults.{first_fault}
+use Rattle.ps_model.specs.Games.{faults, game}
 use Rattle.ps_model.specs.Turns.{Script, script_of}
 use Rattle.ps_model.specs.Outputs.{output, front}
 
@@ -49,9 +50,9 @@ pub record EndsAsMeant (script : Script) (told : Told) (ending : Ending) : Type 
   pub ending_is : (output script told.all).ending ≡ ending
   pub wrote : told.wrote ≡ (output script told.all).written
 
--- the text was refused: it has that fault, and no key was asked for and nothing written
+-- the text was refused: that is its first fault, and no key was asked for and nothing written
 pub record RefusesRightly (text : List ℕ) (told : Told) (fault : Fault) : Type 0 where
-  pub has_fault : IsFaultOf text fault
+  pub is_first : first_fault (faults text) ≡ Some fault
   pub asked_nothing : told.calls ≡ 0
   pub wrote_nothing : told.wrote ≡ []
 

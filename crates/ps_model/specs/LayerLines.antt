@@ -30,6 +30,6 @@ places_among lists object = map (λ numbered. numbered.0) (filter (λ numbered. 
 abbrev pub last_among : List (List ObjectId) → ObjectId → Option ℕ
 last_among lists object = last_or None (places_among lists object)
 
--- the layer of each of so many objects, if one names it
+-- the layer of each of so many objects, if a layer names it
 abbrev pub layers_found : ℕ → List Layer → List (Option ℕ)
 layers_found count layers = let lists : List (List ObjectId) = map objects_named layers in map (λ number. last_among lists (record { 0 = number })) (range_with_len 0 count)

@@ -27,7 +27,7 @@ is_property (Some (One object)) = false
 is_property (Some (AllOf line objects)) = false
 is_property (Some (AnyOf line objects)) = true
 
--- a glyph that is a property, LV2: it doesn't say which of its objects stands there
+-- a glyph that is a property, LV2
 abbrev pub is_property_glyph : Names → ℕ → Bool
 is_property_glyph names character = is_property (character_meaning names character)
 

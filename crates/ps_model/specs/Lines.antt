@@ -23,7 +23,7 @@ folded name = str_to_ascii_lowercase name
 abbrev pub is_line_feed : ℕ → Bool
 is_line_feed byte = byte == 10
 
--- how many bytes of a byte order mark the text begins with
+-- the length of the byte order mark at the start, if there is one
 abbrev pub mark_length : List ℕ → ℕ
 mark_length text = if starts_with nat_eq text (239 ∷ 187 ∷ 191 ∷ []) then 3 else 0
 
@@ -49,7 +49,7 @@ raw_lines bytes = as_lines (slice_split is_line_feed bytes)
 abbrev pub depth_behind : ℕ → ℕ → ℕ
 depth_behind depth byte = if byte == 40 then suc depth else (if byte == 41 then depth - 1 else depth)
 
--- the byte stands in a comment, its brackets among it
+-- the byte stands in a comment, its parentheses among it
 abbrev pub in_comment : ℕ → ℕ → Bool
 in_comment depth byte = nat_lt 0 depth || byte == 40
 
@@ -97,7 +97,7 @@ end_of_first bytes names = end_of_word (find (is_word bytes names) (take 1 (word
 abbrev pub behind_arrow : List ℕ → List (ℕ × ℕ) → List (ℕ × ℕ)
 behind_arrow bytes words = drop (suc (prefix_len (λ word. not (is_word bytes (codes "->" ∷ []) word)) words)) words
 
--- where a text that is taken as it stands begins in a line without comments: behind `title`, `author` or `homepage` as the first
+-- where a text that is taken as it stands begins in a line whose comments are blanks: behind `title`, `author` or `homepage` as the first
 -- word of a line of the prelude; behind `message` as the first word of a line of LEVELS; behind the first `message` that stands
 -- behind the `->` of a line of RULES
 abbrev pub text_place : Section → List ℕ → Option ℕ
@@ -106,7 +106,7 @@ text_place Levels plain = end_of_first plain (codes "message" ∷ [])
 text_place Rules plain = end_of_word (find (is_word plain (codes "message" ∷ [])) (behind_arrow plain (rule_words_in plain)))
 text_place section plain = None
 
--- how long that text is: in the prelude it ends where a comment begins; elsewhere it has all that follows, brackets among it
+-- how long that text is: in the prelude it ends where a comment begins; elsewhere it has all that follows, parentheses among it
 abbrev pub text_length : Section → List ℕ → ℕ
 text_length Prelude behind = prefix_len (λ byte. not (byte == 40)) behind
 text_length section behind = length behind
@@ -145,7 +145,7 @@ text_behind start place behind =
     let skipped : ℕ = prefix_len is_blank behind in
     record { start = start + place + skipped; bytes = without_blank_end (drop skipped behind) }
 
--- a line without comments, with blanks for a text of so many bytes
+-- a line whose comments are blanks, with blanks for a text of so many bytes too
 abbrev pub without_text : List ℕ → ℕ → ℕ → List ℕ
 without_text plain place size = take place plain ++ (replicate size 32 ++ drop (place + size) plain)
 
@@ -157,7 +157,7 @@ is_divider bytes = list_all (λ byte. is_blank byte || byte == 61) bytes && list
 abbrev pub are_blank : List ℕ → Bool
 are_blank bytes = list_all is_blank bytes
 
--- a line that lies partly or wholly in a comment and has only blanks besides: its bytes, without comments and as they stand
+-- a line that lies partly or wholly in a comment and has only blanks besides: its bytes, as they stand and without comments
 abbrev pub is_comment : ℕ → List ℕ → List ℕ → Bool
 is_comment depth raw plain = are_blank plain && (nat_lt 0 depth || list_any (λ byte. byte == 40) raw)
 

@@ -1,4 +1,4 @@
--- What holds of the names of every game: there are objects and layers, no more than the limits; each object lies on one of
+-- What holds of the names of every game of the thin form: there are objects and layers, no more than the limits; each object lies on one of
 -- the layers; every object that a name or a glyph speaks of is one of the game's; and `Background` and `Player` are names.
 use Rattle.std.specs.Prelude.{ℕ, ◌≡◌, ◌≤◌, ◌<◌, true, is_some, List, All, codes}
 use Rattle.ps_model.specs.Limits.{object_limit, layer_limit}

@@ -15,7 +15,7 @@ same_meaning (AllOf first _) (AllOf second _) = nat_eq first second
 same_meaning (AnyOf first _) (AnyOf second _) = nat_eq first second
 same_meaning _ _ = false
 
--- the two are one word, or both none
+-- the item's word is this one
 abbrev pub has_movement : MovementWord → Option MovementWord → Bool
 has_movement word None = false
 has_movement word (Some other) = same_word word other

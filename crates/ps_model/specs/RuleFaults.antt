@@ -13,7 +13,7 @@ use Rattle.ps_model.specs.RuleSymbols.{Token, tokens_of, tokens_kept, is_left_ou
 use Rattle.ps_model.specs.RuleShape.{has_kind, RuleShape}
 use Rattle.ps_model.specs.RuleLines.{LineForm, StartForm, EndForm, RuleForm, NoForm, form_of, lines_with_words}
 use Rattle.ps_model.specs.RuleShapeFaults.{has_bad_bracket, has_unknown_word, has_other_rows, has_nothing_right, has_late_move, has_bad_ellipsis}
-use Rattle.ps_model.specs.RuleNameFaults.{has_name_twice, has_barred_aggregate, has_unbound}
+use Rattle.ps_model.specs.RuleNameFaults.{has_name_twice, puts_no_before_aggregate, has_unbound}
 
 -- groups and loops ---------------------------------------------------------------------------------------------------------
 
@@ -47,8 +47,8 @@ is_other_part None late = false
 is_other_part (Some last) late = if last then not late else late
 
 -- RU10: `+` joins a late and a plain rule
-abbrev pub has_late_plus : Above → SourceRule → Bool
-has_late_plus above rule = rule.joined && is_other_part above.last rule.late
+abbrev pub joins_other_part : Above → SourceRule → Bool
+joins_other_part above rule = rule.joined && is_other_part above.last rule.late
 
 -- RU11: the start of a loop within a loop
 abbrev pub starts_within : Above → Bool
@@ -81,11 +81,11 @@ faults_of_rule above line shape rule =
     ++ (when (has_other_rows shape) RowsDiffer line
     ++ (when (has_nothing_right shape) NothingRight line
     ++ (when (has_name_twice rule) NameTwice line
-    ++ (when (has_barred_aggregate rule) NoAggregate line
+    ++ (when (puts_no_before_aggregate rule) NoAggregate line
     ++ (when (has_unbound rule) Unbound line
     ++ (when (has_late_move shape) LateMove line
     ++ (when (has_lone_plus above rule) PlusAlone line
-    ++ (when (has_late_plus above rule) PlusLate line
+    ++ (when (joins_other_part above rule) PlusLate line
     ++ when (has_bad_ellipsis shape) Ellipsis line)))))))))
 
 -- the faults of a line by what it is, but for those of words that are left out and of too many rules

@@ -39,13 +39,13 @@ abbrev pub has_name_twice : SourceRule → Bool
 has_name_twice rule = list_any (λ cell. name_twice cell.left || name_twice cell.right) (cells_of rule)
 
 -- the item is `no` before an aggregate
-abbrev pub bars_aggregate : Item → Bool
-bars_aggregate (No (AllOf line objects)) = true
-bars_aggregate other = false
+abbrev pub is_no_before_aggregate : Item → Bool
+is_no_before_aggregate (No (AllOf line objects)) = true
+is_no_before_aggregate other = false
 
 -- RU6: `no` before an aggregate
-abbrev pub has_barred_aggregate : SourceRule → Bool
-has_barred_aggregate rule = list_any (λ cell. list_any bars_aggregate (cell.left ++ cell.right)) (cells_of rule)
+abbrev pub puts_no_before_aggregate : SourceRule → Bool
+puts_no_before_aggregate rule = list_any (λ cell. list_any is_no_before_aggregate (cell.left ++ cell.right)) (cells_of rule)
 
 -- RU7 ----------------------------------------------------------------------------------------------------------------------
 

@@ -22,7 +22,7 @@ begins_arrow (first ∷ second ∷ others) = first == 45 && second == 62
 abbrev pub is_alone : Bool → ℕ → Bool
 is_alone within byte = is_bracket_or_bar byte || (is_sign byte && not within)
 
--- how long a word is that stands by itself at the start of the bytes; nothing where none does
+-- how long a word is that stands by itself at the start of the bytes; 0 where none does
 abbrev pub own_length : Bool → List ℕ → ℕ
 own_length within [] = 0
 own_length within (byte ∷ bytes) = if begins_arrow (byte ∷ bytes) then 2 else (if is_alone within byte then 1 else 0)
