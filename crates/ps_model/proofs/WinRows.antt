@@ -5,7 +5,7 @@ use Rattle.std.specs.Str.{chars}
 use Rattle.std.proofs.Math.Utf8.{encode}
 use Rattle.ps_model.specs.declared.pieces.ObjectId.{ObjectId}
 use Rattle.ps_model.specs.declared.rules.Quantifier.{Quantifier}
-use Rattle.ps_model.specs.declared.rules.Quantifier.TheVariants.{No, Some as Any, All}
+use Rattle.ps_model.specs.declared.rules.Quantifier.TheVariants as asked
 use Rattle.ps_model.specs.declared.texts.Section.TheVariants.{Wins, Levels}
 use Rattle.ps_model.specs.declared.faults.Fault.{Fault}
 use Rattle.ps_model.specs.declared.faults.FaultKind.{FaultKind}
@@ -59,23 +59,23 @@ win quantifier subject place = record { quantifier = quantifier; subject = subje
 -- forms ------------------------------------------------------------------------------------------------------------------
 
 three_words : wins (codes "No P\nSome *\nAny *\nAll O")
-    ≡ win No (One (object 1)) None ∷ win Any (One (object 2)) None ∷ win Any (One (object 2)) None ∷ win All (One (object 3)) None ∷ []
+    ≡ win asked.No (One (object 1)) None ∷ win asked.Some (One (object 2)) None ∷ win asked.Some (One (object 2)) None ∷ win asked.All (One (object 3)) None ∷ []
 three_words = refl
 
 with_place : wins (codes "No @ on P\nSome PT on Crate\nany crate on @\nAll Target on PT")
-    ≡ win No crate_and_target (Some (One (object 1))) ∷ win Any player_or_target (Some (One (object 2)))
-    ∷ win Any (One (object 2)) (Some crate_and_target) ∷ win All (One (object 3)) (Some player_or_target) ∷ []
+    ≡ win asked.No crate_and_target (Some (One (object 1))) ∷ win asked.Some player_or_target (Some (One (object 2)))
+    ∷ win asked.Some (One (object 2)) (Some crate_and_target) ∷ win asked.All (One (object 3)) (Some player_or_target) ∷ []
 with_place = refl
 
 -- letters are folded; blank lines, comments and lines of `=` mean nothing
-folded_letters : wins (codes "\naLL (x) cRATE\tON\tTarget\n\n===\n  \n(some Player)\n") ≡ win All (One (object 2)) (Some (One (object 3))) ∷ []
+folded_letters : wins (codes "\naLL (x) cRATE\tON\tTarget\n\n===\n  \n(some Player)\n") ≡ win asked.All (One (object 2)) (Some (One (object 3))) ∷ []
 folded_letters = refl
 
 none_written : wins (codes "\n  \n(No P)\n=\n") ≡ []
 none_written = refl
 
 -- a key word may be a name: the words count by their places
-key_word : wins (codes "No on\nNo on on on") ≡ win No (One (object 4)) None ∷ win No (One (object 4)) (Some (One (object 4))) ∷ []
+key_word : wins (codes "No on\nNo on on on") ≡ win asked.No (One (object 4)) None ∷ win asked.No (One (object 4)) (Some (One (object 4))) ∷ []
 key_word = refl
 
 -- faults -----------------------------------------------------------------------------------------------------------------

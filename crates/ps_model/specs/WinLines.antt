@@ -5,7 +5,7 @@ use Rattle.std.specs.List.{filter_map, flat_map}
 use Rattle.std.specs.Str.{bytes_eq}
 use Rattle.std.specs.Map.{lookup}
 use Rattle.ps_model.specs.declared.rules.Quantifier.{Quantifier}
-use Rattle.ps_model.specs.declared.rules.Quantifier.TheVariants.{No, Some as Any, All}
+use Rattle.ps_model.specs.declared.rules.Quantifier.TheVariants as asked
 use Rattle.ps_model.specs.declared.faults.Fault.{Fault}
 use Rattle.ps_model.specs.declared.faults.FaultKind.TheVariants.{BadWin, UnknownWinName}
 use Rattle.ps_model.specs.OptionSteps.{◌>>=◌}
@@ -23,7 +23,7 @@ pub record WinText : Type 0 where
 
 -- the first words of win conditions
 abbrev pub quantifiers : List (List ℕ × Quantifier)
-quantifiers = (codes "no", No) ∷ (codes "some", Any) ∷ (codes "any", Any) ∷ (codes "all", All) ∷ []
+quantifiers = (codes "no", asked.No) ∷ (codes "some", asked.Some) ∷ (codes "any", asked.Some) ∷ (codes "all", asked.All) ∷ []
 
 -- a win condition with that first word and these names, if the word is one of those
 abbrev pub win_with : List ℕ → List ℕ → Option (List ℕ) → Option WinText

@@ -5,7 +5,7 @@ use Rattle.std.specs.List.{list_any, list_all}
 use Rattle.ps_model.specs.declared.pieces.ObjectId.{ObjectId}
 use Rattle.ps_model.specs.declared.pieces.Slot.{Slot}
 use Rattle.ps_model.specs.declared.rules.Quantifier.{Quantifier}
-use Rattle.ps_model.specs.declared.rules.Quantifier.TheVariants.{No, Some as Any, All}
+use Rattle.ps_model.specs.declared.rules.Quantifier.TheVariants as asked
 use Rattle.ps_model.specs.Names.{Meaning, One, AllOf, AnyOf, is_among}
 use Rattle.ps_model.specs.Grid.{Grid}
 use Rattle.ps_model.specs.Frames.{objects_in}
@@ -28,9 +28,9 @@ is_place (Some meaning) cell = is_in meaning cell
 
 -- so many of these cells are places: none, some, or all
 abbrev pub holds_of : Quantifier → Option Meaning → List (List Slot) → Bool
-holds_of No place cells = not (list_any (is_place place) cells)
-holds_of Any place cells = list_any (is_place place) cells
-holds_of All place cells = list_all (is_place place) cells
+holds_of asked.No place cells = not (list_any (is_place place) cells)
+holds_of asked.Some place cells = list_any (is_place place) cells
+holds_of asked.All place cells = list_all (is_place place) cells
 
 -- the win condition holds of the grid: so many of the cells with X are places
 abbrev pub holds : Grid → Win → Bool
