@@ -6,11 +6,13 @@ pub mod OptionSteps
 pub mod Words
 pub mod RuleWords
 pub mod Lines
+pub mod LineNumbers
 pub mod WrittenLines
 pub mod ThinLines
 pub mod Faults
 pub mod TextFaults
 pub mod Names
+pub mod NameBounds
 pub mod ObjectLines
 pub mod LegendLines
 pub mod Meanings

@@ -2,7 +2,9 @@
 -- are cut off at the start of a word, again and again; one `+` is cut off at the start of the line.
 use Rattle.std.specs.Prelude.{ℕ, zero, suc, ◌+◌, ◌-◌, ◌==◌, nat_lt, Bool, true, false, ◌||◌, ◌&&◌, not, if◌then◌else◌, Option, Some, None, is_some, unwrap_or, List, [], ◌∷◌, ◌++◌, drop}
 use Rattle.std.specs.List.{prefix_len}
-use Rattle.ps_model.specs.Words.{is_blank, run_to}
+use Rattle.ps_model.specs.declared.texts.Cut.{Cut}
+use Rattle.ps_model.specs.declared.texts.Cut.TheVariants.{Plain, Legend, Layers, Rule}
+use Rattle.ps_model.specs.Words.{is_blank, run_to, words_in}
 
 -- `[`, `]` and `|` stand by themselves
 abbrev pub is_bracket_or_bar : ℕ → Bool
@@ -51,3 +53,10 @@ words_behind_plus place (byte ∷ bytes) =
 -- the words of a line of RULES, by their places in it
 abbrev pub rule_words_in : List ℕ → List (ℕ × ℕ)
 rule_words_in bytes = let blanks : ℕ = prefix_len is_blank bytes in words_behind_plus blanks (drop blanks bytes)
+
+-- the words of a line under any cut, by their places in it
+abbrev pub words_under : Cut → List ℕ → List (ℕ × ℕ)
+words_under Plain bytes = words_in Plain bytes
+words_under Legend bytes = words_in Legend bytes
+words_under Layers bytes = words_in Layers bytes
+words_under Rule bytes = rule_words_in bytes

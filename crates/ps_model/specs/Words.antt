@@ -1,8 +1,9 @@
 -- The words of a line: its longest runs of bytes without a byte that parts words. Some bytes are words by themselves
--- wherever they stand. All of these bytes are ASCII, so no character is ever cut.
+-- wherever they stand. All of these bytes are ASCII, so no character is ever cut. The words of a rule ask for more than one byte:
+-- RuleWords has them.
 use Rattle.std.specs.Prelude.{ℕ, suc, ◌==◌, Bool, true, false, ◌||◌, Option, Some, None, unwrap_or, List, [], ◌∷◌, ◌++◌, map, slice_range}
 use Rattle.ps_model.specs.declared.texts.Cut.{Cut}
-use Rattle.ps_model.specs.declared.texts.Cut.TheVariants.{Plain, Legend, Layers}
+use Rattle.ps_model.specs.declared.texts.Cut.TheVariants.{Plain, Legend, Layers, Rule}
 
 -- blanks are space, tab and carriage return
 abbrev pub is_blank : ℕ → Bool
@@ -13,12 +14,14 @@ abbrev pub parts_words : Cut → ℕ → Bool
 parts_words Plain byte = is_blank byte
 parts_words Legend byte = is_blank byte
 parts_words Layers byte = is_blank byte || byte == 44
+parts_words Rule byte = is_blank byte
 
--- the byte is a word by itself: the `=` of a legend line
+-- the byte is a word by itself: the `=` of a legend line, and `[`, `]` and `|` of a rule
 abbrev pub stands_alone : Cut → ℕ → Bool
 stands_alone Plain byte = false
 stands_alone Legend byte = byte == 61
 stands_alone Layers byte = false
+stands_alone Rule byte = byte == 91 || byte == 93 || byte == 124
 
 -- a run that is open ends here
 abbrev pub run_to : Option ℕ → ℕ → List (ℕ × ℕ)

@@ -31,6 +31,9 @@ pub enum Cut {
     Legend,
     /// At blanks and commas.
     Layers,
+    /// At blanks, with `[`, `]`, `|` and `->` words of their own wherever they stand, `>`, `<` and `^` cut off where they begin a
+    /// word, and one `+` cut off where it begins the line.
+    Rule,
 }
 
 /// Where a reader of OBJECTS stands when it comes to a line.

@@ -2,16 +2,16 @@
 
 ghost use Rattle.std.specs.Prelude.{◌≡◌};
 
-use ps_model::Memory;
+use ps_model::{Fault, Memory};
 use std::alloc::{AllocError, AllocFailed};
 use thiserror::Error;
 
 /// Why names can't be read.
 #[derive(Clone, Copy, PartialEq, Eq, Debug, Error)]
 pub enum NameFault {
-    /// The sections have a fault, or aren't of the form that is read for now.
-    #[error("these names aren't read yet")]
-    NotYet,
+    /// The names have this fault, at this line.
+    #[error("the names are refused")]
+    Refused(Fault),
     /// A growth was refused.
     #[error("out of memory")]
     Memory,
@@ -44,5 +44,15 @@ impl<T: Drop> From<AllocFailed<T>> for NameFault {
 
     fn from(_error: AllocFailed<T>) -> NameFault {
         NameFault::Memory
+    }
+}
+
+impl From<Fault> for NameFault {
+    ghost use Rattle.ps_names.specs.declared.fault.NameFault.TheVariants.{Refused};
+
+    ghost from_gives = { λ fault e. e ≡ Refused fault };
+
+    fn from(fault: Fault) -> NameFault {
+        NameFault::Refused(fault)
     }
 }

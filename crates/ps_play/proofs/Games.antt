@@ -21,8 +21,8 @@ use Rattle.ps_model.specs.Limits.{text_limit}
 use Rattle.ps_model.specs.TextFaults.{text_fault}
 use Rattle.ps_model.specs.ThinGame.{thin_game, is_readable, has_no_comment}
 use Rattle.ps_play.specs.ReadFaults.{not_yet, of_part, of_names}
-use Rattle.ps_names.specs.declared.fault.NameFault.{NameFault}
-use Rattle.ps_names.specs.declared.fault.NameFault.TheVariants as names
+use Rattle.thin_names.specs.declared.fault.NameFault.{NameFault}
+use Rattle.thin_names.specs.declared.fault.NameFault.TheVariants as names
 use Rattle.ps_play.specs.declared.reading.fault.PartFault.{PartFault}
 use Rattle.ps_play.specs.declared.reading.fault.PartFault.TheVariants.{NotYet, Memory}
 use Rattle.ps_play.specs.declared.reading.game.ReadFault.{ReadFault}

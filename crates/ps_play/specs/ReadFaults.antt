@@ -4,8 +4,8 @@ use Rattle.ps_model.specs.declared.faults.Fault.{Fault}
 use Rattle.ps_model.specs.declared.faults.FaultKind.TheVariants as kind
 use Rattle.ps_text.specs.declared.errors.TextFault.{TextFault}
 use Rattle.ps_text.specs.declared.errors.TextFault.TheVariants as text
-use Rattle.ps_names.specs.declared.fault.NameFault.{NameFault}
-use Rattle.ps_names.specs.declared.fault.NameFault.TheVariants as names
+use Rattle.thin_names.specs.declared.fault.NameFault.{NameFault}
+use Rattle.thin_names.specs.declared.fault.NameFault.TheVariants as names
 use Rattle.ps_play.specs.declared.reading.fault.PartFault.{PartFault}
 use Rattle.ps_play.specs.declared.reading.fault.PartFault.TheVariants as part
 use Rattle.ps_play.specs.declared.reading.game.ReadFault.{ReadFault}

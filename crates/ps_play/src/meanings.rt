@@ -2,10 +2,10 @@
 
 ghost use Rattle.std.specs.Prelude.{◌≡◌};
 ghost use Rattle.ps_model.specs.Names.{members, members_named};
-ghost use Rattle.ps_names.specs.Shown.{meaning_shown};
+ghost use Rattle.thin_names.specs.Shown.{meaning_shown};
 
 use ps_model::ObjectId;
-use ps_names::{Meaning, Names};
+use thin_names::{Meaning, Names};
 use std::slice;
 
 /// The objects that a meaning speaks of.

@@ -1,4 +1,1 @@
-pub mod Places
-pub mod Rows
-pub mod TakenPlaces
 pub mod WordViews

@@ -1,7 +1,9 @@
 -- The words that a text is cut into, by their spans and by their bytes, and what it is for spans to rise.
-use Rattle.std.specs.Prelude.{ℕ, ◌≡◌, ◌+◌, ◌≤◌, ◌<◌, List, [], ◌∷◌, slice_range}
+use Rattle.std.specs.Prelude.{ℕ, ◌≡◌, ◌+◌, ◌≤◌, ◌<◌, List, [], ◌∷◌, map, slice_range}
+use Rattle.ps_model.specs.declared.texts.Cut.{Cut}
 use Rattle.ps_model.specs.declared.texts.Span.{Span}
-use Rattle.ps_model.specs.ThinLines.{Line}
+use Rattle.ps_model.specs.Lines.{Line, Taken}
+use Rattle.ps_model.specs.RuleWords.{words_under}
 use Rattle.ps_text.specs.declared.cutting.Word.{Word}
 
 abbrev pub span_of : Word → Span
@@ -10,6 +12,10 @@ span_of word = word.span
 abbrev pub text_of : Word → List ℕ
 text_of word = word.text.now
 
+-- a word as a text that is taken as it stands
+abbrev pub taken_of : Word → Taken
+taken_of word = record { start = word.span.start; bytes = word.text.now }
+
 -- a place of a line as a place of the text
 abbrev pub span_at : Line → ℕ × ℕ → Span
 span_at line place = record { line = line.number; start = line.start + place.0; end = line.start + place.1 }
@@ -17,6 +23,10 @@ span_at line place = record { line = line.number; start = line.start + place.0; 
 -- the bytes of a place of a line
 abbrev pub bytes_at : List ℕ → ℕ × ℕ → List ℕ
 bytes_at line place = slice_range line place.0 place.1
+
+-- the words of a line under a cut, by their bytes
+abbrev pub texts_under : Cut → List ℕ → List (List ℕ)
+texts_under cut line = map (bytes_at line) (words_under cut line)
 
 -- the word's bytes are those of the text at its span
 abbrev pub IsSliceOf : List ℕ → Word → Type 0

@@ -8,10 +8,7 @@ mod cutting;
 mod errors;
 mod lists;
 mod naming;
-mod rows;
-mod scan;
 mod sources;
-mod taken;
 mod texts;
 
 pub use cutting::{Word, words};

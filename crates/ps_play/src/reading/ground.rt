@@ -7,7 +7,7 @@ ghost use Rattle.ps_model.specs.Levels.{with_ground, grounded, background_layer}
 ghost use Rattle.ps_play.specs.Rows.{cells_shown, AreObjects};
 
 use ps_model::{LayerId, Memory, ObjectId};
-use ps_names::{Meaning, Names};
+use thin_names::{Meaning, Names};
 use ps_text::List;
 use std::alloc::Global;
 

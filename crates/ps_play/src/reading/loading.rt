@@ -12,7 +12,7 @@ ghost use Rattle.ps_play.specs.Playable.{IsPlayable};
 use super::level::Level;
 use ps_board::Board;
 use ps_model::{Memory, Motion, ObjectId};
-use ps_names::Names;
+use thin_names::Names;
 use std::alloc::Global;
 
 /// Puts the objects of a cell on the board, each at rest on its own layer.

@@ -7,11 +7,12 @@ ghost use Rattle.ps_model.specs.Lines.{folded};
 ghost use Rattle.ps_model.specs.ThinLines.{lines_of, line_at, is_there, taken_text};
 ghost use Rattle.ps_model.specs.ThinNames.{lines_between};
 ghost use Rattle.ps_model.specs.ThinGame.{is_option, is_title, option_words, text_at, title_of};
-ghost use Rattle.ps_text.specs.WordViews.{text_of};
+ghost use Rattle.thin_text.specs.WordViews.{text_of};
 ghost use Rattle.ps_play.specs.Stretches.{IsStretch};
 
 use ps_model::{Cut, Memory};
-use ps_text::{Source, Text, Word, same_name, words};
+use ps_text::{Text, same_name};
+use thin_text::{Source, Word, words};
 use std::alloc::Global;
 use std::ops::Range;
 

@@ -8,7 +8,7 @@ ghost use Rattle.ps_play.specs.Stretches.{IsStretch};
 ghost use Rattle.ps_play.specs.Sections.{place_below, boundary, AreSections};
 
 use ps_model::Section;
-use ps_text::Source;
+use thin_text::Source;
 use std::ops::Range;
 
 /// Where the lines of each section stand: from right below its header to before the next. A section without a header has

@@ -6,8 +6,8 @@ use Rattle.ps_model.specs.ThinLevels.{thin_level}
 use Rattle.ps_model.specs.ThinGame.{section_lines, title_of, game_of_lines}
 use Rattle.ps_play.specs.Sections.{AreAllSections, is_thin, is_whole}
 use Rattle.ps_play.proofs.Games.{plain, the_game, no_game, not_whole, not_thin, no_names, no_level, names_lost}
-use Rattle.ps_names.specs.declared.fault.NameFault.{NameFault}
-use Rattle.ps_names.specs.declared.fault.NameFault.TheVariants as names
+use Rattle.thin_names.specs.declared.fault.NameFault.{NameFault}
+use Rattle.thin_names.specs.declared.fault.NameFault.TheVariants as names
 use Rattle.ps_play.specs.ReadFaults.{of_names}
 use Rattle.ps_play.specs.declared.reading.fault.PartFault.{PartFault}
 use Rattle.ps_play.specs.declared.reading.fault.PartFault.TheVariants.{NotYet}

@@ -7,8 +7,8 @@ use Rattle.std.proofs.lemmas.Str.Ascii.{lowercase-lowercase}
 use Rattle.ps_model.specs.Lines.{folded}
 use Rattle.ps_model.specs.Names.{Names, Meaning, meaning_of}
 use Rattle.ps_model.specs.Levels.{objects_shown, shown_objects}
-use Rattle.ps_names.specs.Shown.{meaning_shown}
-use Rattle.ps_names.specs.declared.meaning.Meaning as code
+use Rattle.thin_names.specs.Shown.{meaning_shown}
+use Rattle.thin_names.specs.declared.meaning.Meaning as code
 use Rattle.ps_play.proofs.Letters.{folded_character}
 use Rattle.ps_play.proofs.reading.rows.shown.Goals as goal
 

@@ -1,0 +1,11 @@
+pub mod Characters
+pub mod TableEntries
+pub mod TableSteps
+pub mod LinesBetween
+pub mod ObjectSteps
+pub mod LegendSteps
+pub mod LayerSteps
+pub mod LayerLaw
+pub mod Composition
+pub mod Pairs
+pub mod Facts

@@ -1,0 +1,52 @@
+//! What a name stands for.
+
+ghost use Rattle.std.specs.Prelude.{◌≡◌, IfOk, option_map};
+ghost use Rattle.thin_names.specs.Shown.{meaning_shown};
+
+use ps_model::ObjectId;
+use ps_text::List;
+use std::alloc::{AllocError, Global};
+
+/// What a name stands for. A legend line's number is counted from 1.
+#[derive(Drop, Debug)]
+pub enum Meaning {
+    /// One object.
+    One(ObjectId),
+    /// Each of these objects: an aggregate, declared by `and` on that line. No object stands there twice.
+    All { line: u32, objects: List<ObjectId> },
+    /// Any of these objects: a property, declared by `or` on that line. No object stands there twice.
+    Any { line: u32, objects: List<ObjectId> },
+}
+
+/// A list of the same objects.
+fn objects_copied(alloc: Global, objects: &List<ObjectId>) -> Result<List<ObjectId>, AllocError>
+    ensures { IfOk result (λ copy. copy ≡ objects.now) }
+{
+    let items = Vec::from_slice(alloc, objects.as_slice())?;
+    Ok(List::from_vec(items))
+}
+
+impl Meaning {
+    /// The same meaning once more.
+    pub(crate) fn copied(&self, alloc: Global) -> Result<Meaning, AllocError>
+        ensures { IfOk result (λ copy. copy ≡ self.now) }
+    {
+        match self {
+            Meaning::One(object) => Ok(Meaning::One(*object)),
+            Meaning::All { line, objects } => {
+                let objects = objects_copied(alloc, objects)?;
+                Ok(Meaning::All {
+                    line: *line,
+                    objects,
+                })
+            }
+            Meaning::Any { line, objects } => {
+                let objects = objects_copied(alloc, objects)?;
+                Ok(Meaning::Any {
+                    line: *line,
+                    objects,
+                })
+            }
+        }
+    }
+}

@@ -1,0 +1,81 @@
+//! The names of a game.
+
+ghost use Rattle.std.specs.Prelude.{◌≡◌, ◌<◌, length, option_map};
+ghost use Rattle.ps_model.specs.Names.{meaning_of, layer_of, object_count};
+ghost use Rattle.thin_names.specs.GlyphsShown.{glyphs_shown};
+ghost use Rattle.thin_names.specs.Shown.{meaning_shown};
+ghost use Rattle.ps_model.specs.NamesFacts.{AreNames};
+
+use crate::glyphs::Glyph;
+use crate::meaning::Meaning;
+use crate::table::Table;
+use ps_model::{LayerId, ObjectId};
+use std::marker::Model;
+
+/// The names of a game: what each stands for, the layer of each object, and the glyphs. Its objects are numbered from 0,
+/// and so are its layers.
+#[derive(Drop)]
+pub struct Names {
+    pub(crate) table: Table,
+    pub(crate) layers: Vec<u32>,
+    pub(crate) layer_count: u32,
+    pub(crate) glyphs: Vec<Glyph>,
+}
+
+impl Model for Names {
+    ghost use Rattle.ps_model.specs.Names.{Names as Meant};
+    ghost use Rattle.thin_names.specs.NamesShown.{names_shown};
+    ghost use Rattle.ps_model.specs.NamesFacts.{AreNames};
+
+    ghost Value = { Meant };
+
+    ghost view = { λ n. names_shown n.table n.layers.items n.layer_count n.glyphs.items };
+
+    ghost invariant = { λ n. AreNames (names_shown n.table n.layers.items n.layer_count n.glyphs.items) };
+}
+
+impl Names {
+    /// What a name stands for, if it is declared, whatever the case of its ASCII letters. Takes no memory. A name with a
+    /// capital letter is compared with each declared name, any other is looked up at once.
+    pub fn meaning(&self, name: &str) -> Option<&Meaning>
+        ensures meaning { option_map (λ m. meaning_shown m.now) result ≡ meaning_of self.now name.now }
+        ensures facts { AreNames self.now }
+    {
+        self.table.find(name)
+    }
+
+    /// The layer of an object, which is one of the game's, below `object_count()`. The layer is below `layer_count()`.
+    pub fn layer_of(&self, object: ObjectId) -> LayerId
+        requires { object.0 < object_count self.now }
+        ensures layer { result.0 ≡ layer_of self.now object }
+        ensures within { result.0 < self.now.layer_count }
+        ensures facts { AreNames self.now }
+    {
+        LayerId(self.layers[object.0 as usize])
+    }
+
+    /// How many objects the game has, from 1 to 64.
+    pub fn object_count(&self) -> u32
+        ensures count { result ≡ object_count self.now }
+        ensures facts { AreNames self.now }
+    {
+        self.layers.len() as u32
+    }
+
+    /// How many layers the game has, from 1 to 32.
+    pub fn layer_count(&self) -> u32
+        ensures count { result ≡ self.now.layer_count }
+        ensures facts { AreNames self.now }
+    {
+        self.layer_count
+    }
+
+    /// The glyphs: declared names of one character which stand for one object or for all of an aggregate's, in order of
+    /// declaration.
+    pub fn glyphs(&self) -> &[Glyph]
+        ensures glyphs { glyphs_shown result.now ≡ self.now.glyphs }
+        ensures facts { AreNames self.now }
+    {
+        self.glyphs.as_slice()
+    }
+}
