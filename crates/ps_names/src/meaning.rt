@@ -27,8 +27,8 @@ fn objects_copied(alloc: Global, objects: &List<ObjectId>) -> Result<List<Object
 }
 
 impl Meaning {
-    /// The same meaning once more.
-    pub(crate) fn copied(&self, alloc: Global) -> Result<Meaning, AllocError>
+    /// The same meaning once more. `AllocError` if there is no room for its list.
+    pub fn copied(&self, alloc: Global) -> Result<Meaning, AllocError>
         ensures { IfOk result (λ copy. copy ≡ self.now) }
     {
         match self {
