@@ -3,7 +3,7 @@ use Rattle.std.proofs.Common.{◌≡◌, ℕ, ◌+◌, ◌<◌, true, false, Som
 use Rattle.std.proofs.lemmas.Bool.Decides.{nat_tests}
 use Rattle.std.proofs.lemmas.List.{drop_all}
 use Rattle.ps_model.specs.declared.texts.Cut.{Cut}
-use Rattle.ps_model.specs.declared.texts.Cut.TheVariants.{Plain, Legend, Layers}
+use Rattle.ps_model.specs.declared.texts.Cut.TheVariants.{Plain, Legend, Layers, Rule}
 use Rattle.ps_model.specs.Words.{parts_words, stands_alone, words_from}
 
 -- a byte that parts words is read past
@@ -50,8 +50,10 @@ pub parting_is_ascii : (cut : Cut) (byte : ℕ) → parts_words cut byte ≡ tru
 parting_is_ascii Plain byte h = grind (arith, nat_tests)
 parting_is_ascii Legend byte h = grind (arith, nat_tests)
 parting_is_ascii Layers byte h = grind (arith, nat_tests)
+parting_is_ascii Rule byte h = grind (arith, nat_tests)
 
 pub alone_is_ascii : (cut : Cut) (byte : ℕ) → stands_alone cut byte ≡ true → byte < 128
 alone_is_ascii Plain byte h = grind (arith, nat_tests)
 alone_is_ascii Legend byte h = grind (arith, nat_tests)
 alone_is_ascii Layers byte h = grind (arith, nat_tests)
+alone_is_ascii Rule byte h = grind (arith, nat_tests)
