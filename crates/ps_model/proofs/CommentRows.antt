@@ -4,7 +4,7 @@ use Rattle.std.specs.Prelude.{codes, option_map, slice_range, replicate}
 use Rattle.std.specs.List.{filter_map}
 use Rattle.ps_model.specs.declared.texts.Section.{Section}
 use Rattle.ps_model.specs.declared.texts.Section.TheVariants.{Objects, Legend}
-use Rattle.ps_model.specs.Lines.{lines_of, plain_words, is_header}
+use Rattle.ps_model.specs.Lines.{lines_of, plain_words}
 use Rattle.ps_model.specs.RuleWords.{rule_words_in}
 
 -- the words of each line
@@ -79,7 +79,7 @@ second_mark = refl
 headers_and_comments : sections (codes "(x) OBJECTS (y)\n(\nLEVELS\n) Legend\nA (\nRULES") ≡ Objects ∷ Objects ∷ Objects ∷ Legend ∷ Legend ∷ Legend ∷ []
 headers_and_comments = refl
 
-which_are_headers : map is_header (lines_of (codes "(x) OBJECTS (y)\n(\nLEVELS\n) Legend\nA (\nRULES")) ≡ true ∷ false ∷ false ∷ true ∷ false ∷ false ∷ []
+which_are_headers : map (λ line. line.is_header) (lines_of (codes "(x) OBJECTS (y)\n(\nLEVELS\n) Legend\nA (\nRULES")) ≡ true ∷ false ∷ false ∷ true ∷ false ∷ false ∷ []
 which_are_headers = refl
 
 -- texts taken as they stand: the prelude ------------------------------------------------------------------------------------

@@ -6,7 +6,7 @@ use Rattle.ps_model.specs.declared.texts.Section.{Section}
 use Rattle.ps_model.specs.declared.texts.Section.TheVariants.{Objects, Legend, Layers}
 use Rattle.ps_model.specs.declared.faults.Fault.{Fault}
 use Rattle.ps_model.specs.Faults.{first_fault}
-use Rattle.ps_model.specs.Lines.{Line, lines_of, is_header}
+use Rattle.ps_model.specs.Lines.{Line, lines_of}
 use Rattle.ps_model.specs.Names.{Meaning, Names, meaning_of}
 use Rattle.ps_model.specs.NamesRead.{names_read}
 use Rattle.ps_model.specs.NameFaults.{name_faults}
@@ -16,7 +16,7 @@ use Rattle.ps_model.specs.ThinGame.{same_section}
 
 -- the lines of a section that are there, but for its header
 abbrev pub lines_in : List Line → Section → List Line
-lines_in lines section = filter (λ line. same_section line.section section && (line.is_there && not (is_header line))) lines
+lines_in lines section = filter (λ line. same_section line.section section && (line.is_there && not line.is_header)) lines
 
 -- the number of the header OBJECTS
 abbrev pub header_number : List Line → ℕ

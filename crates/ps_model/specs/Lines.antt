@@ -132,6 +132,8 @@ pub record Line : Type 0 where
   pub start : ℕ
   -- the section that it stands in; a header stands in the section that it begins
   pub section : Section
+  -- it is a header
+  pub is_header : Bool
   -- its bytes, with blanks in place of what stands in comments and of a text taken as it stands
   pub bytes : List ℕ
   -- the text that is taken as it stands
@@ -180,12 +182,14 @@ abbrev pub lines_from : ℕ → ℕ → ℕ → Section → List (List ℕ) → 
 lines_from number start depth above [] = []
 lines_from number start depth above (raw ∷ others) =
     let plain : List ℕ = without_comments depth raw in
-    let section : Section = unwrap_or (header_of plain) above in
+    let header : Option Section = header_of plain in
+    let section : Section = unwrap_or header above in
     let place : Option ℕ = text_place section plain in
     record {
       number = number;
       start = start;
       section = section;
+      is_header = is_some header;
       bytes = bytes_left raw section plain place;
       taken = text_taken raw start section place;
       is_there = is_read depth raw plain;
@@ -198,10 +202,6 @@ lines_of text = lines_from 1 (mark_length text) 0 Prelude (raw_lines (drop (mark
 -- the line has no word
 abbrev pub is_blank_line : Line → Bool
 is_blank_line line = are_blank line.bytes
-
--- the line is a header
-abbrev pub is_header : Line → Bool
-is_header line = is_some (header_of line.bytes)
 
 -- the text that a line takes as it stands; of a line that takes none, nothing
 abbrev pub taken_bytes : Line → List ℕ

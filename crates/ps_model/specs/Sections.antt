@@ -6,7 +6,7 @@ use Rattle.ps_model.specs.declared.texts.Section.{Section}
 use Rattle.ps_model.specs.declared.texts.Section.TheVariants.{Prelude, Objects, Legend, Sounds, Layers, Rules, Wins, Levels}
 use Rattle.ps_model.specs.declared.faults.Fault.{Fault}
 use Rattle.ps_model.specs.declared.faults.FaultKind.TheVariants.{SectionOrder, NoSection, Realtime}
-use Rattle.ps_model.specs.Lines.{Line, is_header}
+use Rattle.ps_model.specs.Lines.{Line}
 use Rattle.ps_model.specs.Faults.{when}
 use Rattle.ps_model.specs.Preludes.{asks_for_real_time}
 
@@ -27,11 +27,11 @@ is_of section line = nat_eq (rank section) (rank line.section)
 
 -- the lines of a section: those that stand in it and are there, but for its header
 abbrev pub section_lines : List Line → Section → List Line
-section_lines lines section = filter (λ line. is_of section line && (line.is_there && not (is_header line))) lines
+section_lines lines section = filter (λ line. is_of section line && (line.is_there && not line.is_header)) lines
 
 -- the headers of a text, from the top
 abbrev pub header_lines : List Line → List Line
-header_lines lines = filter is_header lines
+header_lines lines = filter (λ line. line.is_header) lines
 
 -- one of these headers begins the section
 abbrev pub has_section : List Line → Section → Bool
@@ -58,7 +58,7 @@ is_without_section headers = not (list_all (has_section headers) (Objects ∷ La
 -- the faults of a line as a header or as a line of the prelude, among these headers
 abbrev pub heading_faults_of : List Line → Line → List Fault
 heading_faults_of headers line =
-    when (is_header line && is_out_of_order headers line) SectionOrder line.number ++ when (is_real_time line) Realtime line.number
+    when (line.is_header && is_out_of_order headers line) SectionOrder line.number ++ when (is_real_time line) Realtime line.number
 
 -- the faults of headers and prelude, line by line; then a missing section, at the last line of the text
 abbrev pub heading_faults : List Line → List Fault

@@ -5,7 +5,7 @@ ghost use Rattle.std.specs.Str.{IsUtf8};
 ghost use Rattle.ps_model.specs.declared.faults.Fault.{Fault as TheFault};
 ghost use Rattle.ps_model.specs.Limits.{text_limit};
 ghost use Rattle.ps_model.specs.LineNumbers.{line_at};
-ghost use Rattle.ps_model.specs.Lines.{lines_of, is_blank_line, is_header};
+ghost use Rattle.ps_model.specs.Lines.{lines_of, is_blank_line};
 ghost use Rattle.ps_model.specs.TextFaults.{text_fault};
 ghost use Rattle.ps_text.specs.WordViews.{taken_of, span_of, IsSliceOf};
 
@@ -92,7 +92,7 @@ impl Source {
     pub fn is_header(&self, line: u32) -> bool
         requires from_one { 1 ≤ line }
         requires there { line ≤ length (lines_of self.now) }
-        ensures { result ≡ is_header (line_at self.now line) }
+        ensures { result ≡ (line_at self.now line).is_header }
     {
         let _ = &self.text;
         false

@@ -1,0 +1,117 @@
+//! Headers in order, and a prelude that asks for nothing that this profile leaves out.
+
+ghost use Rattle.std.specs.Prelude.{◌≡◌, ◌≤◌, ◌&&◌, length, IfOk, slice_index_or, [], map, codes};
+ghost use Rattle.std.specs.Str.{bytes_eq};
+ghost use Rattle.ps_model.specs.Lines.{Line, lines_of, folded};
+ghost use Rattle.ps_model.specs.LineNumbers.{line_at};
+ghost use Rattle.ps_model.specs.Sections.{rank, is_real_time};
+ghost use Rattle.ps_model.specs.Preludes.{begins_with};
+ghost use Rattle.ps_text.specs.WordViews.{text_of};
+ghost use Rattle.ps_game.specs.Headings.{is_late_header, heading_fault, headings_told, place_below};
+
+use ps_model::{Cut, Fault, FaultKind, Memory, Section};
+use ps_text::{Source, Word, same_name, words};
+use std::alloc::Global;
+
+/// The place of a section among the sections.
+pub fn rank(section: Section) -> u32
+    ensures rank { result ≡ rank section }
+    ensures few { result ≤ 7 }
+{
+    match section {
+        Section::Prelude => 0,
+        Section::Objects => 1,
+        Section::Legend => 2,
+        Section::Sounds => 3,
+        Section::Layers => 4,
+        Section::Rules => 5,
+        Section::Wins => 6,
+        Section::Levels => 7,
+    }
+}
+
+/// Whether the first of a line's words is this one, in either case.
+fn is_first(words: &[Word<'_>], word: &str) -> bool
+    ensures { result ≡ bytes_eq (folded (slice_index_or (map text_of words.now) 0 [])) (folded word.now) }
+{
+    if words.is_empty() {
+        return same_name("", word);
+    }
+    same_name(words[0].text(), word)
+}
+
+/// Whether the line begins with the word, in either case. A blank line begins with none.
+pub fn begins_with(alloc: Global, source: &Source, line: u32, word: &str) -> Result<bool, Memory>
+    requires from_one { 1 ≤ line }
+    requires there { line ≤ length (lines_of source.now) }
+    ensures { IfOk result (λ told. told ≡ begins_with (folded word.now) (line_at source.now line)) }
+{
+    let words = words(alloc, source, line, Cut::Plain)?;
+    Ok(is_first(&words, word))
+}
+
+/// Whether the line stands in the prelude and asks for real time.
+fn asks_for_real_time(alloc: Global, source: &Source, line: u32) -> Result<bool, Memory>
+    requires from_one { 1 ≤ line }
+    requires there { line ≤ length (lines_of source.now) }
+    ensures { IfOk result (λ told. told ≡ is_real_time (line_at source.now line)) }
+{
+    if rank(source.section(line)) != 0 {
+        return Ok(false);
+    }
+    begins_with(alloc, source, line, "realtime_interval")
+}
+
+/// The first fault of a line, below headers of which the last one's section has the place `above`.
+fn heading_fault(
+    alloc: Global,
+    source: &Source,
+    line: u32,
+    above: u32,
+) -> Result<Option<Fault>, Memory>
+    requires from_one { 1 ≤ line }
+    requires there { line ≤ length (lines_of source.now) }
+    ensures { IfOk result (λ fault. fault ≡ heading_fault above (line_at source.now line)) }
+{
+    if source.is_header(line) && rank(source.section(line)) <= above {
+        return Ok(Some(Fault {
+            kind: FaultKind::SectionOrder,
+            line,
+        }));
+    }
+    if asks_for_real_time(alloc, source, line)? {
+        return Ok(Some(Fault {
+            kind: FaultKind::Realtime,
+            line,
+        }));
+    }
+    Ok(None)
+}
+
+/// The place of the last section above the line below.
+fn place_below(source: &Source, line: u32, above: u32) -> u32
+    requires from_one { 1 ≤ line }
+    requires there { line ≤ length (lines_of source.now) }
+    ensures { result ≡ place_below above (line_at source.now line) }
+{
+    if source.is_header(line) {
+        return rank(source.section(line));
+    }
+    above
+}
+
+/// The first fault of headers and prelude, line by line: a header that repeats or follows a later section's, or a line of the
+/// prelude that asks for real time.
+pub fn first_heading_fault(alloc: Global, source: &Source) -> Result<Option<Fault>, Memory>
+    ensures { IfOk result (λ fault. fault ≡ headings_told 0 (lines_of source.now)) }
+{
+    let mut above = 0;
+    for line in 1..source.lines() + 1 {
+        let fault = heading_fault(alloc, source, line, above)?;
+        if fault.is_some() {
+            return Ok(fault);
+        }
+        above = place_below(source, line, above);
+    }
+    Ok(None)
+}

@@ -1,0 +1,11 @@
+//! The game of a whole text: its sections and its prelude, and, read from these, its names, rules, levels and win conditions.
+#![tactic(auto)]
+
+mod headings;
+mod options;
+mod prelude;
+mod sections;
+
+pub use options::Options;
+pub use prelude::{read_options, read_title};
+pub use sections::{Sections, read_sections};

@@ -1,0 +1,26 @@
+//! The options of a game.
+
+use std::marker::Model;
+
+/// The options of a game, each set by a line of the prelude that begins with its name.
+#[derive(Clone, Copy, PartialEq, Eq, Debug)]
+pub struct Options {
+    /// `noaction`: `x` does nothing but dismiss a message.
+    pub no_action: bool,
+    /// `noundo`: `z` is ignored.
+    pub no_undo: bool,
+    /// `norestart`: `r` is ignored.
+    pub no_restart: bool,
+    /// `require_player_movement`: a key by which no Player leaves its cell is taken back.
+    pub require_player_movement: bool,
+    /// `run_rules_on_level_start`: a level begins with a turn without a key.
+    pub run_rules_on_level_start: bool,
+}
+
+impl Model for Options {
+    ghost use Rattle.ps_model.specs.Preludes.{Options as Meant};
+
+    ghost Value = { Meant };
+
+    ghost view = { λ o. record { no_action = o.no_action; no_undo = o.no_undo; no_restart = o.no_restart; require_player_movement = o.require_player_movement; run_rules_on_level_start = o.run_rules_on_level_start } };
+}
