@@ -1,5 +1,5 @@
 -- Faults of LEVELS: characters that may not stand in a row, too large levels, too many entries, and no level at all.
-use Rattle.std.specs.Prelude.{encode_utf8, ℕ, suc, nat_eq, nat_lt, Bool, true, false, ◌&&◌, ◌||◌, not, Option, Some, None, is_some, List, [], ◌∷◌, ◌++◌, length, take}
+use Rattle.std.specs.Prelude.{encode_utf8, ℕ, suc, nat_eq, nat_lt, Bool, true, false, ◌&&◌, ◌||◌, not, Option, is_some, List, [], ◌∷◌, ◌++◌, length, take}
 use Rattle.std.specs.Char.{to_ascii_lowercase}
 use Rattle.std.specs.List.{list_any}
 use Rattle.std.specs.Str.{bytes_eq}
