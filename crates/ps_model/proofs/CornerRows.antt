@@ -1,6 +1,6 @@
 -- Corners of the language, worked by hand: from the bytes of a text to the bytes that are written. Each row tells two meanings apart
 -- that most games don't.
-use Rattle.std.proofs.Common.{◌≡◌, List, ℕ, [], ◌∷◌, ◌++◌, refl, Some}
+use Rattle.std.proofs.Common.{◌≡◌, List, ℕ, [], ◌++◌, refl, Some}
 use Rattle.std.specs.Prelude.{codes, take, drop}
 use Rattle.std.specs.List.{repeat}
 use Rattle.std.specs.Str.{chars, is_utf8}

@@ -1,6 +1,7 @@
 -- How sessions end: behind the last entry, or as the player quits, and never for want of keys.
 use Rattle.std.proofs.Common.{◌≡◌, ◌≢◌, ℕ, suc, zero, Bool, true, false, Option, Some, None, List, [], ◌∷◌, ◌++◌, refl, sym, ◌∙◌, ap}
 use Rattle.std.specs.Prelude.{◌||◌, slice_get, reverse}
+use Rattle.std.specs.Option.{option_or}
 use Rattle.ps_model.specs.declared.play.Ending.{Ending}
 use Rattle.ps_model.specs.declared.play.Ending.TheVariants.{TheEnd, Quit as Quits, EndOfKeys}
 use Rattle.ps_model.specs.declared.play.Input.{Input}
@@ -13,7 +14,7 @@ use Rattle.ps_model.specs.LevelLines.{Entry, MessageEntry, LevelEntry}
 use Rattle.ps_model.specs.Keys.{keys_of}
 use Rattle.ps_model.specs.Turns.{Script, Done, Outcome, Blocked, Restarted, Finished, turn}
 use Rattle.ps_model.specs.Sessions.{Play, Pending, Nothing, LevelDone, KeyAgain, StartAgain, Session, Playing, Waiting, AtMessage, Ended, Step, quietly, remembered, with_turn}
-use Rattle.ps_model.specs.StartSteps.{start_pending, start_told, start_counted, start_turns, all_start_turns, started, started_by, start_step, entered, enter, fresh, first_of, restarted}
+use Rattle.ps_model.specs.StartSteps.{start_pending, start_told, start_counted, start_turns, all_start_turns, started, started_by, start_step, entered, enter, fresh, restarted}
 use Rattle.ps_model.specs.KeySteps.{key_pending, key_told, key_counted, key_turns, all_key_turns, turn_taken, undone, unless_ignored, key_in_level, input_taken, gone_on, key_at_level_message, key_at_entry, key_step}
 use Rattle.ps_model.specs.Outputs.{Output, output, opening_step, ending_of, end_of_keys_line}
 use Rattle.ps_model.specs.Fronts.{session_after, session_of, whole_front, EndsOtherwise, WrittenByEnding}
@@ -71,9 +72,9 @@ of_started : (script : Script) (play : Play) (message : Option (List ℕ)) (agai
 of_started script play message again = of_start_told play message again again_limit (all_start_turns script) (of_all_start_turns script)
 
 of_started_by : (script : Script) (play : Play) (message : Option (List ℕ)) (outcome : Outcome) → IsOwn (started_by script play message outcome).session
-of_started_by script play message (Blocked own) = of_started script play (first_of own message) false
-of_started_by script play message (Restarted own) = of_started script play (first_of own message) false
-of_started_by script play message (Finished done) = of_started script (with_turn play done) (first_of done.message message) done.again
+of_started_by script play message (Blocked own) = of_started script play (option_or own message) false
+of_started_by script play message (Restarted own) = of_started script play (option_or own message) false
+of_started_by script play message (Finished done) = of_started script (with_turn play done) (option_or done.message message) done.again
 
 of_start_step : (script : Script) (play : Play) (message : Option (List ℕ)) (own : Bool) → script.options.run_rules_on_level_start ≡ own → IsOwn (start_step script play message).session
 of_start_step script play message true e = rw (e, start_step) (of_started_by script play message (turn script None play.board))

@@ -8,7 +8,7 @@ use Rattle.ps_model.specs.Names.{Names}
 use Rattle.ps_model.specs.SourceRules.{SourceRule, RuleLine, Rule, LoopStart, LoopEnd}
 use Rattle.ps_model.specs.ReadingMeanings.{meanings}
 use Rattle.ps_model.specs.Programs.{Group, Loop}
-use Rattle.ps_model.specs.RulePrograms.{is_in_part, rule_in, is_start, is_end, is_joined, before_groups, groups_of, groups_in, loose_groups, loop_and_rest, sections_of_pieces, program_of}
+use Rattle.ps_model.specs.RulePrograms.{is_in_part, rule_in, is_start, is_end, is_joined, before_groups, groups_of, groups_in, groups_outside, loop_and_rest, sections_of_pieces, program_of}
 use Rattle.ps_model.specs.GameRules.{IsRuleOf, IsLineOf}
 use Rattle.ps_model.specs.KeptGrids.{Keeps, KeepsInSection}
 use Rattle.ps_model.proofs.Everywhere.{either_one, All-mapped, All-flat_map, All-filter_map, All-slice_split}
@@ -40,22 +40,22 @@ groups_in-keep names part lines all =
     All-mapped (All (Keeps names)) (All (IsRuleOf names)) (flat_map (meanings names)) (groups_of rules)
     (λ group. All-flat_map (Keeps names) (IsRuleOf names) (meanings names) group (meanings-keep names)) (All-groups_of (IsRuleOf names) rules game)
 
-loose_groups-keep : (names : Names) (part : Part) (lines : List RuleLine) → All (IsLineOf names) lines → All (KeepsInSection names) (loose_groups names part lines)
-loose_groups-keep names part lines all =
+groups_outside-keep : (names : Names) (part : Part) (lines : List RuleLine) → All (IsLineOf names) lines → All (KeepsInSection names) (groups_outside names part lines)
+groups_outside-keep names part lines all =
     All-mapped (KeepsInSection names) (All (Keeps names)) Group (groups_in names part lines) (λ rules h. h) (groups_in-keep names part lines all)
 
 loop_and_rest-keep : (names : Names) (part : Part) (pieces : List (List RuleLine)) → All (All (IsLineOf names)) pieces → All (KeepsInSection names) (loop_and_rest names part pieces)
 loop_and_rest-keep names part [] all = All-nil (KeepsInSection names)
 loop_and_rest-keep names part (body ∷ others) all =
-    All-cons (KeepsInSection names) (Loop (groups_in names part body)) (flat_map (loose_groups names part) others)
+    All-cons (KeepsInSection names) (Loop (groups_in names part body)) (flat_map (groups_outside names part) others)
     (groups_in-keep names part body (All-head (All (IsLineOf names)) body others all))
-    (All-flat_map (KeepsInSection names) (All (IsLineOf names)) (loose_groups names part) others (loose_groups-keep names part) (All-tail (All (IsLineOf names)) body others all))
+    (All-flat_map (KeepsInSection names) (All (IsLineOf names)) (groups_outside names part) others (groups_outside-keep names part) (All-tail (All (IsLineOf names)) body others all))
 
 sections_of_pieces-keep : (names : Names) (part : Part) (pieces : List (List RuleLine)) → All (All (IsLineOf names)) pieces → All (KeepsInSection names) (sections_of_pieces names part pieces)
 sections_of_pieces-keep names part [] all = All-nil (KeepsInSection names)
 sections_of_pieces-keep names part (before ∷ behind) all =
-    All-append (KeepsInSection names) (loose_groups names part before) (flat_map (λ lines. loop_and_rest names part (slice_split is_end lines)) behind)
-    (loose_groups-keep names part before (All-head (All (IsLineOf names)) before behind all))
+    All-append (KeepsInSection names) (groups_outside names part before) (flat_map (λ lines. loop_and_rest names part (slice_split is_end lines)) behind)
+    (groups_outside-keep names part before (All-head (All (IsLineOf names)) before behind all))
     (All-flat_map (KeepsInSection names) (All (IsLineOf names)) (λ lines. loop_and_rest names part (slice_split is_end lines)) behind
     (λ lines h. loop_and_rest-keep names part (slice_split is_end lines) (All-slice_split (IsLineOf names) is_end lines h)) (All-tail (All (IsLineOf names)) before behind all))
 

@@ -1,15 +1,14 @@
 -- The examples of docs/LANGUAGE.md and docs/DECISIONS.md, each with what the document says of it.
 use Rattle.std.proofs.Common.{◌≡◌, ℕ, List, [], ◌∷◌, ◌++◌, ap, map, length, refl, Option, Some, None, true, false}
-use Rattle.std.specs.Prelude.{◌+◌, ◌-◌, codes, drop, take, replicate, nat_lt, option_map}
-use Rattle.std.specs.List.{flat_map, range_with_len}
+use Rattle.std.specs.Prelude.{codes, replicate, nat_lt, option_map}
 use Rattle.std.specs.Str.{chars, is_utf8}
 use Rattle.std.specs.Str.Lossy.{utf8_valid_len}
-use Rattle.std.specs.Fmt.{decimal, digits}
+use Rattle.std.specs.Fmt.{digits}
 use Rattle.std.proofs.Math.Utf8.{encode}
 use Rattle.ps_model.specs.declared.faults.Fault.{Fault}
 use Rattle.ps_model.specs.declared.faults.FaultKind.TheVariants as kind
 use Rattle.ps_model.specs.Limits.{text_limit}
-use Rattle.ps_model.specs.Lines.{raw_lines, lines_of}
+use Rattle.ps_model.specs.Lines.{lines_of}
 use Rattle.ps_model.specs.Faults.{first_fault}
 use Rattle.ps_model.specs.TextFaults.{utf8_fault}
 use Rattle.ps_model.specs.Games.{game, line_faults}
@@ -19,22 +18,7 @@ use Rattle.ps_model.specs.StartSteps.{all_start_turns}
 use Rattle.ps_model.specs.KeySteps.{all_key_turns}
 use Rattle.ps_model.proofs.BaseText.{base_game, with_option}
 use Rattle.ps_model.proofs.WholeRuns.{written, refused}
-
--- the bytes of lines
-abbrev bytes_of : List (List ℕ) → List ℕ
-bytes_of lines = flat_map (λ line. line ++ 10 ∷ []) lines
-
--- a text with other lines in place of so many from a number on
-abbrev changed : ℕ → ℕ → List ℕ → List ℕ → List ℕ
-changed number count lines text = bytes_of (take (number - 1) (raw_lines text)) ++ (lines ++ bytes_of (drop (number - 1 + count) (raw_lines text)))
-
--- so many times the same bytes
-abbrev many : ℕ → List ℕ → List ℕ
-many count bytes = flat_map (λ each. each) (replicate count bytes)
-
--- the lines of so many objects `E1`, `E2` and so on
-abbrev objects : ℕ → List ℕ
-objects count = flat_map (λ number. codes "E" ++ (decimal number ++ codes "\nred\n")) (range_with_len 1 count)
+use Rattle.ps_model.proofs.ChangedTexts.{changed, many, objects}
 
 -- the game that docs/LANGUAGE.md begins with
 abbrev the_game : List ℕ

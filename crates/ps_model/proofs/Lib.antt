@@ -1,4 +1,5 @@
 pub mod BaseText
+pub mod ChangedTexts
 mod CommentRows
 pub mod Counts
 pub mod EitherWay
@@ -55,8 +56,10 @@ pub mod KeptTurns
 pub mod WholeRuns
 mod PushRows
 mod RoundRows
+mod PartRows
 mod PropertyRows
 mod CommandRows
+mod CompiledRows
 mod RefusedRows
 mod PlayedGames1Rows
 mod PlayedGames2Rows

@@ -11,6 +11,7 @@ use Rattle.ps_model.specs.KeySteps.{all_key_turns}
 use Rattle.ps_model.specs.declared.faults.FaultKind.TheVariants as kind
 use Rattle.ps_model.proofs.BaseText.{base_game}
 use Rattle.ps_model.proofs.WholeRuns.{written, refused}
+use Rattle.ps_model.proofs.ChangedTexts.{changed}
 
 -- members are tried in their order, the first occurrence slowest
 last_occurrence_varies_fastest : written (base_game (codes "right [ AT | AT ] -> [ | ]\n") ([]) (codes "AOA\n")) (codes "x")
@@ -32,6 +33,12 @@ bound_to_the_only_one = refl
 bound_to_neither_of_two : refused (base_game (codes "right [ AT | AT | Crate ] -> [ | | Crate AT ]\n") ([]) (codes "P\n")) ≡ Some (record { kind = kind.Unbound; line = 30 })
 unfolding chars digits is_utf8 utf8_valid_len encode group program_run all_start_turns all_key_turns
 bound_to_neither_of_two = refl
+
+-- a property whose members lie on one layer isn't chosen: the push is handed on, from Player to A, and from A to C
+loose_property_handed_on : written (changed 23 1 (codes "AC = A or C\n") (base_game (codes "right [ > Player | AC ] -> [ > Player | > AC ]\nright [ > AC | AC ] -> [ > AC | > AC ]\n") ([]) (codes "PAC.\n"))) (codes "d")
+    ≡ Some (codes "= T\n# level 1\nPAC.\n\n.PAC\n\n* end of keys\n")
+unfolding chars digits is_utf8 utf8_valid_len encode group program_run all_start_turns all_key_turns
+loose_property_handed_on = refl
 
 -- a word of several moves on the right is that of its own cell
 moving_pushes_and_acts : written (base_game (codes "[ moving Player | Crate ] -> [ moving Player | moving Crate ]\n") ([]) (codes "P*.\n")) (codes "xd")

@@ -1,6 +1,7 @@
 -- Texts that are refused, each with its fault and line, and texts that are nearly so, worked by hand.
-use Rattle.std.proofs.Common.{◌≡◌, [], ◌∷◌, ◌++◌, refl, Some, None}
-use Rattle.std.specs.Prelude.{codes}
+use Rattle.std.proofs.Common.{◌≡◌, ℕ, List, [], ◌∷◌, ◌++◌, map, length, refl, Option, Some, None}
+use Rattle.std.specs.Prelude.{codes, take, replicate}
+use Rattle.std.specs.List.{range_with_len}
 use Rattle.std.specs.Str.{chars, is_utf8}
 use Rattle.std.specs.Str.Lossy.{utf8_valid_len}
 use Rattle.std.specs.Fmt.{digits}
@@ -8,9 +9,12 @@ use Rattle.std.proofs.Math.Utf8.{encode}
 use Rattle.ps_model.specs.Programs.{group, program_run}
 use Rattle.ps_model.specs.StartSteps.{all_start_turns}
 use Rattle.ps_model.specs.KeySteps.{all_key_turns}
+use Rattle.ps_model.specs.declared.faults.Fault.{Fault}
 use Rattle.ps_model.specs.declared.faults.FaultKind.TheVariants as kind
+use Rattle.ps_model.specs.Lines.{raw_lines}
 use Rattle.ps_model.proofs.BaseText.{base_head, base_game}
 use Rattle.ps_model.proofs.WholeRuns.{written, refused}
+use Rattle.ps_model.proofs.ChangedTexts.{changed, many, objects, names_of_objects}
 
 -- rules
 rows_of_other_lengths : refused (base_game (codes "[ A | B ] -> [ A ]\n") ([]) (codes "P\n")) ≡ Some (record { kind = kind.RowsDiffer; line = 30 })
@@ -62,10 +66,22 @@ five_moving_in_four_directions : refused (base_game (codes "[ moving A | moving 
 unfolding chars digits is_utf8 utf8_valid_len encode group program_run all_start_turns all_key_turns
 five_moving_in_four_directions = refl
 
--- twelve occurrences of a property of two members are 4,096 readings, thirteen are too many; so are seventeen such rules
+-- twelve occurrences of a property of two members are 4,096 readings, thirteen are too many
 thirteen_members : refused (base_game (codes "right [ AT | AT | AT | AT | AT | AT | AT | AT | AT | AT | AT | AT | AT ] -> cancel\n") ([]) (codes "P\n")) ≡ Some (record { kind = kind.TooManyReadings; line = 30 })
 unfolding chars digits is_utf8 utf8_valid_len encode group program_run all_start_turns all_key_turns
 thirteen_members = refl
+
+-- a rule with twelve of them; sixteen such rules have as many readings as all rules may, seventeen have too many
+abbrev twelve_members : List ℕ
+twelve_members = codes "right [ AT | AT | AT | AT | AT | AT | AT | AT | AT | AT | AT | AT ] -> cancel\n"
+
+sixteen_rules : refused (base_game (many 16 twelve_members) ([]) (codes "P\n")) ≡ None
+unfolding chars digits is_utf8 utf8_valid_len encode group program_run all_start_turns all_key_turns
+sixteen_rules = refl
+
+seventeen_rules : refused (base_game (many 17 twelve_members) ([]) (codes "P\n")) ≡ Some (record { kind = kind.TooManyReadings; line = 46 })
+unfolding chars digits is_utf8 utf8_valid_len encode group program_run all_start_turns all_key_turns
+seventeen_rules = refl
 
 -- conditions and levels
 unknown_name_in_condition : refused (base_game ([]) (codes "No Q\n") (codes "P\n")) ≡ Some (record { kind = kind.UnknownWinName; line = 31 })
@@ -76,9 +92,31 @@ unknown_glyph : refused (base_game ([]) ([]) (codes "P?\n")) ≡ Some (record { 
 unfolding chars digits is_utf8 utf8_valid_len encode group program_run all_start_turns all_key_turns
 unknown_glyph = refl
 
+property_glyph : refused (changed 23 1 (codes "Q = A or Target\n") (base_game ([]) ([]) (codes "PQ\n"))) ≡ Some (record { kind = kind.PropertyGlyph; line = 32 })
+unfolding chars digits is_utf8 utf8_valid_len encode group program_run all_start_turns all_key_turns
+property_glyph = refl
+
 no_level : refused (base_game ([]) ([]) ([])) ≡ Some (record { kind = kind.NoLevel; line = 31 })
 unfolding chars digits is_utf8 utf8_valid_len encode group program_run all_start_turns all_key_turns
 no_level = refl
+
+-- names
+no_layer : refused (changed 28 1 (codes "A B C\n") (base_game ([]) ([]) (codes "P\n"))) ≡ Some (record { kind = kind.NoLayer; line = 19 })
+unfolding chars digits is_utf8 utf8_valid_len encode group program_run all_start_turns all_key_turns
+no_layer = refl
+
+-- the base text with so many more objects, all on its last layer
+abbrev with_objects : ℕ → List ℕ
+with_objects count = changed 21 0 (objects count) (changed 28 1 (codes "A B C D" ++ (names_of_objects count ++ codes "\n")) (base_game ([]) ([]) (codes "P\n")))
+
+-- 64 objects are few enough, 65 aren't
+as_many_objects : refused (with_objects 55) ≡ None
+unfolding chars digits is_utf8 utf8_valid_len encode group program_run all_start_turns all_key_turns
+as_many_objects = refl
+
+one_object_more : refused (with_objects 56) ≡ Some (record { kind = kind.TooManyNames; line = 131 })
+unfolding chars digits is_utf8 utf8_valid_len encode group program_run all_start_turns all_key_turns
+one_object_more = refl
 
 -- a last comment that is never closed; a comment that hides all that follows
 comment_at_the_end : written (base_game [] [] (codes "P.\n(never closed")) [] ≡ Some (codes "= T\n# level 1\nP.\n\n* end of keys\n")
@@ -109,3 +147,30 @@ two_grounds : written (codes "title T\nOBJECTS\nGrass g\ngreen\nSand s\nyellow\n
     ≡ Some (codes "= T\n# level 1\nPsP\n\nsPP\n\n* end of keys\n")
 unfolding chars digits is_utf8 utf8_valid_len encode group program_run all_start_turns all_key_turns
 two_grounds = refl
+
+-- texts that are cut off -----------------------------------------------------------------------------------------------------
+
+-- so many bytes of the text of a game that pushes; it has 327
+abbrev cut : ℕ → List ℕ
+cut count = take count (base_game (codes "[ > Player | Crate ] -> [ > Player | > Crate ]\n") (codes "All Target on Crate\n") (codes "#P*O#\n"))
+
+-- a section is missing, which is told at the last line
+abbrev without_section : ℕ → Option Fault
+without_section count = Some (record { kind = kind.NoSection; line = length (raw_lines (cut count)) })
+
+-- without the word LEVELS a section is missing; without a row below it, a level
+cut_in_names : map (λ count. refused (cut count)) (range_with_len 0 150) ≡ map without_section (range_with_len 0 150)
+unfolding chars digits is_utf8 utf8_valid_len encode
+cut_in_names = refl
+
+cut_in_layers_or_rules : map (λ count. refused (cut count)) (range_with_len 150 100) ≡ map without_section (range_with_len 150 100)
+unfolding chars digits is_utf8 utf8_valid_len encode
+cut_in_layers_or_rules = refl
+
+cut_in_rules_or_conditions : map (λ count. refused (cut count)) (range_with_len 250 70) ≡ map without_section (range_with_len 250 70)
+unfolding chars digits is_utf8 utf8_valid_len encode
+cut_in_rules_or_conditions = refl
+
+cut_in_levels : map (λ count. refused (cut count)) (range_with_len 320 8) ≡ replicate 2 (Some (record { kind = kind.NoLevel; line = 33 })) ++ replicate 6 None
+unfolding chars digits is_utf8 utf8_valid_len encode
+cut_in_levels = refl

@@ -1,11 +1,11 @@
--- What the rows of whole runs compare: the bytes that a text writes on keys, its first fault, and its last frame.
-use Rattle.std.proofs.Common.{ℕ, List, [], ◌∷◌, ◌++◌, Option, Some, None}
-use Rattle.std.specs.Prelude.{option_map, drop, length}
+-- What the rows of whole runs compare: the bytes that a text writes on keys, and its first fault.
+use Rattle.std.proofs.Common.{ℕ, List, Option}
+use Rattle.std.specs.Prelude.{option_map}
 use Rattle.ps_model.specs.declared.faults.Fault.{Fault}
 use Rattle.ps_model.specs.Faults.{first_fault}
-use Rattle.ps_model.specs.Games.{Game, faults, game}
+use Rattle.ps_model.specs.Games.{faults, game}
 use Rattle.ps_model.specs.Turns.{script_of}
-use Rattle.ps_model.specs.Outputs.{output, end_of_keys_line}
+use Rattle.ps_model.specs.Outputs.{output}
 
 -- what a text writes on keys, if it is a game
 abbrev pub written : List ℕ → List ℕ → Option (List ℕ)

@@ -1,10 +1,11 @@
 -- Who wins a cell, and which objects slide.
 use Rattle.std.proofs.Common.{◌≡◌, ◌≢◌, ℕ, suc, zero, ◌+◌, ◌<◌, ◌≤◌, ◌&&◌, ◌⊎◌, inl, inr, Bool, true, false, cond, Option, Some, None, refl, ◌∙◌, ap, arith}
 use Rattle.std.specs.Prelude.{nat_lt, find}
+use Rattle.std.specs.Option.{option_or}
 use Rattle.std.specs.List.{range_with_len}
 use Rattle.std.proofs.lemmas.Bool.Decides.{nat_tests, eqb_tells}
 use Rattle.ps_model.specs.Grid.{Grid, cell_count}
-use Rattle.ps_model.specs.Movement.{target, is_bare, is_number, least_contender, or_else, winner, slides_within}
+use Rattle.ps_model.specs.Movement.{target, is_bare, is_number, least_contender, winner, slides_within}
 
 -- the first number of a range that passes
 find_first : (p : ℕ → Bool) (a n c : ℕ) → a ≤ c → c < a + n → p c ≡ true → ((s : ℕ) → s < c → p s ≡ false) → find p (range_with_len a n) ≡ Some c
@@ -71,7 +72,7 @@ least-contends g layer cell passes c e =
     let both = passes-true (is_number (target g layer c) cell) (passes c) found.0 in
     (is_number-true (target g layer c) cell both.0, omega (arith, found.1))
 
-either : (g : Grid) (layer cell : ℕ) (p q : ℕ → Bool) (c : ℕ) (o : Option ℕ) → least_contender g layer cell p ≡ o → or_else o (least_contender g layer cell q) ≡ Some c →
+either : (g : Grid) (layer cell : ℕ) (p q : ℕ → Bool) (c : ℕ) (o : Option ℕ) → least_contender g layer cell p ≡ o → option_or o (least_contender g layer cell q) ≡ Some c →
     (target g layer c ≡ Some cell) × (c < cell_count g)
 either g layer cell p q c None e f = least-contends g layer cell q c f
 either g layer cell p q c (Some n) e f = least-contends g layer cell p c (e ∙ f)
@@ -81,7 +82,7 @@ pub winner-contends : (g : Grid) (layer cell c : ℕ) → winner g layer cell �
 winner-contends g layer cell c e = contends (is_bare g layer cell) e where
   contends : (b : Bool) → elim b [
     | true ↦ least_contender g layer cell (λ from. true)
-    | false ↦ or_else (least_contender g layer cell (nat_lt cell)) (least_contender g layer cell (λ from. true))
+    | false ↦ option_or (least_contender g layer cell (nat_lt cell)) (least_contender g layer cell (λ from. true))
   ] ≡ Some c → (target g layer c ≡ Some cell) × (c < cell_count g)
   contends true f = least-contends g layer cell (λ from. true) c f
   contends false f = either g layer cell (nat_lt cell) (λ from. true) c (least_contender g layer cell (nat_lt cell)) refl f
@@ -104,7 +105,7 @@ not_under a b c d h k = grind arith
 pub winner-of_left : (g : Grid) (layer cell c : ℕ) → is_bare g layer cell ≡ false → c < cell_count g → target g layer c ≡ Some cell → c ≢ cell →
     ((s : ℕ) → target g layer s ≡ Some cell → s < c → s < cell) → ((s : ℕ) → target g layer s ≡ Some cell → s < c → cell < c) → ((s : ℕ) → target g layer s ≡ Some cell → c ≤ cell → s < cell) → winner g layer cell ≡ Some c
 winner-of_left g layer cell c bare within aims apart behind over ahead = rw (bare, winner) (next (nat_lt cell c) refl) where
-  next : (b : Bool) → nat_lt cell c ≡ b → or_else (least_contender g layer cell (nat_lt cell)) (least_contender g layer cell (λ from. true)) ≡ Some c
+  next : (b : Bool) → nat_lt cell c ≡ b → option_or (least_contender g layer cell (nat_lt cell)) (least_contender g layer cell (λ from. true)) ≡ Some c
   next true e =
       let first : least_contender g layer cell (nat_lt cell) ≡ Some c = least-is g layer cell (nat_lt cell) c within aims e
       (λ s a y. let higher = above_is cell s y in not_under s c s cell (behind s a) (omega arith)) in

@@ -2,6 +2,7 @@
 -- each row, the first row's changing fastest. Each combination in order is applied if every row still fits: all cells of all
 -- rows are rewritten, row after row. A rule that has a combination queues its commands, whether it changed something or not.
 use Rattle.std.specs.Prelude.{ℕ, Bool, true, false, ◌&&◌, ◌||◌, not, if◌then◌else◌, Option, Some, None, List, [], ◌∷◌, map, fold, slice_get, slice_set}
+use Rattle.std.specs.Option.{option_or}
 use Rattle.std.specs.List.{flat_map}
 use Rattle.ps_model.specs.declared.pieces.Slot.{Slot}
 use Rattle.ps_model.specs.declared.pieces.Slot.TheVariants.{Bare, Holds}
@@ -85,12 +86,7 @@ applied rows r combination = elim (all_fit r.grid rows combination) [ true ↦ r
 
 -- commands -----------------------------------------------------------------------------------------------------------------
 
--- the first message of two
-abbrev pub first_message : Option (List ℕ) → Option (List ℕ) → Option (List ℕ)
-first_message None second = second
-first_message (Some text) second = Some text
-
--- a queue and the commands of a rule together
+-- a queue and the commands of a rule together; of two messages the first is kept
 abbrev pub both : Commands → Commands → Commands
 both queue commands = record {
   cancel = queue.cancel || commands.cancel;
@@ -98,7 +94,7 @@ both queue commands = record {
   again = queue.again || commands.again;
   checkpoint = queue.checkpoint || commands.checkpoint;
   win = queue.win || commands.win;
-  message = first_message queue.message commands.message;
+  message = option_or queue.message commands.message;
 }
 
 -- the queue with the commands of a rule: behind `cancel` nothing enters, behind `restart` nothing but a rule with `cancel`; a rule

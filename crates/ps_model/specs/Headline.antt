@@ -1,6 +1,6 @@
 -- What a run may answer, for every text and every stream of key bytes, in whatever pieces it comes: it refuses the text with the first
 -- fault that the text has, or writes exactly the output of the text's game on the keys. Where memory is refused, keys can't be read or
--- nothing can be written, it stops and says so, and has written the front of that output that is said here.
+-- the output can't be written, it stops and says so, and has written a front of it, as said below.
 use Rattle.std.specs.Prelude.{◌≡◌, ℕ, ◌-◌, ◌≤◌, Bool, true, ◌⊎◌, Option, Some, option_map, List, [], ◌++◌, length, take}
 use Rattle.ps_model.specs.declared.faults.Fault.{Fault}
 use Rattle.ps_model.specs.declared.play.Ending.{Ending}
@@ -15,7 +15,7 @@ use Rattle.ps_model.specs.Outputs.{output, front}
 abbrev pub script_of_text : List ℕ → Option Script
 script_of_text text = option_map script_of (game text)
 
--- what a run answers: how it ended, why the text is refused, or what it lacked
+-- what a run answers: how it ended; why the text is refused; or that it wants memory, can't read keys, or can't write the output
 pub data Answer : Type 0 where
   Ends : Ending → Answer
   Refuses : Fault → Answer
@@ -73,8 +73,8 @@ pub record CannotReadRightly (script : Script) (told : Told) : Type 0 where
   pub cause : (told.reader_failed ≡ true) ⊎ (told.calls ≡ read_limit)
   pub wrote : told.wrote ≡ front script told.read (length (keys_of told.read))
 
--- nothing could be written: the writer failed; what it took is a front of the output of the bytes read, and has the texts of all
--- keys that were read before the last call, if there was a call
+-- the output couldn't be written: the writer failed; what it took is a front of the output of the bytes read, and has the texts of
+-- all keys that were read before the last call, if there was a call
 pub record CannotWriteRightly (script : Script) (told : Told) : Type 0 where
   pub cause : told.writer_failed ≡ true
   pub wrote : IsFront told.wrote (output script told.read).written

@@ -1,5 +1,6 @@
 -- What each key does. A direction or `x` makes a turn, with its frame, its message, and then the end of the level or again turns; `z`
--- takes the latest turn back, `r` restarts, `q` quits. While a message waits, `x` dismisses it, and all keys but `q` are ignored.
+-- goes back to the latest board of the history, `r` restarts, `q` quits. While a message waits, `x` dismisses it, and all keys but `q`
+-- are ignored.
 use Rattle.std.specs.Prelude.{ℕ, zero, suc, Bool, true, false, ◌||◌, Option, Some, None, List, [], ◌∷◌, reverse, codes}
 use Rattle.ps_model.specs.declared.play.Ending.TheVariants.{Quit as Quits}
 use Rattle.ps_model.specs.declared.play.Input.{Input}
@@ -38,7 +39,8 @@ key_counted script play done left again_turns = elim (done.changed || done.win) 
   | true ↦ let next : Play = with_turn play done in after (shown script next) (key_told script next done left again_turns)
 ]
 
--- the again turns of a key, so many at most: turns without input. A blocked one counts for nothing; a restart ends them
+-- the again turns of a key, so many at most: turns without input. A blocked one doesn't count, nor does one that neither changed the
+-- board nor won: one that doesn't count is as if not run, and ends them. A restart ends them too
 abbrev pub key_turns : Script → ℕ → Play → Step
 key_turns script zero play = quietly (Playing play)
 key_turns script (suc left) play = elim (turn script None play.board) [

@@ -1,5 +1,5 @@
 -- Faults of LEVELS: characters that may not stand in a row, too large levels, too many entries, and no level at all.
-use Rattle.std.specs.Prelude.{encode_utf8, ℕ, suc, nat_eq, nat_lt, Bool, true, false, ◌&&◌, ◌||◌, not, Option, Some, None, is_some, List, [], ◌∷◌, ◌++◌, length, take}
+use Rattle.std.specs.Prelude.{encode_utf8, ℕ, suc, nat_eq, nat_lt, Bool, true, false, ◌&&◌, ◌||◌, not, Option, is_some, List, [], ◌∷◌, ◌++◌, length, take}
 use Rattle.std.specs.Char.{to_ascii_lowercase}
 use Rattle.std.specs.List.{list_any}
 use Rattle.std.specs.Str.{bytes_eq}
@@ -9,7 +9,8 @@ use Rattle.ps_model.specs.declared.faults.FaultKind.TheVariants.{UnknownGlyph, P
 use Rattle.ps_model.specs.Limits.{side_limit, entry_limit}
 use Rattle.ps_model.specs.Faults.{when}
 use Rattle.ps_model.specs.Lines.{Line}
-use Rattle.ps_model.specs.Names.{Meaning, One, AllOf, AnyOf, Names}
+use Rattle.ps_model.specs.Names.{Meaning, Names}
+use Rattle.ps_model.specs.Meanings.{is_property}
 use Rattle.ps_model.specs.LevelLines.{EntryLines, MessageLine, LevelRows, entry_lines, characters_of}
 
 -- what a character stands for, if it is a name, ASCII letters folded
@@ -19,13 +20,6 @@ character_meaning names character = lookup (bytes_eq (encode_utf8 (to_ascii_lowe
 -- an unknown glyph, LV1: no name of one character is this one; a blank within a row is none
 abbrev pub is_unknown_glyph : Names → ℕ → Bool
 is_unknown_glyph names character = not (is_some (character_meaning names character))
-
--- the meaning is a property
-abbrev pub is_property : Option Meaning → Bool
-is_property None = false
-is_property (Some (One object)) = false
-is_property (Some (AllOf line objects)) = false
-is_property (Some (AnyOf line objects)) = true
 
 -- a glyph that is a property, LV2
 abbrev pub is_property_glyph : Names → ℕ → Bool

@@ -1,18 +1,15 @@
 -- A level: for each cell, in columns from the left and each column from the top, the objects that its character shows; and
 -- the grid that it is loaded as.
-use Rattle.std.specs.Prelude.{ℕ, nat_eq, Bool, if◌then◌else◌, Option, Some, None, unwrap_or, List, [], ◌∷◌, ◌++◌, map, find, fold, drop, replicate, slice_set, slice_index_or, codes}
+use Rattle.std.specs.Prelude.{ℕ, nat_eq, Bool, if◌then◌else◌, Option, Some, None, unwrap_or, List, [], ◌∷◌, ◌++◌, map, find, fold, replicate, slice_set, slice_index_or, codes}
 use Rattle.std.specs.Prelude.{encode_utf8}
 use Rattle.std.specs.Char.{to_ascii_lowercase}
-use Rattle.std.specs.List.{list_any, flat_map, prefix_len}
-use Rattle.std.specs.Str.{bytes_eq, chars}
+use Rattle.std.specs.List.{list_any, flat_map}
+use Rattle.std.specs.Str.{bytes_eq}
 use Rattle.std.specs.Map.{lookup}
 use Rattle.ps_model.specs.declared.pieces.ObjectId.{ObjectId}
 use Rattle.ps_model.specs.declared.pieces.Motion.TheVariants.{Still}
 use Rattle.ps_model.specs.declared.pieces.Slot.{Slot}
 use Rattle.ps_model.specs.declared.pieces.Slot.TheVariants.{Bare, Holds}
-use Rattle.ps_model.specs.Words.{is_blank}
-use Rattle.ps_model.specs.Lines.{without_blank_end}
-use Rattle.ps_model.specs.ThinLines.{Line}
 use Rattle.ps_model.specs.Names.{Meaning, One, AllOf, AnyOf, Names, layer_of, members_named}
 use Rattle.ps_model.specs.Grid.{Grid}
 
@@ -32,10 +29,6 @@ shown_objects (Some (AnyOf line objects)) = None
 -- the objects that a character of a row shows: it is a name of one character, ASCII letters folded
 abbrev pub objects_shown : Names → ℕ → Option (List ObjectId)
 objects_shown names character = shown_objects (lookup (bytes_eq (encode_utf8 (to_ascii_lowercase character))) names.entries)
-
--- the characters of a row, without the blanks at its ends
-abbrev pub row_characters : Line → List ℕ
-row_characters line = chars (without_blank_end (drop (prefix_len is_blank line.bytes) line.bytes))
 
 -- the layer of the objects of Background
 abbrev pub background_layer : Names → ℕ

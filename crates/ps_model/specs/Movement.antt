@@ -1,7 +1,8 @@
 -- Movement: each object whose motion is a direction wants to go one cell on in its layer. It goes where that cell is
--- free or becomes free in the same movement; of several objects that want to enter one cell, one wins. Then all
--- objects are at rest.
+-- free or becomes free in the same movement; of several objects that want to enter one cell, one wins. Objects never
+-- change places, and rings never turn. Then all objects are at rest.
 use Rattle.std.specs.Prelude.{ℕ, suc, zero, nat_lt, nat_eq, Bool, true, false, ◌&&◌, Option, Some, None, map, find}
+use Rattle.std.specs.Option.{option_or}
 use Rattle.std.specs.List.{range_with_len}
 use Rattle.ps_model.specs.declared.pieces.Motion.TheVariants.{Still, Going, Acting}
 use Rattle.ps_model.specs.declared.pieces.Slot.{Slot}
@@ -37,17 +38,12 @@ is_number (Some m) n = nat_eq m n
 abbrev pub least_contender : Grid → ℕ → ℕ → (ℕ → Bool) → Option ℕ
 least_contender g layer cell passes = find (λ from. is_number (target g layer from) cell && passes from) (range_with_len 0 (cell_count g))
 
--- the first option, or else the second
-abbrev pub or_else : Option ℕ → Option ℕ → Option ℕ
-or_else None second = second
-or_else (Some n) second = Some n
-
 -- the contender that may enter a cell: the least, where the cell's layer is bare; else the least above the cell's own
 -- number, or, if none is above, the least of all
 abbrev pub winner : Grid → ℕ → ℕ → Option ℕ
 winner g layer cell = elim (is_bare g layer cell) [
   | true ↦ least_contender g layer cell (λ from. true)
-  | false ↦ or_else (least_contender g layer cell (nat_lt cell)) (least_contender g layer cell (λ from. true))
+  | false ↦ option_or (least_contender g layer cell (nat_lt cell)) (least_contender g layer cell (λ from. true))
 ]
 
 -- a chain of at most so many links leads from the cell to a bare one: each cell of it is the winner of the next

@@ -20,7 +20,7 @@ abbrev pub round : List RuleMeaning → State → Result
 round [] state = record { state = state; changed = false }
 round (rule ∷ rules) state = let first : Result = attempt rule state in after_change first.changed (round rules first.state)
 
--- rounds, at most so many, until one changes nothing; behind rounds that changed something or not
+-- rounds, at most so many, until one changes nothing; `changed` says whether an earlier one changed something
 abbrev pub settled : List RuleMeaning → ℕ → Bool → State → Result
 settled rules zero changed state = record { state = state; changed = changed }
 settled rules (suc rounds) changed state =

@@ -53,19 +53,19 @@ abbrev pub groups_in : Names → Part → List RuleLine → List (List RuleMeani
 groups_in names part lines = map (flat_map (meanings names)) (groups_of (filter (is_in_part part) (filter_map rule_in lines)))
 
 -- groups outside of loops
-abbrev pub loose_groups : Names → Part → List RuleLine → List Section
-loose_groups names part lines = map Group (groups_in names part lines)
+abbrev pub groups_outside : Names → Part → List RuleLine → List Section
+groups_outside names part lines = map Group (groups_in names part lines)
 
 -- the lines behind the start of a loop, cut at its end: the body is a loop, what follows is not
 abbrev pub loop_and_rest : Names → Part → List (List RuleLine) → List Section
 loop_and_rest names part [] = []
-loop_and_rest names part (body ∷ others) = Loop (groups_in names part body) ∷ flat_map (loose_groups names part) others
+loop_and_rest names part (body ∷ others) = Loop (groups_in names part body) ∷ flat_map (groups_outside names part) others
 
 -- the lines cut at the starts of loops: those before the first, and those behind each
 abbrev pub sections_of_pieces : Names → Part → List (List RuleLine) → List Section
 sections_of_pieces names part [] = []
 sections_of_pieces names part (before ∷ behind) =
-    loose_groups names part before ++ flat_map (λ lines. loop_and_rest names part (slice_split is_end lines)) behind
+    groups_outside names part before ++ flat_map (λ lines. loop_and_rest names part (slice_split is_end lines)) behind
 
 -- the program of a part of a turn
 abbrev pub program_of : Names → Part → List RuleLine → List Section

@@ -80,10 +80,11 @@ kept boards = drop (length boards - history_limit) boards
 abbrev pub remembered : Play → Play
 remembered play = record { entry = play.entry; board = play.board; history = kept (play.history ++ play.board ∷ []); target = play.target }
 
--- the level with that board; also with that restart target, where a checkpoint is set
+-- the level with that board
 abbrev pub with_board : Play → Grid → Play
 with_board play board = record { entry = play.entry; board = board; history = play.history; target = play.target }
 
+-- the level with the board of a done turn; the board is the restart target too, where the turn sets a checkpoint
 abbrev pub with_turn : Play → Done → Play
 with_turn play done = record { entry = play.entry; board = done.board; history = play.history; target = if done.checkpoint then done.board else play.target }
 

@@ -1,6 +1,7 @@
 -- The start of a level, at which its first frame is written, and of each restart. Where an option asks for it a turn without input
 -- comes first. Then a message may wait, and again turns may follow. A win at the start is dropped.
 use Rattle.std.specs.Prelude.{ℕ, zero, suc, Bool, true, false, Option, Some, None, List, [], slice_get, codes}
+use Rattle.std.specs.Option.{option_or}
 use Rattle.ps_model.specs.declared.play.Ending.TheVariants.{TheEnd}
 use Rattle.ps_model.specs.Limits.{again_limit}
 use Rattle.ps_model.specs.Grid.{Grid}
@@ -27,7 +28,8 @@ start_counted script play done left again_turns = elim done.changed [
   | true ↦ let next : Play = with_turn play done in after (shown script next) (start_told next done.message done.again left again_turns)
 ]
 
--- the again turns of a start, so many at most: turns without input, of which a blocked and a restarting one count for nothing
+-- the again turns of a start, so many at most: turns without input. A blocked and a restarting one don't count, nor does one that left
+-- the board as it was: one that doesn't count is as if not run, and ends them
 abbrev pub start_turns : Script → ℕ → Play → Step
 start_turns script zero play = quietly (Playing play)
 start_turns script (suc left) play = elim (turn script None play.board) [
@@ -40,20 +42,15 @@ start_turns script (suc left) play = elim (turn script None play.board) [
 unfoldable pub all_start_turns : Script → Play → Step
 all_start_turns script play = start_turns script again_limit play
 
--- the first of two messages
-abbrev pub first_of : Option (List ℕ) → Option (List ℕ) → Option (List ℕ)
-first_of None second = second
-first_of (Some text) second = Some text
-
 -- a level from its first frame on, with a message or without one, and with again turns or without
 abbrev pub started : Script → Play → Option (List ℕ) → Bool → Step
 started script play message again = after (shown script play) (start_told play message again again_limit (all_start_turns script))
 
 -- the start by its own turn: a blocked or restarting one leaves the board; its message comes before one from before
 abbrev pub started_by : Script → Play → Option (List ℕ) → Outcome → Step
-started_by script play message (Blocked own) = started script play (first_of own message) false
-started_by script play message (Restarted own) = started script play (first_of own message) false
-started_by script play message (Finished done) = started script (with_turn play done) (first_of done.message message) done.again
+started_by script play message (Blocked own) = started script play (option_or own message) false
+started_by script play message (Restarted own) = started script play (option_or own message) false
+started_by script play message (Finished done) = started script (with_turn play done) (option_or done.message message) done.again
 
 -- the start step, with a message from before or without one
 abbrev pub start_step : Script → Play → Option (List ℕ) → Step

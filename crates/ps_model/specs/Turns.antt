@@ -73,7 +73,7 @@ abbrev pub stayed : Names → Grid → List ℕ → Bool
 stayed names after [] = false
 stayed names after (cell ∷ cells) = list_all (λ each. has_player names (cell_at after each)) (cell ∷ cells)
 
--- a turn for whose sake no Player left its cell, where one has to
+-- the game asks for a move of the Player, and each cell that had one still has one
 abbrev pub is_held : Script → Option Input → Grid → Grid → Bool
 is_held script None before after = false
 is_held script (Some input) before after = script.options.require_player_movement && stayed script.names after (player_cells script.names before)
@@ -119,8 +119,8 @@ done_with script last changed =
       again = queue.again && changed;
     }
 
--- the outcome of a turn whose last state this is: blocked, where a Player has to move and none did; blocked by `cancel`; restarted
--- by `restart`; or done
+-- the outcome of a turn whose last state this is: blocked, where the game asks for a move of the Player, and each cell that had one
+-- still has one; blocked by `cancel`; restarted by `restart`; or done
 abbrev pub outcome_of : Script → Option Input → Grid → State → Outcome
 outcome_of script input g last =
     if is_held script input g last.grid then Blocked None

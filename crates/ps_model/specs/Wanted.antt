@@ -24,11 +24,12 @@ abbrev pub chosen_move : Reading → Option ℕ → Option Motion
 chosen_move reading None = None
 chosen_move reading (Some number) = lookup (nat_eq number) reading.moves
 
--- the member that is chosen for an occurrence, in a list of its own
+-- an object that may be absent, in a list of its own
 abbrev pub one_member : Option ObjectId → List ObjectId
 one_member None = []
 one_member (Some object) = object ∷ []
 
+-- the member that is chosen for an occurrence, in a list of its own
 abbrev pub chosen_member : Reading → Option ℕ → List ObjectId
 chosen_member reading None = []
 chosen_member reading (Some number) = one_member (lookup (nat_eq number) reading.members)
@@ -51,7 +52,8 @@ wanted_left names rule reading (Is number (Some word) meaning) =
     wanted_name names rule reading (Some number) meaning (motion_of_word reading (Some number) word)
 wanted_left names rule reading (No meaning) = Without (members meaning)
 
--- what an item on the right of a cell asks: the choices are those of the left occurrences that it is bound to
+-- what the right puts there, by an item of a cell's right, or what it takes away with `no`: the choices are those of the left
+-- occurrences that the item is bound to
 abbrev pub wanted_right : Names → SourceRule → CellPair → Reading → Item → Wanted
 wanted_right names rule cell reading (Is number None meaning) = wanted_name names rule reading (bound_name rule cell meaning) meaning None
 wanted_right names rule cell reading (Is number (Some word) meaning) =
