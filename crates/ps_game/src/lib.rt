@@ -2,10 +2,9 @@
 #![tactic(auto)]
 
 mod headings;
-mod options;
 mod prelude;
 mod sections;
 
-pub use options::Options;
+pub use ps_model::{Fault, FaultKind, Options};
 pub use prelude::{read_options, read_title};
 pub use sections::{Sections, read_sections};

@@ -8,8 +8,7 @@ ghost use Rattle.ps_model.specs.Preludes.{begins_with, is_set, options_of, title
 ghost use Rattle.ps_game.specs.SectionPlaces.{IsStretch};
 
 use crate::headings::begins_with;
-use crate::options::Options;
-use ps_model::Memory;
+use ps_model::{Memory, Options};
 use ps_text::{Source, Text};
 use std::alloc::Global;
 use std::ops::Range;

@@ -15,7 +15,7 @@ use Rattle.ps_model.specs.Limits.{text_limit}
 use Rattle.ps_model.specs.Faults.{first_fault}
 use Rattle.ps_model.specs.TextFaults.{utf8_fault}
 use Rattle.ps_model.specs.Lines.{lines_of}
-use Rattle.ps_model.specs.Preludes.{Options}
+use Rattle.ps_model.specs.declared.options.Options.{Options}
 use Rattle.ps_model.specs.Names.{One, AllOf}
 use Rattle.ps_model.specs.LevelLines.{Entry, MessageEntry, LevelEntry}
 use Rattle.ps_model.specs.Games.{line_faults, faults, game}

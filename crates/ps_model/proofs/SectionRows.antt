@@ -8,7 +8,8 @@ use Rattle.ps_model.specs.declared.faults.FaultKind.{FaultKind}
 use Rattle.ps_model.specs.declared.faults.FaultKind.TheVariants.{SectionOrder, NoSection, Realtime}
 use Rattle.ps_model.specs.Faults.{first_fault}
 use Rattle.ps_model.specs.Lines.{lines_of}
-use Rattle.ps_model.specs.Preludes.{Options, options_of, title_of}
+use Rattle.ps_model.specs.declared.options.Options.{Options}
+use Rattle.ps_model.specs.Preludes.{options_of, title_of}
 use Rattle.ps_model.specs.Sections.{section_lines, header_number, heading_faults}
 
 -- the numbers of the lines of a section

@@ -6,7 +6,8 @@ use Rattle.ps_model.specs.declared.texts.Section.TheVariants.{Prelude, Objects, 
 use Rattle.ps_model.specs.declared.faults.Fault.{Fault}
 use Rattle.ps_model.specs.TextFaults.{text_fault}
 use Rattle.ps_model.specs.Lines.{Line, lines_of}
-use Rattle.ps_model.specs.Preludes.{Options, options_of, title_of}
+use Rattle.ps_model.specs.declared.options.Options.{Options}
+use Rattle.ps_model.specs.Preludes.{options_of, title_of}
 use Rattle.ps_model.specs.Sections.{section_lines, header_number, heading_faults}
 use Rattle.ps_model.specs.Names.{Names}
 use Rattle.ps_model.specs.NamesRead.{names_read}

@@ -3,20 +3,8 @@
 use Rattle.std.specs.Prelude.{ℕ, Bool, unwrap_or, option_map, List, [], find, codes}
 use Rattle.std.specs.List.{list_any}
 use Rattle.std.specs.Str.{bytes_eq}
+use Rattle.ps_model.specs.declared.options.Options.{Options}
 use Rattle.ps_model.specs.Lines.{Line, first_word, taken_bytes}
-
--- the options of a game
-pub record Options : Type 0 where
-  -- `noaction`: `x` does nothing but dismiss a message
-  pub no_action : Bool
-  -- `noundo`: `z` is ignored
-  pub no_undo : Bool
-  -- `norestart`: `r` is ignored
-  pub no_restart : Bool
-  -- `require_player_movement`: a key by which no Player leaves its cell is taken back
-  pub require_player_movement : Bool
-  -- `run_rules_on_level_start`: a level begins with a turn without a key
-  pub run_rules_on_level_start : Bool
 
 -- the first word of a line is this one, letters folded
 abbrev pub begins_with : List ℕ → Line → Bool

@@ -14,7 +14,7 @@ use Rattle.ps_model.specs.SourceRules.{Commands, no_commands}
 use Rattle.ps_model.specs.Attempts.{State, same_cell}
 use Rattle.ps_model.specs.Programs.{Section, program_run}
 use Rattle.ps_model.specs.RulePrograms.{program_of}
-use Rattle.ps_model.specs.Preludes.{Options}
+use Rattle.ps_model.specs.declared.options.Options.{Options}
 use Rattle.ps_model.specs.LevelLines.{Entry}
 use Rattle.ps_model.specs.Wins.{Win}
 use Rattle.ps_model.specs.Winning.{won}

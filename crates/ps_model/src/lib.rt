@@ -10,6 +10,7 @@ mod laws_of_grids;
 mod laws_of_rules;
 mod laws_of_runs;
 mod memory;
+mod options;
 mod pieces;
 mod play;
 mod rules;
@@ -29,6 +30,7 @@ pub use laws_of_runs::{
     ends_of_output, fronts_of_output, held_bytes, keys_in_pieces, one_game, readings_by_stages,
 };
 pub use memory::Memory;
+pub use options::Options;
 pub use pieces::{Direction, LayerId, Motion, ObjectId, Slot};
 pub use play::{Ending, Input, Key};
 pub use rules::{MovementWord, Part, Quantifier};

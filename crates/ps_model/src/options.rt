@@ -1,7 +1,5 @@
 //! The options of a game.
 
-use std::marker::Model;
-
 /// The options of a game, each set by a line of the prelude that begins with its name.
 #[derive(Clone, Copy, PartialEq, Eq, Debug)]
 pub struct Options {
@@ -15,12 +13,4 @@ pub struct Options {
     pub require_player_movement: bool,
     /// `run_rules_on_level_start`: a level begins with a turn without a key.
     pub run_rules_on_level_start: bool,
-}
-
-impl Model for Options {
-    ghost use Rattle.ps_model.specs.Preludes.{Options as Meant};
-
-    ghost Value = { Meant };
-
-    ghost view = { λ o. record { no_action = o.no_action; no_undo = o.no_undo; no_restart = o.no_restart; require_player_movement = o.require_player_movement; run_rules_on_level_start = o.run_rules_on_level_start } };
 }
