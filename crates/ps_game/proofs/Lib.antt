@@ -1,0 +1,2 @@
+pub mod HeadingsTold
+pub mod FirstFaults

@@ -1,5 +1,6 @@
 -- What is wrong with the headers and the prelude of a text, told in one pass over its lines.
 use Rattle.std.specs.Prelude.{ℕ, nat_le, Bool, true, false, ◌&&◌, Option, None, Some, List, [], ◌∷◌, if◌then◌else◌}
+use Rattle.std.specs.Option.{option_or}
 use Rattle.ps_model.specs.declared.faults.Fault.{Fault}
 use Rattle.ps_model.specs.declared.faults.FaultKind.TheVariants.{SectionOrder, Realtime}
 use Rattle.ps_model.specs.Lines.{Line}
@@ -9,12 +10,15 @@ use Rattle.ps_model.specs.Sections.{rank, is_real_time}
 abbrev pub is_late_header : ℕ → Line → Bool
 is_late_header above line = line.is_header && nat_le (rank line.section) above
 
+-- the fault of the line of a number, which is a late header or asks for real time, or does neither
+abbrev pub fault_by : Bool → Bool → ℕ → Option Fault
+fault_by true real number = Some (record { kind = SectionOrder; line = number })
+fault_by false true number = Some (record { kind = Realtime; line = number })
+fault_by false false number = None
+
 -- the first fault of a line, below headers of which the last one's section has that place
 abbrev pub heading_fault : ℕ → Line → Option Fault
-heading_fault above line = elim (is_late_header above line) [
-  | true ↦ Some (record { kind = SectionOrder; line = line.number })
-  | false ↦ elim (is_real_time line) [ true ↦ Some (record { kind = Realtime; line = line.number }) | false ↦ None ]
-]
+heading_fault above line = fault_by (is_late_header above line) (is_real_time line) line.number
 
 -- the place of the last section above the next line
 abbrev pub place_below : ℕ → Line → ℕ
@@ -23,7 +27,4 @@ place_below above line = if line.is_header then rank line.section else above
 -- the first fault of lines
 abbrev pub headings_told : ℕ → List Line → Option Fault
 headings_told above [] = None
-headings_told above (line ∷ lines) = elim (heading_fault above line) [
-  | Some fault ↦ Some fault
-  | None ↦ headings_told (place_below above line) lines
-]
+headings_told above (line ∷ lines) = option_or (heading_fault above line) (headings_told (place_below above line) lines)

@@ -71,3 +71,4 @@ mod RefusedGames4Rows
 mod CornerRows
 mod OddTextRows
 mod OddRuleRows
+pub mod LinesInOrder
