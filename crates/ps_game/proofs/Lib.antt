@@ -1,2 +1,6 @@
 pub mod HeadingsTold
 pub mod FirstFaults
+pub mod LineSteps
+pub mod SectionEnds
+pub mod SectionLines
+pub mod SectionsTold

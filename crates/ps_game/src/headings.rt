@@ -7,7 +7,7 @@ ghost use Rattle.ps_model.specs.LineNumbers.{line_at};
 ghost use Rattle.ps_model.specs.Sections.{rank, is_real_time};
 ghost use Rattle.ps_model.specs.Preludes.{begins_with};
 ghost use Rattle.ps_text.specs.WordViews.{text_of};
-ghost use Rattle.ps_game.specs.Headings.{is_late_header, heading_fault, headings_told, place_below};
+ghost use Rattle.ps_game.specs.Headings.{is_late_header, fault_by, heading_fault, headings_told, place_below};
 
 use ps_model::{Cut, Fault, FaultKind, Memory, Section};
 use ps_text::{Source, Word, same_name, words};
@@ -62,6 +62,34 @@ fn asks_for_real_time(alloc: Global, source: &Source, line: u32) -> Result<bool,
     begins_with(alloc, source, line, "realtime_interval")
 }
 
+/// Whether the line is a header of a section that comes no later than the one at the place `above`.
+fn is_late_header(source: &Source, line: u32, above: u32) -> bool
+    requires from_one { 1 ≤ line }
+    requires there { line ≤ length (lines_of source.now) }
+    ensures { result ≡ is_late_header above (line_at source.now line) }
+{
+    source.is_header(line) && rank(source.section(line)) <= above
+}
+
+/// The fault of a line that is a late header, or asks for real time.
+fn fault_of(late: bool, real: bool, line: u32) -> Option<Fault>
+    ensures { result ≡ fault_by late real line }
+{
+    if late {
+        return Some(Fault {
+            kind: FaultKind::SectionOrder,
+            line,
+        });
+    }
+    if real {
+        return Some(Fault {
+            kind: FaultKind::Realtime,
+            line,
+        });
+    }
+    None
+}
+
 /// The first fault of a line, below headers of which the last one's section has the place `above`.
 fn heading_fault(
     alloc: Global,
@@ -73,19 +101,9 @@ fn heading_fault(
     requires there { line ≤ length (lines_of source.now) }
     ensures { IfOk result (λ fault. fault ≡ heading_fault above (line_at source.now line)) }
 {
-    if source.is_header(line) && rank(source.section(line)) <= above {
-        return Ok(Some(Fault {
-            kind: FaultKind::SectionOrder,
-            line,
-        }));
-    }
-    if asks_for_real_time(alloc, source, line)? {
-        return Ok(Some(Fault {
-            kind: FaultKind::Realtime,
-            line,
-        }));
-    }
-    Ok(None)
+    let late = is_late_header(source, line, above);
+    let real = asks_for_real_time(alloc, source, line)?;
+    Ok(fault_of(late, real, line))
 }
 
 /// The place of the last section above the line below.

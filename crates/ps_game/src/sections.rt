@@ -1,6 +1,6 @@
 //! The sections of a text: where the lines of each stand.
 
-ghost use Rattle.std.specs.Prelude.{◌≡◌, ◌+◌, ◌≤◌, ◌<◌, nat_lt, length, IfOk, IfErr, Some, if◌then◌else◌};
+ghost use Rattle.std.specs.Prelude.{◌≡◌, ◌+◌, ◌≤◌, ◌<◌, nat_lt, length, IfOk, IfErr, Some, ◌&&◌, not, true, if◌then◌else◌};
 ghost use Rattle.ps_model.specs.declared.faults.Fault.{Fault as TheFault};
 ghost use Rattle.ps_model.specs.Faults.{first_fault};
 ghost use Rattle.ps_model.specs.Lines.{lines_of};
@@ -56,6 +56,13 @@ fn below_header(header: u32, end: u32) -> Range<u32>
     header..end
 }
 
+/// Whether a section is missing that no game lacks, where it is told which of the three have a header.
+fn is_without_section(objects: bool, layers: bool, levels: bool) -> bool
+    ensures { result ≡ not (objects && (layers && (levels && true))) }
+{
+    !(objects && layers && levels)
+}
+
 /// Where the lines of each section stand.
 ///
 /// `Refused` with the first fault of headers and prelude: by line, a header that repeats or follows a later section's, and a line
@@ -76,7 +83,7 @@ pub fn read_sections(alloc: Global, source: &Source) -> Result<Sections, TextFau
     let wins = boundary(source, rules, 6);
     let levels = boundary(source, wins, 7);
     let end = boundary(source, levels, 8);
-    if objects == legend || layers == rules || levels == end {
+    if is_without_section(objects < legend, layers < rules, levels < end) {
         return Err(TextFault::Refused(Fault {
             kind: FaultKind::NoSection,
             line: source.lines(),
