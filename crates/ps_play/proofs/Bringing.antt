@@ -13,9 +13,9 @@ use Rattle.ps_model.specs.ThinOutput.{output, output_from, opening}
 use Rattle.ps_model.specs.Outputs.{Output, after_text, end_of_keys_line}
 use Rattle.ps_model.specs.ThinGame.{Game, thin_game}
 use Rattle.ps_model.specs.Levels.{loaded}
-use Rattle.ps_play.specs.Devices.{Grows, Loses, IsSpent}
+use Rattle.ps_devices.specs.Devices.{Grows, Loses, IsSpent}
 use Rattle.ps_play.specs.Runs.{keys_apart, Reaches, Outputs, Brings, Answers}
-use Rattle.ps_play.proofs.Pieces.{grows_twice}
+use Rattle.ps_devices.proofs.Pieces.{grows_twice}
 use Rattle.ps_play.proofs.Reaching.{reached_then, brings_then, keys_apart-append, keys_of-heard}
 
 -- the bytes before one, and that one

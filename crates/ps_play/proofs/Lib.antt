@@ -9,7 +9,6 @@ mod LinesBetween
 mod Loading
 mod Objects
 mod Painting
-mod Pieces
 mod Playing
 mod Reaching
 mod RowSteps

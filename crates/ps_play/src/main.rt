@@ -2,7 +2,6 @@
 //! standard output.
 #![tactic(auto)]
 
-mod devices;
 mod frame;
 mod keys;
 mod meanings;
@@ -13,13 +12,11 @@ mod run;
 mod run_tests;
 mod screen;
 mod session;
-#[cfg(test)]
-mod tests;
 mod turn;
 
 use clap::error::ErrorKind;
 use clap::{Arg, ArgAction, Command};
-use devices::{ByteReader, ByteWriter, FromStd};
+use ps_devices::{ByteReader, ByteWriter, FromStd};
 use ps_model::Memory;
 use run::{RunFault, run};
 use std::io::Read;

@@ -6,12 +6,12 @@ ghost use Rattle.ps_model.specs.ThinGame.{thin_game};
 ghost use Rattle.ps_model.specs.Levels.{loaded};
 ghost use Rattle.ps_model.specs.ThinOutput.{opening};
 ghost use Rattle.ps_model.specs.Outputs.{end_of_keys_line};
-ghost use Rattle.ps_play.specs.Devices.{Grows};
+ghost use Rattle.ps_devices.specs.Devices.{Grows};
 ghost use Rattle.ps_play.specs.Faults.{IsRefusal, IsDeviceFault};
 ghost use Rattle.ps_play.specs.Playable.{IsPlayable};
 ghost use Rattle.ps_play.specs.Runs.{keys_apart, Outputs, Brings, Answers};
 
-use crate::devices::{ByteReader, ByteWriter, write_whole};
+use ps_devices::{ByteReader, ByteWriter, write_whole};
 use crate::keys::read_key;
 use crate::reading::{Game, ReadFault, read_game};
 use crate::report::words;

@@ -1,5 +1,5 @@
 use Rattle.std.proofs.Common.{◌≡◌, ◌+◌, ◌≤◌, ℕ, List}
-use Rattle.ps_play.specs.Devices.{Grows, Loses}
+use Rattle.ps_devices.specs.Devices.{Grows, Loses}
 use Rattle.ps_play.specs.Runs.{keys_apart, Reaches}
 use Rattle.ps_play.proofs.run.play.Given as goal
 

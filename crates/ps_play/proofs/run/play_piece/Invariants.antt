@@ -1,5 +1,5 @@
 use Rattle.std.proofs.Common.{◌≡◌, ℕ, List, take}
-use Rattle.ps_play.specs.Devices.{Grows}
+use Rattle.ps_devices.specs.Devices.{Grows}
 use Rattle.ps_play.specs.Runs.{keys_apart, Reaches}
 use Rattle.ps_play.proofs.run.play_piece.Given as goal
 
