@@ -66,8 +66,7 @@ rising_from number above [] o e = tt
 rising_from number above (line ∷ lines) o e =
     let parts = not_told (heading_fault (rank above) line) (headings_told (place_below (rank above) line) lines) e in
     let late : is_late_header (rank above) line ≡ false = not_late (is_late_header (rank above) line) (is_real_time line) line.number parts.0 in
-    let place : place_below (rank above) line ≡ rank line.section = place_by above line line.is_header refl o.1.0 in
-    (
+    let place : place_below (rank above) line ≡ rank line.section = place_by above line line.is_header refl o.1.0 in (
       next_by above line line.is_header refl o.1.0 late,
       rising_from (suc number) line.section lines o.1.1 (ap (λ (n : ℕ). headings_told n lines) (sym place) ∙ parts.1),
     )
@@ -199,6 +198,7 @@ inside_by section above line lines is (Begins e rises) r ih =
       same = one_line section line lines false (off_section section line off) ∙ rest.none ∙ sym (taken_none (front place (line ∷ lines)) (line ∷ lines) none);
       lacks = one_header section line lines true false e off ∙ rest.lacks;
     }
+
 inside : (section above : Section) (lines : List Line) → rank above ≡ rank section → AreRising above lines → IsInside section lines
 inside section above [] is r = record { same = refl; lacks = refl }
 inside section above (line ∷ lines) is r = inside_by section above line lines is r.0 r.1 (λ now. inside section line.section lines now r.1)

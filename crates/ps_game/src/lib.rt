@@ -5,6 +5,6 @@ mod headings;
 mod prelude;
 mod sections;
 
-pub use ps_model::{Fault, FaultKind, Options};
 pub use prelude::{read_options, read_title};
+pub use ps_model::{Fault, FaultKind, Options};
 pub use sections::{Sections, read_sections};
