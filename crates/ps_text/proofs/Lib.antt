@@ -1,0 +1,5 @@
+pub mod WordSteps
+pub mod RuleWordSteps
+pub mod Solid
+pub mod PlainLines
+pub mod BlankEnds

@@ -4,10 +4,15 @@
 //! that takes no memory, but for its words, which are a list.
 #![tactic(auto)]
 
+mod comments;
 mod cutting;
 mod errors;
+mod headers;
+mod kinds;
 mod lists;
 mod naming;
+mod rule_scan;
+mod scan;
 mod sources;
 mod texts;
 
