@@ -14,6 +14,7 @@ mod naming;
 mod rule_scan;
 mod scan;
 mod sources;
+mod taken;
 mod texts;
 
 pub use cutting::{Word, words};
