@@ -1,6 +1,9 @@
 pub mod WordSteps
 pub mod RuleWordSteps
 pub mod Solid
+pub mod LineSteps
+pub mod TextPlaces
+pub mod Trimmed
 pub mod NamedWords
 pub mod PlainLines
 pub mod BlankEnds

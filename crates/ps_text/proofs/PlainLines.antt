@@ -1,5 +1,5 @@
 -- A line with blanks for its comments: it is still a text, as long as it was, and each byte that is no blank is the line's own.
-use Rattle.std.proofs.Common.{◌≡◌, ℕ, zero, suc, ◌+◌, ◌-◌, ◌<◌, ◌≤◌, ◌==◌, ◌⊎◌, inl, inr, ◌&&◌, if◌then◌else◌, Bool, true, false, List, [], ◌∷◌, ◌++◌, length, get_or, replicate, refl, ap, sym, ◌∙◌, subst, arith}
+use Rattle.std.proofs.Common.{◌≡◌, ℕ, zero, suc, ◌+◌, ◌-◌, ◌<◌, ◌≤◌, ◌==◌, ◌⊎◌, inl, inr, ◌&&◌, ◌||◌, if◌then◌else◌, Bool, true, false, List, [], ◌∷◌, ◌++◌, length, get_or, replicate, refl, ap, sym, ◌∙◌, subst, arith}
 use Rattle.std.specs.Prelude.{nat_eq, nat_lt}
 use Rattle.std.specs.Str.{IsUtf8}
 use Rattle.std.proofs.Math.Utf8.{scalar, scalars, encode, encodes}
@@ -7,6 +7,8 @@ use Rattle.std.proofs.lemmas.Bool.Decides.{nat_tests}
 use Rattle.std.proofs.lemmas.Grind.{common_steps}
 use Rattle.std.proofs.lemmas.List.{get_or-replicate, length-replicate, append-nil}
 use Rattle.std.proofs.lemmas.Str.{IsUtf8-nil, IsUtf8-append, IsUtf8-encode, IsUtf8-from_ascii, encode_ascii, inside_one}
+use Rattle.ps_model.specs.Words.{is_blank}
+use Rattle.ps_text.specs.PlainLines.{IsPlain}
 use Rattle.ps_model.specs.Lines.{without_comments, depth_behind, in_comment}
 
 -- the bytes are no ASCII
@@ -94,3 +96,28 @@ characters_plain (c ∷ cs) depth s = let parts = both (scalar c) (scalars cs) s
 -- the line is still a text
 pub plain_utf8 : (line : List ℕ) (depth : ℕ) → IsUtf8 line → IsUtf8 (without_comments depth line)
 plain_utf8 line depth u = subst (λ (bs : List ℕ). IsUtf8 (without_comments depth bs)) u.1.1 (characters_plain u.0 depth u.1.0)
+
+length_plain : (line : List ℕ) (depth : ℕ) → length (without_comments depth line) ≡ length line
+length_plain [] depth = refl
+length_plain (byte ∷ line) depth = ap suc (length_plain line (depth_behind depth byte))
+
+kept_byte : (test : Bool) (byte : ℕ) → is_blank (if test then 32 else byte) ≡ false → (if test then 32 else byte) ≡ byte
+kept_byte true byte h = absurd (cc h)
+kept_byte false byte h = refl
+
+shown_plain : (line : List ℕ) (depth i : ℕ) → is_blank (get_or (without_comments depth line) i 0) ≡ false → get_or (without_comments depth line) i 0 ≡ get_or line i 0
+shown_plain [] depth i h = refl
+shown_plain (byte ∷ line) depth zero h = kept_byte (in_comment depth byte) byte h
+shown_plain (byte ∷ line) depth (suc i) h = shown_plain line (depth_behind depth byte) i h
+
+opening_byte : (before : Bool) (byte : ℕ) → byte ≡ 40 → (if before || byte == 40 then 32 else byte) ≡ 32
+opening_byte true byte h = refl
+opening_byte false byte h = rw h refl
+
+opening_plain : (line : List ℕ) (depth i : ℕ) → get_or line i 0 ≡ 40 → get_or (without_comments depth line) i 0 ≡ 32
+opening_plain [] depth i h = absurd (omega (arith, h))
+opening_plain (byte ∷ line) depth zero h = opening_byte (nat_lt 0 depth) byte h
+opening_plain (byte ∷ line) depth (suc i) h = opening_plain line (depth_behind depth byte) i h
+
+pub plain_line_is : (line : List ℕ) (depth : ℕ) → IsPlain line (without_comments depth line)
+plain_line_is line depth = record { same = length_plain line depth; shown = shown_plain line depth; opening = opening_plain line depth }

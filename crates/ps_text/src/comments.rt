@@ -3,6 +3,7 @@
 ghost use Rattle.std.specs.Prelude.{◌≡◌, ◌+◌, ◌≤◌, if◌then◌else◌, length, fold, string_bytes, IfOk};
 ghost use Rattle.ps_model.specs.Limits.{text_limit};
 ghost use Rattle.ps_model.specs.Lines as lines;
+ghost use Rattle.ps_text.specs.PlainLines.{IsPlain};
 
 use ps_model::Memory;
 use std::alloc::Global;
@@ -69,7 +70,8 @@ fn plain_bytes(alloc: Global, line: &[u8], depth: u32) -> Result<Vec<u8>, Memory
 /// The line with a blank for each byte that stands in a comment, where so many comments are open before it.
 pub fn plain_line(alloc: Global, line: &str, depth: u32) -> Result<String, Memory>
     requires { depth + length line.now ≤ text_limit }
-    ensures { IfOk result (λ plain. string_bytes plain ≡ lines.without_comments depth line.now) }
+    ensures bytes { IfOk result (λ plain. string_bytes plain ≡ lines.without_comments depth line.now) }
+    ensures plain { IfOk result (λ plain. IsPlain line.now (string_bytes plain)) }
 {
     let bytes = plain_bytes(alloc, line.as_bytes(), depth)?;
     match String::from_utf8(bytes) {

@@ -11,6 +11,8 @@ mod headers;
 mod kinds;
 mod lists;
 mod naming;
+mod regions;
+mod rows;
 mod rule_scan;
 mod scan;
 mod sources;
