@@ -1,6 +1,7 @@
 pub mod WordSteps
 pub mod RuleWordSteps
 pub mod Solid
+pub mod Veils
 pub mod LineSteps
 pub mod TextPlaces
 pub mod Trimmed
