@@ -93,3 +93,25 @@ unfolding encode
 behind_mark text u h =
     let split : text ≡ (239 ∷ 187 ∷ 191 ∷ []) ++ drop 3 text = (starts_is Decides-eqb text (239 ∷ 187 ∷ 191 ∷ []) true (sym h)).0 refl in
     IsCharBoundary-past_char text (drop 3 text) 0 65279 (omega arith) u split
+
+-- the lines of a text
+pub first_lines : (text : List ℕ) (first : Above) → first.number ≡ 1 → first.start ≡ mark_length text → first.depth ≡ 0 → first.section ≡ Prelude → first.start ≤ length text →
+    lines_of text ≡ line_below first (raw_at text first.start) ∷ lines_behind text (above_next first (raw_at text first.start))
+first_lines text first n s d sec h =
+    let pieces = from_pieces text first _ h (at_start (drop first.start text)) in
+    let same : lines_from first.number first.start first.depth first.section (as_lines (slice_split is_line_feed (drop first.start text))) ≡ lines_of text = rw (n, d, sec, s) refl in
+    sym same ∙ pieces
+
+-- a row more
+pub row_more : (text : List ℕ) (rows : List Row) (row : Row) (above below : Above) (whole : List Line) → above.start < length text → shown text row ≡ line_below above (raw_at text above.start) →
+    below ≡ above_next above (raw_at text above.start) → map (shown text) rows ++ lines_behind text above ≡ whole → map (shown text) (rows ++ row ∷ []) ++ lines_behind text below ≡ whole
+row_more text rows row above below whole l s b told =
+    let last : shown text row ∷ lines_behind text below ≡ lines_behind text above = rw (s, b) (sym (next_line text above l)) in
+    ap (λ (lines : List Line). lines ++ lines_behind text below) (map-append (shown text) rows (row ∷ []))
+    ∙ append_assoc (map (shown text) rows) (shown text row ∷ []) (lines_behind text below)
+    ∙ ap (λ (lines : List Line). map (shown text) rows ++ lines) last ∙ told
+
+-- the first row
+pub one_row : (text : List ℕ) (row : Row) (first below : Above) → first.number ≡ 1 → first.start ≡ mark_length text → first.depth ≡ 0 → first.section ≡ Prelude → first.start ≤ length text →
+    shown text row ≡ line_below first (raw_at text first.start) → below ≡ above_next first (raw_at text first.start) → map (shown text) (row ∷ []) ++ lines_behind text below ≡ lines_of text
+one_row text row first below n p d sec h s b = rw (s, b) (sym (first_lines text first n p d sec h))

@@ -66,6 +66,14 @@ raw_at text start = take (position_or_len is_line_feed (drop start text)) (drop 
 abbrev pub lines_behind : List ℕ → Above → List Line
 lines_behind text above = lines_from above.number above.start above.depth above.section (without_empty_end (slice_split is_line_feed (drop above.start text)))
 
+-- a line may begin where the line below begins, if that is a place of the text
+pub record IsBelow (text : List ℕ) (above below : Above) : Type 0 where
+  pub further : above.start < below.start
+  pub within : below.start ≤ length text + 1
+  pub depth : below.depth ≤ below.start
+  pub counted : below.number ≤ below.start + 1
+  pub cuttable : below.start ≤ length text → IsCharBoundary text below.start
+
 -- the row is one of a line with these bytes
 pub record IsRowOf (raw : List ℕ) (row : Row) : Type 0 where
   pub veiled : IsVeiled raw (string_bytes row.visible)

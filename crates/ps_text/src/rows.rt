@@ -7,7 +7,7 @@ ghost use Rattle.ps_model.specs.Limits.{text_limit};
 ghost use Rattle.ps_model.specs.Lines as lines;
 ghost use Rattle.ps_text.specs.PlainLines.{IsVeiled};
 ghost use Rattle.ps_text.specs.TakenPlaces.{IsTextPlace, start_of};
-ghost use Rattle.ps_text.specs.Rows.{shown_as, raw_at, line_below, above_next, IsRow, IsRowOf, IsTable};
+ghost use Rattle.ps_text.specs.Rows.{shown, shown_as, raw_at, line_below, above_next, IsBelow, IsRow, IsRowOf, IsTable};
 
 use crate::comments::{depth_after_line, plain_line};
 use crate::headers::header_of_line;
@@ -114,4 +114,43 @@ fn row_below(alloc: Global, raw: &str, above: Above) -> Result<(Row, Above), Mem
         section,
     };
     Ok((row, below))
+}
+
+/// The row of the line that begins there, and what the line below finds above it.
+fn row_at(alloc: Global, text: &str, above: Above) -> Result<(Row, Above), Memory>
+    requires short { length text.now ≤ text_limit }
+    requires cuttable { IsCharBoundary text.now above.start }
+    requires depth { above.depth ≤ above.start }
+    requires counted { above.number ≤ above.start + 1 }
+    ensures row { IfOk result (λ made. shown text.now made.0 ≡ line_below above (raw_at text.now above.start)) }
+    ensures below { IfOk result (λ made. made.1 ≡ above_next above (raw_at text.now above.start)) }
+    ensures next { IfOk result (λ made. IsBelow text.now above made.1) }
+    ensures whole { IfOk result (λ made. IsRow text.now made.0) }
+{
+    let start = above.start as usize;
+    let end = line_end(text.as_bytes(), start);
+    let (row, below) = row_below(alloc, &text[start..end], above)?;
+    Ok((row, below))
+}
+
+/// The lines of a text.
+pub fn table(alloc: Global, text: &str) -> Result<Vec<Row>, Memory>
+    requires { length text.now ≤ text_limit }
+    ensures { IfOk result (λ rows. IsTable text.now rows.items) }
+{
+    let first = Above {
+        number: 1,
+        start: mark_len(text),
+        depth: 0,
+        section: Section::Prelude,
+    };
+    let (row, mut above) = row_at(alloc, text, first)?;
+    let mut rows = Vec::new(alloc);
+    rows.push(row)?;
+    while (above.start as usize) < text.len() {
+        let (row, below) = row_at(alloc, text, above)?;
+        rows.push(row)?;
+        above = below;
+    }
+    Ok(rows)
 }
