@@ -1,6 +1,8 @@
 pub mod WordSteps
 pub mod RuleWordSteps
 pub mod Solid
+pub mod Faults
+pub mod Numbers
 pub mod Veils
 pub mod LineSteps
 pub mod TextPlaces
