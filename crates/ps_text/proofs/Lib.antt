@@ -1,6 +1,9 @@
 pub mod WordSteps
 pub mod RuleWordSteps
 pub mod Solid
+pub mod Slices
+pub mod RisingSpans
+pub mod WordSpans
 pub mod Faults
 pub mod Numbers
 pub mod Veils
