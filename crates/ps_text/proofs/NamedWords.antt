@@ -1,17 +1,15 @@
 -- Where a line has one of some words, which are ASCII.
-use Rattle.std.proofs.Common.{◌≡◌, ℕ, zero, suc, ◌+◌, ◌-◌, ◌<◌, ◌≤◌, ◌⊎◌, inl, inr, Bool, true, false, ◌&&◌, ◌||◌, not, Option, Some, None, List, [], ◌∷◌, length, take, drop, map, get_or, find, codes, refl, ap, sym, ◌∙◌, subst, arith}
-use Rattle.std.specs.Prelude.{slice_range, nat_lt, option_map, IfSome}
+use Rattle.std.proofs.Common.{◌≡◌, ℕ, zero, suc, ◌+◌, ◌-◌, ◌<◌, ◌≤◌, ◌⊎◌, inl, inr, Bool, true, false, ◌&&◌, ◌||◌, not, Option, Some, None, List, [], ◌∷◌, length, get_or, codes, refl, ap, arith}
+use Rattle.std.specs.Prelude.{slice_range, nat_lt, IfSome}
 use Rattle.std.specs.Char.{to_ascii_lowercase}
 use Rattle.std.specs.List.{list_all, list_any, prefix_len}
 use Rattle.std.specs.Str.{bytes_eq}
 use Rattle.std.proofs.lemmas.Bool.Decides.{nat_tests}
 use Rattle.std.proofs.lemmas.Grind.{common_steps}
-use Rattle.std.proofs.lemmas.List.{get_or-map, get_or-drop, get_or-take, length-map}
+use Rattle.std.proofs.lemmas.List.{get_or-map}
 use Rattle.std.proofs.lemmas.Slice.Eq.{bytes_eq-Decides}
-use Rattle.ps_model.specs.Words.{is_blank}
-use Rattle.ps_model.specs.Lines.{folded, is_word, behind_arrow, end_of_word}
-use Rattle.ps_model.specs.RuleWords.{rule_words_in}
-use Rattle.ps_text.specs.Places.{IsSolid, IsWordPlace}
+use Rattle.ps_model.specs.Lines.{folded, is_word, behind_arrow}
+use Rattle.ps_text.specs.Places.{IsWordPlace}
 use Rattle.ps_text.specs.declared.scan.Place.{Place}
 use Rattle.ps_text.specs.TakenPlaces.{IsTextStart}
 

@@ -1,5 +1,5 @@
 -- Places of a line between which no blank stands.
-use Rattle.std.proofs.Common.{◌≡◌, ℕ, suc, ◌+◌, ◌<◌, ◌≤◌, ◌⊎◌, inl, inr, false, List, get_or, refl, ap, ◌∙◌, arith}
+use Rattle.std.proofs.Common.{◌≡◌, ℕ, ◌+◌, ◌<◌, ◌⊎◌, inl, inr, false, List, get_or, ap, ◌∙◌, arith}
 use Rattle.ps_model.specs.Words.{is_blank}
 use Rattle.ps_text.specs.Places.{IsSolid}
 

@@ -1,8 +1,8 @@
 -- A line with blanks for some of its bytes.
-use Rattle.std.proofs.Common.{◌≡◌, ℕ, zero, suc, ◌+◌, ◌-◌, ◌<◌, ◌≤◌, false, Option, Some, None, List, [], ◌∷◌, ◌++◌, length, take, drop, replicate, get_or, refl, ap, sym, ◌∙◌, subst, arith}
+use Rattle.std.proofs.Common.{◌≡◌, ℕ, zero, suc, ◌+◌, ◌-◌, ◌<◌, ◌≤◌, false, Option, Some, None, List, [], ◌∷◌, ◌++◌, length, take, drop, replicate, get_or, refl, ap, ◌∙◌, subst, arith}
 use Rattle.std.specs.Prelude.{IfSome, slice_range}
 use Rattle.std.proofs.lemmas.Grind.{common_steps}
-use Rattle.std.proofs.lemmas.List.{drop-drop, same_lists, get_or-drop, get_or-take}
+use Rattle.std.proofs.lemmas.List.{drop-drop, same_lists}
 use Rattle.ps_model.specs.Words.{is_blank}
 use Rattle.ps_text.specs.declared.scan.Place.{Place}
 use Rattle.ps_text.specs.PlainLines.{IsPlain, IsVeiled}

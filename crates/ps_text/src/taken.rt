@@ -119,10 +119,7 @@ pub fn text_start(section: Section, plain: &[u8]) -> Option<usize>
         Section::Prelude => title_end(plain),
         Section::Levels => message_end(plain),
         Section::Rules => command_end(plain),
-        Section::Objects
-        | Section::Legend
-        | Section::Sounds
-        | Section::Layers
-        | Section::Wins => None,
+        Section::Objects | Section::Legend | Section::Sounds | Section::Layers | Section::Wins =>
+            None,
     }
 }

@@ -1,4 +1,3 @@
-use Rattle.std.proofs.Common.{rules, ◌≡◌, ◌<◌, ◌≤◌, length, get_or}
 use Rattle.ps_text.specs.TakenPlaces.{IsTextStart}
 use Rattle.ps_text.proofs.TextPlaces.{raw_region, plain_region}
 use Rattle.ps_text.proofs.regions.text_region.Goals as goal

@@ -1,4 +1,4 @@
-use Rattle.std.proofs.Common.{rules, ◌≡◌, ◌∙◌, ◌+◌, ◌<◌, ◌≤◌, ◌==◌, true, false, length, get_or, refl, sym, arith, ap}
+use Rattle.std.proofs.Common.{rules, ◌≡◌, ◌∙◌, ◌+◌, ◌<◌, ◌==◌, true, false, length, get_or, refl, arith}
 use Rattle.std.proofs.lemmas.Str.{IsCharBoundary-start, IsCharBoundary-after_ascii}
 use Rattle.ps_text.proofs.RuleWordSteps.{first_none, first_plus, first_other}
 use Rattle.ps_text.proofs.Solid.{solid_one}

@@ -1,9 +1,8 @@
-use Rattle.std.proofs.Common.{◌≡◌, ◌-◌, suc, ℕ, None, Some, length}
+use Rattle.std.proofs.Common.{◌≡◌, ◌-◌, suc, None, Some, length}
 use Rattle.std.specs.Prelude.{IfSome}
 use Rattle.ps_model.specs.Lines.{behind_arrow}
 use Rattle.ps_model.specs.RuleWords.{rule_words_in}
 use Rattle.ps_text.specs.Places.{rule_words_with, IsWordPlace}
-use Rattle.ps_text.specs.declared.scan.Place.{Place}
 use Rattle.ps_text.proofs.taken.arrow_end.Given as goal
 
 abbrev pub invariant-loop-next : goal.invariant-loop-next
