@@ -1,6 +1,6 @@
 //! The scan of a line of RULES for its words.
 
-ghost use Rattle.std.specs.Prelude.{◌≡◌, ◌+◌, ◌<◌, ◌≤◌, ◌||◌, ◌&&◌, true, false, not, ◌∷◌, length, drop, None, slice_index, IfSome};
+ghost use Rattle.std.specs.Prelude.{◌≡◌, ◌+◌, ◌<◌, ◌≤◌, ◌||◌, ◌&&◌, ◌==◌, true, false, not, ◌∷◌, length, drop, None, slice_index, IfSome};
 ghost use Rattle.std.specs.Str.{IsUtf8, IsCharBoundary};
 ghost use Rattle.ps_model.specs.Words.{is_blank};
 ghost use Rattle.ps_model.specs.RuleWords as rules;
@@ -44,6 +44,13 @@ fn own_len(line: &[u8], at: usize, within: bool) -> usize
         return 1;
     }
     0
+}
+
+/// Whether the byte is a `+`.
+fn is_plus(byte: u8) -> bool
+    ensures { result ≡ (byte == 43) }
+{
+    byte == b'+'
 }
 
 /// Where the run that begins at `start` ends.
@@ -98,7 +105,7 @@ pub fn first_rule_word(line: &[u8]) -> Option<Place>
     if start == line.len() {
         return None;
     }
-    if line[start] == b'+' {
+    if is_plus(line[start]) {
         let end = start + 1;
         return Some(Place { start, end });
     }

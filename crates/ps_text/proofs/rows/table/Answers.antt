@@ -10,7 +10,6 @@ pub loop-above-init : goal.loop-above-init
 loop-above-init c =
     let rows : c.push.new.self.items ≡ c.in_ok-row.row ∷ [] = search rules in
     let next = c.in_ok-row.ensures.next in
-    let first = c.row_at.new.above in
     record {
       told = rw rows (one_row c.args.text.now c.in_ok-row.row _ c.in_ok-row.above refl c.mark_len.ensures.length refl refl c.mark_len.ensures.cuttable.0 c.in_ok-row.ensures.row c.in_ok-row.ensures.below);
       whole = rw rows (search (rules, c.in_ok-row.ensures.whole));

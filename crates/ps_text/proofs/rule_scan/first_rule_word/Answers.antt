@@ -12,15 +12,15 @@ returns-then-start-line-clause-words c =
     let whole : c.past_parting-start.result ≡ length c.args.line.now = search rules in
     first_none c.args.line.now c.past_parting-start.result c.past_parting-start.ensures.place whole
 
-pub returns-then-line-start-eq43-clause-words : goal.returns-then-line-start-eq43-clause-words
-returns-then-line-start-eq43-clause-words c =
+pub returns-then-is_plus-clause-words : goal.returns-then-is_plus-clause-words
+returns-then-is_plus-clause-words c =
     let start = c.past_parting-start.result in
     let within : start < length c.args.line.now = omega (arith, c.past_parting-start.ensures.cuttable.0) in
     let plus : (get_or c.args.line.now start 0 == 43) ≡ true = search rules in
     first_plus c.args.line.now start c.past_parting-start.ensures.place within plus
 
-pub returns-then-line-start-eq43-clause-place : goal.returns-then-line-start-eq43-clause-place
-returns-then-line-start-eq43-clause-place c =
+pub returns-then-is_plus-clause-place : goal.returns-then-is_plus-clause-place
+returns-then-is_plus-clause-place c =
     let start = c.past_parting-start.result in
     let within : start < length c.args.line.now = omega (arith, c.past_parting-start.ensures.cuttable.0) in
     let plus : get_or c.args.line.now start 0 ≡ 43 = search rules in
