@@ -1,0 +1,15 @@
+pub mod WordSteps
+pub mod RuleWordSteps
+pub mod Solid
+pub mod Slices
+pub mod RisingSpans
+pub mod WordSpans
+pub mod Faults
+pub mod Numbers
+pub mod Veils
+pub mod LineSteps
+pub mod TextPlaces
+pub mod Trimmed
+pub mod NamedWords
+pub mod PlainLines
+pub mod BlankEnds

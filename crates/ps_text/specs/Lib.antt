@@ -1,1 +1,5 @@
+pub mod PlainLines
+pub mod Places
+pub mod Rows
+pub mod TakenPlaces
 pub mod WordViews

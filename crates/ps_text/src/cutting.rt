@@ -1,11 +1,18 @@
 //! The words of a line.
 
-ghost use Rattle.std.specs.Prelude.{◌≡◌, ◌≤◌, ◌<◌, length, map, IfOk, All};
+ghost use Rattle.std.specs.Prelude.{◌≡◌, ◌+◌, ◌≤◌, ◌<◌, length, map, slice_range, IfOk, IfSome, All};
+ghost use Rattle.std.specs.Str.{IsUtf8, IsCharBoundary};
+ghost use Rattle.ps_model.specs.Limits.{text_limit};
 ghost use Rattle.ps_model.specs.LineNumbers.{line_at};
 ghost use Rattle.ps_model.specs.Lines.{lines_of};
 ghost use Rattle.ps_model.specs.RuleWords.{words_under};
+ghost use Rattle.ps_text.specs.Places.{words_behind, words_found, IsWordPlace};
+ghost use Rattle.ps_text.specs.TakenPlaces.{IsTextPlace};
 ghost use Rattle.ps_text.specs.WordViews.{span_of, text_of, span_at, texts_under, IsSliceOf, AreRisingSpans};
 
+use crate::rows::Row;
+use crate::rule_scan::{first_rule_word, next_rule_word};
+use crate::scan::{Place, next_word};
 use crate::sources::Source;
 use ps_model::{Cut, Memory, Span};
 use std::alloc::Global;
@@ -33,6 +40,50 @@ impl<'a> Word<'a> {
     }
 }
 
+/// The word at a place of a line.
+pub fn word_at<'a>(line: &'a str, row: &Row, place: Place) -> Word<'a>
+    requires place { IsTextPlace line.now place }
+    requires short { row.now.start + length line.now ≤ text_limit }
+    ensures text { result.text.now ≡ slice_range line.entry.now place.start place.end }
+    ensures line { result.span.line ≡ row.now.number }
+    ensures start { result.span.start ≡ row.now.start + place.start }
+    ensures end { result.span.end ≡ row.now.start + place.end }
+{
+    Word {
+        text: &line[place.start..place.end],
+        span: Span {
+            line: row.number,
+            start: row.start + place.start as u32,
+            end: row.start + place.end as u32,
+        },
+    }
+}
+
+/// The first word of a line.
+fn first_under(line: &[u8], cut: Cut) -> Option<Place>
+    requires { IsUtf8 line.now }
+    ensures words { words_under cut line.now ≡ words_found cut line.now result }
+    ensures place { IfSome result (IsWordPlace line.now 0) }
+{
+    match cut {
+        Cut::Plain | Cut::Legend | Cut::Layers => next_word(line, cut, 0),
+        Cut::Rule => first_rule_word(line),
+    }
+}
+
+/// The first word behind a place, where a word ends.
+fn next_under(line: &[u8], cut: Cut, from: usize) -> Option<Place>
+    requires utf8 { IsUtf8 line.now }
+    requires cuttable { IsCharBoundary line.now from }
+    ensures words { words_behind cut line.now from ≡ words_found cut line.now result }
+    ensures place { IfSome result (IsWordPlace line.now from) }
+{
+    match cut {
+        Cut::Plain | Cut::Legend | Cut::Layers => next_word(line, cut, from),
+        Cut::Rule => next_rule_word(line, from),
+    }
+}
+
 /// The words of a line, from 1 to `source.lines()`, in order: its longest runs of bytes without one that parts words,
 /// which are blanks and, under `Cut::Layers`, commas; under `Cut::Legend` each `=` is a word by itself, and `Cut::Rule` cuts as
 /// rules are cut. Comments part words, and so does a text that is taken as it stands.
@@ -51,5 +102,13 @@ pub fn words<'a>(
     ensures slices { IfOk result (λ words. All (IsSliceOf source.now) words.items) }
     ensures rising { IfOk result (λ words. AreRisingSpans (line_at source.now line).start (length source.now) (map span_of words.items)) }
 {
-    Err(Memory)
+    let row = source.row(line);
+    let text = row.visible.as_str();
+    let mut words = Vec::new(alloc);
+    let mut next = first_under(text.as_bytes(), cut);
+    while let Some(place) = next {
+        words.push(word_at(text, row, place))?;
+        next = next_under(text.as_bytes(), cut, place.end);
+    }
+    Ok(words)
 }

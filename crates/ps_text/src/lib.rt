@@ -4,11 +4,19 @@
 //! that takes no memory, but for its words, which are a list.
 #![tactic(auto)]
 
+mod comments;
 mod cutting;
 mod errors;
+mod headers;
+mod kinds;
 mod lists;
 mod naming;
+mod regions;
+mod rows;
+mod rule_scan;
+mod scan;
 mod sources;
+mod taken;
 mod texts;
 
 pub use cutting::{Word, words};

@@ -6,29 +6,69 @@ ghost use Rattle.ps_model.specs.declared.faults.Fault.{Fault as TheFault};
 ghost use Rattle.ps_model.specs.Limits.{text_limit};
 ghost use Rattle.ps_model.specs.LineNumbers.{line_at};
 ghost use Rattle.ps_model.specs.Lines.{lines_of, is_blank_line};
-ghost use Rattle.ps_model.specs.TextFaults.{text_fault};
+ghost use Rattle.ps_model.specs.TextFaults.{text_fault, line_of_place};
+ghost use Rattle.ps_text.specs.Rows.{shown, IsRow};
 ghost use Rattle.ps_text.specs.WordViews.{taken_of, span_of, IsSliceOf};
 
-use crate::cutting::Word;
+use crate::cutting::{Word, word_at};
 use crate::errors::TextFault;
-use ps_model::Section;
+use crate::kinds::is_blank_text;
+use crate::rows::{Row, table};
+use ps_model::{Fault, FaultKind, Section};
 use std::alloc::Global;
 use std::marker::Model;
+
+/// The most bytes of a text.
+const TEXT_LIMIT: usize = 1048576;
 
 /// The text of a game. Contracts see its bytes.
 #[derive(Drop, Debug)]
 pub struct Source {
     text: String,
+    rows: Vec<Row>,
 }
 
 impl Model for Source {
     ghost use Rattle.std.specs.Prelude.{List, ℕ, string_bytes};
+    ghost use Rattle.ps_text.specs.Rows.{IsTable};
 
     ghost Value = { List ℕ };
 
     ghost view = { λ s. string_bytes s.text };
 
-    ghost invariant = { λ s. ⊥ };
+    ghost invariant = { λ s. IsTable (string_bytes s.text) s.rows.items };
+}
+
+/// The number of the line that a place of a text stands in.
+fn line_of(bytes: &[u8], place: usize) -> u32
+    requires short { length bytes.now ≤ text_limit }
+    requires within { place ≤ length bytes.now }
+    ensures { result ≡ line_of_place bytes.now place }
+{
+    let feeds = bytes[..place].iter().filter(|byte| **byte == b'\n').count();
+    feeds as u32 + 1
+}
+
+/// The bytes as a text, or why they are refused.
+fn checked(bytes: &[u8]) -> Result<&str, Fault>
+    ensures text { IfOk result (λ text. text.now ≡ bytes.now) }
+    ensures short { OnOk result (length bytes.now ≤ text_limit) }
+    ensures fine { OnOk result (text_fault bytes.now ≡ None) }
+    ensures refused { IfErr result (λ fault. text_fault bytes.now ≡ Some fault) }
+{
+    if bytes.len() > TEXT_LIMIT {
+        return Err(Fault {
+            kind: FaultKind::TooLong,
+            line: 1,
+        });
+    }
+    match std::str::from_utf8(bytes) {
+        Ok(text) => Ok(text),
+        Err(error) => Err(Fault {
+            kind: FaultKind::NotUtf8,
+            line: line_of(bytes, error.valid_up_to()),
+        }),
+    }
 }
 
 impl Source {
@@ -44,7 +84,21 @@ impl Source {
         ensures fine { OnOk result (text_fault bytes.now ≡ None) }
         ensures refused { IfErr result (λ error. (fault : TheFault) → error ≡ TextFault.Refused fault → text_fault bytes.now ≡ Some fault) }
     {
-        Err(TextFault::Memory)
+        let text = checked(bytes)?;
+        let rows = table(alloc, text)?;
+        let text = String::from_str(alloc, text)?;
+        Ok(Source { text, rows })
+    }
+
+    /// The row of a line.
+    pub(crate) fn row(&self, line: u32) -> &Row
+        requires from_one { 1 ≤ line }
+        requires there { line ≤ length (lines_of self.now) }
+        ensures line { shown self.now result.now ≡ line_at self.now line }
+        ensures row { IsRow self.now result.now }
+        ensures short { length self.now ≤ text_limit }
+    {
+        &self.rows[line as usize - 1]
     }
 
     /// How many lines there are, at least 1: an empty text has one empty line. A line feed at the end begins no further line.
@@ -53,8 +107,7 @@ impl Source {
         ensures some { 1 ≤ result }
         ensures few { result ≤ text_limit + 1 }
     {
-        let _ = &self.text;
-        0
+        self.rows.len() as u32
     }
 
     /// Whether the line, from 1 to `lines()`, is there: a line that lies in a comment and has only blanks besides is read past, and
@@ -64,8 +117,7 @@ impl Source {
         requires there { line ≤ length (lines_of self.now) }
         ensures { result ≡ (line_at self.now line).is_there }
     {
-        let _ = &self.text;
-        false
+        self.row(line).is_there
     }
 
     /// Whether the line, from 1 to `lines()`, has no word.
@@ -74,8 +126,7 @@ impl Source {
         requires there { line ≤ length (lines_of self.now) }
         ensures { result ≡ is_blank_line (line_at self.now line) }
     {
-        let _ = &self.text;
-        false
+        is_blank_text(self.visible(line).as_bytes())
     }
 
     /// The section that the line, from 1 to `lines()`, stands in: that of the last header at or above it, or else the prelude.
@@ -84,8 +135,7 @@ impl Source {
         requires there { line ≤ length (lines_of self.now) }
         ensures { result ≡ (line_at self.now line).section }
     {
-        let _ = &self.text;
-        Section::Prelude
+        self.row(line).section
     }
 
     /// Whether the line, from 1 to `lines()`, is a header: one word, and that the name of a section in either case.
@@ -94,8 +144,7 @@ impl Source {
         requires there { line ≤ length (lines_of self.now) }
         ensures { result ≡ (line_at self.now line).is_header }
     {
-        let _ = &self.text;
-        false
+        self.row(line).is_header
     }
 
     /// The text of the line, from 1 to `lines()`, that is taken as it stands, without the blanks at its ends, if the line has one:
@@ -109,8 +158,13 @@ impl Source {
         ensures line { IfSome result (λ word. word.span.line ≡ line) }
         ensures text { IfSome result (IsSliceOf self.now) }
     {
-        let _ = &self.text;
-        None
+        let row = self.row(line);
+        let Some(place) = row.taken else {
+            return None;
+        };
+        let start = row.start as usize;
+        let end = start + row.visible.len();
+        Some(word_at(&self.text[start..end], row, place))
     }
 
     /// The bytes of the line, from 1 to `lines()`, with blanks in place of comments and of a text that is taken as it stands.
@@ -119,7 +173,6 @@ impl Source {
         requires there { line ≤ length (lines_of self.now) }
         ensures { result.now ≡ (line_at self.now line).bytes }
     {
-        let _ = &self.text;
-        ""
+        self.row(line).visible.as_str()
     }
 }
