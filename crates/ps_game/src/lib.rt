@@ -8,3 +8,6 @@ mod sections;
 pub use prelude::{read_options, read_title};
 pub use ps_model::{Fault, FaultKind, Options};
 pub use sections::{Sections, read_sections};
+
+#[cfg(test)]
+mod tests;
