@@ -1,0 +1,3 @@
+mod LinesBetween
+mod FirstFault
+mod WinSteps

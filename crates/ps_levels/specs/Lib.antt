@@ -1,0 +1,2 @@
+pub mod Here
+pub mod WinsShown
