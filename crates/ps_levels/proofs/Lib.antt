@@ -1,3 +1,5 @@
 mod LinesBetween
 mod FirstFault
 mod WinSteps
+mod BlankStarts
+mod BlankEnds

@@ -2,6 +2,7 @@
 #![tactic(auto)]
 
 mod fault;
+mod row_text;
 mod wins;
 
 pub use fault::WinFault;
