@@ -3,3 +3,6 @@ mod FirstFault
 mod WinSteps
 mod BlankStarts
 mod BlankEnds
+mod Letters
+mod Grounds
+mod ColumnSteps

@@ -1,2 +1,4 @@
 pub mod Here
 pub mod WinsShown
+pub mod Cells
+pub mod RowFaults
