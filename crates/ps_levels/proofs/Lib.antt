@@ -6,3 +6,4 @@ mod BlankEnds
 mod Letters
 mod Grounds
 mod ColumnSteps
+mod RowSteps

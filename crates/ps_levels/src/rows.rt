@@ -74,3 +74,94 @@ fn row_fault(
     }
     None
 }
+
+/// How many of a row's own characters stand in a level of that width.
+fn written(characters: &[char], width: usize) -> usize
+    ensures { take result (of_width width characters.now) ≡ take width characters.now }
+{
+    if characters.len() < width {
+        return characters.len();
+    }
+    width
+}
+
+/// The first so many, or all if there are fewer.
+fn front<'s, 'a>(meanings: &'s [Option<&'a Meaning>], count: usize) -> &'s [Option<&'a Meaning>]
+    ensures { result.now ≡ take count meanings.now }
+{
+    if count >= meanings.len() {
+        return meanings;
+    }
+    &meanings[..count]
+}
+
+/// Reads a line as a row, at a place in a level so many columns wide: the objects of each of its cells.
+fn read_row<'a>(
+    alloc: Global,
+    source: &Source,
+    names: &'a Names,
+    line: u32,
+    width: usize,
+    place: usize,
+) -> Result<Vec<&'a [ObjectId]>, LevelFault>
+    requires from_one { 1 ≤ line }
+    requires there { line ≤ length (lines_of source.now) }
+    ensures part { IfOk result (λ cells. cells_shown cells.items ≡ row_cells names.now width (line_at source.now line)) }
+    ensures fine { OnOk result (row_faults names.now width place (line_at source.now line) ≡ []) }
+    ensures refused { IfErr result (λ e. (fault : TheFault) → e ≡ LevelFault.Refused fault → first_fault (row_faults names.now width place (line_at source.now line)) ≡ Some fault) }
+{
+    let mut characters = characters_of(alloc, source, line)?;
+    let written = written(&characters, width);
+    fill(&mut characters, width)?;
+    let meanings = meanings(alloc, names, &characters)?;
+    if let Some(fault) = row_fault(front(&meanings, written), width, place, line) {
+        return Err(LevelFault::Refused(fault));
+    }
+    let cells = cells_of(alloc, &meanings)?;
+    Ok(cells)
+}
+
+/// Reads a line as a row, if it is there, and adds it to the rows above it of a level so many columns wide.
+fn add_row<'a>(
+    alloc: Global,
+    source: &Source,
+    names: &'a Names,
+    line: u32,
+    width: usize,
+    rows: &mut Vec<Vec<&'a [ObjectId]>>,
+) -> Result<(), LevelFault>
+    requires from_one { 1 ≤ line }
+    requires there { line ≤ length (lines_of source.now) }
+    ensures part { OnOk result (rows_shown rows.new.items ≡ rows_shown rows.old.items ++ map (row_cells names.now width) (here source.now line)) }
+    ensures fine { OnOk result (rows_faults names.now width (length rows.old.items) (here source.now line) ≡ []) }
+    ensures refused { IfErr result (λ e. (fault : TheFault) → e ≡ LevelFault.Refused fault → first_fault (rows_faults names.now width (length rows.old.items) (here source.now line)) ≡ Some fault) }
+{
+    if !source.is_there(line) {
+        return Ok(());
+    }
+    let row = read_row(alloc, source, names, line, width, rows.len())?;
+    rows.push(row)?;
+    Ok(())
+}
+
+/// Reads lines as rows, those that are there, and adds them to the rows above them of a level so many columns wide.
+pub fn add_rows<'a>(
+    alloc: Global,
+    source: &Source,
+    names: &'a Names,
+    lines: Range<u32>,
+    width: usize,
+    rows: &mut Vec<Vec<&'a [ObjectId]>>,
+) -> Result<(), LevelFault>
+    requires from_one { 1 ≤ lines.start }
+    requires ordered { lines.start ≤ lines.end }
+    requires there { lines.end ≤ length (lines_of source.now) + 1 }
+    ensures part { OnOk result (rows_shown rows.new.items ≡ rows_shown rows.old.items ++ map (row_cells names.now width) (lines_between source.now lines.start lines.end)) }
+    ensures fine { OnOk result (rows_faults names.now width (length rows.old.items) (lines_between source.now lines.start lines.end) ≡ []) }
+    ensures refused { IfErr result (λ e. (fault : TheFault) → e ≡ LevelFault.Refused fault → first_fault (rows_faults names.now width (length rows.old.items) (lines_between source.now lines.start lines.end)) ≡ Some fault) }
+{
+    for line in lines.start..lines.end {
+        add_row(alloc, source, names, line, width, rows)?;
+    }
+    Ok(())
+}
