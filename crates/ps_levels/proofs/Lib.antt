@@ -7,3 +7,5 @@ mod Letters
 mod Grounds
 mod ColumnSteps
 mod RowSteps
+mod LevelSteps
+mod StretchSteps

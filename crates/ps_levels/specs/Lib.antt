@@ -2,3 +2,5 @@ pub mod Here
 pub mod WinsShown
 pub mod Cells
 pub mod RowFaults
+pub mod LevelsShown
+pub mod EntriesShown
