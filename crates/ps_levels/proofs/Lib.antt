@@ -9,3 +9,4 @@ mod ColumnSteps
 mod RowSteps
 mod LevelSteps
 mod StretchSteps
+mod EntrySteps
