@@ -11,7 +11,6 @@ use Rattle.ps_model.specs.LevelLines.{EntryLines, MessageLine, LevelRows, is_mes
 use Rattle.ps_levels.specs.Here.{here}
 use Rattle.ps_levels.proofs.LinesBetween.{between-step, between-end}
 
-
 -- a stretch in two parts
 pub parted : (text : List ℕ) (from mid end : ℕ) → 1 ≤ from → from ≤ mid → mid ≤ end → lines_between text from end ≡ lines_between text from mid ++ lines_between text mid end
 parted text from mid end one low high =
@@ -88,11 +87,10 @@ pub level-goes-on : (text : List ℕ) (from line end : ℕ) → 1 ≤ from → f
 level-goes-on text from line end one low less within h =
     let x : Line = line_at text line in
     let rest : List Line = lines_between text (line + 1) end in
-    let step : lines_between text line end ≡ here text line ++ rest = between-step text line (line + 1) end (omega arith) less within refl in
-    (
+    let step : lines_between text line end ≡ here text line ++ rest = between-step text line (line + 1) end (omega arith) less within refl in (
       ap (λ (lines : List Line). lines_between text from line ++ take_while is_row lines) step ∙ ap (λ (lines : List Line). lines_between text from line ++ lines) (kept_by x rest x.is_there (is_row x) refl h)
-      ∙ sym (append_assoc (lines_between text from line) (here text line) (take_while is_row rest))
-      ∙ ap (λ (lines : List Line). lines ++ take_while is_row rest) (sym (one_more_line text from line one low (omega arith))),
+          ∙ sym (append_assoc (lines_between text from line) (here text line) (take_while is_row rest))
+          ∙ ap (λ (lines : List Line). lines ++ take_while is_row rest) (sym (one_more_line text from line one low (omega arith))),
       ap (entries_at true) step ∙ same_by x rest x.is_there (is_row x) refl h,
     )
 
@@ -102,8 +100,7 @@ level-ends text line end one less within h =
     let x : Line = line_at text line in
     let rest : List Line = lines_between text (line + 1) end in
     let step : lines_between text line end ≡ x ∷ rest = between-step text line (line + 1) end one less within refl ∙ there_by x rest x.is_there (not (is_row x)) h in
-    let row : is_row x ≡ false = other_by x.is_there (is_row x) h in
-    (
+    let row : is_row x ≡ false = other_by x.is_there (is_row x) h in (
       ap (take_while is_row) step ∙ none-taken x rest row,
       ap (entries_at true) step ∙ ends-rows x rest row ∙ ap (entries_at false) (sym step),
     )

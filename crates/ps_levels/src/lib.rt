@@ -16,3 +16,6 @@ pub use fault::{LevelFault, WinFault};
 pub use level::Level;
 pub use levels::{Entry, read_levels};
 pub use wins::{Win, read_wins};
+
+#[cfg(test)]
+mod tests;

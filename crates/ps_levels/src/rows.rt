@@ -52,12 +52,7 @@ fn is_too_large(width: usize, place: usize) -> bool
 }
 
 /// The first fault of a row whose characters stand for these, at a place in a level.
-fn row_fault(
-    meanings: &[Option<&Meaning>],
-    width: usize,
-    place: usize,
-    line: u32,
-) -> Option<Fault>
+fn row_fault(meanings: &[Option<&Meaning>], width: usize, place: usize, line: u32) -> Option<Fault>
     ensures { result ≡ first_fault (faults_of_meanings (meanings_shown meanings.now) width place line) }
 {
     if has_unknown(meanings) {

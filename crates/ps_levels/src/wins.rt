@@ -128,7 +128,12 @@ fn read_win(alloc: Global, names: &Names, words: WinWords<'_>) -> Result<Option<
 }
 
 /// Reads a line that is there: the win condition that it is, or none if it is blank.
-fn read_line(alloc: Global, source: &Source, line: u32, names: &Names) -> Result<Option<Win>, WinFault>
+fn read_line(
+    alloc: Global,
+    source: &Source,
+    line: u32,
+    names: &Names,
+) -> Result<Option<Win>, WinFault>
     requires from_one { 1 ≤ line }
     requires there { line ≤ length (lines_of source.now) }
     ensures part { IfOk result (λ win. option_map win_shown win ≡ win_of_line names.now (line_at source.now line)) }
