@@ -1,0 +1,12 @@
+mod LinesBetween
+mod FirstFault
+mod WinSteps
+mod BlankStarts
+mod BlankEnds
+mod Letters
+mod Grounds
+mod ColumnSteps
+mod RowSteps
+mod LevelSteps
+mod StretchSteps
+mod EntrySteps

@@ -1,0 +1,20 @@
+use Rattle.std.proofs.Common.{rules, ◌≡◌, ◌∙◌, ◌+◌, [], sym, ap, arith, Some, None, List, ℕ, Option, get_or}
+use Rattle.std.specs.Prelude.{find, nat_eq, unwrap_or, Bool}
+use Rattle.std.specs.Borrow.{Bor}
+use Rattle.ps_model.specs.declared.pieces.ObjectId.{ObjectId}
+use Rattle.ps_model.specs.Levels.{with_ground}
+use Rattle.ps_levels.proofs.Grounds.{grown, grounds}
+use Rattle.ps_levels.proofs.ground.fill_ground.Goals as goal
+
+abbrev no_cell : Bor (List ObjectId)
+no_cell = record { ref_ptr = (0, 0); now = [] }
+
+pub loop-objects-preserved : goal.loop-objects-preserved
+loop-objects-preserved c =
+    grown (with_ground c.args.names.now c.first_on-filler.result) c.args.cells.now c.loop-objects.objects-index no_cell c.loop-objects.made.items c.push.new.self.items c.in_ok-filled.field-0 (omega arith)
+    c.loop-objects.invariant c.in_ok-push.ensures.items c.in_ok-filled.ensures
+
+pub returns : goal.returns
+returns c =
+    c.from_vec.ensures ∙ grounds c.args.names.now c.args.cells.now c.loop-objects.objects-index c.loop-objects.made.items c.background-background.result c.first_on-filler.result c.layer_of-layer.result (omega arith)
+    c.background-background.ensures c.layer_of-layer.ensures c.first_on-filler.ensures c.loop-objects.invariant

@@ -1,0 +1,20 @@
+use Rattle.std.proofs.Common.{rules, ◌≡◌, ◌∙◌, ap, Some, true}
+use Rattle.ps_model.specs.declared.faults.Fault.{Fault as TheFault}
+use Rattle.ps_model.specs.Faults.{first_fault}
+use Rattle.ps_model.specs.LineNumbers.{line_at}
+use Rattle.ps_model.specs.WinLines.{win_faults_of, win_faults}
+use Rattle.ps_levels.specs.declared.fault.WinFault.{WinFault}
+use Rattle.ps_levels.specs.declared.fault.WinFault.TheVariants.{Refused}
+use Rattle.ps_levels.specs.Here.{here}
+use Rattle.ps_levels.proofs.FirstFault.{faults-here}
+use Rattle.ps_levels.proofs.wins.add_line.Goals as goal
+
+pub returns-in_err-win-clause-refused : goal.returns-in_err-win-clause-refused
+returns-in_err-win-clause-refused c =
+    let text = c.args.source.now in
+    let names = c.args.names.now in
+    let there : (line_at text c.args.line).is_there ≡ true = search rules in
+    let fault : WinFault = c.in_err-win.field-0.0 in
+    let told : (f : TheFault) → fault ≡ Refused f → first_fault (win_faults names (here text c.args.line)) ≡ Some f =
+    λ f e. ap first_fault (faults-here (win_faults_of names) text c.args.line there) ∙ c.in_err-win.ensures.refused f e in
+    search (rules, told)

@@ -1,0 +1,6 @@
+pub mod Here
+pub mod WinsShown
+pub mod Cells
+pub mod RowFaults
+pub mod LevelsShown
+pub mod EntriesShown

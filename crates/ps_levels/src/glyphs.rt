@@ -1,0 +1,99 @@
+//! What the characters of a row stand for.
+
+ghost use Rattle.std.specs.Prelude.{◌≡◌, [], map, option_map, unwrap_or, IfOk};
+ghost use Rattle.std.specs.List.{list_any};
+ghost use Rattle.ps_model.specs.LevelFaults.{character_meaning, is_property};
+ghost use Rattle.ps_model.specs.Levels.{shown_objects};
+ghost use Rattle.ps_names.specs.Shown.{meaning_shown};
+ghost use Rattle.ps_levels.specs.Cells.{cells_shown, meaning_seen, meanings_shown, is_unknown, objects_of};
+
+use ps_model::{Memory, ObjectId};
+use ps_names::{Meaning, Names};
+use std::alloc::Global;
+use std::slice;
+
+/// What a character stands for, if it is a name, whatever the case of its letter.
+fn character_meaning<'a>(names: &'a Names, character: char) -> Option<&'a Meaning>
+    ensures { meaning_seen result ≡ character_meaning names.now character }
+{
+    let mut buffer = [0u8; 4];
+    let name = character.to_ascii_lowercase().encode_utf8(&mut buffer);
+    names.meaning(name)
+}
+
+/// What each of the characters stands for.
+pub fn meanings<'a>(
+    alloc: Global,
+    names: &'a Names,
+    characters: &[char],
+) -> Result<Vec<Option<&'a Meaning>>, Memory>
+    ensures { IfOk result (λ found. meanings_shown found.items ≡ map (character_meaning names.now) characters.now) }
+{
+    let mut found = Vec::new(alloc);
+    for character in characters {
+        found.push(character_meaning(names, *character))?;
+    }
+    Ok(found)
+}
+
+/// Whether a character stands for nothing.
+pub fn has_unknown(meanings: &[Option<&Meaning>]) -> bool
+    ensures { result ≡ list_any is_unknown (meanings_shown meanings.now) }
+{
+    for meaning in meanings {
+        if meaning.is_none() {
+            return true;
+        }
+    }
+    false
+}
+
+/// Whether the meaning is a property.
+fn is_property(meaning: Option<&Meaning>) -> bool
+    ensures { result ≡ is_property (meaning_seen meaning.entry) }
+{
+    match meaning {
+        Some(Meaning::One(_)) => false,
+        Some(Meaning::All { .. }) => false,
+        Some(Meaning::Any { .. }) => true,
+        None => false,
+    }
+}
+
+/// Whether a character stands for a property.
+pub fn has_property(meanings: &[Option<&Meaning>]) -> bool
+    ensures { result ≡ list_any is_property (meanings_shown meanings.now) }
+{
+    for meaning in meanings {
+        if is_property(*meaning) {
+            return true;
+        }
+    }
+    false
+}
+
+/// The objects of a cell whose character stands for this.
+fn objects_of<'a>(meaning: Option<&'a Meaning>) -> &'a [ObjectId]
+    ensures { result.now ≡ objects_of (meaning_seen meaning.entry) }
+{
+    match meaning {
+        Some(Meaning::One(object)) => slice::from_ref(object),
+        Some(Meaning::All { objects, .. }) => objects.as_slice(),
+        Some(Meaning::Any { .. }) => &[],
+        None => &[],
+    }
+}
+
+/// The objects of each cell of a row whose characters stand for these.
+pub fn cells_of<'a>(
+    alloc: Global,
+    meanings: &[Option<&'a Meaning>],
+) -> Result<Vec<&'a [ObjectId]>, Memory>
+    ensures { IfOk result (λ cells. cells_shown cells.items ≡ map objects_of (meanings_shown meanings.now)) }
+{
+    let mut cells = Vec::new(alloc);
+    for meaning in meanings {
+        cells.push(objects_of(*meaning))?;
+    }
+    Ok(cells)
+}

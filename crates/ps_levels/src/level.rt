@@ -1,0 +1,134 @@
+//! A level.
+
+ghost use Rattle.std.specs.Prelude.{◌≡◌, ◌≤◌, ◌<◌, ◌+◌, ◌∷◌, [], true, length, map, IfOk, OnOk, IfErr, Some};
+ghost use Rattle.ps_model.specs.declared.faults.Fault.{Fault as TheFault};
+ghost use Rattle.ps_model.specs.Faults.{first_fault};
+ghost use Rattle.ps_model.specs.LevelFaults.{entry_faults};
+ghost use Rattle.ps_model.specs.LevelLines.{LevelEntry, characters_of, row_cells, entry_of};
+ghost use Rattle.ps_model.specs.LineNumbers.{line_at, lines_between};
+ghost use Rattle.ps_model.specs.Lines.{lines_of};
+ghost use Rattle.ps_levels.specs.Cells.{rows_shown};
+ghost use Rattle.ps_levels.specs.LevelsShown.{rows_at};
+ghost use Rattle.ps_levels.specs.RowFaults.{level_faults_by};
+
+use crate::columns::in_columns;
+use crate::fault::LevelFault;
+use crate::ground::fill_ground;
+use crate::row_text::characters_of;
+use crate::rows::add_rows;
+use ps_model::{Fault, FaultKind, Memory, ObjectId};
+use ps_names::Names;
+use ps_text::{List, Source};
+use std::alloc::Global;
+use std::marker::Model;
+use std::ops::Range;
+
+/// The most levels and messages of a game.
+pub const ENTRY_LIMIT: usize = 999;
+
+/// A level: its sides, each from 1 to 64, and the objects of each cell, in columns from the left and each column from the top.
+#[derive(Drop, Debug)]
+pub struct Level {
+    width: u32,
+    height: u32,
+    cells: List<List<ObjectId>>,
+}
+
+impl Model for Level {
+    ghost use Rattle.ps_model.specs.Levels.{Level as Meant};
+
+    ghost Value = { Meant };
+
+    ghost view = { λ l. record { width = l.width; height = l.height; cells = l.cells } };
+}
+
+impl Level {
+    /// The number of columns.
+    pub fn width(&self) -> u32
+        ensures { result ≡ self.now.width }
+    {
+        self.width
+    }
+
+    /// The number of rows.
+    pub fn height(&self) -> u32
+        ensures { result ≡ self.now.height }
+    {
+        self.height
+    }
+
+    /// The objects of each cell: the cell in column x and row y, each from 0, has the number x * height + y.
+    pub fn cells(&self) -> &[List<ObjectId>]
+        ensures { result.now ≡ self.now.cells }
+    {
+        self.cells.as_slice()
+    }
+}
+
+/// Reads the lines from a level's first row to before what ends it, which all are rows or aren't there, as rows so many
+/// columns wide. The level has that place among the entries.
+fn read_rows<'a>(
+    alloc: Global,
+    source: &Source,
+    names: &'a Names,
+    lines: Range<u32>,
+    width: usize,
+    place: usize,
+) -> Result<Vec<Vec<&'a [ObjectId]>>, LevelFault>
+    requires from_one { 1 ≤ lines.start }
+    requires ordered { lines.start < lines.end }
+    requires there { lines.end ≤ length (lines_of source.now) + 1 }
+    requires row { (line_at source.now lines.start).is_there ≡ true }
+    ensures part { IfOk result (λ rows. rows_shown rows.items ≡ map (row_cells names.now width) (line_at source.now lines.start ∷ lines_between source.now (lines.start + 1) lines.end)) }
+    ensures fine { OnOk result (level_faults_by names.now width place (line_at source.now lines.start) (lines_between source.now (lines.start + 1) lines.end) ≡ []) }
+    ensures refused { IfErr result (λ e. (fault : TheFault) → e ≡ LevelFault.Refused fault → first_fault (level_faults_by names.now width place (line_at source.now lines.start) (lines_between source.now (lines.start + 1) lines.end)) ≡ Some fault) }
+{
+    let first = lines.start;
+    let below = first + 1;
+    let mut rows = Vec::new(alloc);
+    add_rows(alloc, source, names, first..below, width, &mut rows)?;
+    if place == ENTRY_LIMIT {
+        let kind = FaultKind::TooManyEntries;
+        return Err(LevelFault::Refused(Fault { kind, line: first }));
+    }
+    add_rows(alloc, source, names, below..lines.end, width, &mut rows)?;
+    Ok(rows)
+}
+
+/// How many columns a level has by its first row.
+fn width_of(alloc: Global, source: &Source, line: u32) -> Result<usize, Memory>
+    requires from_one { 1 ≤ line }
+    requires there { line ≤ length (lines_of source.now) }
+    ensures { IfOk result (λ width. width ≡ length (characters_of (line_at source.now line))) }
+{
+    let characters = characters_of(alloc, source, line)?;
+    Ok(characters.len())
+}
+
+/// Reads the level of the lines from its first row to before what ends it, which all are rows or aren't there. The level has
+/// that place among the entries.
+pub fn read_level(
+    alloc: Global,
+    source: &Source,
+    names: &Names,
+    lines: Range<u32>,
+    place: usize,
+) -> Result<Level, LevelFault>
+    requires from_one { 1 ≤ lines.start }
+    requires ordered { lines.start < lines.end }
+    requires there { lines.end ≤ length (lines_of source.now) + 1 }
+    requires row { (line_at source.now lines.start).is_there ≡ true }
+    ensures part { IfOk result (λ level. LevelEntry level ≡ entry_of names.now (rows_at source.now lines.start lines.end)) }
+    ensures fine { OnOk result (entry_faults names.now place (rows_at source.now lines.start lines.end) ≡ []) }
+    ensures refused { IfErr result (λ e. (fault : TheFault) → e ≡ LevelFault.Refused fault → first_fault (entry_faults names.now place (rows_at source.now lines.start lines.end)) ≡ Some fault) }
+{
+    let width = width_of(alloc, source, lines.start)?;
+    let rows = read_rows(alloc, source, names, lines, width, place)?;
+    let cells = in_columns(alloc, &rows, width)?;
+    let cells = fill_ground(alloc, names, &cells)?;
+    Ok(Level {
+        width: width as u32,
+        height: rows.len() as u32,
+        cells,
+    })
+}

@@ -1,0 +1,166 @@
+//! LEVELS: the levels and messages of a game.
+
+ghost use Rattle.std.specs.Prelude.{◌≡◌, ◌≤◌, ◌<◌, ◌+◌, ◌-◌, ◌++◌, ◌∷◌, [], true, length, map, IfOk, OnOk, IfErr, Some};
+ghost use Rattle.std.specs.List.{list_any};
+ghost use Rattle.ps_model.specs.declared.faults.Fault.{Fault as TheFault};
+ghost use Rattle.ps_model.specs.Faults.{first_fault};
+ghost use Rattle.ps_model.specs.LevelFaults.{too_many, entry_faults, entries_faults, level_faults};
+ghost use Rattle.ps_model.specs.LevelLines.{MessageEntry, entries_at, entry_lines, entry_of, entries_read};
+ghost use Rattle.ps_model.specs.LineNumbers.{line_at, lines_between};
+ghost use Rattle.ps_model.specs.Lines.{lines_of, taken_bytes};
+ghost use Rattle.ps_levels.specs.EntriesShown.{entries_shown, is_level_entry, level_lines};
+
+use crate::fault::LevelFault;
+use crate::level::{ENTRY_LIMIT, Level, read_level};
+use crate::stretch::{is_message, level_end};
+use ps_model::{Fault, FaultKind};
+use ps_names::Names;
+use ps_text::{Source, Text};
+use std::alloc::Global;
+use std::ops::Range;
+
+/// An entry of LEVELS: a message, or a level.
+#[derive(Drop, Debug)]
+pub enum Entry {
+    /// Its text, without the blanks at its ends.
+    Message(Text),
+    Level(Level),
+}
+
+/// The text of a message.
+fn message_text(source: &Source, line: u32) -> &str
+    requires from_one { 1 ≤ line }
+    requires there { line ≤ length (lines_of source.now) }
+    ensures { result.now ≡ taken_bytes (line_at source.now line) }
+{
+    let Some(text) = source.rest(line) else {
+        return "";
+    };
+    text.text()
+}
+
+/// Reads a message, and adds it to the entries above it.
+fn add_message(
+    alloc: Global,
+    source: &Source,
+    line: u32,
+    entries: &mut Vec<Entry>,
+) -> Result<(), LevelFault>
+    requires from_one { 1 ≤ line }
+    requires there { line ≤ length (lines_of source.now) }
+    ensures part { OnOk result (entries_shown entries.new.items ≡ entries_shown entries.old.items ++ MessageEntry (taken_bytes (line_at source.now line)) ∷ []) }
+    ensures fine { OnOk result (too_many (length entries.old.items) (line_at source.now line) ≡ []) }
+    ensures refused { IfErr result (λ e. (fault : TheFault) → e ≡ LevelFault.Refused fault → first_fault (too_many (length entries.old.items) (line_at source.now line)) ≡ Some fault) }
+{
+    if entries.len() == ENTRY_LIMIT {
+        let kind = FaultKind::TooManyEntries;
+        return Err(LevelFault::Refused(Fault { kind, line }));
+    }
+    let text = Text::from_str(alloc, message_text(source, line))?;
+    entries.push(Entry::Message(text))?;
+    Ok(())
+}
+
+/// Reads a level that begins at the first of the lines, and adds it to the entries above it: the line that ends it, or else
+/// the end of the lines.
+fn add_level(
+    alloc: Global,
+    source: &Source,
+    names: &Names,
+    lines: Range<u32>,
+    entries: &mut Vec<Entry>,
+) -> Result<u32, LevelFault>
+    requires from_one { 1 ≤ lines.start }
+    requires ordered { lines.start < lines.end }
+    requires there { lines.end ≤ length (lines_of source.now) + 1 }
+    requires row { (line_at source.now lines.start).is_there ≡ true }
+    ensures behind { IfOk result (λ next. lines.start < next) }
+    ensures within { IfOk result (λ next. next ≤ lines.end) }
+    ensures part { OnOk result (entries_shown entries.new.items ≡ entries_shown entries.old.items ++ entry_of names.now (level_lines source.now lines.start lines.end) ∷ []) }
+    ensures fine { OnOk result (entry_faults names.now (length entries.old.items) (level_lines source.now lines.start lines.end) ≡ []) }
+    ensures refused { IfErr result (λ e. (fault : TheFault) → e ≡ LevelFault.Refused fault → first_fault (entry_faults names.now (length entries.old.items) (level_lines source.now lines.start lines.end)) ≡ Some fault) }
+    ensures rest { IfOk result (λ next. entries_at true (lines_between source.now (lines.start + 1) lines.end) ≡ entry_lines (lines_between source.now next lines.end)) }
+{
+    let end = level_end(alloc, source, lines.start + 1..lines.end)?;
+    let level = read_level(alloc, source, names, lines.start..end, entries.len())?;
+    entries.push(Entry::Level(level))?;
+    Ok(end)
+}
+
+/// Reads the first of the lines, and all of its level if it begins one, and adds what it is to the entries above it: the line to
+/// go on with.
+fn add_entry(
+    alloc: Global,
+    source: &Source,
+    names: &Names,
+    lines: Range<u32>,
+    entries: &mut Vec<Entry>,
+) -> Result<u32, LevelFault>
+    requires from_one { 1 ≤ lines.start }
+    requires ordered { lines.start < lines.end }
+    requires there { lines.end ≤ length (lines_of source.now) + 1 }
+    ensures behind { IfOk result (λ next. lines.start < next) }
+    ensures within { IfOk result (λ next. next ≤ lines.end) }
+    ensures part { IfOk result (λ next. entries_shown entries.new.items ++ entries_read names.now (lines_between source.now next lines.end) ≡ entries_shown entries.old.items ++ entries_read names.now (lines_between source.now lines.start lines.end)) }
+    ensures fine { IfOk result (λ next. entries_faults names.now (length entries.new.items) (entry_lines (lines_between source.now next lines.end)) ≡ entries_faults names.now (length entries.old.items) (entry_lines (lines_between source.now lines.start lines.end))) }
+    ensures refused { IfErr result (λ e. (fault : TheFault) → e ≡ LevelFault.Refused fault → first_fault (entries_faults names.now (length entries.old.items) (entry_lines (lines_between source.now lines.start lines.end))) ≡ Some fault) }
+{
+    let line = lines.start;
+    if !source.is_there(line) {
+        return Ok(line + 1);
+    }
+    if is_message(alloc, source, line)? {
+        add_message(alloc, source, line, entries)?;
+        return Ok(line + 1);
+    }
+    if source.is_blank_line(line) {
+        return Ok(line + 1);
+    }
+    let next = add_level(alloc, source, names, lines, entries)?;
+    Ok(next)
+}
+
+/// Whether a level is among the entries.
+fn has_level(entries: &[Entry]) -> bool
+    ensures { result ≡ list_any is_level_entry (entries_shown entries.now) }
+{
+    for entry in entries {
+        if matches!(entry, Entry::Level(_)) {
+            return true;
+        }
+    }
+    false
+}
+
+/// Reads LEVELS, given by the numbers of the lines right below its header up to the next header, counted from 1. The entries are
+/// in the order of their lines. Takes time linear in these lines.
+///
+/// `Refused` with the first fault of the lines, if they have one, line by line: `UnknownGlyph` (LV1) at a row with a character that
+/// is no name, up to the level's width; `PropertyGlyph` (LV2) at one with a property; `TooLarge` (LV3) at the first row of a level
+/// that is over 64 columns wide, or at its 65th row; `TooManyEntries` (LV5) at the 1,000th entry; and `NoLevel` (LV4), at the
+/// header right above the lines, if there is no level. `Memory` if a growth was refused.
+pub fn read_levels(
+    alloc: Global,
+    source: &Source,
+    lines: Range<u32>,
+    names: &Names,
+) -> Result<Vec<Entry>, LevelFault>
+    requires from_one { 1 ≤ lines.start }
+    requires ordered { lines.start ≤ lines.end }
+    requires there { lines.end ≤ length (lines_of source.now) + 1 }
+    ensures part { IfOk result (λ entries. entries_shown entries.items ≡ entries_read names.now (lines_between source.now lines.start lines.end)) }
+    ensures fine { OnOk result (level_faults names.now (lines.start - 1) (lines_between source.now lines.start lines.end) ≡ []) }
+    ensures refused { IfErr result (λ e. (fault : TheFault) → e ≡ LevelFault.Refused fault → first_fault (level_faults names.now (lines.start - 1) (lines_between source.now lines.start lines.end)) ≡ Some fault) }
+{
+    let header = lines.start - 1;
+    let mut entries = Vec::new(alloc);
+    let mut line = lines.start;
+    while line < lines.end {
+        line = add_entry(alloc, source, names, line..lines.end, &mut entries)?;
+    }
+    if !has_level(&entries) {
+        let kind = FaultKind::NoLevel;
+        return Err(LevelFault::Refused(Fault { kind, line: header }));
+    }
+    Ok(entries)
+}

@@ -1,0 +1,21 @@
+//! The sections of a game that stand below its rules: its win conditions, and its levels and messages.
+#![tactic(auto)]
+
+mod columns;
+mod fault;
+mod glyphs;
+mod ground;
+mod level;
+mod levels;
+mod row_text;
+mod rows;
+mod stretch;
+mod wins;
+
+pub use fault::{LevelFault, WinFault};
+pub use level::Level;
+pub use levels::{Entry, read_levels};
+pub use wins::{Win, read_wins};
+
+#[cfg(test)]
+mod tests;

@@ -1,0 +1,162 @@
+//! The rows of a level.
+
+ghost use Rattle.std.specs.Prelude.{◌≡◌, ◌≤◌, ◌+◌, ◌++◌, [], length, map, take, IfOk, OnOk, IfErr, Some, nat_eq};
+ghost use Rattle.ps_model.specs.declared.faults.Fault.{Fault as TheFault};
+ghost use Rattle.ps_model.specs.Faults.{first_fault};
+ghost use Rattle.ps_model.specs.LevelFaults.{is_too_large, row_faults, rows_faults};
+ghost use Rattle.ps_model.specs.LevelLines.{characters_of, last_character, of_width, row_cells};
+ghost use Rattle.ps_model.specs.LineNumbers.{line_at, lines_between};
+ghost use Rattle.ps_model.specs.Lines.{lines_of};
+ghost use Rattle.ps_levels.specs.Cells.{cells_shown, meanings_shown, rows_shown};
+ghost use Rattle.ps_levels.specs.Here.{here};
+ghost use Rattle.ps_levels.specs.RowFaults.{faults_of_meanings};
+
+use crate::fault::LevelFault;
+use crate::glyphs::{cells_of, has_property, has_unknown, meanings};
+use crate::row_text::characters_of;
+use ps_model::{Fault, FaultKind, Memory, ObjectId};
+use ps_names::{Meaning, Names};
+use ps_text::Source;
+use std::alloc::Global;
+use std::ops::Range;
+
+/// The most columns of a level, and the most rows.
+const SIDE_LIMIT: usize = 64;
+
+/// The last of a row's characters.
+fn last_character(characters: &[char]) -> char
+    ensures { result ≡ last_character characters.now }
+{
+    if characters.is_empty() {
+        return '\0';
+    }
+    characters[characters.len() - 1]
+}
+
+/// Makes a row's characters those of a level's width: a shorter row is filled with its own last character, and a longer
+/// one loses what stands past the width.
+fn fill(characters: &mut Vec<char>, width: usize) -> Result<(), Memory>
+    ensures { OnOk result (characters.new.items ≡ of_width width characters.old.items) }
+{
+    let last = last_character(characters);
+    characters.resize(width, last)?;
+    Ok(())
+}
+
+/// Whether the level is too large at a row, by the row's place in it: at the first row where that is too long, and at the
+/// first row over the limit.
+fn is_too_large(width: usize, place: usize) -> bool
+    ensures { result ≡ is_too_large width place }
+{
+    (place == 0 && width > SIDE_LIMIT) || place == SIDE_LIMIT
+}
+
+/// The first fault of a row whose characters stand for these, at a place in a level.
+fn row_fault(meanings: &[Option<&Meaning>], width: usize, place: usize, line: u32) -> Option<Fault>
+    ensures { result ≡ first_fault (faults_of_meanings (meanings_shown meanings.now) width place line) }
+{
+    if has_unknown(meanings) {
+        let kind = FaultKind::UnknownGlyph;
+        return Some(Fault { kind, line });
+    }
+    if has_property(meanings) {
+        let kind = FaultKind::PropertyGlyph;
+        return Some(Fault { kind, line });
+    }
+    if is_too_large(width, place) {
+        let kind = FaultKind::TooLarge;
+        return Some(Fault { kind, line });
+    }
+    None
+}
+
+/// How many of a row's own characters stand in a level of that width.
+fn written(characters: &[char], width: usize) -> usize
+    ensures { take result (of_width width characters.now) ≡ take width characters.now }
+{
+    if characters.len() < width {
+        return characters.len();
+    }
+    width
+}
+
+/// The first so many, or all if there are fewer.
+fn front<'s, 'a>(meanings: &'s [Option<&'a Meaning>], count: usize) -> &'s [Option<&'a Meaning>]
+    ensures { result.now ≡ take count meanings.now }
+{
+    if count >= meanings.len() {
+        return meanings;
+    }
+    &meanings[..count]
+}
+
+/// Reads a line as a row, at a place in a level so many columns wide: the objects of each of its cells.
+fn read_row<'a>(
+    alloc: Global,
+    source: &Source,
+    names: &'a Names,
+    line: u32,
+    width: usize,
+    place: usize,
+) -> Result<Vec<&'a [ObjectId]>, LevelFault>
+    requires from_one { 1 ≤ line }
+    requires there { line ≤ length (lines_of source.now) }
+    ensures part { IfOk result (λ cells. cells_shown cells.items ≡ row_cells names.now width (line_at source.now line)) }
+    ensures fine { OnOk result (row_faults names.now width place (line_at source.now line) ≡ []) }
+    ensures refused { IfErr result (λ e. (fault : TheFault) → e ≡ LevelFault.Refused fault → first_fault (row_faults names.now width place (line_at source.now line)) ≡ Some fault) }
+{
+    let mut characters = characters_of(alloc, source, line)?;
+    let written = written(&characters, width);
+    fill(&mut characters, width)?;
+    let meanings = meanings(alloc, names, &characters)?;
+    if let Some(fault) = row_fault(front(&meanings, written), width, place, line) {
+        return Err(LevelFault::Refused(fault));
+    }
+    let cells = cells_of(alloc, &meanings)?;
+    Ok(cells)
+}
+
+/// Reads a line as a row, if it is there, and adds it to the rows above it of a level so many columns wide.
+fn add_row<'a>(
+    alloc: Global,
+    source: &Source,
+    names: &'a Names,
+    line: u32,
+    width: usize,
+    rows: &mut Vec<Vec<&'a [ObjectId]>>,
+) -> Result<(), LevelFault>
+    requires from_one { 1 ≤ line }
+    requires there { line ≤ length (lines_of source.now) }
+    ensures part { OnOk result (rows_shown rows.new.items ≡ rows_shown rows.old.items ++ map (row_cells names.now width) (here source.now line)) }
+    ensures fine { OnOk result (rows_faults names.now width (length rows.old.items) (here source.now line) ≡ []) }
+    ensures refused { IfErr result (λ e. (fault : TheFault) → e ≡ LevelFault.Refused fault → first_fault (rows_faults names.now width (length rows.old.items) (here source.now line)) ≡ Some fault) }
+{
+    if !source.is_there(line) {
+        return Ok(());
+    }
+    let row = read_row(alloc, source, names, line, width, rows.len())?;
+    rows.push(row)?;
+    Ok(())
+}
+
+/// Reads lines as rows, those that are there, and adds them to the rows above them of a level so many columns wide.
+pub fn add_rows<'a>(
+    alloc: Global,
+    source: &Source,
+    names: &'a Names,
+    lines: Range<u32>,
+    width: usize,
+    rows: &mut Vec<Vec<&'a [ObjectId]>>,
+) -> Result<(), LevelFault>
+    requires from_one { 1 ≤ lines.start }
+    requires ordered { lines.start ≤ lines.end }
+    requires there { lines.end ≤ length (lines_of source.now) + 1 }
+    ensures part { OnOk result (rows_shown rows.new.items ≡ rows_shown rows.old.items ++ map (row_cells names.now width) (lines_between source.now lines.start lines.end)) }
+    ensures fine { OnOk result (rows_faults names.now width (length rows.old.items) (lines_between source.now lines.start lines.end) ≡ []) }
+    ensures refused { IfErr result (λ e. (fault : TheFault) → e ≡ LevelFault.Refused fault → first_fault (rows_faults names.now width (length rows.old.items) (lines_between source.now lines.start lines.end)) ≡ Some fault) }
+{
+    for line in lines.start..lines.end {
+        add_row(alloc, source, names, line, width, rows)?;
+    }
+    Ok(())
+}

@@ -1,0 +1,205 @@
+//! WINCONDITIONS: when a level is won.
+
+ghost use Rattle.std.specs.Prelude.{◌≡◌, ◌≤◌, ◌+◌, ◌++◌, List, [], length, map, option_map, IfOk, OnOk, IfErr, Some, None};
+ghost use Rattle.std.specs.Map.{lookup};
+ghost use Rattle.std.specs.Str.{bytes_eq};
+ghost use Rattle.ps_model.specs.declared.faults.Fault.{Fault as TheFault};
+ghost use Rattle.ps_model.specs.Faults.{first_fault};
+ghost use Rattle.ps_model.specs.LineNumbers.{line_at, lines_between};
+ghost use Rattle.ps_model.specs.Lines.{Line, folded, lines_of};
+ghost use Rattle.ps_model.specs.Names.{meaning_of};
+ghost use Rattle.ps_model.specs.WinLines.{quantifiers, win_with, win_of_words, place_read, win_read, wins_read, win_faults_of, win_faults};
+ghost use Rattle.ps_names.specs.Shown.{meaning_shown};
+ghost use Rattle.ps_text.specs.WordViews.{text_of};
+ghost use Rattle.ps_levels.specs.Here.{here};
+ghost use Rattle.ps_levels.specs.WinsShown.{words_shown, win_shown, wins_shown, win_of_line};
+
+use crate::fault::WinFault;
+use ps_model::{Cut, Fault, FaultKind, Memory, Quantifier};
+use ps_names::{Meaning, Names};
+use ps_text::{Source, Word, same_name, words};
+use std::alloc::Global;
+use std::ops::Range;
+
+/// A win condition: how many cells with its subject are asked for, and where.
+#[derive(Drop, Debug)]
+pub struct Win {
+    pub quantifier: Quantifier,
+    /// What the cells are to hold.
+    pub subject: Meaning,
+    /// What else they are to hold, where the condition says `on`.
+    pub place: Option<Meaning>,
+}
+
+/// A win condition as it is written, by its names.
+#[derive(Clone, Copy)]
+struct WinWords<'a> {
+    quantifier: Quantifier,
+    subject: &'a str,
+    place: Option<&'a str>,
+}
+
+/// What the first word of a win condition asks for.
+fn quantifier(word: &str) -> Option<Quantifier>
+    ensures { result ≡ lookup (bytes_eq (folded word.now)) quantifiers }
+{
+    if same_name(word, "no") {
+        return Some(Quantifier::No);
+    }
+    if same_name(word, "some") {
+        return Some(Quantifier::Some);
+    }
+    if same_name(word, "any") {
+        return Some(Quantifier::Some);
+    }
+    if same_name(word, "all") {
+        return Some(Quantifier::All);
+    }
+    None
+}
+
+/// The win condition with that first word and these names, if the word is one that begins it.
+fn win_with<'a>(word: &str, subject: &'a str, place: Option<&'a str>) -> Option<WinWords<'a>>
+    ensures { option_map words_shown result ≡ win_with word.now subject.now (option_map (λ name. name.now) place.entry) }
+{
+    let quantifier = quantifier(word)?;
+    Some(WinWords {
+        quantifier,
+        subject,
+        place,
+    })
+}
+
+/// The win condition that the words of a line are, if they have the form of one.
+fn win_of_words<'a>(words: &[Word<'a>]) -> Option<WinWords<'a>>
+    ensures { option_map words_shown result ≡ win_of_words (map text_of words.now) }
+{
+    if words.len() == 2 {
+        return win_with(words[0].text(), words[1].text(), None);
+    }
+    if words.len() != 4 {
+        return None;
+    }
+    if !same_name(words[2].text(), "on") {
+        return None;
+    }
+    win_with(words[0].text(), words[1].text(), Some(words[3].text()))
+}
+
+/// What the name behind `on` stands for, if there is none or it is declared.
+fn read_place<'a>(names: &'a Names, place: Option<&str>) -> Option<Option<&'a Meaning>>
+    ensures { option_map (λ found. option_map (λ m. meaning_shown m.now) found) result ≡ place_read names.now (option_map (λ name. name.now) place.entry) }
+{
+    let Some(name) = place else {
+        return Some(None);
+    };
+    let meaning = names.meaning(name)?;
+    Some(Some(meaning))
+}
+
+/// A meaning once more, if there is one.
+fn copied(alloc: Global, meaning: Option<&Meaning>) -> Result<Option<Meaning>, Memory>
+    ensures { IfOk result (λ copy. option_map meaning_shown copy ≡ option_map (λ m. meaning_shown m.now) meaning.entry) }
+{
+    let Some(meaning) = meaning else {
+        return Ok(None);
+    };
+    let copy = meaning.copied(alloc)?;
+    Ok(Some(copy))
+}
+
+/// The win condition with what its names stand for, if they are declared.
+fn read_win(alloc: Global, names: &Names, words: WinWords<'_>) -> Result<Option<Win>, Memory>
+    ensures { IfOk result (λ win. option_map win_shown win ≡ win_read names.now (words_shown words.entry)) }
+{
+    let Some(subject) = names.meaning(words.subject) else {
+        return Ok(None);
+    };
+    let Some(place) = read_place(names, words.place) else {
+        return Ok(None);
+    };
+    let subject = subject.copied(alloc)?;
+    let place = copied(alloc, place)?;
+    Ok(Some(Win {
+        quantifier: words.quantifier,
+        subject,
+        place,
+    }))
+}
+
+/// Reads a line that is there: the win condition that it is, or none if it is blank.
+fn read_line(
+    alloc: Global,
+    source: &Source,
+    line: u32,
+    names: &Names,
+) -> Result<Option<Win>, WinFault>
+    requires from_one { 1 ≤ line }
+    requires there { line ≤ length (lines_of source.now) }
+    ensures part { IfOk result (λ win. option_map win_shown win ≡ win_of_line names.now (line_at source.now line)) }
+    ensures fine { OnOk result (win_faults_of names.now (line_at source.now line) ≡ []) }
+    ensures refused { IfErr result (λ e. (fault : TheFault) → e ≡ WinFault.Refused fault → first_fault (win_faults_of names.now (line_at source.now line)) ≡ Some fault) }
+{
+    let words = words(alloc, source, line, Cut::Plain)?;
+    let Some(words) = win_of_words(&words) else {
+        if source.is_blank_line(line) {
+            return Ok(None);
+        }
+        let kind = FaultKind::BadWin;
+        return Err(WinFault::Refused(Fault { kind, line }));
+    };
+    let Some(win) = read_win(alloc, names, words)? else {
+        let kind = FaultKind::UnknownWinName;
+        return Err(WinFault::Refused(Fault { kind, line }));
+    };
+    Ok(Some(win))
+}
+
+/// Reads a line, if it is there, and adds its win condition to those above it.
+fn add_line(
+    alloc: Global,
+    source: &Source,
+    line: u32,
+    names: &Names,
+    wins: &mut Vec<Win>,
+) -> Result<(), WinFault>
+    requires from_one { 1 ≤ line }
+    requires there { line ≤ length (lines_of source.now) }
+    ensures part { OnOk result (wins_shown wins.new.items ≡ wins_shown wins.old.items ++ wins_read names.now (here source.now line)) }
+    ensures fine { OnOk result (win_faults names.now (here source.now line) ≡ []) }
+    ensures refused { IfErr result (λ e. (fault : TheFault) → e ≡ WinFault.Refused fault → first_fault (win_faults names.now (here source.now line)) ≡ Some fault) }
+{
+    if !source.is_there(line) {
+        return Ok(());
+    }
+    let Some(win) = read_line(alloc, source, line, names)? else {
+        return Ok(());
+    };
+    wins.push(win)?;
+    Ok(())
+}
+
+/// Reads WINCONDITIONS, given by the numbers of the lines right below its header up to the next header, counted from 1; an
+/// absent section by an empty range. The conditions are in the order of their lines. Takes time linear in these lines.
+///
+/// `Refused` with the first fault of the lines, if they have one: `BadWin` (WN1) for a line that is neither blank nor a win
+/// condition, `UnknownWinName` (WN2) for a name that isn't declared. `Memory` if a growth was refused.
+pub fn read_wins(
+    alloc: Global,
+    source: &Source,
+    lines: Range<u32>,
+    names: &Names,
+) -> Result<Vec<Win>, WinFault>
+    requires from_one { 1 ≤ lines.start }
+    requires ordered { lines.start ≤ lines.end }
+    requires there { lines.end ≤ length (lines_of source.now) + 1 }
+    ensures part { IfOk result (λ wins. wins_shown wins.items ≡ wins_read names.now (lines_between source.now lines.start lines.end)) }
+    ensures fine { OnOk result (win_faults names.now (lines_between source.now lines.start lines.end) ≡ []) }
+    ensures refused { IfErr result (λ e. (fault : TheFault) → e ≡ WinFault.Refused fault → first_fault (win_faults names.now (lines_between source.now lines.start lines.end)) ≡ Some fault) }
+{
+    let mut wins = Vec::new(alloc);
+    for line in lines.start..lines.end {
+        add_line(alloc, source, line, names, &mut wins)?;
+    }
+    Ok(wins)
+}
