@@ -12,7 +12,8 @@ use Rattle.ps_model.specs.Lines.{Line}
 use Rattle.ps_model.specs.LineNumbers.{line_at}
 use Rattle.ps_model.specs.Names.{Names, Meaning}
 use Rattle.ps_model.specs.LevelLines.{characters_of, last_character, of_width, shown_in_level, row_cells}
-use Rattle.ps_model.specs.LevelFaults.{character_meaning, is_unknown_glyph, is_property_glyph, is_property, is_too_large, row_faults, rows_faults}
+use Rattle.ps_model.specs.LevelFaults.{character_meaning, is_unknown_glyph, is_property_glyph, is_too_large, row_faults, rows_faults}
+use Rattle.ps_model.specs.Meanings.{is_property}
 use Rattle.std.specs.Borrow.{Bor}
 use Rattle.ps_names.specs.declared.meaning.Meaning as code
 use Rattle.ps_levels.specs.Cells.{is_unknown, objects_of, meaning_seen, meanings_shown}
