@@ -1,5 +1,4 @@
 pub mod HeadingsTold
-pub mod FirstFaults
 pub mod LineSteps
 pub mod SectionEnds
 pub mod SectionLines

@@ -13,7 +13,7 @@ use Rattle.ps_model.specs.LineNumbers.{lines_between}
 use Rattle.ps_model.specs.Sections.{rank, header_lines, header_number, has_section, is_without_section, heading_faults, heading_faults_of}
 use Rattle.ps_game.specs.Headings.{headings_told}
 use Rattle.ps_game.specs.SectionPlaces.{boundary, IsStretch, IsSection}
-use Rattle.ps_game.proofs.FirstFaults.{first-front, none-first}
+use Rattle.ps_model.proofs.FirstFaults.{first-front, none-first}
 use Rattle.ps_game.proofs.HeadingsTold.{headings-told}
 use Rattle.ps_game.proofs.SectionLines.{prelude_told, section_told, section_has, header_told}
 

@@ -13,10 +13,10 @@ use Rattle.ps_model.specs.LineNumbers.{line_at, lines_between}
 use Rattle.ps_model.specs.Names.{Names}
 use Rattle.ps_model.specs.LevelLines.{Entry, EntryLines, MessageLine, LevelRows, is_message, is_row, entry_at, entries_at, entry_lines, entry_of, entries_read}
 use Rattle.ps_model.specs.LevelFaults.{too_many, entry_faults, entries_faults, is_level, level_faults}
-use Rattle.ps_levels.specs.Here.{here}
+use Rattle.ps_model.specs.LineNumbers.{here}
 use Rattle.ps_levels.specs.EntriesShown.{is_level_entry, level_lines}
-use Rattle.ps_levels.proofs.LinesBetween.{between-step, here-there, here-not}
-use Rattle.ps_levels.proofs.FirstFault.{first-append}
+use Rattle.ps_model.proofs.LinesInOrder.{between-step, here-there, here-not}
+use Rattle.ps_model.proofs.FirstFaults.{first-front}
 
 entry_above : (message blank : Bool) (line : Line) (below : List Line) → message ≡ true →
     (elim message as (λ b. List EntryLines) [ true ↦ MessageLine line ∷ [] | false ↦ elim ((not blank && not message) && not false) as (λ b. List EntryLines) [ true ↦ LevelRows line (take_while is_row below) ∷ [] | false ↦ [] ] ])
@@ -89,7 +89,7 @@ entries-counted shows before now one e =
 -- its faults come first
 pub fault-of-entry : (names : Names) (place : ℕ) (all rest : List EntryLines) (found : EntryLines) (fault : Fault) → all ≡ found ∷ rest → first_fault (entry_faults names place found) ≡ Some fault → first_fault (entries_faults names place all) ≡ Some fault
 fault-of-entry names place all rest found fault split e =
-    ap (λ (es : List EntryLines). first_fault (entries_faults names place es)) split ∙ first-append (entry_faults names place found) (entries_faults names (suc place) rest) fault e
+    ap (λ (es : List EntryLines). first_fault (entries_faults names place es)) split ∙ first-front (entry_faults names place found) (entries_faults names (suc place) rest) fault e
 
 pub fine-entry : (names : Names) (place next : ℕ) (all rest : List EntryLines) (found : EntryLines) → all ≡ found ∷ rest → next ≡ suc place → entry_faults names place found ≡ [] → entries_faults names next rest ≡ entries_faults names place all
 fine-entry names place next all rest found split n e =

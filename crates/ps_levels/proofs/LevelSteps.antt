@@ -15,10 +15,10 @@ use Rattle.ps_model.specs.LevelFaults.{is_too_large, row_faults, rows_faults, to
 use Rattle.ps_model.specs.declared.pieces.ObjectId.{ObjectId}
 use Rattle.ps_model.specs.Levels.{grounded}
 use Rattle.ps_model.specs.LevelLines.{LevelEntry, LevelRows, characters_of, row_cells, in_columns, level_of, entry_of}
-use Rattle.ps_levels.specs.Here.{here}
+use Rattle.ps_model.specs.LineNumbers.{here}
 use Rattle.ps_levels.specs.RowFaults.{level_faults_by}
-use Rattle.ps_levels.proofs.LinesBetween.{between-step, between-end, here-there}
-use Rattle.ps_levels.proofs.FirstFault.{first-append}
+use Rattle.ps_model.proofs.LinesInOrder.{between-step, between-end, here-there}
+use Rattle.ps_model.proofs.FirstFaults.{first-front}
 
 pub when-none : (b : Bool) (kind : FaultKind) (number : ℕ) → when b kind number ≡ [] → b ≡ false
 when-none true kind number e = absurd (let f = e in cc)
@@ -71,7 +71,7 @@ first-alone names width text line next e = ap (rows_faults names width 0) e ∙ 
 -- a fault of the first row
 pub fault-in-first : (names : Names) (width place : ℕ) (first : Line) (below lines : List Line) (fault : Fault) → lines ≡ first ∷ [] → first_fault (rows_faults names width 0 lines) ≡ Some fault → first_fault (level_faults_by names width place first below) ≡ Some fault
 fault-in-first names width place first below lines fault one e =
-    first-append (row_faults names width 0 first) (too_many place first ++ rows_faults names width 1 below) fault
+    first-front (row_faults names width 0 first) (too_many place first ++ rows_faults names width 1 below) fault
     (ap first_fault (sym (ap (rows_faults names width 0) one ∙ append-nil (row_faults names width 0 first))) ∙ e)
 
 behind-none : (faults others : List Fault) → faults ≡ [] → faults ++ others ≡ others

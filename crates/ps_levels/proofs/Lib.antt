@@ -1,5 +1,3 @@
-mod LinesBetween
-mod FirstFault
 mod WinSteps
 mod BlankStarts
 mod BlankEnds

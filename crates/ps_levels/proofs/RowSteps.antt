@@ -17,10 +17,10 @@ use Rattle.ps_model.specs.Meanings.{is_property}
 use Rattle.std.specs.Borrow.{Bor}
 use Rattle.ps_names.specs.declared.meaning.Meaning as code
 use Rattle.ps_levels.specs.Cells.{is_unknown, objects_of, meaning_seen, meanings_shown}
-use Rattle.ps_levels.specs.Here.{here}
+use Rattle.ps_model.specs.LineNumbers.{here}
 use Rattle.ps_levels.specs.RowFaults.{faults_of_meanings}
-use Rattle.ps_levels.proofs.FirstFault.{first-append}
-use Rattle.ps_levels.proofs.LinesBetween.{here-there}
+use Rattle.ps_model.proofs.FirstFaults.{first-front}
+use Rattle.ps_model.proofs.LinesInOrder.{here-there}
 
 any-map : {A B : Type 0} (f : A → B) (test : B → Bool) (xs : List A) → list_any test (map f xs) ≡ list_any (λ x. test (f x)) xs
 any-map f test [] = refl
@@ -74,7 +74,7 @@ rows-append names width place (row ∷ rows) others =
 pub first-of-rows : (names : Names) (width place : ℕ) (all rows others : List Line) (fault : Fault) → all ≡ rows ++ others → first_fault (rows_faults names width place rows) ≡ Some fault → first_fault (rows_faults names width place all) ≡ Some fault
 first-of-rows names width place all rows others fault split e =
     ap (λ (ls : List Line). first_fault (rows_faults names width place ls)) split ∙ ap first_fault (rows-append names width place rows others)
-    ∙ first-append (rows_faults names width place rows) (rows_faults names width (place + length rows) others) fault e
+    ∙ first-front (rows_faults names width place rows) (rows_faults names width (place + length rows) others) fault e
 
 pub none-of-rows : (names : Names) (width place next : ℕ) (all rows others : List Line) → all ≡ rows ++ others → next ≡ place + length rows → rows_faults names width place rows ≡ [] → rows_faults names width next others ≡ rows_faults names width place all
 none-of-rows names width place next all rows others split n e =

@@ -8,8 +8,8 @@ use Rattle.std.proofs.lemmas.List.Elements.{filter-append}
 use Rattle.ps_model.specs.Lines.{Line, lines_of, is_blank_line}
 use Rattle.ps_model.specs.LineNumbers.{line_at, lines_between}
 use Rattle.ps_model.specs.LevelLines.{EntryLines, MessageLine, LevelRows, is_message, is_row, entry_at, entries_at}
-use Rattle.ps_levels.specs.Here.{here}
-use Rattle.ps_levels.proofs.LinesBetween.{between-step, between-end}
+use Rattle.ps_model.specs.LineNumbers.{here}
+use Rattle.ps_model.proofs.LinesInOrder.{between-step, between-end}
 
 -- a stretch in two parts
 pub parted : (text : List ℕ) (from mid end : ℕ) → 1 ≤ from → from ≤ mid → mid ≤ end → lines_between text from end ≡ lines_between text from mid ++ lines_between text mid end

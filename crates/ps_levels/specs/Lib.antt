@@ -1,4 +1,3 @@
-pub mod Here
 pub mod WinsShown
 pub mod Cells
 pub mod RowFaults

@@ -8,7 +8,7 @@ ghost use Rattle.ps_model.specs.LevelLines.{characters_of, last_character, of_wi
 ghost use Rattle.ps_model.specs.LineNumbers.{line_at, lines_between};
 ghost use Rattle.ps_model.specs.Lines.{lines_of};
 ghost use Rattle.ps_levels.specs.Cells.{cells_shown, meanings_shown, rows_shown};
-ghost use Rattle.ps_levels.specs.Here.{here};
+ghost use Rattle.ps_model.specs.LineNumbers.{here};
 ghost use Rattle.ps_levels.specs.RowFaults.{faults_of_meanings};
 
 use crate::fault::LevelFault;

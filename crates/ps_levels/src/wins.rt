@@ -11,7 +11,7 @@ ghost use Rattle.ps_model.specs.Names.{meaning_of};
 ghost use Rattle.ps_model.specs.WinLines.{quantifiers, win_with, win_of_words, place_read, win_read, wins_read, win_faults_of, win_faults};
 ghost use Rattle.ps_names.specs.Shown.{meaning_shown};
 ghost use Rattle.ps_text.specs.WordViews.{text_of};
-ghost use Rattle.ps_levels.specs.Here.{here};
+ghost use Rattle.ps_model.specs.LineNumbers.{here};
 ghost use Rattle.ps_levels.specs.WinsShown.{words_shown, win_shown, wins_shown, win_of_line};
 
 use crate::fault::WinFault;

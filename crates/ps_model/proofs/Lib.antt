@@ -72,3 +72,4 @@ mod CornerRows
 mod OddTextRows
 mod OddRuleRows
 pub mod LinesInOrder
+pub mod FirstFaults

@@ -11,7 +11,7 @@ use Rattle.ps_model.specs.declared.texts.Section.{Section}
 use Rattle.ps_model.specs.declared.texts.Section.TheVariants.{Prelude}
 use Rattle.ps_model.specs.declared.texts.Cut.TheVariants.{Plain}
 use Rattle.ps_model.specs.Lines.{Line, is_line_feed, mark_length, as_lines, raw_lines, headers, header_of, header_of_words, folded, without_comments, text_place, depth_below, lines_from, lines_of}
-use Rattle.ps_model.specs.LineNumbers.{no_line, line_at, lines_between}
+use Rattle.ps_model.specs.LineNumbers.{no_line, line_at, lines_between, here}
 use Rattle.ps_model.specs.Sections.{rank}
 use Rattle.ps_model.specs.Words.{word_texts}
 
@@ -100,9 +100,11 @@ length-lines_of-some text =
 
 -- lines between two numbers --------------------------------------------------------------------------------------------------
 
--- the line of a number alone, or no line where it isn't there
-abbrev pub here : List ℕ → ℕ → List Line
-here text number = if (line_at text number).is_there then line_at text number ∷ [] else []
+pub here-there : (text : List ℕ) (line : ℕ) → (line_at text line).is_there ≡ true → here text line ≡ line_at text line ∷ []
+here-there text line e = rw e refl
+
+pub here-not : (text : List ℕ) (line : ℕ) → (line_at text line).is_there ≡ false → here text line ≡ []
+here-not text line e = rw e refl
 
 one_more : (b : Bool) (x : Line) (xs : List Line) → cond b (x ∷ xs) xs ≡ (if b then x ∷ [] else []) ++ xs
 one_more true x xs = refl

@@ -1,5 +1,5 @@
 -- The lines of a text by their numbers, which count from 1.
-use Rattle.std.specs.Prelude.{ℕ, ◌-◌, false, None, List, [], filter, take, drop, slice_index_or}
+use Rattle.std.specs.Prelude.{ℕ, ◌-◌, false, None, List, [], ◌∷◌, if◌then◌else◌, filter, take, drop, slice_index_or}
 use Rattle.ps_model.specs.declared.texts.Section.TheVariants.{Prelude}
 use Rattle.ps_model.specs.Lines.{Line, lines_of}
 
@@ -14,3 +14,7 @@ line_at text number = slice_index_or (lines_of text) (number - 1) no_line
 -- the lines from one number to before another, without those that aren't there
 abbrev pub lines_between : List ℕ → ℕ → ℕ → List Line
 lines_between text from to = filter (λ line. line.is_there) (take (to - from) (drop (from - 1) (lines_of text)))
+
+-- the line of a number alone, or no line where it isn't there
+abbrev pub here : List ℕ → ℕ → List Line
+here text number = if (line_at text number).is_there then line_at text number ∷ [] else []

@@ -16,7 +16,7 @@ use Rattle.ps_levels.specs.declared.fault.LevelFault.{LevelFault}
 use Rattle.ps_levels.specs.declared.fault.LevelFault.TheVariants.{Refused}
 use Rattle.ps_levels.specs.Cells.{cells_shown, rows_shown}
 use Rattle.ps_levels.specs.RowFaults.{level_faults_by}
-use Rattle.ps_levels.proofs.LinesBetween.{number-line_at}
+use Rattle.ps_model.proofs.LinesInOrder.{line_at-number}
 use Rattle.ps_levels.proofs.LevelSteps.{one-line, fault-in-first, first-fine, fault-of-place, faults-below}
 use Rattle.ps_levels.proofs.RowSteps.{rows-counted}
 use Rattle.ps_levels.proofs.level.read_rows.Goals as goal
@@ -51,7 +51,7 @@ returns-then-place-eq-ENTRY_LIMIT-clause-refused c = λ fault e.
     let told : TheFault = record { kind = TooManyEntries; line = c.args.lines.start } in
     let same : told ≡ fault = cc in
     let over : c.args.place ≡ entry_limit = grind (arith, nat_tests) in
-    fault-of-place names c.args.width c.args.place c.args.lines.start first below fine over (number-line_at text c.args.lines.start c.requires.from_one (omega arith)) ∙ ap Some same
+    fault-of-place names c.args.width c.args.place c.args.lines.start first below fine over (line_at-number text c.args.lines.start c.requires.from_one (omega arith)) ∙ ap Some same
 
 pub returns-in_err-add_rows-2-clause-refused : goal.returns-in_err-add_rows-2-clause-refused
 returns-in_err-add_rows-2-clause-refused c =

@@ -4,7 +4,7 @@ use Rattle.ps_model.specs.declared.faults.Fault.{Fault as TheFault}
 use Rattle.ps_model.specs.declared.faults.FaultKind.TheVariants.{TooManyEntries}
 use Rattle.ps_model.specs.Limits.{entry_limit}
 use Rattle.ps_model.specs.LineNumbers.{line_at}
-use Rattle.ps_levels.proofs.LinesBetween.{number-line_at}
+use Rattle.ps_model.proofs.LinesInOrder.{line_at-number}
 use Rattle.ps_levels.proofs.EntrySteps.{over-limit}
 use Rattle.ps_levels.proofs.levels.add_message.Goals as goal
 
@@ -13,4 +13,4 @@ returns-then-len-eq-ENTRY_LIMIT-clause-refused c = λ fault e.
     let told : TheFault = record { kind = TooManyEntries; line = c.args.line } in
     let same : told ≡ fault = cc in
     let over : length c.args.entries.now.items ≡ entry_limit = omega arith in
-    over-limit (length c.args.entries.now.items) c.args.line (line_at c.args.source.now c.args.line) over (number-line_at c.args.source.now c.args.line c.requires.from_one c.requires.there) ∙ ap Some same
+    over-limit (length c.args.entries.now.items) c.args.line (line_at c.args.source.now c.args.line) over (line_at-number c.args.source.now c.args.line c.requires.from_one c.requires.there) ∙ ap Some same

@@ -9,7 +9,7 @@ use Rattle.ps_model.specs.LevelFaults.{entries_faults}
 use Rattle.ps_model.specs.LevelLines.{entry_lines, entries_read}
 use Rattle.ps_levels.specs.declared.levels.Entry as code
 use Rattle.ps_levels.specs.EntriesShown.{entries_shown, is_level_entry}
-use Rattle.ps_levels.proofs.LinesBetween.{between-end}
+use Rattle.ps_model.proofs.LinesInOrder.{between-end}
 use Rattle.ps_levels.proofs.EntrySteps.{levels-fine, no-level}
 use Rattle.ps_levels.proofs.levels.read_levels.Goals as goal
 

@@ -10,9 +10,9 @@ use Rattle.ps_model.specs.LevelFaults.{rows_faults}
 use Rattle.ps_model.specs.LevelLines.{row_cells}
 use Rattle.ps_levels.specs.declared.fault.LevelFault.{LevelFault}
 use Rattle.ps_levels.specs.declared.fault.LevelFault.TheVariants.{Refused}
-use Rattle.ps_levels.specs.Here.{here}
+use Rattle.ps_model.specs.LineNumbers.{here}
 use Rattle.ps_levels.specs.Cells.{cells_shown, rows_shown}
-use Rattle.ps_levels.proofs.LinesBetween.{between-step}
+use Rattle.ps_model.proofs.LinesInOrder.{between-step}
 use Rattle.ps_levels.proofs.RowSteps.{first-of-rows, none-of-rows, rows-more, rows-counted}
 use Rattle.ps_levels.proofs.rows.add_rows.Goals as goal
 

@@ -9,7 +9,7 @@ use Rattle.ps_model.specs.LineNumbers.{line_at}
 use Rattle.ps_model.specs.Lines.{Line}
 use Rattle.ps_levels.specs.Cells.{meanings_shown, objects_of}
 use Rattle.ps_levels.specs.RowFaults.{faults_of_meanings}
-use Rattle.ps_levels.proofs.LinesBetween.{number-line_at}
+use Rattle.ps_model.proofs.LinesInOrder.{line_at-number}
 use Rattle.ps_levels.proofs.RowSteps.{faults-seen, cells-by-meanings, none-first}
 use Rattle.ps_levels.proofs.rows.read_row.Goals as goal
 
@@ -21,7 +21,7 @@ returns-in-Some-clause-refused c = λ fault e.
     let told : TheFault = c.in-Some.fault in
     let same : told ≡ fault = cc in
     let of : meanings_shown found ≡ map (character_meaning names) (of_width c.args.width c.in_ok-characters.characters.items) = search rules in
-    let seen = faults-seen names c.args.width c.args.place c.written-written.result c.args.line row c.in_ok-characters.characters.items found c.front.result.now c.in_ok-characters.ensures (number-line_at c.args.source.now c.args.line c.requires.from_one c.requires.there) (search rules) of (search rules) in
+    let seen = faults-seen names c.args.width c.args.place c.written-written.result c.args.line row c.in_ok-characters.characters.items found c.front.result.now c.in_ok-characters.ensures (line_at-number c.args.source.now c.args.line c.requires.from_one c.requires.there) (search rules) of (search rules) in
     ap first_fault (sym seen) ∙ sym c.row_fault.ensures ∙ c.in-Some.is ∙ ap Some same
 
 pub returns-clause-part : goal.returns-clause-part
@@ -40,5 +40,5 @@ returns-clause-fine c =
     let found = c.in_ok-meanings.meanings.items in
     let none : c.row_fault.result ≡ None = search rules in
     let of : meanings_shown found ≡ map (character_meaning names) (of_width c.args.width c.in_ok-characters.characters.items) = search rules in
-    let seen = faults-seen names c.args.width c.args.place c.written-written.result c.args.line row c.in_ok-characters.characters.items found c.front.result.now c.in_ok-characters.ensures (number-line_at c.args.source.now c.args.line c.requires.from_one c.requires.there) (search rules) of (search rules) in
+    let seen = faults-seen names c.args.width c.args.place c.written-written.result c.args.line row c.in_ok-characters.characters.items found c.front.result.now c.in_ok-characters.ensures (line_at-number c.args.source.now c.args.line c.requires.from_one c.requires.there) (search rules) of (search rules) in
     none-first (row_faults names c.args.width c.args.place row) (ap first_fault (sym seen) ∙ sym c.row_fault.ensures ∙ none)

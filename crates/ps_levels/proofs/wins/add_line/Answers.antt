@@ -5,8 +5,8 @@ use Rattle.ps_model.specs.LineNumbers.{line_at}
 use Rattle.ps_model.specs.WinLines.{win_faults_of, win_faults}
 use Rattle.ps_levels.specs.declared.fault.WinFault.{WinFault}
 use Rattle.ps_levels.specs.declared.fault.WinFault.TheVariants.{Refused}
-use Rattle.ps_levels.specs.Here.{here}
-use Rattle.ps_levels.proofs.FirstFault.{faults-here}
+use Rattle.ps_model.specs.LineNumbers.{here}
+use Rattle.ps_model.proofs.FirstFaults.{faults-here}
 use Rattle.ps_levels.proofs.wins.add_line.Goals as goal
 
 pub returns-in_err-win-clause-refused : goal.returns-in_err-win-clause-refused

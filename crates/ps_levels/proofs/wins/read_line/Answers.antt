@@ -5,7 +5,7 @@ use Rattle.ps_model.specs.LineNumbers.{line_at}
 use Rattle.ps_model.specs.Lines.{Line, is_blank_line}
 use Rattle.ps_model.specs.WinLines.{win_text, win_read, WinText}
 use Rattle.ps_levels.specs.WinsShown.{words_shown}
-use Rattle.ps_levels.proofs.LinesBetween.{number-line_at}
+use Rattle.ps_model.proofs.LinesInOrder.{line_at-number}
 use Rattle.ps_levels.proofs.WinSteps.{bad-win, unknown-win-name}
 use Rattle.ps_levels.proofs.wins.read_line.Goals as goal
 
@@ -16,7 +16,7 @@ returns-in_default-clause-refused c = λ fault e.
     let blank : is_blank_line line ≡ false = search rules in
     let told : TheFault = record { kind = BadWin; line = c.args.line } in
     let same : told ≡ fault = cc in
-    bad-win c.args.names.now line c.args.line (number-line_at c.args.source.now c.args.line c.requires.from_one c.requires.there) blank none ∙ ap Some same
+    bad-win c.args.names.now line c.args.line (line_at-number c.args.source.now c.args.line c.requires.from_one c.requires.there) blank none ∙ ap Some same
 
 pub returns-in_default-2-clause-refused : goal.returns-in_default-2-clause-refused
 returns-in_default-2-clause-refused c = λ fault e.
@@ -26,4 +26,4 @@ returns-in_default-2-clause-refused c = λ fault e.
     let lost : win_read c.args.names.now text ≡ None = search rules in
     let told : TheFault = record { kind = UnknownWinName; line = c.args.line } in
     let same : told ≡ fault = cc in
-    unknown-win-name c.args.names.now line c.args.line text (number-line_at c.args.source.now c.args.line c.requires.from_one c.requires.there) found lost ∙ ap Some same
+    unknown-win-name c.args.names.now line c.args.line text (line_at-number c.args.source.now c.args.line c.requires.from_one c.requires.there) found lost ∙ ap Some same

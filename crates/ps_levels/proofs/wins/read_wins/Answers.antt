@@ -5,10 +5,10 @@ use Rattle.ps_model.specs.LineNumbers.{lines_between}
 use Rattle.ps_model.specs.WinLines.{win_faults_of, win_faults}
 use Rattle.ps_levels.specs.declared.fault.WinFault.{WinFault}
 use Rattle.ps_levels.specs.declared.fault.WinFault.TheVariants.{Refused}
-use Rattle.ps_levels.specs.Here.{here}
+use Rattle.ps_model.specs.LineNumbers.{here}
 use Rattle.ps_levels.specs.WinsShown.{wins_shown}
-use Rattle.ps_levels.proofs.LinesBetween.{between-step}
-use Rattle.ps_levels.proofs.FirstFault.{first-of-lines, none-of-lines}
+use Rattle.ps_model.proofs.LinesInOrder.{between-step}
+use Rattle.ps_model.proofs.FirstFaults.{first-of-lines, none-of-lines}
 use Rattle.ps_levels.proofs.WinSteps.{wins-more}
 use Rattle.ps_levels.proofs.wins.read_wins.Goals as goal
 

@@ -1,8 +1,0 @@
--- The line of one number, if it is there.
-use Rattle.std.specs.Prelude.{ℕ, List, [], ◌∷◌, if◌then◌else◌}
-use Rattle.ps_model.specs.Lines.{Line}
-use Rattle.ps_model.specs.LineNumbers.{line_at}
-
--- that line alone, or no line
-abbrev pub here : List ℕ → ℕ → List Line
-here text line = if (line_at text line).is_there then line_at text line ∷ [] else []
