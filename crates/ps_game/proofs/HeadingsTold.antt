@@ -1,5 +1,5 @@
 -- The faults of headers and prelude are those that one pass tells.
-use Rattle.std.proofs.Common.{◌≡◌, ℕ, suc, ◌+◌, ◌<◌, ◌≤◌, Bool, true, false, ◌&&◌, ◌||◌, List, [], ◌∷◌, ◌++◌, filter, flat_map, Option, Some, None, append_assoc, refl, sym, ap, ap₂, ◌∙◌, arith}
+use Rattle.std.proofs.Common.{◌≡◌, ℕ, suc, ◌<◌, ◌≤◌, Bool, true, false, ◌&&◌, ◌||◌, List, [], ◌∷◌, ◌++◌, flat_map, Option, Some, None, append_assoc, refl, sym, ap, ap₂, ◌∙◌, arith}
 use Rattle.std.specs.Prelude.{⊤, nat_lt, nat_le, cond, if◌then◌else◌}
 use Rattle.std.specs.List.{list_any}
 use Rattle.std.specs.Option.{option_or}
@@ -9,12 +9,11 @@ use Rattle.std.proofs.Math.Bool.{or-false}
 use Rattle.ps_model.specs.declared.texts.Section.{Section}
 use Rattle.ps_model.specs.declared.texts.Section.TheVariants.{Prelude}
 use Rattle.ps_model.specs.declared.faults.Fault.{Fault}
-use Rattle.ps_model.specs.declared.faults.FaultKind.{FaultKind}
 use Rattle.ps_model.specs.declared.faults.FaultKind.TheVariants.{SectionOrder, Realtime}
 use Rattle.ps_model.specs.Faults.{when, first_fault}
 use Rattle.ps_model.specs.Lines.{Line, lines_of}
 use Rattle.ps_model.specs.Sections.{rank, header_lines, is_out_of_order, is_real_time, heading_faults_of}
-use Rattle.ps_model.proofs.LinesInOrder.{IsBelow, AreInOrder, in_order}
+use Rattle.ps_model.proofs.LinesInOrder.{AreInOrder, in_order}
 use Rattle.ps_game.specs.Headings.{is_late_header, fault_by, heading_fault, place_below, headings_told}
 
 -- the header's section has no earlier place than that

@@ -1,5 +1,5 @@
 -- What the boundaries of a text's sections tell.
-use Rattle.std.proofs.Common.{◌≡◌, ℕ, suc, ◌+◌, ◌-◌, ◌<◌, ◌≤◌, Bool, true, false, ◌&&◌, List, [], ◌++◌, length, Option, Some, None, refl, sym, ap, ◌∙◌, arith}
+use Rattle.std.proofs.Common.{◌≡◌, ℕ, suc, ◌+◌, ◌-◌, ◌<◌, ◌≤◌, Bool, true, false, ◌&&◌, List, [], ◌++◌, length, Some, None, refl, ap, ◌∙◌, arith}
 use Rattle.std.specs.Prelude.{nat_lt, not, if◌then◌else◌}
 use Rattle.std.proofs.lemmas.Bool.Decides.{nat_tests}
 use Rattle.std.specs.List.{flat_map}
@@ -9,10 +9,9 @@ use Rattle.ps_model.specs.declared.faults.Fault.{Fault}
 use Rattle.ps_model.specs.declared.faults.FaultKind.TheVariants.{NoSection}
 use Rattle.ps_model.specs.Faults.{when, first_fault}
 use Rattle.ps_model.specs.Lines.{Line, lines_of}
-use Rattle.ps_model.specs.LineNumbers.{lines_between}
 use Rattle.ps_model.specs.Sections.{rank, header_lines, header_number, has_section, is_without_section, heading_faults, heading_faults_of}
 use Rattle.ps_game.specs.Headings.{headings_told}
-use Rattle.ps_game.specs.SectionPlaces.{boundary, IsStretch, IsSection}
+use Rattle.ps_game.specs.SectionPlaces.{boundary, IsSection}
 use Rattle.ps_model.proofs.FirstFaults.{first-front, none-first}
 use Rattle.ps_game.proofs.HeadingsTold.{headings-told}
 use Rattle.ps_game.proofs.SectionLines.{prelude_told, section_told, section_has, header_told}

@@ -114,21 +114,21 @@ other_source = readings_of (with_name (codes "ac") ac) (codes "right [ AC | Crat
 -- Player, who goes right, rests; and Wall keeps its motion
 abbrev other_cells : List CompiledCell
 other_cells = record {
-    mask = record { needed = []; barred = []; one_of = (object 5 ∷ object 7 ∷ []) ∷ []; motions = [] };
-    write = record { gone = []; layers = record { layer = 3; object = Leave; motion = Some (Going Right) } ∷ [] };
-  } ∷ record {
-    mask = record { needed = object 3 ∷ []; barred = object 4 ∷ []; one_of = []; motions = [] };
-    write = record { gone = []; layers = record { layer = 2; object = Clear; motion = None } ∷ [] };
-  } ∷ record {
-    mask = record { needed = []; barred = []; one_of = []; motions = [] };
-    write = record { gone = object 3 ∷ []; layers = [] };
-  } ∷ record {
-    mask = record { needed = object 2 ∷ []; barred = []; one_of = []; motions = record { layer = 2; motion = Going Right } ∷ [] };
-    write = record { gone = []; layers = record { layer = 2; object = Put (object 2); motion = Some Still } ∷ [] };
-  } ∷ record {
-    mask = record { needed = object 1 ∷ []; barred = []; one_of = []; motions = [] };
-    write = record { gone = []; layers = record { layer = 2; object = Put (object 1); motion = None } ∷ [] };
-  } ∷ []
+  mask = record { needed = []; barred = []; one_of = (object 5 ∷ object 7 ∷ []) ∷ []; motions = [] };
+  write = record { gone = []; layers = record { layer = 3; object = Leave; motion = Some (Going Right) } ∷ [] };
+} ∷ record {
+  mask = record { needed = object 3 ∷ []; barred = object 4 ∷ []; one_of = []; motions = [] };
+  write = record { gone = []; layers = record { layer = 2; object = Clear; motion = None } ∷ [] };
+} ∷ record {
+  mask = record { needed = []; barred = []; one_of = []; motions = [] };
+  write = record { gone = object 3 ∷ []; layers = [] };
+} ∷ record {
+  mask = record { needed = object 2 ∷ []; barred = []; one_of = []; motions = record { layer = 2; motion = Going Right } ∷ [] };
+  write = record { gone = []; layers = record { layer = 2; object = Put (object 2); motion = Some Still } ∷ [] };
+} ∷ record {
+  mask = record { needed = object 1 ∷ []; barred = []; one_of = []; motions = [] };
+  write = record { gone = []; layers = record { layer = 2; object = Put (object 1); motion = None } ∷ [] };
+} ∷ []
 
 abbrev other_compiled : List RuleMeaning
 other_compiled = meaning_of_rule (record { direction = Right; rows = (other_cells ∷ []) ∷ []; rewrites = true; commands = no_commands }) ∷ []

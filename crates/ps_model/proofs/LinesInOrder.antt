@@ -1,7 +1,7 @@
 -- What holds of the lines of each text: they are numbered from 1 on, and each stands in the section of the line above, but for
 -- headers, which never begin the prelude.
-use Rattle.std.proofs.Common.{◌≡◌, ℕ, zero, suc, ◌+◌, ◌-◌, ◌<◌, ◌≤◌, Bool, true, false, cond, List, [], ◌∷◌, ◌++◌, length, take, drop, get_or, filter, Option, None, Some, refl, sym, ap, ◌∙◌, arith}
-use Rattle.std.specs.Prelude.{⊤, if◌then◌else◌, unwrap_or, is_some, slice_index_or}
+use Rattle.std.proofs.Common.{◌≡◌, ℕ, zero, suc, ◌+◌, ◌-◌, ◌<◌, ◌≤◌, Bool, true, false, cond, List, [], ◌∷◌, ◌++◌, length, drop, get_or, Option, None, Some, refl, sym, ap, ◌∙◌, arith}
+use Rattle.std.specs.Prelude.{⊤, if◌then◌else◌, unwrap_or, is_some}
 use Rattle.std.specs.List.{slice_split}
 use Rattle.std.specs.Map.{lookup}
 use Rattle.std.specs.Str.{bytes_eq}
@@ -56,8 +56,7 @@ pub in_order_from : (number start depth : ℕ) (above : Section) (raws : List (L
 in_order_from number start depth above [] = tt
 in_order_from number start depth above (raw ∷ others) =
     let plain : List ℕ = without_comments depth raw in
-    let section : Section = unwrap_or (header_of plain) above in
-    (
+    let section : Section = unwrap_or (header_of plain) above in (
       refl,
       (
         below_by above _ (header_of plain) (λ section e. later_words (word_texts Plain plain) section e) refl refl,

@@ -119,13 +119,13 @@ restart_and_win = refl
 
 -- a turn that changes nothing doesn't come again; its message and its win count
 again_and_win : outcomes Action (codes "[ action Player ] -> again win message Hi\n") (codes "P\n") ≡ Some (Finished (record {
-    board = record { width = 1; height = 1; layers = 4; cells = (Holds (object 0) Still ∷ Bare ∷ Holds (object 2) Still ∷ Bare ∷ []) ∷ [] };
-    changed = false;
-    message = Some (codes "Hi");
-    checkpoint = false;
-    win = true;
-    again = false;
-  }) ∷ [])
+  board = record { width = 1; height = 1; layers = 4; cells = (Holds (object 0) Still ∷ Bare ∷ Holds (object 2) Still ∷ Bare ∷ []) ∷ [] };
+  changed = false;
+  message = Some (codes "Hi");
+  checkpoint = false;
+  win = true;
+  again = false;
+}) ∷ [])
 unfolding chars is_utf8 utf8_valid_len encode group program_run
 again_and_win = refl
 

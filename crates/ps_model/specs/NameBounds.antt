@@ -1,6 +1,6 @@
 -- What holds of the names of every game: objects and layers are no more than the limits; each object lies on one of the layers;
 -- and every object that a name or a glyph speaks of is one of the game's.
-use Rattle.std.specs.Prelude.{ℕ, ◌≤◌, ◌<◌, length, All}
+use Rattle.std.specs.Prelude.{ℕ, ◌≤◌, ◌<◌, All}
 use Rattle.ps_model.specs.Limits.{object_limit, layer_limit}
 use Rattle.ps_model.specs.Names.{Meaning, Names, members, object_count}
 

@@ -1,4 +1,4 @@
-use Rattle.std.proofs.Common.{◌≡◌, ◌∙◌, sym, ap, ap₂, ℕ, Bool}
+use Rattle.std.proofs.Common.{◌∙◌, sym, ap, ap₂, ℕ}
 use Rattle.ps_model.specs.LineNumbers.{line_at}
 use Rattle.ps_model.specs.Sections.{is_real_time}
 use Rattle.ps_model.proofs.LinesInOrder.{line_at-number}

@@ -1,4 +1,4 @@
-use Rattle.std.proofs.Common.{◌≡◌, ◌≤◌}
+use Rattle.std.proofs.Common.{◌≤◌}
 use Rattle.ps_game.specs.SectionPlaces.{boundary}
 use Rattle.ps_game.proofs.sections.boundary.Given as goal
 

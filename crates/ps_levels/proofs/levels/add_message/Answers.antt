@@ -1,5 +1,4 @@
-use Rattle.std.proofs.Common.{rules, ◌≡◌, ◌∙◌, ap, length, Some, arith}
-use Rattle.std.proofs.lemmas.Bool.Decides.{nat_tests}
+use Rattle.std.proofs.Common.{◌≡◌, ◌∙◌, ap, length, Some, arith}
 use Rattle.ps_model.specs.declared.faults.Fault.{Fault as TheFault}
 use Rattle.ps_model.specs.declared.faults.FaultKind.TheVariants.{TooManyEntries}
 use Rattle.ps_model.specs.Limits.{entry_limit}
