@@ -83,6 +83,7 @@ impl Source {
         ensures short { IfOk result (λ source. length source ≤ text_limit) }
         ensures fine { OnOk result (text_fault bytes.now ≡ None) }
         ensures refused { IfErr result (λ error. (fault : TheFault) → error ≡ TextFault.Refused fault → text_fault bytes.now ≡ Some fault) }
+        ensures refuses { (fault : TheFault) → text_fault bytes.now ≡ Some fault → result ≡ Err (TextFault.Refused fault) }
     {
         let text = checked(bytes)?;
         let rows = table(alloc, text)?;
