@@ -6,6 +6,10 @@ use Rattle.ps_model.specs.Limits.{entry_limit}
 use Rattle.ps_model.specs.LineNumbers.{line_at}
 use Rattle.ps_levels.proofs.LinesBetween.{number-line_at}
 use Rattle.ps_levels.proofs.EntrySteps.{over-limit}
+use Rattle.ps_model.specs.Lines.{taken_bytes}
+use Rattle.ps_model.specs.LevelLines.{MessageEntry}
+use Rattle.ps_levels.specs.EntriesShown.{entries_shown}
+use Rattle.ps_levels.proofs.SizedLevels.{shown-columns-more}
 use Rattle.ps_levels.proofs.levels.add_message.Goals as goal
 
 pub returns-then-len-eq-ENTRY_LIMIT-clause-refused : goal.returns-then-len-eq-ENTRY_LIMIT-clause-refused
@@ -14,3 +18,6 @@ returns-then-len-eq-ENTRY_LIMIT-clause-refused c = λ fault e.
     let same : told ≡ fault = cc in
     let over : length c.args.entries.now.items ≡ entry_limit = omega arith in
     over-limit (length c.args.entries.now.items) c.args.line (line_at c.args.source.now c.args.line) over (number-line_at c.args.source.now c.args.line c.requires.from_one c.requires.there) ∙ ap Some same
+
+pub returns-clause-columns : goal.returns-clause-columns
+returns-clause-columns c = λ all. shown-columns-more c.args.entries.now.items c.push.new.self.items _ c.in_ok-push.ensures.items tt all
