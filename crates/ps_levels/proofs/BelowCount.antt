@@ -1,17 +1,17 @@
 -- The objects of a level are the game's.
-use Rattle.std.proofs.Common.{◌≡◌, ℕ, suc, ◌+◌, ◌<◌, ◌≤◌, ◌⊎◌, inl, inr, Bool, true, false, cond, List, [], ◌∷◌, ◌++◌, length, map, get_or, Option, None, Some, refl, sym, ap, ◌∙◌, subst, arith}
+use Rattle.std.proofs.Common.{◌≡◌, ℕ, suc, ◌<◌, ◌≤◌, ◌⊎◌, inl, inr, Bool, true, false, cond, List, [], ◌∷◌, ◌++◌, length, map, get_or, Option, None, Some, sym, subst, arith}
 use Rattle.std.specs.Prelude.{All, IfSome, encode_utf8, unwrap_or, find, slice_index_or, codes, if◌then◌else◌}
 use Rattle.std.specs.Char.{to_ascii_lowercase}
 use Rattle.std.specs.List.{flat_map, range_with_len}
 use Rattle.std.specs.Str.{bytes_eq}
 use Rattle.std.proofs.lemmas.Grind.{common_steps}
-use Rattle.std.proofs.lemmas.List.Elements.{All-cons, All-map, All-append, All-head, All-nil}
+use Rattle.std.proofs.lemmas.List.Elements.{All-cons, All-map, All-append, All-head}
 use Rattle.std.proofs.lemmas.Map.Entries.{All-lookup}
 use Rattle.ps_model.specs.declared.pieces.ObjectId.{ObjectId}
 use Rattle.ps_model.specs.Lines.{Line, folded}
 use Rattle.ps_model.specs.Names.{Names, Meaning, One, AllOf, AnyOf, object_count, meaning_of, members_if, members_named}
 use Rattle.ps_model.specs.NameBounds.{AreBounded, IsBelow}
-use Rattle.ps_model.specs.Levels.{shown_objects, is_ground, ground, with_ground, grounded}
+use Rattle.ps_model.specs.Levels.{is_ground, ground, with_ground, grounded}
 use Rattle.ps_model.specs.LevelFaults.{character_meaning}
 use Rattle.ps_model.specs.LevelLines.{characters_of, of_width, shown_in_level, row_cells, in_columns}
 use Rattle.ps_levels.specs.Cells.{objects_of}

@@ -1,9 +1,9 @@
 -- Entries of LEVELS, an entry further.
-use Rattle.std.proofs.Common.{◌≡◌, ℕ, suc, ◌+◌, ◌-◌, ◌<◌, ◌≤◌, Bool, true, false, ◌&&◌, List, [], ◌∷◌, ◌++◌, length, map, Option, None, Some, refl, sym, ap, ◌∙◌, append_assoc, arith}
-use Rattle.std.specs.Prelude.{not, nat_eq, if◌then◌else◌}
+use Rattle.std.proofs.Common.{◌≡◌, ℕ, suc, ◌+◌, ◌<◌, ◌≤◌, Bool, true, false, ◌&&◌, List, [], ◌∷◌, ◌++◌, length, map, Some, refl, sym, ap, ◌∙◌, append_assoc, arith}
+use Rattle.std.specs.Prelude.{not, nat_eq}
 use Rattle.std.specs.List.{take_while, list_any}
 use Rattle.std.proofs.lemmas.Bool.Decides.{nat_tests}
-use Rattle.std.proofs.lemmas.List.{map-append, length-map, length-append, append-nil}
+use Rattle.std.proofs.lemmas.List.{length-map, length-append}
 use Rattle.ps_model.specs.declared.faults.Fault.{Fault}
 use Rattle.ps_model.specs.declared.faults.FaultKind.TheVariants.{TooManyEntries, NoLevel}
 use Rattle.ps_model.specs.Faults.{first_fault, when}
@@ -11,9 +11,8 @@ use Rattle.ps_model.specs.Limits.{entry_limit}
 use Rattle.ps_model.specs.Lines.{Line, lines_of, is_blank_line}
 use Rattle.ps_model.specs.LineNumbers.{line_at, lines_between}
 use Rattle.ps_model.specs.Names.{Names}
-use Rattle.ps_model.specs.LevelLines.{Entry, EntryLines, MessageLine, LevelRows, is_message, is_row, entry_at, entries_at, entry_lines, entry_of, entries_read}
+use Rattle.ps_model.specs.LevelLines.{Entry, EntryLines, MessageLine, LevelRows, is_message, is_row, entries_at, entry_lines, entry_of, entries_read}
 use Rattle.ps_model.specs.LevelFaults.{too_many, entry_faults, entries_faults, is_level, level_faults}
-use Rattle.ps_levels.specs.Here.{here}
 use Rattle.ps_levels.specs.EntriesShown.{is_level_entry, level_lines}
 use Rattle.ps_levels.proofs.LinesBetween.{between-step, here-there, here-not}
 use Rattle.ps_levels.proofs.FirstFault.{first-append}

@@ -2,9 +2,8 @@
 use Rattle.std.proofs.Common.{◌≡◌, ℕ, ◌+◌, ◌<◌, Bool, true, false, cond, ◌||◌, List, [], ◌∷◌, ◌++◌, length, Option, None, Some, refl, sym, ap, ◌∙◌, arith}
 use Rattle.std.specs.Prelude.{find, is_some, if◌then◌else◌, codes}
 use Rattle.std.specs.List.{list_any}
-use Rattle.std.specs.Str.{bytes_eq}
-use Rattle.std.proofs.Common.{suc, get_or, drop, subst}
-use Rattle.std.specs.Prelude.{All, unwrap_or, slice_index_or}
+use Rattle.std.proofs.Common.{suc, get_or, drop}
+use Rattle.std.specs.Prelude.{unwrap_or, slice_index_or}
 use Rattle.std.specs.Option.{option_or}
 use Rattle.std.specs.List.{flat_map}
 use Rattle.std.specs.Borrow.{Bor}
@@ -12,13 +11,13 @@ use Rattle.std.proofs.Common.{map, take, ◌≤◌}
 use Rattle.std.specs.Prelude.{nat_eq}
 use Rattle.std.proofs.Math.Seq.{drop-cons, take-suc}
 use Rattle.std.proofs.lemmas.Grind.{common_steps}
-use Rattle.std.proofs.lemmas.List.{get_or-map, length-map, map-append}
+use Rattle.std.proofs.lemmas.List.{map-append}
 use Rattle.ps_model.specs.Names.{layer_of, members_named}
 use Rattle.ps_model.specs.Levels.{ground, grounded}
 use Rattle.std.proofs.lemmas.List.Folds.{find-append}
 use Rattle.ps_levels.specs.Cells.{cells_shown}
 use Rattle.ps_model.specs.declared.pieces.ObjectId.{ObjectId}
-use Rattle.ps_model.specs.Names.{Names, One, meaning_of, object_count}
+use Rattle.ps_model.specs.Names.{Names}
 use Rattle.ps_model.specs.Levels.{is_ground, with_ground}
 
 any_by : {X : Type 0} (x : X) (b : Bool) (found : Option X) (rest : Bool) → rest ≡ is_some found → (b || rest) ≡ is_some (cond b (Some x) found)

@@ -1,25 +1,20 @@
 -- A row of a level, and rows one below the other.
-use Rattle.std.proofs.Common.{◌≡◌, ℕ, zero, suc, ◌+◌, ◌-◌, ◌<◌, ◌≤◌, Bool, true, false, List, [], ◌∷◌, ◌++◌, length, map, take, replicate, Option, None, Some, refl, sym, ap, ◌∙◌, append_assoc, arith}
-use Rattle.std.specs.Prelude.{is_some, not}
+use Rattle.std.proofs.Common.{◌≡◌, ℕ, suc, ◌+◌, ◌≤◌, Bool, List, [], ◌∷◌, ◌++◌, length, map, take, Option, None, Some, refl, sym, ap, ◌∙◌, append_assoc, arith}
 use Rattle.std.specs.List.{list_any, take-map}
-use Rattle.std.proofs.lemmas.List.{append-nil, map-append, length-map, length-append}
+use Rattle.std.proofs.lemmas.List.{map-append, length-map, length-append}
 use Rattle.std.proofs.lemmas.Grind.{common_steps}
-use Rattle.ps_model.specs.declared.pieces.ObjectId.{ObjectId}
 use Rattle.ps_model.specs.declared.faults.Fault.{Fault}
 use Rattle.ps_model.specs.declared.faults.FaultKind.TheVariants.{UnknownGlyph, PropertyGlyph, TooLarge}
 use Rattle.ps_model.specs.Faults.{first_fault, when}
 use Rattle.ps_model.specs.Lines.{Line}
-use Rattle.ps_model.specs.LineNumbers.{line_at}
 use Rattle.ps_model.specs.Names.{Names, Meaning}
-use Rattle.ps_model.specs.LevelLines.{characters_of, last_character, of_width, shown_in_level, row_cells}
-use Rattle.ps_model.specs.LevelFaults.{character_meaning, is_unknown_glyph, is_property_glyph, is_property, is_too_large, row_faults, rows_faults}
+use Rattle.ps_model.specs.LevelLines.{characters_of, of_width, row_cells}
+use Rattle.ps_model.specs.LevelFaults.{character_meaning, is_unknown_glyph, is_property, is_too_large, row_faults, rows_faults}
 use Rattle.std.specs.Borrow.{Bor}
 use Rattle.ps_names.specs.declared.meaning.Meaning as code
 use Rattle.ps_levels.specs.Cells.{is_unknown, objects_of, meaning_seen, meanings_shown}
-use Rattle.ps_levels.specs.Here.{here}
 use Rattle.ps_levels.specs.RowFaults.{faults_of_meanings}
 use Rattle.ps_levels.proofs.FirstFault.{first-append}
-use Rattle.ps_levels.proofs.LinesBetween.{here-there}
 
 any-map : {A B : Type 0} (f : A → B) (test : B → Bool) (xs : List A) → list_any test (map f xs) ≡ list_any (λ x. test (f x)) xs
 any-map f test [] = refl

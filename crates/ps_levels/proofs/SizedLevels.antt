@@ -1,5 +1,5 @@
 -- What holds of the levels of lines without faults.
-use Rattle.std.proofs.Common.{◌≡◌, ℕ, suc, ◌+◌, ◌*◌, ◌<◌, ◌≤◌, List, [], ◌∷◌, ◌++◌, length, map, get_or, refl, sym, ap, ◌∙◌, subst, arith}
+use Rattle.std.proofs.Common.{◌≡◌, ℕ, suc, ◌+◌, ◌*◌, List, [], ◌∷◌, ◌++◌, length, map, get_or, sym, ap, ◌∙◌, subst, arith}
 use Rattle.std.specs.Prelude.{All}
 use Rattle.std.specs.List.{flat_map, range_with_len}
 use Rattle.std.proofs.Math.Nat.{suc-mul}
@@ -7,17 +7,15 @@ use Rattle.std.proofs.lemmas.List.{length-map, length-append, map-append}
 use Rattle.std.proofs.lemmas.List.FromFn.{length-range_with_len}
 use Rattle.std.proofs.lemmas.List.Elements.{All-cons, All-head, All-append}
 use Rattle.ps_model.specs.declared.pieces.ObjectId.{ObjectId}
-use Rattle.ps_model.specs.declared.faults.Fault.{Fault}
-use Rattle.ps_model.specs.Limits.{side_limit}
 use Rattle.ps_model.specs.Lines.{Line}
 use Rattle.ps_model.specs.Names.{Names}
 use Rattle.ps_model.specs.NameBounds.{AreBounded}
 use Rattle.ps_model.specs.Levels.{grounded, ground, with_ground}
 use Rattle.ps_model.specs.LevelLines.{Entry, EntryLines, MessageLine, LevelRows, characters_of, row_cells, in_columns, entry_of, entry_lines, entries_read}
-use Rattle.ps_model.specs.LevelFaults.{entry_faults, entries_faults, level_faults}
+use Rattle.ps_model.specs.LevelFaults.{entry_faults, entries_faults}
 use Rattle.ps_levels.specs.declared.levels.Entry as code
 use Rattle.ps_levels.specs.EntriesShown.{entry_shown, entries_shown}
-use Rattle.ps_levels.specs.Sized.{IsSized, IsSizedEntry, HasColumn}
+use Rattle.ps_levels.specs.Sized.{IsSizedEntry, HasColumn}
 use Rattle.ps_levels.proofs.LevelSteps.{none-left, none-right, level-narrow, level-low}
 use Rattle.ps_levels.proofs.BelowCount.{level-below}
 

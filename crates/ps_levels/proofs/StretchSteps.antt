@@ -7,7 +7,7 @@ use Rattle.std.proofs.lemmas.List.{drop-drop, append-nil}
 use Rattle.std.proofs.lemmas.List.Elements.{filter-append}
 use Rattle.ps_model.specs.Lines.{Line, lines_of, is_blank_line}
 use Rattle.ps_model.specs.LineNumbers.{line_at, lines_between}
-use Rattle.ps_model.specs.LevelLines.{EntryLines, MessageLine, LevelRows, is_message, is_row, entry_at, entries_at}
+use Rattle.ps_model.specs.LevelLines.{EntryLines, MessageLine, LevelRows, is_message, is_row, entries_at}
 use Rattle.ps_levels.specs.Here.{here}
 use Rattle.ps_levels.proofs.LinesBetween.{between-step, between-end}
 

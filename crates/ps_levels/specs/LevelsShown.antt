@@ -1,9 +1,7 @@
 -- Levels and messages of the code as those of the definitions.
-use Rattle.std.specs.Prelude.{ℕ, ◌+◌, Bool, true, false, List, map}
+use Rattle.std.specs.Prelude.{ℕ, ◌+◌, List}
 use Rattle.ps_model.specs.LevelLines.{EntryLines, LevelRows}
-use Rattle.ps_model.specs.LevelLines as model
 use Rattle.ps_model.specs.LineNumbers.{line_at, lines_between}
-use Rattle.ps_levels.specs.declared.level.Level.{Level}
 
 -- the rows of a level, from the line of its first to before another line
 abbrev pub rows_at : List ℕ → ℕ → ℕ → EntryLines

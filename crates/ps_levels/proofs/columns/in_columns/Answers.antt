@@ -1,4 +1,4 @@
-use Rattle.std.proofs.Common.{◌≡◌, ◌∙◌, ◌++◌, [], sym, ap, map, get_or, List}
+use Rattle.std.proofs.Common.{◌∙◌, ◌++◌, [], sym, ap, map, get_or, List}
 use Rattle.ps_model.specs.declared.pieces.ObjectId.{ObjectId}
 use Rattle.ps_levels.specs.Cells.{rows_shown}
 use Rattle.ps_levels.proofs.ColumnSteps.{column_more}

@@ -1,7 +1,7 @@
 use Rattle.std.proofs.Common.{◌≡◌, drop}
 use Rattle.std.specs.List.{list_any}
 use Rattle.ps_model.specs.LevelFaults.{is_property}
-use Rattle.ps_levels.specs.Cells.{meanings_shown, is_unknown}
+use Rattle.ps_levels.specs.Cells.{meanings_shown}
 use Rattle.ps_levels.proofs.glyphs.has_property.Given as goal
 
 abbrev pub invariant-loop-meaning : goal.invariant-loop-meaning

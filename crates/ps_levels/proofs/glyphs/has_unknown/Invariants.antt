@@ -1,6 +1,5 @@
 use Rattle.std.proofs.Common.{◌≡◌, drop}
 use Rattle.std.specs.List.{list_any}
-use Rattle.ps_model.specs.LevelFaults.{is_property}
 use Rattle.ps_levels.specs.Cells.{meanings_shown, is_unknown}
 use Rattle.ps_levels.proofs.glyphs.has_unknown.Given as goal
 

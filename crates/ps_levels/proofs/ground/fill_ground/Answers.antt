@@ -1,5 +1,4 @@
-use Rattle.std.proofs.Common.{rules, ◌≡◌, ◌∙◌, ◌+◌, [], sym, ap, arith, Some, None, List, ℕ, Option, get_or}
-use Rattle.std.specs.Prelude.{find, nat_eq, unwrap_or, Bool}
+use Rattle.std.proofs.Common.{◌∙◌, [], arith, List}
 use Rattle.std.specs.Borrow.{Bor}
 use Rattle.ps_model.specs.declared.pieces.ObjectId.{ObjectId}
 use Rattle.ps_model.specs.Levels.{with_ground}

@@ -1,4 +1,4 @@
-use Rattle.std.proofs.Common.{rules, ◌≡◌, ◌≤◌, ◌∙◌, ◌+◌, ◌∷◌, suc, [], ap, sym, List, ℕ, length, map, arith}
+use Rattle.std.proofs.Common.{◌≡◌, ◌≤◌, ◌∙◌, ◌+◌, ◌∷◌, suc, ap, sym, List, length, arith}
 use Rattle.std.specs.Prelude.{Vec}
 use Rattle.std.specs.Global.{Global}
 use Rattle.std.specs.Borrow.{Bor}
@@ -8,7 +8,7 @@ use Rattle.ps_model.specs.Limits.{side_limit}
 use Rattle.ps_model.specs.Lines.{Line}
 use Rattle.ps_model.specs.LineNumbers.{line_at, lines_between}
 use Rattle.ps_model.specs.Levels.{grounded}
-use Rattle.ps_model.specs.LevelLines.{characters_of, row_cells, in_columns}
+use Rattle.ps_model.specs.LevelLines.{row_cells, in_columns}
 use Rattle.ps_levels.specs.Cells.{cells_shown, rows_shown}
 use Rattle.ps_levels.proofs.LevelSteps.{level-low, level-made}
 use Rattle.ps_levels.proofs.level.read_level.Goals as goal

@@ -1,4 +1,4 @@
-use Rattle.std.proofs.Common.{rules, ◌≡◌, ◌∙◌, ◌+◌, ◌++◌, ◌∷◌, [], ap, sym, refl, arith, Some, length, map, List, ℕ, true, false}
+use Rattle.std.proofs.Common.{rules, ◌≡◌, ◌∙◌, ◌+◌, ◌∷◌, [], ap, sym, refl, arith, Some, length, List, ℕ, false}
 use Rattle.std.specs.Prelude.{Vec, nat_eq}
 use Rattle.std.specs.Global.{Global}
 use Rattle.std.specs.Borrow.{Bor}
@@ -14,7 +14,7 @@ use Rattle.ps_model.specs.LevelFaults.{row_faults, rows_faults}
 use Rattle.ps_model.specs.LevelLines.{row_cells}
 use Rattle.ps_levels.specs.declared.fault.LevelFault.{LevelFault}
 use Rattle.ps_levels.specs.declared.fault.LevelFault.TheVariants.{Refused}
-use Rattle.ps_levels.specs.Cells.{cells_shown, rows_shown}
+use Rattle.ps_levels.specs.Cells.{cells_shown}
 use Rattle.ps_levels.specs.RowFaults.{level_faults_by}
 use Rattle.ps_levels.proofs.LinesBetween.{number-line_at}
 use Rattle.ps_levels.proofs.LevelSteps.{one-line, fault-in-first, first-fine, fault-of-place, faults-below}

@@ -1,4 +1,4 @@
-use Rattle.std.proofs.Common.{rules, ◌≡◌, ◌∙◌, ◌+◌, ◌++◌, suc, [], ap, sym, List, ℕ, length, map, Some, true, false, arith}
+use Rattle.std.proofs.Common.{rules, ◌≡◌, ◌+◌, ◌++◌, ap, sym, List, length, map, Some, true, false}
 use Rattle.ps_model.specs.declared.faults.Fault.{Fault as TheFault}
 use Rattle.ps_model.specs.Faults.{first_fault}
 use Rattle.ps_model.specs.Lines.{is_blank_line}

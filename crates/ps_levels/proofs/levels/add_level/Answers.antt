@@ -1,6 +1,3 @@
-use Rattle.std.proofs.Common.{rules, ◌≡◌, ◌∙◌, ap, sym}
-use Rattle.ps_model.specs.LevelLines.{LevelEntry}
-use Rattle.ps_levels.specs.EntriesShown.{entries_shown}
 use Rattle.ps_levels.proofs.SizedLevels.{shown-columns-more}
 use Rattle.ps_levels.proofs.levels.add_level.Goals as goal
 

@@ -1,14 +1,10 @@
-use Rattle.std.proofs.Common.{rules, ◌≡◌, ◌∙◌, ap, length, Some, arith}
-use Rattle.std.proofs.lemmas.Bool.Decides.{nat_tests}
+use Rattle.std.proofs.Common.{◌≡◌, ◌∙◌, ap, length, Some, arith}
 use Rattle.ps_model.specs.declared.faults.Fault.{Fault as TheFault}
 use Rattle.ps_model.specs.declared.faults.FaultKind.TheVariants.{TooManyEntries}
 use Rattle.ps_model.specs.Limits.{entry_limit}
 use Rattle.ps_model.specs.LineNumbers.{line_at}
 use Rattle.ps_levels.proofs.LinesBetween.{number-line_at}
 use Rattle.ps_levels.proofs.EntrySteps.{over-limit}
-use Rattle.ps_model.specs.Lines.{taken_bytes}
-use Rattle.ps_model.specs.LevelLines.{MessageEntry}
-use Rattle.ps_levels.specs.EntriesShown.{entries_shown}
 use Rattle.ps_levels.proofs.SizedLevels.{shown-columns-more}
 use Rattle.ps_levels.proofs.levels.add_message.Goals as goal
 

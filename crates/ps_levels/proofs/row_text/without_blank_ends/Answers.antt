@@ -1,4 +1,4 @@
-use Rattle.std.proofs.Common.{◌≡◌, ◌∙◌, ◌+◌, ap, List, ℕ, length, drop}
+use Rattle.std.proofs.Common.{◌∙◌, ◌+◌, ap, List, ℕ, length, drop}
 use Rattle.std.specs.List.{prefix_len}
 use Rattle.ps_model.specs.Words.{is_blank}
 use Rattle.ps_model.specs.Lines.{without_blank_end}

@@ -1,4 +1,4 @@
-use Rattle.std.proofs.Common.{◌≡◌, ◌<◌, ◌≤◌, length, refl, arith, rules, ℕ}
+use Rattle.std.proofs.Common.{refl, arith}
 use Rattle.ps_levels.proofs.RowSteps.{front-short, front-long}
 use Rattle.ps_levels.proofs.rows.written.Goals as goal
 

@@ -1,4 +1,4 @@
-use Rattle.std.proofs.Common.{rules, ◌≡◌, ◌∙◌, ap, sym, Some, None, false}
+use Rattle.std.proofs.Common.{rules, ◌≡◌, ◌∙◌, ap, Some, None, false}
 use Rattle.ps_model.specs.declared.faults.Fault.{Fault as TheFault}
 use Rattle.ps_model.specs.declared.faults.FaultKind.TheVariants.{BadWin, UnknownWinName}
 use Rattle.ps_model.specs.LineNumbers.{line_at}
