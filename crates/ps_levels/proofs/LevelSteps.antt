@@ -46,8 +46,10 @@ narrow width e = grind (arith, nat_tests)
 pub rows-fit : (names : Names) (width place : ℕ) (rows : List Line) → place ≤ side_limit → rows_faults names width place rows ≡ [] → place + length rows ≤ side_limit
 rows-fit names width place [] h e = omega arith
 rows-fit names width place (row ∷ rows) h e =
-    let less : suc place ≤ side_limit = below-limit width place (row-fits names width place row (none-left _ _ e)) h in
-    let rest : suc place + length rows ≤ side_limit = rows-fit names width (suc place) rows less (none-right _ _ e) in
+    let here : List Fault = row_faults names width place row in
+    let others : List Fault = rows_faults names width (suc place) rows in
+    let less : suc place ≤ side_limit = below-limit width place (row-fits names width place row (none-left here others e)) h in
+    let rest : suc place + length rows ≤ side_limit = rows-fit names width (suc place) rows less (none-right here others e) in
     omega (arith, rest)
 
 pub level-narrow : (names : Names) (width place : ℕ) (first : Line) (below : List Line) → level_faults_by names width place first below ≡ [] → width ≤ side_limit
@@ -55,7 +57,9 @@ level-narrow names width place first below e = narrow width (row-fits names widt
 
 pub level-low : (names : Names) (width place : ℕ) (first : Line) (below : List Line) → level_faults_by names width place first below ≡ [] → suc (length below) ≤ side_limit
 level-low names width place first below e =
-    let fits : 1 + length below ≤ side_limit = rows-fit names width 1 below (omega arith) (none-right _ _ (none-right _ _ e)) in
+    let others : List Fault = rows_faults names width 1 below in
+    let behind : List Fault = too_many place first ++ others in
+    let fits : 1 + length below ≤ side_limit = rows-fit names width 1 below (omega arith) (none-right (too_many place first) others (none-right (row_faults names width 0 first) behind e)) in
     omega (arith, fits)
 
 -- a line that is there alone

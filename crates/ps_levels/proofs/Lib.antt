@@ -8,3 +8,6 @@ mod RowSteps
 mod LevelSteps
 mod StretchSteps
 mod EntrySteps
+mod WrittenRows
+mod BelowCount
+mod SizedLevels

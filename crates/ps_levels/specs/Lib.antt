@@ -3,3 +3,4 @@ pub mod Cells
 pub mod RowFaults
 pub mod LevelsShown
 pub mod EntriesShown
+pub mod Sized

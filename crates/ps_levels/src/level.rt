@@ -1,12 +1,12 @@
 //! A level.
 
-ghost use Rattle.std.specs.Prelude.{◌≡◌, ◌≤◌, ◌<◌, ◌+◌, ◌∷◌, [], true, length, map, IfOk, OnOk, IfErr, Some};
+ghost use Rattle.std.specs.Prelude.{◌≡◌, ◌≤◌, ◌<◌, ◌+◌, ◌∷◌, [], true, false, length, map, IfOk, OnOk, IfErr, Some};
 ghost use Rattle.ps_model.specs.declared.faults.Fault.{Fault as TheFault};
 ghost use Rattle.ps_model.specs.Faults.{first_fault};
 ghost use Rattle.ps_model.specs.LevelFaults.{entry_faults};
 ghost use Rattle.ps_model.specs.LevelLines.{LevelEntry, characters_of, row_cells, entry_of};
 ghost use Rattle.ps_model.specs.LineNumbers.{line_at, lines_between};
-ghost use Rattle.ps_model.specs.Lines.{lines_of};
+ghost use Rattle.ps_model.specs.Lines.{lines_of, is_blank_line};
 ghost use Rattle.ps_levels.specs.Cells.{rows_shown};
 ghost use Rattle.ps_levels.specs.LevelsShown.{rows_at};
 ghost use Rattle.ps_levels.specs.RowFaults.{level_faults_by};
@@ -99,7 +99,8 @@ fn read_rows<'a>(
 fn width_of(alloc: Global, source: &Source, line: u32) -> Result<usize, Memory>
     requires from_one { 1 ≤ line }
     requires there { line ≤ length (lines_of source.now) }
-    ensures { IfOk result (λ width. width ≡ length (characters_of (line_at source.now line))) }
+    ensures value { IfOk result (λ width. width ≡ length (characters_of (line_at source.now line))) }
+    ensures some { is_blank_line (line_at source.now line) ≡ false → IfOk result (λ width. 1 ≤ width) }
 {
     let characters = characters_of(alloc, source, line)?;
     Ok(characters.len())
@@ -118,7 +119,9 @@ pub fn read_level(
     requires ordered { lines.start < lines.end }
     requires there { lines.end ≤ length (lines_of source.now) + 1 }
     requires row { (line_at source.now lines.start).is_there ≡ true }
+    requires written { is_blank_line (line_at source.now lines.start) ≡ false }
     ensures part { IfOk result (λ level. LevelEntry level ≡ entry_of names.now (rows_at source.now lines.start lines.end)) }
+    ensures column { IfOk result (λ level. 1 ≤ level.width) }
     ensures fine { OnOk result (entry_faults names.now place (rows_at source.now lines.start lines.end) ≡ []) }
     ensures refused { IfErr result (λ e. (fault : TheFault) → e ≡ LevelFault.Refused fault → first_fault (entry_faults names.now place (rows_at source.now lines.start lines.end)) ≡ Some fault) }
 {

@@ -1,14 +1,16 @@
 //! LEVELS: the levels and messages of a game.
 
-ghost use Rattle.std.specs.Prelude.{◌≡◌, ◌≤◌, ◌<◌, ◌+◌, ◌-◌, ◌++◌, ◌∷◌, [], true, length, map, IfOk, OnOk, IfErr, Some};
+ghost use Rattle.std.specs.Prelude.{◌≡◌, ◌≤◌, ◌<◌, ◌+◌, ◌-◌, ◌++◌, ◌∷◌, [], true, false, length, map, All, IfOk, OnOk, IfErr, Some};
 ghost use Rattle.std.specs.List.{list_any};
 ghost use Rattle.ps_model.specs.declared.faults.Fault.{Fault as TheFault};
 ghost use Rattle.ps_model.specs.Faults.{first_fault};
 ghost use Rattle.ps_model.specs.LevelFaults.{too_many, entry_faults, entries_faults, level_faults};
 ghost use Rattle.ps_model.specs.LevelLines.{MessageEntry, entries_at, entry_lines, entry_of, entries_read};
 ghost use Rattle.ps_model.specs.LineNumbers.{line_at, lines_between};
-ghost use Rattle.ps_model.specs.Lines.{lines_of, taken_bytes};
+ghost use Rattle.ps_model.specs.Lines.{lines_of, is_blank_line, taken_bytes};
+ghost use Rattle.ps_model.specs.NameBounds.{AreBounded};
 ghost use Rattle.ps_levels.specs.EntriesShown.{entries_shown, is_level_entry, level_lines};
+ghost use Rattle.ps_levels.specs.Sized.{HasColumn, IsSizedEntry};
 
 use crate::fault::LevelFault;
 use crate::level::{ENTRY_LIMIT, Level, read_level};
@@ -49,6 +51,7 @@ fn add_message(
     requires from_one { 1 ≤ line }
     requires there { line ≤ length (lines_of source.now) }
     ensures part { OnOk result (entries_shown entries.new.items ≡ entries_shown entries.old.items ++ MessageEntry (taken_bytes (line_at source.now line)) ∷ []) }
+    ensures columns { All HasColumn (entries_shown entries.old.items) → OnOk result (All HasColumn (entries_shown entries.new.items)) }
     ensures fine { OnOk result (too_many (length entries.old.items) (line_at source.now line) ≡ []) }
     ensures refused { IfErr result (λ e. (fault : TheFault) → e ≡ LevelFault.Refused fault → first_fault (too_many (length entries.old.items) (line_at source.now line)) ≡ Some fault) }
 {
@@ -74,9 +77,11 @@ fn add_level(
     requires ordered { lines.start < lines.end }
     requires there { lines.end ≤ length (lines_of source.now) + 1 }
     requires row { (line_at source.now lines.start).is_there ≡ true }
+    requires written { is_blank_line (line_at source.now lines.start) ≡ false }
     ensures behind { IfOk result (λ next. lines.start < next) }
     ensures within { IfOk result (λ next. next ≤ lines.end) }
     ensures part { OnOk result (entries_shown entries.new.items ≡ entries_shown entries.old.items ++ entry_of names.now (level_lines source.now lines.start lines.end) ∷ []) }
+    ensures columns { All HasColumn (entries_shown entries.old.items) → OnOk result (All HasColumn (entries_shown entries.new.items)) }
     ensures fine { OnOk result (entry_faults names.now (length entries.old.items) (level_lines source.now lines.start lines.end) ≡ []) }
     ensures refused { IfErr result (λ e. (fault : TheFault) → e ≡ LevelFault.Refused fault → first_fault (entry_faults names.now (length entries.old.items) (level_lines source.now lines.start lines.end)) ≡ Some fault) }
     ensures rest { IfOk result (λ next. entries_at true (lines_between source.now (lines.start + 1) lines.end) ≡ entry_lines (lines_between source.now next lines.end)) }
@@ -102,6 +107,7 @@ fn add_entry(
     ensures behind { IfOk result (λ next. lines.start < next) }
     ensures within { IfOk result (λ next. next ≤ lines.end) }
     ensures part { IfOk result (λ next. entries_shown entries.new.items ++ entries_read names.now (lines_between source.now next lines.end) ≡ entries_shown entries.old.items ++ entries_read names.now (lines_between source.now lines.start lines.end)) }
+    ensures columns { All HasColumn (entries_shown entries.old.items) → OnOk result (All HasColumn (entries_shown entries.new.items)) }
     ensures fine { IfOk result (λ next. entries_faults names.now (length entries.new.items) (entry_lines (lines_between source.now next lines.end)) ≡ entries_faults names.now (length entries.old.items) (entry_lines (lines_between source.now lines.start lines.end))) }
     ensures refused { IfErr result (λ e. (fault : TheFault) → e ≡ LevelFault.Refused fault → first_fault (entries_faults names.now (length entries.old.items) (entry_lines (lines_between source.now lines.start lines.end))) ≡ Some fault) }
 {
@@ -149,6 +155,7 @@ pub fn read_levels(
     requires ordered { lines.start ≤ lines.end }
     requires there { lines.end ≤ length (lines_of source.now) + 1 }
     ensures part { IfOk result (λ entries. entries_shown entries.items ≡ entries_read names.now (lines_between source.now lines.start lines.end)) }
+    ensures sized { AreBounded names.now → IfOk result (λ entries. All (IsSizedEntry names.now) (entries_shown entries.items)) }
     ensures fine { OnOk result (level_faults names.now (lines.start - 1) (lines_between source.now lines.start lines.end) ≡ []) }
     ensures refused { IfErr result (λ e. (fault : TheFault) → e ≡ LevelFault.Refused fault → first_fault (level_faults names.now (lines.start - 1) (lines_between source.now lines.start lines.end)) ≡ Some fault) }
 {

@@ -1,11 +1,11 @@
 //! The characters of a row of a level.
 
-ghost use Rattle.std.specs.Prelude.{◌≡◌, ◌+◌, ◌≤◌, length, drop, IfOk};
+ghost use Rattle.std.specs.Prelude.{◌≡◌, ◌+◌, ◌≤◌, ◌<◌, false, length, drop, IfOk};
 ghost use Rattle.std.specs.List.{prefix_len};
 ghost use Rattle.std.specs.Str.{IsUtf8, IsCharBoundary, chars};
 ghost use Rattle.ps_model.specs.LevelLines.{characters_of};
 ghost use Rattle.ps_model.specs.LineNumbers.{line_at};
-ghost use Rattle.ps_model.specs.Lines.{lines_of, without_blank_end};
+ghost use Rattle.ps_model.specs.Lines.{lines_of, is_blank_line, without_blank_end};
 ghost use Rattle.ps_model.specs.Words.{is_blank};
 
 use ps_model::Memory;
@@ -71,7 +71,8 @@ fn characters_in(alloc: Global, text: &str) -> Result<Vec<char>, AllocError>
 pub fn characters_of(alloc: Global, source: &Source, line: u32) -> Result<Vec<char>, Memory>
     requires from_one { 1 ≤ line }
     requires there { line ≤ length (lines_of source.now) }
-    ensures { IfOk result (λ characters. characters.items ≡ characters_of (line_at source.now line)) }
+    ensures value { IfOk result (λ characters. characters.items ≡ characters_of (line_at source.now line)) }
+    ensures some { is_blank_line (line_at source.now line) ≡ false → IfOk result (λ characters. 0 < length characters.items) }
 {
     let text = without_blank_ends(source.visible(line));
     let characters = characters_in(alloc, text)?;

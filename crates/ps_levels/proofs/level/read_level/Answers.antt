@@ -41,4 +41,4 @@ returns-clause-part c =
     let cells : cells_shown c.in_ok-cells.cells.items ≡ in_columns w shown = c.in_ok-cells.ensures ∙ ap (λ (rs : List Row). in_columns w (rows_shown rs)) c.deref.ensures.value in
     let filled : c.in_ok-cells-2.cells ≡ grounded names (in_columns w shown) =
     c.in_ok-cells-2.ensures ∙ ap (λ (cs : List (Bor (List ObjectId))). grounded names (cells_shown cs)) c.deref-2.ensures.value ∙ ap (grounded names) cells in
-    level-made names w c.len.result c.in_ok-cells-2.cells first below c.in_ok-width.ensures height (filled ∙ ap (λ (rs : List (List (List ObjectId))). grounded names (in_columns w rs)) c.in_ok-rows.ensures.part)
+    level-made names w c.len.result c.in_ok-cells-2.cells first below c.in_ok-width.ensures.value height (filled ∙ ap (λ (rs : List (List (List ObjectId))). grounded names (in_columns w rs)) c.in_ok-rows.ensures.part)

@@ -5,6 +5,7 @@ use Rattle.ps_model.specs.Limits.{entry_limit}
 use Rattle.ps_model.specs.LineNumbers.{line_at}
 use Rattle.ps_model.proofs.LinesInOrder.{line_at-number}
 use Rattle.ps_levels.proofs.EntrySteps.{over-limit}
+use Rattle.ps_levels.proofs.SizedLevels.{shown-columns-more}
 use Rattle.ps_levels.proofs.levels.add_message.Goals as goal
 
 pub returns-then-len-eq-ENTRY_LIMIT-clause-refused : goal.returns-then-len-eq-ENTRY_LIMIT-clause-refused

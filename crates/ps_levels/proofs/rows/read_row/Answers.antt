@@ -30,7 +30,7 @@ returns-clause-part c =
     let found = c.in_ok-meanings.meanings.items in
     let of : meanings_shown found ≡ map (character_meaning names) (of_width c.args.width c.in_ok-characters.characters.items) = search rules in
     c.in_ok-cells.ensures ∙ ap (λ (ms : List (Option (Bor code.Meaning))). map objects_of (meanings_shown ms)) c.deref-4.ensures.value
-    ∙ ap (map objects_of) (of ∙ ap (λ (cs : List ℕ). map (character_meaning names) (of_width c.args.width cs)) c.in_ok-characters.ensures) ∙ cells-by-meanings names c.args.width row
+    ∙ ap (map objects_of) (of ∙ ap (λ (cs : List ℕ). map (character_meaning names) (of_width c.args.width cs)) c.in_ok-characters.ensures.value) ∙ cells-by-meanings names c.args.width row
 
 pub returns-clause-fine : goal.returns-clause-fine
 returns-clause-fine c =
