@@ -14,3 +14,6 @@ returns-then-len-eq-ENTRY_LIMIT-clause-refused c = λ fault e.
     let same : told ≡ fault = cc in
     let over : length c.args.entries.now.items ≡ entry_limit = omega arith in
     over-limit (length c.args.entries.now.items) c.args.line (line_at c.args.source.now c.args.line) over (line_at-number c.args.source.now c.args.line c.requires.from_one c.requires.there) ∙ ap Some same
+
+pub returns-clause-columns : goal.returns-clause-columns
+returns-clause-columns c = λ all. shown-columns-more c.args.entries.now.items c.push.new.self.items _ c.in_ok-push.ensures.items tt all

@@ -1,4 +1,4 @@
-use Rattle.std.proofs.Common.{rules, ◌≡◌, ◌∙◌, ◌-◌, ◌++◌, [], ap, sym, List, length, Some, true, false, arith}
+use Rattle.std.proofs.Common.{rules, ◌≡◌, ◌∙◌, ◌-◌, ◌++◌, [], ap, sym, List, length, Some, true, false, subst, arith}
 use Rattle.std.specs.List.{list_any}
 use Rattle.std.proofs.lemmas.List.{append-nil}
 use Rattle.ps_model.specs.declared.faults.Fault.{Fault as TheFault}
@@ -10,6 +10,9 @@ use Rattle.ps_model.specs.LevelLines.{entry_lines, entries_read}
 use Rattle.ps_levels.specs.declared.levels.Entry as code
 use Rattle.ps_levels.specs.EntriesShown.{entries_shown, is_level_entry}
 use Rattle.ps_model.proofs.LinesInOrder.{between-end}
+use Rattle.std.specs.Prelude.{All}
+use Rattle.ps_levels.specs.Sized.{HasColumn, IsSizedEntry}
+use Rattle.ps_levels.proofs.SizedLevels.{sized-levels}
 use Rattle.ps_levels.proofs.EntrySteps.{levels-fine, no-level}
 use Rattle.ps_levels.proofs.levels.read_levels.Goals as goal
 

@@ -20,7 +20,7 @@ returns-in-Some-clause-refused c = λ fault e.
     let told : TheFault = c.in-Some.fault in
     let same : told ≡ fault = cc in
     let of : meanings_shown found ≡ map (character_meaning names) (of_width c.args.width c.in_ok-characters.characters.items) = search rules in
-    let seen = faults-seen names c.args.width c.args.place c.written-written.result c.args.line row c.in_ok-characters.characters.items found c.front.result.now c.in_ok-characters.ensures (line_at-number c.args.source.now c.args.line c.requires.from_one c.requires.there) (search rules) of (search rules) in
+    let seen = faults-seen names c.args.width c.args.place c.written-written.result c.args.line row c.in_ok-characters.characters.items found c.front.result.now c.in_ok-characters.ensures.value (line_at-number c.args.source.now c.args.line c.requires.from_one c.requires.there) (search rules) of (search rules) in
     ap first_fault (sym seen) ∙ sym c.row_fault.ensures ∙ c.in-Some.is ∙ ap Some same
 
 pub returns-clause-part : goal.returns-clause-part
@@ -39,5 +39,5 @@ returns-clause-fine c =
     let found = c.in_ok-meanings.meanings.items in
     let none : c.row_fault.result ≡ None = search rules in
     let of : meanings_shown found ≡ map (character_meaning names) (of_width c.args.width c.in_ok-characters.characters.items) = search rules in
-    let seen = faults-seen names c.args.width c.args.place c.written-written.result c.args.line row c.in_ok-characters.characters.items found c.front.result.now c.in_ok-characters.ensures (line_at-number c.args.source.now c.args.line c.requires.from_one c.requires.there) (search rules) of (search rules) in
+    let seen = faults-seen names c.args.width c.args.place c.written-written.result c.args.line row c.in_ok-characters.characters.items found c.front.result.now c.in_ok-characters.ensures.value (line_at-number c.args.source.now c.args.line c.requires.from_one c.requires.there) (search rules) of (search rules) in
     none-first (row_faults names c.args.width c.args.place row) (ap first_fault (sym seen) ∙ sym c.row_fault.ensures ∙ none)
