@@ -1,0 +1,9 @@
+//! The rules of a game: their lines, read as trees.
+#![tactic(auto)]
+
+mod key_words;
+mod symbols;
+mod tokens;
+
+
+pub use symbols::Command;
