@@ -1,3 +1,4 @@
 pub mod Lookups
 pub mod TokenLines
 pub mod Loops
+pub mod Cuts

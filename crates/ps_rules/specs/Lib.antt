@@ -1,1 +1,2 @@
 pub mod SymbolsShown
+pub mod Kinds

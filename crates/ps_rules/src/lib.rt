@@ -2,6 +2,7 @@
 #![tactic(auto)]
 
 mod key_words;
+mod kinds;
 mod symbols;
 mod tokens;
 
