@@ -1,2 +1,3 @@
 pub mod SymbolsShown
 pub mod Kinds
+pub mod ShapesShown

@@ -3,6 +3,7 @@
 
 mod key_words;
 mod kinds;
+mod shapes;
 mod symbols;
 mod tokens;
 
