@@ -1,3 +1,4 @@
 pub mod SymbolsShown
 pub mod Kinds
 pub mod ShapesShown
+pub mod RulesShown
