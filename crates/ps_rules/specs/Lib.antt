@@ -2,3 +2,4 @@ pub mod SymbolsShown
 pub mod Kinds
 pub mod ShapesShown
 pub mod RulesShown
+pub mod CellsShown

@@ -1,6 +1,7 @@
 //! The rules of a game: their lines, read as trees.
 #![tactic(auto)]
 
+mod cells;
 mod items;
 mod key_words;
 mod kinds;
