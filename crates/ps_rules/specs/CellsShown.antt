@@ -1,5 +1,6 @@
 -- The written cells of the code as pairs of words, as the definitions have them.
 use Rattle.std.specs.Prelude.{List, map}
+use Rattle.std.specs.Borrow.{Bor}
 use Rattle.std.specs.Global.{Vec}
 use Rattle.ps_model.specs.RuleSymbols as model
 use Rattle.ps_model.specs.RuleShape as shape
@@ -18,3 +19,6 @@ cell_rows_shown rows = map (λ cells. cells_shown cells.items) rows
 -- the cells of each row
 abbrev pub cells_of_rows : List shape.WrittenRow → List (List (List model.Token))
 cells_of_rows rows = map (λ row. row.cells) rows
+
+abbrev pub cell_parts_shown : List (Bor (List WrittenCell)) → List (List (List model.Token × List model.Token))
+cell_parts_shown parts = map (λ part. cells_shown part.now) parts

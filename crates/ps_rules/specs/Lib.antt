@@ -3,3 +3,5 @@ pub mod Kinds
 pub mod ShapesShown
 pub mod RulesShown
 pub mod CellsShown
+pub mod Asked
+pub mod Here

@@ -2,10 +2,14 @@
 #![tactic(auto)]
 
 mod cells;
+mod commands;
 mod items;
 mod key_words;
 mod kinds;
+mod parts;
+mod rules;
 mod shapes;
+mod sides;
 mod symbols;
 mod tokens;
 mod tree;
