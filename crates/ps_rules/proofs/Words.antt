@@ -1,5 +1,5 @@
 -- Words of several parts.
-use Rattle.std.proofs.Common.{◌≡◌, Bool, true, false, ◌||◌, List, [], ◌∷◌, ◌++◌, refl, ap, sym, ◌∙◌}
+use Rattle.std.proofs.Common.{◌≡◌, Bool, true, false, ◌||◌, List, [], ◌∷◌, ◌++◌, map, refl, ap, sym, ◌∙◌}
 use Rattle.std.specs.List.{list_any, flat_map}
 use Rattle.std.proofs.lemmas.List.Folds.{list_any-append}
 use Rattle.ps_model.specs.RuleSymbols.{Symbol, Token}
@@ -18,3 +18,11 @@ any-flat_map p f (x ∷ xs) = list_any-append p (f x) (flat_map f xs) ∙ ap (λ
 pub any-in-cells : (kind : Symbol → Bool) (side : WrittenSide) → list_any (λ row. list_any (has_kind kind) row.cells) side.rows ≡ has_kind kind (words_in_cells side)
 any-in-cells kind side =
     sym (any-flat_map (has_kind kind) (λ row. row.cells) side.rows) ∙ sym (any-flat_map (λ token. kind token.symbol) (λ words. words) (cells_in side))
+
+pub has_kind_append : (kind : Symbol → Bool) (xs ys : List Token) → has_kind kind (xs ++ ys) ≡ (has_kind kind xs || has_kind kind ys)
+has_kind_append kind xs ys = list_any-append (λ token. kind token.symbol) xs ys
+
+-- a test of what items are made to
+pub any_map : {A B : Type 0} (p : B → Bool) (f : A → B) (xs : List A) → list_any p (map f xs) ≡ list_any (λ x. p (f x)) xs
+any_map p f [] = refl
+any_map p f (x ∷ xs) = ap (λ b. p (f x) || b) (any_map p f xs)

@@ -3,6 +3,7 @@
 
 mod cells;
 mod commands;
+mod ellipses;
 mod items;
 mod key_words;
 mod kinds;
