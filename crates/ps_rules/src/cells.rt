@@ -23,7 +23,7 @@ pub struct WrittenCell<'a, 'n> {
 }
 
 /// The items behind the first.
-fn without_first<T>(items: &[T]) -> &[T]
+pub fn without_first<T>(items: &[T]) -> &[T]
     ensures { result.now ≡ drop 1 items.entry.now }
 {
     if items.is_empty() {

@@ -9,6 +9,7 @@ mod key_words;
 mod kinds;
 mod parts;
 mod rules;
+mod shape_faults;
 mod shapes;
 mod sides;
 mod symbols;
