@@ -6,3 +6,4 @@ pub mod LinesBetween
 pub mod SameRules
 pub mod Rows
 pub mod Words
+pub mod Repeats

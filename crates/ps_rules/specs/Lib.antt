@@ -5,3 +5,4 @@ pub mod RulesShown
 pub mod CellsShown
 pub mod Asked
 pub mod Here
+pub mod Twice

@@ -1,5 +1,6 @@
 -- The trees of the code as the trees of the definitions.
 use Rattle.std.specs.Prelude.{List, map}
+use Rattle.std.specs.Borrow.{Bor}
 use Rattle.ps_model.specs.SourceRules as model
 use Rattle.ps_names.specs.Shown.{meaning_shown}
 use Rattle.ps_rules.specs.declared.tree.Item.{Item}
@@ -54,3 +55,7 @@ abbrev pub line_shown : RuleLine → model.RuleLine
 line_shown (Rule rule) = model.Rule (rule_shown rule)
 line_shown LoopStart = model.LoopStart
 line_shown LoopEnd = model.LoopEnd
+
+-- cells of a rule that are looked at
+abbrev pub cell_list_shown : List (Bor CellPair) → List model.CellPair
+cell_list_shown cells = map (λ cell. cell_shown cell.now) cells

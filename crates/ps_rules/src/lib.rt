@@ -15,6 +15,8 @@ mod sides;
 mod symbols;
 mod tokens;
 mod tree;
+mod tree_cells;
+mod twice;
 
 
 pub use symbols::Command;
