@@ -7,3 +7,5 @@ pub mod SameRules
 pub mod Rows
 pub mod Words
 pub mod Repeats
+pub mod Founds
+pub mod RuleSteps

@@ -5,6 +5,8 @@ use Rattle.std.proofs.lemmas.List.Folds.{list_any-append}
 use Rattle.ps_model.specs.RuleSymbols.{Symbol, Token}
 use Rattle.ps_model.specs.RuleShape.{has_kind, WrittenRow, WrittenSide, words_in_cells, cells_in}
 use Rattle.ps_model.specs.RuleShapeFaults.{are_there}
+use Rattle.ps_model.specs.RuleNameFaults.{is_no_before_aggregate}
+use Rattle.ps_model.specs.SourceRules.{Item}
 
 pub are_there_append : (xs ys : List Token) → are_there (xs ++ ys) ≡ (are_there xs || are_there ys)
 are_there_append [] ys = refl
@@ -26,3 +28,6 @@ has_kind_append kind xs ys = list_any-append (λ token. kind token.symbol) xs ys
 pub any_map : {A B : Type 0} (p : B → Bool) (f : A → B) (xs : List A) → list_any p (map f xs) ≡ list_any (λ x. p (f x)) xs
 any_map p f [] = refl
 any_map p f (x ∷ xs) = ap (λ b. p (f x) || b) (any_map p f xs)
+
+pub no_before_append : (xs ys : List Item) → list_any is_no_before_aggregate (xs ++ ys) ≡ (list_any is_no_before_aggregate xs || list_any is_no_before_aggregate ys)
+no_before_append xs ys = list_any-append is_no_before_aggregate xs ys

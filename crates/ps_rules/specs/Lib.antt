@@ -6,3 +6,7 @@ pub mod CellsShown
 pub mod Asked
 pub mod Here
 pub mod Twice
+pub mod SoughtItems
+pub mod AboveShown
+pub mod FaultsShown
+pub mod FormsShown

@@ -1,17 +1,24 @@
 //! The rules of a game: their lines, read as trees.
 #![tactic(auto)]
 
+mod above;
 mod cells;
 mod commands;
 mod ellipses;
+mod fault;
 mod items;
 mod key_words;
 mod kinds;
+mod lines;
+mod name_faults;
+mod occurrences;
 mod parts;
+mod rule_faults;
 mod rules;
 mod shape_faults;
 mod shapes;
 mod sides;
+mod sought;
 mod symbols;
 mod tokens;
 mod tree;

@@ -18,7 +18,7 @@ returns c =
     let line : Line = line_at c.args.source.now c.args.line in
     let shape : RuleShape = shape_shown c.args.shape.now in
     let rows : tree_rows_shown c.in_ok-rows.rows ≡ rows_of shape =
-    c.in_ok-rows.ensures ∙ ap (map row_of_cells) (ap cell_rows_shown c.deref.ensures.value ∙ c.in_ok-cells.ensures) ∙ rows-by-cells shape in
+    c.in_ok-rows.ensures ∙ ap (map row_of_cells) c.requires.paired ∙ rows-by-cells shape in
     let commands : commands_shown c.in_ok-commands.commands ≡ commands_of line (at_end shape.right) = c.in_ok-commands.ensures ∙ ap (commands_of line) c.at_end.ensures in
     same-rule _ _ _ _ _ _ _ _ _ _ _ _ _ _ (sym (number-line_at c.args.source.now c.args.line c.requires.from_one c.requires.there))
     c.has_kind.ensures c.has_kind-2.ensures c.in_ok-directions.ensures rows c.has_rows.ensures commands
