@@ -9,3 +9,5 @@ pub mod Words
 pub mod Repeats
 pub mod Founds
 pub mod RuleSteps
+pub mod FormSteps
+pub mod LineSteps

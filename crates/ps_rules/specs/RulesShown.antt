@@ -59,3 +59,6 @@ line_shown LoopEnd = model.LoopEnd
 -- cells of a rule that are looked at
 abbrev pub cell_list_shown : List (Bor CellPair) → List model.CellPair
 cell_list_shown cells = map (λ cell. cell_shown cell.now) cells
+
+abbrev pub lines_shown : List RuleLine → List model.RuleLine
+lines_shown lines = map line_shown lines

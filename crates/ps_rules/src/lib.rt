@@ -13,6 +13,7 @@ mod lines;
 mod name_faults;
 mod occurrences;
 mod parts;
+mod read;
 mod rule_faults;
 mod rules;
 mod shape_faults;
