@@ -1,5 +1,5 @@
 -- One line of RULES more.
-use Rattle.std.proofs.Common.{◌≡◌, ℕ, ◌≤◌, true, false, List, [], ◌∷◌, ◌++◌, length, refl, ap, sym, ◌∙◌}
+use Rattle.std.proofs.Common.{◌≡◌, ℕ, ◌≤◌, true, false, List, [], ◌∷◌, ◌++◌, Some, length, refl, ap, sym, ◌∙◌}
 use Rattle.ps_model.specs.declared.faults.Fault.{Fault}
 use Rattle.ps_model.specs.LineNumbers.{line_at}
 use Rattle.ps_model.specs.Lines.{Line, lines_of, is_blank_line}
@@ -9,6 +9,9 @@ use Rattle.ps_model.specs.RuleLines.{lines_with_words}
 use Rattle.ps_model.specs.RuleSymbols.{tokens_of}
 use Rattle.ps_rules.specs.FormsShown.{form_at}
 use Rattle.ps_rules.specs.Here.{here}
+use Rattle.ps_rules.specs.RefusedLines.{IsRefused}
+use Rattle.ps_rules.proofs.RuleSteps.{first-some}
+use Rattle.ps_model.specs.Faults.{first_fault}
 use Rattle.ps_rules.proofs.LinesBetween.{number-line_at}
 
 pub below-step : (text : List ℕ) (line : ℕ) (names : Names) (above : Above) (rest : List Line) → 1 ≤ line → line ≤ length (lines_of text)
@@ -18,3 +21,9 @@ pub below-step : (text : List ℕ) (line : ℕ) (names : Names) (above : Above) 
 below-step text line names above rest one within t b =
     let number : (line_at text line).number ≡ line = number-line_at text line one within in
     rw (t, b, number) refl
+
+pub refused-step : (text : List ℕ) (line : ℕ) (names : Names) (above : Above) (rest : List Line) (fault : Fault) → 1 ≤ line → line ≤ length (lines_of text)
+    → IsRefused text line names above fault → first_fault (faults_below names above (lines_with_words (here text line ++ rest))) ≡ Some fault
+refused-step text line names above rest fault one within own =
+    ap first_fault (below-step text line names above rest one within own.there own.written)
+    ∙ first-some (faults_of_line above line (tokens_of names (line_at text line)) (form_at text line names)) _ fault own.told

@@ -10,3 +10,4 @@ pub mod SoughtItems
 pub mod AboveShown
 pub mod FaultsShown
 pub mod FormsShown
+pub mod RefusedLines

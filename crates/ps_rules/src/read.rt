@@ -9,6 +9,7 @@ ghost use Rattle.ps_model.specs.RuleFaults.{rule_faults, faults_below};
 ghost use Rattle.ps_model.specs.RuleLines.{rules_read, lines_with_words};
 ghost use Rattle.ps_rules.specs.AboveShown.{above_shown};
 ghost use Rattle.ps_rules.specs.Here.{here};
+ghost use Rattle.ps_rules.specs.RefusedLines.{IsRefused};
 ghost use Rattle.ps_rules.specs.RulesShown.{lines_shown};
 ghost use Rattle.ps_rules.specs.declared.fault.RuleFault.TheVariants.{Refused};
 
@@ -35,7 +36,7 @@ fn over(
     requires there { line ≤ length (lines_of source.now) }
     ensures part { OnOk result ((rest : List Line) → lines_shown made.new.items ++ rules_read names.now rest ≡ lines_shown made.old.items ++ rules_read names.now (here source.now line ++ rest)) }
     ensures fine { IfOk result (λ next. (rest : List Line) → faults_below names.now (above_shown next) (lines_with_words rest) ≡ faults_below names.now (above_shown above) (lines_with_words (here source.now line ++ rest))) }
-    ensures refused { IfErr result (λ e. (fault : TheFault) → e ≡ Refused fault → (rest : List Line) → first_fault (faults_below names.now (above_shown above) (lines_with_words (here source.now line ++ rest))) ≡ Some fault) }
+    ensures refused { IfErr result (λ e. (fault : TheFault) → e ≡ Refused fault → IsRefused source.now line names.now (above_shown above) fault) }
 {
     if !source.is_there(line) {
         return Ok(above);

@@ -8,9 +8,9 @@ use Rattle.ps_model.specs.RuleLines.{lines_with_words}
 use Rattle.ps_rules.specs.AboveShown.{above_shown}
 use Rattle.ps_rules.specs.FormsShown.{form_at}
 use Rattle.ps_rules.specs.Here.{here}
+use Rattle.ps_rules.specs.RefusedLines.{IsRefused}
 use Rattle.ps_rules.specs.declared.fault.RuleFault.{RuleFault}
 use Rattle.ps_rules.specs.declared.fault.RuleFault.TheVariants.{Refused}
-use Rattle.ps_rules.proofs.RuleSteps.{first-some}
 use Rattle.ps_rules.proofs.LineSteps.{below-step}
 use Rattle.ps_rules.proofs.read.over.Goals as goal
 
@@ -20,10 +20,8 @@ returns-in_err-read-clause-refused c =
     let there : (line_at text c.args.line).is_there ≡ true = search rules in
     let written : is_blank_line (line_at text c.args.line) ≡ false = search rules in
     let fault : RuleFault = c.in_err-read.field-0.0 in
-    let told : (f : TheFault) → fault ≡ Refused f → (rest : List Line)
-    → first_fault (faults_below c.args.names.now (above_shown c.args.above) (lines_with_words (here text c.args.line ++ rest))) ≡ Some f =
-    λ f e rest. ap first_fault (below-step text c.args.line c.args.names.now (above_shown c.args.above) rest c.requires.from_one c.requires.there there written)
-    ∙ first-some _ _ f (c.in_err-read.ensures.refused f e) in
+    let told : (f : TheFault) → fault ≡ Refused f → IsRefused text c.args.line c.args.names.now (above_shown c.args.above) f =
+    λ f e. record { there = there; written = written; told = c.in_err-read.ensures.refused f e } in
     search (rules, told)
 
 pub returns-clause-fine : goal.returns-clause-fine

@@ -10,6 +10,7 @@ use Rattle.ps_rules.specs.RulesShown.{lines_shown}
 use Rattle.ps_rules.specs.declared.fault.RuleFault.{RuleFault}
 use Rattle.ps_rules.specs.declared.fault.RuleFault.TheVariants.{Refused}
 use Rattle.ps_rules.proofs.LinesBetween.{between-step}
+use Rattle.ps_rules.proofs.LineSteps.{refused-step}
 use Rattle.ps_rules.proofs.read.read_rules.Goals as goal
 
 pub returns-in_err-above-clause-refused : goal.returns-in_err-above-clause-refused
@@ -21,9 +22,10 @@ returns-in_err-above-clause-refused c =
     let fault : RuleFault = c.in_err-above.field-0.0 in
     let told : (f : TheFault) → fault ≡ Refused f → first_fault (rule_faults c.args.names.now (lines_between text c.args.lines.start end)) ≡ Some f =
     λ f e.
+        let own = c.in_err-above.ensures.refused f e in
         ap first_fault (
           sym c.loop-line.invariant.1 ∙ ap (λ (xs : List Line). faults_below c.args.names.now (above_shown c.loop-line.above) (lines_with_words xs)) step
-        ) ∙ c.in_err-above.ensures.refused f e (lines_between text (line + 1) end) in
+        ) ∙ refused-step text line c.args.names.now (above_shown c.loop-line.above) (lines_between text (line + 1) end) f (omega arith) (omega arith) own in
     search (rules, told)
 
 pub loop-line-preserved : goal.loop-line-preserved
