@@ -1,5 +1,5 @@
 -- What a line of RULES is, by its words.
-use Rattle.std.proofs.Common.{◌≡◌, ℕ, List, [], ◌∷◌, ◌++◌, Option, Some, None, false, refl, ap, sym, ◌∙◌}
+use Rattle.std.proofs.Common.{◌≡◌, ℕ, List, [], ◌∷◌, Some, None, false, refl}
 use Rattle.ps_model.specs.Lines.{Line}
 use Rattle.ps_model.specs.RuleLines.{LineForm, StartForm, EndForm, RuleForm, NoForm, form_of, form_of_words, form_of_shape, line_of_form}
 use Rattle.ps_model.specs.RuleShape.{shape_of}

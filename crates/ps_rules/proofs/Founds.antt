@@ -1,12 +1,11 @@
 -- What is found among items and among those behind them.
-use Rattle.std.proofs.Common.{◌≡◌, ℕ, Bool, List, [], ◌∷◌, ◌++◌, Option, Some, None, refl, ap, sym, ◌∙◌, filter}
-use Rattle.std.specs.List.{filter_map}
+use Rattle.std.proofs.Common.{◌≡◌, ℕ, Bool, List, [], ◌∷◌, ◌++◌, Some, None, refl, ap, sym, ◌∙◌, filter}
 use Rattle.std.proofs.lemmas.List.Elements.{filter-append, filter_map-append}
 use Rattle.ps_model.specs.Occurrences.{numbers, number_of, here_or_only}
 use Rattle.ps_model.specs.SourceRules.{Item}
 use Rattle.ps_rules.specs.SoughtItems.{found_with, found_from, only_found, first_number}
 use Rattle.ps_rules.specs.declared.sought.Found.{Found}
-use Rattle.ps_rules.specs.declared.sought.Found.TheVariants.{Nothing, Only, Several}
+use Rattle.ps_rules.specs.declared.sought.Found.TheVariants.{Nothing, Several}
 
 found-append : (found : Found) (ns ms : List ℕ) → found_from found (ns ++ ms) ≡ found_from (found_from found ns) ms
 found-append found [] ms = refl

@@ -1,5 +1,5 @@
 -- A look-up in two tables, one behind the other.
-use Rattle.std.proofs.Common.{◌≡◌, Bool, true, false, List, [], ◌∷◌, ◌++◌, Option, Some, None, refl, cond, sym, ◌∙◌, ap}
+use Rattle.std.proofs.Common.{◌≡◌, Bool, true, false, List, [], ◌∷◌, ◌++◌, Option, Some, None, refl, cond, ◌∙◌, ap}
 use Rattle.std.specs.Map.{lookup}
 
 -- what the first has, or else the second

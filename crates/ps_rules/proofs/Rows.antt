@@ -1,5 +1,5 @@
 -- The rows of a rule by its cells.
-use Rattle.std.proofs.Common.{◌≡◌, Bool, true, false, List, [], ◌∷◌, map, refl, ap, sym, ◌∙◌}
+use Rattle.std.proofs.Common.{◌≡◌, List, [], ◌∷◌, map, refl, ap}
 use Rattle.ps_model.specs.RuleTree.{rows_of, row_of_cells}
 use Rattle.ps_model.specs.RuleShape.{RuleShape, paired_cells, paired_rows}
 

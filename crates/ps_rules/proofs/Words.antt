@@ -1,9 +1,9 @@
 -- Words of several parts.
-use Rattle.std.proofs.Common.{◌≡◌, Bool, true, false, ◌||◌, List, [], ◌∷◌, ◌++◌, map, refl, ap, sym, ◌∙◌}
+use Rattle.std.proofs.Common.{◌≡◌, Bool, ◌||◌, List, [], ◌∷◌, ◌++◌, map, refl, ap, sym, ◌∙◌}
 use Rattle.std.specs.List.{list_any, flat_map}
 use Rattle.std.proofs.lemmas.List.Folds.{list_any-append}
 use Rattle.ps_model.specs.RuleSymbols.{Symbol, Token}
-use Rattle.ps_model.specs.RuleShape.{has_kind, WrittenRow, WrittenSide, words_in_cells, cells_in}
+use Rattle.ps_model.specs.RuleShape.{has_kind, WrittenSide, words_in_cells, cells_in}
 use Rattle.ps_model.specs.RuleShapeFaults.{are_there}
 use Rattle.ps_model.specs.RuleNameFaults.{is_no_before_aggregate}
 use Rattle.ps_model.specs.SourceRules.{Item}

@@ -1,5 +1,5 @@
 -- What stands above a line, of the code as of the definitions.
-use Rattle.std.specs.Prelude.{ℕ, suc, Bool, Option, Some, None}
+use Rattle.std.specs.Prelude.{ℕ, suc, Bool, Some, None}
 use Rattle.ps_model.specs.RuleFaults as model
 use Rattle.ps_rules.specs.declared.above.Above.{Above}
 

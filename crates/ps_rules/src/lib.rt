@@ -10,6 +10,7 @@ mod items;
 mod key_words;
 mod kinds;
 mod lines;
+mod looseness;
 mod name_faults;
 mod occurrences;
 mod parts;
@@ -26,5 +27,8 @@ mod tree;
 mod tree_cells;
 mod twice;
 
-
-pub use symbols::Command;
+pub use fault::RuleFault;
+pub use occurrences::Occurrences;
+pub use ps_model::{Direction, Fault, FaultKind, MovementWord};
+pub use read::read_rules;
+pub use tree::{CellPair, Commands, Item, RuleLine, RuleText, SourceRule};

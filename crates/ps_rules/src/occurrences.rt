@@ -95,12 +95,7 @@ impl<'r> Occurrences<'r> {
 
     /// The left occurrence that decides a word of several moves before a name on the right of a cell, by its byte of the text: the one in the same
     /// cell with the same word and the same name; without one, the only left occurrence of that word, with whatever name.
-    pub fn bound_word(
-        &self,
-        cell: &CellPair,
-        word: MovementWord,
-        meaning: &Meaning,
-    ) -> Option<u32>
+    pub fn bound_word(&self, cell: &CellPair, word: MovementWord, meaning: &Meaning) -> Option<u32>
         ensures { result ≡ bound_word self.now (cell_shown cell.now) word (meaning_shown meaning.now) }
     {
         let both = Sought::Both(word, meaning);

@@ -100,6 +100,5 @@ pub fn has_late_move(shape: &RuleShape<'_, '_>) -> bool
     ensures { result ≡ has_late_move (shape_shown shape.now) }
 {
     has_kind(Kind::Late, shape.left.ahead)
-        && (has_in_cells(Kind::Movement, &shape.left)
-            || has_in_cells(Kind::Movement, &shape.right))
+        && (has_in_cells(Kind::Movement, &shape.left) || has_in_cells(Kind::Movement, &shape.right))
 }

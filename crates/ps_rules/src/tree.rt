@@ -1,5 +1,8 @@
 //! The rules of a game as they are written, as trees.
 
+ghost use Rattle.std.specs.Prelude.{◌≡◌};
+ghost use Rattle.ps_rules.specs.RulesShown.{lines_shown};
+
 use ps_model::{Direction, MovementWord, ObjectId};
 use ps_names::Meaning;
 use ps_text::{List, Text};
@@ -17,7 +20,9 @@ pub enum Item {
         meaning: Meaning,
     },
     /// `no` and a name.
-    No { meaning: Meaning },
+    No {
+        meaning: Meaning,
+    },
 }
 
 /// What stands in a place of a cell that isn't taken yet, since a cell has room for two items from the start.
@@ -87,4 +92,13 @@ impl Model for RuleText {
     ghost Value = { List Meant };
 
     ghost view = { λ t. map line_shown t.lines.items };
+}
+
+impl RuleText {
+    /// The lines, in order.
+    pub fn lines(&self) -> &[RuleLine]
+        ensures { lines_shown result.now ≡ self.now }
+    {
+        self.lines.as_slice()
+    }
 }

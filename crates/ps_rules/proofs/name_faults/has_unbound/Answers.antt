@@ -1,4 +1,4 @@
-use Rattle.std.proofs.Common.{rules, ◌≡◌, ◌∙◌, ap, List}
+use Rattle.std.proofs.Common.{◌∙◌, ap, List}
 use Rattle.std.specs.List.{list_any}
 use Rattle.ps_model.specs.SourceRules.{CellPair}
 use Rattle.ps_model.specs.RuleNameFaults.{is_unbound}

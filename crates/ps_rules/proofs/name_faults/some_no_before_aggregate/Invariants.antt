@@ -1,7 +1,7 @@
-use Rattle.std.proofs.Common.{◌≡◌, ◌++◌, drop, map, fold, rules}
-use Rattle.std.specs.List.{list_any, list_all}
-use Rattle.ps_model.specs.RuleNameFaults.{is_no_before_aggregate, is_unbound}
-use Rattle.ps_rules.specs.RulesShown.{items_shown, cell_shown, cell_list_shown}
+use Rattle.std.proofs.Common.{◌≡◌, drop}
+use Rattle.std.specs.List.{list_any}
+use Rattle.ps_model.specs.RuleNameFaults.{is_no_before_aggregate}
+use Rattle.ps_rules.specs.RulesShown.{items_shown}
 use Rattle.ps_rules.proofs.name_faults.some_no_before_aggregate.Given as goal
 
 abbrev pub invariant-loop-item : goal.invariant-loop-item

@@ -1,4 +1,4 @@
-use Rattle.std.proofs.Common.{rules, tests, ◌≡◌, ◌∙◌, sym, ap, List, map}
+use Rattle.std.proofs.Common.{rules, tests, ◌∙◌, sym, ap, map}
 use Rattle.std.proofs.lemmas.Iterator.Consumers.{map_from_collect}
 use Rattle.std.proofs.lemmas.Iterator.Splits.{YieldsList-from_slice_split}
 use Rattle.ps_model.specs.RuleTree.{is_gap}

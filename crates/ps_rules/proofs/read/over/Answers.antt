@@ -1,13 +1,11 @@
-use Rattle.std.proofs.Common.{rules, ◌≡◌, ◌∙◌, ◌++◌, [], ℕ, Some, List, ap, sym, true, false}
+use Rattle.std.proofs.Common.{rules, ◌≡◌, ◌∙◌, ◌++◌, ℕ, List, ap, sym, true, false}
 use Rattle.ps_model.specs.declared.faults.Fault.{Fault as TheFault}
-use Rattle.ps_model.specs.Faults.{first_fault}
 use Rattle.ps_model.specs.LineNumbers.{line_at}
-use Rattle.ps_model.specs.Lines.{Line, is_blank_line}
+use Rattle.ps_model.specs.Lines.{is_blank_line}
 use Rattle.ps_model.specs.RuleFaults.{Above, above_next, faults_below}
 use Rattle.ps_model.specs.RuleLines.{lines_with_words}
 use Rattle.ps_rules.specs.AboveShown.{above_shown}
 use Rattle.ps_rules.specs.FormsShown.{form_at}
-use Rattle.ps_rules.specs.Here.{here}
 use Rattle.ps_rules.specs.RefusedLines.{IsRefused}
 use Rattle.ps_rules.specs.declared.fault.RuleFault.{RuleFault}
 use Rattle.ps_rules.specs.declared.fault.RuleFault.TheVariants.{Refused}
@@ -32,6 +30,6 @@ returns-clause-fine c = λ rest.
     let next : Above = above_next (above_shown c.args.above) c.args.line (form_at text c.args.line c.args.names.now) in
     ap (λ (a : Above). faults_below c.args.names.now a (lines_with_words rest)) c.in_ok-read.ensures.above
     ∙ sym (
-      below-step text c.args.line c.args.names.now (above_shown c.args.above) rest c.requires.from_one c.requires.there there written
-      ∙ ap (λ (fs : List TheFault). fs ++ faults_below c.args.names.now next (lines_with_words rest)) c.in_ok-read.ensures.fine
+    below-step text c.args.line c.args.names.now (above_shown c.args.above) rest c.requires.from_one c.requires.there there written
+    ∙ ap (λ (fs : List TheFault). fs ++ faults_below c.args.names.now next (lines_with_words rest)) c.in_ok-read.ensures.fine
     )

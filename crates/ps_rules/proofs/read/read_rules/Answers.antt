@@ -22,10 +22,10 @@ returns-in_err-above-clause-refused c =
     let fault : RuleFault = c.in_err-above.field-0.0 in
     let told : (f : TheFault) → fault ≡ Refused f → first_fault (rule_faults c.args.names.now (lines_between text c.args.lines.start end)) ≡ Some f =
     λ f e.
-        let own = c.in_err-above.ensures.refused f e in
-        ap first_fault (
-          sym c.loop-line.invariant.1 ∙ ap (λ (xs : List Line). faults_below c.args.names.now (above_shown c.loop-line.above) (lines_with_words xs)) step
-        ) ∙ refused-step text line c.args.names.now (above_shown c.loop-line.above) (lines_between text (line + 1) end) f (omega arith) (omega arith) own in
+    let own = c.in_err-above.ensures.refused f e in
+    ap first_fault (
+    sym c.loop-line.invariant.1 ∙ ap (λ (xs : List Line). faults_below c.args.names.now (above_shown c.loop-line.above) (lines_with_words xs)) step
+    ) ∙ refused-step text line c.args.names.now (above_shown c.loop-line.above) (lines_between text (line + 1) end) f (omega arith) (omega arith) own in
     search (rules, told)
 
 pub loop-line-preserved : goal.loop-line-preserved
@@ -37,5 +37,5 @@ loop-line-preserved c =
     let step = between-step text line (line + 1) end (omega arith) (omega arith) (omega arith) refl in (
       c.in_ok-above.ensures.part rest ∙ ap (λ (xs : List Line). lines_shown c.loop-line.made.items ++ rules_read c.args.names.now xs) (sym step) ∙ c.loop-line.invariant.0,
       c.in_ok-above.ensures.fine rest
-      ∙ ap (λ (xs : List Line). faults_below c.args.names.now (above_shown c.loop-line.above) (lines_with_words xs)) (sym step) ∙ c.loop-line.invariant.1,
+          ∙ ap (λ (xs : List Line). faults_below c.args.names.now (above_shown c.loop-line.above) (lines_with_words xs)) (sym step) ∙ c.loop-line.invariant.1,
     )

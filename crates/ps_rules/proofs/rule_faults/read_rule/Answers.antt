@@ -1,4 +1,3 @@
-use Rattle.std.proofs.Common.{rules, ◌≡◌}
 use Rattle.ps_model.specs.LineNumbers.{line_at}
 use Rattle.ps_model.specs.RuleTree.{rule_of}
 use Rattle.ps_rules.specs.AboveShown.{above_shown}

@@ -1,13 +1,10 @@
-use Rattle.std.proofs.Common.{rules, ◌≡◌, ◌∙◌, sym, ap, Bool, not, refl, map, List}
-use Rattle.ps_model.specs.declared.pieces.Direction.{Direction}
+use Rattle.std.proofs.Common.{◌≡◌, ◌∙◌, sym, ap, map}
 use Rattle.ps_model.specs.LineNumbers.{line_at}
 use Rattle.ps_model.specs.Lines.{Line}
-use Rattle.ps_model.specs.SourceRules.{CellPair, Commands}
-use Rattle.ps_model.specs.RuleShape.{RuleShape, has_kind, is_late, is_plus, has_rows, at_end}
-use Rattle.ps_model.specs.RuleTree.{rows_of, row_of_cells, directions_given, commands_of}
+use Rattle.ps_model.specs.RuleShape.{RuleShape, at_end}
+use Rattle.ps_model.specs.RuleTree.{rows_of, row_of_cells, commands_of}
 use Rattle.ps_rules.specs.RulesShown.{tree_rows_shown, commands_shown}
-use Rattle.ps_rules.specs.CellsShown.{cell_rows_shown}
-use Rattle.ps_rules.specs.ShapesShown.{shape_shown, side_shown}
+use Rattle.ps_rules.specs.ShapesShown.{shape_shown}
 use Rattle.ps_rules.proofs.LinesBetween.{number-line_at}
 use Rattle.ps_rules.proofs.Rows.{rows-by-cells}
 use Rattle.ps_rules.proofs.SameRules.{same-rule}

@@ -1,5 +1,5 @@
-use Rattle.std.proofs.Common.{◌≡◌, ◌++◌, drop, map, fold, rules}
-use Rattle.std.specs.List.{list_any, list_all}
+use Rattle.std.proofs.Common.{◌≡◌, drop}
+use Rattle.std.specs.List.{list_any}
 use Rattle.ps_model.specs.RuleShape.{beside}
 use Rattle.ps_model.specs.RuleShapeFaults.{lengths_differ}
 use Rattle.ps_rules.specs.CellsShown.{cells_of_rows}

@@ -1,4 +1,4 @@
-use Rattle.std.proofs.Common.{rules, arith, ◌≡◌, ◌∙◌, ◌∷◌, ◌+◌, suc, ℕ, sym, ap, filter, drop, Bor, List}
+use Rattle.std.proofs.Common.{arith, ◌≡◌, ◌∙◌, ◌∷◌, ◌+◌, suc, ℕ, sym, ap, filter, drop, Bor, List}
 use Rattle.ps_model.specs.Occurrences.{numbers}
 use Rattle.ps_rules.specs.declared.tree.CellPair.{CellPair}
 use Rattle.ps_rules.specs.RulesShown.{cell_shown, cell_list_shown}
@@ -14,7 +14,7 @@ loop-cell-preserved c =
     let here : drop i c.args.cells.now ≡ c.cell-item.result ∷ drop (i + 1) c.args.cells.now =
     drop-at c.cell-item.result c.args.cells.now i (i + 1) c.loop-cell-test.true c.cell-item.is next in
     rw c.found_left-found.ensures (
-      sym (found_behind c.loop-cell.found (is_sought c.args.sought) (cell_shown c.cell-item.result.now).left (left_of (cell_list_shown (drop (i + 1) c.args.cells.now))))
-      ∙ ap (λ (cells : List (Bor CellPair)). found_from c.loop-cell.found (numbers (filter (is_sought c.args.sought) (left_of (cell_list_shown cells))))) (sym here)
-      ∙ c.loop-cell.invariant
+    sym (found_behind c.loop-cell.found (is_sought c.args.sought) (cell_shown c.cell-item.result.now).left (left_of (cell_list_shown (drop (i + 1) c.args.cells.now))))
+    ∙ ap (λ (cells : List (Bor CellPair)). found_from c.loop-cell.found (numbers (filter (is_sought c.args.sought) (left_of (cell_list_shown cells))))) (sym here)
+    ∙ c.loop-cell.invariant
     )

@@ -1,10 +1,8 @@
-use Rattle.std.proofs.Common.{◌≡◌, ◌++◌, drop, map, fold, rules}
-use Rattle.std.specs.List.{list_any, list_all}
-use Rattle.std.specs.Prelude.{filter, List, ℕ}
+use Rattle.std.proofs.Common.{◌≡◌, drop}
+use Rattle.std.specs.Prelude.{filter}
 use Rattle.ps_model.specs.Occurrences.{numbers}
-use Rattle.ps_rules.specs.RulesShown.{items_shown, cell_list_shown}
-use Rattle.ps_rules.specs.SoughtItems.{is_sought, found_from, first_number, left_of}
-use Rattle.ps_rules.specs.declared.sought.Found.TheVariants.{Nothing}
+use Rattle.ps_rules.specs.RulesShown.{items_shown}
+use Rattle.ps_rules.specs.SoughtItems.{is_sought, found_from}
 use Rattle.ps_rules.proofs.sought.found_with.Given as goal
 
 abbrev pub invariant-loop-item : goal.invariant-loop-item

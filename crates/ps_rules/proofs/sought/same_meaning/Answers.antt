@@ -1,4 +1,3 @@
-use Rattle.std.proofs.Common.{rules, ◌≡◌}
 use Rattle.ps_rules.proofs.sought.same_meaning.Goals as goal
 
 pub returns-in-All : goal.returns-in-All

@@ -1,4 +1,4 @@
-use Rattle.std.proofs.Common.{rules, arith, drop, refl, ◌++◌, [], ◌≡◌, ◌∙◌, ◌∷◌, sym, List, map, ap}
+use Rattle.std.proofs.Common.{rules, refl, ◌++◌, [], ◌≡◌, ◌∙◌, ◌∷◌, sym, List, map, ap}
 use Rattle.ps_model.specs.LineNumbers.{line_at}
 use Rattle.ps_model.specs.Lines.{Line}
 use Rattle.ps_model.specs.RuleSymbols.{first_symbol, symbol_of}

@@ -1,8 +1,5 @@
-use Rattle.std.proofs.Common.{◌≡◌, ◌++◌, drop, map, fold, rules}
-use Rattle.std.specs.List.{list_any, list_all}
-use Rattle.std.specs.List.{flat_map}
-use Rattle.ps_model.specs.Occurrences.{cells_of}
-use Rattle.ps_rules.specs.RulesShown.{cell_shown, part_shown, tree_row_shown, tree_rows_shown, rule_shown, cell_list_shown}
+use Rattle.std.proofs.Common.{◌≡◌, ◌++◌, drop}
+use Rattle.ps_rules.specs.RulesShown.{part_shown, cell_list_shown}
 use Rattle.ps_rules.proofs.tree_cells.push_part.Given as goal
 
 abbrev pub invariant-loop-cell : goal.invariant-loop-cell
