@@ -32,3 +32,6 @@ pub use occurrences::Occurrences;
 pub use ps_model::{Direction, Fault, FaultKind, MovementWord};
 pub use read::read_rules;
 pub use tree::{CellPair, Commands, Item, RuleLine, RuleText, SourceRule};
+
+#[cfg(test)]
+mod tests;
