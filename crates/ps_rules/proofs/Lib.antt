@@ -1,0 +1,13 @@
+pub mod Lookups
+pub mod TokenLines
+pub mod Loops
+pub mod Cuts
+pub mod LinesBetween
+pub mod SameRules
+pub mod Rows
+pub mod Words
+pub mod Repeats
+pub mod Founds
+pub mod RuleSteps
+pub mod FormSteps
+pub mod LineSteps

@@ -1,0 +1,10 @@
+use Rattle.std.proofs.Common.{◌≡◌, drop}
+use Rattle.std.specs.List.{list_any}
+use Rattle.ps_model.specs.RuleShape.{cells_in}
+use Rattle.ps_model.specs.RuleShapeFaults.{misses_name}
+use Rattle.std.specs.List.{flat_map}
+use Rattle.ps_rules.specs.ShapesShown.{side_shown, rows_shown}
+use Rattle.ps_rules.proofs.sides.misses_name_in_cells.Given as goal
+
+abbrev pub invariant-loop-row : goal.invariant-loop-row
+invariant-loop-row l = list_any misses_name (flat_map (λ row. row.cells) (rows_shown (drop l.row-index l.row-items))) ≡ list_any misses_name (cells_in (side_shown l.side))

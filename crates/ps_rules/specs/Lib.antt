@@ -1,0 +1,13 @@
+pub mod SymbolsShown
+pub mod Kinds
+pub mod ShapesShown
+pub mod RulesShown
+pub mod CellsShown
+pub mod Asked
+pub mod Here
+pub mod Twice
+pub mod SoughtItems
+pub mod AboveShown
+pub mod FaultsShown
+pub mod FormsShown
+pub mod RefusedLines

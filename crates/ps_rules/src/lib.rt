@@ -1,0 +1,37 @@
+//! The rules of a game: their lines, read as trees.
+#![tactic(auto)]
+
+mod above;
+mod cells;
+mod commands;
+mod ellipses;
+mod fault;
+mod items;
+mod key_words;
+mod kinds;
+mod lines;
+mod looseness;
+mod name_faults;
+mod occurrences;
+mod parts;
+mod read;
+mod rule_faults;
+mod rules;
+mod shape_faults;
+mod shapes;
+mod sides;
+mod sought;
+mod symbols;
+mod tokens;
+mod tree;
+mod tree_cells;
+mod twice;
+
+pub use fault::RuleFault;
+pub use occurrences::Occurrences;
+pub use ps_model::{Direction, Fault, FaultKind, MovementWord};
+pub use read::read_rules;
+pub use tree::{CellPair, Commands, Item, RuleLine, RuleText, SourceRule};
+
+#[cfg(test)]
+mod tests;

@@ -1,0 +1,104 @@
+//! The occurrences of names in a rule's cells: which one of the left decides one of the right, and which properties are loose.
+
+ghost use Rattle.std.specs.Prelude.{◌≡◌, ◌&&◌, IfOk, filter};
+ghost use Rattle.std.specs.List.{list_any, list_all};
+ghost use Rattle.ps_model.specs.Directions.{is_several};
+ghost use Rattle.ps_model.specs.Names.{layer_of};
+ghost use Rattle.ps_model.specs.Occurrences.{here_or_only, numbers, bound_name, bound_word, cells_of as cells_of_rule, are_on_one_layer, is_on_left_too, is_loose, names_it};
+ghost use Rattle.ps_names.specs.Shown.{meaning_shown};
+ghost use Rattle.ps_rules.specs.RulesShown.{rule_shown, cell_shown, items_shown, cell_list_shown};
+ghost use Rattle.ps_rules.specs.SoughtItems.{is_sought, left_of, only_found};
+
+use crate::sought::{Found, Sought, first_of, found_in};
+use crate::tree::{CellPair, Item, SourceRule};
+use crate::tree_cells::cells_of;
+use ps_model::{Memory, MovementWord, ObjectId};
+use ps_names::{Meaning, Names};
+use std::alloc::Global;
+use std::marker::Model;
+
+/// The occurrences of names in a rule's cells. Contracts see the rule.
+#[derive(Drop)]
+pub struct Occurrences<'r> {
+    rule: &'r SourceRule,
+    cells: Vec<&'r CellPair>,
+}
+
+impl<'r> Model for Occurrences<'r> {
+    ghost use Rattle.std.specs.Prelude.{◌≡◌};
+    ghost use Rattle.ps_model.specs.SourceRules.{SourceRule as Meant};
+    ghost use Rattle.ps_model.specs.Occurrences.{cells_of};
+    ghost use Rattle.ps_rules.specs.RulesShown.{rule_shown, cell_list_shown};
+
+    ghost Value = { Meant };
+
+    ghost view = { λ o. rule_shown o.rule.now };
+
+    ghost invariant = { λ o. cell_list_shown o.cells.items ≡ cells_of (rule_shown o.rule.now) };
+}
+
+impl Found {
+    /// The one that is found, if there is no other.
+    fn only(self) -> Option<u32>
+        ensures { result ≡ only_found self }
+    {
+        match self {
+            Found::Nothing => None,
+            Found::Only(at) => Some(at),
+            Found::Several => None,
+        }
+    }
+}
+
+/// The number of the first item that is looked for here; where there is none, that of the only one that is looked for in the
+/// left of the cells.
+#[tactic(auto, using(crate::proofs::Founds::here_of, crate::proofs::Founds::not_here))]
+fn here_or_only(
+    here: Sought<'_>,
+    items: &[Item],
+    all: Sought<'_>,
+    cells: &[&CellPair],
+) -> Option<u32>
+    ensures { result ≡ here_or_only (numbers (filter (is_sought here.entry) (items_shown items.now))) (numbers (filter (is_sought all.entry) (left_of (cell_list_shown cells.now)))) }
+{
+    let first = first_of(here, items);
+    if first.is_some() {
+        return first;
+    }
+    found_in(all, cells).only()
+}
+
+impl<'r> Occurrences<'r> {
+    /// The occurrences in a rule's cells. `Memory` if there is no room for their list.
+    pub fn of(alloc: Global, rule: &'r SourceRule) -> Result<Occurrences<'r>, Memory>
+        ensures { IfOk result (λ occurrences. occurrences ≡ rule_shown rule.entry.now) }
+    {
+        let cells = cells_of(alloc, rule)?;
+        Ok(Occurrences { rule, cells })
+    }
+
+    /// The cells of the rule in written order.
+    pub fn cells(&self) -> &[&'r CellPair]
+        ensures { cell_list_shown result.now ≡ cells_of_rule self.now }
+    {
+        self.cells.as_slice()
+    }
+
+    /// The left occurrence that decides a property on the right of a cell, by its byte of the text: the one in the same cell with the
+    /// same name; without one, the only left occurrence of that property.
+    pub fn bound_name(&self, cell: &CellPair, meaning: &Meaning) -> Option<u32>
+        ensures { result ≡ bound_name self.now (cell_shown cell.now) (meaning_shown meaning.now) }
+    {
+        let name = Sought::Name(meaning);
+        here_or_only(name, cell.left.as_slice(), name, &self.cells)
+    }
+
+    /// The left occurrence that decides a word of several moves before a name on the right of a cell, by its byte of the text: the one in the same
+    /// cell with the same word and the same name; without one, the only left occurrence of that word, with whatever name.
+    pub fn bound_word(&self, cell: &CellPair, word: MovementWord, meaning: &Meaning) -> Option<u32>
+        ensures { result ≡ bound_word self.now (cell_shown cell.now) word (meaning_shown meaning.now) }
+    {
+        let both = Sought::Both(word, meaning);
+        here_or_only(both, cell.left.as_slice(), Sought::Word(word), &self.cells)
+    }
+}

@@ -1,0 +1,83 @@
+//! Reading the rules of a game.
+
+ghost use Rattle.std.specs.Prelude.{◌≡◌, ◌≤◌, ◌+◌, ◌++◌, [], Some, List, IfOk, IfErr, OnOk, length};
+ghost use Rattle.ps_model.specs.declared.faults.Fault.{Fault as TheFault};
+ghost use Rattle.ps_model.specs.Faults.{first_fault};
+ghost use Rattle.ps_model.specs.LineNumbers.{lines_between};
+ghost use Rattle.ps_model.specs.Lines.{Line, lines_of};
+ghost use Rattle.ps_model.specs.RuleFaults.{rule_faults, faults_below};
+ghost use Rattle.ps_model.specs.RuleLines.{rules_read, lines_with_words};
+ghost use Rattle.ps_rules.specs.AboveShown.{above_shown};
+ghost use Rattle.ps_rules.specs.Here.{here};
+ghost use Rattle.ps_rules.specs.RefusedLines.{IsRefused};
+ghost use Rattle.ps_rules.specs.RulesShown.{lines_shown};
+ghost use Rattle.ps_rules.specs.declared.fault.RuleFault.TheVariants.{Refused};
+
+use crate::above::Above;
+use crate::fault::RuleFault;
+use crate::lines::read_line;
+use crate::tree::{RuleLine, RuleText};
+use ps_model::{Fault, FaultKind};
+use ps_names::Names;
+use ps_text::Source;
+use std::alloc::Global;
+use std::ops::Range;
+
+/// Goes over a line, if it is there and not blank: keeps what it gives, and tells what stands above the next one.
+fn over(
+    alloc: Global,
+    source: &Source,
+    line: u32,
+    names: &Names,
+    above: Above,
+    made: &mut Vec<RuleLine>,
+) -> Result<Above, RuleFault>
+    requires from_one { 1 ≤ line }
+    requires there { line ≤ length (lines_of source.now) }
+    ensures part { OnOk result ((rest : List Line) → lines_shown made.new.items ++ rules_read names.now rest ≡ lines_shown made.old.items ++ rules_read names.now (here source.now line ++ rest)) }
+    ensures fine { IfOk result (λ next. (rest : List Line) → faults_below names.now (above_shown next) (lines_with_words rest) ≡ faults_below names.now (above_shown above) (lines_with_words (here source.now line ++ rest))) }
+    ensures refused { IfErr result (λ e. (fault : TheFault) → e ≡ Refused fault → IsRefused source.now line names.now (above_shown above) fault) }
+{
+    if !source.is_there(line) {
+        return Ok(above);
+    }
+    if source.is_blank_line(line) {
+        return Ok(above);
+    }
+    let read = read_line(alloc, source, line, names, above)?;
+    let next = read.above;
+    made.push(read.line)?;
+    Ok(next)
+}
+
+/// Reads the rules of a game from its section RULES, given by the numbers of the lines right below its header up to the next
+/// header, counted from 1; an absent section by an empty range.
+///
+/// `Refused` with the first fault of these lines, if they have one; a loop without its end is told at the line of its start, behind all
+/// others. `Memory` if a growth was refused.
+pub fn read_rules(
+    alloc: Global,
+    source: &Source,
+    lines: Range<u32>,
+    names: &Names,
+) -> Result<RuleText, RuleFault>
+    requires from_one { 1 ≤ lines.start }
+    requires ordered { lines.start ≤ lines.end }
+    requires there { lines.end ≤ length (lines_of source.now) + 1 }
+    ensures part { IfOk result (λ text. text ≡ rules_read names.now (lines_between source.now lines.start lines.end)) }
+    ensures fine { OnOk result (rule_faults names.now (lines_between source.now lines.start lines.end) ≡ []) }
+    ensures refused { IfErr result (λ e. (fault : TheFault) → e ≡ RuleFault.Refused fault → first_fault (rule_faults names.now (lines_between source.now lines.start lines.end)) ≡ Some fault) }
+{
+    let mut made = Vec::new(alloc);
+    let mut above = Above::nothing();
+    for line in lines.start..lines.end {
+        above = over(alloc, source, line, names, above, &mut made)?;
+    }
+    if let Some(line) = above.start {
+        return Err(RuleFault::Refused(Fault {
+            kind: FaultKind::Loop,
+            line,
+        }));
+    }
+    Ok(RuleText { lines: made })
+}

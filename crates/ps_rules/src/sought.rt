@@ -1,0 +1,205 @@
+//! Looking for occurrences of names and of movement words.
+
+ghost use Rattle.std.specs.Prelude.{◌≡◌, ◌++◌, ◌∷◌, List as Sequence, ℕ, filter};
+ghost use Rattle.std.specs.List.{flat_map};
+ghost use Rattle.std.specs.Option.{option_to_list};
+ghost use Rattle.ps_model.specs.declared.pieces.ObjectId.{ObjectId as TheObject};
+ghost use Rattle.ps_model.specs.Directions.{same_word, word_number};
+ghost use Rattle.ps_model.specs.Names.{One, AllOf, AnyOf};
+ghost use Rattle.ps_model.specs.Occurrences.{same_meaning, names_it, moves_so, numbers, has_movement};
+ghost use Rattle.ps_model.specs.SourceRules.{Item as TheItem, Is};
+ghost use Rattle.ps_names.specs.Shown.{meaning_shown};
+ghost use Rattle.ps_rules.specs.RulesShown.{item_shown, items_shown, cell_shown, cell_list_shown};
+ghost use Rattle.ps_rules.specs.declared.sought.Found.TheVariants.{Nothing};
+ghost use Rattle.ps_rules.specs.SoughtItems.{is_sought, found_from, first_number, left_of};
+
+use crate::tree::{CellPair, Item};
+use ps_model::{MovementWord, ObjectId};
+use ps_names::Meaning;
+
+/// Whether the meaning is that one object.
+fn is_object(object: ObjectId, meaning: &Meaning) -> bool
+    ensures { result ≡ same_meaning (One object) (meaning_shown meaning.now) }
+{
+    match meaning {
+        Meaning::One(other) => object.0 == other.0,
+        Meaning::All { .. } => false,
+        Meaning::Any { .. } => false,
+    }
+}
+
+/// Whether the meaning is the aggregate of that legend line.
+fn is_aggregate(line: u32, meaning: &Meaning) -> bool
+    ensures { (objects : Sequence TheObject) → result ≡ same_meaning (AllOf line objects) (meaning_shown meaning.now) }
+{
+    match meaning {
+        Meaning::One(_) => false,
+        Meaning::All {
+            line: other,
+            objects: _,
+        } => line == *other,
+        Meaning::Any { .. } => false,
+    }
+}
+
+/// Whether the meaning is the property of that legend line.
+fn is_property(line: u32, meaning: &Meaning) -> bool
+    ensures { (objects : Sequence TheObject) → result ≡ same_meaning (AnyOf line objects) (meaning_shown meaning.now) }
+{
+    match meaning {
+        Meaning::One(_) => false,
+        Meaning::All { .. } => false,
+        Meaning::Any {
+            line: other,
+            objects: _,
+        } => line == *other,
+    }
+}
+
+/// Whether two names are the same: they stand for the same object, or for the aggregate or property of one legend line.
+pub fn same_meaning(first: &Meaning, second: &Meaning) -> bool
+    ensures { result ≡ same_meaning (meaning_shown first.now) (meaning_shown second.now) }
+{
+    match first {
+        Meaning::One(object) => is_object(*object, second),
+        Meaning::All { line, objects: _ } => is_aggregate(*line, second),
+        Meaning::Any { line, objects: _ } => is_property(*line, second),
+    }
+}
+
+/// The place of a movement word among them.
+fn word_number(word: MovementWord) -> u32
+    ensures { result ≡ word_number word }
+{
+    match word {
+        MovementWord::Forwards => 0,
+        MovementWord::Backwards => 1,
+        MovementWord::TurnedLeft => 2,
+        MovementWord::TurnedRight => 3,
+        MovementWord::Parallel => 4,
+        MovementWord::Perpendicular => 5,
+        MovementWord::Up => 6,
+        MovementWord::Down => 7,
+        MovementWord::Left => 8,
+        MovementWord::Right => 9,
+        MovementWord::Action => 10,
+        MovementWord::Stationary => 11,
+        MovementWord::Moving => 12,
+        MovementWord::Orthogonal => 13,
+        MovementWord::Horizontal => 14,
+        MovementWord::Vertical => 15,
+    }
+}
+
+/// Whether an item's word is this one.
+fn has_movement(word: MovementWord, written: Option<MovementWord>) -> bool
+    ensures { result ≡ has_movement word written }
+{
+    match written {
+        None => false,
+        Some(other) => word_number(word) == word_number(other),
+    }
+}
+
+/// What is looked for.
+#[derive(Clone, Copy)]
+pub enum Sought<'m> {
+    /// A name.
+    Name(&'m Meaning),
+    /// A movement word, with whatever name.
+    Word(MovementWord),
+    /// A name with a movement word.
+    Both(MovementWord, &'m Meaning),
+}
+
+impl<'m> Sought<'m> {
+    /// Whether an item of that word and that meaning is one.
+    fn fits(self, written: Option<MovementWord>, meaning: &Meaning) -> bool
+        ensures { (at : ℕ) → result ≡ is_sought self.entry (Is at written (meaning_shown meaning.now)) }
+    {
+        match self {
+            Sought::Name(name) => same_meaning(name, meaning),
+            Sought::Word(word) => has_movement(word, written),
+            Sought::Both(word, name) => same_meaning(name, meaning) && has_movement(word, written),
+        }
+    }
+
+    /// The number of an item, if it is one that is looked for.
+    fn at(self, item: &Item) -> Option<u32>
+        ensures { (rest : Sequence TheItem) → numbers (filter (is_sought self.entry) (item_shown item.now ∷ rest)) ≡ option_to_list result ++ numbers (filter (is_sought self.entry) rest) }
+    {
+        let Item::Is { at, word, meaning } = item else {
+            return None;
+        };
+        if !self.fits(*word, meaning) {
+            return None;
+        }
+        Some(*at)
+    }
+}
+
+/// The number of the first of the items that is looked for.
+pub fn first_of(sought: Sought<'_>, items: &[Item]) -> Option<u32>
+    ensures { result ≡ first_number (numbers (filter (is_sought sought.entry) (items_shown items.now))) }
+{
+    for item in items {
+        if let Some(at) = sought.at(item) {
+            return Some(at);
+        }
+    }
+    None
+}
+
+/// What was found so far.
+#[derive(Clone, Copy, PartialEq, Eq, Debug)]
+pub enum Found {
+    Nothing,
+    /// One occurrence, at that byte of the text.
+    Only(u32),
+    Several,
+}
+
+impl Found {
+    /// With what an item gives.
+    fn with(self, at: Option<u32>) -> Found
+        ensures { result ≡ found_from self (option_to_list at) }
+    {
+        let Some(at) = at else {
+            return self;
+        };
+        match self {
+            Found::Nothing => Found::Only(at),
+            Found::Only(_) => Found::Several,
+            Found::Several => Found::Several,
+        }
+    }
+}
+
+/// What is found with the items, too.
+fn found_with(sought: Sought<'_>, found: Found, items: &[Item]) -> Found
+    ensures { result ≡ found_from found (numbers (filter (is_sought sought.entry) (items_shown items.now))) }
+{
+    let mut found = found;
+    for item in items {
+        found = found.with(sought.at(item));
+    }
+    found
+}
+
+/// What is found with the items of the left of a cell, too.
+fn found_left(sought: Sought<'_>, found: Found, cell: &CellPair) -> Found
+    ensures { result ≡ found_from found (numbers (filter (is_sought sought.entry) (cell_shown cell.now).left)) }
+{
+    found_with(sought, found, cell.left.as_slice())
+}
+
+/// What is found on the left of the cells.
+pub fn found_in(sought: Sought<'_>, cells: &[&CellPair]) -> Found
+    ensures { result ≡ found_from Nothing (numbers (filter (is_sought sought.entry) (left_of (cell_list_shown cells.now)))) }
+{
+    let mut found = Found::Nothing;
+    for cell in cells {
+        found = found_left(sought, found, cell);
+    }
+    found
+}
