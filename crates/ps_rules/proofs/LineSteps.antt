@@ -8,18 +8,18 @@ use Rattle.ps_model.specs.RuleFaults.{Above, above_next, faults_of_line, faults_
 use Rattle.ps_model.specs.RuleLines.{lines_with_words}
 use Rattle.ps_model.specs.RuleSymbols.{tokens_of}
 use Rattle.ps_rules.specs.FormsShown.{form_at}
-use Rattle.ps_rules.specs.Here.{here}
+use Rattle.ps_model.specs.LineNumbers.{here}
 use Rattle.ps_rules.specs.RefusedLines.{IsRefused}
 use Rattle.ps_rules.proofs.RuleSteps.{first-some}
 use Rattle.ps_model.specs.Faults.{first_fault}
-use Rattle.ps_rules.proofs.LinesBetween.{number-line_at}
+use Rattle.ps_model.proofs.LinesInOrder.{line_at-number}
 
 pub below-step : (text : List ℕ) (line : ℕ) (names : Names) (above : Above) (rest : List Line) → 1 ≤ line → line ≤ length (lines_of text)
     → (line_at text line).is_there ≡ true → is_blank_line (line_at text line) ≡ false
     → faults_below names above (lines_with_words (here text line ++ rest))
     ≡ faults_of_line above line (tokens_of names (line_at text line)) (form_at text line names) ++ faults_below names (above_next above line (form_at text line names)) (lines_with_words rest)
 below-step text line names above rest one within t b =
-    let number : (line_at text line).number ≡ line = number-line_at text line one within in
+    let number : (line_at text line).number ≡ line = line_at-number text line one within in
     rw (t, b, number) refl
 
 pub refused-step : (text : List ℕ) (line : ℕ) (names : Names) (above : Above) (rest : List Line) (fault : Fault) → 1 ≤ line → line ≤ length (lines_of text)

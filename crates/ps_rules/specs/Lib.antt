@@ -4,7 +4,6 @@ pub mod ShapesShown
 pub mod RulesShown
 pub mod CellsShown
 pub mod Asked
-pub mod Here
 pub mod Twice
 pub mod SoughtItems
 pub mod AboveShown

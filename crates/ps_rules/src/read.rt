@@ -8,7 +8,7 @@ ghost use Rattle.ps_model.specs.Lines.{Line, lines_of};
 ghost use Rattle.ps_model.specs.RuleFaults.{rule_faults, faults_below};
 ghost use Rattle.ps_model.specs.RuleLines.{rules_read, lines_with_words};
 ghost use Rattle.ps_rules.specs.AboveShown.{above_shown};
-ghost use Rattle.ps_rules.specs.Here.{here};
+ghost use Rattle.ps_model.specs.LineNumbers.{here};
 ghost use Rattle.ps_rules.specs.RefusedLines.{IsRefused};
 ghost use Rattle.ps_rules.specs.RulesShown.{lines_shown};
 ghost use Rattle.ps_rules.specs.declared.fault.RuleFault.TheVariants.{Refused};

@@ -9,7 +9,7 @@ use Rattle.ps_rules.specs.AboveShown.{above_shown}
 use Rattle.ps_rules.specs.RulesShown.{lines_shown}
 use Rattle.ps_rules.specs.declared.fault.RuleFault.{RuleFault}
 use Rattle.ps_rules.specs.declared.fault.RuleFault.TheVariants.{Refused}
-use Rattle.ps_rules.proofs.LinesBetween.{between-step}
+use Rattle.ps_model.proofs.LinesInOrder.{between-step}
 use Rattle.ps_rules.proofs.LineSteps.{refused-step}
 use Rattle.ps_rules.proofs.read.read_rules.Goals as goal
 

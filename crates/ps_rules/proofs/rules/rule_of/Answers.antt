@@ -5,7 +5,7 @@ use Rattle.ps_model.specs.RuleShape.{RuleShape, at_end}
 use Rattle.ps_model.specs.RuleTree.{rows_of, row_of_cells, commands_of}
 use Rattle.ps_rules.specs.RulesShown.{tree_rows_shown, commands_shown}
 use Rattle.ps_rules.specs.ShapesShown.{shape_shown}
-use Rattle.ps_rules.proofs.LinesBetween.{number-line_at}
+use Rattle.ps_model.proofs.LinesInOrder.{line_at-number}
 use Rattle.ps_rules.proofs.Rows.{rows-by-cells}
 use Rattle.ps_rules.proofs.SameRules.{same-rule}
 use Rattle.ps_rules.proofs.rules.rule_of.Goals as goal
@@ -17,5 +17,5 @@ returns c =
     let rows : tree_rows_shown c.in_ok-rows.rows ≡ rows_of shape =
     c.in_ok-rows.ensures ∙ ap (map row_of_cells) c.requires.paired ∙ rows-by-cells shape in
     let commands : commands_shown c.in_ok-commands.commands ≡ commands_of line (at_end shape.right) = c.in_ok-commands.ensures ∙ ap (commands_of line) c.at_end.ensures in
-    same-rule _ _ _ _ _ _ _ _ _ _ _ _ _ _ (sym (number-line_at c.args.source.now c.args.line c.requires.from_one c.requires.there))
+    same-rule _ _ _ _ _ _ _ _ _ _ _ _ _ _ (sym (line_at-number c.args.source.now c.args.line c.requires.from_one c.requires.there))
     c.has_kind.ensures c.has_kind-2.ensures c.in_ok-directions.ensures rows c.has_rows.ensures commands
