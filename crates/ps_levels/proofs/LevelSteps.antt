@@ -68,10 +68,6 @@ one-line text line next one less e there =
     between-step text line next next one (omega arith) (omega arith) e
     ∙ ap (λ (rest : List Line). here text line ++ rest) (between-end text next next (omega arith)) ∙ append-nil (here text line) ∙ here-there text line there
 
--- the faults of the first row alone
-first-alone : (names : Names) (width : ℕ) (text : List ℕ) (line next : ℕ) → lines_between text line next ≡ line_at text line ∷ [] → rows_faults names width 0 (lines_between text line next) ≡ row_faults names width 0 (line_at text line)
-first-alone names width text line next e = ap (rows_faults names width 0) e ∙ append-nil (row_faults names width 0 (line_at text line))
-
 -- a fault of the first row
 pub fault-in-first : (names : Names) (width place : ℕ) (first : Line) (below lines : List Line) (fault : Fault) → lines ≡ first ∷ [] → first_fault (rows_faults names width 0 lines) ≡ Some fault → first_fault (level_faults_by names width place first below) ≡ Some fault
 fault-in-first names width place first below lines fault one e =

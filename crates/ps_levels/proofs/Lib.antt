@@ -1,5 +1,5 @@
 mod WinSteps
-mod BlankStarts
+mod BetweenBlanks
 mod BlankEnds
 mod Letters
 mod Grounds

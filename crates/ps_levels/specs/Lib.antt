@@ -1,6 +1,6 @@
 pub mod WinsShown
 pub mod Cells
 pub mod RowFaults
-pub mod LevelsShown
+pub mod LevelRowsAt
 pub mod EntriesShown
 pub mod Sized

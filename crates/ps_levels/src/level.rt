@@ -8,7 +8,7 @@ ghost use Rattle.ps_model.specs.LevelLines.{LevelEntry, characters_of, row_cells
 ghost use Rattle.ps_model.specs.LineNumbers.{line_at, lines_between};
 ghost use Rattle.ps_model.specs.Lines.{lines_of, is_blank_line};
 ghost use Rattle.ps_levels.specs.Cells.{rows_shown};
-ghost use Rattle.ps_levels.specs.LevelsShown.{rows_at};
+ghost use Rattle.ps_levels.specs.LevelRowsAt.{rows_at};
 ghost use Rattle.ps_levels.specs.RowFaults.{level_faults_by};
 
 use crate::columns::in_columns;

@@ -3,7 +3,7 @@ use Rattle.std.specs.Prelude.{slice_range}
 use Rattle.std.proofs.lemmas.Str.{IsCharBoundary-before_ascii}
 use Rattle.ps_model.specs.Words.{is_blank}
 use Rattle.ps_model.specs.Lines.{without_blank_end}
-use Rattle.ps_levels.proofs.BlankStarts.{blank_is_ascii}
+use Rattle.ps_levels.proofs.BetweenBlanks.{blank_is_ascii}
 use Rattle.ps_levels.proofs.BlankEnds.{one_blank_less, ends_here}
 use Rattle.ps_levels.proofs.row_text.blank_end.Goals as goal
 

@@ -1,4 +1,4 @@
--- Levels and messages of the code as those of the definitions.
+-- The rows of a level by the numbers of its lines.
 use Rattle.std.specs.Prelude.{ℕ, ◌+◌, List}
 use Rattle.ps_model.specs.LevelLines.{EntryLines, LevelRows}
 use Rattle.ps_model.specs.LineNumbers.{line_at, lines_between}
