@@ -1,0 +1,4 @@
+pub mod LinesBetween
+pub mod ObjectSteps
+pub mod Elements
+pub mod WrittenSteps

@@ -1,2 +1,4 @@
 pub mod Shown
 pub mod GlyphsShown
+pub mod LinesThere
+pub mod LinesShown

@@ -3,8 +3,10 @@
 
 mod fault;
 mod glyphs;
+mod lines;
 mod meaning;
 mod names;
+mod objects;
 mod read;
 
 pub use fault::NameFault;
