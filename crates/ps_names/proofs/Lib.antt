@@ -2,3 +2,6 @@ pub mod LinesBetween
 pub mod ObjectSteps
 pub mod Elements
 pub mod WrittenSteps
+pub mod Characters
+pub mod KnownEntries
+pub mod FirstFaults

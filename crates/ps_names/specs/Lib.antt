@@ -2,3 +2,4 @@ pub mod Shown
 pub mod GlyphsShown
 pub mod LinesThere
 pub mod LinesShown
+pub mod Known

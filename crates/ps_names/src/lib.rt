@@ -3,9 +3,12 @@
 
 mod fault;
 mod glyphs;
+mod known;
 mod lines;
 mod meaning;
+mod mention;
 mod names;
+mod object_faults;
 mod objects;
 mod read;
 
