@@ -22,3 +22,8 @@ no-first (x ∷ a) e = cc
 pub none-first : (a : List Fault) → a ≡ [] → None ≡ first_fault a
 none-first [] e = refl
 none-first (x ∷ a) e = cc
+
+-- what is found in the front
+pub first-found : (a b : List Fault) (f : Fault) → first_fault a ≡ Some f → first_fault (a ++ b) ≡ Some f
+first-found [] b f e = cc
+first-found (x ∷ a) b f e = e

@@ -3,3 +3,4 @@ pub mod GlyphsShown
 pub mod LinesThere
 pub mod LinesShown
 pub mod Known
+pub mod LegendShown

@@ -2,8 +2,11 @@
 #![tactic(auto)]
 
 mod fault;
+mod folding;
+mod form_faults;
 mod glyphs;
 mod known;
+mod legend;
 mod lines;
 mod meaning;
 mod mention;
