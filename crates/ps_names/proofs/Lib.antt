@@ -5,3 +5,4 @@ pub mod WrittenSteps
 pub mod Characters
 pub mod KnownEntries
 pub mod FirstFaults
+pub mod ReachLaw

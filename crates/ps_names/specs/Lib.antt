@@ -4,3 +4,4 @@ pub mod LinesThere
 pub mod LinesShown
 pub mod Known
 pub mod LegendShown
+pub mod LegendNames

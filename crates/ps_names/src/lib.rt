@@ -7,12 +7,14 @@ mod form_faults;
 mod glyphs;
 mod known;
 mod legend;
+mod legend_names;
 mod lines;
 mod meaning;
 mod mention;
 mod names;
 mod object_faults;
 mod objects;
+mod reach;
 mod read;
 
 pub use fault::NameFault;
