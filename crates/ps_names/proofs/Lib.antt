@@ -6,3 +6,4 @@ pub mod Characters
 pub mod KnownEntries
 pub mod FirstFaults
 pub mod ReachLaw
+pub mod MeaningLaws

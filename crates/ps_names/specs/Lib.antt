@@ -5,3 +5,4 @@ pub mod LinesShown
 pub mod Known
 pub mod LegendShown
 pub mod LegendNames
+pub mod MeaningSteps
