@@ -1,10 +1,13 @@
 -- Look-ups in the code's table are look-ups among the names that are known.
-use Rattle.std.proofs.Common.{◌≡◌, ℕ, List, [], ◌∷◌, ◌++◌, Bool, true, false, cond, map, refl, ap, ◌∙◌, Option, None, Some, String, Global, is_some, ◌||◌, option_map}
+use Rattle.std.proofs.lemmas.List.Quantifiers.{position-Some}
+use Rattle.std.specs.Prelude.{slice_index_or}
+use Rattle.std.specs.List.{position}
+use Rattle.std.proofs.Common.{zero, suc, ◌<◌, length, arith, subst, ◌≡◌, ℕ, List, [], ◌∷◌, ◌++◌, Bool, true, false, cond, map, refl, ap, ◌∙◌, Option, None, Some, String, Global, is_some, ◌||◌, option_map}
 use Rattle.std.specs.String.{string_bytes, string_eq}
 use Rattle.std.specs.Map.{lookup}
 use Rattle.std.specs.List.{list_any}
 use Rattle.std.specs.Str.{bytes_eq}
-use Rattle.std.proofs.lemmas.List.{map-append}
+use Rattle.std.proofs.lemmas.List.{map-append, length-map}
 use Rattle.indexmap.specs.IndexMap.{IndexMap, insert_entry, get}
 use Rattle.indexmap.proofs.CallerLemmas.{insert_entry-new}
 use Rattle.ps_model.specs.Meanings as model
@@ -57,3 +60,27 @@ pub insert-named : {S : Type 0} (m : IndexMap (String Global) Entry S) (es : Lis
     → map named_shown es ≡ old ++ named_as (mention_shown mention) written ∷ []
 insert-named m es k character mention written old v e b ch none =
     insert-shown m es k (record { character = character; mention = mention }) (folded written) e b none ∙ rw (v, b, ch) refl
+
+-- before the place of a name stand others
+pub before-shown : (name : List ℕ) (es : List (String Global × Entry)) (i : ℕ) → position (λ k. bytes_eq name (string_bytes k)) (map (λ e. e.0) es) ≡ Some i
+    → (k : ℕ) → k < i → bytes_eq name (slice_index_or (keys (map named_shown es)) k []) ≡ false
+before-shown name [] i e k less = cc
+before-shown name (entry ∷ es) i e k less =
+    let found = position-Some (λ k. bytes_eq name (string_bytes k)) (map (λ e. e.0) (entry ∷ es)) i entry.0 e in
+    let within : i < length (entry ∷ es) = subst (λ n. i < n) (length-map (entry ∷ es) (λ e. e.0)) found.0 in
+    ap (bytes_eq name) (key-shown (entry ∷ es) k entry.0 (omega arith)) ∙ found.2 k less
+  where
+    key-shown : (es : List (String Global × Entry)) (k : ℕ) (d : String Global) → k < length es → slice_index_or (keys (map named_shown es)) k [] ≡ string_bytes (slice_index_or (map (λ e. e.0) es) k d)
+    key-shown [] k d h = absurd (omega arith)
+    key-shown (e ∷ es) zero d h = refl
+    key-shown (e ∷ es) (suc k) d h = key-shown es k d (omega arith)
+
+both-false : (a b : Bool) → (a || b) ≡ false → (a ≡ false) × (b ≡ false)
+both-false true b e = cc
+both-false false b e = (refl, e)
+
+-- a name that isn't known is none of them
+pub none-before : (name : List ℕ) (known : List (List ℕ)) → list_any (bytes_eq name) known ≡ false → (k : ℕ) → k < length known → bytes_eq name (slice_index_or known k []) ≡ false
+none-before name [] e k less = absurd (omega arith)
+none-before name (key ∷ known) e zero less = (both-false (bytes_eq name key) (list_any (bytes_eq name) known) e).0
+none-before name (key ∷ known) e (suc k) less = none-before name known (both-false (bytes_eq name key) (list_any (bytes_eq name) known) e).1 k (omega arith)

@@ -7,3 +7,4 @@ pub mod KnownEntries
 pub mod FirstFaults
 pub mod ReachLaw
 pub mod MeaningLaws
+pub mod TableSteps

@@ -6,3 +6,4 @@ pub mod Known
 pub mod LegendShown
 pub mod LegendNames
 pub mod MeaningSteps
+pub mod Tables

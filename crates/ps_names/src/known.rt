@@ -1,6 +1,6 @@
 //! The names that are known while the sections are read.
 
-ghost use Rattle.std.specs.Prelude.{◌≡◌, ◌++◌, ◌∷◌, [], false, IfOk, option_map, ◌<◌, length, map, slice_index_or, IsTrue};
+ghost use Rattle.std.specs.Prelude.{◌≡◌, ◌++◌, ◌∷◌, [], false, IfOk, option_map, ◌<◌, length, map, slice_get, slice_index_or, ℕ};
 ghost use Rattle.std.specs.Str.{bytes_eq};
 ghost use Rattle.std.specs.List.{list_any};
 ghost use Rattle.std.specs.Map.{lookup};
@@ -9,6 +9,7 @@ ghost use Rattle.ps_model.specs.ObjectLines.{one_character};
 ghost use Rattle.ps_model.specs.DeclarationFaults.{are_declared_again};
 ghost use Rattle.ps_text.specs.WordViews.{text_of};
 ghost use Rattle.ps_names.specs.Known.{Named, keys, mention_shown, mentions_of_names, named_as};
+ghost use Rattle.ps_names.specs.Tables.{known_name_shown};
 
 use crate::mention::Mention;
 use indexmap::IndexMap;
@@ -21,6 +22,15 @@ use std::marker::Model;
 #[derive(Clone, Copy, Debug)]
 pub struct Entry {
     /// The name's character as it is written, if it has one alone.
+    pub character: Option<char>,
+    pub mention: Mention,
+}
+
+/// A known name, and what it has.
+#[derive(Clone, Copy)]
+pub struct KnownName<'a> {
+    /// Its letters folded.
+    pub name: &'a str,
     pub character: Option<char>,
     pub mention: Mention,
 }
@@ -78,6 +88,30 @@ impl Known {
         ensures { result ≡ length self.now }
     {
         self.names.len()
+    }
+
+    /// The name of a place, in order of declaration, if there is one.
+    pub fn at(&self, place: usize) -> Option<KnownName<'_>>
+        ensures { option_map known_name_shown result ≡ slice_get self.now place }
+    {
+        let Some((name, entry)) = self.names.get_index(place) else {
+            return None;
+        };
+        Some(KnownName {
+            name: name.as_str(),
+            character: entry.character,
+            mention: entry.mention,
+        })
+    }
+
+    /// The place of a name, which is given with its letters folded; where it isn't known, how many names are.
+    pub fn place_or_len(&self, name: &str) -> usize
+        ensures before { (k : ℕ) → k < result → bytes_eq name.now (slice_index_or (keys self.now) k []) ≡ false }
+    {
+        let Some(place) = self.names.get_index_of(name) else {
+            return self.names.len();
+        };
+        place
     }
 
     /// Declares a name as it is written. Tells whether it is known already; then all stays as it was.

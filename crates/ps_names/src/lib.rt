@@ -18,6 +18,7 @@ mod object_faults;
 mod objects;
 mod reach;
 mod read;
+mod table;
 
 pub use fault::NameFault;
 pub use glyphs::Glyph;

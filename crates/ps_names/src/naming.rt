@@ -18,10 +18,10 @@ use ps_model::{Fault, FaultKind, Joiner, Memory};
 use std::alloc::Global;
 
 /// What the legend line of a place stands for.
-pub fn meaning_at(meanings: &[Option<Meaning>], place: u32) -> Option<&Meaning>
+pub fn meaning_at(meanings: &[Option<Meaning>], place: usize) -> Option<&Meaning>
     ensures { option_map (λ m. meaning_shown m.now) result ≡ slice_index_or (meanings_shown meanings.now) place None }
 {
-    let Some(meaning) = meanings.get(place as usize) else {
+    let Some(meaning) = meanings.get(place) else {
         return None;
     };
     meaning.as_ref()
@@ -57,7 +57,7 @@ fn mentions_aggregate(meanings: &[Option<Meaning>], mention: Mention) -> bool
 {
     match mention {
         Mention::Object(_) => false,
-        Mention::Line(place) => is_aggregate(meaning_at(meanings, place)),
+        Mention::Line(place) => is_aggregate(meaning_at(meanings, place as usize)),
     }
 }
 
@@ -67,7 +67,7 @@ fn mentions_property(meanings: &[Option<Meaning>], mention: Mention) -> bool
 {
     match mention {
         Mention::Object(_) => false,
-        Mention::Line(place) => is_property(meaning_at(meanings, place)),
+        Mention::Line(place) => is_property(meaning_at(meanings, place as usize)),
     }
 }
 
