@@ -8,3 +8,5 @@ pub mod FirstFaults
 pub mod ReachLaw
 pub mod MeaningLaws
 pub mod TableSteps
+pub mod FoldedNames
+pub mod LayerLaw

@@ -7,3 +7,4 @@ pub mod LegendShown
 pub mod LegendNames
 pub mod MeaningSteps
 pub mod Tables
+pub mod LayersShown

@@ -6,6 +6,7 @@ mod folding;
 mod form_faults;
 mod glyphs;
 mod known;
+mod layers;
 mod legend;
 mod legend_names;
 mod lines;
