@@ -10,3 +10,4 @@ pub mod MeaningLaws
 pub mod TableSteps
 pub mod FoldedNames
 pub mod LayerLaw
+pub mod WholeSteps

@@ -8,3 +8,4 @@ pub mod LegendNames
 pub mod MeaningSteps
 pub mod Tables
 pub mod LayersShown
+pub mod Wholes

@@ -20,6 +20,7 @@ mod objects;
 mod reach;
 mod read;
 mod table;
+mod whole;
 
 pub use fault::NameFault;
 pub use glyphs::Glyph;

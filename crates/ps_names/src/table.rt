@@ -1,6 +1,6 @@
 //! The table of names with what they stand for.
 
-ghost use Rattle.std.specs.Prelude.{◌≡◌, ◌+◌, ◌≤◌, None, Some, IfOk, IfSome, option_map, length, slice_get, drop};
+ghost use Rattle.std.specs.Prelude.{◌≡◌, ◌+◌, ◌++◌, IfOk, option_map, option_to_list, filter_map, drop};
 ghost use Rattle.std.specs.Option.{option_or};
 ghost use Rattle.std.specs.Str.{bytes_eq};
 ghost use Rattle.std.specs.Map.{lookup};
@@ -9,10 +9,12 @@ ghost use Rattle.ps_model.specs.Meanings.{meaning_of_mention};
 ghost use Rattle.ps_names.specs.Known.{mention_shown};
 ghost use Rattle.ps_names.specs.MeaningSteps.{meaning_shown_if, meanings_shown};
 ghost use Rattle.ps_names.specs.Shown.{meaning_shown};
-ghost use Rattle.ps_names.specs.Tables.{with_meanings, entries_with};
+ghost use Rattle.ps_names.specs.Tables.{with_meanings, entries_with, glyph_named};
+ghost use Rattle.ps_names.specs.GlyphsShown.{glyph_shown, glyphs_shown};
 
 use crate::folding::{folds_to, is_folded};
-use crate::known::{Known, KnownName};
+use crate::glyphs::{Glyph, make_glyph, push_glyph};
+use crate::known::Known;
 use crate::meaning::Meaning;
 use crate::mention::Mention;
 use crate::naming::meaning_at;
@@ -123,5 +125,28 @@ impl Table {
             }
         }
         None
+    }
+
+    /// The glyph of the name of a place, if that is one.
+    fn glyph_at(&self, alloc: Global, place: usize) -> Result<Option<Glyph>, Memory>
+        ensures { IfOk result (λ glyph. filter_map glyph_named (drop place self.now) ≡ option_to_list (option_map glyph_shown glyph) ++ filter_map glyph_named (drop (place + 1) self.now)) }
+    {
+        let Some(known) = self.known.at(place) else {
+            return Ok(None);
+        };
+        let glyph = make_glyph(alloc, known.character, meaning_at(&self.meanings, place))?;
+        Ok(glyph)
+    }
+
+    /// The glyphs: the names of one character that stand for one object or for all of an aggregate's.
+    pub fn glyphs(&self, alloc: Global) -> Result<Vec<Glyph>, Memory>
+        ensures { IfOk result (λ made. glyphs_shown made.items ≡ filter_map glyph_named self.now) }
+    {
+        let mut made = Vec::new(alloc);
+        for place in 0..self.known.len() {
+            let glyph = self.glyph_at(alloc, place)?;
+            push_glyph(&mut made, glyph)?;
+        }
+        Ok(made)
     }
 }
