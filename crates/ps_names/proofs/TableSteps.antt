@@ -9,9 +9,11 @@ use Rattle.std.specs.List.{zip, filter_map, cons_option}
 use Rattle.std.specs.Str.{bytes_eq}
 use Rattle.std.specs.Map.{lookup}
 use Rattle.std.proofs.lemmas.Option.{slice_get_past}
-use Rattle.ps_model.specs.Names.{Meaning}
+use Rattle.std.specs.Prelude.{option_to_list, option_and_then}
+use Rattle.ps_model.specs.NamesRead.{glyph_with}
+use Rattle.ps_model.specs.Names.{Meaning, Glyph}
 use Rattle.ps_names.specs.Known.{Named, keys}
-use Rattle.ps_names.specs.Tables.{entry_with, entries_with}
+use Rattle.ps_names.specs.Tables.{entry_with, entries_with, glyph_named}
 
 pub zip-map : {A B : Type 0} (f : A → B) (xs : List A) → zip xs (map f xs) ≡ map (λ x. (x, f x)) xs
 zip-map f [] = refl
@@ -108,3 +110,29 @@ made-step f xs made added k next x y e n a m = rw (n, drop-got xs k x e, a, ← 
 -- all is made
 pub done : {A B : Type 0} (f : A → B) (xs : List A) (made whole : List B) (k : ℕ) → length xs ≤ k → made ++ map f (drop k xs) ≡ whole → made ≡ whole
 done f xs made whole k past e = sym (append-nil made) ∙ ap (λ rest. made ++ map f rest) (sym (past-end xs k past)) ∙ e
+
+with_glyph : (made : Option Glyph) (glyphs : List Glyph) → cons_option made glyphs ≡ option_to_list made ++ glyphs
+with_glyph None glyphs = refl
+with_glyph (Some made) glyphs = refl
+
+module _ (known : List Named) (meanings : List (Option Meaning)) (k : ℕ) where
+  abbrev glyphs_from : ℕ → List Glyph
+  glyphs_from place = filter_map glyph_named (drop place (zip known meanings))
+
+  glyphs-end : drop k (zip known meanings) ≡ [] → glyphs_from k ≡ glyphs_from (suc k)
+  glyphs-end e = rw (e, end-stays (zip known meanings) k e) refl
+
+  -- there is no name of that place
+  pub no-glyph : slice_get known k ≡ None → glyphs_from k ≡ glyphs_from (suc k)
+  no-glyph e = glyphs-end (zip-left known meanings k e)
+
+  glyph-by : (named : Named) (found : Option (Option Meaning)) → slice_get meanings k ≡ found → slice_get known k ≡ Some named
+      → glyphs_from k ≡ option_to_list (option_and_then (glyph_with named.character) (unwrap_or found None)) ++ glyphs_from (suc k)
+  glyph-by named None f e = glyphs-end (zip-right known meanings k f)
+  glyph-by named (Some meaning) f e = rw (zip-at known meanings k named meaning e f) (with_glyph (glyph_named (named, meaning)) (glyphs_from (suc k)))
+
+  -- the glyph of the name of that place
+  pub glyph-here : (named : Named) → slice_get known k ≡ Some named
+      → glyphs_from k ≡ option_to_list (option_and_then (glyph_with named.character) (slice_index_or meanings k None)) ++ glyphs_from (suc k)
+  glyph-here named e =
+      glyph-by named _ refl e ∙ ap (λ o. option_to_list (option_and_then (glyph_with named.character) o) ++ glyphs_from (suc k)) (unwrap_or-slice_get meanings k None)
