@@ -9,3 +9,4 @@ pub mod MeaningSteps
 pub mod Tables
 pub mod LayersShown
 pub mod Wholes
+pub mod NamesShown

@@ -1,6 +1,6 @@
 //! The names of the legend, with what each mentions.
 
-ghost use Rattle.std.specs.Prelude.{◌≡◌, ◌++◌, IfOk, OnOk, map, filter_map, option_map, option_to_list, is_some};
+ghost use Rattle.std.specs.Prelude.{◌≡◌, ◌++◌, IfOk, OnOk, map, length, filter_map, option_map, option_to_list, is_some};
 ghost use Rattle.std.specs.List.{list_all};
 ghost use Rattle.std.specs.Str.{bytes_eq};
 ghost use Rattle.std.specs.Map.{lookup};
@@ -97,7 +97,8 @@ pub fn legend_names<'a>(
     known: &Known,
     declarations: &[Declaration<'a>],
 ) -> Result<Vec<LegendName<'a>>, Memory>
-    ensures { IfOk result (λ made. legend_shown made.items ≡ map (legend_name (mentions_of_names known.now)) (declarations_shown declarations.now)) }
+    ensures long { IfOk result (λ made. length made.items ≡ length declarations.now) }
+    ensures names { IfOk result (λ made. legend_shown made.items ≡ map (legend_name (mentions_of_names known.now)) (declarations_shown declarations.now)) }
 {
     let mut made = Vec::new(alloc);
     for declared in declarations {

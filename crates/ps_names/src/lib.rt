@@ -1,6 +1,7 @@
 //! The names of a game: what each stands for, on which collision layer each object lies, and which characters show what.
 #![tactic(auto)]
 
+mod declaring;
 mod fault;
 mod folding;
 mod form_faults;
