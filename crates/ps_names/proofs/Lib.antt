@@ -11,3 +11,5 @@ pub mod TableSteps
 pub mod FoldedNames
 pub mod LayerLaw
 pub mod WholeSteps
+pub mod SectionLaws
+pub mod TableLaw

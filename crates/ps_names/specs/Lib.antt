@@ -10,3 +10,4 @@ pub mod Tables
 pub mod LayersShown
 pub mod Wholes
 pub mod NamesShown
+pub mod Sections

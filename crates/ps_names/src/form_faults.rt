@@ -71,6 +71,7 @@ pub fn declare_legend<'a>(
     lines: &[WrittenLine<'a>],
 ) -> Result<Vec<Declaration<'a>>, NameFault>
     requires few { length lines.now ≤ 4294967295 }
+    ensures long { IfOk result (λ made. length made.items ≡ length lines.now) }
     ensures part { IfOk result (λ made. declarations_shown made.items ≡ declarations (lines_shown lines.now)) }
     ensures known { OnOk result (known.new ≡ known.old ++ map named_line (enumerate_from 0 (declarations (lines_shown lines.now)))) }
     ensures fine { OnOk result (form_faults (keys known.old) (lines_shown lines.now) ≡ []) }

@@ -20,6 +20,7 @@ mod object_faults;
 mod objects;
 mod reach;
 mod read;
+mod sections;
 mod table;
 mod whole;
 
