@@ -13,3 +13,4 @@ pub mod LayerLaw
 pub mod WholeSteps
 pub mod SectionLaws
 pub mod TableLaw
+pub mod Facts

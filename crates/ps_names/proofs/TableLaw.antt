@@ -20,7 +20,7 @@ use Rattle.ps_names.specs.Sections.{known_of, legend_of}
 -- what a name of the table gives, where it stands for something
 module _ {A : Type 0} (gives : Declared → Option A) (shows : Named × Option Meaning → Option A)
     (agree : (mention : Mention) (name : List ℕ) (meaning : Option Meaning)
-        → shows (record { name = folded name; character = one_character name; mention = mention }, meaning) ≡ option_and_then (λ m. gives (record { name = name; meaning = m })) meaning) where
+    → shows (record { name = folded name; character = one_character name; mention = mention }, meaning) ≡ option_and_then (λ m. gives (record { name = name; meaning = m })) meaning) where
   of_objects : (meanings : List (Option Meaning)) (names : List (List ℕ × ObjectId))
       → filter_map shows (with_meanings meanings (map named_object names)) ≡ filter_map gives (map object_declared names)
   of_objects meanings [] = refl
@@ -39,8 +39,8 @@ module _ {A : Type 0} (gives : Declared → Option A) (shows : Named × Option M
   of_lines known whole (meaning ∷ here) k (d ∷ declared) long h =
       let at : slice_index_or whole k None ≡ meaning = (let e : k ≡ k + 0 = omega arith in ap (λ n. slice_index_or whole n None) e) ∙ h 0 in
       rw (at, agree (OfLine k) d.name meaning) (
-        one_line (legend_name known d) meaning _ _ (filter_map legend_declared (zip (map (legend_name known) declared) here))
-        (of_lines known whole here (k + 1) declared (omega arith) (λ i. (let e : k + 1 + i ≡ k + suc i = omega arith in ap (λ n. slice_index_or whole n None) e) ∙ h (suc i))) refl
+      one_line (legend_name known d) meaning _ _ (filter_map legend_declared (zip (map (legend_name known) declared) here))
+      (of_lines known whole here (k + 1) declared (omega arith) (λ i. (let e : k + 1 + i ≡ k + suc i = omega arith in ap (λ n. slice_index_or whole n None) e) ∙ h (suc i))) refl
       )
 
   -- what all names of the table give

@@ -35,11 +35,7 @@ fn push_there(source: &Source, line: u32, made: &mut Vec<u32>) -> Result<(), Mem
 }
 
 /// The numbers of those lines of a range that are there.
-pub fn lines_there(
-    alloc: Global,
-    source: &Source,
-    lines: Range<u32>,
-) -> Result<Vec<u32>, Memory>
+pub fn lines_there(alloc: Global, source: &Source, lines: Range<u32>) -> Result<Vec<u32>, Memory>
     requires from_one { 1 ≤ lines.start }
     requires ordered { lines.start ≤ lines.end }
     requires there { lines.end ≤ length (lines_of source.now) + 1 }
@@ -70,7 +66,10 @@ fn push_written<'a>(
         return Ok(());
     }
     let words = words(alloc, source, line, cut)?;
-    made.push(WrittenLine { number: line, words })?;
+    made.push(WrittenLine {
+        number: line,
+        words,
+    })?;
     Ok(())
 }
 

@@ -137,11 +137,7 @@ impl Reach {
 }
 
 /// What these mentions reach. Each line's mentions are looked at once, so it takes no longer than there are mentions.
-fn reach_of(
-    alloc: Global,
-    legend: &[LegendName<'_>],
-    mentions: &[Mention],
-) -> Result<Reach, Memory>
+fn reach_of(alloc: Global, legend: &[LegendName<'_>], mentions: &[Mention]) -> Result<Reach, Memory>
     ensures { IfOk result (λ reach. reached_shown reach ≡ reached_from (legend_shown legend.now) (length mentions.now + mention_count (legend_shown legend.now)) (record { objects = []; lines = replicate (length legend.now) false }) (mentions_shown mentions.now)) }
 {
     let mut reach = Reach::start(alloc, legend.len(), mentions)?;

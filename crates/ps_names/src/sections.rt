@@ -22,7 +22,10 @@ use crate::layers::{fault_of_layers, layers_found, layers_of_lines};
 use crate::lines::WrittenLine;
 use crate::objects::ObjectText;
 use crate::table::Table;
-use crate::whole::{fault_of_background, fault_of_missing, fault_of_no_layer, fault_of_player, fault_of_shared_layer};
+use crate::whole::{
+    fault_of_background, fault_of_missing, fault_of_no_layer, fault_of_player,
+    fault_of_shared_layer,
+};
 use ps_model::{Fault, Memory};
 use std::alloc::Global;
 

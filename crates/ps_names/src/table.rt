@@ -72,11 +72,7 @@ fn meaning_for(
 
 impl Table {
     /// The table of the names, where the names of the legend stand for these.
-    pub fn new(
-        alloc: Global,
-        known: Known,
-        legend: &[Option<Meaning>],
-    ) -> Result<Table, Memory>
+    pub fn new(alloc: Global, known: Known, legend: &[Option<Meaning>]) -> Result<Table, Memory>
         ensures { IfOk result (λ table. table ≡ with_meanings (meanings_shown legend.now) known) }
     {
         let mut meanings = Vec::new(alloc);

@@ -48,8 +48,8 @@ returns-in_err-legend-clause-refused c =
     let fault : NameFault = c.in_err-legend.field-0.0 in
     let told : (f : TheFault) → fault ≡ Refused f → (others : List TheFault) → first_fault (declaring_faults objects lines others) ≡ Some f =
     λ f e others. rw (c.in_ok-known.ensures.fine, none) (
-      first-found (naming_faults (legend_of objects lines) (legend_meanings (legend_of objects lines))) others f
-      (ap (λ (names : List LegendName). first_fault (naming_faults names (legend_meanings names))) (sym legend) ∙ c.in_err-legend.ensures.refused f e)
+    first-found (naming_faults (legend_of objects lines) (legend_meanings (legend_of objects lines))) others f
+    (ap (λ (names : List LegendName). first_fault (naming_faults names (legend_meanings names))) (sym legend) ∙ c.in_err-legend.ensures.refused f e)
     ) in
     search (rules, told)
 

@@ -17,11 +17,22 @@ returns c =
     let legend : List LegendName = legend_shown c.args.legend.now.names.items in
     let entries : _ = entries_with c.args.table.now in
     rw (
-      c.or-4.ensures, c.or-3.ensures, c.or-2.ensures, c.or.ensures, c.fault_of_no_layer-no_layer.ensures, c.fault_of_missing-missing.ensures, c.fault_of_background-background.ensures,
-      c.fault_of_player-player.ensures, c.fault_of_shared_layer-shared.ensures, c.deref.ensures.value, c.deref-2.ensures.value, c.deref-3.ensures.value, c.deref-4.ensures.value
+      c.or-4.ensures,
+      c.or-3.ensures,
+      c.or-2.ensures,
+      c.or.ensures,
+      c.fault_of_no_layer-no_layer.ensures,
+      c.fault_of_missing-missing.ensures,
+      c.fault_of_background-background.ensures,
+      c.fault_of_player-player.ensures,
+      c.fault_of_shared_layer-shared.ensures,
+      c.deref.ensures.value,
+      c.deref-2.ensures.value,
+      c.deref-3.ensures.value,
+      c.deref-4.ensures.value,
     ) (
-      first-of-five (no_layers (objects_shown c.args.objects.now) c.args.places.now) (missing c.args.header entries)
-      (faults_of_lines (is_bad_background c.args.layers.now (lookup (bytes_eq (codes "background")) entries)) BadBackground (lines_of_name legend (codes "background")))
-      (faults_of_lines (is_aggregate (lookup (bytes_eq (codes "player")) entries)) BadPlayer (lines_of_name legend (codes "player")))
-      (shared_layers c.args.layers.now legend (meanings_shown c.args.legend.now.meanings.items))
+    first-of-five (no_layers (objects_shown c.args.objects.now) c.args.places.now) (missing c.args.header entries)
+    (faults_of_lines (is_bad_background c.args.layers.now (lookup (bytes_eq (codes "background")) entries)) BadBackground (lines_of_name legend (codes "background")))
+    (faults_of_lines (is_aggregate (lookup (bytes_eq (codes "player")) entries)) BadPlayer (lines_of_name legend (codes "player")))
+    (shared_layers c.args.layers.now legend (meanings_shown c.args.legend.now.meanings.items))
     )

@@ -24,7 +24,7 @@ returns c =
     let there : slice_get known c.args.place ≡ Some (known_name_shown c.in-Some.known) = sym c.in-Some.ensures in
     let meaning = c.meaning_at.ensures ∙ ap (λ (ms : List (Option code.Meaning)). slice_index_or (meanings_shown ms) c.args.place None) c.deref.ensures.value in
     rw (← c.self.view_is, one) (
-      glyph-here known meanings c.args.place (known_name_shown c.in-Some.known) there
-      ∙ ap (λ (found : Option Glyph). option_to_list found ++ filter_map glyph_named (drop (suc c.args.place) (zip known meanings)))
-      (sym (c.in_ok-glyph.ensures ∙ ap (option_and_then (glyph_with c.in-Some.known.character)) meaning))
+    glyph-here known meanings c.args.place (known_name_shown c.in-Some.known) there
+    ∙ ap (λ (found : Option Glyph). option_to_list found ++ filter_map glyph_named (drop (suc c.args.place) (zip known meanings)))
+    (sym (c.in_ok-glyph.ensures ∙ ap (option_and_then (glyph_with c.in-Some.known.character)) meaning))
     )

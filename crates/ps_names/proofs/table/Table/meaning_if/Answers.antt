@@ -39,7 +39,7 @@ returns c =
     let there : slice_get known c.args.place ≡ Some (known_name_shown c.in-Some.known) = sym c.in-Some.ensures in
     let same : bytes_eq (folded c.args.name.now) c.in-Some.known.name.now ≡ true = search rules in
     rw (← c.self.view_is, one) (
-      name-here (folded c.args.name.now) known meanings c.args.place (known_name_shown c.in-Some.known) there same
-      ∙ ap (λ (found : Option Meaning). option_or found (lookup (bytes_eq (folded c.args.name.now)) (entries_with (drop (suc c.args.place) (zip known meanings)))))
-      (sym (c.meaning_at.ensures ∙ ap (λ (ms : List (Option code.Meaning)). slice_index_or (meanings_shown ms) c.args.place None) c.deref.ensures.value))
+    name-here (folded c.args.name.now) known meanings c.args.place (known_name_shown c.in-Some.known) there same
+    ∙ ap (λ (found : Option Meaning). option_or found (lookup (bytes_eq (folded c.args.name.now)) (entries_with (drop (suc c.args.place) (zip known meanings)))))
+    (sym (c.meaning_at.ensures ∙ ap (λ (ms : List (Option code.Meaning)). slice_index_or (meanings_shown ms) c.args.place None) c.deref.ensures.value))
     )
