@@ -17,15 +17,15 @@ use Rattle.ps_model.specs.ObjectLines.{ObjectText, object_names, names_of_object
 use Rattle.ps_model.specs.LegendLines.{Declaration}
 use Rattle.ps_model.specs.Meanings.{LegendName, Mention, OfObject, OfLine, same_mention, mentions_of, mentions_of_name, with_mentioned, all_mentioned, object_of, objects_of, meaning_by, meaning_behind, legend_meanings, legend_name, legend_names, known_names, object_mention, line_mention}
 
-abbrev IsObject : ℕ → ObjectId → Type 0
+abbrev pub IsObject : ℕ → ObjectId → Type 0
 IsObject n object = object.0 < n
 
 -- a mention of an object is one of these
-abbrev IsMention : ℕ → Mention → Type 0
+abbrev pub IsMention : ℕ → Mention → Type 0
 IsMention n (OfObject object) = object.0 < n
 IsMention n (OfLine place) = ⊤
 
-abbrev IsName : ℕ → LegendName → Type 0
+abbrev pub IsName : ℕ → LegendName → Type 0
 IsName n name = All (IsMention n) name.mentions
 
 of-name : (n : ℕ) (legend : List LegendName) (place : ℕ) (name : Option LegendName) → slice_get legend place ≡ name → All (IsName n) legend → All (IsMention n) (mentions_of_name name)
@@ -75,7 +75,7 @@ objects_of-below : (n : ℕ) (legend : List LegendName) (name : LegendName) → 
 objects_of-below n legend name names h = objects-below n (all_mentioned legend name.mentions) (listed-stay n legend names _ [] name.mentions (All-nil (IsMention n)) h)
 
 -- what a meaning speaks of, if there is one
-abbrev IsBelowIf : ℕ → Option Meaning → Type 0
+abbrev pub IsBelowIf : ℕ → Option Meaning → Type 0
 IsBelowIf n meaning = IfSome meaning (IsBelow n)
 
 abbrev Means : ℕ → (Mention → Option Meaning) → Type 0

@@ -14,3 +14,4 @@ pub mod WholeSteps
 pub mod SectionLaws
 pub mod TableLaw
 pub mod Facts
+pub mod FactsOfNames
