@@ -1,21 +1,15 @@
 -- Every object that a name or a glyph speaks of is one of those that are declared.
-use Rattle.std.proofs.Common.{◌≡◌, ℕ, zero, suc, ◌+◌, ◌<◌, ◌≤◌, Bool, true, false, List, [], ◌∷◌, ◌++◌, map, length, refl, sym, ap, ◌∙◌, Option, Some, None, arith, All, subst}
+use Rattle.std.proofs.Common.{◌≡◌, ℕ, zero, suc, ◌<◌, Bool, true, false, List, [], ◌∷◌, ◌++◌, refl, Option, Some, None, All, subst}
 use Rattle.std.specs.Bool.{⊤}
-use Rattle.std.specs.Prelude.{option_map, option_and_then, IfSome, slice_get}
-use Rattle.std.specs.List.{filter_map, cons_option, enumerate_from, flat_map, zip, list_any}
-use Rattle.std.specs.Map.{lookup}
-use Rattle.std.specs.Str.{bytes_eq}
-use Rattle.std.proofs.lemmas.List.Elements.{All-nil, All-cons, All-head, All-tail, All-append, All-map, All-same}
-use Rattle.std.proofs.lemmas.Map.Entries.{All-lookup}
+use Rattle.std.specs.Prelude.{option_and_then, IfSome, slice_get}
+use Rattle.std.specs.List.{filter_map, list_any}
+use Rattle.std.proofs.lemmas.List.Elements.{All-nil, All-cons, All-head, All-tail, All-append, All-same}
 use Rattle.ps_model.specs.declared.pieces.ObjectId.{ObjectId}
 use Rattle.ps_model.specs.declared.texts.Joiner.{Joiner}
 use Rattle.ps_model.specs.declared.texts.Joiner.TheVariants.{Alone, And, Or}
-use Rattle.ps_model.specs.Lines.{folded}
-use Rattle.ps_model.specs.Names.{Meaning, One, AllOf, AnyOf, Glyph}
+use Rattle.ps_model.specs.Names.{Meaning}
 use Rattle.ps_model.specs.NameBounds.{IsBelow}
-use Rattle.ps_model.specs.ObjectLines.{ObjectText, object_names, names_of_object, name_of}
-use Rattle.ps_model.specs.LegendLines.{Declaration}
-use Rattle.ps_model.specs.Meanings.{LegendName, Mention, OfObject, OfLine, same_mention, mentions_of, mentions_of_name, with_mentioned, all_mentioned, object_of, objects_of, meaning_by, meaning_behind, legend_meanings, legend_name, legend_names, known_names, object_mention, line_mention}
+use Rattle.ps_model.specs.Meanings.{LegendName, Mention, OfObject, OfLine, same_mention, mentions_of, mentions_of_name, with_mentioned, all_mentioned, object_of, objects_of, meaning_by, meaning_behind}
 
 abbrev pub IsObject : ℕ → ObjectId → Type 0
 IsObject n object = object.0 < n

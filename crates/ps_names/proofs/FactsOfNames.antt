@@ -1,21 +1,20 @@
 -- What holds of the names of every game.
-use Rattle.std.proofs.Common.{◌≡◌, ℕ, zero, suc, ◌+◌, ◌<◌, ◌≤◌, Bool, true, false, List, [], ◌∷◌, ◌++◌, map, length, refl, sym, ap, ◌∙◌, Option, Some, None, arith, All, subst}
-use Rattle.std.specs.Prelude.{option_map, IfSome, unwrap_or}
-use Rattle.std.specs.Option.{is_none}
-use Rattle.std.specs.List.{filter_map, cons_option, enumerate_from, flat_map, zip, range_with_len, last_or}
+use Rattle.std.proofs.Common.{ℕ, ◌+◌, ◌<◌, ◌≤◌, List, [], ◌∷◌, map, length, Option, Some, None, arith, All}
+use Rattle.std.specs.Prelude.{IfSome}
+use Rattle.std.specs.List.{filter_map, cons_option, enumerate_from, flat_map, zip}
 use Rattle.std.specs.Map.{lookup}
 use Rattle.std.specs.Str.{bytes_eq}
-use Rattle.std.proofs.lemmas.List.Elements.{All-nil, All-cons, All-head, All-tail, All-append, All-map, All-same}
+use Rattle.std.proofs.lemmas.List.Elements.{All-nil, All-cons, All-head, All-tail, All-append}
 use Rattle.std.proofs.lemmas.Map.Entries.{All-lookup}
 use Rattle.ps_model.specs.declared.pieces.ObjectId.{ObjectId}
 use Rattle.ps_model.specs.Lines.{folded}
-use Rattle.ps_model.specs.Names.{Meaning, One, AllOf, AnyOf, Glyph}
+use Rattle.ps_model.specs.Names.{Meaning}
 use Rattle.ps_model.specs.NameBounds.{IsBelow}
 use Rattle.ps_model.specs.WrittenLines.{WrittenLine}
 use Rattle.ps_model.specs.ObjectLines.{ObjectText, object_names, names_of_object, name_of}
 use Rattle.ps_model.specs.LegendLines.{Declaration, declarations}
-use Rattle.ps_model.specs.Meanings.{LegendName, Mention, OfObject, OfLine, legend_meanings, legend_name, legend_names, known_names, object_mention, line_mention, meaning_behind}
-use Rattle.ps_model.specs.NamesRead.{Declared, object_declared, legend_declared, all_declared, entry_of, entries_of, glyph_of, glyph_with}
+use Rattle.ps_model.specs.Meanings.{LegendName, Mention, OfLine, legend_meanings, legend_name, known_names, object_mention, line_mention, meaning_behind}
+use Rattle.ps_model.specs.NamesRead.{Declared, object_declared, legend_declared, all_declared}
 use Rattle.ps_names.specs.Sections.{legend_of}
 use Rattle.ps_names.proofs.Facts.{IsObject, IsMention, IsName, IsBelowIf, behind-below}
 
@@ -59,7 +58,7 @@ legend-below n known [] h = All-nil (IsName n)
 legend-below n known (d ∷ declared) h = All-cons (IsName n) (legend_name known d) (map (legend_name known) declared) (found-below n known d.right.mentions h) (legend-below n known declared h)
 
 -- what a name declares speaks of these objects
-abbrev Speaks : ℕ → Declared → Type 0
+abbrev pub Speaks : ℕ → Declared → Type 0
 Speaks n declared = IsBelow n declared.meaning
 
 objects-speak : (n : ℕ) (names : List (List ℕ × ObjectId)) → All (Named n) names → All (Speaks n) (map object_declared names)

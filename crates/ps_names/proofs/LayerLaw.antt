@@ -1,12 +1,12 @@
 -- The layers that the code finds, one line after the other, are the last ones that name each object.
-use Rattle.std.proofs.Common.{◌≡◌, ℕ, suc, ◌+◌, ◌<◌, ◌≤◌, Bool, true, false, List, [], ◌∷◌, ◌++◌, map, length, get_or, replicate, refl, sym, ap, ◌∙◌, Option, Some, None, arith, ◌||◌, drop}
+use Rattle.std.proofs.Common.{◌≡◌, ℕ, suc, ◌+◌, ◌<◌, Bool, true, false, List, [], ◌∷◌, ◌++◌, map, length, get_or, replicate, refl, sym, ap, ◌∙◌, Option, Some, None, arith, ◌||◌}
 use Rattle.std.specs.Prelude.{nat_eq, slice_set, if◌then◌else◌, filter}
-use Rattle.std.specs.List.{range_with_len, last_or, enumerate_from, flat_map}
+use Rattle.std.specs.List.{range_with_len, last_or, enumerate_from}
 use Rattle.std.proofs.lemmas.List.{same_lists, get_or-set_same, get_or-set_other, length-set, length-replicate, get_or-replicate}
 use Rattle.std.proofs.lemmas.List.FromFn.{length-map-range_with_len, get_or-map-range_with_len}
 use Rattle.std.proofs.lemmas.Bool.Decides.{nat_tests}
 use Rattle.ps_model.specs.declared.pieces.ObjectId.{ObjectId}
-use Rattle.ps_model.specs.Names.{Meaning, is_among, members_if}
+use Rattle.ps_model.specs.Names.{is_among}
 use Rattle.ps_model.specs.LayerLines.{last_among, Layer, objects_named, layers_found}
 use Rattle.ps_names.specs.LayersShown.{placed, placed_each}
 

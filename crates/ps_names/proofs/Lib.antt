@@ -15,3 +15,4 @@ pub mod SectionLaws
 pub mod TableLaw
 pub mod Facts
 pub mod FactsOfNames
+pub mod Bounds

@@ -1,5 +1,5 @@
 -- The names that are known are those of the definitions.
-use Rattle.std.proofs.Common.{◌≡◌, ℕ, suc, ◌+◌, List, [], ◌∷◌, ◌++◌, map, refl, ap, sym, ◌∙◌, arith, append_assoc, Option, None, Some}
+use Rattle.std.proofs.Common.{◌≡◌, ℕ, ◌+◌, List, [], ◌∷◌, ◌++◌, map, refl, ap, ◌∙◌}
 use Rattle.std.specs.List.{enumerate_from, flat_map}
 use Rattle.std.specs.Option.{option_or}
 use Rattle.std.proofs.lemmas.List.{map-append}
@@ -12,7 +12,7 @@ use Rattle.ps_model.specs.ObjectLines.{ObjectText, object_names, names_of_object
 use Rattle.ps_model.specs.LegendLines.{Declaration, declarations}
 use Rattle.ps_model.specs.Meanings.{known_names, object_mention, line_mention}
 use Rattle.ps_model.specs.NameFaults.{folded_names}
-use Rattle.ps_names.specs.Known.{Named, keys, mention_of, mentions_of_names, named_object}
+use Rattle.ps_names.specs.Known.{keys, mention_of, mentions_of_names, named_object}
 use Rattle.ps_names.specs.LegendShown.{named_line}
 use Rattle.ps_names.specs.Sections.{known_of}
 

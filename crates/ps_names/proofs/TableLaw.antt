@@ -1,16 +1,16 @@
 -- The table's entries and glyphs are those of what is declared.
-use Rattle.std.proofs.Common.{◌≡◌, ℕ, zero, suc, ◌+◌, ◌<◌, List, [], ◌∷◌, ◌++◌, map, length, drop, get_or, Option, None, Some, refl, ap, sym, ◌∙◌, arith}
-use Rattle.std.specs.Prelude.{option_map, option_and_then, slice_index_or}
-use Rattle.std.specs.List.{enumerate_from, filter_map, cons_option, zip, flat_map}
-use Rattle.std.proofs.lemmas.List.{map-append, length-map}
+use Rattle.std.proofs.Common.{◌≡◌, ℕ, suc, ◌+◌, List, [], ◌∷◌, ◌++◌, map, length, Option, None, Some, refl, ap, sym, ◌∙◌, arith}
+use Rattle.std.specs.Prelude.{option_and_then, slice_index_or}
+use Rattle.std.specs.List.{enumerate_from, filter_map, cons_option, zip}
+use Rattle.std.proofs.lemmas.List.{map-append}
 use Rattle.std.proofs.lemmas.List.Elements.{filter_map-append}
 use Rattle.ps_model.specs.declared.pieces.ObjectId.{ObjectId}
-use Rattle.ps_model.specs.Names.{Meaning, Glyph, One}
+use Rattle.ps_model.specs.Names.{Meaning, One}
 use Rattle.ps_model.specs.WrittenLines.{WrittenLine}
 use Rattle.ps_model.specs.Lines.{folded}
 use Rattle.ps_model.specs.ObjectLines.{ObjectText, object_names, one_character}
 use Rattle.ps_model.specs.LegendLines.{Declaration, declarations}
-use Rattle.ps_model.specs.Meanings.{LegendName, Mention, OfObject, OfLine, legend_name, legend_names, legend_meanings, known_names}
+use Rattle.ps_model.specs.Meanings.{LegendName, Mention, OfObject, OfLine, legend_name, known_names}
 use Rattle.ps_model.specs.NamesRead.{Declared, object_declared, legend_declared, all_declared, entry_of, entries_of, glyph_of}
 use Rattle.ps_names.specs.Known.{Named, named_object}
 use Rattle.ps_names.specs.LegendShown.{named_line}

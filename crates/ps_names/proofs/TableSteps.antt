@@ -1,14 +1,13 @@
 -- One name of the table more.
-use Rattle.std.proofs.Common.{◌≡◌, ℕ, zero, suc, ◌+◌, ◌<◌, ◌≤◌, Bool, true, false, List, [], ◌∷◌, ◌++◌, length, drop, map, Option, None, Some, refl, ap, sym, ◌∙◌, arith, append_assoc}
+use Rattle.std.proofs.Common.{◌≡◌, ℕ, zero, suc, ◌<◌, ◌≤◌, true, false, List, [], ◌∷◌, ◌++◌, length, drop, map, Option, None, Some, refl, ap, sym, ◌∙◌, arith, append_assoc}
 use Rattle.std.proofs.lemmas.List.{append-nil}
 use Rattle.ps_names.proofs.Elements.{drop-got, past-end}
-use Rattle.std.specs.Prelude.{slice_get, slice_index_or, option_map, is_some, unwrap_or}
+use Rattle.std.specs.Prelude.{slice_get, slice_index_or, is_some, unwrap_or}
 use Rattle.std.specs.Option.{option_or}
 use Rattle.std.proofs.lemmas.Option.{unwrap_or-slice_get}
 use Rattle.std.specs.List.{zip, filter_map, cons_option}
 use Rattle.std.specs.Str.{bytes_eq}
 use Rattle.std.specs.Map.{lookup}
-use Rattle.std.proofs.lemmas.Option.{slice_get_past}
 use Rattle.std.specs.Prelude.{option_to_list, option_and_then}
 use Rattle.ps_model.specs.NamesRead.{glyph_with}
 use Rattle.ps_model.specs.Names.{Meaning, Glyph}

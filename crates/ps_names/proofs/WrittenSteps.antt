@@ -1,5 +1,5 @@
 -- One written line more.
-use Rattle.std.proofs.Common.{◌≡◌, ℕ, suc, ◌<◌, Bool, true, false, List, [], ◌∷◌, ◌++◌, length, drop, get_or, refl, sym, ap, ◌∙◌, append_assoc}
+use Rattle.std.proofs.Common.{◌≡◌, ℕ, suc, ◌<◌, Bool, true, false, List, [], ◌∷◌, ◌++◌, length, drop, get_or, refl, append_assoc}
 use Rattle.std.proofs.Math.Seq.{drop-cons}
 use Rattle.ps_model.specs.declared.texts.Cut.{Cut}
 use Rattle.ps_model.specs.Lines.{Line, is_blank_line}

@@ -1,5 +1,5 @@
 -- The lines of COLLISIONLAYERS as the code keeps them, and the layers of objects line by line.
-use Rattle.std.specs.Prelude.{ℕ, suc, List, [], ◌∷◌, Option, Some, map, option_map, slice_set, flat_map}
+use Rattle.std.specs.Prelude.{ℕ, suc, List, [], ◌∷◌, Option, Some, map, option_map, slice_set}
 use Rattle.std.specs.Str.{bytes_eq}
 use Rattle.std.specs.Map.{lookup}
 use Rattle.ps_model.specs.declared.pieces.ObjectId.{ObjectId}
@@ -7,7 +7,6 @@ use Rattle.ps_model.specs.Lines.{folded}
 use Rattle.ps_model.specs.Names as model
 use Rattle.ps_model.specs.LayerLines as layers
 use Rattle.ps_model.specs.WrittenLines.{WrittenLine}
-use Rattle.ps_names.specs.declared.meaning.Meaning.{Meaning}
 use Rattle.ps_names.specs.declared.layers.Layer.{Layer}
 use Rattle.ps_names.specs.Shown.{meaning_shown}
 use Rattle.ps_names.specs.Known.{Named}

@@ -1,6 +1,5 @@
 -- The table of names with what they stand for.
 use Rattle.std.specs.Prelude.{ℕ, List, Option, option_map, option_and_then, map, filter_map}
-use Rattle.std.specs.List.{zip}
 use Rattle.ps_model.specs.Names.{Meaning, Glyph}
 use Rattle.ps_model.specs.Meanings.{meaning_of_mention}
 use Rattle.ps_model.specs.NamesRead.{glyph_with}

@@ -1,19 +1,18 @@
 -- What is wrong with the names as a whole, by the parts that the code keeps.
-use Rattle.std.specs.Prelude.{ℕ, Bool, List, ◌++◌, Option, None, map, filter, codes}
+use Rattle.std.specs.Prelude.{ℕ, Bool, List, ◌++◌, Option, map, filter, codes}
 use Rattle.std.specs.Option.{is_none}
 use Rattle.std.specs.List.{flat_map, zip}
 use Rattle.std.specs.Str.{bytes_eq}
 use Rattle.std.specs.Map.{lookup}
 use Rattle.ps_model.specs.declared.faults.Fault.{Fault}
 use Rattle.ps_model.specs.declared.faults.FaultKind.{FaultKind}
-use Rattle.ps_model.specs.declared.faults.FaultKind.TheVariants.{NoLayer, NoBackground, NoPlayer, BadBackground, BadPlayer, SameLayerAggregate}
+use Rattle.ps_model.specs.declared.faults.FaultKind.TheVariants.{NoLayer, NoBackground, NoPlayer, SameLayerAggregate}
 use Rattle.ps_model.specs.Faults.{when}
 use Rattle.ps_model.specs.Lines.{folded}
 use Rattle.ps_model.specs.Names.{Meaning}
 use Rattle.ps_model.specs.ObjectLines.{ObjectText}
-use Rattle.ps_model.specs.Meanings.{LegendName, is_aggregate}
-use Rattle.ps_model.specs.NamesRead.{layer_numbers}
-use Rattle.ps_model.specs.NameFaults.{is_bad_background, shares_layer}
+use Rattle.ps_model.specs.Meanings.{LegendName}
+use Rattle.ps_model.specs.NameFaults.{shares_layer}
 
 -- an object without a layer
 abbrev pub no_layer_at : ObjectText × Option ℕ → List Fault

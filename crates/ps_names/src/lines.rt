@@ -26,6 +26,7 @@ fn push_there(source: &Source, line: u32, made: &mut Vec<u32>) -> Result<(), Mem
     requires there { line ≤ length (lines_of source.now) }
     ensures lines { OnOk result (lines_at source.now made.new.items ≡ lines_at source.now made.old.items ++ here source.now line) }
     ensures there { OnOk result (All (IsLine source.now) made.old.items → All (IsLine source.now) made.new.items) }
+    ensures one { OnOk result (length made.new.items ≤ length made.old.items + 1) }
 {
     if !source.is_there(line) {
         return Ok(());
@@ -41,6 +42,7 @@ pub fn lines_there(alloc: Global, source: &Source, lines: Range<u32>) -> Result<
     requires there { lines.end ≤ length (lines_of source.now) + 1 }
     ensures lines { IfOk result (λ made. lines_at source.now made.items ≡ lines_between source.now lines.start lines.end) }
     ensures there { IfOk result (λ made. All (IsLine source.now) made.items) }
+    ensures few { IfOk result (λ made. length made.items ≤ 4294967295) }
 {
     let mut made = Vec::new(alloc);
     for line in lines.start..lines.end {
@@ -60,7 +62,8 @@ fn push_written<'a>(
     requires from_one { 1 ≤ line }
     requires there { line ≤ length (lines_of source.now) }
     requires plain { IsPlainCut cut }
-    ensures { OnOk result (lines_shown made.new.items ≡ lines_shown made.old.items ++ written_lines cut (line_at source.now line ∷ [])) }
+    ensures one { OnOk result (length made.new.items ≤ length made.old.items + 1) }
+    ensures lines { OnOk result (lines_shown made.new.items ≡ lines_shown made.old.items ++ written_lines cut (line_at source.now line ∷ [])) }
 {
     if source.is_blank_line(line) {
         return Ok(());
@@ -82,7 +85,8 @@ pub fn written_lines<'a>(
 ) -> Result<Vec<WrittenLine<'a>>, Memory>
     requires there { All (IsLine source.now) lines.now }
     requires plain { IsPlainCut cut }
-    ensures { IfOk result (λ made. lines_shown made.items ≡ written_lines cut (lines_at source.now lines.now)) }
+    ensures few { IfOk result (λ made. length made.items ≤ length lines.now) }
+    ensures lines { IfOk result (λ made. lines_shown made.items ≡ written_lines cut (lines_at source.now lines.now)) }
 {
     let mut made = Vec::new(alloc);
     for line in lines {

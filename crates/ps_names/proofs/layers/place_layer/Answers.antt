@@ -1,6 +1,5 @@
-use Rattle.std.proofs.Common.{◌≡◌, ◌∙◌, ◌+◌, ◌<◌, ◌∷◌, sym, ap, subst, arith, List, ℕ, Option, map, drop, length, get_or, option_map}
+use Rattle.std.proofs.Common.{◌≡◌, ◌∙◌, ◌+◌, ◌∷◌, sym, ap, arith, List, ℕ, Option, map, drop, option_map}
 use Rattle.std.specs.List.{flat_map}
-use Rattle.ps_model.specs.Names as model
 use Rattle.ps_model.specs.Names.{members_if}
 use Rattle.ps_names.specs.Shown.{meaning_shown}
 use Rattle.ps_names.specs.LayersShown.{placed}

@@ -1,4 +1,4 @@
-use Rattle.std.proofs.Common.{◌≡◌, ◌∙◌, ◌+◌, ◌++◌, sym, ap, refl, rules, arith, List, ℕ, append_assoc}
+use Rattle.std.proofs.Common.{◌∙◌, ◌+◌, ◌++◌, sym, ap, refl, arith, List, ℕ, append_assoc}
 use Rattle.ps_model.specs.Lines.{Line}
 use Rattle.ps_model.specs.LineNumbers.{lines_between}
 use Rattle.ps_names.specs.LinesThere.{here, lines_at}
@@ -12,6 +12,7 @@ loop-line-preserved c =
     let line : ℕ = c.loop-line.line in
     let step = between-step text line (line + 1) end (omega arith) (omega arith) (omega arith) refl in
     record {
+      few = omega (arith, c.in_ok-push_there.ensures.one, c.loop-line.invariant.few);
       lines =
           ap (λ (xs : List Line). xs ++ lines_between text (line + 1) end) c.in_ok-push_there.ensures.lines
           ∙ append_assoc (lines_at text c.loop-line.made.items) (here text line) (lines_between text (line + 1) end)

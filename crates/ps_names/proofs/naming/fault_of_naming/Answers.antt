@@ -1,4 +1,4 @@
-use Rattle.std.proofs.Common.{◌≡◌, ◌∙◌, ◌++◌, ◌∷◌, sym, ap, refl, rules, List, ℕ, is_some, true, suc, drop}
+use Rattle.std.proofs.Common.{◌≡◌, ◌∙◌, sym, ap, refl, rules, List, ℕ, is_some, true, suc}
 use Rattle.std.specs.List.{enumerate_from, flat_map}
 use Rattle.ps_model.specs.declared.faults.Fault.{Fault}
 use Rattle.ps_model.specs.Faults.{first_fault}

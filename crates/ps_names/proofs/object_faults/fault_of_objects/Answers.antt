@@ -1,4 +1,4 @@
-use Rattle.std.proofs.Common.{◌≡◌, ◌∙◌, ◌+◌, ◌∷◌, sym, ap, refl, rules, List, ℕ, is_some, true, suc, drop, arith}
+use Rattle.std.proofs.Common.{◌≡◌, ◌∙◌, sym, ap, refl, rules, List, ℕ, is_some, true, suc}
 use Rattle.ps_model.specs.DeclarationFaults.{faults_of_object, object_faults}
 use Rattle.ps_model.specs.Faults.{first_fault}
 use Rattle.ps_names.specs.Known.{keys}

@@ -1,4 +1,4 @@
-use Rattle.std.proofs.Common.{◌≡◌, ◌+◌, ◌++◌, ◌∙◌, sym, ap, List, ℕ, drop}
+use Rattle.std.proofs.Common.{◌++◌, ◌∙◌, sym, ap, List, ℕ, drop}
 use Rattle.std.proofs.lemmas.List.{drop-drop}
 use Rattle.ps_model.specs.ObjectLines.{objects_below}
 use Rattle.ps_names.specs.LinesThere.{lines_at}

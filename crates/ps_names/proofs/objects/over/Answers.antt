@@ -1,10 +1,10 @@
-use Rattle.std.proofs.Common.{◌≡◌, ◌∙◌, ◌++◌, ◌∷◌, [], ap, refl, rules, arith, false, map, get_or, drop, List, ℕ}
+use Rattle.std.proofs.Common.{◌≡◌, ◌∙◌, ap, refl, rules, arith, false, get_or, List, ℕ}
 use Rattle.std.proofs.lemmas.List.{map-append}
 use Rattle.std.proofs.lemmas.List.Elements.{All-get_or}
 use Rattle.ps_model.specs.LineNumbers.{line_at}
 use Rattle.ps_model.specs.Lines.{is_blank_line}
 use Rattle.ps_names.specs.LinesThere.{IsLine, lines_at}
-use Rattle.ps_names.specs.LinesShown.{objects_shown, object_shown}
+use Rattle.ps_names.specs.LinesShown.{objects_shown}
 use Rattle.ps_model.specs.ObjectLines.{lines_below}
 use Rattle.ps_names.proofs.Elements.{rest-of}
 use Rattle.ps_names.proofs.LinesBetween.{number-line_at}

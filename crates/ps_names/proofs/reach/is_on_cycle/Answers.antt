@@ -1,10 +1,10 @@
-use Rattle.std.proofs.Common.{◌≡◌, ◌∙◌, ◌<◌, ap, rules, List, Bool, false, get_or, length}
+use Rattle.std.proofs.Common.{◌≡◌, ◌∙◌, ◌<◌, ap, List, Bool, false, get_or, length}
 use Rattle.std.specs.List.{list_any}
 use Rattle.std.proofs.lemmas.List.{length-map}
-use Rattle.ps_model.specs.Meanings.{LegendName, Mention, OfLine, all_mentioned, same_mention}
+use Rattle.ps_model.specs.Meanings.{LegendName, OfLine, all_mentioned, same_mention}
 use Rattle.ps_names.specs.declared.mention.Mention.{Mention as Waits}
 use Rattle.ps_names.specs.Known.{mentions_shown}
-use Rattle.ps_names.specs.LegendNames.{Reached, legend_shown, name_shown, reached_shown}
+use Rattle.ps_names.specs.LegendNames.{Reached, legend_shown, reached_shown}
 use Rattle.ps_names.proofs.ReachLaw.{all_reached, line-reached, reached-shown}
 use Rattle.ps_names.proofs.reach.is_on_cycle.Goals as goal
 

@@ -1,8 +1,8 @@
-use Rattle.std.proofs.Common.{◌≡◌, ◌∙◌, ap, rules, List, filter_map}
-use Rattle.ps_model.specs.Meanings.{LegendName, Mention, all_mentioned, object_of}
+use Rattle.std.proofs.Common.{◌≡◌, ◌∙◌, ap, List, filter_map}
+use Rattle.ps_model.specs.Meanings.{LegendName, all_mentioned, object_of}
 use Rattle.ps_names.specs.declared.mention.Mention.{Mention as Waits}
 use Rattle.ps_names.specs.Known.{mentions_shown}
-use Rattle.ps_names.specs.LegendNames.{Reached, legend_shown, name_shown, reached_shown}
+use Rattle.ps_names.specs.LegendNames.{Reached, legend_shown, reached_shown}
 use Rattle.ps_names.proofs.ReachLaw.{all_reached, objects-reached, reached-shown}
 use Rattle.ps_names.proofs.reach.objects_of.Goals as goal
 

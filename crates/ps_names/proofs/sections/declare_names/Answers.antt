@@ -1,10 +1,10 @@
-use Rattle.std.proofs.Common.{◌≡◌, ◌∙◌, ◌++◌, [], sym, ap, refl, rules, List, ℕ, Some, map}
+use Rattle.std.proofs.Common.{◌≡◌, ◌∙◌, ◌++◌, [], sym, ap, refl, rules, List, Some, map}
 use Rattle.ps_model.specs.declared.faults.Fault.{Fault as TheFault}
 use Rattle.ps_model.specs.WrittenLines.{WrittenLine}
 use Rattle.ps_model.specs.ObjectLines.{ObjectText, object_names}
 use Rattle.ps_model.specs.LegendLines.{Declaration, declarations}
-use Rattle.ps_model.specs.Meanings.{LegendName, Mention, legend_name, legend_meanings, known_names}
-use Rattle.ps_model.specs.DeclarationFaults.{object_faults, form_faults, naming_faults}
+use Rattle.ps_model.specs.Meanings.{LegendName, legend_name, legend_meanings}
+use Rattle.ps_model.specs.DeclarationFaults.{form_faults, naming_faults}
 use Rattle.ps_model.specs.NameFaults.{folded_names}
 use Rattle.ps_model.specs.Faults.{first_fault}
 use Rattle.std.specs.List.{enumerate_from}
@@ -13,7 +13,7 @@ use Rattle.ps_names.specs.declared.fault.NameFault.TheVariants.{Refused}
 use Rattle.ps_names.specs.Known.{Named, keys, mentions_of_names, named_object}
 use Rattle.ps_names.specs.LegendShown.{declarations_shown, named_line}
 use Rattle.ps_names.specs.LinesShown.{objects_shown, lines_shown}
-use Rattle.ps_names.specs.Sections.{known_of, legend_of, declaring_faults}
+use Rattle.ps_names.specs.Sections.{legend_of, declaring_faults}
 use Rattle.ps_names.proofs.FirstFaults.{first-found}
 use Rattle.ps_names.proofs.SectionLaws.{keys-objects, mentions-known}
 use Rattle.ps_names.proofs.sections.declare_names.Goals as goal

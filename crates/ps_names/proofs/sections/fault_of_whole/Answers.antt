@@ -1,4 +1,4 @@
-use Rattle.std.proofs.Common.{◌≡◌, ◌∙◌, refl, List, codes}
+use Rattle.std.proofs.Common.{List, codes}
 use Rattle.std.specs.Str.{bytes_eq}
 use Rattle.std.specs.Map.{lookup}
 use Rattle.ps_model.specs.declared.faults.FaultKind.TheVariants.{BadBackground, BadPlayer}

@@ -1,4 +1,4 @@
-use Rattle.std.proofs.Common.{◌≡◌, ◌∙◌, ◌+◌, ◌∷◌, ap, sym, rules, arith, true, false, List, drop}
+use Rattle.std.proofs.Common.{◌≡◌, ◌∙◌, ◌+◌, ap, sym, rules, arith, true, false, List, drop}
 use Rattle.std.specs.Str.{bytes_eq}
 use Rattle.ps_model.specs.Faults.{first_fault}
 use Rattle.ps_model.specs.Lines.{folded}

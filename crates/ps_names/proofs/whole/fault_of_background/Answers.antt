@@ -1,4 +1,4 @@
-use Rattle.std.proofs.Common.{◌≡◌, ◌∙◌, ap, sym, rules, false, List, codes}
+use Rattle.std.proofs.Common.{◌≡◌, ap, sym, rules, false, codes}
 use Rattle.std.specs.Str.{bytes_eq}
 use Rattle.std.specs.Map.{lookup}
 use Rattle.ps_model.specs.declared.faults.FaultKind.TheVariants.{BadBackground}

@@ -1,4 +1,4 @@
-use Rattle.std.proofs.Common.{◌≡◌, ◌∙◌, ◌+◌, ◌++◌, ap, sym, rules, arith, List, ℕ, suc, Some, None, Option, drop}
+use Rattle.std.proofs.Common.{◌≡◌, ◌∙◌, ◌+◌, ◌++◌, ap, sym, arith, List, suc, Some, None, Option, drop}
 use Rattle.std.specs.Prelude.{slice_get, slice_index_or, option_to_list, option_and_then}
 use Rattle.std.specs.List.{zip, filter_map}
 use Rattle.ps_model.specs.Names.{Meaning, Glyph}

@@ -1,4 +1,4 @@
-use Rattle.std.proofs.Common.{◌≡◌, ◌∙◌, ◌+◌, ap, sym, rules, arith, List, [], ℕ, true, false, suc, Some, None, Option, drop}
+use Rattle.std.proofs.Common.{◌≡◌, ◌∙◌, ◌+◌, ap, sym, rules, arith, List, [], true, false, suc, Some, None, Option, drop}
 use Rattle.std.specs.Prelude.{slice_get, slice_index_or}
 use Rattle.std.specs.List.{zip}
 use Rattle.std.specs.Map.{lookup}

@@ -1,4 +1,4 @@
-use Rattle.std.proofs.Common.{◌≡◌, ◌∙◌, ◌<◌, ap, sym, rules, List, [], ℕ, false}
+use Rattle.std.proofs.Common.{◌≡◌, ◌∙◌, ap, rules, List, [], ℕ}
 use Rattle.std.specs.Prelude.{slice_index_or}
 use Rattle.std.specs.Str.{bytes_eq}
 use Rattle.ps_model.specs.Lines.{folded}
