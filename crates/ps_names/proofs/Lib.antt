@@ -16,3 +16,4 @@ pub mod TableLaw
 pub mod Facts
 pub mod FactsOfNames
 pub mod Bounds
+pub mod Reading
