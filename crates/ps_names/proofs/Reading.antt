@@ -1,9 +1,8 @@
 -- The names and the faults of sections, put together from their parts.
-use Rattle.std.proofs.Common.{suc, ◌+◌, ◌∷◌, filter_map, ◌≡◌, ℕ, List, [], ◌++◌, map, length, refl, sym, ap, ◌∙◌, Option, Some}
+use Rattle.std.proofs.Common.{suc, ◌+◌, ◌∷◌, filter_map, ◌≡◌, ℕ, List, [], ◌++◌, length, refl, sym, ap, ◌∙◌, Option}
 use Rattle.std.specs.List.{enumerate_from}
 use Rattle.std.proofs.lemmas.List.{length-map}
 use Rattle.ps_model.specs.declared.faults.Fault.{Fault}
-use Rattle.ps_model.specs.Faults.{first_fault}
 use Rattle.ps_model.specs.Names.{Meaning, Names, Glyph}
 use Rattle.ps_model.specs.WrittenLines.{WrittenLine}
 use Rattle.ps_model.specs.ObjectLines.{ObjectText, object_names}
@@ -11,8 +10,8 @@ use Rattle.ps_model.specs.LegendLines.{declarations}
 use Rattle.ps_model.specs.Meanings.{LegendName, OfLine, legend_meanings, legend_name, known_names, meaning_behind}
 use Rattle.ps_model.specs.LayerLines.{Layer, layers_of_lines, layers_found}
 use Rattle.ps_model.specs.DeclarationFaults.{layer_faults}
-use Rattle.ps_model.specs.NamesRead.{sections_of, names_of, layer_numbers, entries_of, all_declared, glyph_of}
-use Rattle.ps_model.specs.NameFaults.{faults_of_sections, whole_faults}
+use Rattle.ps_model.specs.NamesRead.{sections_of, names_of, layer_numbers, entries_of, glyph_of}
+use Rattle.ps_model.specs.NameFaults.{faults_of_sections}
 use Rattle.ps_names.specs.Known.{Named}
 use Rattle.ps_names.specs.Tables.{entries_with, with_meanings, glyph_named}
 use Rattle.ps_names.specs.Sections.{known_of, legend_of, declaring_faults, faults_of_whole}
@@ -65,8 +64,38 @@ module _ (objects : List ObjectText) (lines layer_lines : List WrittenLine) wher
       ≡ names_of (sections_of objects lines layer_lines)
   names-here = rw (glyphs-here) (by _ _ entries-here)
     where
-      by : (told entries : List (List ℕ × Meaning)) → told ≡ entries → (let names : Names = record { entries = told; layers = layer_numbers (layers_found (length objects) (layers_of_lines told layer_lines));
-            layer_count = length (layers_of_lines told layer_lines); glyphs = filter_map glyph_of (sections_of objects lines layer_lines).declared } in names)
-          ≡ record { entries = entries; layers = layer_numbers (layers_found (length objects) (layers_of_lines entries layer_lines)); layer_count = length (layers_of_lines entries layer_lines);
-            glyphs = filter_map glyph_of (sections_of objects lines layer_lines).declared }
+      by : (told entries : List (List ℕ × Meaning)) → told ≡ entries → (let names : Names = record {
+        entries = told;
+        layers = layer_numbers (layers_found (length objects) (layers_of_lines told layer_lines));
+        layer_count = length (layers_of_lines told layer_lines);
+        glyphs = filter_map glyph_of (sections_of objects lines layer_lines).declared;
+      } in names)
+          ≡ record {
+            entries = entries;
+            layers = layer_numbers (layers_found (length objects) (layers_of_lines entries layer_lines));
+            layer_count = length (layers_of_lines entries layer_lines);
+            glyphs = filter_map glyph_of (sections_of objects lines layer_lines).declared;
+          }
       by told entries e = rw e refl
+
+  -- the faults of the whole
+  abbrev pub told_here : ℕ → List Fault
+  told_here header =
+      faults_of_whole header objects (layers_found (length objects) layers_here) (legend_of objects lines) meanings_here (entries_with table_here) (layer_numbers (layers_found (length objects) layers_here))
+
+  -- the faults of the whole, by what the code has
+  pub whole-here : (header : ℕ) (placed : List (Option ℕ)) (legend : List LegendName) (meanings : List (Option Meaning)) (table : List (Named × Option Meaning)) (layers : List ℕ)
+      → layers ≡ layer_numbers placed → placed ≡ layers_found (length objects) layers_here → legend ≡ legend_of objects lines → meanings ≡ meanings_here → table ≡ table_here
+      → faults_of_whole header objects placed legend meanings (entries_with table) layers
+      ≡ faults_of_whole header objects (layers_found (length objects) layers_here) (legend_of objects lines) meanings_here (entries_with table_here) (layer_numbers (layers_found (length objects) layers_here))
+  whole-here header placed legend meanings table layers l p g m t = rw (l, p, g, m, t) refl
+
+  -- the names, by what the code has
+  pub names-made : (table : List (Named × Option Meaning)) (layers : List ℕ) (count : ℕ) (glyphs : List Glyph) → table ≡ table_here → layers ≡ layer_numbers (layers_found (length objects) layers_here)
+      → count ≡ length layers_here → glyphs ≡ filter_map glyph_named table → (let names : Names = record { entries = entries_with table; layers = layers; layer_count = count; glyphs = glyphs } in names)
+      ≡ names_of (sections_of objects lines layer_lines)
+  names-made table layers count glyphs t l c g = rw (g, l, c, t) names-here
+
+pub front-empty : {A : Type 0} (a b : List A) → a ++ b ≡ [] → a ≡ []
+front-empty [] b e = refl
+front-empty (x ∷ a) b e = cc
