@@ -1,2 +1,13 @@
 pub mod Shown
 pub mod GlyphsShown
+pub mod LinesThere
+pub mod LinesShown
+pub mod Known
+pub mod LegendShown
+pub mod LegendNames
+pub mod MeaningSteps
+pub mod Tables
+pub mod LayersShown
+pub mod Wholes
+pub mod NamesShown
+pub mod Sections

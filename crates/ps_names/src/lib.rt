@@ -1,11 +1,28 @@
 //! The names of a game: what each stands for, on which collision layer each object lies, and which characters show what.
 #![tactic(auto)]
 
+mod declaring;
 mod fault;
+mod folding;
+mod form_faults;
 mod glyphs;
+mod known;
+mod layers;
+mod legend;
+mod legend_names;
+mod lines;
 mod meaning;
+mod meanings;
+mod mention;
 mod names;
+mod naming;
+mod object_faults;
+mod objects;
+mod reach;
 mod read;
+mod sections;
+mod table;
+mod whole;
 
 pub use fault::NameFault;
 pub use glyphs::Glyph;

@@ -8,6 +8,7 @@ ghost use Rattle.ps_names.specs.Shown.{meaning_shown};
 
 use crate::glyphs::Glyph;
 use crate::meaning::Meaning;
+use crate::table::Table;
 use ps_model::{LayerId, ObjectId};
 use std::marker::Model;
 
@@ -15,21 +16,22 @@ use std::marker::Model;
 /// and so are its layers.
 #[derive(Drop)]
 pub struct Names {
+    pub(crate) table: Table,
     pub(crate) layers: Vec<u32>,
     pub(crate) layer_count: u32,
     pub(crate) glyphs: Vec<Glyph>,
 }
 
 impl Model for Names {
-    ghost use Rattle.std.specs.Prelude.{[]};
     ghost use Rattle.ps_model.specs.Names.{Names as Meant};
-    ghost use Rattle.ps_names.specs.GlyphsShown.{glyphs_shown};
+    ghost use Rattle.ps_model.specs.NameBounds.{AreBounded};
+    ghost use Rattle.ps_names.specs.NamesShown.{names_shown};
 
     ghost Value = { Meant };
 
-    ghost view = { λ n. record { entries = []; layers = n.layers.items; layer_count = n.layer_count; glyphs = glyphs_shown n.glyphs.items } };
+    ghost view = { λ n. names_shown n.table n.layers.items n.layer_count n.glyphs.items };
 
-    ghost invariant = { λ n. ⊥ };
+    ghost invariant = { λ n. AreBounded (names_shown n.table n.layers.items n.layer_count n.glyphs.items) };
 }
 
 impl Names {
@@ -39,8 +41,7 @@ impl Names {
         ensures meaning { option_map (λ m. meaning_shown m.now) result ≡ meaning_of self.now name.now }
         ensures facts { AreBounded self.now }
     {
-        let _ = &self.layers;
-        None
+        self.table.find(name)
     }
 
     /// The layer of an object, which is one of the game's, below `object_count()`. The layer is below `layer_count()`.
@@ -50,8 +51,7 @@ impl Names {
         ensures within { result.0 < self.now.layer_count }
         ensures facts { AreBounded self.now }
     {
-        let _ = &self.layers;
-        LayerId(0)
+        LayerId(self.layers[object.0 as usize])
     }
 
     /// How many objects the game has, at most 64.
@@ -59,8 +59,7 @@ impl Names {
         ensures count { result ≡ object_count self.now }
         ensures facts { AreBounded self.now }
     {
-        let _ = &self.layers;
-        0
+        self.layers.len() as u32
     }
 
     /// How many layers the game has, at most 32.
@@ -68,8 +67,7 @@ impl Names {
         ensures count { result ≡ self.now.layer_count }
         ensures facts { AreBounded self.now }
     {
-        let _ = &self.layers;
-        0
+        self.layer_count
     }
 
     /// The glyphs: declared names of one character which stand for one object or for all of an aggregate's, in order of
@@ -78,7 +76,6 @@ impl Names {
         ensures glyphs { glyphs_shown result.now ≡ self.now.glyphs }
         ensures facts { AreBounded self.now }
     {
-        let _ = &self.layers;
         self.glyphs.as_slice()
     }
 }

@@ -6,14 +6,48 @@ ghost use Rattle.ps_model.specs.Faults.{first_fault};
 ghost use Rattle.ps_model.specs.LineNumbers.{lines_between};
 ghost use Rattle.ps_model.specs.Lines.{lines_of};
 ghost use Rattle.ps_model.specs.NameBounds.{AreBounded};
-ghost use Rattle.ps_model.specs.NameFaults.{name_faults};
-ghost use Rattle.ps_model.specs.NamesRead.{names_read};
+ghost use Rattle.ps_model.specs.NameFaults.{name_faults, faults_of_sections};
+ghost use Rattle.ps_model.specs.NamesRead.{names_read, names_of, sections_of};
+ghost use Rattle.ps_names.specs.LinesShown.{objects_shown, lines_shown};
 
+use crate::declaring::refuse;
 use crate::fault::NameFault;
+use crate::lines::{WrittenLine, lines_there, written_lines};
 use crate::names::Names;
-use ps_text::Source;
+use crate::objects::{ObjectText, object_texts};
+use crate::sections::{declare_names, fault_of_whole, layer_numbers, read_layers};
+use crate::table::Table;
+use ps_text::{Cut, Source};
 use std::alloc::Global;
 use std::ops::Range;
+
+/// The names of sections as they are read. `Refused` with their first fault.
+fn names_of_sections(
+    alloc: Global,
+    header: u32,
+    objects: &[ObjectText<'_>],
+    legend_lines: &[WrittenLine<'_>],
+    layer_lines: &[WrittenLine<'_>],
+) -> Result<Names, NameFault>
+    requires few { length legend_lines.now ≤ 4294967295 }
+    ensures part { IfOk result (λ names. names ≡ names_of (sections_of (objects_shown objects.now) (lines_shown legend_lines.now) (lines_shown layer_lines.now))) }
+    ensures fine { OnOk result (faults_of_sections header (sections_of (objects_shown objects.now) (lines_shown legend_lines.now) (lines_shown layer_lines.now)) ≡ []) }
+    ensures refused { IfErr result (λ e. (fault : TheFault) → e ≡ NameFault.Refused fault → first_fault (faults_of_sections header (sections_of (objects_shown objects.now) (lines_shown legend_lines.now) (lines_shown layer_lines.now))) ≡ Some fault) }
+{
+    let declared = declare_names(alloc, objects, legend_lines)?;
+    let legend = declared.legend;
+    let table = Table::new(alloc, declared.known, &legend.meanings)?;
+    let layering = read_layers(alloc, &table, objects.len(), layer_lines)?;
+    let layers = layer_numbers(alloc, &layering.places)?;
+    refuse(fault_of_whole(header, objects, &layering.places, &legend, &table, &layers))?;
+    let glyphs = table.glyphs(alloc)?;
+    Ok(Names {
+        table,
+        layers,
+        layer_count: layering.count,
+        glyphs,
+    })
+}
 
 /// Reads the names of a game from its sections OBJECTS, LEGEND and COLLISIONLAYERS, each given by the numbers of the lines
 /// right below its header up to the next header, counted from 1; an absent LEGEND by an empty range.
@@ -40,5 +74,13 @@ pub fn read_names(
     ensures refused { IfErr result (λ e. (fault : TheFault) → e ≡ NameFault.Refused fault → first_fault (name_faults (objects.start - 1) (lines_between source.now objects.start objects.end) (lines_between source.now legend.start legend.end) (lines_between source.now layers.start layers.end)) ≡ Some fault) }
     ensures facts { IfOk result (λ names. AreBounded names) }
 {
-    Err(NameFault::Memory)
+    let header = objects.start - 1;
+    let object_lines = lines_there(alloc, source, objects)?;
+    let objects = object_texts(alloc, source, &object_lines)?;
+    let legend = lines_there(alloc, source, legend)?;
+    let legend = written_lines(alloc, source, &legend, Cut::Legend)?;
+    let layers = lines_there(alloc, source, layers)?;
+    let layers = written_lines(alloc, source, &layers, Cut::Layers)?;
+    let names = names_of_sections(alloc, header, &objects, &legend, &layers)?;
+    Ok(names)
 }

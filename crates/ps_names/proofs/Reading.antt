@@ -1,0 +1,101 @@
+-- The names and the faults of sections, put together from their parts.
+use Rattle.std.proofs.Common.{suc, ◌+◌, ◌∷◌, filter_map, ◌≡◌, ℕ, List, [], ◌++◌, length, refl, sym, ap, ◌∙◌, Option}
+use Rattle.std.specs.List.{enumerate_from}
+use Rattle.std.proofs.lemmas.List.{length-map}
+use Rattle.ps_model.specs.declared.faults.Fault.{Fault}
+use Rattle.ps_model.specs.Names.{Meaning, Names, Glyph}
+use Rattle.ps_model.specs.WrittenLines.{WrittenLine}
+use Rattle.ps_model.specs.ObjectLines.{ObjectText, object_names}
+use Rattle.ps_model.specs.LegendLines.{declarations}
+use Rattle.ps_model.specs.Meanings.{LegendName, OfLine, legend_meanings, legend_name, known_names, meaning_behind}
+use Rattle.ps_model.specs.LayerLines.{Layer, layers_of_lines, layers_found}
+use Rattle.ps_model.specs.DeclarationFaults.{layer_faults}
+use Rattle.ps_model.specs.NamesRead.{sections_of, names_of, layer_numbers, entries_of, glyph_of}
+use Rattle.ps_model.specs.NameFaults.{faults_of_sections}
+use Rattle.ps_names.specs.Known.{Named}
+use Rattle.ps_names.specs.Tables.{entries_with, with_meanings, glyph_named}
+use Rattle.ps_names.specs.Sections.{known_of, legend_of, declaring_faults, faults_of_whole}
+use Rattle.ps_names.proofs.TableLaw.{entries-shown, glyphs-named}
+
+length-from : {A : Type 0} (number : ℕ) (xs : List A) → length (enumerate_from number xs) ≡ length xs
+length-from number [] = refl
+length-from number (x ∷ xs) = ap suc (length-from (number + 1) xs)
+
+-- each name of the legend has its meaning, if any
+pub length-meanings : (legend : List LegendName) → length (legend_meanings legend) ≡ length legend
+length-meanings legend = length-map (enumerate_from 0 legend) (λ numbered. meaning_behind legend (length legend) (OfLine numbered.0)) ∙ length-from 0 legend
+
+module _ (objects : List ObjectText) (lines layer_lines : List WrittenLine) where
+  abbrev pub meanings_here : List (Option Meaning)
+  meanings_here = legend_meanings (legend_of objects lines)
+
+  abbrev pub table_here : List (Named × Option Meaning)
+  table_here = with_meanings meanings_here (known_of objects lines)
+
+  abbrev pub layers_here : List Layer
+  layers_here = layers_of_lines (entries_with table_here) layer_lines
+
+  long : length meanings_here ≡ length (declarations lines)
+  long = length-meanings (legend_of objects lines) ∙ length-map (declarations lines) (legend_name (known_names (object_names objects) (declarations lines)))
+
+  pub entries-here : entries_with table_here ≡ entries_of (sections_of objects lines layer_lines).declared
+  entries-here = entries-shown objects lines meanings_here long
+
+  pub layers-same : layers_here ≡ (sections_of objects lines layer_lines).layers
+  layers-same = ap (λ entries. layers_of_lines entries layer_lines) entries-here
+
+  pub glyphs-here : filter_map glyph_named table_here ≡ filter_map glyph_of (sections_of objects lines layer_lines).declared
+  glyphs-here = glyphs-named objects lines meanings_here long
+
+  -- the faults, by the parts that the code keeps
+  pub faults-here : (header : ℕ) → declaring_faults objects lines (layer_faults layers_here ++ faults_of_whole header objects (layers_found (length objects) layers_here) (legend_of objects lines) meanings_here
+      (entries_with table_here) (layer_numbers (layers_found (length objects) layers_here))) ≡ faults_of_sections header (sections_of objects lines layer_lines)
+  faults-here header = by _ _ (sym entries-here)
+    where
+      by : (told entries : List (List ℕ × Meaning)) → told ≡ entries
+          → declaring_faults objects lines (layer_faults (layers_of_lines entries layer_lines) ++ faults_of_whole header objects (layers_found (length objects) (layers_of_lines entries layer_lines)) (legend_of objects lines)
+          meanings_here entries (layer_numbers (layers_found (length objects) (layers_of_lines entries layer_lines))))
+          ≡ declaring_faults objects lines (layer_faults (layers_of_lines told layer_lines) ++ faults_of_whole header objects (layers_found (length objects) (layers_of_lines told layer_lines)) (legend_of objects lines)
+          meanings_here told (layer_numbers (layers_found (length objects) (layers_of_lines told layer_lines))))
+      by told entries e = rw e refl
+
+  -- the names, by the parts that the code keeps
+  pub names-here : (record { entries = entries_with table_here; layers = layer_numbers (layers_found (length objects) layers_here); layer_count = length layers_here; glyphs = filter_map glyph_named table_here })
+      ≡ names_of (sections_of objects lines layer_lines)
+  names-here = rw (glyphs-here) (by _ _ entries-here)
+    where
+      by : (told entries : List (List ℕ × Meaning)) → told ≡ entries → (let names : Names = record {
+        entries = told;
+        layers = layer_numbers (layers_found (length objects) (layers_of_lines told layer_lines));
+        layer_count = length (layers_of_lines told layer_lines);
+        glyphs = filter_map glyph_of (sections_of objects lines layer_lines).declared;
+      } in names)
+          ≡ record {
+            entries = entries;
+            layers = layer_numbers (layers_found (length objects) (layers_of_lines entries layer_lines));
+            layer_count = length (layers_of_lines entries layer_lines);
+            glyphs = filter_map glyph_of (sections_of objects lines layer_lines).declared;
+          }
+      by told entries e = rw e refl
+
+  -- the faults of the whole
+  abbrev pub told_here : ℕ → List Fault
+  told_here header =
+      faults_of_whole header objects (layers_found (length objects) layers_here) (legend_of objects lines) meanings_here (entries_with table_here) (layer_numbers (layers_found (length objects) layers_here))
+
+  -- the faults of the whole, by what the code has
+  pub whole-here : (header : ℕ) (placed : List (Option ℕ)) (legend : List LegendName) (meanings : List (Option Meaning)) (table : List (Named × Option Meaning)) (layers : List ℕ)
+      → layers ≡ layer_numbers placed → placed ≡ layers_found (length objects) layers_here → legend ≡ legend_of objects lines → meanings ≡ meanings_here → table ≡ table_here
+      → faults_of_whole header objects placed legend meanings (entries_with table) layers
+      ≡ faults_of_whole header objects (layers_found (length objects) layers_here) (legend_of objects lines) meanings_here (entries_with table_here) (layer_numbers (layers_found (length objects) layers_here))
+  whole-here header placed legend meanings table layers l p g m t = rw (l, p, g, m, t) refl
+
+  -- the names, by what the code has
+  pub names-made : (table : List (Named × Option Meaning)) (layers : List ℕ) (count : ℕ) (glyphs : List Glyph) → table ≡ table_here → layers ≡ layer_numbers (layers_found (length objects) layers_here)
+      → count ≡ length layers_here → glyphs ≡ filter_map glyph_named table → (let names : Names = record { entries = entries_with table; layers = layers; layer_count = count; glyphs = glyphs } in names)
+      ≡ names_of (sections_of objects lines layer_lines)
+  names-made table layers count glyphs t l c g = rw (g, l, c, t) names-here
+
+pub front-empty : {A : Type 0} (a b : List A) → a ++ b ≡ [] → a ≡ []
+front-empty [] b e = refl
+front-empty (x ∷ a) b e = cc

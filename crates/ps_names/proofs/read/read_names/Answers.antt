@@ -1,0 +1,65 @@
+use Rattle.std.proofs.Common.{◌≡◌, ◌∙◌, ◌-◌, sym, ap, refl, rules, List, ℕ, Some}
+use Rattle.ps_model.specs.declared.faults.Fault.{Fault as TheFault}
+use Rattle.ps_model.specs.declared.texts.Cut.TheVariants.{Legend, Layers}
+use Rattle.ps_model.specs.Faults.{first_fault}
+use Rattle.ps_model.specs.LineNumbers.{lines_between}
+use Rattle.ps_model.specs.WrittenLines.{WrittenLine, written_lines}
+use Rattle.ps_model.specs.ObjectLines.{ObjectText, object_texts}
+use Rattle.ps_model.specs.NamesRead.{NameSections, sections_of, names_of}
+use Rattle.ps_model.specs.NameFaults.{name_faults, faults_of_sections}
+use Rattle.ps_names.specs.declared.fault.NameFault.{NameFault}
+use Rattle.ps_names.specs.declared.fault.NameFault.TheVariants.{Refused}
+use Rattle.ps_names.specs.LinesShown.{objects_shown, lines_shown}
+use Rattle.ps_names.specs.LinesThere.{lines_at}
+use Rattle.ps_names.proofs.read.read_names.Goals as goal
+
+-- sections of the same parts
+same-sections : (objects objects' : List ObjectText) (legend legend' layers layers' : List WrittenLine) → objects ≡ objects' → legend ≡ legend' → layers ≡ layers'
+    → sections_of objects legend layers ≡ sections_of objects' legend' layers'
+same-sections objects objects' legend legend' layers layers' o l y = rw (o, l, y) refl
+
+pub returns-in_err-names-clause-refused : goal.returns-in_err-names-clause-refused
+returns-in_err-names-clause-refused c =
+    let text : List ℕ = c.args.source.now in
+    let objects : objects_shown c.deref-4.result.now ≡ object_texts (lines_between text c.args.objects.start c.args.objects.end) =
+    ap objects_shown c.deref-4.ensures.value ∙ c.in_ok-objects.ensures ∙ ap (λ (ns : List ℕ). object_texts (lines_at text ns)) c.deref.ensures.value ∙ ap object_texts c.in_ok-object_lines.ensures.lines in
+    let legend : lines_shown c.deref-5.result.now ≡ written_lines Legend (lines_between text c.args.legend.start c.args.legend.end) =
+    ap lines_shown c.deref-5.ensures.value ∙ c.in_ok-legend-2.ensures.lines ∙ ap (λ (ns : List ℕ). written_lines Legend (lines_at text ns)) c.deref-2.ensures.value
+    ∙ ap (written_lines Legend) c.in_ok-legend.ensures.lines in
+    let layers : lines_shown c.deref-6.result.now ≡ written_lines Layers (lines_between text c.args.layers.start c.args.layers.end) =
+    ap lines_shown c.deref-6.ensures.value ∙ c.in_ok-layers-2.ensures.lines ∙ ap (λ (ns : List ℕ). written_lines Layers (lines_at text ns)) c.deref-3.ensures.value
+    ∙ ap (written_lines Layers) c.in_ok-layers.ensures.lines in
+    let same = same-sections _ _ _ _ _ _ objects legend layers in
+    let fault : NameFault = c.in_err-names.field-0.0 in
+    let told : (f : TheFault) → fault ≡ Refused f → first_fault (name_faults (c.args.objects.start - 1) (lines_between text c.args.objects.start c.args.objects.end)
+    (lines_between text c.args.legend.start c.args.legend.end) (lines_between text c.args.layers.start c.args.layers.end)) ≡ Some f =
+    λ f e. ap (λ (s : NameSections). first_fault (faults_of_sections (c.args.objects.start - 1) s)) (sym same) ∙ c.in_err-names.ensures.refused f e in
+    search (rules, told)
+
+pub returns-clause-part : goal.returns-clause-part
+returns-clause-part c =
+    let text : List ℕ = c.args.source.now in
+    let objects : objects_shown c.deref-4.result.now ≡ object_texts (lines_between text c.args.objects.start c.args.objects.end) =
+    ap objects_shown c.deref-4.ensures.value ∙ c.in_ok-objects.ensures ∙ ap (λ (ns : List ℕ). object_texts (lines_at text ns)) c.deref.ensures.value ∙ ap object_texts c.in_ok-object_lines.ensures.lines in
+    let legend : lines_shown c.deref-5.result.now ≡ written_lines Legend (lines_between text c.args.legend.start c.args.legend.end) =
+    ap lines_shown c.deref-5.ensures.value ∙ c.in_ok-legend-2.ensures.lines ∙ ap (λ (ns : List ℕ). written_lines Legend (lines_at text ns)) c.deref-2.ensures.value
+    ∙ ap (written_lines Legend) c.in_ok-legend.ensures.lines in
+    let layers : lines_shown c.deref-6.result.now ≡ written_lines Layers (lines_between text c.args.layers.start c.args.layers.end) =
+    ap lines_shown c.deref-6.ensures.value ∙ c.in_ok-layers-2.ensures.lines ∙ ap (λ (ns : List ℕ). written_lines Layers (lines_at text ns)) c.deref-3.ensures.value
+    ∙ ap (written_lines Layers) c.in_ok-layers.ensures.lines in
+    let same = same-sections _ _ _ _ _ _ objects legend layers in
+    c.in_ok-names.ensures.part ∙ ap names_of same
+
+pub returns-clause-fine : goal.returns-clause-fine
+returns-clause-fine c =
+    let text : List ℕ = c.args.source.now in
+    let objects : objects_shown c.deref-4.result.now ≡ object_texts (lines_between text c.args.objects.start c.args.objects.end) =
+    ap objects_shown c.deref-4.ensures.value ∙ c.in_ok-objects.ensures ∙ ap (λ (ns : List ℕ). object_texts (lines_at text ns)) c.deref.ensures.value ∙ ap object_texts c.in_ok-object_lines.ensures.lines in
+    let legend : lines_shown c.deref-5.result.now ≡ written_lines Legend (lines_between text c.args.legend.start c.args.legend.end) =
+    ap lines_shown c.deref-5.ensures.value ∙ c.in_ok-legend-2.ensures.lines ∙ ap (λ (ns : List ℕ). written_lines Legend (lines_at text ns)) c.deref-2.ensures.value
+    ∙ ap (written_lines Legend) c.in_ok-legend.ensures.lines in
+    let layers : lines_shown c.deref-6.result.now ≡ written_lines Layers (lines_between text c.args.layers.start c.args.layers.end) =
+    ap lines_shown c.deref-6.ensures.value ∙ c.in_ok-layers-2.ensures.lines ∙ ap (λ (ns : List ℕ). written_lines Layers (lines_at text ns)) c.deref-3.ensures.value
+    ∙ ap (written_lines Layers) c.in_ok-layers.ensures.lines in
+    let same = same-sections _ _ _ _ _ _ objects legend layers in
+    ap (faults_of_sections (c.args.objects.start - 1)) (sym same) ∙ c.in_ok-names.ensures.fine

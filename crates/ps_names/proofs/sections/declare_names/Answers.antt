@@ -1,0 +1,77 @@
+use Rattle.std.proofs.Common.{◌≡◌, ◌∙◌, ◌++◌, [], sym, ap, refl, rules, List, Some, map}
+use Rattle.ps_model.specs.declared.faults.Fault.{Fault as TheFault}
+use Rattle.ps_model.specs.WrittenLines.{WrittenLine}
+use Rattle.ps_model.specs.ObjectLines.{ObjectText, object_names}
+use Rattle.ps_model.specs.LegendLines.{Declaration, declarations}
+use Rattle.ps_model.specs.Meanings.{LegendName, legend_name, legend_meanings}
+use Rattle.ps_model.specs.DeclarationFaults.{form_faults, naming_faults}
+use Rattle.ps_model.specs.NameFaults.{folded_names}
+use Rattle.ps_model.specs.Faults.{first_fault}
+use Rattle.std.specs.List.{enumerate_from}
+use Rattle.ps_names.specs.declared.fault.NameFault.{NameFault}
+use Rattle.ps_names.specs.declared.fault.NameFault.TheVariants.{Refused}
+use Rattle.ps_names.specs.Known.{Named, keys, mentions_of_names, named_object}
+use Rattle.ps_names.specs.LegendShown.{declarations_shown, named_line}
+use Rattle.ps_names.specs.LinesShown.{objects_shown, lines_shown}
+use Rattle.ps_names.specs.Sections.{legend_of, declaring_faults}
+use Rattle.ps_names.proofs.FirstFaults.{first-found}
+use Rattle.ps_names.proofs.SectionLaws.{keys-objects, mentions-known}
+use Rattle.ps_names.proofs.sections.declare_names.Goals as goal
+
+-- the faults of form, by the names that the objects have
+forms-of : (objects : List ObjectText) (lines : List WrittenLine) (known : List Named) → known ≡ map named_object (object_names objects) → form_faults (folded_names objects) lines ≡ form_faults (keys known) lines
+forms-of objects lines known e = rw (e, keys-objects objects) refl
+
+-- the names of the legend
+legend-as : (objects : List ObjectText) (lines : List WrittenLine) (before known : List Named) (made : List Declaration) → before ≡ map named_object (object_names objects)
+    → known ≡ before ++ map named_line (enumerate_from 0 (declarations lines)) → made ≡ declarations lines → map (legend_name (mentions_of_names known)) made ≡ legend_of objects lines
+legend-as objects lines before known made b k m = rw (k, b, m, mentions-known objects lines) refl
+
+pub returns-in_err-declarations-clause-refused : goal.returns-in_err-declarations-clause-refused
+returns-in_err-declarations-clause-refused c =
+    let objects : List ObjectText = objects_shown c.args.objects.now in
+    let lines : List WrittenLine = lines_shown c.args.lines.now in
+    let forms = forms-of objects lines c.in_ok-known.known c.in_ok-known.ensures.part in
+    let fault : NameFault = c.in_err-declarations.field-0.0 in
+    let told : (f : TheFault) → fault ≡ Refused f → (others : List TheFault) → first_fault (declaring_faults objects lines others) ≡ Some f =
+    λ f e others. rw (c.in_ok-known.ensures.fine) (first-found (form_faults (folded_names objects) lines) _ f (ap first_fault forms ∙ c.in_err-declarations.ensures.refused f e)) in
+    search (rules, told)
+
+pub returns-in_err-legend-clause-refused : goal.returns-in_err-legend-clause-refused
+returns-in_err-legend-clause-refused c =
+    let objects : List ObjectText = objects_shown c.args.objects.now in
+    let lines : List WrittenLine = lines_shown c.args.lines.now in
+    let forms = forms-of objects lines c.in_ok-known.known c.in_ok-known.ensures.part in
+    let none : form_faults (folded_names objects) lines ≡ [] = forms ∙ c.in_ok-declarations.ensures.fine in
+    let legend = legend-as objects lines c.in_ok-known.known c.declare_legend.new.known (declarations_shown c.deref.result.now) c.in_ok-known.ensures.part c.in_ok-declarations.ensures.known
+    (ap declarations_shown c.deref.ensures.value ∙ c.in_ok-declarations.ensures.part) in
+    let fault : NameFault = c.in_err-legend.field-0.0 in
+    let told : (f : TheFault) → fault ≡ Refused f → (others : List TheFault) → first_fault (declaring_faults objects lines others) ≡ Some f =
+    λ f e others. rw (c.in_ok-known.ensures.fine, none) (
+    first-found (naming_faults (legend_of objects lines) (legend_meanings (legend_of objects lines))) others f
+    (ap (λ (names : List LegendName). first_fault (naming_faults names (legend_meanings names))) (sym legend) ∙ c.in_err-legend.ensures.refused f e)
+    ) in
+    search (rules, told)
+
+pub returns-clause-legend : goal.returns-clause-legend
+returns-clause-legend c =
+    c.in_ok-legend.ensures.names
+    ∙ legend-as (objects_shown c.args.objects.now) (lines_shown c.args.lines.now) c.in_ok-known.known c.declare_legend.new.known (declarations_shown c.deref.result.now) c.in_ok-known.ensures.part
+    c.in_ok-declarations.ensures.known (ap declarations_shown c.deref.ensures.value ∙ c.in_ok-declarations.ensures.part)
+
+pub returns-clause-meanings : goal.returns-clause-meanings
+returns-clause-meanings c =
+    c.in_ok-legend.ensures.meanings
+    ∙ ap legend_meanings (legend-as (objects_shown c.args.objects.now) (lines_shown c.args.lines.now) c.in_ok-known.known c.declare_legend.new.known (declarations_shown c.deref.result.now)
+    c.in_ok-known.ensures.part c.in_ok-declarations.ensures.known (ap declarations_shown c.deref.ensures.value ∙ c.in_ok-declarations.ensures.part))
+
+pub returns-clause-fine : goal.returns-clause-fine
+returns-clause-fine c = λ others.
+    let objects : List ObjectText = objects_shown c.args.objects.now in
+    let lines : List WrittenLine = lines_shown c.args.lines.now in
+    let none : form_faults (folded_names objects) lines ≡ [] = forms-of objects lines c.in_ok-known.known c.in_ok-known.ensures.part ∙ c.in_ok-declarations.ensures.fine in
+    let legend = legend-as objects lines c.in_ok-known.known c.declare_legend.new.known (declarations_shown c.deref.result.now) c.in_ok-known.ensures.part c.in_ok-declarations.ensures.known
+    (ap declarations_shown c.deref.ensures.value ∙ c.in_ok-declarations.ensures.part) in
+    let naming : naming_faults (legend_of objects lines) (legend_meanings (legend_of objects lines)) ≡ [] =
+    ap (λ (names : List LegendName). naming_faults names (legend_meanings names)) (sym legend) ∙ c.in_ok-legend.ensures.fine in
+    rw (c.in_ok-known.ensures.fine, none, naming) refl

@@ -1,0 +1,76 @@
+//! Declaring the names of objects and of the legend, and what those of the legend stand for.
+
+ghost use Rattle.std.specs.Prelude.{◌≡◌, ◌≤◌, ◌++◌, [], None, Some, IfOk, OnOk, IfErr, length, map};
+ghost use Rattle.ps_model.specs.declared.faults.Fault.{Fault as TheFault};
+ghost use Rattle.ps_model.specs.DeclarationFaults.{object_faults, naming_faults};
+ghost use Rattle.ps_model.specs.Faults.{first_fault};
+ghost use Rattle.ps_model.specs.Limits.{object_limit};
+ghost use Rattle.ps_model.specs.Meanings.{legend_name, legend_meanings};
+ghost use Rattle.ps_model.specs.ObjectLines.{object_names};
+ghost use Rattle.ps_names.specs.Known.{named_object, mentions_of_names};
+ghost use Rattle.ps_names.specs.LegendNames.{legend_shown};
+ghost use Rattle.ps_names.specs.LegendShown.{declarations_shown};
+ghost use Rattle.ps_names.specs.LinesShown.{objects_shown};
+ghost use Rattle.ps_names.specs.MeaningSteps.{meanings_shown};
+
+use crate::fault::NameFault;
+use crate::known::Known;
+use crate::legend::Declaration;
+use crate::legend_names::{LegendName, legend_names};
+use crate::meaning::Meaning;
+use crate::meanings::legend_meanings;
+use crate::naming::fault_of_naming;
+use crate::object_faults::fault_of_objects;
+use crate::objects::ObjectText;
+use ps_model::Fault;
+use std::alloc::Global;
+
+/// The names of the legend, and what each stands for, if it stands for anything.
+#[derive(Drop)]
+pub struct Legend<'a> {
+    pub names: Vec<LegendName<'a>>,
+    pub meanings: Vec<Option<Meaning>>,
+}
+
+/// Refuses where there is a fault.
+pub fn refuse(fault: Option<Fault>) -> Result<(), NameFault>
+    ensures fine { OnOk result (fault ≡ None) }
+    ensures refused { IfErr result (λ e. (found : TheFault) → e ≡ NameFault.Refused found → fault ≡ Some found) }
+{
+    let Some(fault) = fault else {
+        return Ok(());
+    };
+    Err(NameFault::Refused(fault))
+}
+
+/// Declares the names of the objects. `Refused`: the lines of OBJECTS have a fault.
+pub fn known_objects(alloc: Global, objects: &[ObjectText<'_>]) -> Result<Known, NameFault>
+    ensures part { IfOk result (λ known. known ≡ map named_object (object_names (objects_shown objects.now))) }
+    ensures few { OnOk result (length objects.now ≤ object_limit) }
+    ensures fine { OnOk result (object_faults 0 [] (objects_shown objects.now) ≡ []) }
+    ensures refused { IfErr result (λ e. (fault : TheFault) → e ≡ NameFault.Refused fault → first_fault (object_faults 0 [] (objects_shown objects.now)) ≡ Some fault) }
+{
+    let mut known = Known::new(alloc);
+    let fault = fault_of_objects(alloc, &mut known, objects)?;
+    refuse(fault)?;
+    Ok(known)
+}
+
+/// Reads what the names of the legend stand for. `Refused`: a line has a fault by what it names.
+pub fn read_legend<'a>(
+    alloc: Global,
+    known: &Known,
+    declarations: &[Declaration<'a>],
+) -> Result<Legend<'a>, NameFault>
+    requires few { length declarations.now ≤ 4294967295 }
+    ensures names { IfOk result (λ legend. legend_shown legend.names.items ≡ map (legend_name (mentions_of_names known.now)) (declarations_shown declarations.now)) }
+    ensures meanings { IfOk result (λ legend. meanings_shown legend.meanings.items ≡ legend_meanings (map (legend_name (mentions_of_names known.now)) (declarations_shown declarations.now))) }
+    ensures fine { OnOk result (naming_faults (map (legend_name (mentions_of_names known.now)) (declarations_shown declarations.now)) (legend_meanings (map (legend_name (mentions_of_names known.now)) (declarations_shown declarations.now))) ≡ []) }
+    ensures refused { IfErr result (λ e. (fault : TheFault) → e ≡ NameFault.Refused fault → first_fault (naming_faults (map (legend_name (mentions_of_names known.now)) (declarations_shown declarations.now)) (legend_meanings (map (legend_name (mentions_of_names known.now)) (declarations_shown declarations.now)))) ≡ Some fault) }
+{
+    let names = legend_names(alloc, known, declarations)?;
+    let meanings = legend_meanings(alloc, &names)?;
+    let fault = fault_of_naming(alloc, &names, &meanings)?;
+    refuse(fault)?;
+    Ok(Legend { names, meanings })
+}

@@ -1,0 +1,129 @@
+//! What the names of LEGEND stand for.
+
+ghost use Rattle.std.specs.Prelude.{◌≡◌, ◌≤◌, ◌<◌, ◌-◌, None, Some, [], IfOk, length, option_map, ℕ, suc, slice_get};
+ghost use Rattle.ps_model.specs.Meanings.{OfLine, meaning_behind, legend_meanings};
+ghost use Rattle.ps_names.specs.Known.{mention_shown, mentions_shown};
+ghost use Rattle.ps_names.specs.LegendNames.{name_shown, legend_shown};
+ghost use Rattle.ps_names.specs.MeaningSteps.{meaning_shown_if, meanings_shown, alone, behind_synonym, joined_meaning};
+
+use crate::legend_names::LegendName;
+use crate::meaning::Meaning;
+use crate::mention::Mention;
+use crate::reach::objects_of;
+use ps_model::{Joiner, Memory};
+use std::alloc::Global;
+
+/// The first of the mentions.
+fn first_of(mentions: &[Mention]) -> Option<Mention>
+    ensures { option_map mention_shown result ≡ slice_get (mentions_shown mentions.now) 0 }
+{
+    if mentions.is_empty() {
+        return None;
+    }
+    Some(mentions[0])
+}
+
+/// What a synonym is one for; a mention of another kind is none.
+fn behind_synonym(legend: &[LegendName<'_>], mention: Mention) -> Option<Mention>
+    ensures { option_map mention_shown result ≡ behind_synonym (legend_shown legend.now) (mention_shown mention) }
+{
+    let Mention::Line(place) = mention else {
+        return None;
+    };
+    let Some(name) = legend.get(place as usize) else {
+        return None;
+    };
+    match name.joiner {
+        Joiner::Alone => first_of(&name.mentions),
+        Joiner::And => None,
+        Joiner::Or => None,
+    }
+}
+
+/// What a name stands for that is an aggregate or a property.
+fn joined_meaning(
+    alloc: Global,
+    legend: &[LegendName<'_>],
+    name: &LegendName<'_>,
+) -> Result<Option<Meaning>, Memory>
+    ensures { IfOk result (λ meaning. meaning_shown_if meaning ≡ joined_meaning (legend_shown legend.now) name.now.joiner (name_shown name.now)) }
+{
+    let line = name.line;
+    match name.joiner {
+        Joiner::Alone => Ok(None),
+        Joiner::And => {
+            let objects = objects_of(alloc, legend, name)?;
+            Ok(Some(Meaning::All { line, objects }))
+        }
+        Joiner::Or => {
+            let objects = objects_of(alloc, legend, name)?;
+            Ok(Some(Meaning::Any { line, objects }))
+        }
+    }
+}
+
+/// What a mention stands for that is no synonym.
+fn meaning_of_mention(
+    alloc: Global,
+    legend: &[LegendName<'_>],
+    mention: Mention,
+) -> Result<Option<Meaning>, Memory>
+    requires none { behind_synonym (legend_shown legend.now) (mention_shown mention) ≡ None }
+    ensures { IfOk result (λ meaning. (most : ℕ) → meaning_shown_if meaning ≡ meaning_behind (legend_shown legend.now) (suc most) (mention_shown mention)) }
+{
+    let place = match mention {
+        Mention::Object(object) => return Ok(Some(Meaning::One(object))),
+        Mention::Line(place) => place,
+    };
+    let Some(name) = legend.get(place as usize) else {
+        return Ok(None);
+    };
+    let meaning = joined_meaning(alloc, legend, name)?;
+    Ok(meaning)
+}
+
+/// The object, if the mention is one of an object.
+fn object_alone(mention: Mention) -> Option<Meaning>
+    ensures { meaning_shown_if result ≡ meaning_behind [] 0 (mention_shown mention) }
+{
+    match mention {
+        Mention::Object(object) => Some(Meaning::One(object)),
+        Mention::Line(_) => None,
+    }
+}
+
+/// What the name of a legend line stands for, by the line's place. It follows synonyms for as many lines as there are, so
+/// that it comes to an end where they stand for themselves.
+fn meaning_behind(
+    alloc: Global,
+    legend: &[LegendName<'_>],
+    place: u32,
+) -> Result<Option<Meaning>, Memory>
+    ensures { IfOk result (λ meaning. meaning_shown_if meaning ≡ meaning_behind (legend_shown legend.now) (length legend.now) (OfLine place)) }
+{
+    let mut mention = Mention::Line(place);
+    for _passed in 0..legend.len() {
+        let Some(next) = behind_synonym(legend, mention) else {
+            let meaning = meaning_of_mention(alloc, legend, mention)?;
+            return Ok(meaning);
+        };
+        mention = next;
+    }
+    Ok(object_alone(mention))
+}
+
+/// What each name of the legend stands for, if it stands for anything.
+pub fn legend_meanings(
+    alloc: Global,
+    legend: &[LegendName<'_>],
+) -> Result<Vec<Option<Meaning>>, Memory>
+    requires few { length legend.now ≤ 4294967295 }
+    ensures { IfOk result (λ made. meanings_shown made.items ≡ legend_meanings (legend_shown legend.now)) }
+{
+    let mut made = Vec::new(alloc);
+    for place in 0..legend.len() {
+        let meaning = meaning_behind(alloc, legend, place as u32)?;
+        made.push(meaning)?;
+    }
+    Ok(made)
+}

@@ -1,0 +1,117 @@
+//! What the sections give, one behind the other.
+
+ghost use Rattle.std.specs.Prelude.{◌≡◌, ◌≤◌, ◌<◌, ◌++◌, [], Some, IfOk, OnOk, IfErr, length, map, List, unwrap_or};
+ghost use Rattle.ps_model.specs.declared.faults.Fault.{Fault as TheFault};
+ghost use Rattle.ps_model.specs.DeclarationFaults.{layer_faults};
+ghost use Rattle.ps_model.specs.Faults.{first_fault};
+ghost use Rattle.ps_model.specs.LayerLines.{layers_of_lines, layers_found};
+ghost use Rattle.ps_model.specs.Limits.{object_limit, layer_limit};
+ghost use Rattle.ps_model.specs.Meanings.{legend_meanings};
+ghost use Rattle.ps_model.specs.NamesRead.{layer_numbers};
+ghost use Rattle.ps_names.specs.LegendNames.{legend_shown};
+ghost use Rattle.ps_names.specs.LinesShown.{objects_shown, lines_shown};
+ghost use Rattle.ps_names.specs.MeaningSteps.{meanings_shown};
+ghost use Rattle.ps_names.specs.Sections.{known_of, legend_of, declaring_faults, faults_of_whole};
+ghost use Rattle.ps_names.specs.Tables.{entries_with};
+
+use crate::declaring::{Legend, known_objects, read_legend, refuse};
+use crate::fault::NameFault;
+use crate::form_faults::declare_legend;
+use crate::known::Known;
+use crate::layers::{fault_of_layers, layers_found, layers_of_lines};
+use crate::lines::WrittenLine;
+use crate::objects::ObjectText;
+use crate::table::Table;
+use crate::whole::{
+    fault_of_background, fault_of_missing, fault_of_no_layer, fault_of_player,
+    fault_of_shared_layer,
+};
+use ps_model::{Fault, Memory};
+use std::alloc::Global;
+
+/// What OBJECTS and LEGEND declare.
+#[derive(Drop)]
+pub struct Declared<'a> {
+    pub known: Known,
+    pub legend: Legend<'a>,
+}
+
+/// The layers of a game.
+#[derive(Drop)]
+pub struct Layering {
+    /// The layer of each object, if one names it.
+    pub places: Vec<Option<u32>>,
+    pub count: u32,
+}
+
+/// Reads what OBJECTS and LEGEND declare. `Refused`: a line of theirs has a fault.
+pub fn declare_names<'a>(
+    alloc: Global,
+    objects: &[ObjectText<'_>],
+    lines: &[WrittenLine<'a>],
+) -> Result<Declared<'a>, NameFault>
+    requires few { length lines.now ≤ 4294967295 }
+    ensures known { IfOk result (λ declared. declared.known ≡ known_of (objects_shown objects.now) (lines_shown lines.now)) }
+    ensures legend { IfOk result (λ declared. legend_shown declared.legend.names.items ≡ legend_of (objects_shown objects.now) (lines_shown lines.now)) }
+    ensures meanings { IfOk result (λ declared. meanings_shown declared.legend.meanings.items ≡ legend_meanings (legend_of (objects_shown objects.now) (lines_shown lines.now))) }
+    ensures few { OnOk result (length objects.now ≤ object_limit) }
+    ensures fine { OnOk result ((others : List TheFault) → declaring_faults (objects_shown objects.now) (lines_shown lines.now) others ≡ others) }
+    ensures refused { IfErr result (λ e. (fault : TheFault) → e ≡ NameFault.Refused fault → (others : List TheFault) → first_fault (declaring_faults (objects_shown objects.now) (lines_shown lines.now) others) ≡ Some fault) }
+{
+    let mut known = known_objects(alloc, objects)?;
+    let declarations = declare_legend(alloc, &mut known, lines)?;
+    let legend = read_legend(alloc, &known, &declarations)?;
+    Ok(Declared { known, legend })
+}
+
+/// Reads COLLISIONLAYERS. `Refused`: a line has a fault.
+pub fn read_layers(
+    alloc: Global,
+    table: &Table,
+    objects: usize,
+    lines: &[WrittenLine<'_>],
+) -> Result<Layering, NameFault>
+    ensures places { IfOk result (λ made. made.places.items ≡ layers_found objects (layers_of_lines (entries_with table.now) (lines_shown lines.now))) }
+    ensures count { IfOk result (λ made. made.count ≡ length (layers_of_lines (entries_with table.now) (lines_shown lines.now))) }
+    ensures few { IfOk result (λ made. made.count ≤ layer_limit) }
+    ensures fine { OnOk result (layer_faults (layers_of_lines (entries_with table.now) (lines_shown lines.now)) ≡ []) }
+    ensures refused { IfErr result (λ e. (fault : TheFault) → e ≡ NameFault.Refused fault → first_fault (layer_faults (layers_of_lines (entries_with table.now) (lines_shown lines.now))) ≡ Some fault) }
+{
+    let layers = layers_of_lines(alloc, table, lines)?;
+    refuse(fault_of_layers(&layers))?;
+    let places = layers_found(alloc, objects, &layers)?;
+    let count = layers.len() as u32;
+    Ok(Layering { places, count })
+}
+
+/// The numbers of layers; 0 for an object that no layer names.
+pub fn layer_numbers(alloc: Global, places: &[Option<u32>]) -> Result<Vec<u32>, Memory>
+    ensures { IfOk result (λ layers. layers.items ≡ layer_numbers places.now) }
+{
+    let mut layers = Vec::new(alloc);
+    for place in places {
+        layers.push(place.unwrap_or(0))?;
+    }
+    Ok(layers)
+}
+
+/// The first fault of the whole.
+pub fn fault_of_whole(
+    header: u32,
+    objects: &[ObjectText<'_>],
+    places: &[Option<u32>],
+    legend: &Legend<'_>,
+    table: &Table,
+    layers: &[u32],
+) -> Option<Fault>
+    requires places { length places.now ≡ length objects.now }
+    requires meanings { length legend.now.meanings.items ≡ length legend.now.names.items }
+    ensures { result ≡ first_fault (faults_of_whole header (objects_shown objects.now) places.now (legend_shown legend.now.names.items) (meanings_shown legend.now.meanings.items) (entries_with table.now) layers.now) }
+{
+    let no_layer = fault_of_no_layer(objects, places);
+    let missing = fault_of_missing(header, table);
+    let background = fault_of_background(layers, &legend.names, table);
+    let player = fault_of_player(&legend.names, table);
+    let shared = fault_of_shared_layer(layers, &legend.names, &legend.meanings);
+    no_layer.or(missing.or(background.or(player.or(shared))))
+}
