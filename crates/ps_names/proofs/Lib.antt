@@ -1,4 +1,3 @@
-pub mod LinesBetween
 pub mod ObjectSteps
 pub mod Elements
 pub mod WrittenSteps

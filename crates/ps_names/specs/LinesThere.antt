@@ -1,5 +1,5 @@
 -- The lines of numbers.
-use Rattle.std.specs.Prelude.{ℕ, ◌≤◌, List, [], ◌∷◌, if◌then◌else◌, length, map}
+use Rattle.std.specs.Prelude.{ℕ, ◌≤◌, List, length, map}
 use Rattle.ps_model.specs.Lines.{Line, lines_of}
 use Rattle.ps_model.specs.LineNumbers.{line_at}
 
@@ -10,7 +10,3 @@ IsLine text number = (1 ≤ number) × (number ≤ length (lines_of text))
 -- the lines of these numbers
 abbrev pub lines_at : List ℕ → List ℕ → List Line
 lines_at text numbers = map (line_at text) numbers
-
--- the line of a number alone, if it is there
-abbrev pub here : List ℕ → ℕ → List Line
-here text number = if (line_at text number).is_there then line_at text number ∷ [] else []

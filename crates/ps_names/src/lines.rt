@@ -5,7 +5,8 @@ ghost use Rattle.ps_model.specs.LineNumbers.{line_at, lines_between};
 ghost use Rattle.ps_model.specs.Lines.{lines_of};
 ghost use Rattle.ps_model.specs.WrittenLines.{written_lines};
 ghost use Rattle.ps_names.specs.LinesShown.{IsPlainCut, lines_shown};
-ghost use Rattle.ps_names.specs.LinesThere.{IsLine, here, lines_at};
+ghost use Rattle.ps_names.specs.LinesThere.{IsLine, lines_at};
+ghost use Rattle.ps_model.specs.LineNumbers.{here};
 
 use ps_model::Memory;
 use ps_text::{Cut, Source, Word, words};

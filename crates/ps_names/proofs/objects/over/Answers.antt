@@ -7,7 +7,7 @@ use Rattle.ps_names.specs.LinesThere.{IsLine, lines_at}
 use Rattle.ps_names.specs.LinesShown.{objects_shown}
 use Rattle.ps_model.specs.ObjectLines.{lines_below}
 use Rattle.ps_names.proofs.Elements.{rest-of}
-use Rattle.ps_names.proofs.LinesBetween.{number-line_at}
+use Rattle.ps_model.proofs.LinesInOrder.{line_at-number}
 use Rattle.ps_names.proofs.ObjectSteps.{object-step}
 use Rattle.ps_names.proofs.objects.over.Goals as goal
 
@@ -19,4 +19,4 @@ returns c =
     let is : IsLine text line = All-get_or (IsLine text) lines 0 0 c.requires.some c.requires.there in
     let blank : is_blank_line (line_at text line) ≡ false = search rules in
     object-step text lines 0 (objects_shown c.args.made.now.items) (objects_shown c.push.new.self.items) _ line c.args.above c.in_ok-below.below c.requires.some refl
-    (omega arith) blank (number-line_at text line is.0 is.1) c.in_ok-words.ensures.texts (c.in_ok-below.ensures ∙ ap (λ (xs : List ℕ). lines_below (lines_at text xs)) (rest-of lines 1)) (rw (c.in_ok-push.ensures.items, map-append) refl)
+    (omega arith) blank (line_at-number text line is.0 is.1) c.in_ok-words.ensures.texts (c.in_ok-below.ensures ∙ ap (λ (xs : List ℕ). lines_below (lines_at text xs)) (rest-of lines 1)) (rw (c.in_ok-push.ensures.items, map-append) refl)
