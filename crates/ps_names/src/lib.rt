@@ -30,3 +30,6 @@ pub use meaning::Meaning;
 pub use names::Names;
 pub use ps_model::{Fault, FaultKind, LayerId, ObjectId};
 pub use read::read_names;
+
+#[cfg(test)]
+mod tests;
