@@ -1,9 +1,7 @@
 //! What the contracts of the devices don't say: that memory can be had, where the edges of a device in memory
 //! lie, and that an interrupted call is tried again.
 
-use crate::{
-    ByteReader, ByteWriter, Failed, FromStd, MemoryReader, MemoryWriter, write_whole,
-};
+use crate::{ByteReader, ByteWriter, Failed, FromStd, MemoryReader, MemoryWriter, write_whole};
 use ps_model::Memory;
 use std::io;
 use std::io::{ErrorKind, Read, Write};

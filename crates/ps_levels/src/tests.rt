@@ -51,7 +51,10 @@ struct Game {
 
 /// The names of a text.
 fn names_of(alloc: Global, source: &Source, head: Head) -> Option<Names> {
-    if head.legend < 3 || head.layers <= head.legend || head.below <= head.layers + 1 {
+    if head.legend < 3 || head.layers <= head.legend || head.below <= head.layers {
+        return None;
+    }
+    if head.below - head.layers < 2 {
         return None;
     }
     if head.below - 1 > source.lines() {

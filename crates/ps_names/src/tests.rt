@@ -61,9 +61,9 @@ fn read_text(alloc: Global, text: &str) -> Option<Result<Names, NameFault>> {
     read(
         alloc,
         text,
-        objects + 1..legend,
-        legend + 1..layers,
-        layers + 1..end,
+        objects.saturating_add(1)..legend,
+        legend.saturating_add(1)..layers,
+        layers.saturating_add(1)..end,
     )
 }
 

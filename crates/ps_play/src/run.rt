@@ -11,13 +11,13 @@ ghost use Rattle.ps_play.specs.Faults.{IsRefusal, IsDeviceFault};
 ghost use Rattle.ps_play.specs.Playable.{IsPlayable};
 ghost use Rattle.ps_play.specs.Runs.{keys_apart, Outputs, Brings, Answers};
 
-use ps_devices::{ByteReader, ByteWriter, write_whole};
 use crate::keys::read_key;
 use crate::reading::{Game, ReadFault, read_game};
 use crate::report::words;
 use crate::screen::Screen;
 use crate::session::Session;
 use ps_board::{Board, ListBoard};
+use ps_devices::{ByteReader, ByteWriter, write_whole};
 use ps_model::{Ending, Fault, Memory};
 use std::alloc::Global;
 use thiserror::Error;

@@ -1,8 +1,8 @@
 //! Whole runs, with what they write worked by hand: whether the definitions of reading, frames and keys say what is
 //! meant, and that memory can be had.
 
-use ps_devices::{MemoryReader, MemoryWriter};
 use crate::run::{RunFault, run};
+use ps_devices::{MemoryReader, MemoryWriter};
 use ps_model::{Ending, Fault, FaultKind};
 use std::test::Fail;
 

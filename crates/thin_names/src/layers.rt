@@ -14,9 +14,9 @@ use crate::fault::NameFault;
 use crate::meaning::Meaning;
 use crate::table::Table;
 use ps_model::ObjectId;
-use thin_text::{Cut, Source, Word, words};
 use std::alloc::Global;
 use std::ops::Range;
+use thin_text::{Cut, Source, Word, words};
 
 /// Puts an object on a layer.
 fn place(places: &mut [Option<u32>], layer: u32, object: ObjectId)

@@ -18,9 +18,9 @@ use crate::meaning::Meaning;
 use crate::table::{Table, folds_to};
 use ps_model::{Joiner, ObjectId};
 use ps_text::List;
-use thin_text::{Cut, Source, Word, words};
 use std::alloc::{AllocError, Global};
 use std::ops::Range;
+use thin_text::{Cut, Source, Word, words};
 
 /// What stands on the right of a legend line: names, and how they are joined.
 #[derive(Drop)]

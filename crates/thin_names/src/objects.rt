@@ -15,9 +15,9 @@ ghost use Rattle.thin_names.specs.declared.fault.NameFault.TheVariants.{NotYet};
 use crate::fault::NameFault;
 use crate::table::one_character;
 use ps_model::ObjectStage;
-use thin_text::{Cut, Source, Word, words};
 use std::alloc::Global;
 use std::ops::Range;
+use thin_text::{Cut, Source, Word, words};
 
 /// The most objects of a game.
 const OBJECT_LIMIT: usize = 64;

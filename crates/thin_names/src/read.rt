@@ -19,9 +19,9 @@ use crate::legend::{Declaration, read_legend};
 use crate::names::Names;
 use crate::objects::{ObjectLine, read_objects};
 use crate::table::Table;
-use thin_text::Source;
 use std::alloc::Global;
 use std::ops::Range;
+use thin_text::Source;
 
 /// The most layers of a game.
 const LAYER_LIMIT: u32 = 32;

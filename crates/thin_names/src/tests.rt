@@ -2,9 +2,9 @@
 
 use crate::{Glyph, Meaning, Names, ObjectId, read_names};
 use ps_text::List;
-use thin_text::Source;
 use std::alloc::Global;
 use std::ops::Range;
+use thin_text::Source;
 
 /// The sections OBJECTS, LEGEND and COLLISIONLAYERS stand below lines 2, 21 and 24.
 const GAME: &str =

@@ -18,11 +18,11 @@ use super::prelude::{has_option, read_title};
 use super::sections::{Sections, read_sections};
 use super::stretch::are_blank;
 use ps_model::{Fault, FaultKind, Memory};
-use thin_names::{NameFault, Names, read_names};
 use ps_text::{Text, TextFault};
-use thin_text::Source;
 use std::alloc::Global;
 use std::marker::Model;
+use thin_names::{NameFault, Names, read_names};
+use thin_text::Source;
 use thiserror::Error;
 
 /// A game that is played from the start of its one level.

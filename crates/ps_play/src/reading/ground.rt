@@ -7,9 +7,9 @@ ghost use Rattle.ps_model.specs.Levels.{with_ground, grounded, background_layer}
 ghost use Rattle.ps_play.specs.Rows.{cells_shown, AreObjects};
 
 use ps_model::{LayerId, Memory, ObjectId};
-use thin_names::{Meaning, Names};
 use ps_text::List;
 use std::alloc::Global;
+use thin_names::{Meaning, Names};
 
 /// The object `Background`.
 fn background(names: &Names) -> ObjectId

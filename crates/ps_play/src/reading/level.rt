@@ -15,12 +15,12 @@ use super::ground::fill_ground;
 use super::rows::read_rows;
 use super::stretch::{are_blank, first_blank, first_written};
 use ps_model::{Memory, ObjectId};
-use thin_names::Names;
 use ps_text::List;
-use thin_text::Source;
 use std::alloc::Global;
 use std::marker::Model;
 use std::ops::Range;
+use thin_names::Names;
+use thin_text::Source;
 
 /// The most columns of a level, and the most rows.
 const SIDE_LIMIT: usize = 64;

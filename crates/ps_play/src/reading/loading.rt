@@ -12,8 +12,8 @@ ghost use Rattle.ps_play.specs.Playable.{IsPlayable};
 use super::level::Level;
 use ps_board::Board;
 use ps_model::{Memory, Motion, ObjectId};
-use thin_names::Names;
 use std::alloc::Global;
+use thin_names::Names;
 
 /// Puts the objects of a cell on the board, each at rest on its own layer.
 fn fill_cell<B: Board>(board: &mut B, names: &Names, cell: u32, objects: &[ObjectId])

@@ -12,9 +12,9 @@ ghost use Rattle.ps_play.specs.Stretches.{IsStretch};
 
 use ps_model::{Cut, Memory};
 use ps_text::{Text, same_name};
-use thin_text::{Source, Word, words};
 use std::alloc::Global;
 use std::ops::Range;
+use thin_text::{Source, Word, words};
 
 /// Whether the first of a line's words is this one, in either case.
 fn begins_with(words: &[Word<'_>], word: &str) -> bool

@@ -14,12 +14,12 @@ ghost use Rattle.ps_play.specs.declared.reading.fault.PartFault.TheVariants.{Not
 
 use super::fault::PartFault;
 use ps_model::{Cut, ObjectId};
-use thin_names::{Meaning, Names};
 use ps_text::same_name;
-use thin_text::{Source, Word, words};
 use std::alloc::Global;
 use std::ops::Range;
 use std::slice;
+use thin_names::{Meaning, Names};
+use thin_text::{Source, Word, words};
 
 /// The objects that a character of a row shows, if it is a glyph: those of the name that has this character alone.
 fn shown<'a>(names: &'a Names, character: char) -> Option<&'a [ObjectId]>

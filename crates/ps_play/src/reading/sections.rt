@@ -8,8 +8,8 @@ ghost use Rattle.ps_play.specs.Stretches.{IsStretch};
 ghost use Rattle.ps_play.specs.Sections.{place_below, boundary, AreSections};
 
 use ps_model::Section;
-use thin_text::Source;
 use std::ops::Range;
+use thin_text::Source;
 
 /// Where the lines of each section stand: from right below its header to before the next. A section without a header has
 /// no lines.

@@ -7,8 +7,8 @@ ghost use Rattle.ps_model.specs.ThinNames.{lines_between};
 ghost use Rattle.ps_model.specs.ThinLevels.{from_first_row, first_rows, below_rows};
 ghost use Rattle.ps_play.specs.Stretches.{IsStretch, is_written, rows_above};
 
-use thin_text::Source;
 use std::ops::Range;
+use thin_text::Source;
 
 /// Whether the line is there and has a word.
 fn is_written(source: &Source, line: u32) -> bool
