@@ -1,10 +1,16 @@
 //! The game of a whole text: its sections and its prelude, and, read from these, its names, rules, levels and win conditions.
 #![tactic(auto)]
 
+mod counts;
+mod fault;
+mod game;
 mod headings;
+mod possible;
 mod prelude;
 mod sections;
 
+pub use fault::ReadFault;
+pub use game::{Game, read_game};
 pub use prelude::{read_options, read_title};
 pub use ps_model::{Fault, FaultKind, Options};
 pub use sections::{Sections, read_sections};

@@ -40,6 +40,8 @@ pub mod Fitting
 pub mod Rewriting
 pub mod ReadingMeanings
 pub mod Places
+pub mod PlainGames
+pub mod PlainOutput
 pub mod Attempts
 pub mod Programs
 pub mod GameGrids
