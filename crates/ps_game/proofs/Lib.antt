@@ -3,3 +3,4 @@ pub mod LineSteps
 pub mod SectionEnds
 pub mod SectionLines
 pub mod SectionsTold
+pub mod WholeGame

@@ -1,17 +1,25 @@
 //! The game of a whole text.
 
-ghost use Rattle.std.specs.Prelude.{◌≡◌, IfOk, IfErr, Some, All};
+ghost use Rattle.std.specs.Prelude.{◌≡◌, IfOk, IfErr, OnOk, Some, All, []};
 ghost use Rattle.ps_model.specs.declared.faults.Fault.{Fault as TheFault};
 ghost use Rattle.ps_model.specs.Faults.{first_fault};
-ghost use Rattle.ps_model.specs.Games.{game, faults};
+ghost use Rattle.ps_model.specs.Games.{game, faults, game_of_lines, line_faults};
+ghost use Rattle.ps_model.specs.Lines.{lines_of};
+ghost use Rattle.ps_model.specs.ReadingFaults.{reading_faults};
 ghost use Rattle.ps_levels.specs.Sized.{IsSizedEntry};
+ghost use Rattle.ps_game.specs.SectionPlaces.{AreSections};
 
+use crate::counts::first_too_many;
 use crate::fault::ReadFault;
+use crate::parts::{entries_of, names_of, rules_of, wins_of};
+use crate::possible::first_impossible;
+use crate::prelude::{read_options, read_title};
+use crate::sections::{Sections, read_sections};
 use ps_levels::{Entry, Win};
 use ps_model::Options;
 use ps_names::Names;
 use ps_rules::RuleText;
-use ps_text::Text;
+use ps_text::{Source, Text};
 use std::alloc::Global;
 use std::marker::Model;
 
@@ -39,6 +47,49 @@ impl Model for Game {
     ghost view = { λ g. record { title = g.title; options = g.options; names = g.names; rules = g.rules; entries = entries_shown g.entries.items; wins = wins_shown g.wins.items } };
 }
 
+/// Whether the readings of the rules are neither too many nor, of some rule, all impossible. `Refused` with the first fault of
+/// the readings, if they have one.
+fn check_readings(alloc: Global, names: &Names, rules: &RuleText) -> Result<(), ReadFault>
+    ensures fine { OnOk result (reading_faults names.now rules.now ≡ []) }
+    ensures refused { IfErr result (λ e. (fault : TheFault) → e ≡ ReadFault.Refused fault → first_fault (reading_faults names.now rules.now) ≡ Some fault) }
+{
+    if let Some(fault) = first_too_many(alloc, names, rules)? {
+        return Err(ReadFault::Refused(fault));
+    }
+    if let Some(fault) = first_impossible(alloc, names, rules)? {
+        return Err(ReadFault::Refused(fault));
+    }
+    Ok(())
+}
+
+/// The game of a text whose sections are told: each part is read in its turn, so that the first fault is met first.
+fn game_of_sections(
+    alloc: Global,
+    source: &Source,
+    sections: &Sections,
+) -> Result<Game, ReadFault>
+    requires { AreSections source.now sections.now }
+    ensures game { IfOk result (λ read. game_of_lines (lines_of source.now) ≡ Some read) }
+    ensures refused { IfErr result (λ e. (fault : TheFault) → e ≡ ReadFault.Refused fault → first_fault (line_faults (lines_of source.now)) ≡ Some fault) }
+    ensures sized { IfOk result (λ read. All (IsSizedEntry read.names) read.entries) }
+{
+    let names = names_of(alloc, source, sections)?;
+    let rules = rules_of(alloc, source, sections, &names)?;
+    let entries = entries_of(alloc, source, sections, &names)?;
+    let wins = wins_of(alloc, source, sections, &names)?;
+    check_readings(alloc, &names, &rules)?;
+    let title = read_title(alloc, source, &sections.prelude)?;
+    let options = read_options(alloc, source, &sections.prelude)?;
+    Ok(Game {
+        title,
+        options,
+        names,
+        rules,
+        entries,
+        wins,
+    })
+}
+
 /// Reads the game of a text.
 ///
 /// `Refused` with the first fault of the text, in the order of refusals: that it is too long or not UTF-8; of its headers and its
@@ -49,7 +100,8 @@ pub fn read_game(alloc: Global, text: &[u8]) -> Result<Game, ReadFault>
     ensures refused { IfErr result (λ e. (fault : TheFault) → e ≡ ReadFault.Refused fault → first_fault (faults text.now) ≡ Some fault) }
     ensures sized { IfOk result (λ read. All (IsSizedEntry read.names) read.entries) }
 {
-    let _ = alloc;
-    let _ = text;
-    Err(ReadFault::Memory)
+    let source = Source::read(alloc, text)?;
+    let sections = read_sections(alloc, &source)?;
+    let game = game_of_sections(alloc, &source, &sections)?;
+    Ok(game)
 }

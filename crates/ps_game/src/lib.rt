@@ -5,6 +5,7 @@ mod counts;
 mod fault;
 mod game;
 mod headings;
+mod parts;
 mod possible;
 mod prelude;
 mod sections;

@@ -1,0 +1,90 @@
+//! The parts of a game, each read from its sections.
+
+ghost use Rattle.std.specs.Prelude.{◌≡◌, IfOk, IfErr, OnOk, Some, All, []};
+ghost use Rattle.ps_model.specs.declared.faults.Fault.{Fault as TheFault};
+ghost use Rattle.ps_model.specs.declared.texts.Section.TheVariants.{Objects, Legend, Layers, Rules, Wins, Levels};
+ghost use Rattle.ps_model.specs.Faults.{first_fault};
+ghost use Rattle.ps_model.specs.Lines.{lines_of};
+ghost use Rattle.ps_model.specs.Sections.{section_lines, header_number};
+ghost use Rattle.ps_model.specs.NamesRead.{names_read};
+ghost use Rattle.ps_model.specs.NameFaults.{name_faults};
+ghost use Rattle.ps_model.specs.RuleLines.{rules_read};
+ghost use Rattle.ps_model.specs.RuleFaults.{rule_faults};
+ghost use Rattle.ps_model.specs.LevelLines.{entries_read};
+ghost use Rattle.ps_model.specs.LevelFaults.{level_faults};
+ghost use Rattle.ps_model.specs.WinLines.{wins_read, win_faults};
+ghost use Rattle.ps_levels.specs.EntriesShown.{entries_shown};
+ghost use Rattle.ps_levels.specs.Sized.{IsSizedEntry};
+ghost use Rattle.ps_levels.specs.WinsShown.{wins_shown};
+ghost use Rattle.ps_game.specs.SectionPlaces.{AreSections};
+
+use crate::sections::Sections;
+use ps_levels::{Entry, LevelFault, Win, WinFault, read_levels, read_wins};
+use ps_names::{NameFault, Names, read_names};
+use ps_rules::{RuleFault, RuleText, read_rules};
+use ps_text::Source;
+use std::alloc::Global;
+
+/// The names of a text.
+pub fn names_of(alloc: Global, source: &Source, sections: &Sections) -> Result<Names, NameFault>
+    requires { AreSections source.now sections.now }
+    ensures part { IfOk result (λ names. names ≡ names_read (section_lines (lines_of source.now) Objects) (section_lines (lines_of source.now) Legend) (section_lines (lines_of source.now) Layers)) }
+    ensures fine { OnOk result (name_faults (header_number (lines_of source.now) Objects) (section_lines (lines_of source.now) Objects) (section_lines (lines_of source.now) Legend) (section_lines (lines_of source.now) Layers) ≡ []) }
+    ensures refused { IfErr result (λ e. (fault : TheFault) → e ≡ NameFault.Refused fault → first_fault (name_faults (header_number (lines_of source.now) Objects) (section_lines (lines_of source.now) Objects) (section_lines (lines_of source.now) Legend) (section_lines (lines_of source.now) Layers)) ≡ Some fault) }
+{
+    let objects = sections.objects.start..sections.objects.end;
+    let legend = sections.legend.start..sections.legend.end;
+    let layers = sections.layers.start..sections.layers.end;
+    read_names(alloc, source, objects, legend, layers)
+}
+
+/// The rules of a text.
+pub fn rules_of(
+    alloc: Global,
+    source: &Source,
+    sections: &Sections,
+    names: &Names,
+) -> Result<RuleText, RuleFault>
+    requires { AreSections source.now sections.now }
+    ensures part { IfOk result (λ rules. rules ≡ rules_read names.now (section_lines (lines_of source.now) Rules)) }
+    ensures fine { OnOk result (rule_faults names.now (section_lines (lines_of source.now) Rules) ≡ []) }
+    ensures refused { IfErr result (λ e. (fault : TheFault) → e ≡ RuleFault.Refused fault → first_fault (rule_faults names.now (section_lines (lines_of source.now) Rules)) ≡ Some fault) }
+{
+    let lines = sections.rules.start..sections.rules.end;
+    read_rules(alloc, source, lines, names)
+}
+
+/// The levels and messages of a text.
+pub fn entries_of(
+    alloc: Global,
+    source: &Source,
+    sections: &Sections,
+    names: &Names,
+) -> Result<Vec<Entry>, LevelFault>
+    requires { AreSections source.now sections.now }
+    ensures part { IfOk result (λ entries. entries_shown entries.items ≡ entries_read names.now (section_lines (lines_of source.now) Levels)) }
+    ensures fine { OnOk result (level_faults names.now (header_number (lines_of source.now) Levels) (section_lines (lines_of source.now) Levels) ≡ []) }
+    ensures refused { IfErr result (λ e. (fault : TheFault) → e ≡ LevelFault.Refused fault → first_fault (level_faults names.now (header_number (lines_of source.now) Levels) (section_lines (lines_of source.now) Levels)) ≡ Some fault) }
+    ensures sized { IfOk result (λ entries. All (IsSizedEntry names.now) (entries_shown entries.items)) }
+{
+    // The count of objects tells the prover that the names are bounded.
+    let _bounded = names.object_count();
+    let lines = sections.levels.start..sections.levels.end;
+    read_levels(alloc, source, lines, names)
+}
+
+/// The win conditions of a text.
+pub fn wins_of(
+    alloc: Global,
+    source: &Source,
+    sections: &Sections,
+    names: &Names,
+) -> Result<Vec<Win>, WinFault>
+    requires { AreSections source.now sections.now }
+    ensures part { IfOk result (λ wins. wins_shown wins.items ≡ wins_read names.now (section_lines (lines_of source.now) Wins)) }
+    ensures fine { OnOk result (win_faults names.now (section_lines (lines_of source.now) Wins) ≡ []) }
+    ensures refused { IfErr result (λ e. (fault : TheFault) → e ≡ WinFault.Refused fault → first_fault (win_faults names.now (section_lines (lines_of source.now) Wins)) ≡ Some fault) }
+{
+    let lines = sections.wins.start..sections.wins.end;
+    read_wins(alloc, source, lines, names)
+}
