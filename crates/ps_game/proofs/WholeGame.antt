@@ -3,7 +3,6 @@ use Rattle.std.proofs.Common.{◌≡◌, ℕ, List, [], ◌∷◌, ◌++◌, Som
 use Rattle.std.specs.List.{filter_map}
 use Rattle.ps_model.specs.declared.texts.Section.TheVariants.{Prelude, Objects, Legend, Layers, Rules, Wins, Levels}
 use Rattle.ps_model.specs.declared.faults.Fault.{Fault}
-use Rattle.ps_model.specs.declared.options.Options.{Options}
 use Rattle.ps_model.specs.Faults.{first_fault}
 use Rattle.ps_model.specs.Lines.{Line, lines_of}
 use Rattle.ps_model.specs.TextFaults.{text_fault}
@@ -17,12 +16,11 @@ use Rattle.ps_model.specs.RuleLines.{rules_read}
 use Rattle.ps_model.specs.RuleFaults.{rule_faults}
 use Rattle.ps_model.specs.RulePrograms.{rule_in}
 use Rattle.ps_model.specs.ReadingFaults.{too_many_readings, impossible_rules, or_impossible, reading_faults}
-use Rattle.ps_model.specs.LevelLines.{Entry, entries_read}
+use Rattle.ps_model.specs.LevelLines.{entries_read}
 use Rattle.ps_model.specs.LevelFaults.{level_faults}
-use Rattle.ps_model.specs.Wins.{Win}
 use Rattle.ps_model.specs.WinLines.{wins_read, win_faults}
-use Rattle.ps_model.specs.Games.{Game, game_with, game_read, faults_beside, line_faults, faults, unless, game_of_lines, game}
-use Rattle.ps_model.proofs.FirstFaults.{first-front, none-first}
+use Rattle.ps_model.specs.Games.{Game, game_with, game_read, line_faults, faults, unless, game_of_lines, game}
+use Rattle.ps_model.proofs.FirstFaults.{first-front}
 
 -- faults of which the front has none
 behind : (front rest : List Fault) (fault : Fault) → front ≡ [] → first_fault rest ≡ Some fault → first_fault (front ++ rest) ≡ Some fault

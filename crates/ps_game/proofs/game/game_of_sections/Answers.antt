@@ -1,4 +1,4 @@
-use Rattle.std.proofs.Common.{rules, ◌≡◌, ℕ, List, Some}
+use Rattle.std.proofs.Common.{rules, ◌≡◌, List, Some}
 use Rattle.ps_model.specs.declared.faults.Fault.{Fault as TheFault}
 use Rattle.ps_model.specs.Faults.{first_fault}
 use Rattle.ps_model.specs.Games.{line_faults}
@@ -11,9 +11,7 @@ use Rattle.ps_levels.specs.declared.fault.LevelFault.{LevelFault}
 use Rattle.ps_levels.specs.declared.fault.LevelFault.TheVariants.{Refused as LevelsRefused}
 use Rattle.ps_levels.specs.declared.fault.WinFault.{WinFault}
 use Rattle.ps_levels.specs.declared.fault.WinFault.TheVariants.{Refused as WinsRefused}
-use Rattle.ps_game.specs.declared.fault.ReadFault.{ReadFault}
-use Rattle.ps_game.specs.declared.fault.ReadFault.TheVariants.{Refused}
-use Rattle.ps_game.proofs.WholeGame.{told_by_names, told_by_rules, told_by_levels, told_by_wins, told_by_readings, is_game}
+use Rattle.ps_game.proofs.WholeGame.{told_by_names, told_by_rules, told_by_levels, told_by_wins, is_game}
 use Rattle.ps_game.proofs.game.game_of_sections.Goals as goal
 
 pub returns-in_err-names-clause-refused : goal.returns-in_err-names-clause-refused

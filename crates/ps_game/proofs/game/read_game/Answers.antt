@@ -28,7 +28,7 @@ returns-in_err-sections-clause-refused c =
 pub returns-in_err-game-clause-refused : goal.returns-in_err-game-clause-refused
 returns-in_err-game-clause-refused c =
     let text : List ℕ = c.args.text.now in
-    let inner : ReadFault = c.in_err-game.field-0 in
+    let inner : ReadFault = c.in_err-game.field-0.0 in
     let told : (f : TheFault) → inner ≡ Refused f → first_fault (faults text) ≡ Some f =
     λ f e. told_by_lines text f c.in_ok-source.ensures.fine (rw (← c.in_ok-source.ensures.text) (c.in_err-game.ensures.refused f e)) in
     search (rules, told)
