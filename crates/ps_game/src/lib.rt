@@ -17,4 +17,6 @@ pub use ps_model::{Fault, FaultKind, Options};
 pub use sections::{Sections, read_sections};
 
 #[cfg(test)]
+mod game_tests;
+#[cfg(test)]
 mod tests;
