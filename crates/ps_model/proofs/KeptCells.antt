@@ -10,7 +10,7 @@ use Rattle.ps_model.specs.declared.pieces.Motion.{Motion}
 use Rattle.ps_model.specs.declared.pieces.Slot.{Slot}
 use Rattle.ps_model.specs.declared.pieces.Slot.TheVariants.{Bare, Holds}
 use Rattle.ps_model.specs.Names.{Meaning, One, AllOf, AnyOf, Names, layer_of, is_among, object_count}
-use Rattle.ps_model.specs.NamesFacts.{IsBelow}
+use Rattle.ps_model.specs.NameBounds.{IsBelow}
 use Rattle.ps_model.specs.SourceRules.{Item, Is, No, CellPair, SourceRule}
 use Rattle.ps_model.specs.Occurrences.{is_fixed, bound_name, bound_word}
 use Rattle.ps_model.specs.Readings.{Reading, readings}

@@ -12,7 +12,7 @@ use Rattle.ps_model.specs.Lines.{lines_of}
 use Rattle.ps_model.specs.Faults.{first_fault}
 use Rattle.ps_model.specs.TextFaults.{utf8_fault}
 use Rattle.ps_model.specs.Games.{game, line_faults}
-use Rattle.ps_model.specs.ThinGame.{thin_game}
+use Rattle.ps_model.specs.PlainGames.{plain_game}
 use Rattle.ps_model.specs.Programs.{group, program_run}
 use Rattle.ps_model.specs.StartSteps.{all_start_turns}
 use Rattle.ps_model.specs.KeySteps.{all_key_turns}
@@ -31,8 +31,8 @@ unfolding chars digits is_utf8 utf8_valid_len encode group program_run all_start
 whole_game = refl
 
 -- what this version plays
-not_yet : thin_game the_game ≡ None
-unfolding chars is_utf8 encode
+not_yet : plain_game the_game ≡ None
+unfolding chars digits is_utf8 utf8_valid_len encode
 not_yet = refl
 
 comment_in_object : written (changed 14 1 (codes "(a little\n\nred fruit)\nred\n") (base_game [] [] (codes "P\n"))) []

@@ -19,7 +19,6 @@ mod LevelRows
 pub mod GameCells
 mod LayerRows
 mod LegendRows
-pub mod LineLaws
 mod LineRows
 mod MovementRows
 mod NameRows

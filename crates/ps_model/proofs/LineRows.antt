@@ -4,8 +4,8 @@ use Rattle.std.specs.Prelude.{codes}
 use Rattle.ps_model.specs.declared.texts.Cut.TheVariants.{Plain, Legend, Layers}
 use Rattle.ps_model.specs.declared.texts.Section.TheVariants.{Prelude, Objects, Layers as LayersSection, Rules, Levels}
 use Rattle.ps_model.specs.Words.{word_texts}
-use Rattle.ps_model.specs.Lines.{raw_lines}
-use Rattle.ps_model.specs.ThinLines.{lines_of, line_at, taken_text, is_there}
+use Rattle.ps_model.specs.Lines.{raw_lines, lines_of}
+use Rattle.ps_model.specs.LineNumbers.{line_at}
 use Rattle.ps_model.proofs.BaseText.{base_text}
 
 -- an empty text has one empty line, a final line feed begins no further line, an empty line in between is one
@@ -48,21 +48,21 @@ mark : (line_at (239 ∷ 187 ∷ 191 ∷ codes "title x") 1).start ≡ 3
 mark = refl
 
 -- the title is taken as it stands, blanks at its ends left out; `message` begins a text in LEVELS alone
-title : taken_text (line_at (codes "\n  Title  A  b \r\n") 2) ≡ Some (record { line = 2; start = 10; end = 14 })
+title : (line_at (codes "\n  Title  A  b \r\n") 2).taken ≡ Some (record { start = 10; bytes = codes "A  b" })
 title = refl
 
-no_title : taken_text (line_at (codes "titles A") 1) ≡ None
+no_title : (line_at (codes "titles A") 1).taken ≡ None
 no_title = refl
 
-empty_title : taken_text (line_at (codes "title  ") 1) ≡ Some (record { line = 1; start = 7; end = 7 })
+empty_title : (line_at (codes "title  ") 1).taken ≡ Some (record { start = 7; bytes = [] })
 empty_title = refl
 
-message : taken_text (line_at (codes "LEVELS\nmessage Hi  you") 2) ≡ Some (record { line = 2; start = 15; end = 22 })
+message : (line_at (codes "LEVELS\nmessage Hi  you") 2).taken ≡ Some (record { start = 15; bytes = codes "Hi  you" })
 message = refl
 
 -- a line of `=` and blanks isn't there; a blank line is
-divider : is_there (line_at (codes "= == \n") 1) ≡ false
+divider : (line_at (codes "= == \n") 1).is_there ≡ false
 divider = refl
 
-blank : is_there (line_at (codes "  \n") 1) ≡ true
+blank : (line_at (codes "  \n") 1).is_there ≡ true
 blank = refl

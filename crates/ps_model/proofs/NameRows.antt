@@ -1,42 +1,45 @@
 -- The names of texts, worked by hand.
-use Rattle.std.proofs.Common.{◌≡◌, ℕ, List, [], ◌∷◌, map, refl, Option, Some, None, true, false, Bool}
-use Rattle.std.specs.Prelude.{codes, option_map, is_some}
+use Rattle.std.proofs.Common.{◌≡◌, ℕ, List, [], ◌∷◌, map, refl, Some, None, true, false, Bool}
+use Rattle.std.specs.Prelude.{codes, is_none}
 use Rattle.std.specs.Str.{chars}
 use Rattle.ps_model.specs.declared.pieces.ObjectId.{ObjectId}
 use Rattle.ps_model.specs.Names.{Names, One, AllOf, AnyOf, meaning_of}
-use Rattle.ps_model.specs.ThinNames.{thin_names, lines_between}
+use Rattle.ps_model.specs.Faults.{first_fault}
+use Rattle.ps_model.specs.LineNumbers.{lines_between}
+use Rattle.ps_model.specs.NamesRead.{names_read}
+use Rattle.ps_model.specs.NameFaults.{name_faults}
 use Rattle.ps_model.proofs.BaseText.{base_head}
 
 abbrev object : ℕ → ObjectId
 object number = record { 0 = number }
 
 -- the names of the base text, whose sections begin right below lines 2, 21 and 24
-abbrev base_names : Option Names
-base_names = thin_names (lines_between base_head 3 21) (lines_between base_head 22 24) (lines_between base_head 25 29)
+abbrev base_names : Names
+base_names = names_read (lines_between base_head 3 21) (lines_between base_head 22 24) (lines_between base_head 25 29)
 
 -- nine objects, in order of declaration, on four layers
-layers : option_map (λ names. names.layers) base_names ≡ Some (0 ∷ 2 ∷ 2 ∷ 2 ∷ 1 ∷ 3 ∷ 3 ∷ 3 ∷ 3 ∷ [])
+layers : base_names.layers ≡ 0 ∷ 2 ∷ 2 ∷ 2 ∷ 1 ∷ 3 ∷ 3 ∷ 3 ∷ 3 ∷ []
 unfolding chars
 layers = refl
 
-layer_count : option_map (λ names. names.layer_count) base_names ≡ Some 4
+layer_count : base_names.layer_count ≡ 4
 unfolding chars
 layer_count = refl
 
 -- glyphs are the names of one character, but for properties, in order of declaration
-glyphs : option_map (λ names. map (λ glyph. glyph.character) names.glyphs) base_names ≡ Some (codes ".#P*OABCD@")
+glyphs : map (λ glyph. glyph.character) base_names.glyphs ≡ codes ".#P*OABCD@"
 unfolding chars
 glyphs = refl
 
 -- a name is found whatever the case of its letters; an aggregate has all of its objects, a property any of them
-meanings : option_map (λ names. map (meaning_of names) (codes "CRATE" ∷ codes "*" ∷ codes "@" ∷ codes "at" ∷ codes "x" ∷ [])) base_names
-    ≡ Some (Some (One (object 3)) ∷ Some (One (object 3)) ∷ Some (AllOf 22 (object 3 ∷ object 4 ∷ [])) ∷ Some (AnyOf 23 (object 5 ∷ object 4 ∷ [])) ∷ None ∷ [])
+meanings : map (meaning_of base_names) (codes "CRATE" ∷ codes "*" ∷ codes "@" ∷ codes "at" ∷ codes "x" ∷ [])
+    ≡ Some (One (object 3)) ∷ Some (One (object 3)) ∷ Some (AllOf 22 (object 3 ∷ object 4 ∷ [])) ∷ Some (AnyOf 23 (object 5 ∷ object 4 ∷ [])) ∷ None ∷ []
 unfolding chars
 meanings = refl
 
--- whether three sections give names
+-- whether three sections have no fault
 abbrev has_names : List ℕ → List ℕ → List ℕ → Bool
-has_names objects legend layers = is_some (thin_names (lines_between objects 1 99) (lines_between legend 1 99) (lines_between layers 1 99))
+has_names objects legend layers = is_none (first_fault (name_faults 0 (lines_between objects 1 99) (lines_between legend 1 99) (lines_between layers 1 99)))
 
 abbrev two_objects : List ℕ
 two_objects = codes "Background\nx\nPlayer p\ny\n00000\n.1234\n00000\n00000\n00000\n00000\nz\n"

@@ -1,8 +1,7 @@
 -- The names of whole texts, and small texts of which one section is given, for worked rows.
 use Rattle.std.proofs.Common.{ℕ, List, [], ◌∷◌, ◌++◌, Option, map}
-use Rattle.std.specs.Prelude.{codes, ◌+◌, ◌/◌, ◌%◌, ◌&&◌, not, option_map, unwrap_or, filter, find}
+use Rattle.std.specs.Prelude.{codes, ◌+◌, ◌/◌, ◌%◌}
 use Rattle.ps_model.specs.declared.pieces.ObjectId.{ObjectId}
-use Rattle.ps_model.specs.declared.texts.Section.{Section}
 use Rattle.ps_model.specs.declared.texts.Section.TheVariants.{Objects, Legend, Layers}
 use Rattle.ps_model.specs.declared.faults.Fault.{Fault}
 use Rattle.ps_model.specs.Faults.{first_fault}
@@ -10,27 +9,19 @@ use Rattle.ps_model.specs.Lines.{Line, lines_of}
 use Rattle.ps_model.specs.Names.{Meaning, Names, meaning_of}
 use Rattle.ps_model.specs.NamesRead.{names_read}
 use Rattle.ps_model.specs.NameFaults.{name_faults}
-use Rattle.ps_model.specs.ThinGame.{same_section}
+use Rattle.ps_model.specs.Sections.{section_lines, header_number}
 
 -- whole texts -----------------------------------------------------------------------------------------------------------
 
--- the lines of a section that are there, but for its header
-abbrev pub lines_in : List Line → Section → List Line
-lines_in lines section = filter (λ line. same_section line.section section && (line.is_there && not line.is_header)) lines
-
--- the number of the header OBJECTS
-abbrev pub header_number : List Line → ℕ
-header_number lines = unwrap_or (option_map (λ line. line.number) (find (λ line. same_section line.section Objects) lines)) 0
-
 abbrev pub names_of_lines : List Line → Names
-names_of_lines lines = names_read (lines_in lines Objects) (lines_in lines Legend) (lines_in lines Layers)
+names_of_lines lines = names_read (section_lines lines Objects) (section_lines lines Legend) (section_lines lines Layers)
 
 -- the names of a text
 abbrev pub names_of_text : List ℕ → Names
 names_of_text text = names_of_lines (lines_of text)
 
 abbrev pub first_fault_of_lines : List Line → Option Fault
-first_fault_of_lines lines = first_fault (name_faults (header_number lines) (lines_in lines Objects) (lines_in lines Legend) (lines_in lines Layers))
+first_fault_of_lines lines = first_fault (name_faults (header_number lines Objects) (section_lines lines Objects) (section_lines lines Legend) (section_lines lines Layers))
 
 -- the first fault of the names of a text
 abbrev pub first_name_fault : List ℕ → Option Fault

@@ -2,7 +2,7 @@
 use Rattle.std.specs.Prelude.{ℕ, ◌<◌, All, ⊤}
 use Rattle.ps_model.specs.declared.pieces.ObjectId.{ObjectId}
 use Rattle.ps_model.specs.Names.{Names, object_count}
-use Rattle.ps_model.specs.NamesFacts.{IsBelow}
+use Rattle.ps_model.specs.NameBounds.{IsBelow}
 use Rattle.ps_model.specs.SourceRules.{Item, Is, No, CellPair, SourceRule, RuleLine, Rule, LoopStart, LoopEnd}
 use Rattle.ps_model.specs.Readings.{Reading}
 

@@ -8,7 +8,6 @@ pub mod RuleWords
 pub mod Lines
 pub mod LineNumbers
 pub mod WrittenLines
-pub mod ThinLines
 pub mod Faults
 pub mod TextFaults
 pub mod Names
@@ -20,8 +19,6 @@ pub mod LayerLines
 pub mod NamesRead
 pub mod DeclarationFaults
 pub mod NameFaults
-pub mod ThinNames
-pub mod NamesFacts
 pub mod SourceRules
 pub mod RuleSymbols
 pub mod RuleShape
@@ -52,8 +49,6 @@ pub mod Compiled
 pub mod ReadingFaults
 pub mod Wins
 pub mod Levels
-pub mod ThinLevels
-pub mod ThinGame
 pub mod Preludes
 pub mod Sections
 pub mod LevelLines
@@ -72,7 +67,6 @@ pub mod StartSteps
 pub mod KeySteps
 pub mod Outputs
 pub mod Fronts
-pub mod ThinOutput
 pub mod GameRules
 pub mod KeptGrids
 pub mod Headline
