@@ -1,5 +1,7 @@
+pub mod CountedProducts
 pub mod HeadingsTold
 pub mod LineSteps
+pub mod ReadingProducts
 pub mod SectionEnds
 pub mod SectionLines
 pub mod SectionsTold

@@ -1,10 +1,13 @@
 //! The game of a whole text: its sections and its prelude, and, read from these, its names, rules, levels and win conditions.
 #![tactic(auto)]
 
+mod counted;
 mod counts;
+mod directions;
 mod fault;
 mod game;
 mod headings;
+mod item_ways;
 mod possible;
 mod prelude;
 mod sections;
