@@ -19,4 +19,6 @@ pub use ps_model::{Fault, FaultKind, Options};
 pub use sections::{Sections, read_sections};
 
 #[cfg(test)]
+mod counts_tests;
+#[cfg(test)]
 mod tests;
