@@ -1,37 +1,33 @@
 -- Products of counts that stop at one more than a rule may have.
-use Rattle.std.proofs.Common.{◌≡◌, ℕ, zero, suc, ◌+◌, ◌*◌, ◌<◌, ◌≤◌, Bool, true, false, List, ◌∷◌, length, drop, get_or, refl, sym, ap, ◌∙◌, arith}
+use Rattle.std.proofs.Common.{◌≡◌, ℕ, zero, suc, ◌+◌, ◌*◌, ◌<◌, Bool, true, false, refl, sym, ap, ◌∙◌, arith}
 use Rattle.std.specs.Prelude.{nat_lt}
-use Rattle.std.proofs.lemmas.List.{drop_more}
 use Rattle.std.proofs.lemmas.Bool.Decides.{nat_tests}
 use Rattle.std.proofs.Math.Nat.{mul_assoc, mul_comm}
+use Rattle.ps_model.specs.Limits.{rule_readings_limit}
 use Rattle.ps_game.specs.Counted.{counted}
 
 -- what is over the limit is counted no further
-over : (n : ℕ) → 4096 < n → counted n ≡ 4097
-over n more = let e : nat_lt 4096 n ≡ true = grind (arith, nat_tests) in rw e refl
-
--- what isn't over it is counted as it is
-pub within : (n : ℕ) → n ≤ 4096 → counted n ≡ n
-within n few = let e : nat_lt 4096 n ≡ false = grind (arith, nat_tests) in rw e refl
+over : (n : ℕ) → rule_readings_limit < n → counted n ≡ rule_readings_limit + 1
+over n more = let e : nat_lt rule_readings_limit n ≡ true = grind (arith, nat_tests) in rw e refl
 
 -- counting twice is counting once
-twice_by : (n : ℕ) (many : Bool) → nat_lt 4096 n ≡ many → counted (counted n) ≡ counted n
-twice_by n true e = let c : counted n ≡ 4097 = rw e refl in rw c refl
+twice_by : (n : ℕ) (many : Bool) → nat_lt rule_readings_limit n ≡ many → counted (counted n) ≡ counted n
+twice_by n true e = let c : counted n ≡ rule_readings_limit + 1 = rw e refl in rw c refl
 twice_by n false e = let c : counted n ≡ n = rw e refl in ap counted c
 
 pub counted-twice : (n : ℕ) → counted (counted n) ≡ counted n
 counted-twice n = twice_by n _ refl
 
 -- a factor may be counted before
-left_by : (a b : ℕ) (many : Bool) → nat_lt 4096 a ≡ many → counted (counted a * b) ≡ counted (a * b)
+left_by : (a b : ℕ) (many : Bool) → nat_lt rule_readings_limit a ≡ many → counted (counted a * b) ≡ counted (a * b)
 left_by a b false e = let c : counted a ≡ a = rw e refl in ap (λ (n : ℕ). counted (n * b)) c
 left_by a zero true e = let p : counted a * 0 ≡ a * 0 = omega arith in ap counted p
 left_by a (suc b) true e =
-    let c : counted a ≡ 4097 = rw e refl in
-    let more : 4096 < a = grind (arith, nat_tests) in
-    let p : 4096 < 4097 * suc b = omega arith in
+    let c : counted a ≡ rule_readings_limit + 1 = rw e refl in
+    let more : rule_readings_limit < a = grind (arith, nat_tests) in
+    let p : rule_readings_limit < (rule_readings_limit + 1) * suc b = omega arith in
     let q : a * suc b ≡ a + a * b = omega arith in
-    ap (λ (n : ℕ). counted (n * suc b)) c ∙ over (4097 * suc b) p ∙ sym (over (a * suc b) (omega arith))
+    ap (λ (n : ℕ). counted (n * suc b)) c ∙ over ((rule_readings_limit + 1) * suc b) p ∙ sym (over (a * suc b) (omega arith))
 
 pub counted-left : (a b : ℕ) → counted (counted a * b) ≡ counted (a * b)
 counted-left a b = left_by a b _ refl
@@ -51,7 +47,3 @@ counted-both a b m n e d = ap (λ (n : ℕ). counted (n * b)) e ∙ counted-left
 -- a count that stops where it should is counted already
 pub counted-already : (next n : ℕ) → next ≡ counted n → counted next ≡ next
 counted-already next n e = ap counted e ∙ counted-twice n ∙ sym e
-
--- the next item of a list, and those behind it
-pub item-at : {A : Type 0} (x : A) (xs : List A) (i : ℕ) → i < length xs → x ≡ get_or xs i x → drop i xs ≡ x ∷ drop (i + 1) xs
-item-at x xs i less e = drop_more xs i x less ∙ ap (λ y. y ∷ drop (i + 1) xs) (sym e)

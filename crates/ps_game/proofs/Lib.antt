@@ -1,5 +1,6 @@
 pub mod CountedProducts
 pub mod HeadingsTold
+pub mod Items
 pub mod LineSteps
 pub mod ReadingProducts
 pub mod SectionEnds

@@ -1,13 +1,12 @@
 //! How many readings rules have.
 
-ghost use Rattle.std.specs.Prelude.{◌≡◌, ◌≤◌, IfOk};
+ghost use Rattle.std.specs.Prelude.{◌≡◌, IfOk};
 ghost use Rattle.std.specs.List.{filter_map};
 ghost use Rattle.ps_model.specs.Faults.{first_fault};
-ghost use Rattle.ps_model.specs.Limits.{readings_limit};
 ghost use Rattle.ps_model.specs.Readings.{reading_count};
 ghost use Rattle.ps_model.specs.ReadingFaults.{too_many_readings};
 ghost use Rattle.ps_model.specs.RulePrograms.{rule_in};
-ghost use Rattle.ps_rules.specs.RulesShown.{rule_shown, lines_shown};
+ghost use Rattle.ps_rules.specs.RulesShown.{rule_shown};
 ghost use Rattle.ps_game.specs.Counted.{counted};
 
 use crate::counted::{RULE_READINGS_LIMIT, times};

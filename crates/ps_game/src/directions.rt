@@ -1,15 +1,15 @@
 //! In how many directions a rule is used.
 
-ghost use Rattle.std.specs.Prelude.{◌≡◌, ◌&&◌, not, nat_eq, length};
+ghost use Rattle.std.specs.Prelude.{◌≡◌, nat_eq, length};
 ghost use Rattle.std.specs.List.{list_any, list_all};
 ghost use Rattle.ps_model.specs.Directions.{turns_with_rule};
 ghost use Rattle.ps_model.specs.Occurrences.{cells_of as cells_of_rule};
-ghost use Rattle.ps_model.specs.Readings.{item_turns, is_steady, is_one_cell, directions_of, written_directions};
+ghost use Rattle.ps_model.specs.Readings.{item_turns, is_steady, is_one_cell, directions_of};
 ghost use Rattle.ps_game.specs.Counted.{counted};
-ghost use Rattle.ps_rules.specs.RulesShown.{item_shown, items_shown, cell_shown, cell_list_shown, part_shown, tree_row_shown, tree_rows_shown, rule_shown};
+ghost use Rattle.ps_rules.specs.RulesShown.{item_shown, items_shown, cell_shown, cell_list_shown, tree_row_shown, tree_rows_shown, rule_shown};
 
 use crate::counted::counted;
-use ps_rules::{CellPair, Direction, Item, MovementWord, SourceRule};
+use ps_rules::{CellPair, Item, MovementWord, SourceRule};
 use ps_text::List;
 
 /// Whether the word means another move in another direction of the rule.
@@ -123,10 +123,10 @@ pub fn direction_count(rule: &SourceRule, cells: &[&CellPair]) -> u32
     requires { cell_list_shown cells.now ≡ cells_of_rule (rule_shown rule.now) }
     ensures { result ≡ counted (length (directions_of (rule_shown rule.now))) }
 {
-    let written = rule.directions.as_slice();
     if have_one_cell(rule.rows.as_slice()) && are_steady(cells) {
         return 1;
     }
+    let written = rule.directions.as_slice();
     if written.is_empty() {
         return 4;
     }

@@ -1,7 +1,6 @@
 //! In how many ways a rule's items can be read in one direction.
 
 ghost use Rattle.std.specs.Prelude.{◌≡◌, ◌*◌};
-ghost use Rattle.std.specs.List.{flat_map};
 ghost use Rattle.ps_model.specs.Occurrences.{left_items};
 ghost use Rattle.ps_names.specs.Shown.{meaning_shown};
 ghost use Rattle.ps_game.specs.Counted.{counted};

@@ -7,7 +7,8 @@ use Rattle.ps_rules.specs.declared.tree.CellPair.{CellPair}
 use Rattle.ps_rules.specs.declared.tree.Item.{Item}
 use Rattle.ps_game.specs.Counted.{counted}
 use Rattle.ps_game.specs.ItemWays.{item_ways}
-use Rattle.ps_game.proofs.CountedProducts.{counted-already, counted-step, item-at}
+use Rattle.ps_game.proofs.CountedProducts.{counted-already, counted-step}
+use Rattle.ps_game.proofs.Items.{item-at}
 use Rattle.ps_game.proofs.ReadingProducts.{ways-append}
 use Rattle.ps_game.proofs.item_ways.left_ways.Goals as goal
 

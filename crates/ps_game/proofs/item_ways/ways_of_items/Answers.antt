@@ -3,7 +3,8 @@ use Rattle.ps_rules.specs.RulesShown.{item_shown, items_shown}
 use Rattle.ps_rules.specs.declared.tree.Item.{Item}
 use Rattle.ps_game.specs.Counted.{counted}
 use Rattle.ps_game.specs.ItemWays.{move_ways, member_ways, item_ways}
-use Rattle.ps_game.proofs.CountedProducts.{counted-already, counted-step, item-at}
+use Rattle.ps_game.proofs.CountedProducts.{counted-already, counted-step}
+use Rattle.ps_game.proofs.Items.{item-at}
 use Rattle.ps_game.proofs.item_ways.ways_of_items.Goals as goal
 
 pub loop-item-preserved : goal.loop-item-preserved
