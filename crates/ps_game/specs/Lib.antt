@@ -1,3 +1,5 @@
+pub mod Counted
 pub mod Headings
+pub mod ItemWays
 pub mod ReadFaults
 pub mod SectionPlaces

@@ -3,21 +3,54 @@
 ghost use Rattle.std.specs.Prelude.{◌≡◌, IfOk};
 ghost use Rattle.std.specs.List.{filter_map};
 ghost use Rattle.ps_model.specs.Faults.{first_fault};
+ghost use Rattle.ps_model.specs.Readings.{reading_count};
 ghost use Rattle.ps_model.specs.ReadingFaults.{too_many_readings};
 ghost use Rattle.ps_model.specs.RulePrograms.{rule_in};
+ghost use Rattle.ps_rules.specs.RulesShown.{rule_shown};
+ghost use Rattle.ps_game.specs.Counted.{counted};
 
-use ps_model::{Fault, Memory};
+use crate::counted::{RULE_READINGS_LIMIT, times};
+use crate::directions::direction_count;
+use crate::item_ways::left_ways;
+use ps_model::{Fault, FaultKind, Memory};
 use ps_names::Names;
-use ps_rules::RuleText;
+use ps_rules::{Occurrences, RuleLine, RuleText, SourceRule};
 use std::alloc::Global;
+
+/// The most readings that all rules of a game may have.
+const READINGS_LIMIT: u32 = 65536;
+
+/// How many readings a rule has, as far as they are counted.
+fn reading_count(alloc: Global, names: &Names, rule: &SourceRule) -> Result<u32, Memory>
+    ensures { IfOk result (λ count. count ≡ counted (reading_count names.now (rule_shown rule.now))) }
+{
+    let occurrences = Occurrences::of(alloc, rule)?;
+    let directions = direction_count(rule, occurrences.cells());
+    Ok(times(directions, left_ways(names, &occurrences)))
+}
 
 /// The fault of the first rule with more than 4,096 readings, or with which the readings of the rules down to it are more than
 /// 65,536; readings that are impossible count too.
-pub fn first_too_many(alloc: Global, names: &Names, rules: &RuleText) -> Result<Option<Fault>, Memory>
+pub fn first_too_many(
+    alloc: Global,
+    names: &Names,
+    rules: &RuleText,
+) -> Result<Option<Fault>, Memory>
     ensures { IfOk result (λ fault. fault ≡ first_fault (too_many_readings names.now 0 (filter_map rule_in rules.now))) }
 {
-    let _ = alloc;
-    let _ = names;
-    let _ = rules;
-    Err(Memory)
+    let mut before = 0;
+    for line in rules.lines() {
+        let RuleLine::Rule(rule) = line else {
+            continue;
+        };
+        let count = reading_count(alloc, names, rule)?;
+        if count > RULE_READINGS_LIMIT || before + count > READINGS_LIMIT {
+            return Ok(Some(Fault {
+                kind: FaultKind::TooManyReadings,
+                line: rule.line,
+            }));
+        }
+        before += count;
+    }
+    Ok(None)
 }

@@ -1,10 +1,13 @@
 //! The game of a whole text: its sections and its prelude, and, read from these, its names, rules, levels and win conditions.
 #![tactic(auto)]
 
+mod counted;
 mod counts;
+mod directions;
 mod fault;
 mod game;
 mod headings;
+mod item_ways;
 mod parts;
 mod possible;
 mod prelude;
@@ -16,6 +19,8 @@ pub use prelude::{read_options, read_title};
 pub use ps_model::{Fault, FaultKind, Options};
 pub use sections::{Sections, read_sections};
 
+#[cfg(test)]
+mod counts_tests;
 #[cfg(test)]
 mod game_tests;
 #[cfg(test)]

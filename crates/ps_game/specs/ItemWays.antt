@@ -1,0 +1,38 @@
+-- In how many ways a rule's items can be read in one direction: the product of the moves that each item's word leaves and of the
+-- members of each fixed property.
+use Rattle.std.specs.Prelude.{ℕ, ◌*◌, if◌then◌else◌, Some, None, List, [], ◌∷◌, length}
+use Rattle.ps_model.specs.declared.rules.MovementWord.{MovementWord}
+use Rattle.ps_model.specs.declared.rules.MovementWord.TheVariants as word
+use Rattle.ps_model.specs.Names.{Meaning, Names, members}
+use Rattle.ps_model.specs.SourceRules.{Item, Is, No, SourceRule}
+use Rattle.ps_model.specs.Occurrences.{is_fixed}
+
+-- how many moves a word may mean, whatever the direction
+abbrev pub word_ways : MovementWord → ℕ
+word_ways word.Parallel = 2
+word_ways word.Perpendicular = 2
+word_ways word.Moving = 5
+word_ways word.Orthogonal = 4
+word_ways word.Horizontal = 2
+word_ways word.Vertical = 2
+word_ways other = 1
+
+-- how many moves an item may mean
+abbrev pub move_ways : Item → ℕ
+move_ways (Is number None meaning) = 1
+move_ways (Is number (Some word) meaning) = word_ways word
+move_ways (No meaning) = 1
+
+-- how many members a name is split into
+abbrev pub meaning_ways : Names → SourceRule → Meaning → ℕ
+meaning_ways names rule meaning = if is_fixed names rule meaning then length (members meaning) else 1
+
+-- how many members an item is split into
+abbrev pub member_ways : Names → SourceRule → Item → ℕ
+member_ways names rule (Is number word meaning) = meaning_ways names rule meaning
+member_ways names rule (No meaning) = 1
+
+-- in how many ways items can be read
+abbrev pub item_ways : Names → SourceRule → List Item → ℕ
+item_ways names rule [] = 1
+item_ways names rule (item ∷ items) = move_ways item * member_ways names rule item * item_ways names rule items
