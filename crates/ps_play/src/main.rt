@@ -4,8 +4,10 @@
 
 mod frame;
 mod keys;
+mod loading;
 mod meanings;
-mod reading;
+mod not_yet;
+mod plain;
 mod report;
 mod run;
 #[cfg(test)]
