@@ -1,13 +1,14 @@
 -- What playing needs holds of the level of a plain game.
-use Rattle.std.proofs.Common.{◌≡◌, ℕ, ◌<◌, ◌≤◌, Bool, true, false, ◌&&◌, List, [], ◌∷◌, Option, None, Some, refl, subst, arith}
+use Rattle.std.proofs.Common.{◌≡◌, ℕ, ◌<◌, ◌≤◌, Bool, true, false, ◌&&◌, List, [], ◌∷◌, Option, None, Some, refl, ap, ◌∙◌, subst, arith}
 use Rattle.std.specs.Prelude.{All, nat_lt}
 use Rattle.std.proofs.lemmas.Bool.Decides.{nat_tests}
 use Rattle.ps_model.specs.Names.{Names, object_count}
 use Rattle.ps_model.specs.NameBounds.{AreBounded}
 use Rattle.ps_model.specs.Levels.{Level}
 use Rattle.ps_model.specs.LevelLines.{Entry, MessageEntry, LevelEntry}
-use Rattle.ps_model.specs.Games.{Game}
-use Rattle.ps_model.specs.PlainGames.{only_level, is_plain}
+use Rattle.ps_model.specs.OptionSteps.{◌>>=◌}
+use Rattle.ps_model.specs.Games.{Game, game}
+use Rattle.ps_model.specs.PlainGames.{PlainGame, only_level, is_plain, plain_of, plain_game}
 use Rattle.ps_levels.specs.Sized.{IsSized, IsSizedEntry}
 use Rattle.ps_play.specs.Playable.{IsPlayable}
 
@@ -32,3 +33,7 @@ playable read level plain only bounded sized =
       some_object = omega (arith, some);
       sized = only_sized read.names read.entries level only sized;
     }
+
+-- a plain game that was read is the text's
+pub is_played : (text : List ℕ) (read : Game) (plain : PlainGame) → game text ≡ Some read → plain_of read ≡ Some plain → plain_game text ≡ Some plain
+is_played text read plain e f = ap (λ (found : Option Game). found >>= plain_of) e ∙ f
