@@ -16,9 +16,9 @@ use crate::screen::Screen;
 use crate::turn::has_object;
 use ps_board::Board;
 use ps_model::{LayerId, Memory, ObjectId};
+use ps_names::{Glyph, Names};
 use std::alloc::Global;
 use std::slice;
-use ps_names::{Glyph, Names};
 
 /// Adds a frame of a board: its rows from the top, then an empty line.
 ///

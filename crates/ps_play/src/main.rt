@@ -5,6 +5,8 @@
 mod frame;
 mod keys;
 mod loading;
+#[cfg(test)]
+mod loading_tests;
 mod meanings;
 mod not_yet;
 mod plain;

@@ -5,8 +5,8 @@ ghost use Rattle.ps_model.specs.Names.{members, members_named};
 ghost use Rattle.ps_names.specs.Shown.{meaning_shown};
 
 use ps_model::ObjectId;
-use std::slice;
 use ps_names::{Meaning, Names};
+use std::slice;
 
 /// The objects that a meaning speaks of.
 pub fn members(meaning: &Meaning) -> &[ObjectId]

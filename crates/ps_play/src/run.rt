@@ -75,7 +75,8 @@ impl From<ReadFault> for RunFault {
 ///
 /// # Errors
 ///
-/// `Refused` where the text has a fault or isn't a game that this version plays: neither device is called then.
+/// `Refused` with the first fault of the text where it has one, and with `NotYet` where it is a game that this version doesn't
+/// play: neither device is called then.
 /// `Memory` where a growth was refused, `Read` where the reader failed or had more than 16,777,216 pieces to give,
 /// `Write` where the writer failed or took nothing of some bytes.
 pub fn run<R: ByteReader, W: ByteWriter>(

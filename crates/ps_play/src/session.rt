@@ -8,8 +8,8 @@ ghost use Rattle.ps_play.specs.Playable.{IsPlayable};
 ghost use Rattle.ps_play.specs.Runs.{StepsTo};
 
 use crate::frame::add_frame;
-use crate::meanings::members_named;
 use crate::loading::load;
+use crate::meanings::members_named;
 use crate::plain::PlainGame;
 use crate::screen::Screen;
 use crate::turn::{give_motion, motion_for};
