@@ -9,9 +9,9 @@ use Rattle.ps_model.specs.declared.play.Ending.TheVariants.{EndOfKeys}
 use Rattle.ps_model.specs.declared.play.Key.{Key}
 use Rattle.ps_model.specs.Names.{Names}
 use Rattle.ps_model.specs.Grid.{Grid}
-use Rattle.ps_model.specs.ThinOutput.{output, output_from, opening}
+use Rattle.ps_model.specs.PlainOutput.{output, output_from, opening}
 use Rattle.ps_model.specs.Outputs.{Output, after_text, end_of_keys_line}
-use Rattle.ps_model.specs.ThinGame.{Game, thin_game}
+use Rattle.ps_model.specs.PlainGames.{PlainGame, plain_game}
 use Rattle.ps_model.specs.Levels.{loaded}
 use Rattle.ps_devices.specs.Devices.{Grows, Loses, IsSpent}
 use Rattle.ps_play.specs.Runs.{keys_apart, Reaches, Outputs, Brings, Answers}
@@ -96,7 +96,7 @@ opened (Some all) old mid new screen start names those g that ending (text, more
     (text, grows_twice old mid new screen text (start ++ text) grows more (ap (λ s. s ++ text) (sym shown)), rw (← same_names, ← same_grid) brings)
 
 -- what is brought behind the opening of a text's game is what a run may answer
-pub answered : (text : List ℕ) (game : Game) (remaining old new : Option (List ℕ)) (ending : Ending) → thin_game text ≡ Some game →
+pub answered : (text : List ℕ) (game : PlainGame) (remaining old new : Option (List ℕ)) (ending : Ending) → plain_game text ≡ Some game →
     IfSome remaining (λ all. (behind : List ℕ) × Grows old new (opening game ++ behind) × Outputs game.names (loaded game.names game.level) (keys_apart all) behind ending) →
     IfSome remaining (λ all. IfSome old (λ before. Answers text all before new (Ok ending)))
 answered text game None old new ending is brings = tt

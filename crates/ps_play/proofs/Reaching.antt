@@ -11,7 +11,7 @@ use Rattle.ps_model.specs.Names.{Names}
 use Rattle.ps_model.specs.Grid.{Grid}
 use Rattle.ps_model.specs.Frames.{frame}
 use Rattle.ps_model.specs.Keys.{key_of, leading_arrow, keys_behind, keys_of}
-use Rattle.ps_model.specs.ThinOutput.{turned}
+use Rattle.ps_model.specs.PlainOutput.{turned}
 use Rattle.ps_model.specs.Outputs.{Output, after_text}
 use Rattle.ps_play.specs.Runs.{keys_apart, is_not_yet, are_heard, StepsTo, Reaches, Outputs, Brings}
 

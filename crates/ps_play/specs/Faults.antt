@@ -1,22 +1,27 @@
 -- The faults that a run may answer.
-use Rattle.std.specs.Prelude.{◌≡◌, ◌⊎◌, ℕ, List, Option, Some, None}
+use Rattle.std.specs.Prelude.{◌≡◌, ◌⊎◌, ℕ, List, Some, None, IsSome}
 use Rattle.ps_model.specs.declared.faults.Fault.{Fault}
 use Rattle.ps_model.specs.declared.faults.FaultKind.TheVariants.{NotYet}
-use Rattle.ps_model.specs.TextFaults.{text_fault}
-use Rattle.ps_model.specs.ThinGame.{thin_game}
+use Rattle.ps_model.specs.Faults.{first_fault}
+use Rattle.ps_model.specs.Games.{game, faults}
+use Rattle.ps_model.specs.PlainGames.{plain_game}
+use Rattle.ps_game.specs.declared.fault.ReadFault.{ReadFault}
+use Rattle.ps_game.specs.declared.fault.ReadFault.TheVariants.{Refused as Unread, Memory as NoMemory}
 use Rattle.ps_play.specs.declared.run.RunFault.{RunFault}
 use Rattle.ps_play.specs.declared.run.RunFault.TheVariants.{Refused, Memory, Read, Write}
-use Rattle.ps_play.specs.declared.reading.game.ReadFault.{ReadFault}
-use Rattle.ps_play.specs.declared.reading.game.ReadFault.TheVariants.{Refused as Unread, Memory as NoMemory}
 
 -- the fault of a run for a fault of reading
 abbrev pub fault_of : ReadFault → RunFault
 fault_of (Unread fault) = Refused fault
 fault_of NoMemory = Memory
 
--- a refusal is true: the text has that fault, or it is no game that is played yet
+-- the text is a game, but not one that is played yet
+abbrev pub IsNotYet : List ℕ → Type 0
+IsNotYet text = IsSome (game text) × (plain_game text ≡ None)
+
+-- a refusal is true: the fault is the text's first, or the text is a game that isn't played yet
 abbrev pub IsTrueOf : List ℕ → Fault → Type 0
-IsTrueOf text fault = (text_fault text ≡ Some fault) ⊎ ((fault ≡ record { kind = NotYet; line = 1 }) × (thin_game text ≡ None))
+IsTrueOf text fault = (first_fault (faults text) ≡ Some fault) ⊎ ((fault.kind ≡ NotYet) × IsNotYet text)
 
 -- where a run refuses, the refusal is true
 abbrev pub IsRefusal : List ℕ → RunFault → Type 0

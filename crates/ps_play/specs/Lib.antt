@@ -1,9 +1,5 @@
 pub mod Faults
 pub mod Inputs
 pub mod Playable
-pub mod ReadFaults
 pub mod Reports
-pub mod Rows
 pub mod Runs
-pub mod Sections
-pub mod Stretches

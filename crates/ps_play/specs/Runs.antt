@@ -10,8 +10,8 @@ use Rattle.ps_model.specs.Names.{Names}
 use Rattle.ps_model.specs.Grid.{Grid}
 use Rattle.ps_model.specs.Frames.{frame}
 use Rattle.ps_model.specs.Keys.{key_of}
-use Rattle.ps_model.specs.ThinGame.{Game, thin_game}
-use Rattle.ps_model.specs.ThinOutput.{turned, output_from, output}
+use Rattle.ps_model.specs.PlainGames.{PlainGame, plain_game}
+use Rattle.ps_model.specs.PlainOutput.{turned, output_from, output}
 use Rattle.ps_model.specs.Outputs.{quit_line}
 use Rattle.ps_play.specs.declared.run.RunFault.{RunFault}
 
@@ -53,9 +53,9 @@ Brings names g keys next text None = Reaches names g keys text next
 Brings names g keys next text (Some ending) = (more : List Key) → Outputs names g (keys ++ more) text ending
 
 -- what a run may answer for a text, where its reader had all these bytes to give and its writer had taken some before and
--- tells of more now: with an ending, the text has a game, and where all bytes are heard the writer took the whole output of
+-- tells of more now: with an ending, the text is a game that is played, and where all bytes are heard the writer took the whole output of
 -- that game on those bytes and nothing else, and the ending is the output's
 abbrev pub Answers : List ℕ → List ℕ → List ℕ → Option (List ℕ) → Result Ending RunFault → Type 0
 Answers text all before told (Ok ending) =
-    (game : Game) × (thin_game text ≡ Some game) × (are_heard all ≡ true → (told ≡ Some (before ++ (output game all).written)) × (ending ≡ (output game all).ending))
+    (game : PlainGame) × (plain_game text ≡ Some game) × (are_heard all ≡ true → (told ≡ Some (before ++ (output game all).written)) × (ending ≡ (output game all).ending))
 Answers text all before told (Err fault) = Unit {0}

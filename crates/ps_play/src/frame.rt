@@ -8,7 +8,7 @@ ghost use Rattle.ps_model.specs.Grid.{IsGrid, cell_at, cell_count, slot_at};
 ghost use Rattle.std.specs.List.{list_all};
 ghost use Rattle.ps_model.specs.Names.{is_among, layer_of, members};
 ghost use Rattle.ps_model.specs.Levels.{background_layer, is_ground};
-ghost use Rattle.thin_names.specs.GlyphsShown.{glyph_shown, glyphs_shown};
+ghost use Rattle.ps_names.specs.GlyphsShown.{glyph_shown, glyphs_shown};
 ghost use Rattle.ps_model.specs.Frames.{objects_in, same_objects, topmost, glyph_of_objects, character_of, shown_character, frame_row, frame};
 
 use crate::meanings::{members, members_named};
@@ -16,9 +16,9 @@ use crate::screen::Screen;
 use crate::turn::has_object;
 use ps_board::Board;
 use ps_model::{LayerId, Memory, ObjectId};
+use ps_names::{Glyph, Names};
 use std::alloc::Global;
 use std::slice;
-use thin_names::{Glyph, Names};
 
 /// Adds a frame of a board: its rows from the top, then an empty line.
 ///

@@ -4,8 +4,12 @@
 
 mod frame;
 mod keys;
+mod loading;
+#[cfg(test)]
+mod loading_tests;
 mod meanings;
-mod reading;
+mod not_yet;
+mod plain;
 mod report;
 mod run;
 #[cfg(test)]

@@ -2,11 +2,11 @@
 
 ghost use Rattle.std.specs.Prelude.{◌≡◌};
 ghost use Rattle.ps_model.specs.Names.{members, members_named};
-ghost use Rattle.thin_names.specs.Shown.{meaning_shown};
+ghost use Rattle.ps_names.specs.Shown.{meaning_shown};
 
 use ps_model::ObjectId;
+use ps_names::{Meaning, Names};
 use std::slice;
-use thin_names::{Meaning, Names};
 
 /// The objects that a meaning speaks of.
 pub fn members(meaning: &Meaning) -> &[ObjectId]

@@ -2,9 +2,9 @@
 
 ghost use Rattle.std.specs.Prelude.{◌≡◌, ◌≢◌, ◌+◌, ◌≤◌, ◌++◌, ◌∷◌, [], IfOk, IfErr, IfSome, OnOk, OnErr, IsSome, IsErrOf, List, ℕ, true};
 ghost use Rattle.ps_model.specs.Limits.{read_limit};
-ghost use Rattle.ps_model.specs.ThinGame.{thin_game};
+ghost use Rattle.ps_model.specs.PlainGames.{plain_game};
 ghost use Rattle.ps_model.specs.Levels.{loaded};
-ghost use Rattle.ps_model.specs.ThinOutput.{opening};
+ghost use Rattle.ps_model.specs.PlainOutput.{opening};
 ghost use Rattle.ps_model.specs.Outputs.{end_of_keys_line};
 ghost use Rattle.ps_devices.specs.Devices.{Grows};
 ghost use Rattle.ps_play.specs.Faults.{IsRefusal, IsDeviceFault};
@@ -12,13 +12,15 @@ ghost use Rattle.ps_play.specs.Playable.{IsPlayable};
 ghost use Rattle.ps_play.specs.Runs.{keys_apart, Outputs, Brings, Answers};
 
 use crate::keys::read_key;
-use crate::reading::{Game, ReadFault, read_game};
+use crate::not_yet::first_unplayed;
+use crate::plain::{PlainGame, plain};
 use crate::report::words;
 use crate::screen::Screen;
 use crate::session::Session;
 use ps_board::{Board, ListBoard};
 use ps_devices::{ByteReader, ByteWriter, write_whole};
-use ps_model::{Ending, Fault, Memory};
+use ps_game::{ReadFault, read_game};
+use ps_model::{Ending, Fault, FaultKind, Memory};
 use std::alloc::Global;
 use thiserror::Error;
 
@@ -73,7 +75,8 @@ impl From<ReadFault> for RunFault {
 ///
 /// # Errors
 ///
-/// `Refused` where the text has a fault or isn't a game that this version plays: neither device is called then.
+/// `Refused` with the first fault of the text where it has one, and with `NotYet` where it is a game that this version doesn't
+/// play: neither device is called then.
 /// `Memory` where a growth was refused, `Read` where the reader failed or had more than 16,777,216 pieces to give,
 /// `Write` where the writer failed or took nothing of some bytes.
 pub fn run<R: ByteReader, W: ByteWriter>(
@@ -82,7 +85,7 @@ pub fn run<R: ByteReader, W: ByteWriter>(
     reader: &mut R,
     writer: &mut W,
 ) -> Result<Ending, RunFault>
-    ensures accepted { OnOk result (IsSome (thin_game game.now)) }
+    ensures accepted { OnOk result (IsSome (plain_game game.now)) }
     ensures refused { IfErr result (λ fault. IsRefusal game.now fault) }
     ensures unread { (fault : Fault) → result ≡ Err (RunFault.Refused fault) → reader.new ≡ reader.old }
     ensures unwritten { (fault : Fault) → result ≡ Err (RunFault.Refused fault) → writer.new ≡ writer.old }
@@ -91,15 +94,28 @@ pub fn run<R: ByteReader, W: ByteWriter>(
     ensures stopped { result ≡ Err RunFault.Write → W.has_failed writer.new ≡ true }
     ensures answers { IfSome (R.remaining reader.old) (λ all. IfSome (W.contents writer.old) (λ before. Answers game.now all before (W.contents writer.new) result)) }
 {
-    let game = read_game(alloc, game)?;
-    let ending = play_game(alloc, &game, reader, writer)?;
+    let read = read_game(alloc, game)?;
+    let Some(plain) = plain(&read) else {
+        let fault = not_yet(alloc, game)?;
+        return Err(RunFault::Refused(fault));
+    };
+    let ending = play_game(alloc, &plain, reader, writer)?;
     Ok(ending)
+}
+
+/// That the text is a game which this version doesn't play yet, told at the first line that it doesn't play.
+fn not_yet(alloc: Global, text: &[u8]) -> Result<Fault, Memory>
+    ensures { IfOk result (λ fault. fault.kind ≡ FaultKind.NotYet) }
+{
+    let line = first_unplayed(alloc, text)?;
+    let kind = FaultKind::NotYet;
+    Ok(Fault { kind, line })
 }
 
 /// Writes the opening of a game, and plays the keys of a reader to an ending.
 fn play_game<R: ByteReader, W: ByteWriter>(
     alloc: Global,
-    game: &Game,
+    game: &PlainGame<'_>,
     reader: &mut R,
     writer: &mut W,
 ) -> Result<Ending, RunFault>

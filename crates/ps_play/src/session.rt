@@ -3,13 +3,14 @@
 ghost use Rattle.std.specs.Prelude.{◌≡◌, ◌++◌, OnOk, IfOk, List, ℕ};
 ghost use Rattle.ps_model.specs.Levels.{loaded};
 ghost use Rattle.ps_model.specs.Frames.{frame};
-ghost use Rattle.ps_model.specs.ThinOutput.{opening, turned};
+ghost use Rattle.ps_model.specs.PlainOutput.{opening, turned};
 ghost use Rattle.ps_play.specs.Playable.{IsPlayable};
 ghost use Rattle.ps_play.specs.Runs.{StepsTo};
 
 use crate::frame::add_frame;
+use crate::loading::load;
 use crate::meanings::members_named;
-use crate::reading::{Game, load};
+use crate::plain::PlainGame;
 use crate::screen::Screen;
 use crate::turn::{give_motion, motion_for};
 use ps_board::Board;
@@ -21,7 +22,7 @@ use std::alloc::Global;
 #[derive(Drop)]
 pub struct Session<'g, B: Board> {
     alloc: Global,
-    pub game: &'g Game,
+    pub game: &'g PlainGame<'g>,
     pub board: B,
 }
 
@@ -33,7 +34,7 @@ impl<'g, B: Board> Session<'g, B> {
     /// `Memory`, and a part of the opening may have been added.
     pub fn start(
         alloc: Global,
-        game: &'g Game,
+        game: &'g PlainGame<'g>,
         screen: &mut Screen,
     ) -> Result<Session<'g, B>, Memory>
         requires { IsPlayable game.now.names game.now.level }
@@ -41,10 +42,10 @@ impl<'g, B: Board> Session<'g, B> {
         ensures board { IfOk result (λ session. B.grid session.board ≡ loaded game.entry.now.names game.entry.now.level) }
         ensures opened { OnOk result (screen.new ≡ screen.old ++ opening game.entry.now) }
     {
-        let board: B = load(alloc, &game.names, &game.level)?;
-        screen.add_line("= ", game.title.as_str())?;
+        let board: B = load(alloc, game.names, game.level)?;
+        screen.add_line("= ", game.title)?;
         screen.add_line("# level 1", "")?;
-        add_frame(alloc, &game.names, &board, screen)?;
+        add_frame(alloc, game.names, &board, screen)?;
         Ok(Session { alloc, game, board })
     }
 
@@ -80,10 +81,10 @@ impl<'g, B: Board> Session<'g, B> {
         let game = self.game;
         give_motion(
             &mut self.board,
-            members_named(&game.names, "player"),
+            members_named(game.names, "player"),
             motion_for(input),
         );
         let _ = slide(&mut self.board);
-        add_frame(self.alloc, &game.names, &self.board, screen)
+        add_frame(self.alloc, game.names, &self.board, screen)
     }
 }

@@ -6,11 +6,11 @@ use Rattle.ps_model.specs.Grid.{Grid}
 use Rattle.ps_model.specs.Movement.{slid}
 use Rattle.ps_model.specs.Names.{members_named}
 use Rattle.ps_model.specs.Inputs.{with_motion}
-use Rattle.ps_model.specs.ThinGame.{Game}
+use Rattle.ps_model.specs.PlainGames.{PlainGame}
 use Rattle.ps_play.proofs.session.Session.act.Goals as goal
 
 pub returns-clause-moved : goal.returns-clause-moved
 returns-clause-moved g c =
     let before : Grid = g.B.Board.grid c.args.self.now.board in
-    let moved = c.members_named.ensures ∙ ap (λ (game : Game). members_named game.names (codes "player")) c.game.view_is in
+    let moved = c.members_named.ensures ∙ ap (λ (game : PlainGame). members_named game.names (codes "player")) c.game.view_is in
     c.slide.ensures.exact ∙ ap slid (c.give_motion.ensures ∙ ap₂ (λ (objects : List ObjectId) (motion : Motion). with_motion objects motion before) moved c.motion_for.ensures)

@@ -1,7 +1,0 @@
-use Rattle.std.proofs.Common.{◌≡◌, map, take}
-use Rattle.ps_model.specs.Levels.{ground, with_ground}
-use Rattle.ps_play.specs.Rows.{cells_shown}
-use Rattle.ps_play.proofs.reading.ground.fill_ground.Given as goal
-
-abbrev pub invariant-loop-objects : goal.invariant-loop-objects
-invariant-loop-objects l = l.made.items ≡ map (with_ground l.names l.filler) (cells_shown (take l.objects-index l.cells))

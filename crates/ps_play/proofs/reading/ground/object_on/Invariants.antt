@@ -1,7 +1,0 @@
-use Rattle.std.proofs.Common.{◌≡◌, drop}
-use Rattle.std.specs.Prelude.{nat_eq, find}
-use Rattle.ps_model.specs.Names.{layer_of}
-use Rattle.ps_play.proofs.reading.ground.object_on.Given as goal
-
-abbrev pub invariant-loop-object : goal.invariant-loop-object
-invariant-loop-object l = find (λ object. nat_eq (layer_of l.names object) l.layer.0) (drop l.object-index l.objects) ≡ find (λ object. nat_eq (layer_of l.names object) l.layer.0) l.objects

@@ -1,6 +1,0 @@
-use Rattle.std.proofs.Common.{◌≡◌, drop}
-use Rattle.thin_names.specs.Places.{placed}
-use Rattle.thin_names.proofs.layers.place_each.Given as goal
-
-abbrev pub invariant-loop-object : goal.invariant-loop-object
-invariant-loop-object l = placed l.layer l.places (drop l.object-index l.objects) ≡ placed l.layer l.initial.places l.objects

@@ -1,6 +1,0 @@
-use Rattle.std.proofs.Common.{◌≡◌, take}
-use Rattle.ps_model.specs.Lines.{folded}
-use Rattle.thin_names.proofs.table.is_folded.Given as goal
-
-abbrev pub invariant-loop-at : goal.invariant-loop-at
-invariant-loop-at l = folded (take l.at l.letters) ≡ take l.at l.letters

@@ -1,9 +1,0 @@
--- The meanings of the code as the meanings of the definitions.
-use Rattle.ps_model.specs.Names as model
-use Rattle.thin_names.specs.declared.meaning.Meaning.{Meaning}
-use Rattle.thin_names.specs.declared.meaning.Meaning.TheVariants.{One, All, Any}
-
-abbrev pub meaning_shown : Meaning → model.Meaning
-meaning_shown (One object) = model.One object
-meaning_shown (All line objects) = model.AllOf line objects
-meaning_shown (Any line objects) = model.AnyOf line objects

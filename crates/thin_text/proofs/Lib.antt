@@ -1,9 +1,0 @@
-pub mod WordSteps
-pub mod LineSteps
-pub mod BlankEnds
-pub mod Slices
-pub mod RisingWords
-pub mod Table
-pub mod Faults
-pub mod TakenTexts
-pub mod WordSpans

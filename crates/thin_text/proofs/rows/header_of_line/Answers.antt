@@ -1,5 +1,0 @@
-use Rattle.std.proofs.lemmas.Str.{IsCharBoundary-start}
-use Rattle.thin_text.proofs.rows.header_of_line.Goals as goal
-
-pub next_word-requires-clause-cuttable : goal.next_word-requires-clause-cuttable
-next_word-requires-clause-cuttable c = IsCharBoundary-start c.args.line.now c.requires
