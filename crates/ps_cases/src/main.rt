@@ -1,0 +1,32 @@
+//! Reads small games and says of each that it is accepted, or which fault it has. The names of the games come on standard input, a
+//! line each; the text of NAME is the file NAME.game where the program runs.
+//!
+//! The games of `data/` are random ones (`play-*`, `fault-*`) and such with odd lines put in (`odd-*`), on which two programs that
+//! know nothing of this code agreed, and the examples of docs/LANGUAGE.md (`language-*`). Beside a game stand the fault that it has,
+//! or keys and what must be written when it is played with them. `tools/tests_from_games` takes in others, and writes the files `stdin`
+//! and `stdout`.
+#![tactic(auto)]
+
+#[cfg(test)]
+mod tests;
+mod verdict;
+
+use std::rt::Files;
+use std::{fs, io};
+use verdict::judge;
+
+fn main(rt: HostRuntime) -> io::Result<()> {
+    for name in rt.lines(rt.alloc()) {
+        let line = told(&rt, name?.as_str())?;
+        println!(rt; "{line}")?;
+    }
+    Ok(())
+}
+
+/// The line on the game of that name.
+fn told<R: Files + AllocGlobal>(rt: &R, name: &str) -> io::Result<String> {
+    let path = format!(in rt.alloc(); "{name}.game")?;
+    let text = fs::read(rt, path.as_str())?;
+    let verdict = judge(rt.alloc(), &text).map_err(|_| io::ErrorKind::OutOfMemory)?;
+    Ok(format!(in rt.alloc(); "{name}: {verdict}")?)
+}
