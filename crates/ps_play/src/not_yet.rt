@@ -4,20 +4,12 @@ ghost use Rattle.std.specs.Prelude.{◌≡◌, ◌≤◌, length};
 ghost use Rattle.ps_model.specs.Lines.{lines_of};
 ghost use Rattle.ps_game.specs.SectionPlaces.{IsStretch, AreSections};
 
+use crate::plain::are_unset;
 use ps_game::{Sections, read_options, read_sections};
-use ps_model::{Memory, Options};
+use ps_model::Memory;
 use ps_text::{Source, TextFault};
 use std::alloc::Global;
 use std::ops::Range;
-
-/// Whether one of the options is set.
-fn is_set(options: &Options) -> bool {
-    options.no_action
-        || options.no_undo
-        || options.no_restart
-        || options.require_player_movement
-        || options.run_rules_on_level_start
-}
 
 /// Whether the line is there and has a word.
 fn is_written(source: &Source, line: u32) -> bool
@@ -34,7 +26,7 @@ fn first_option(alloc: Global, source: &Source, lines: &Range<u32>) -> Result<Op
     for line in lines.start..lines.end {
         let alone = line..line + 1;
         let options = read_options(alloc, source, &alone)?;
-        if is_set(&options) {
+        if !are_unset(options) {
             return Ok(Some(line));
         }
     }

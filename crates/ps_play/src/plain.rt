@@ -30,7 +30,7 @@ impl<'g> Model for PlainGame<'g> {
 }
 
 /// Whether no option is set.
-fn are_unset(options: Options) -> bool
+pub fn are_unset(options: Options) -> bool
     ensures { result ≡ are_unset options }
 {
     !(options.no_action
