@@ -373,12 +373,43 @@ fn chain(alloc: Global, length: u32) -> Option<String> {
 
 #[test]
 fn reads_a_long_chain_of_synonyms(rt: HostRuntime) {
-    let Some(legend) = chain(rt.alloc(), 2000) else {
+    let Some(legend) = chain(rt.alloc(), 10000) else {
         panic!(rt; "no room");
     };
     let Some(Ok(names)) = with_legend(rt.alloc(), legend.as_str()) else {
         panic!(rt; "the names aren't read");
     };
     assert!(rt; matches!(names.meaning("S0"), Some(Meaning::One(ObjectId(3)))));
-    assert!(rt; matches!(names.meaning("s1999"), Some(Meaning::One(ObjectId(3)))));
+    assert!(rt; matches!(names.meaning("s9999"), Some(Meaning::One(ObjectId(3)))));
+}
+
+/// The five objects on a layer each, and as many further layers, each of one object again.
+fn further_layers(alloc: Global, further: u32) -> Option<String> {
+    let mut text = joined(alloc, &[FIVE, "LEGEND\nCOLLISIONLAYERS\n", LAYERS])?;
+    for _layer in 0..further {
+        text.push_str("C\n").ok()?;
+    }
+    Some(text)
+}
+
+#[test]
+fn reads_thirty_two_layers_and_no_more(rt: HostRuntime) {
+    let Some(text) = further_layers(rt.alloc(), 27) else {
+        panic!(rt; "no room");
+    };
+    let Some(Ok(names)) = read_text(rt.alloc(), text.as_str()) else {
+        panic!(rt; "the names aren't read");
+    };
+    assert_eq!(rt; names.layer_count(), 32);
+    assert!(rt; names.object_count() > 4 && names.layer_of(ObjectId(4)).0 == 31);
+    let Some(text) = further_layers(rt.alloc(), 28) else {
+        panic!(rt; "no room");
+    };
+    assert!(rt;
+        is_refused(
+            read_text(rt.alloc(), text.as_str()),
+            FaultKind::TooManyNames,
+            46
+        )
+    );
 }
