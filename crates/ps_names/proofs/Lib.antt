@@ -5,6 +5,7 @@ pub mod Characters
 pub mod KnownEntries
 pub mod FirstFaults
 pub mod ReachLaw
+pub mod LevelLaws
 pub mod MeaningLaws
 pub mod TableSteps
 pub mod FoldedNames

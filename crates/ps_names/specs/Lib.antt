@@ -11,3 +11,4 @@ pub mod LayersShown
 pub mod Wholes
 pub mod NamesShown
 pub mod Sections
+pub mod Levels
