@@ -7,6 +7,7 @@ pub mod FirstFaults
 pub mod ReachLaw
 pub mod LevelLaws
 pub mod MeaningLaws
+pub mod EndLaws
 pub mod TableSteps
 pub mod FoldedNames
 pub mod LayerLaw

@@ -12,3 +12,4 @@ pub mod Wholes
 pub mod NamesShown
 pub mod Sections
 pub mod Levels
+pub mod Ends

@@ -2,6 +2,7 @@
 #![tactic(auto)]
 
 mod declaring;
+mod ends;
 mod fault;
 mod folding;
 mod form_faults;

@@ -24,7 +24,7 @@ fn first_of(mentions: &[Mention]) -> Option<Mention>
 }
 
 /// What a synonym is one for; a mention of another kind is none.
-fn behind_synonym(legend: &[LegendName<'_>], mention: Mention) -> Option<Mention>
+pub fn behind_synonym(legend: &[LegendName<'_>], mention: Mention) -> Option<Mention>
     ensures { option_map mention_shown result ≡ behind_synonym (legend_shown legend.now) (mention_shown mention) }
 {
     let Mention::Line(place) = mention else {
