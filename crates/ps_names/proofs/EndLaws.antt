@@ -1,18 +1,16 @@
 -- The ends behind synonyms.
-use Rattle.std.proofs.Common.{◌≡◌, ◌≢◌, ◌∙◌, ℕ, zero, suc, ◌+◌, ◌<◌, ◌≤◌, Bool, true, false, List, [], ◌∷◌, Option, None, Some, length, replicate, get_or, refl, sym, ap, arith}
+use Rattle.std.proofs.Common.{◌≡◌, ◌≢◌, ◌∙◌, ℕ, zero, suc, ◌+◌, ◌<◌, ◌≤◌, Bool, true, false, List, Option, None, Some, length, replicate, get_or, refl, sym, ap, arith}
 use Rattle.std.specs.Prelude.{nat_eq, nat_lt, slice_set, slice_get, option_and_then}
 use Rattle.std.proofs.Math.Seq.{set_out}
 use Rattle.std.proofs.lemmas.List.{get_or-set_same, get_or-set_other, get_or-replicate, get_or_past, length-replicate}
 use Rattle.std.proofs.lemmas.Bool.Decides.{nat_tests}
 use Rattle.ps_model.specs.declared.texts.Joiner.{Joiner}
 use Rattle.ps_model.specs.declared.texts.Joiner.TheVariants.{Alone, And, Or}
-use Rattle.ps_model.specs.Names.{Meaning}
 use Rattle.ps_model.specs.Meanings.{LegendName, Mention, OfObject, OfLine, meaning_by, meaning_behind}
 use Rattle.ps_names.specs.declared.ends.End.{End}
-use Rattle.ps_names.specs.declared.ends.End.TheVariants.{Unknown, Never, At}
-use Rattle.ps_names.specs.Known.{mention_shown}
+use Rattle.ps_names.specs.declared.ends.End.TheVariants.{Unknown}
 use Rattle.ps_names.specs.MeaningSteps.{behind_synonym}
-use Rattle.ps_names.specs.Ends.{StandsBehind, EndsAt, StandsForNothing, IsEnd, AreEnds}
+use Rattle.ps_names.specs.Ends.{StandsBehind, StandsForNothing, IsEnd, AreEnds}
 use Rattle.ps_names.proofs.MeaningLaws.{synonym-step}
 
 module _ (legend : List LegendName) where

@@ -1,9 +1,9 @@
 -- A line that mentions only lines of lower levels doesn't stand for itself.
-use Rattle.std.proofs.Common.{◌≡◌, ◌∙◌, ℕ, zero, suc, ◌+◌, ◌<◌, ◌≤◌, Bool, true, false, List, [], ◌∷◌, ◌++◌, ◌&&◌, ◌||◌, length, refl, sym, ap, arith, get_or, map, Some}
+use Rattle.std.proofs.Common.{◌≡◌, ◌∙◌, ℕ, zero, suc, ◌+◌, ◌<◌, ◌≤◌, Bool, true, false, List, [], ◌∷◌, ◌++◌, ◌&&◌, ◌||◌, length, refl, sym, ap, arith, get_or, Some}
 use Rattle.std.specs.Prelude.{nat_eq, nat_lt, option_map}
 use Rattle.std.proofs.lemmas.List.{length-map, get_or_past}
 use Rattle.std.proofs.lemmas.Option.{slice_get-map, slice_get-get_or, slice_get_past}
-use Rattle.std.specs.List.{list_any, list_all}
+use Rattle.std.specs.List.{list_any}
 use Rattle.std.proofs.lemmas.List.Folds.{list_all-append}
 use Rattle.std.proofs.lemmas.Bool.Decides.{nat_tests}
 use Rattle.ps_model.specs.Meanings.{LegendName, Mention, OfObject, OfLine, same_mention, mentions_of, mentions_of_name, with_mentioned, all_mentioned, is_on_cycle, mention_count}
@@ -76,8 +76,10 @@ module _ (legend : List LegendName) (levels : List ℕ) (limit : ℕ) (fall : Fa
     where
       here : is_below levels limit mention ≡ true
       here = first _ _ b
+
       there : are_below levels limit others ≡ true
       there = second (is_below levels limit mention) _ b
+
       by : (known : Bool) → list_any (same_mention mention) listed ≡ known
           → are_below levels limit (with_mentioned legend steps listed others) ≡ true
           → are_below levels limit (with_mentioned legend steps (listed ++ mention ∷ []) (mentions_of legend mention ++ others)) ≡ true

@@ -113,11 +113,7 @@ fn set_end(ends: &mut Vec<End>, place: u32, end: End)
 
 /// The ends behind the lines of the legend, by their places. Where the lines are looked at behind those that they mention, each
 /// takes one step, but one of those that stand for themselves.
-pub fn ends_of(
-    alloc: Global,
-    legend: &[LegendName<'_>],
-    places: &[u32],
-) -> Result<Vec<End>, Memory>
+pub fn ends_of(alloc: Global, legend: &[LegendName<'_>], places: &[u32]) -> Result<Vec<End>, Memory>
     ensures { IfOk result (λ ends. AreEnds (legend_shown legend.now) ends.items) }
 {
     let mut ends = Vec::from_elem(alloc, End::Unknown, legend.len())?;

@@ -1,11 +1,9 @@
-use Rattle.std.proofs.Common.{◌≡◌, ◌∙◌, ◌+◌, rules, sym, ap, Some, List, rules}
+use Rattle.std.proofs.Common.{◌≡◌, ◌∙◌, rules, sym, ap, Some, List, rules}
 use Rattle.ps_model.specs.Meanings as model
-use Rattle.ps_names.specs.declared.mention.Mention.{Mention}
 use Rattle.ps_names.specs.declared.mention.Mention.TheVariants.{Line}
 use Rattle.ps_names.specs.Known.{mention_shown}
 use Rattle.ps_names.specs.LegendNames.{legend_shown}
 use Rattle.ps_names.specs.MeaningSteps.{behind_synonym}
-use Rattle.ps_names.specs.Ends.{StandsBehind}
 use Rattle.ps_names.proofs.EndLaws.{one-behind, never-ends}
 use Rattle.ps_names.proofs.ends.walk.Goals as goal
 
