@@ -5,7 +5,9 @@ pub mod Characters
 pub mod KnownEntries
 pub mod FirstFaults
 pub mod ReachLaw
+pub mod LevelLaws
 pub mod MeaningLaws
+pub mod EndLaws
 pub mod TableSteps
 pub mod FoldedNames
 pub mod LayerLaw

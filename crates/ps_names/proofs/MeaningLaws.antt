@@ -1,5 +1,5 @@
 -- What a synonym stands for, and what a mention stands for that is none.
-use Rattle.std.proofs.Common.{◌≡◌, ℕ, suc, ◌+◌, ◌<◌, arith, List, [], ◌∷◌, ◌++◌, length, drop, map, true, Option, None, Some, refl, append_assoc}
+use Rattle.std.proofs.Common.{◌≡◌, ℕ, zero, suc, get_or, sym, ◌∙◌, ◌+◌, ◌<◌, arith, List, [], ◌∷◌, ◌++◌, length, drop, map, true, Option, None, Some, refl, append_assoc}
 use Rattle.std.specs.List.{enumerate_from}
 use Rattle.std.proofs.Math.Seq.{drop-cons}
 use Rattle.std.specs.Prelude.{option_and_then, slice_get}
@@ -7,7 +7,7 @@ use Rattle.ps_model.specs.declared.texts.Joiner.{Joiner}
 use Rattle.ps_model.specs.declared.texts.Joiner.TheVariants.{Alone, And, Or}
 use Rattle.ps_model.specs.Names.{Meaning}
 use Rattle.ps_model.specs.Meanings.{LegendName, Mention, OfObject, OfLine, meaning_by, meaning_behind}
-use Rattle.ps_names.specs.MeaningSteps.{alone, behind_synonym, joined_meaning, meaning_at}
+use Rattle.ps_names.specs.MeaningSteps.{alone, behind_synonym, joined_meaning, joined_at, joined_meanings, meaning_at}
 
 by_joiner : (legend : List LegendName) (of_mention : Mention → Option Meaning) (joiner : Joiner) (name : LegendName) (next : Mention) → alone joiner name.mentions ≡ Some next
     → meaning_by of_mention legend joiner name ≡ of_mention next
@@ -33,16 +33,20 @@ joined-none legend of_mention Alone name e = rw e refl
 joined-none legend of_mention And name e = refl
 joined-none legend of_mention Or name e = refl
 
--- a name that is no synonym
-pub no-synonym : (legend : List LegendName) (most place : ℕ) (name : LegendName) → slice_get legend place ≡ Some name → behind_synonym legend (OfLine place) ≡ None
-    → meaning_behind legend (suc most) (OfLine place) ≡ joined_meaning legend name.joiner name
-no-synonym legend most place name e none =
-    let none' : alone name.joiner name.mentions ≡ None = by (slice_get legend place) e none in
-    rw e (joined-none legend (meaning_behind legend most) name.joiner name none')
+got-joined : {A B : Type 0} (f : A → Option B) (xs : List A) (k : ℕ) → get_or (map f xs) k None ≡ option_and_then f (slice_get xs k)
+got-joined f [] k = refl
+got-joined f (x ∷ xs) zero = refl
+got-joined f (x ∷ xs) (suc k) = got-joined f xs k
+
+-- a line that is no synonym
+pub no-synonym : (legend : List LegendName) (most place : ℕ) → behind_synonym legend (OfLine place) ≡ None
+    → get_or (joined_meanings legend) place None ≡ meaning_behind legend (suc most) (OfLine place)
+no-synonym legend most place none = got-joined (joined_at legend) legend place ∙ by (slice_get legend place) none
   where
-    by : (o : Option LegendName) → o ≡ Some name → option_and_then (λ name. alone name.joiner name.mentions) o ≡ None → alone name.joiner name.mentions ≡ None
-    by None e n = cc
-    by (Some other) e n = let same : other ≡ name = cc in rw (← same) n
+    by : (name : Option LegendName) → option_and_then (λ name. alone name.joiner name.mentions) name ≡ None
+        → option_and_then (joined_at legend) name ≡ option_and_then (λ name. meaning_by (meaning_behind legend most) legend name.joiner name) name
+    by None n = refl
+    by (Some name) n = sym (joined-none legend (meaning_behind legend most) name.joiner name n)
 
 -- a name for a place that has none
 abbrev no_name : LegendName

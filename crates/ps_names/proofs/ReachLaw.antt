@@ -87,10 +87,10 @@ listed-none lines listed reached new t past =
     }
 
 module _ (legend : List LegendName) (steps : ℕ) (mention : Mention) (others : List Mention) where
-  list-old : (listed : List Mention) → list_any (same_mention mention) listed ≡ true → with_mentioned legend (suc steps) listed (mention ∷ others) ≡ with_mentioned legend steps listed others
+  pub list-old : (listed : List Mention) → list_any (same_mention mention) listed ≡ true → with_mentioned legend (suc steps) listed (mention ∷ others) ≡ with_mentioned legend steps listed others
   list-old listed e = rw (with_mentioned, e) refl
 
-  list-new : (listed : List Mention) → list_any (same_mention mention) listed ≡ false
+  pub list-new : (listed : List Mention) → list_any (same_mention mention) listed ≡ false
       → with_mentioned legend (suc steps) listed (mention ∷ others) ≡ with_mentioned legend steps (listed ++ mention ∷ []) (mentions_of legend mention ++ others)
   list-new listed e = rw (with_mentioned, e) refl
 

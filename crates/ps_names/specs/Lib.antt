@@ -11,3 +11,5 @@ pub mod LayersShown
 pub mod Wholes
 pub mod NamesShown
 pub mod Sections
+pub mod Levels
+pub mod Ends

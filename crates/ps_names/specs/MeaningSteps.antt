@@ -32,6 +32,13 @@ joined_meaning legend Alone name = None
 joined_meaning legend And name = Some (model.AllOf name.line (objects_of legend name))
 joined_meaning legend Or name = Some (model.AnyOf name.line (objects_of legend name))
 
+-- what the aggregates and properties stand for, by their places; nothing for synonyms
+abbrev pub joined_at : List LegendName → LegendName → Option model.Meaning
+joined_at legend name = joined_meaning legend name.joiner name
+
+abbrev pub joined_meanings : List LegendName → List (Option model.Meaning)
+joined_meanings legend = map (joined_at legend) legend
+
 -- what the legend line of a place stands for
 abbrev pub meaning_at : List LegendName → ℕ × LegendName → Option model.Meaning
 meaning_at legend numbered = meaning_behind legend (length legend) (OfLine numbered.0)

@@ -22,6 +22,7 @@ use crate::meanings::legend_meanings;
 use crate::naming::fault_of_naming;
 use crate::object_faults::fault_of_objects;
 use crate::objects::ObjectText;
+use crate::order::order_of;
 use ps_model::Fault;
 use std::alloc::Global;
 
@@ -69,8 +70,9 @@ pub fn read_legend<'a>(
     ensures refused { IfErr result (λ e. (fault : TheFault) → e ≡ NameFault.Refused fault → first_fault (naming_faults (map (legend_name (mentions_of_names known.now)) (declarations_shown declarations.now)) (legend_meanings (map (legend_name (mentions_of_names known.now)) (declarations_shown declarations.now)))) ≡ Some fault) }
 {
     let names = legend_names(alloc, known, declarations)?;
-    let meanings = legend_meanings(alloc, &names)?;
-    let fault = fault_of_naming(alloc, &names, &meanings)?;
+    let order = order_of(alloc, &names)?;
+    let meanings = legend_meanings(alloc, &names, &order.places)?;
+    let fault = fault_of_naming(alloc, &names, &order.levels, &meanings)?;
     refuse(fault)?;
     Ok(Legend { names, meanings })
 }

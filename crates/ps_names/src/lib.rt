@@ -2,6 +2,7 @@
 #![tactic(auto)]
 
 mod declaring;
+mod ends;
 mod fault;
 mod folding;
 mod form_faults;
@@ -10,6 +11,7 @@ mod known;
 mod layers;
 mod legend;
 mod legend_names;
+mod levels;
 mod lines;
 mod meaning;
 mod meanings;
@@ -18,6 +20,7 @@ mod names;
 mod naming;
 mod object_faults;
 mod objects;
+mod order;
 mod reach;
 mod read;
 mod sections;

@@ -4,12 +4,16 @@ ghost use Rattle.std.specs.Prelude.{◌≡◌, ◌≤◌, ◌<◌, ◌-◌, None
 ghost use Rattle.ps_model.specs.Meanings.{OfLine, meaning_behind, legend_meanings};
 ghost use Rattle.ps_names.specs.Known.{mention_shown, mentions_shown};
 ghost use Rattle.ps_names.specs.LegendNames.{name_shown, legend_shown};
-ghost use Rattle.ps_names.specs.MeaningSteps.{meaning_shown_if, meanings_shown, alone, behind_synonym, joined_meaning};
+ghost use Rattle.ps_names.specs.MeaningSteps.{meaning_shown_if, meanings_shown, alone, behind_synonym, joined_meaning, joined_meanings};
+ghost use Rattle.ps_names.specs.Ends.{IsEnd};
 
+use crate::ends::{End, end_at, ends_of};
 use crate::legend_names::LegendName;
 use crate::meaning::Meaning;
 use crate::mention::Mention;
+use crate::naming::meaning_at;
 use crate::reach::objects_of;
+use crate::table::copied_if;
 use ps_model::{Joiner, Memory};
 use std::alloc::Global;
 
@@ -24,7 +28,7 @@ fn first_of(mentions: &[Mention]) -> Option<Mention>
 }
 
 /// What a synonym is one for; a mention of another kind is none.
-fn behind_synonym(legend: &[LegendName<'_>], mention: Mention) -> Option<Mention>
+pub fn behind_synonym(legend: &[LegendName<'_>], mention: Mention) -> Option<Mention>
     ensures { option_map mention_shown result ≡ behind_synonym (legend_shown legend.now) (mention_shown mention) }
 {
     let Mention::Line(place) = mention else {
@@ -62,12 +66,26 @@ fn joined_meaning(
     }
 }
 
-/// What a mention stands for that is no synonym.
+/// What the aggregates and properties of the legend stand for, by their places; nothing for its synonyms.
+fn joined_meanings(alloc: Global, legend: &[LegendName<'_>]) -> Result<Vec<Option<Meaning>>, Memory>
+    ensures { IfOk result (λ made. meanings_shown made.items ≡ joined_meanings (legend_shown legend.now)) }
+{
+    let mut made = Vec::new(alloc);
+    for name in legend {
+        let meaning = joined_meaning(alloc, legend, name)?;
+        made.push(meaning)?;
+    }
+    Ok(made)
+}
+
+/// What a mention stands for that is no synonym, where the aggregates and properties stand for these.
 fn meaning_of_mention(
     alloc: Global,
     legend: &[LegendName<'_>],
+    joined: &[Option<Meaning>],
     mention: Mention,
 ) -> Result<Option<Meaning>, Memory>
+    requires joined { meanings_shown joined.now ≡ joined_meanings (legend_shown legend.now) }
     requires none { behind_synonym (legend_shown legend.now) (mention_shown mention) ≡ None }
     ensures { IfOk result (λ meaning. (most : ℕ) → meaning_shown_if meaning ≡ meaning_behind (legend_shown legend.now) (suc most) (mention_shown mention)) }
 {
@@ -75,10 +93,7 @@ fn meaning_of_mention(
         Mention::Object(object) => return Ok(Some(Meaning::One(object))),
         Mention::Line(place) => place,
     };
-    let Some(name) = legend.get(place as usize) else {
-        return Ok(None);
-    };
-    let meaning = joined_meaning(alloc, legend, name)?;
+    let meaning = copied_if(alloc, meaning_at(joined, place as usize))?;
     Ok(meaning)
 }
 
@@ -97,14 +112,16 @@ fn object_alone(mention: Mention) -> Option<Meaning>
 fn meaning_behind(
     alloc: Global,
     legend: &[LegendName<'_>],
+    joined: &[Option<Meaning>],
     place: u32,
 ) -> Result<Option<Meaning>, Memory>
+    requires joined { meanings_shown joined.now ≡ joined_meanings (legend_shown legend.now) }
     ensures { IfOk result (λ meaning. meaning_shown_if meaning ≡ meaning_behind (legend_shown legend.now) (length legend.now) (OfLine place)) }
 {
     let mut mention = Mention::Line(place);
     for _passed in 0..legend.len() {
         let Some(next) = behind_synonym(legend, mention) else {
-            let meaning = meaning_of_mention(alloc, legend, mention)?;
+            let meaning = meaning_of_mention(alloc, legend, joined, mention)?;
             return Ok(meaning);
         };
         mention = next;
@@ -112,17 +129,51 @@ fn meaning_behind(
     Ok(object_alone(mention))
 }
 
-/// What each name of the legend stands for, if it stands for anything.
+/// What the name of a legend line stands for, by the line's place and what is known of the end behind it.
+fn meaning_by_end(
+    alloc: Global,
+    legend: &[LegendName<'_>],
+    joined: &[Option<Meaning>],
+    end: End,
+    place: u32,
+) -> Result<Option<Meaning>, Memory>
+    requires joined { meanings_shown joined.now ≡ joined_meanings (legend_shown legend.now) }
+    requires end { IsEnd (legend_shown legend.now) (OfLine place) end }
+    ensures { IfOk result (λ meaning. meaning_shown_if meaning ≡ meaning_behind (legend_shown legend.now) (length legend.now) (OfLine place)) }
+{
+    match end {
+        End::Unknown => {
+            let meaning = meaning_behind(alloc, legend, joined, place)?;
+            Ok(meaning)
+        }
+        End::Never => Ok(None),
+        End::At { passed, mention } => {
+            if passed as usize >= legend.len() {
+                let meaning = meaning_behind(alloc, legend, joined, place)?;
+                return Ok(meaning);
+            }
+            let meaning = meaning_of_mention(alloc, legend, joined, mention)?;
+            Ok(meaning)
+        }
+    }
+}
+
+/// What each name of the legend stands for, if it stands for anything. The places are those of the lines, in an order in which
+/// each stands behind those that it mentions; any others would only take longer.
 pub fn legend_meanings(
     alloc: Global,
     legend: &[LegendName<'_>],
+    places: &[u32],
 ) -> Result<Vec<Option<Meaning>>, Memory>
     requires few { length legend.now ≤ 4294967295 }
     ensures { IfOk result (λ made. meanings_shown made.items ≡ legend_meanings (legend_shown legend.now)) }
 {
+    let ends = ends_of(alloc, legend, places)?;
+    let joined = joined_meanings(alloc, legend)?;
     let mut made = Vec::new(alloc);
     for place in 0..legend.len() {
-        let meaning = meaning_behind(alloc, legend, place as u32)?;
+        let place = place as u32;
+        let meaning = meaning_by_end(alloc, legend, &joined, end_at(&ends, place), place)?;
         made.push(meaning)?;
     }
     Ok(made)

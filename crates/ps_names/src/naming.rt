@@ -9,6 +9,7 @@ ghost use Rattle.ps_names.specs.Known.{mention_shown, mentions_shown};
 ghost use Rattle.ps_names.specs.LegendNames.{name_shown, legend_shown};
 ghost use Rattle.ps_names.specs.MeaningSteps.{meanings_shown, faults_at};
 ghost use Rattle.ps_names.specs.Shown.{meaning_shown};
+ghost use Rattle.ps_names.specs.Levels.{Fall};
 
 use crate::legend_names::LegendName;
 use crate::meaning::Meaning;
@@ -121,11 +122,13 @@ fn puts_property_in_aggregate(meanings: &[Option<Meaning>], name: &LegendName<'_
 fn fault_of_name(
     alloc: Global,
     legend: &[LegendName<'_>],
+    levels: &[u32],
     meanings: &[Option<Meaning>],
     place: u32,
     name: &LegendName<'_>,
 ) -> Result<Option<Fault>, Memory>
-    requires { place < length legend.now }
+    requires there { place < length legend.now }
+    requires falls { Fall (legend_shown legend.now) levels.now }
     ensures { IfOk result (λ fault. fault ≡ first_fault (faults_at (legend_shown legend.now) (meanings_shown meanings.now) (place, name_shown name.now))) }
 {
     let line = name.line;
@@ -133,7 +136,7 @@ fn fault_of_name(
         let kind = FaultKind::UnknownName;
         return Ok(Some(Fault { kind, line }));
     }
-    if is_on_cycle(alloc, legend, place, name)? {
+    if is_on_cycle(alloc, legend, levels, place, name)? {
         let kind = FaultKind::Cycle;
         return Ok(Some(Fault { kind, line }));
     }
@@ -152,13 +155,16 @@ fn fault_of_name(
 pub fn fault_of_naming(
     alloc: Global,
     legend: &[LegendName<'_>],
+    levels: &[u32],
     meanings: &[Option<Meaning>],
 ) -> Result<Option<Fault>, Memory>
     requires few { length legend.now ≤ 4294967295 }
+    requires falls { Fall (legend_shown legend.now) levels.now }
     ensures { IfOk result (λ fault. fault ≡ first_fault (naming_faults (legend_shown legend.now) (meanings_shown meanings.now))) }
 {
     for place in 0..legend.len() {
-        let fault = fault_of_name(alloc, legend, meanings, place as u32, &legend[place])?;
+        let name = &legend[place];
+        let fault = fault_of_name(alloc, legend, levels, meanings, place as u32, name)?;
         if fault.is_some() {
             return Ok(fault);
         }

@@ -5,8 +5,10 @@ ghost use Rattle.ps_model.specs.Names.{is_among};
 ghost use Rattle.ps_model.specs.Meanings.{mentions_of, mention_count, is_on_cycle, objects_of};
 ghost use Rattle.ps_names.specs.Known.{mention_shown, mentions_shown};
 ghost use Rattle.ps_names.specs.LegendNames.{name_shown, legend_shown, is_reached, with_reached, reached_from, reached_shown, waiting, reached_with};
+ghost use Rattle.ps_names.specs.Levels.{Fall};
 
 use crate::legend_names::LegendName;
+use crate::levels::{are_below, level_at};
 use crate::mention::Mention;
 use ps_model::{Memory, ObjectId};
 use ps_text::List;
@@ -151,16 +153,23 @@ fn reach_of(alloc: Global, legend: &[LegendName<'_>], mentions: &[Mention]) -> R
     Ok(reach)
 }
 
-/// Whether the name of a place stands for itself through legend lines.
+/// Whether the name of a place stands for itself through legend lines. Where it mentions only lines of lower levels it doesn't;
+/// any other is looked for among what it reaches.
 pub fn is_on_cycle(
     alloc: Global,
     legend: &[LegendName<'_>],
+    levels: &[u32],
     place: u32,
     name: &LegendName<'_>,
 ) -> Result<bool, Memory>
-    requires { place < length legend.now }
+    requires there { place < length legend.now }
+    requires falls { Fall (legend_shown legend.now) levels.now }
     ensures { IfOk result (λ cyclic. cyclic ≡ is_on_cycle (legend_shown legend.now) place (name_shown name.now)) }
 {
+    let limit = level_at(levels, place as usize) as u64;
+    if are_below(levels, limit, &name.mentions) {
+        return Ok(false);
+    }
     let reach = reach_of(alloc, legend, &name.mentions)?;
     Ok(is_marked(&reach.lines, place))
 }

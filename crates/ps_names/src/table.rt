@@ -43,7 +43,7 @@ impl Model for Table {
 }
 
 /// The same meaning once more, if there is one.
-fn copied_if(alloc: Global, meaning: Option<&Meaning>) -> Result<Option<Meaning>, Memory>
+pub fn copied_if(alloc: Global, meaning: Option<&Meaning>) -> Result<Option<Meaning>, Memory>
     ensures { IfOk result (λ copy. meaning_shown_if copy ≡ option_map (λ m. meaning_shown m.now) meaning.entry) }
 {
     let Some(meaning) = meaning else {

@@ -211,6 +211,13 @@ fn refuses_legends(rt: HostRuntime) {
         ("X = A\nY is B", FaultKind::BadLine, 14),
         ("X = A or Q", FaultKind::UnknownName, 13),
         ("X = Y\nY = X", FaultKind::Cycle, 13),
+        ("X = A or Y\nY = Z\nZ = Y", FaultKind::Cycle, 14),
+        ("X = Z or A\nY = B or X\nZ = C or Y", FaultKind::Cycle, 13),
+        (
+            "X = Y or Z\nY = Y\nZ = A and B",
+            FaultKind::AggregateInProperty,
+            13,
+        ),
         (
             "X = A and B\nY = C or X",
             FaultKind::AggregateInProperty,
@@ -349,8 +356,8 @@ fn reads_sixty_four_objects_and_no_more(rt: HostRuntime) {
     );
 }
 
-/// A legend of synonyms, each one for the next, and the last one for an object.
-fn chain(alloc: Global, length: u32) -> Option<String> {
+/// A legend of synonyms, each one for the next, and the last one for a name.
+fn chain(alloc: Global, length: u32, last: &str) -> Option<String> {
     let mut legend = String::new(alloc);
     for number in 0..length {
         legend.push_str("s").ok()?;
@@ -367,18 +374,92 @@ fn chain(alloc: Global, length: u32) -> Option<String> {
     legend
         .push_str(length.to_string(alloc).ok()?.as_str())
         .ok()?;
-    legend.push_str(" = B").ok()?;
+    legend.push_str(" = ").ok()?;
+    legend.push_str(last).ok()?;
     Some(legend)
 }
 
 #[test]
 fn reads_a_long_chain_of_synonyms(rt: HostRuntime) {
-    let Some(legend) = chain(rt.alloc(), 2000) else {
+    let Some(legend) = chain(rt.alloc(), 10000, "B") else {
         panic!(rt; "no room");
     };
     let Some(Ok(names)) = with_legend(rt.alloc(), legend.as_str()) else {
         panic!(rt; "the names aren't read");
     };
     assert!(rt; matches!(names.meaning("S0"), Some(Meaning::One(ObjectId(3)))));
-    assert!(rt; matches!(names.meaning("s1999"), Some(Meaning::One(ObjectId(3)))));
+    assert!(rt; matches!(names.meaning("s9999"), Some(Meaning::One(ObjectId(3)))));
+}
+
+/// The same legend, its last line first.
+fn turned_round(alloc: Global, legend: &str) -> Option<String> {
+    let mut turned = String::new(alloc);
+    for line in legend.lines().rev() {
+        turned.push_str(line).ok()?;
+        turned.push_str("\n").ok()?;
+    }
+    Some(turned)
+}
+
+#[test]
+fn reads_a_long_chain_from_its_end(rt: HostRuntime) {
+    let Some(legend) = chain(rt.alloc(), 10000, "B or C or B") else {
+        panic!(rt; "no room");
+    };
+    let Some(legend) = turned_round(rt.alloc(), legend.as_str()) else {
+        panic!(rt; "no room");
+    };
+    let Some(Ok(names)) = with_legend(rt.alloc(), legend.as_str()) else {
+        panic!(rt; "the names aren't read");
+    };
+    assert!(rt; is_any(&names, "s0", 13, &[3, 4]));
+    assert!(rt; is_any(&names, "s10000", 13, &[3, 4]));
+}
+
+#[test]
+fn refuses_long_chains_without_an_end(rt: HostRuntime) {
+    let cases = [("s10000", 10013), ("s9000", 9013), ("s0", 13)];
+    for (last, line) in cases {
+        let Some(legend) = chain(rt.alloc(), 10000, last) else {
+            panic!(rt; "no room");
+        };
+        assert!(rt;
+            is_refused(
+                with_legend(rt.alloc(), legend.as_str()),
+                FaultKind::Cycle,
+                line
+            )
+        );
+    }
+}
+
+/// The five objects on a layer each, and as many further layers, each of one object again.
+fn further_layers(alloc: Global, further: u32) -> Option<String> {
+    let mut text = joined(alloc, &[FIVE, "LEGEND\nCOLLISIONLAYERS\n", LAYERS])?;
+    for _layer in 0..further {
+        text.push_str("C\n").ok()?;
+    }
+    Some(text)
+}
+
+#[test]
+fn reads_thirty_two_layers_and_no_more(rt: HostRuntime) {
+    let Some(text) = further_layers(rt.alloc(), 27) else {
+        panic!(rt; "no room");
+    };
+    let Some(Ok(names)) = read_text(rt.alloc(), text.as_str()) else {
+        panic!(rt; "the names aren't read");
+    };
+    assert_eq!(rt; names.layer_count(), 32);
+    assert!(rt; names.object_count() > 4 && names.layer_of(ObjectId(4)).0 == 31);
+    let Some(text) = further_layers(rt.alloc(), 28) else {
+        panic!(rt; "no room");
+    };
+    assert!(rt;
+        is_refused(
+            read_text(rt.alloc(), text.as_str()),
+            FaultKind::TooManyNames,
+            46
+        )
+    );
 }
