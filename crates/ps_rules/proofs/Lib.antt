@@ -8,6 +8,7 @@ pub mod Words
 pub mod Foldings
 pub mod Repeats
 pub mod Founds
+pub mod Tallies
 pub mod RuleSteps
 pub mod FormSteps
 pub mod LineSteps
