@@ -9,6 +9,7 @@ pub mod Foldings
 pub mod Repeats
 pub mod Founds
 pub mod Tallies
+pub mod LooseProperties
 pub mod RuleSteps
 pub mod FormSteps
 pub mod LineSteps

@@ -7,6 +7,7 @@ pub mod Asked
 pub mod Twice
 pub mod SoughtItems
 pub mod Tallies
+pub mod Unmatched
 pub mod AboveShown
 pub mod FaultsShown
 pub mod FormsShown

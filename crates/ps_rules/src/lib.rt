@@ -10,6 +10,7 @@ mod index;
 mod items;
 mod key_words;
 mod kinds;
+mod line_set;
 mod lines;
 mod looseness;
 mod name_faults;
@@ -28,6 +29,7 @@ mod tokens;
 mod tree;
 mod tree_cells;
 mod twice;
+mod unmatched;
 
 pub use fault::RuleFault;
 pub use occurrences::Occurrences;

@@ -8,12 +8,15 @@ ghost use Rattle.ps_model.specs.Occurrences.{here_or_only, numbers, bound_name, 
 ghost use Rattle.ps_names.specs.Shown.{meaning_shown};
 ghost use Rattle.ps_rules.specs.RulesShown.{rule_shown, cell_shown, items_shown, cell_list_shown};
 ghost use Rattle.ps_rules.specs.declared.sought.Found.TheVariants.{Nothing};
+ghost use Rattle.ps_rules.specs.Unmatched.{is_unmatched};
 ghost use Rattle.ps_rules.specs.SoughtItems.{is_sought, found_from, only_found};
 
 use crate::index::Index;
+use crate::line_set::LineSet;
 use crate::sought::{Found, Sought, first_of};
 use crate::tree::{CellPair, Item, SourceRule};
 use crate::tree_cells::cells_of;
+use crate::unmatched::unmatched_in;
 use ps_model::{Memory, MovementWord, ObjectId};
 use ps_names::{Meaning, Names};
 use std::alloc::Global;
@@ -26,6 +29,8 @@ pub struct Occurrences<'r> {
     cells: Vec<&'r CellPair>,
     /// What is found on the left of all cells.
     left: Index,
+    /// The legend lines of the properties that are unmatched in one of the cells.
+    unmatched: LineSet,
 }
 
 impl<'r> Model for Occurrences<'r> {
@@ -34,12 +39,13 @@ impl<'r> Model for Occurrences<'r> {
     ghost use Rattle.ps_model.specs.Occurrences.{cells_of};
     ghost use Rattle.ps_rules.specs.RulesShown.{rule_shown, cell_list_shown};
     ghost use Rattle.ps_rules.specs.Tallies.{IsIndexOf};
+    ghost use Rattle.ps_rules.specs.Unmatched.{AreUnmatched};
 
     ghost Value = { Meant };
 
     ghost view = { λ o. rule_shown o.rule.now };
 
-    ghost invariant = { λ o. (cell_list_shown o.cells.items ≡ cells_of (rule_shown o.rule.now)) × IsIndexOf o.left (cells_of (rule_shown o.rule.now)) };
+    ghost invariant = { λ o. (cell_list_shown o.cells.items ≡ cells_of (rule_shown o.rule.now)) × IsIndexOf o.left (cells_of (rule_shown o.rule.now)) × AreUnmatched o.unmatched (cells_of (rule_shown o.rule.now)) };
 }
 
 impl Found {
@@ -74,7 +80,13 @@ impl<'r> Occurrences<'r> {
     {
         let cells = cells_of(alloc, rule)?;
         let left = Index::of_left(alloc, &cells)?;
-        Ok(Occurrences { rule, cells, left })
+        let unmatched = unmatched_in(alloc, &cells)?;
+        Ok(Occurrences {
+            rule,
+            cells,
+            left,
+            unmatched,
+        })
     }
 
     /// The cells of the rule in written order.
@@ -82,6 +94,13 @@ impl<'r> Occurrences<'r> {
         ensures { cell_list_shown result.now ≡ cells_of_rule self.now }
     {
         self.cells.as_slice()
+    }
+
+    /// Whether the property of a legend line stands on the right of a cell whose left lacks it.
+    pub(crate) fn is_unmatched(&self, line: u32) -> bool
+        ensures { result ≡ list_any (is_unmatched line) (cells_of_rule self.now) }
+    {
+        self.unmatched.has(line)
     }
 
     /// The left occurrence that decides a property on the right of a cell, by its byte of the text: the one in the same cell with the
