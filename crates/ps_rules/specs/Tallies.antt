@@ -1,5 +1,5 @@
 -- What is found of each name and of each movement word among items.
-use Rattle.std.specs.Prelude.{◌≡◌, filter, ℕ, nat_eq, Bool, false, cond, Option, None, Some, unwrap_or, List}
+use Rattle.std.specs.Prelude.{◌≡◌, filter, ℕ, nat_eq, Bool, false, cond, Option, unwrap_or, List}
 use Rattle.std.specs.Map.{lookup}
 use Rattle.ps_model.specs.declared.rules.MovementWord.{MovementWord}
 use Rattle.ps_model.specs.Directions.{word_number}

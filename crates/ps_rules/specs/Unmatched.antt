@@ -1,5 +1,5 @@
 -- Properties, by their legend lines, that stand on the right of a cell whose left lacks them.
-use Rattle.std.specs.Prelude.{◌≡◌, ℕ, nat_eq, Bool, false, not, ◌&&◌, ◌||◌, Option, Some, None, List, []}
+use Rattle.std.specs.Prelude.{◌≡◌, ℕ, nat_eq, Bool, false, not, ◌&&◌, Option, Some, None, List, []}
 use Rattle.std.specs.List.{list_any}
 use Rattle.ps_model.specs.Names.{AnyOf}
 use Rattle.ps_model.specs.Occurrences.{names_it}

@@ -1,4 +1,4 @@
-use Rattle.std.proofs.Common.{◌≡◌, ◌∙◌, ap, filter, List}
+use Rattle.std.proofs.Common.{◌∙◌, ap, filter, List}
 use Rattle.ps_model.specs.Occurrences.{bound_name, here_or_only, names_it, numbers, left_items}
 use Rattle.ps_model.specs.SourceRules.{SourceRule}
 use Rattle.ps_names.specs.Shown.{meaning_shown}
