@@ -1,6 +1,7 @@
 //! A set of legend lines.
 
-ghost use Rattle.std.specs.Prelude.{◌≡◌, ◌||◌, [], OnOk, nat_eq, ℕ};
+ghost use Rattle.std.specs.Prelude.{◌≡◌, ◌||◌, ◌∷◌, [], List as Sequence, IfOk, OnOk, nat_eq, ℕ};
+ghost use Rattle.ps_rules.specs.Twice.{twice_behind};
 ghost use Rattle.ps_rules.specs.Unmatched.{is_in};
 
 use indexmap::IndexSet;
@@ -45,5 +46,16 @@ impl LineSet {
     {
         self.lines.insert(line)?;
         Ok(())
+    }
+
+    /// Whether the line is one of the set already; from now on it is.
+    pub fn see(&mut self, line: u32) -> Result<bool, Memory>
+        ensures { IfOk result (λ again. (rest : Sequence ℕ) → twice_behind self.old (line ∷ rest) ≡ (again || twice_behind self.new rest)) }
+    {
+        if self.lines.contains(&line) {
+            return Ok(true);
+        }
+        self.lines.insert(line)?;
+        Ok(false)
     }
 }
