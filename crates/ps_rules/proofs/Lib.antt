@@ -5,8 +5,11 @@ pub mod Cuts
 pub mod SameRules
 pub mod Rows
 pub mod Words
+pub mod Foldings
 pub mod Repeats
 pub mod Founds
+pub mod Tallies
+pub mod LooseProperties
 pub mod RuleSteps
 pub mod FormSteps
 pub mod LineSteps

@@ -6,6 +6,8 @@ pub mod CellsShown
 pub mod Asked
 pub mod Twice
 pub mod SoughtItems
+pub mod Tallies
+pub mod Unmatched
 pub mod AboveShown
 pub mod FaultsShown
 pub mod FormsShown

@@ -109,13 +109,15 @@ fn key_word<'n>(word: &str) -> Option<Symbol<'n>>
     left_out_word(word)
 }
 
-/// What a word is: a key word, whatever the case of its letters, or else a name.
+/// What a word is: a key word, whatever the case of its letters, or else a name. The name is looked up with its letters folded,
+/// since that finds it at once.
+#[tactic(auto, using(crate::proofs::Foldings::folded_again))]
 pub fn symbol_of<'n>(alloc: Global, names: &'n Names, word: &str) -> Result<Symbol<'n>, Memory>
     ensures { IfOk result (λ symbol. symbol_shown symbol ≡ symbol_of names.entry.now word.now) }
 {
     let folded = Text::folded(alloc, word)?;
     let Some(symbol) = key_word(folded.as_str()) else {
-        return Ok(name_symbol(names.meaning(word)));
+        return Ok(name_symbol(names.meaning(folded.as_str())));
     };
     Ok(symbol)
 }

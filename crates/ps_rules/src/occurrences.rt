@@ -1,17 +1,22 @@
 //! The occurrences of names in a rule's cells: which one of the left decides one of the right, and which properties are loose.
 
-ghost use Rattle.std.specs.Prelude.{◌≡◌, ◌&&◌, IfOk, filter};
+ghost use Rattle.std.specs.Prelude.{◌≡◌, List as Sequence, ℕ, IfOk, filter};
 ghost use Rattle.std.specs.List.{list_any, list_all};
 ghost use Rattle.ps_model.specs.Directions.{is_several};
 ghost use Rattle.ps_model.specs.Names.{layer_of};
 ghost use Rattle.ps_model.specs.Occurrences.{here_or_only, numbers, bound_name, bound_word, cells_of as cells_of_rule, are_on_one_layer, is_on_left_too, is_loose, names_it};
 ghost use Rattle.ps_names.specs.Shown.{meaning_shown};
 ghost use Rattle.ps_rules.specs.RulesShown.{rule_shown, cell_shown, items_shown, cell_list_shown};
-ghost use Rattle.ps_rules.specs.SoughtItems.{is_sought, left_of, only_found};
+ghost use Rattle.ps_rules.specs.declared.sought.Found.TheVariants.{Nothing};
+ghost use Rattle.ps_rules.specs.Unmatched.{is_unmatched};
+ghost use Rattle.ps_rules.specs.SoughtItems.{is_sought, found_from, only_found};
 
-use crate::sought::{Found, Sought, first_of, found_in};
+use crate::index::Index;
+use crate::line_set::LineSet;
+use crate::sought::{Found, Sought, first_of};
 use crate::tree::{CellPair, Item, SourceRule};
 use crate::tree_cells::cells_of;
+use crate::unmatched::unmatched_in;
 use ps_model::{Memory, MovementWord, ObjectId};
 use ps_names::{Meaning, Names};
 use std::alloc::Global;
@@ -22,6 +27,10 @@ use std::marker::Model;
 pub struct Occurrences<'r> {
     rule: &'r SourceRule,
     cells: Vec<&'r CellPair>,
+    /// What is found on the left of all cells.
+    left: Index,
+    /// The legend lines of the properties that are unmatched in one of the cells.
+    unmatched: LineSet,
 }
 
 impl<'r> Model for Occurrences<'r> {
@@ -29,12 +38,14 @@ impl<'r> Model for Occurrences<'r> {
     ghost use Rattle.ps_model.specs.SourceRules.{SourceRule as Meant};
     ghost use Rattle.ps_model.specs.Occurrences.{cells_of};
     ghost use Rattle.ps_rules.specs.RulesShown.{rule_shown, cell_list_shown};
+    ghost use Rattle.ps_rules.specs.Tallies.{IsIndexOf};
+    ghost use Rattle.ps_rules.specs.Unmatched.{AreUnmatched};
 
     ghost Value = { Meant };
 
     ghost view = { λ o. rule_shown o.rule.now };
 
-    ghost invariant = { λ o. cell_list_shown o.cells.items ≡ cells_of (rule_shown o.rule.now) };
+    ghost invariant = { λ o. (cell_list_shown o.cells.items ≡ cells_of (rule_shown o.rule.now)) × IsIndexOf o.left (cells_of (rule_shown o.rule.now)) × AreUnmatched o.unmatched (cells_of (rule_shown o.rule.now)) };
 }
 
 impl Found {
@@ -50,22 +61,16 @@ impl Found {
     }
 }
 
-/// The number of the first item that is looked for here; where there is none, that of the only one that is looked for in the
-/// left of the cells.
+/// The number of the first item that is looked for here; where there is none, that of the only one found of all.
 #[tactic(auto, using(crate::proofs::Founds::here_of, crate::proofs::Founds::not_here))]
-fn here_or_only(
-    here: Sought<'_>,
-    items: &[Item],
-    all: Sought<'_>,
-    cells: &[&CellPair],
-) -> Option<u32>
-    ensures { result ≡ here_or_only (numbers (filter (is_sought here.entry) (items_shown items.now))) (numbers (filter (is_sought all.entry) (left_of (cell_list_shown cells.now)))) }
+fn here_or_only(here: Sought<'_>, items: &[Item], all: Found) -> Option<u32>
+    ensures { (numbers_of_all : Sequence ℕ) → all ≡ found_from Nothing numbers_of_all → result ≡ here_or_only (numbers (filter (is_sought here.entry) (items_shown items.now))) numbers_of_all }
 {
     let first = first_of(here, items);
     if first.is_some() {
         return first;
     }
-    found_in(all, cells).only()
+    all.only()
 }
 
 impl<'r> Occurrences<'r> {
@@ -74,7 +79,14 @@ impl<'r> Occurrences<'r> {
         ensures { IfOk result (λ occurrences. occurrences ≡ rule_shown rule.entry.now) }
     {
         let cells = cells_of(alloc, rule)?;
-        Ok(Occurrences { rule, cells })
+        let left = Index::of_left(alloc, &cells)?;
+        let unmatched = unmatched_in(alloc, &cells)?;
+        Ok(Occurrences {
+            rule,
+            cells,
+            left,
+            unmatched,
+        })
     }
 
     /// The cells of the rule in written order.
@@ -84,13 +96,20 @@ impl<'r> Occurrences<'r> {
         self.cells.as_slice()
     }
 
+    /// Whether the property of a legend line stands on the right of a cell whose left lacks it.
+    pub(crate) fn is_unmatched(&self, line: u32) -> bool
+        ensures { result ≡ list_any (is_unmatched line) (cells_of_rule self.now) }
+    {
+        self.unmatched.has(line)
+    }
+
     /// The left occurrence that decides a property on the right of a cell, by its byte of the text: the one in the same cell with the
     /// same name; without one, the only left occurrence of that property.
     pub fn bound_name(&self, cell: &CellPair, meaning: &Meaning) -> Option<u32>
         ensures { result ≡ bound_name self.now (cell_shown cell.now) (meaning_shown meaning.now) }
     {
         let name = Sought::Name(meaning);
-        here_or_only(name, cell.left.as_slice(), name, &self.cells)
+        here_or_only(name, cell.left.as_slice(), self.left.name(meaning))
     }
 
     /// The left occurrence that decides a word of several moves before a name on the right of a cell, by its byte of the text: the one in the same
@@ -99,6 +118,6 @@ impl<'r> Occurrences<'r> {
         ensures { result ≡ bound_word self.now (cell_shown cell.now) word (meaning_shown meaning.now) }
     {
         let both = Sought::Both(word, meaning);
-        here_or_only(both, cell.left.as_slice(), Sought::Word(word), &self.cells)
+        here_or_only(both, cell.left.as_slice(), self.left.word(word))
     }
 }

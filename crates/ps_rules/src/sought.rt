@@ -11,7 +11,7 @@ ghost use Rattle.ps_model.specs.SourceRules.{Item as TheItem, Is};
 ghost use Rattle.ps_names.specs.Shown.{meaning_shown};
 ghost use Rattle.ps_rules.specs.RulesShown.{item_shown, items_shown, cell_shown, cell_list_shown};
 ghost use Rattle.ps_rules.specs.declared.sought.Found.TheVariants.{Nothing};
-ghost use Rattle.ps_rules.specs.SoughtItems.{is_sought, found_from, first_number, left_of};
+ghost use Rattle.ps_rules.specs.SoughtItems.{is_sought, found_with, first_number};
 
 use crate::tree::{CellPair, Item};
 use ps_model::{MovementWord, ObjectId};
@@ -68,7 +68,7 @@ pub fn same_meaning(first: &Meaning, second: &Meaning) -> bool
 }
 
 /// The place of a movement word among them.
-fn word_number(word: MovementWord) -> u32
+pub fn word_number(word: MovementWord) -> u32
     ensures { result ≡ word_number word }
 {
     match word {
@@ -160,46 +160,14 @@ pub enum Found {
 }
 
 impl Found {
-    /// With what an item gives.
-    fn with(self, at: Option<u32>) -> Found
-        ensures { result ≡ found_from self (option_to_list at) }
+    /// With one more.
+    pub fn with_one(self, at: u32) -> Found
+        ensures { result ≡ found_with self at }
     {
-        let Some(at) = at else {
-            return self;
-        };
         match self {
             Found::Nothing => Found::Only(at),
             Found::Only(_) => Found::Several,
             Found::Several => Found::Several,
         }
     }
-}
-
-/// What is found with the items, too.
-fn found_with(sought: Sought<'_>, found: Found, items: &[Item]) -> Found
-    ensures { result ≡ found_from found (numbers (filter (is_sought sought.entry) (items_shown items.now))) }
-{
-    let mut found = found;
-    for item in items {
-        found = found.with(sought.at(item));
-    }
-    found
-}
-
-/// What is found with the items of the left of a cell, too.
-fn found_left(sought: Sought<'_>, found: Found, cell: &CellPair) -> Found
-    ensures { result ≡ found_from found (numbers (filter (is_sought sought.entry) (cell_shown cell.now).left)) }
-{
-    found_with(sought, found, cell.left.as_slice())
-}
-
-/// What is found on the left of the cells.
-pub fn found_in(sought: Sought<'_>, cells: &[&CellPair]) -> Found
-    ensures { result ≡ found_from Nothing (numbers (filter (is_sought sought.entry) (left_of (cell_list_shown cells.now)))) }
-{
-    let mut found = Found::Nothing;
-    for cell in cells {
-        found = found_left(sought, found, cell);
-    }
-    found
 }

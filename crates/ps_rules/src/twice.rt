@@ -7,7 +7,9 @@ ghost use Rattle.ps_model.specs.RuleNameFaults.{objects_named, property_named, n
 ghost use Rattle.ps_rules.specs.RulesShown.{item_shown, items_shown, cell_shown, cell_list_shown};
 ghost use Rattle.ps_rules.specs.Twice.{twice_behind, object_numbers};
 
+use crate::line_set::LineSet;
 use crate::tree::{CellPair, Item};
+use crate::unmatched::property_named;
 use ps_model::{Memory, ObjectId};
 use ps_names::Meaning;
 use std::alloc::Global;
@@ -74,21 +76,13 @@ fn object_twice(alloc: Global, items: &[Item]) -> Result<bool, Memory>
 }
 
 /// Whether the property that the item names was seen, by its legend line.
-fn see_property(seen: &mut Vec<u32>, item: &Item) -> Result<bool, Memory>
-    ensures { IfOk result (λ again. (rest : Sequence ℕ) → twice_behind seen.old.items (option_to_list (property_named (item_shown item.now)) ++ rest) ≡ (again || twice_behind seen.new.items rest)) }
+fn see_property(seen: &mut LineSet, item: &Item) -> Result<bool, Memory>
+    ensures { IfOk result (λ again. (rest : Sequence ℕ) → twice_behind seen.old (option_to_list (property_named (item_shown item.now)) ++ rest) ≡ (again || twice_behind seen.new rest)) }
 {
-    let Item::Is {
-        at: _,
-        word: _,
-        meaning,
-    } = item
-    else {
+    let Some(line) = property_named(item) else {
         return Ok(false);
     };
-    let Meaning::Any { line, objects: _ } = meaning else {
-        return Ok(false);
-    };
-    let again = see(seen, *line)?;
+    let again = seen.see(line)?;
     Ok(again)
 }
 
@@ -96,7 +90,7 @@ fn see_property(seen: &mut Vec<u32>, item: &Item) -> Result<bool, Memory>
 fn property_twice(alloc: Global, items: &[Item]) -> Result<bool, Memory>
     ensures { IfOk result (λ twice. twice ≡ twice_behind [] (filter_map property_named (items_shown items.now))) }
 {
-    let mut seen = Vec::new(alloc);
+    let mut seen = LineSet::new(alloc);
     for item in items {
         if see_property(&mut seen, item)? {
             return Ok(true);

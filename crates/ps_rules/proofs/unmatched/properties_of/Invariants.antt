@@ -1,0 +1,7 @@
+use Rattle.std.proofs.Common.{◌≡◌, ◌||◌, ℕ, drop}
+use Rattle.ps_rules.specs.RulesShown.{items_shown}
+use Rattle.ps_rules.specs.Unmatched.{is_in, has_property}
+use Rattle.ps_rules.proofs.unmatched.properties_of.Given as goal
+
+abbrev pub invariant-loop-item : goal.invariant-loop-item
+invariant-loop-item l = (line : ℕ) → (has_property (items_shown (drop l.item-index l.items)) line || is_in l.lines line) ≡ has_property (items_shown l.items) line
