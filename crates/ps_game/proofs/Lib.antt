@@ -1,3 +1,5 @@
+pub mod ChoiceSteps
+pub mod ClaimSteps
 pub mod HeadingsTold
 pub mod LineSteps
 pub mod SectionEnds

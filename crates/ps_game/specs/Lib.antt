@@ -1,3 +1,4 @@
 pub mod Headings
+pub mod Possible
 pub mod ReadFaults
 pub mod SectionPlaces

@@ -1,10 +1,15 @@
 //! The game of a whole text: its sections and its prelude, and, read from these, its names, rules, levels and win conditions.
 #![tactic(auto)]
 
+mod apart;
+mod claims;
+mod choices;
 mod counts;
 mod fault;
+mod fixed;
 mod game;
 mod headings;
+mod layers;
 mod possible;
 mod prelude;
 mod sections;
