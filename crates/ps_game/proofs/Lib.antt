@@ -1,7 +1,10 @@
 pub mod ChoiceSteps
 pub mod ClaimSteps
+pub mod ClaimedLayers
 pub mod HeadingsTold
 pub mod LineSteps
+pub mod PossibleRules
+pub mod Quantified
 pub mod SectionEnds
 pub mod SectionLines
 pub mod SectionsTold

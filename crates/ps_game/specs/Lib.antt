@@ -1,4 +1,5 @@
 pub mod Headings
+pub mod Pairing
 pub mod Possible
 pub mod ReadFaults
 pub mod SectionPlaces

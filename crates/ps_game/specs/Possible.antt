@@ -1,13 +1,19 @@
 -- Whether a rule has a possible reading, told by the layers that the sides of its cells claim under a choice of members for its
 -- fixed properties: directions and moves make no difference.
-use Rattle.std.specs.Prelude.{ℕ, suc, ◌/◌, ◌%◌, nat_eq, Bool, true, ◌&&◌, not, if◌then◌else◌, Option, Some, None, option_map, List, [], ◌∷◌, length, map, slice_get, slice_index_or}
+use Rattle.std.specs.Prelude.{ℕ, suc, ◌/◌, ◌%◌, nat_eq, Bool, true, ◌&&◌, not, if◌then◌else◌, Option, Some, None, option_map, List, [], ◌∷◌, length, map, slice_get, slice_index_or, ◌≤◌, ⊤}
 use Rattle.std.specs.Option.{option_to_list}
 use Rattle.std.specs.List.{flat_map, filter_map, list_all, list_any}
 use Rattle.ps_model.specs.declared.pieces.ObjectId.{ObjectId}
 use Rattle.ps_model.specs.Names.{Meaning, One, AllOf, AnyOf, Names, layer_of, members}
-use Rattle.ps_model.specs.SourceRules.{Item, Is, No, CellPair, SourceRule}
+use Rattle.ps_model.specs.declared.faults.Fault.{Fault}
+use Rattle.ps_model.specs.declared.faults.FaultKind.TheVariants.{Impossible}
+use Rattle.ps_model.specs.Faults.{first_fault, when}
+use Rattle.ps_model.specs.SourceRules.{Item, Is, No, CellPair, SourceRule, RuleLine, Rule, LoopStart, LoopEnd}
 use Rattle.ps_model.specs.Occurrences.{cells_of, left_items, bound_name, is_fixed, is_loose}
-use Rattle.ps_model.specs.Readings.{one_of_each, ways}
+use Rattle.ps_model.specs.Readings.{one_of_each, ways, reading_count}
+use Rattle.ps_model.specs.ReadingMeanings.{has_possible}
+use Rattle.ps_model.specs.ReadingFaults.{impossible_rules}
+use Rattle.ps_model.specs.RulePrograms.{rule_in}
 use Rattle.ps_game.specs.declared.claims.Claim.{Claim}
 use Rattle.ps_game.specs.declared.claims.Claim.TheVariants.{Layer, Chosen}
 use Rattle.ps_game.specs.declared.fixed.Fixed.{Fixed}
@@ -132,3 +138,25 @@ choice (items ∷ others) number = slice_index_or items (number / ways others) (
 -- some list has nothing to choose
 abbrev pub has_empty : List (List ObjectId) → Bool
 has_empty lists = list_any (λ items. nat_eq (length items) 0) lists
+
+-- rules ----------------------------------------------------------------------------------------------------------------
+
+-- the rule of a line has no more readings than are tried
+abbrev pub HasFewReadings : Names → RuleLine → Type 0
+HasFewReadings names (Rule rule) = reading_count names rule ≤ 4096
+HasFewReadings names LoopStart = ⊤
+HasFewReadings names LoopEnd = ⊤
+
+abbrev pub HaveFewReadings : Names → List RuleLine → Type 0
+HaveFewReadings names [] = ⊤
+HaveFewReadings names (line ∷ lines) = HasFewReadings names line × HaveFewReadings names lines
+
+-- the fault of a line whose rule has no possible reading
+abbrev pub impossible_at : Names → RuleLine → Option Fault
+impossible_at names (Rule rule) = first_fault (when (not (has_possible names rule)) Impossible rule.line)
+impossible_at names LoopStart = None
+impossible_at names LoopEnd = None
+
+-- the first fault of lines of which a rule has none
+abbrev pub first_impossible_of : Names → List RuleLine → Option Fault
+first_impossible_of names lines = first_fault (impossible_rules names (filter_map rule_in lines))
