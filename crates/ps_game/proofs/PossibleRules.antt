@@ -1,6 +1,6 @@
 -- A rule has a possible reading where the sides of its cells are apart under some choice of members.
 use Rattle.std.proofs.Common.{◌≡◌, ℕ, suc, ◌+◌, ◌*◌, ◌<◌, ◌≤◌, Bool, true, false, ◌||◌, ◌&&◌, not, nat_lt, cond, Option, Some, None, List, [], ◌∷◌, ◌++◌, length, map, fold, take, refl, sym, ◌∙◌, ap, arith, mul_comm}
-use Rattle.std.specs.Prelude.{All, IfSome, ⊤, option_map, if◌then◌else◌}
+use Rattle.std.specs.Prelude.{All, IfSome, is_some, ⊤, option_map, if◌then◌else◌}
 use Rattle.std.specs.Option.{option_or}
 use Rattle.std.specs.List.{flat_map, filter_map, cons_option, list_any}
 use Rattle.std.proofs.lemmas.List.{length-map}
@@ -230,3 +230,10 @@ few_of_lines names before (Rule rule ∷ lines) e =
     (few_by (reading_count names rule) _ both.0, few_of_lines names (before + reading_count names rule) lines both.1)
 few_of_lines names before (LoopStart ∷ lines) e = (tt, few_of_lines names before lines e)
 few_of_lines names before (LoopEnd ∷ lines) e = (tt, few_of_lines names before lines e)
+
+-- a fault of a line is the first of the lines from there on
+pub fault_here : (fault : Option Fault) (names : Names) (line : RuleLine) (lines all : List RuleLine) (told : Option Fault) → all ≡ line ∷ lines → fault ≡ impossible_at names line → is_some fault ≡ true
+    → first_impossible_of names all ≡ told → fault ≡ told
+fault_here None names line lines all told e here some before = cc
+fault_here (Some fault) names line lines all told e here some before =
+    ap (λ o. option_or o (first_impossible_of names lines)) here ∙ sym (first_of_line names line lines) ∙ ap (first_impossible_of names) (sym e) ∙ before
