@@ -1,5 +1,5 @@
 -- The choices of one of each list by their numbers.
-use Rattle.std.proofs.Common.{◌≡◌, ℕ, zero, suc, ◌+◌, ◌*◌, ◌/◌, ◌%◌, ◌<◌, ◌≤◌, Bool, true, false, ◌||◌, nat_eq, List, [], ◌∷◌, ◌++◌, length, map, drop, get_or, refl, sym, ◌∙◌, ap, arith, Fits, w64, mul_assoc, mul_comm, suc-mul, add-zero, append_assoc, slice_index_or}
+use Rattle.std.proofs.Common.{◌≡◌, ℕ, zero, suc, ◌+◌, ◌*◌, ◌/◌, ◌%◌, ◌<◌, ◌≤◌, Bool, true, false, ◌||◌, nat_eq, List, [], ◌∷◌, ◌++◌, length, map, drop, get_or, refl, sym, ◌∙◌, ap, arith, mul_assoc, mul_comm, suc-mul, add-zero, append_assoc, slice_index_or}
 use Rattle.std.specs.List.{flat_map, list_any}
 use Rattle.std.proofs.Math.Seq.{drop-cons}
 use Rattle.std.proofs.lemmas.List.{get_or_append_left, get_or-append-add, get_or-map, length-map, at_drop_all}
@@ -43,16 +43,24 @@ none_after : (empty some : Bool) → (empty || some) ≡ false → some ≡ fals
 none_after true some e = cc
 none_after false some e = e
 
--- one more list
-pub count_fits : (count all : ℕ) (items : List ObjectId) (others lists : List (List ObjectId)) → lists ≡ items ∷ others → has_empty lists ≡ false → count * ways lists ≡ all → all ≤ 4096
-    → Fits w64 (count * length items)
-count_fits count all items others lists e some product few =
+-- more than so many choices of the lists so far are more of all
+pub many_choices : (count all : ℕ) (items : List ObjectId) (others lists : List (List ObjectId)) → lists ≡ items ∷ others → has_empty lists ≡ false → count * ways lists ≡ all
+    → 4096 < count * length items → 4096 < all
+many_choices count all items others lists e some product many =
     let product_now : count * (length items * ways others) ≡ all = ap (λ (l : List (List ObjectId)). count * ways l) (sym e) ∙ product in
     let some_now : has_empty (items ∷ others) ≡ false = ap has_empty (sym e) ∙ some in
     let one : 0 < ways others = some_to_choose others (none_after (nat_eq (length items) 0) (has_empty others) some_now) in
     let bound : count * length items * 1 ≤ count * length items * ways others = mul-le (count * length items) 1 (count * length items) (ways others) (omega arith) one in
     let whole : count * length items * ways others ≡ all = mul_assoc count (length items) (ways others) ∙ product_now in
     omega arith
+
+-- one more list
+pub counted_more : (count more all : ℕ) (items : List ObjectId) (others lists : List (List ObjectId)) → lists ≡ items ∷ others → more ≡ count * length items → count * ways lists ≡ all
+    → has_empty lists ≡ false → (more * ways others ≡ all) × (has_empty others ≡ false)
+counted_more count more all items others lists e product before some = (
+  ap (λ n. n * ways others) product ∙ mul_assoc count (length items) (ways others) ∙ ap (λ (l : List (List ObjectId)). count * ways l) (sym e) ∙ before,
+  none_after (nat_eq (length items) 0) (has_empty others) (ap has_empty (sym e) ∙ some),
+)
 
 -- the digits of a number ---------------------------------------------------------------------------------------------------
 

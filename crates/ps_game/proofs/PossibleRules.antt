@@ -1,5 +1,6 @@
 -- A rule has a possible reading where the sides of its cells are apart under some choice of members.
 use Rattle.std.proofs.Common.{◌≡◌, ℕ, suc, ◌+◌, ◌*◌, ◌<◌, ◌≤◌, Bool, true, false, ◌||◌, ◌&&◌, not, nat_lt, cond, Option, Some, None, List, [], ◌∷◌, ◌++◌, length, map, fold, take, refl, sym, ◌∙◌, ap, arith, mul_comm}
+use mathlib.Core.Path.{subst}
 use Rattle.std.specs.Prelude.{All, IfSome, is_some, ⊤, option_map, if◌then◌else◌}
 use Rattle.std.specs.Option.{option_or}
 use Rattle.std.specs.List.{flat_map, filter_map, cons_option, list_any}
@@ -28,7 +29,7 @@ use Rattle.ps_model.specs.ReadingFaults.{too_many_readings, impossible_rules}
 use Rattle.ps_model.specs.RulePrograms.{rule_in}
 use Rattle.ps_model.proofs.Stages.{map-flat_map, same_flat_map, length-one_of_each}
 use Rattle.ps_model.proofs.Everywhere.{All-always, All-mapped, All-flat_map, All-filter_map}
-use Rattle.ps_game.specs.Possible.{fixed_item, fixed_items, member_lists, sides_of_cells, rule_sides, are_sides_apart, has_apart_choice, HaveFewReadings, impossible_at, first_impossible_of}
+use Rattle.ps_game.specs.Possible.{fixed_item, fixed_items, member_lists, sides_of_cells, rule_sides, are_sides_apart, has_apart_choice, HasFewReadings, HaveFewReadings, impossible_at, first_impossible_of}
 use Rattle.ps_game.specs.Pairing.{choices_of, paired}
 use Rattle.ps_game.proofs.ClaimedLayers.{reading_by, possible_by_choice}
 use Rattle.ps_game.proofs.Quantified.{any_mapped, any_joined, any_same, any_alike, any_constant}
@@ -232,8 +233,32 @@ few_of_lines names before (LoopStart ∷ lines) e = (tt, few_of_lines names befo
 few_of_lines names before (LoopEnd ∷ lines) e = (tt, few_of_lines names before lines e)
 
 -- a fault of a line is the first of the lines from there on
-pub fault_here : (fault : Option Fault) (names : Names) (line : RuleLine) (lines all : List RuleLine) (told : Option Fault) → all ≡ line ∷ lines → fault ≡ impossible_at names line → is_some fault ≡ true
+fault_here : (fault : Option Fault) (names : Names) (line : RuleLine) (lines all : List RuleLine) (told : Option Fault) → all ≡ line ∷ lines → fault ≡ impossible_at names line → is_some fault ≡ true
     → first_impossible_of names all ≡ told → fault ≡ told
 fault_here None names line lines all told e here some before = cc
 fault_here (Some fault) names line lines all told e here some before =
     ap (λ o. option_or o (first_impossible_of names lines)) here ∙ sym (first_of_line names line lines) ∙ ap (first_impossible_of names) (sym e) ∙ before
+
+none_here : (fault : Option Fault) (names : Names) (line : RuleLine) (lines all : List RuleLine) (told : Option Fault) → all ≡ line ∷ lines → fault ≡ impossible_at names line → is_some fault ≡ false
+    → first_impossible_of names all ≡ told → first_impossible_of names lines ≡ told
+none_here (Some fault) names line lines all told e here none before = cc
+none_here None names line lines all told e here none before =
+    ap (λ o. option_or o (first_impossible_of names lines)) here ∙ sym (first_of_line names line lines) ∙ ap (first_impossible_of names) (sym e) ∙ before
+
+-- what is known of lines that are left, where all have few readings
+abbrev pub IsTold : Names → List RuleLine → List RuleLine → Type 0
+IsTold names lines left = HaveFewReadings names lines → (first_impossible_of names left ≡ first_impossible_of names lines) × HaveFewReadings names left
+
+pub told_here : (fault : Option Fault) (names : Names) (line : RuleLine) (lines left all : List RuleLine) → left ≡ line ∷ lines → (HasFewReadings names line → fault ≡ impossible_at names line) → is_some fault ≡ true
+    → IsTold names all left → HaveFewReadings names all → fault ≡ first_impossible_of names all
+told_here fault names line lines left all e here some before few =
+    let known = before few in
+    let few_left : HaveFewReadings names (line ∷ lines) = subst (HaveFewReadings names) e known.1 in
+    fault_here fault names line lines left (first_impossible_of names all) e (here few_left.0) some known.0
+
+pub not_told_here : (fault : Option Fault) (names : Names) (line : RuleLine) (lines left all : List RuleLine) → left ≡ line ∷ lines → (HasFewReadings names line → fault ≡ impossible_at names line)
+    → is_some fault ≡ false → IsTold names all left → IsTold names all lines
+not_told_here fault names line lines left all e here none before few =
+    let known = before few in
+    let few_left : HaveFewReadings names (line ∷ lines) = subst (HaveFewReadings names) e known.1 in
+    (none_here fault names line lines left (first_impossible_of names all) e (here few_left.0) none known.0, few_left.1)

@@ -42,12 +42,7 @@ fn is_side_apart(names: &Names, chosen: &[ObjectId], claims: &[Claim]) -> bool
 {
     let mut rest = claims;
     while let Some((first, others)) = rest.split_first() {
-        if some_claims(
-            names,
-            chosen,
-            others,
-            claimed_layer(names, chosen, *first),
-        ) {
+        if some_claims(names, chosen, others, claimed_layer(names, chosen, *first)) {
             return false;
         }
         rest = others;

@@ -1,6 +1,6 @@
 //! The choices of a member for each occurrence of a fixed property, by their numbers.
 
-ghost use Rattle.std.specs.Prelude.{◌≡◌, ◌≤◌, ◌<◌, IfOk, OnOk, length};
+ghost use Rattle.std.specs.Prelude.{◌≡◌, ◌≤◌, ◌<◌, ◌*◌, IfOk, OnOk, IfSome, None};
 ghost use Rattle.ps_model.specs.Readings.{ways};
 ghost use Rattle.ps_game.specs.Possible.{all_fixed_shown, member_lists, choice, has_empty, has_apart_choice};
 
@@ -24,19 +24,31 @@ fn has_empty(fixed: &[Fixed<'_>]) -> bool
     false
 }
 
-/// How many choices there are.
-fn choice_count(fixed: &[Fixed<'_>]) -> usize
-    requires few { ways (member_lists (all_fixed_shown fixed.now)) ≤ 4096 }
-    ensures { result ≡ ways (member_lists (all_fixed_shown fixed.now)) }
+/// The product, if it is no more than 4,096.
+fn few_times(count: usize, more: usize) -> Option<usize>
+    ensures product { IfSome result (λ product. product ≡ count * more) }
+    ensures many { result ≡ None → 4096 < count * more }
+{
+    let product = count.checked_mul(more)?;
+    if product > 4096 {
+        return None;
+    }
+    Some(product)
+}
+
+/// How many choices there are, if they are no more than 4,096.
+fn choice_count(fixed: &[Fixed<'_>]) -> Option<usize>
+    ensures count { IfSome result (λ count. count ≡ ways (member_lists (all_fixed_shown fixed.now))) }
+    ensures many { result ≡ None → 4096 < ways (member_lists (all_fixed_shown fixed.now)) }
 {
     if has_empty(fixed) {
-        return 0;
+        return Some(0);
     }
     let mut count = 1;
     for one in fixed {
-        count *= one.members.len();
+        count = few_times(count, one.members.len())?;
     }
-    count
+    Some(count)
 }
 
 /// Makes a list the choice of a number: its digits, of which each occurrence has one, as many values as the property has members.
@@ -62,17 +74,18 @@ fn choose(
     Ok(())
 }
 
-/// Whether under some choice no side claims a layer twice.
+/// Whether under some choice no side claims a layer twice. More than 4,096 choices aren't tried: the answer is `true` then.
 pub fn has_apart_choice(
     alloc: Global,
     names: &Names,
     fixed: &[Fixed<'_>],
     sides: &[List<Claim>],
 ) -> Result<bool, Memory>
-    requires few { ways (member_lists (all_fixed_shown fixed.now)) ≤ 4096 }
-    ensures { IfOk result (λ yes. yes ≡ has_apart_choice names.now (all_fixed_shown fixed.now) sides.now) }
+    ensures { IfOk result (λ yes. ways (member_lists (all_fixed_shown fixed.now)) ≤ 4096 → yes ≡ has_apart_choice names.now (all_fixed_shown fixed.now) sides.now) }
 {
-    let count = choice_count(fixed);
+    let Some(count) = choice_count(fixed) else {
+        return Ok(true);
+    };
     let mut chosen = Vec::new(alloc);
     for number in 0..count {
         choose(&mut chosen, fixed, count, number)?;

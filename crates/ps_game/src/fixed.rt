@@ -21,11 +21,7 @@ pub struct Fixed<'r> {
 }
 
 /// The occurrence of a fixed property that an item of the left is, if it is one.
-fn fixed_item<'r>(
-    names: &Names,
-    occurrences: &Occurrences<'r>,
-    item: &'r Item,
-) -> Option<Fixed<'r>>
+fn fixed_item<'r>(names: &Names, occurrences: &Occurrences<'r>, item: &'r Item) -> Option<Fixed<'r>>
     ensures { fixed_if result ≡ fixed_item names.now occurrences.now (item_shown item.entry.now) }
 {
     let Item::Is {

@@ -2,8 +2,8 @@
 #![tactic(auto)]
 
 mod apart;
-mod claims;
 mod choices;
+mod claims;
 mod counts;
 mod fault;
 mod fixed;

@@ -22,10 +22,10 @@ loop-one-preserved c =
     let lists : List (List ObjectId) = member_lists (all_fixed_shown (drop i c.args.fixed.now)) in
     record {
       weighed = next_weight c.loop-one.weight c.loop-one.rest _ others lists (ap (λ (l : List Fixed). member_lists (all_fixed_shown l)) (drop-next c.args.fixed.now i (i + 1) _ c.loop-one-test.true next))
-      c.loop-one.invariant.weighed c.loop-one.invariant.below;
+          c.loop-one.invariant.weighed c.loop-one.invariant.below;
       below = next_rest c.loop-one.weight c.loop-one.rest _ others lists (ap (λ (l : List Fixed). member_lists (all_fixed_shown l)) (drop-next c.args.fixed.now i (i + 1) _ c.loop-one-test.true next))
-      c.loop-one.invariant.weighed c.loop-one.invariant.below;
+          c.loop-one.invariant.weighed c.loop-one.invariant.below;
       told = chosen_more c.loop-one.weight c.loop-one.rest c.loop-one.chosen.items c.push.new.self.items _ _ others lists
-      (ap (λ (l : List Fixed). member_lists (all_fixed_shown l)) (drop-next c.args.fixed.now i (i + 1) _ c.loop-one-test.true next)) c.loop-one.invariant.weighed c.loop-one.invariant.below c.in_ok-push.ensures.items
-      c.loop-one.invariant.told;
+          (ap (λ (l : List Fixed). member_lists (all_fixed_shown l)) (drop-next c.args.fixed.now i (i + 1) _ c.loop-one-test.true next)) c.loop-one.invariant.weighed c.loop-one.invariant.below c.in_ok-push.ensures.items
+          c.loop-one.invariant.told;
     }

@@ -10,15 +10,8 @@ use Rattle.ps_game.specs.Possible.{all_fixed_shown, fixed_items, member_lists, s
 use Rattle.ps_game.proofs.PossibleRules.{possible_is, choices_few}
 use Rattle.ps_game.proofs.possible.has_possible.Goals as goal
 
-pub has_apart_choice-requires : goal.has_apart_choice-requires
-has_apart_choice-requires c =
-    let rule : SourceRule = rule_shown c.args.rule.now in
-    let fixed : all_fixed_shown c.deref-2.result.now ≡ fixed_items c.args.names.now rule =
-    ap all_fixed_shown c.deref-2.ensures.value ∙ c.in_ok-fixed.ensures ∙ ap (fixed_items c.args.names.now) c.in_ok-occurrences.ensures in
-    record { few = subst (λ (f : List (ℕ × List ObjectId)). ways (member_lists f) ≤ 4096) (sym fixed) (choices_few c.args.names.now rule 4096 c.requires.few) }
-
 pub returns : goal.returns
-returns c =
+returns c few =
     let names = c.args.names.now in
     let rule : SourceRule = rule_shown c.args.rule.now in
     let meant : SourceRule = c.in_ok-occurrences.occurrences in
@@ -28,5 +21,6 @@ returns c =
     let sides : c.deref-3.result.now ≡ rule_sides names rule =
     c.deref-3.ensures.value ∙ c.in_ok-sides.ensures ∙ ap (λ (f : List (ℕ × List ObjectId)). sides_of_cells names meant f (cell_list_shown c.cells.result.now)) first
     ∙ ap (sides_of_cells names meant (fixed_items names meant)) c.cells.ensures ∙ ap (rule_sides names) same in
-    c.in_ok-found.ensures ∙ ap (λ (f : List (ℕ × List ObjectId)). has_apart_choice names f c.deref-3.result.now) fixed
+    let choices : ways (member_lists (all_fixed_shown c.deref-2.result.now)) ≤ 4096 = subst (λ (f : List (ℕ × List ObjectId)). ways (member_lists f) ≤ 4096) (sym fixed) (choices_few names rule 4096 few) in
+    c.in_ok-found.ensures choices ∙ ap (λ (f : List (ℕ × List ObjectId)). has_apart_choice names f c.deref-3.result.now) fixed
     ∙ ap (has_apart_choice names (fixed_items names rule)) sides ∙ sym (possible_is names rule)
