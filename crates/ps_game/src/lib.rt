@@ -21,4 +21,6 @@ pub use ps_model::{Fault, FaultKind, Options};
 pub use sections::{Sections, read_sections};
 
 #[cfg(test)]
+mod possible_tests;
+#[cfg(test)]
 mod tests;
