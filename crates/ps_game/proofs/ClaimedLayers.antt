@@ -1,6 +1,6 @@
 -- The layers that a reading's claims are on are those of the claims of its choice.
-use Rattle.std.proofs.Common.{◌≡◌, ℕ, suc, Bool, true, false, ◌&&◌, not, nat_eq, cond, Option, Some, None, List, [], ◌∷◌, ◌++◌, length, map, refl, sym, ◌∙◌, ap, arith}
-use Rattle.std.specs.Prelude.{option_map, slice_get, if◌then◌else◌}
+use Rattle.std.proofs.Common.{◌≡◌, ℕ, suc, Bool, true, false, ◌&&◌, not, nat_eq, Option, Some, None, List, [], ◌∷◌, length, map, refl, sym, ◌∙◌, ap, arith}
+use Rattle.std.specs.Prelude.{option_map, if◌then◌else◌}
 use Rattle.std.specs.Option.{option_to_list}
 use Rattle.std.specs.Map.{lookup}
 use Rattle.std.specs.List.{flat_map, list_any, list_all}
@@ -11,16 +11,16 @@ use Rattle.ps_model.specs.declared.pieces.Direction.{Direction}
 use Rattle.ps_model.specs.declared.pieces.Motion.{Motion}
 use Rattle.ps_model.specs.Names.{Meaning, One, AllOf, AnyOf, Names, layer_of}
 use Rattle.ps_model.specs.SourceRules.{Item, Is, No, CellPair, SourceRule}
-use Rattle.ps_model.specs.Occurrences.{cells_of, bound_name, bound_word, is_fixed, is_loose}
+use Rattle.ps_model.specs.Occurrences.{cells_of, bound_name, bound_word, is_loose}
 use Rattle.ps_model.specs.Readings.{Reading}
 use Rattle.ps_model.specs.Wanted.{Wanted, one_member, chosen_member, motion_of_word, wanted_name, wanted_left, wanted_right, Each, Any}
 use Rattle.ps_model.specs.Rewriting as rewriting
 use Rattle.ps_model.specs.Rewriting.{claims_of, loose_claim}
-use Rattle.ps_model.specs.ReadingMeanings.{are_apart, is_possible_cell, is_possible, left_of_cell, right_of_cell}
-use Rattle.ps_model.proofs.Stages.{map-flat_map, same_flat_map, same_map}
+use Rattle.ps_model.specs.ReadingMeanings.{are_apart, is_possible_cell, is_possible, right_of_cell}
+use Rattle.ps_model.proofs.Stages.{map-flat_map, same_flat_map}
 use Rattle.ps_game.specs.declared.claims.Claim.{Claim}
 use Rattle.ps_game.specs.declared.claims.Claim.TheVariants.{Layer, Chosen}
-use Rattle.ps_game.specs.Possible.{place_of, chosen_claims, loose_claims, layer_claims, property_claims, name_claims, left_claims, right_claims, cell_sides, sides_of_cells, claim_layer, are_distinct, is_side_apart, are_sides_apart}
+use Rattle.ps_game.specs.Possible.{place_of, chosen_claims, loose_claims, property_claims, name_claims, left_claims, right_claims, cell_sides, sides_of_cells, claim_layer, are_distinct, is_side_apart, are_sides_apart}
 use Rattle.ps_game.specs.Pairing.{paired}
 use Rattle.ps_game.proofs.Quantified.{any_mapped, all_joined, all_same}
 

@@ -1,9 +1,9 @@
 -- A rule has a possible reading where the sides of its cells are apart under some choice of members.
-use Rattle.std.proofs.Common.{◌≡◌, ℕ, suc, ◌+◌, ◌*◌, ◌<◌, ◌≤◌, Bool, true, false, ◌||◌, ◌&&◌, not, nat_lt, cond, Option, Some, None, List, [], ◌∷◌, ◌++◌, length, map, fold, take, refl, sym, ◌∙◌, ap, arith, mul_comm}
+use Rattle.std.proofs.Common.{◌≡◌, ℕ, suc, ◌+◌, ◌*◌, ◌<◌, ◌≤◌, Bool, true, false, ◌||◌, nat_lt, Option, Some, None, List, [], ◌∷◌, ◌++◌, length, map, fold, take, refl, sym, ◌∙◌, ap, arith}
 use mathlib.Core.Path.{subst}
 use Rattle.std.specs.Prelude.{All, IfSome, is_some, ⊤, option_map, if◌then◌else◌}
 use Rattle.std.specs.Option.{option_or}
-use Rattle.std.specs.List.{flat_map, filter_map, cons_option, list_any}
+use Rattle.std.specs.List.{filter_map, cons_option, list_any}
 use Rattle.std.proofs.lemmas.List.{length-map}
 use Rattle.std.proofs.lemmas.List.Folds.{flat_map-map}
 use Rattle.std.proofs.lemmas.List.Elements.{All-nil, All-cons, All-head, All-tail}
@@ -20,16 +20,16 @@ use Rattle.ps_model.specs.declared.rules.MovementWord.{MovementWord}
 use Rattle.ps_model.specs.declared.rules.MovementWord.TheVariants as word
 use Rattle.ps_model.specs.Directions.{along, left_of, turned, is_several}
 use Rattle.ps_model.specs.Faults.{first_fault, when}
-use Rattle.ps_model.specs.Names.{Meaning, Names, members}
+use Rattle.ps_model.specs.Names.{Names, members}
 use Rattle.ps_model.specs.SourceRules.{Item, Is, No, SourceRule, RuleLine, Rule, LoopStart, LoopEnd}
-use Rattle.ps_model.specs.Occurrences.{cells_of, left_items, is_fixed}
-use Rattle.ps_model.specs.Readings.{Reading, one_of_each, ways, reading_count, member_choices, all_member_choices, moves_for, move_choices, all_move_choices, written_directions, is_direction_free, directions_of, readings_in}
+use Rattle.ps_model.specs.Occurrences.{left_items, is_fixed}
+use Rattle.ps_model.specs.Readings.{one_of_each, ways, reading_count, member_choices, all_member_choices, move_choices, all_move_choices, written_directions, is_direction_free, directions_of, readings_in}
 use Rattle.ps_model.specs.ReadingMeanings.{is_possible, has_possible}
 use Rattle.ps_model.specs.ReadingFaults.{too_many_readings, impossible_rules}
 use Rattle.ps_model.specs.RulePrograms.{rule_in}
 use Rattle.ps_model.proofs.Stages.{map-flat_map, same_flat_map, length-one_of_each}
 use Rattle.ps_model.proofs.Everywhere.{All-always, All-mapped, All-flat_map, All-filter_map}
-use Rattle.ps_game.specs.Possible.{fixed_item, fixed_items, member_lists, sides_of_cells, rule_sides, are_sides_apart, has_apart_choice, HasFewReadings, HaveFewReadings, impossible_at, first_impossible_of}
+use Rattle.ps_game.specs.Possible.{fixed_item, fixed_items, member_lists, rule_sides, are_sides_apart, has_apart_choice, HasFewReadings, HaveFewReadings, impossible_at, first_impossible_of}
 use Rattle.ps_game.specs.Pairing.{choices_of, paired}
 use Rattle.ps_game.proofs.ClaimedLayers.{reading_by, possible_by_choice}
 use Rattle.ps_game.proofs.Quantified.{any_mapped, any_joined, any_same, any_alike, any_constant}

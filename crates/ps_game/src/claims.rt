@@ -98,15 +98,14 @@ fn push_left(
 ) -> Result<(), Memory>
     ensures { OnOk result (claims.new.items ≡ claims.old.items ++ left_claims names.now occurrences.now (all_fixed_shown fixed.now) (item_shown item.now)) }
 {
-    let Item::Is {
-        at,
-        word: _,
-        meaning,
-    } = item
-    else {
-        return Ok(());
-    };
-    push_name(claims, names, occurrences, fixed, Some(*at), meaning)
+    match item {
+        Item::Is {
+            at,
+            word: _,
+            meaning,
+        } => push_name(claims, names, occurrences, fixed, Some(*at), meaning),
+        Item::No { .. } => Ok(()),
+    }
 }
 
 /// Puts the claims of an item of a cell's right last: its choice is that of the left occurrence that decides it.

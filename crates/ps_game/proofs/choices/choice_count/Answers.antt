@@ -1,4 +1,4 @@
-use Rattle.std.proofs.Common.{◌≡◌, ◌∷◌, ◌+◌, ℕ, List, drop, suc, arith, ap, sym, ◌∙◌, refl}
+use Rattle.std.proofs.Common.{◌≡◌, ◌+◌, ℕ, List, drop, suc, arith, ap, sym, ◌∙◌, refl}
 use Rattle.ps_model.specs.declared.pieces.ObjectId.{ObjectId}
 use Rattle.ps_game.specs.declared.fixed.Fixed.{Fixed}
 use Rattle.ps_game.specs.Possible.{all_fixed_shown, member_lists}

@@ -1,4 +1,3 @@
-use Rattle.std.proofs.Common.{◌≡◌}
 use Rattle.ps_game.proofs.claims.push_right.Goals as goal
 
 pub returns : goal.returns

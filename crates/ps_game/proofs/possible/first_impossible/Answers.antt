@@ -1,4 +1,4 @@
-use Rattle.std.proofs.Common.{◌≡◌, ◌∙◌, sym, ap}
+use Rattle.std.proofs.Common.{◌∙◌, sym, ap}
 use mathlib.Core.Path.{subst}
 use Rattle.ps_game.specs.Possible.{first_impossible_of, HaveFewReadings}
 use Rattle.ps_game.proofs.PossibleRules.{few_of_lines}

@@ -1,11 +1,9 @@
 use Rattle.std.proofs.Common.{◌≡◌, ◌∙◌, ◌≤◌, ℕ, List, sym, ap}
 use mathlib.Core.Path.{subst}
 use Rattle.ps_model.specs.declared.pieces.ObjectId.{ObjectId}
-use Rattle.ps_model.specs.Occurrences.{cells_of}
 use Rattle.ps_model.specs.Readings.{ways}
 use Rattle.ps_model.specs.SourceRules.{SourceRule}
 use Rattle.ps_rules.specs.RulesShown.{rule_shown, cell_list_shown}
-use Rattle.ps_game.specs.declared.claims.Claim.{Claim}
 use Rattle.ps_game.specs.Possible.{all_fixed_shown, fixed_items, member_lists, sides_of_cells, rule_sides, has_apart_choice}
 use Rattle.ps_game.proofs.PossibleRules.{possible_is, choices_few}
 use Rattle.ps_game.proofs.possible.has_possible.Goals as goal
