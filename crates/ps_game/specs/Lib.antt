@@ -1,5 +1,7 @@
 pub mod Counted
 pub mod Headings
 pub mod ItemWays
+pub mod Pairing
+pub mod Possible
 pub mod ReadFaults
 pub mod SectionPlaces

@@ -1,13 +1,18 @@
 //! The game of a whole text: its sections and its prelude, and, read from these, its names, rules, levels and win conditions.
 #![tactic(auto)]
 
+mod apart;
+mod choices;
+mod claims;
 mod counted;
 mod counts;
 mod directions;
 mod fault;
+mod fixed;
 mod game;
 mod headings;
 mod item_ways;
+mod layers;
 mod parts;
 mod possible;
 mod prelude;
@@ -23,5 +28,7 @@ pub use sections::{Sections, read_sections};
 mod counts_tests;
 #[cfg(test)]
 mod game_tests;
+#[cfg(test)]
+mod possible_tests;
 #[cfg(test)]
 mod tests;

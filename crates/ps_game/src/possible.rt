@@ -1,23 +1,77 @@
 //! Which rules have no possible reading.
 
-ghost use Rattle.std.specs.Prelude.{◌≡◌, IfOk, []};
+ghost use Rattle.std.specs.Prelude.{◌≡◌, ◌≤◌, IfOk, []};
 ghost use Rattle.std.specs.List.{filter_map};
 ghost use Rattle.ps_model.specs.Faults.{first_fault};
+ghost use Rattle.ps_model.specs.Readings.{reading_count};
 ghost use Rattle.ps_model.specs.ReadingFaults.{too_many_readings, impossible_rules};
+ghost use Rattle.ps_model.specs.ReadingMeanings.{has_possible};
 ghost use Rattle.ps_model.specs.RulePrograms.{rule_in};
+ghost use Rattle.ps_rules.specs.RulesShown.{rule_shown, line_shown, lines_shown};
+ghost use Rattle.ps_game.specs.Possible.{HasFewReadings, HaveFewReadings, impossible_at, first_impossible_of};
 
-use ps_model::{Fault, Memory};
+use crate::choices::has_apart_choice;
+use crate::claims::sides_of;
+use crate::fixed::fixed_of;
+use ps_model::{Fault, FaultKind, Memory};
 use ps_names::Names;
-use ps_rules::RuleText;
+use ps_rules::{Occurrences, RuleLine, RuleText, SourceRule};
 use std::alloc::Global;
 
+/// Whether some reading of the rule is possible. Directions and moves make no difference to that, so that only the choices of
+/// members are tried; a rule with more than 4,096 of them isn't, and counts as possible.
+fn has_possible(alloc: Global, names: &Names, rule: &SourceRule) -> Result<bool, Memory>
+    ensures { IfOk result (λ yes. reading_count names.now (rule_shown rule.now) ≤ 4096 → yes ≡ has_possible names.now (rule_shown rule.now)) }
+{
+    let occurrences = Occurrences::of(alloc, rule)?;
+    let fixed = fixed_of(alloc, names, &occurrences)?;
+    let sides = sides_of(alloc, names, &occurrences, &fixed, occurrences.cells())?;
+    let found = has_apart_choice(alloc, names, &fixed, &sides)?;
+    Ok(found)
+}
+
+/// The fault of a line, if it is a rule without a possible reading.
+fn line_fault(alloc: Global, names: &Names, line: &RuleLine) -> Result<Option<Fault>, Memory>
+    ensures { IfOk result (λ fault. HasFewReadings names.now (line_shown line.now) → fault ≡ impossible_at names.now (line_shown line.now)) }
+{
+    let RuleLine::Rule(rule) = line else {
+        return Ok(None);
+    };
+    if has_possible(alloc, names, rule)? {
+        return Ok(None);
+    }
+    Ok(Some(Fault {
+        kind: FaultKind::Impossible,
+        line: rule.line,
+    }))
+}
+
+/// The fault of the first of the lines that is a rule without a possible reading, where no rule has too many readings.
+pub fn first_line_fault(
+    alloc: Global,
+    names: &Names,
+    lines: &[RuleLine],
+) -> Result<Option<Fault>, Memory>
+    ensures { IfOk result (λ fault. HaveFewReadings names.now (lines_shown lines.now) → fault ≡ first_impossible_of names.now (lines_shown lines.now)) }
+{
+    for line in lines {
+        let fault = line_fault(alloc, names, line)?;
+        if fault.is_some() {
+            return Ok(fault);
+        }
+    }
+    Ok(None)
+}
+
 /// The fault of the first rule of which every reading is impossible, as in some cell one side has two names of one layer.
-pub fn first_impossible(alloc: Global, names: &Names, rules: &RuleText) -> Result<Option<Fault>, Memory>
+pub fn first_impossible(
+    alloc: Global,
+    names: &Names,
+    rules: &RuleText,
+) -> Result<Option<Fault>, Memory>
     requires few { too_many_readings names.now 0 (filter_map rule_in rules.now) ≡ [] }
     ensures { IfOk result (λ fault. fault ≡ first_fault (impossible_rules names.now (filter_map rule_in rules.now))) }
 {
-    let _ = alloc;
-    let _ = names;
-    let _ = rules;
-    Err(Memory)
+    let fault = first_line_fault(alloc, names, rules.lines())?;
+    Ok(fault)
 }
