@@ -1,0 +1,27 @@
+-- What a name of the legend speaks of, by what the names that it mentions speak of.
+use Rattle.std.specs.Prelude.{ℕ, zero, suc, ◌+◌, Bool, true, false, cond, List, [], ◌∷◌, ◌++◌, length}
+use Rattle.std.specs.List.{list_any, flat_map}
+use Rattle.ps_model.specs.declared.pieces.ObjectId.{ObjectId}
+use Rattle.ps_model.specs.Names.{is_among}
+use Rattle.ps_model.specs.Meanings.{LegendName, Mention, OfObject, OfLine, same_mention}
+
+-- objects, and behind them those of others that aren't among them yet
+abbrev pub merged : List ObjectId → List ObjectId → List ObjectId
+merged known [] = known
+merged known (object ∷ others) = elim (is_among known object) [
+  | true ↦ merged known others
+  | false ↦ merged (known ++ object ∷ []) others
+]
+
+-- the objects that a mention speaks of, where the lines speak of these
+abbrev pub spoken : (ℕ → List ObjectId) → Mention → List ObjectId
+spoken by_line (OfObject object) = object ∷ []
+spoken by_line (OfLine place) = by_line place
+
+abbrev pub all_spoken : (ℕ → List ObjectId) → List Mention → List ObjectId
+all_spoken by_line mentions = flat_map (spoken by_line) mentions
+
+-- how many mentions stand on the lines from a place on that aren't listed
+abbrev pub room_from : List Mention → ℕ → List LegendName → ℕ
+room_from listed place [] = 0
+room_from listed place (name ∷ others) = cond (list_any (same_mention (OfLine place)) listed) 0 (length name.mentions) + room_from listed (suc place) others
