@@ -1,5 +1,5 @@
 -- A legend without lines that stand for themselves: what a name speaks of is what the names that it mentions speak of, merged.
-use Rattle.std.proofs.Common.{◌≡◌, ◌∙◌, ℕ, zero, suc, ◌+◌, ◌<◌, ◌≤◌, Bool, true, false, cond, List, [], ◌∷◌, ◌++◌, ◌||◌, length, refl, sym, ap, arith, append_assoc}
+use Rattle.std.proofs.Common.{◌≡◌, ◌∙◌, ℕ, zero, suc, ◌+◌, ◌<◌, ◌≤◌, Bool, true, false, cond, List, [], ◌∷◌, ◌++◌, ◌||◌, length, drop, get_or, refl, sym, ap, arith, append_assoc}
 use Rattle.std.specs.Prelude.{nat_eq, nat_lt, slice_get, filter_map, sum_by}
 use Rattle.std.specs.List.{list_any, flat_map}
 use Rattle.std.proofs.lemmas.Grind.{flat_map-append}
@@ -11,7 +11,10 @@ use Rattle.std.proofs.lemmas.Bool.Decides.{nat_tests}
 use Rattle.ps_model.specs.declared.pieces.ObjectId.{ObjectId}
 use Rattle.ps_model.specs.Names.{is_among, same_object}
 use Rattle.ps_model.specs.Meanings.{LegendName, Mention, OfObject, OfLine, same_mention, mentions_of, mentions_of_name, with_mentioned, object_of, objects_of, mention_count}
-use Rattle.ps_names.specs.Flattened.{merged, spoken, all_spoken, room_from}
+use Rattle.ps_names.specs.Flattened.{merged, spoken, all_spoken, spoken_by, room_from}
+use Rattle.ps_names.specs.declared.mention.Mention.{Mention as Waits}
+use Rattle.ps_names.specs.Known.{mention_shown, mentions_shown}
+use Rattle.ps_names.proofs.Elements.{element-first}
 use Rattle.ps_names.specs.Levels.{level, is_below, are_below}
 use Rattle.ps_names.proofs.LevelLaws.{first, second, raise-each}
 use Rattle.ps_names.proofs.ReachLaw.{list-old, list-new, any-more, or_one, or_true}
@@ -92,7 +95,6 @@ object-there object (OfLine place ∷ listed) = object-there object listed
 module _ (legend : List LegendName) (levels : List ℕ) (by_line : ℕ → List ObjectId)
     (strict : (place : ℕ) → are_below levels (level levels place) (mentions_of legend (OfLine place)) ≡ true)
     (is : (place : ℕ) → by_line place ≡ merged [] (all_spoken by_line (mentions_of legend (OfLine place)))) where
-
   spoken-append : (first second : List Mention) → all_spoken by_line (first ++ second) ≡ all_spoken by_line first ++ all_spoken by_line second
   spoken-append first second = flat_map-append (spoken by_line) first second
 
@@ -123,6 +125,7 @@ module _ (legend : List LegendName) (levels : List ℕ) (by_line : ℕ → List 
     where
       rest : List ObjectId
       rest = all_spoken by_line (lower levels (level levels place) others)
+
       by : (b : Bool) → is_below levels (level levels place) (OfLine line) ≡ b → is_among (objs listed ++ rest) x ≡ true
       by true q =
           let now : is_among (objs listed ++ (by_line line ++ rest)) x ≡ true =
@@ -145,10 +148,13 @@ module _ (legend : List LegendName) (levels : List ℕ) (by_line : ℕ → List 
     where
       limit : ℕ
       limit = level levels place
+
       own : List Mention
       own = mentions_of legend (OfLine line)
+
       rest : List ObjectId
       rest = all_spoken by_line (lower levels limit others)
+
       -- the goal where all that the line mentions is below the limit
       wide : are_below levels limit own ≡ true → is_among (objs listed ++ (all_spoken by_line own ++ rest)) x ≡ true
           → is_among (objs (listed ++ OfLine line ∷ []) ++ all_spoken by_line (lower levels limit (own ++ others))) x ≡ true
@@ -156,8 +162,10 @@ module _ (legend : List LegendName) (levels : List ℕ) (by_line : ℕ → List 
           ap (λ os. is_among (os ++ all_spoken by_line (lower levels limit (own ++ others))) x) (objs-line listed line)
           ∙ ap (λ ms. is_among (objs listed ++ all_spoken by_line ms) x) (lower-append levels limit own others below)
           ∙ ap (λ os. is_among (objs listed ++ os) x) (spoken-append own (lower levels limit others)) ∙ now
+
       before : nat_eq place line ≡ false → has place listed ≡ true
       before q = sym (other-line listed place line q) ∙ h
+
       by : (same below : Bool) → nat_eq place line ≡ same → is_below levels limit (OfLine line) ≡ below
           → is_among (objs (listed ++ OfLine line ∷ []) ++ all_spoken by_line (lower levels limit (own ++ others))) x ≡ true
       by true b q r =
@@ -190,6 +198,7 @@ module _ (legend : List LegendName) (levels : List ℕ) (by_line : ℕ → List 
     where
       rest : List ObjectId
       rest = all_spoken by_line others
+
       by : (b : Bool) → list_any (same_mention (OfObject object)) listed ≡ b
           → (Closed listed others → objs (with_mentioned legend steps listed others) ≡ merged (objs listed) rest)
           → (Closed (listed ++ OfObject object ∷ []) others → objs (with_mentioned legend steps (listed ++ OfObject object ∷ []) others) ≡ merged (objs (listed ++ OfObject object ∷ [])) rest)
@@ -212,10 +221,13 @@ module _ (legend : List LegendName) (levels : List ℕ) (by_line : ℕ → List 
     where
       rest : List ObjectId
       rest = all_spoken by_line others
+
       own : List Mention
       own = mentions_of legend (OfLine line)
+
       known : List ObjectId
       known = objs listed
+
       by : (b : Bool) → has line listed ≡ b
           → (Closed listed others → objs (with_mentioned legend steps listed others) ≡ merged known rest)
           → (room_from (listed ++ OfLine line ∷ []) 0 legend + length (own ++ others) ≤ steps → Closed (listed ++ OfLine line ∷ []) (own ++ others)
@@ -249,3 +261,12 @@ pub objects-merged : (legend : List LegendName) (levels : List ℕ) (by_line : �
 objects-merged legend levels by_line strict is name =
     let room : room_from [] 0 legend ≡ mention_count legend = room-all 0 legend in
     flat legend levels by_line strict is (length name.mentions + mention_count legend) [] name.mentions (omega arith) (λ place h x e. cc)
+
+-- one mention more
+pub merge-step : (lists : List (List ObjectId)) (mentions : List Waits) (k : ℕ) (mention other : Waits) (objects added : List ObjectId) → k < length mentions → mention ≡ get_or mentions k other
+    → added ≡ merged objects (spoken (spoken_by lists) (mention_shown mention))
+    → merged added (all_spoken (spoken_by lists) (mentions_shown (drop (k + 1) mentions))) ≡ merged objects (all_spoken (spoken_by lists) (mentions_shown (drop k mentions)))
+merge-step lists mentions k mention other objects added less m e =
+    let rest : List ObjectId = all_spoken (spoken_by lists) (mentions_shown (drop (k + 1) mentions)) in
+    ap (λ os. merged os rest) e ∙ sym (merged-append objects (spoken (spoken_by lists) (mention_shown mention)) rest)
+    ∙ ap (λ ms. merged objects (all_spoken (spoken_by lists) (mentions_shown ms))) (sym (element-first mentions k (k + 1) mention other less (omega arith) m))

@@ -1,9 +1,10 @@
 -- What a name of the legend speaks of, by what the names that it mentions speak of.
-use Rattle.std.specs.Prelude.{ℕ, zero, suc, ◌+◌, Bool, true, false, cond, List, [], ◌∷◌, ◌++◌, length}
+use Rattle.std.specs.Prelude.{ℕ, zero, suc, ◌+◌, Bool, true, false, cond, List, [], ◌∷◌, ◌++◌, ◌≡◌, length, slice_index_or}
 use Rattle.std.specs.List.{list_any, flat_map}
 use Rattle.ps_model.specs.declared.pieces.ObjectId.{ObjectId}
 use Rattle.ps_model.specs.Names.{is_among}
-use Rattle.ps_model.specs.Meanings.{LegendName, Mention, OfObject, OfLine, same_mention}
+use Rattle.ps_model.specs.Meanings.{LegendName, Mention, OfObject, OfLine, same_mention, mentions_of}
+use Rattle.ps_names.specs.Levels.{level, are_below}
 
 -- objects, and behind them those of others that aren't among them yet
 abbrev pub merged : List ObjectId → List ObjectId → List ObjectId
@@ -25,3 +26,11 @@ all_spoken by_line mentions = flat_map (spoken by_line) mentions
 abbrev pub room_from : List Mention → ℕ → List LegendName → ℕ
 room_from listed place [] = 0
 room_from listed place (name ∷ others) = cond (list_any (same_mention (OfLine place)) listed) 0 (length name.mentions) + room_from listed (suc place) others
+
+-- the lines speak of what those speak of that they mention, and mention only lines of lower levels
+pub record IsFlat (legend : List LegendName) (levels : List ℕ) (lists : List (List ObjectId)) : Type 0 where
+  pub strict : (place : ℕ) → are_below levels (level levels place) (mentions_of legend (OfLine place)) ≡ true
+  pub merges : (place : ℕ) → slice_index_or lists place [] ≡ merged [] (all_spoken (λ line. slice_index_or lists line []) (mentions_of legend (OfLine place)))
+
+abbrev pub spoken_by : List (List ObjectId) → ℕ → List ObjectId
+spoken_by lists line = slice_index_or lists line []
