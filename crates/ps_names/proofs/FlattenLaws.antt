@@ -3,7 +3,7 @@ use Rattle.std.proofs.Common.{◌≡◌, ◌∙◌, ℕ, zero, suc, ◌+◌, ◌
 use Rattle.std.specs.Prelude.{nat_eq, nat_lt, slice_get, filter_map, sum_by}
 use Rattle.std.specs.List.{list_any, flat_map}
 use Rattle.std.proofs.lemmas.Grind.{flat_map-append}
-use Rattle.std.proofs.lemmas.List.{append-nil, length-append}
+use Rattle.std.proofs.lemmas.List.{append-nil, length-append, length-map, get_or_past}
 use Rattle.std.proofs.lemmas.List.Sums.{sum_by-cons}
 use Rattle.std.proofs.lemmas.List.Elements.{filter_map-append}
 use Rattle.std.proofs.lemmas.List.Folds.{list_any-append}
@@ -11,12 +11,15 @@ use Rattle.std.proofs.lemmas.Bool.Decides.{nat_tests}
 use Rattle.ps_model.specs.declared.pieces.ObjectId.{ObjectId}
 use Rattle.ps_model.specs.Names.{is_among, same_object}
 use Rattle.ps_model.specs.Meanings.{LegendName, Mention, OfObject, OfLine, same_mention, mentions_of, mentions_of_name, with_mentioned, object_of, objects_of, mention_count}
-use Rattle.ps_names.specs.Flattened.{merged, spoken, all_spoken, spoken_by, room_from}
+use Rattle.ps_names.specs.Flattened.{merged, spoken, all_spoken, spoken_by, room_from, IsFlatAt, IsFlat}
+use Rattle.ps_names.specs.declared.legend_names.LegendName as code
+use Rattle.ps_names.specs.LegendNames.{legend_shown}
+use Rattle.std.proofs.lemmas.Option.{slice_get_past}
 use Rattle.ps_names.specs.declared.mention.Mention.{Mention as Waits}
 use Rattle.ps_names.specs.Known.{mention_shown, mentions_shown}
 use Rattle.ps_names.proofs.Elements.{element-first}
 use Rattle.ps_names.specs.Levels.{level, is_below, are_below}
-use Rattle.ps_names.proofs.LevelLaws.{first, second, raise-each}
+use Rattle.ps_names.proofs.LevelLaws.{first, second, raise-each, mentions-at, one-more}
 use Rattle.ps_names.proofs.ReachLaw.{list-old, list-new, any-more, or_one, or_true}
 use Rattle.ps_names.proofs.MergedLaws.{merged-old, merged-new, Within, among-left, among-right, among-cases, among-one, among-self, merged-keeps, merged-within, absorbed, merged-append, merged-twice}
 
@@ -270,3 +273,28 @@ merge-step lists mentions k mention other objects added less m e =
     let rest : List ObjectId = all_spoken (spoken_by lists) (mentions_shown (drop (k + 1) mentions)) in
     ap (λ os. merged os rest) e ∙ sym (merged-append objects (spoken (spoken_by lists) (mention_shown mention)) rest)
     ∙ ap (λ ms. merged objects (all_spoken (spoken_by lists) (mentions_shown ms))) (sym (element-first mentions k (k + 1) mention other less (omega arith) m))
+
+-- behind the last line
+pub flat-past : (legend : List code.LegendName) (levels : List ℕ) (lists : List (List ObjectId)) (k : ℕ) → length legend ≤ k → length lists ≡ length legend
+    → ((place : ℕ) → place < k → IsFlatAt levels lists place (mentions_of (legend_shown legend) (OfLine place))) → IsFlat (legend_shown legend) levels lists
+flat-past legend levels lists k all same before place = by (nat_lt place k) refl
+  where
+    by : (b : Bool) → nat_lt place k ≡ b → IsFlatAt levels lists place (mentions_of (legend_shown legend) (OfLine place))
+    by true q = before place (grind (arith, nat_tests))
+    by false q =
+        let past : length legend ≤ place = grind (arith, nat_tests) in
+        let none : mentions_of (legend_shown legend) (OfLine place) ≡ [] = ap mentions_of_name (slice_get_past (legend_shown legend) place (rw length-map past)) in
+        let empty : spoken_by lists place ≡ [] = get_or_past lists place [] (rw same past) in
+        rw none (record { strict = refl; merges = empty })
+
+-- where it was looked at
+pub flat-here : (legend : List code.LegendName) (levels : List ℕ) (lists : List (List ObjectId)) (k : ℕ) (x d : code.LegendName) → k < length legend → x ≡ get_or legend k d
+    → IsFlatAt levels lists k (mentions_shown x.mentions.items) → IsFlatAt levels lists k (mentions_of (legend_shown legend) (OfLine k))
+flat-here legend levels lists k x d less e flat = let m : mentions_of (legend_shown legend) (OfLine k) ≡ mentions_shown x.mentions.items = mentions-at legend k x d less e in rw m flat
+
+-- the objects of a name
+pub objects-flat : (legend : List LegendName) (levels : List ℕ) (lists : List (List ObjectId)) → IsFlat legend levels lists → (name : LegendName)
+    → objects_of legend name ≡ merged [] (all_spoken (spoken_by lists) name.mentions)
+objects-flat legend levels lists flat name =
+    objects-merged legend levels (spoken_by lists) (λ place. let f : IsFlatAt levels lists place (mentions_of legend (OfLine place)) = flat place in f.strict)
+    (λ place. let f : IsFlatAt levels lists place (mentions_of legend (OfLine place)) = flat place in f.merges) name

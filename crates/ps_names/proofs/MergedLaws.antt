@@ -1,6 +1,7 @@
 -- Merging lists of objects.
 use Rattle.std.proofs.Common.{◌≡◌, ◌∙◌, ℕ, Bool, true, false, List, [], ◌∷◌, ◌++◌, ◌&&◌, ◌||◌, refl, sym, ap, arith, append_assoc}
 use Rattle.std.specs.Prelude.{nat_eq}
+use lib.Pointwise.{pointwise}
 use Rattle.std.specs.List.{list_any, list_all}
 use Rattle.std.proofs.lemmas.List.Folds.{list_any-append}
 use Rattle.std.proofs.lemmas.Bool.Decides.{nat_tests}
@@ -24,7 +25,7 @@ or-right : (a b : Bool) → b ≡ true → (a || b) ≡ true
 or-right true b e = refl
 or-right false b e = e
 
-same-one : (x y : ObjectId) → same_object x y ≡ true → x ≡ y
+pub same-one : (x y : ObjectId) → same_object x y ≡ true → x ≡ y
 same-one x y e = let n : x.0 ≡ y.0 = grind (arith, nat_tests) in ap (λ (k : ℕ). let o : ObjectId = record { 0 = k } in o) n
 
 same-self : (x : ObjectId) → same_object x x ≡ true
@@ -129,3 +130,12 @@ merged-within known (object ∷ others) x e = by (is_among known object) refl (m
     by false q old new =
         let e' : is_among (merged (known ++ object ∷ []) others) x ≡ true = ap (λ os. is_among os x) (sym (merged-new known object others q)) ∙ e in
         ap (λ os. is_among os x) (sym (append_assoc known (object ∷ []) others)) ∙ new e'
+
+-- lists whose objects are equal one by one
+pub equal-lists : (E : ObjectId → ObjectId → Bool) → ((x y : ObjectId) → E x y ≡ true → x ≡ y) → (xs ys : List ObjectId) → pointwise E xs ys ≡ true → xs ≡ ys
+equal-lists E same [] [] e = refl
+equal-lists E same [] (y ∷ ys) e = cc
+equal-lists E same (x ∷ xs) [] e = cc
+equal-lists E same (x ∷ xs) (y ∷ ys) e =
+    let one : x ≡ y = same x y (first (E x y) (pointwise E xs ys) e) in
+    ap (λ o. o ∷ xs) one ∙ ap (λ os. y ∷ os) (equal-lists E same xs ys (second (E x y) (pointwise E xs ys) e))
