@@ -1,12 +1,11 @@
 -- A legend without lines that stand for themselves: what a name speaks of is what the names that it mentions speak of, merged.
-use Rattle.std.proofs.Common.{◌≡◌, ◌∙◌, ℕ, zero, suc, ◌+◌, ◌<◌, ◌≤◌, Bool, true, false, cond, List, [], ◌∷◌, ◌++◌, ◌||◌, length, drop, get_or, refl, sym, ap, arith, append_assoc}
+use Rattle.std.proofs.Common.{◌≡◌, ◌∙◌, ℕ, zero, suc, ◌+◌, ◌<◌, ◌≤◌, Bool, true, false, cond, List, [], ◌∷◌, ◌++◌, ◌||◌, length, drop, get_or, refl, sym, ap, arith}
 use Rattle.std.specs.Prelude.{nat_eq, nat_lt, slice_get, filter_map, sum_by}
-use Rattle.std.specs.List.{list_any, flat_map}
+use Rattle.std.specs.List.{list_any}
 use Rattle.std.proofs.lemmas.Grind.{flat_map-append}
 use Rattle.std.proofs.lemmas.List.{append-nil, length-append, length-map, get_or_past}
 use Rattle.std.proofs.lemmas.List.Sums.{sum_by-cons}
 use Rattle.std.proofs.lemmas.List.Elements.{filter_map-append}
-use Rattle.std.proofs.lemmas.List.Folds.{list_any-append}
 use Rattle.std.proofs.lemmas.Bool.Decides.{nat_tests}
 use Rattle.ps_model.specs.declared.pieces.ObjectId.{ObjectId}
 use Rattle.ps_model.specs.Names.{is_among, same_object}
@@ -19,9 +18,9 @@ use Rattle.ps_names.specs.declared.mention.Mention.{Mention as Waits}
 use Rattle.ps_names.specs.Known.{mention_shown, mentions_shown}
 use Rattle.ps_names.proofs.Elements.{element-first}
 use Rattle.ps_names.specs.Levels.{level, is_below, are_below}
-use Rattle.ps_names.proofs.LevelLaws.{first, second, raise-each, mentions-at, one-more}
+use Rattle.ps_names.proofs.LevelLaws.{first, second, raise-each, mentions-at}
 use Rattle.ps_names.proofs.ReachLaw.{list-old, list-new, any-more, or_one, or_true}
-use Rattle.ps_names.proofs.MergedLaws.{merged-old, merged-new, Within, among-left, among-right, among-cases, among-one, among-self, merged-keeps, merged-within, absorbed, merged-append, merged-twice}
+use Rattle.ps_names.proofs.MergedLaws.{merged-old, merged-new, Within, among-left, among-right, among-cases, among-one, among-self, merged-within, absorbed, merged-append, merged-twice}
 
 abbrev has : ℕ → List Mention → Bool
 has place listed = list_any (same_mention (OfLine place)) listed

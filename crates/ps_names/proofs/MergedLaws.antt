@@ -1,14 +1,12 @@
 -- Merging lists of objects.
-use Rattle.std.proofs.Common.{◌≡◌, ◌∙◌, ℕ, Bool, true, false, List, [], ◌∷◌, ◌++◌, ◌&&◌, ◌||◌, refl, sym, ap, arith, append_assoc}
-use Rattle.std.specs.Prelude.{nat_eq}
+use Rattle.std.proofs.Common.{◌≡◌, ◌∙◌, ℕ, Bool, true, false, List, [], ◌∷◌, ◌++◌, ◌||◌, refl, sym, ap, arith, append_assoc}
 use lib.Pointwise.{pointwise}
-use Rattle.std.specs.List.{list_any, list_all}
 use Rattle.std.proofs.lemmas.List.Folds.{list_any-append}
 use Rattle.std.proofs.lemmas.Bool.Decides.{nat_tests}
 use Rattle.ps_model.specs.declared.pieces.ObjectId.{ObjectId}
 use Rattle.ps_model.specs.Names.{is_among, same_object}
 use Rattle.ps_names.specs.Flattened.{merged}
-use Rattle.ps_names.proofs.LevelLaws.{both, first, second}
+use Rattle.ps_names.proofs.LevelLaws.{first, second}
 
 module _ (known : List ObjectId) (object : ObjectId) (others : List ObjectId) where
   pub merged-old : is_among known object ≡ true → merged known (object ∷ others) ≡ merged known others

@@ -1,4 +1,4 @@
-use Rattle.std.proofs.Common.{rules, ◌≡◌, ◌∙◌, ap, sym, true, []}
+use Rattle.std.proofs.Common.{rules, ◌∙◌, ap, sym, []}
 use Rattle.ps_names.specs.Known.{mentions_shown}
 use Rattle.ps_names.specs.LegendNames.{name_shown, legend_shown}
 use Rattle.ps_names.specs.Flattened.{merged, all_spoken, spoken_by, IsFlat}
