@@ -13,15 +13,15 @@ use Rattle.ps_names.specs.LegendNames.{name_shown, legend_shown}
 use Rattle.ps_names.specs.Levels.{level, is_below, are_below, Fall}
 use Rattle.ps_names.proofs.ReachLaw.{list-old, list-new}
 
-both : (a b : Bool) → a ≡ true → b ≡ true → (a && b) ≡ true
+pub both : (a b : Bool) → a ≡ true → b ≡ true → (a && b) ≡ true
 both true b e f = f
 both false b e f = cc
 
-first : (a b : Bool) → (a && b) ≡ true → a ≡ true
+pub first : (a b : Bool) → (a && b) ≡ true → a ≡ true
 first true b e = refl
 first false b e = e
 
-second : (a b : Bool) → (a && b) ≡ true → b ≡ true
+pub second : (a b : Bool) → (a && b) ≡ true → b ≡ true
 second true b e = e
 second false b e = cc
 
@@ -36,7 +36,7 @@ module _ (levels : List ℕ) where
   raise low high less (OfObject object) e = refl
   raise low high less (OfLine place) e = grind (arith, nat_tests)
 
-  raise-each : (low high : ℕ) → low ≤ high → (mentions : List Mention) → are_below levels low mentions ≡ true → are_below levels high mentions ≡ true
+  pub raise-each : (low high : ℕ) → low ≤ high → (mentions : List Mention) → are_below levels low mentions ≡ true → are_below levels high mentions ≡ true
   raise-each low high less [] e = refl
   raise-each low high less (mention ∷ others) e =
       both _ _ (raise low high less mention (first _ _ e)) (raise-each low high less others (second (is_below levels low mention) _ e))

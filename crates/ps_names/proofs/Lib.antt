@@ -8,6 +8,8 @@ pub mod ReachLaw
 pub mod LevelLaws
 pub mod MeaningLaws
 pub mod EndLaws
+pub mod MergedLaws
+pub mod FlattenLaws
 pub mod TableSteps
 pub mod FoldedNames
 pub mod LayerLaw

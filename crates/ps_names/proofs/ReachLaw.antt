@@ -23,11 +23,11 @@ record Tells (lines : ℕ) (listed : List Mention) (reached : Reached) : Type 0 
   long : length reached.lines ≡ lines
   marks : (place : ℕ) → place < lines → get_or reached.lines place false ≡ list_any (same_mention (OfLine place)) listed
 
-or_one : (b : Bool) → (b || false) ≡ b
+pub or_one : (b : Bool) → (b || false) ≡ b
 or_one true = refl
 or_one false = refl
 
-any-more : (m : Mention) (listed : List Mention) (new : Mention) (same : Bool) → same_mention m new ≡ same → list_any (same_mention m) (listed ++ new ∷ []) ≡ (list_any (same_mention m) listed || same)
+pub any-more : (m : Mention) (listed : List Mention) (new : Mention) (same : Bool) → same_mention m new ≡ same → list_any (same_mention m) (listed ++ new ∷ []) ≡ (list_any (same_mention m) listed || same)
 any-more m listed new same e = list_any-append (same_mention m) listed (new ∷ []) ∙ ap (λ b. list_any (same_mention m) listed || b) (ap (λ b. b || false) e ∙ or_one same)
 
 object-listed : (object : ObjectId) (listed : List Mention) → is_among (filter_map object_of listed) object ≡ list_any (same_mention (OfObject object)) listed
@@ -35,7 +35,7 @@ object-listed object [] = refl
 object-listed object (OfObject other ∷ listed) = ap (λ b. same_object object other || b) (object-listed object listed)
 object-listed object (OfLine place ∷ listed) = object-listed object listed
 
-or_true : (b : Bool) → (b || true) ≡ true
+pub or_true : (b : Bool) → (b || true) ≡ true
 or_true true = refl
 or_true false = refl
 

@@ -13,3 +13,4 @@ pub mod NamesShown
 pub mod Sections
 pub mod Levels
 pub mod Ends
+pub mod Flattened

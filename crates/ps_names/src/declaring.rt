@@ -71,7 +71,7 @@ pub fn read_legend<'a>(
 {
     let names = legend_names(alloc, known, declarations)?;
     let order = order_of(alloc, &names)?;
-    let meanings = legend_meanings(alloc, &names, &order.places)?;
+    let meanings = legend_meanings(alloc, &names, &order.levels, &order.places)?;
     let fault = fault_of_naming(alloc, &names, &order.levels, &meanings)?;
     refuse(fault)?;
     Ok(Legend { names, meanings })

@@ -24,6 +24,7 @@ mod order;
 mod reach;
 mod read;
 mod sections;
+mod spoken;
 mod table;
 mod whole;
 

@@ -1,11 +1,12 @@
 //! What the names of LEGEND stand for.
 
-ghost use Rattle.std.specs.Prelude.{◌≡◌, ◌≤◌, ◌<◌, ◌-◌, None, Some, [], IfOk, length, option_map, ℕ, suc, slice_get};
-ghost use Rattle.ps_model.specs.Meanings.{OfLine, meaning_behind, legend_meanings};
+ghost use Rattle.std.specs.Prelude.{◌≡◌, ◌≤◌, ◌<◌, ◌-◌, None, Some, [], IfOk, length, option_map, ℕ, suc, slice_get, true};
+ghost use Rattle.ps_model.specs.Meanings.{objects_of, OfLine, meaning_behind, legend_meanings};
 ghost use Rattle.ps_names.specs.Known.{mention_shown, mentions_shown};
 ghost use Rattle.ps_names.specs.LegendNames.{name_shown, legend_shown};
 ghost use Rattle.ps_names.specs.MeaningSteps.{meaning_shown_if, meanings_shown, alone, behind_synonym, joined_meaning, joined_meanings};
 ghost use Rattle.ps_names.specs.Ends.{IsEnd};
+ghost use Rattle.ps_names.specs.Flattened.{IsFlat};
 
 use crate::ends::{End, end_at, ends_of};
 use crate::legend_names::LegendName;
@@ -13,8 +14,10 @@ use crate::meaning::Meaning;
 use crate::mention::Mention;
 use crate::naming::meaning_at;
 use crate::reach::objects_of;
+use crate::spoken::{is_flat, lists_spoken, objects_merged};
 use crate::table::copied_if;
-use ps_model::{Joiner, Memory};
+use ps_model::{Joiner, Memory, ObjectId};
+use ps_text::List;
 use std::alloc::Global;
 
 /// The first of the mentions.
@@ -44,35 +47,66 @@ pub fn behind_synonym(legend: &[LegendName<'_>], mention: Mention) -> Option<Men
     }
 }
 
+/// The objects that a name speaks of: at once where the lists hold, which tell those of each line.
+fn objects_by(
+    alloc: Global,
+    legend: &[LegendName<'_>],
+    levels: &[u32],
+    flat: bool,
+    lists: &[List<ObjectId>],
+    name: &LegendName<'_>,
+) -> Result<List<ObjectId>, Memory>
+    requires { flat ≡ true → IsFlat (legend_shown legend.now) levels.now lists.now }
+    ensures { IfOk result (λ objects. objects ≡ objects_of (legend_shown legend.now) (name_shown name.now)) }
+{
+    if !flat {
+        let objects = objects_of(alloc, legend, name)?;
+        return Ok(objects);
+    }
+    let objects = objects_merged(alloc, lists, &name.mentions)?;
+    Ok(objects)
+}
+
 /// What a name stands for that is an aggregate or a property.
 fn joined_meaning(
     alloc: Global,
     legend: &[LegendName<'_>],
+    levels: &[u32],
+    flat: bool,
+    lists: &[List<ObjectId>],
     name: &LegendName<'_>,
 ) -> Result<Option<Meaning>, Memory>
+    requires { flat ≡ true → IsFlat (legend_shown legend.now) levels.now lists.now }
     ensures { IfOk result (λ meaning. meaning_shown_if meaning ≡ joined_meaning (legend_shown legend.now) name.now.joiner (name_shown name.now)) }
 {
     let line = name.line;
     match name.joiner {
         Joiner::Alone => Ok(None),
         Joiner::And => {
-            let objects = objects_of(alloc, legend, name)?;
+            let objects = objects_by(alloc, legend, levels, flat, lists, name)?;
             Ok(Some(Meaning::All { line, objects }))
         }
         Joiner::Or => {
-            let objects = objects_of(alloc, legend, name)?;
+            let objects = objects_by(alloc, legend, levels, flat, lists, name)?;
             Ok(Some(Meaning::Any { line, objects }))
         }
     }
 }
 
 /// What the aggregates and properties of the legend stand for, by their places; nothing for its synonyms.
-fn joined_meanings(alloc: Global, legend: &[LegendName<'_>]) -> Result<Vec<Option<Meaning>>, Memory>
+fn joined_meanings(
+    alloc: Global,
+    legend: &[LegendName<'_>],
+    levels: &[u32],
+    places: &[u32],
+) -> Result<Vec<Option<Meaning>>, Memory>
     ensures { IfOk result (λ made. meanings_shown made.items ≡ joined_meanings (legend_shown legend.now)) }
 {
+    let lists = lists_spoken(alloc, legend, places)?;
+    let flat = is_flat(alloc, legend, levels, &lists)?;
     let mut made = Vec::new(alloc);
     for name in legend {
-        let meaning = joined_meaning(alloc, legend, name)?;
+        let meaning = joined_meaning(alloc, legend, levels, flat, &lists, name)?;
         made.push(meaning)?;
     }
     Ok(made)
@@ -163,13 +197,14 @@ fn meaning_by_end(
 pub fn legend_meanings(
     alloc: Global,
     legend: &[LegendName<'_>],
+    levels: &[u32],
     places: &[u32],
 ) -> Result<Vec<Option<Meaning>>, Memory>
     requires few { length legend.now ≤ 4294967295 }
     ensures { IfOk result (λ made. meanings_shown made.items ≡ legend_meanings (legend_shown legend.now)) }
 {
     let ends = ends_of(alloc, legend, places)?;
-    let joined = joined_meanings(alloc, legend)?;
+    let joined = joined_meanings(alloc, legend, levels, places)?;
     let mut made = Vec::new(alloc);
     for place in 0..legend.len() {
         let place = place as u32;

@@ -391,6 +391,40 @@ fn reads_a_long_chain_of_synonyms(rt: HostRuntime) {
     assert!(rt; matches!(names.meaning("s9999"), Some(Meaning::One(ObjectId(3)))));
 }
 
+/// A legend of properties, each of the next and of an object, and the last one a synonym.
+fn nested(alloc: Global, length: u32) -> Option<String> {
+    let mut legend = String::new(alloc);
+    for number in 0..length {
+        legend.push_str("n").ok()?;
+        legend
+            .push_str(number.to_string(alloc).ok()?.as_str())
+            .ok()?;
+        legend.push_str(" = n").ok()?;
+        legend
+            .push_str((number as u64 + 1).to_string(alloc).ok()?.as_str())
+            .ok()?;
+        legend.push_str(" or A\n").ok()?;
+    }
+    legend.push_str("n").ok()?;
+    legend
+        .push_str(length.to_string(alloc).ok()?.as_str())
+        .ok()?;
+    legend.push_str(" = B").ok()?;
+    Some(legend)
+}
+
+#[test]
+fn reads_properties_of_properties(rt: HostRuntime) {
+    let Some(legend) = nested(rt.alloc(), 40000) else {
+        panic!(rt; "no room");
+    };
+    let Some(Ok(names)) = with_legend(rt.alloc(), legend.as_str()) else {
+        panic!(rt; "the names aren't read");
+    };
+    assert!(rt; is_any(&names, "n0", 13, &[3, 2]));
+    assert!(rt; is_any(&names, "n39999", 40012, &[3, 2]));
+}
+
 /// The same legend, its last line first.
 fn turned_round(alloc: Global, legend: &str) -> Option<String> {
     let mut turned = String::new(alloc);
