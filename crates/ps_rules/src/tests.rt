@@ -358,25 +358,3 @@ fn binds_the_right_to_the_left(rt: HostRuntime) {
             == Some((Some(start + 9), false))
     );
 }
-
-/// Puts that many cells with that text last, each behind a `|`.
-fn push_cells(row: &mut String, cell: &str, count: u32) -> Result<(), Fail> {
-    for _cell in 0..count {
-        row.push_str(" | ")?;
-        row.push_str(cell)?;
-    }
-    Ok(())
-}
-
-#[test]
-fn reads_a_rule_of_many_cells(rt: HostRuntime) -> Result<(), Fail> {
-    let alloc = rt.alloc();
-    let mut rule = String::from_str(alloc, "[ AT")?;
-    push_cells(&mut rule, "B", 30000)?;
-    rule.push_str(" ] -> [ AT")?;
-    push_cells(&mut rule, "AT", 30000)?;
-    rule.push_str(" ]\n")?;
-    let first = HEAD.len() as u32 + 2;
-    assert!(rt; bound_at(alloc, rule.as_str(), 30000) == Some((Some(first), false)));
-    Ok(())
-}
