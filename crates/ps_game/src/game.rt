@@ -63,11 +63,7 @@ fn check_readings(alloc: Global, names: &Names, rules: &RuleText) -> Result<(), 
 }
 
 /// The game of a text whose sections are told: each part is read in its turn, so that the first fault is met first.
-fn game_of_sections(
-    alloc: Global,
-    source: &Source,
-    sections: &Sections,
-) -> Result<Game, ReadFault>
+fn game_of_sections(alloc: Global, source: &Source, sections: &Sections) -> Result<Game, ReadFault>
     requires { AreSections source.now sections.now }
     ensures game { IfOk result (λ read. game_of_lines (lines_of source.now) ≡ Some read) }
     ensures refused { IfErr result (λ e. (fault : TheFault) → e ≡ ReadFault.Refused fault → first_fault (line_faults (lines_of source.now)) ≡ Some fault) }

@@ -78,7 +78,8 @@ fn refuses_what_stands_below_rules(rt: HostRuntime) {
 fn tells_the_first_fault(rt: HostRuntime) {
     let alloc = rt.alloc();
     let hopeless = "[ Player Wall ] -> [ Player ]\n";
-    let many = "[ Player Wall ] -> [ Player ]\n[ moving A | moving A | moving A | moving A | moving A ] -> cancel\n";
+    let many =
+        "[ Player Wall ] -> [ Player ]\n[ moving A | moving A | moving A | moving A | moving A ] -> cancel\n";
     expect_refusal(
         &rt,
         read(alloc, "[ A ] ->\n", "No Q\n", "P?\n"),
