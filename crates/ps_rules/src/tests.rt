@@ -315,22 +315,21 @@ fn refuses_one_rule_too_many(rt: HostRuntime) -> Result<(), Fail> {
     Ok(())
 }
 
-/// The left occurrence that decides the first item on the right of the first rule's cell at that place, and whether its name is loose.
-fn bound_at(alloc: Global, rules: &str, at: usize) -> Option<(Option<u32>, bool)> {
-    let source = source_of(alloc, rules).ok()?;
-    let names = names_of(alloc, &source).ok()?;
-    let text = rules_of(alloc, rules).ok()?;
-    let rule = rule_at(&text, 0)?;
-    let occurrences = Occurrences::of(alloc, rule).ok()?;
-    let cell = cell_at(rule, 0, 0, at)?;
-    match cell.right.as_slice().get(0)? {
+/// The left occurrence that decides an item on the right of a cell, and whether its name is loose.
+fn item_bound(
+    occurrences: &Occurrences<'_>,
+    names: &Names,
+    cell: &CellPair,
+    item: &Item,
+) -> Option<(Option<u32>, bool)> {
+    match item {
         Item::Is {
             at: _,
             word: None,
             meaning,
         } => Some((
             occurrences.bound_name(cell, meaning),
-            occurrences.is_loose(&names, meaning),
+            occurrences.is_loose(names, meaning),
         )),
         Item::Is {
             at: _,
@@ -338,10 +337,33 @@ fn bound_at(alloc: Global, rules: &str, at: usize) -> Option<(Option<u32>, bool)
             meaning,
         } => Some((
             occurrences.bound_word(cell, *word, meaning),
-            occurrences.is_loose(&names, meaning),
+            occurrences.is_loose(names, meaning),
         )),
         Item::No { .. } => None,
     }
+}
+
+/// The same of the first item on the right of a rule's cell.
+fn first_bound(
+    alloc: Global,
+    names: &Names,
+    rule: &SourceRule,
+    cell: &CellPair,
+) -> Option<(Option<u32>, bool)> {
+    let item = cell.right.as_slice().get(0)?;
+    let Ok(occurrences) = Occurrences::of(alloc, rule) else {
+        return None;
+    };
+    item_bound(&occurrences, names, cell, item)
+}
+
+/// The same of the first rule's cell at that place.
+fn bound_at(alloc: Global, rules: &str, at: usize) -> Option<(Option<u32>, bool)> {
+    let source = source_of(alloc, rules).ok()?;
+    let names = names_of(alloc, &source).ok()?;
+    let text = rules_of(alloc, rules).ok()?;
+    let rule = rule_at(&text, 0)?;
+    first_bound(alloc, &names, rule, cell_at(rule, 0, 0, at)?)
 }
 
 #[test]
