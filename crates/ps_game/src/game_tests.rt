@@ -90,7 +90,7 @@ fn tells_the_first_fault(rt: HostRuntime) {
         &rt,
         read(alloc, hopeless, "No Q\n", "P?\n"),
         FaultKind::UnknownGlyph,
-        33,
+        34,
     );
     expect_refusal(
         &rt,
