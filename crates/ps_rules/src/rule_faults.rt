@@ -52,11 +52,13 @@ fn shape_fault(shape: &RuleShape<'_, '_>) -> Option<FaultKind>
     None
 }
 
-/// The first fault of what a rule's cells name.
-fn name_fault(alloc: Global, rule: &SourceRule) -> Result<Option<FaultKind>, Memory>
-    ensures { IfOk result (λ kind. (line : ℕ) → option_map (fault_at line) kind ≡ first_fault (name_faults line (rule_shown rule.now))) }
+/// The first fault of what the cells of a rule name, by its occurrences.
+fn fault_of_occurrences(
+    alloc: Global,
+    occurrences: &Occurrences<'_>,
+) -> Result<Option<FaultKind>, Memory>
+    ensures { IfOk result (λ kind. (line : ℕ) → option_map (fault_at line) kind ≡ first_fault (name_faults line occurrences.now)) }
 {
-    let occurrences = Occurrences::of(alloc, rule)?;
     let cells = occurrences.cells();
     if has_name_twice(alloc, cells)? {
         return Ok(Some(FaultKind::NameTwice));
@@ -64,10 +66,19 @@ fn name_fault(alloc: Global, rule: &SourceRule) -> Result<Option<FaultKind>, Mem
     if puts_no_before_aggregate(cells) {
         return Ok(Some(FaultKind::NoAggregate));
     }
-    if has_unbound(&occurrences) {
+    if has_unbound(occurrences) {
         return Ok(Some(FaultKind::Unbound));
     }
     Ok(None)
+}
+
+/// The first fault of what a rule's cells name.
+fn name_fault(alloc: Global, rule: &SourceRule) -> Result<Option<FaultKind>, Memory>
+    ensures { IfOk result (λ kind. (line : ℕ) → option_map (fault_at line) kind ≡ first_fault (name_faults line (rule_shown rule.now))) }
+{
+    let occurrences = Occurrences::of(alloc, rule)?;
+    let kind = fault_of_occurrences(alloc, &occurrences)?;
+    Ok(kind)
 }
 
 /// The first fault of a rule among those told behind those of its names.
