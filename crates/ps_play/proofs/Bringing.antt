@@ -6,7 +6,6 @@ use Rattle.std.proofs.lemmas.Grind.{common_steps}
 use Rattle.std.proofs.lemmas.List.{take-append-drop}
 use Rattle.ps_model.specs.declared.play.Ending.{Ending}
 use Rattle.ps_model.specs.declared.play.Ending.TheVariants.{EndOfKeys}
-use Rattle.ps_model.specs.declared.play.Key.{Key}
 use Rattle.ps_model.specs.Names.{Names}
 use Rattle.ps_model.specs.Grid.{Grid}
 use Rattle.ps_model.specs.PlainOutput.{output, output_from, opening}

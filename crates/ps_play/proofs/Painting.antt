@@ -1,5 +1,5 @@
 -- Frames, a cell and a row further, and the three tests for a glyph.
-use Rattle.std.proofs.Common.{◌≡◌, ◌∙◌, ℕ, suc, zero, ◌+◌, List, [], ◌∷◌, ◌++◌, Option, Some, None, refl, sym, ap, ap₂, append_assoc, append-nil, arith, option_map}
+use Rattle.std.proofs.Common.{◌≡◌, ◌∙◌, ℕ, suc, zero, ◌+◌, List, ◌++◌, Option, Some, None, refl, sym, ap, ap₂, append_assoc, append-nil, arith, option_map}
 use Rattle.std.specs.List.{flat_map, range_with_len}
 use Rattle.std.specs.Prelude.{unwrap_or, find}
 use Rattle.ps_model.specs.declared.pieces.ObjectId.{ObjectId}

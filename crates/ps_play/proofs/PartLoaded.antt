@@ -1,7 +1,7 @@
 -- A level loaded cell by cell.
-use Rattle.std.proofs.Common.{◌≡◌, ◌∙◌, ℕ, suc, ◌+◌, ◌-◌, ◌*◌, ◌<◌, ◌≤◌, List, [], ◌∷◌, ◌++◌, length, map, take, drop, get_or, replicate, fold, refl, sym, ap, append_assoc, arith}
-use Rattle.std.specs.Prelude.{slice_set, All}
-use Rattle.std.proofs.lemmas.List.{get_or-set_same, set-set, set-append_right, get_or-append-add, length-map, length-set, map_more, take_all}
+use Rattle.std.proofs.Common.{◌≡◌, ◌∙◌, ℕ, suc, ◌+◌, ◌-◌, ◌*◌, ◌<◌, ◌≤◌, List, [], ◌∷◌, ◌++◌, length, map, take, get_or, replicate, fold, refl, sym, ap, append_assoc, arith}
+use Rattle.std.specs.Prelude.{slice_set}
+use Rattle.std.proofs.lemmas.List.{get_or-set_same, set-set, set-append_right, get_or-append-add, length-set, map_more, take_all}
 use Rattle.std.proofs.lemmas.List.Elements.{All-append, All-map, All-replicate}
 use Rattle.std.proofs.lemmas.Grind.{common_steps}
 use Rattle.std.proofs.lemmas.List.{length-replicate}

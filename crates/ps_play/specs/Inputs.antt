@@ -1,5 +1,5 @@
 -- How an input is given, slot by slot, to a board at rest.
-use Rattle.std.specs.Prelude.{ℕ, if◌then◌else◌, List, map, slice_set}
+use Rattle.std.specs.Prelude.{ℕ, if◌then◌else◌, List, slice_set}
 use Rattle.ps_model.specs.declared.pieces.Motion.{Motion}
 use Rattle.ps_model.specs.declared.pieces.ObjectId.{ObjectId}
 use Rattle.ps_model.specs.declared.pieces.Slot.{Slot}

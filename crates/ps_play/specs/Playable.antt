@@ -1,5 +1,5 @@
 -- What playing needs of a level: its sides are those of a board, and its objects are the game's, which has some.
-use Rattle.std.specs.Prelude.{ℕ, ◌≤◌}
+use Rattle.std.specs.Prelude.{◌≤◌}
 use Rattle.ps_model.specs.Names.{Names, object_count}
 use Rattle.ps_model.specs.NameBounds.{AreBounded}
 use Rattle.ps_model.specs.Levels.{Level}

@@ -1,4 +1,4 @@
-use Rattle.std.proofs.Common.{◌≡◌, ◌∙◌, ◌++◌, ◌+◌, ◌*◌, ℕ, ap}
+use Rattle.std.proofs.Common.{◌∙◌, ◌++◌, ◌+◌, ◌*◌, ℕ, ap}
 use Rattle.std.specs.Prelude.{encode_utf8}
 use Rattle.ps_model.specs.Grid.{cell_at}
 use Rattle.ps_model.specs.Frames.{shown_character}

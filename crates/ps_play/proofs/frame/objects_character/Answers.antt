@@ -1,5 +1,5 @@
-use Rattle.std.proofs.Common.{◌≡◌, ◌∙◌, sym, refl}
-use Rattle.ps_play.proofs.Painting.{found_same, first_fits, second_fits, third_tried}
+use Rattle.std.proofs.Common.{◌∙◌, sym, refl}
+use Rattle.ps_play.proofs.Painting.{found_same, second_fits, third_tried}
 use Rattle.ps_play.proofs.frame.objects_character.Goals as goal
 
 pub returns-in-Some-glyph_for : goal.returns-in-Some-glyph_for

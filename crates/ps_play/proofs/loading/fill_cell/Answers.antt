@@ -1,4 +1,4 @@
-use Rattle.std.proofs.Common.{◌≡◌, ◌∙◌, ◌<◌, ℕ, List, length, get_or, fold, take, sym, ap}
+use Rattle.std.proofs.Common.{◌∙◌, ◌<◌, ℕ, List, length, get_or, fold, take, sym, ap}
 use Rattle.std.specs.Prelude.{slice_set}
 use Rattle.std.proofs.lemmas.List.{take_all}
 use Rattle.std.proofs.lemmas.List.Sums.{fold_more}

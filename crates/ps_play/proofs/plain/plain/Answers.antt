@@ -1,7 +1,4 @@
-use Rattle.std.proofs.Common.{rules, ◌≡◌, ◌∙◌, true, List, Some, Option, refl, sym, ap, subst}
-use Rattle.std.specs.Prelude.{All, option_map}
-use Rattle.ps_model.specs.LevelLines as model
-use Rattle.ps_model.specs.Levels.{Level}
+use Rattle.std.proofs.Common.{rules, ◌≡◌, true, Some, refl, sym, ap, subst}
 use Rattle.ps_model.specs.Games.{Game}
 use Rattle.ps_model.specs.PlainGames.{is_plain, only_level}
 use Rattle.ps_levels.specs.EntriesShown.{entries_shown}

@@ -1,6 +1,5 @@
-use Rattle.std.proofs.Common.{◌≡◌, ◌∙◌, ◌++◌, ◌+◌, ◌≤◌, refl, ℕ, List, [], arith, rules, take, append-nil}
+use Rattle.std.proofs.Common.{◌≡◌, ◌∙◌, ◌++◌, ◌+◌, ◌≤◌, refl, [], arith, rules, take, append-nil}
 use Rattle.ps_model.specs.Names.{Names}
-use Rattle.ps_model.specs.Grid.{Grid}
 use Rattle.ps_model.specs.Outputs.{end_of_keys_line}
 use Rattle.ps_devices.specs.Devices.{Loses}
 use Rattle.ps_devices.proofs.Pieces.{grows_twice, loses_twice}

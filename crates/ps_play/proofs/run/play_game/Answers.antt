@@ -1,4 +1,4 @@
-use Rattle.std.proofs.Common.{◌≡◌, ◌∙◌, ◌++◌, [], ap, List, ℕ}
+use Rattle.std.proofs.Common.{◌∙◌, ◌++◌, ap, List, ℕ}
 use Rattle.ps_model.specs.PlainGames.{PlainGame}
 use Rattle.ps_model.specs.PlainOutput.{opening}
 use Rattle.ps_play.proofs.Bringing.{opened}

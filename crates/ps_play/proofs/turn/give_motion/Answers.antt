@@ -1,5 +1,4 @@
-use Rattle.std.proofs.Common.{◌≡◌, ◌∙◌, ◌++◌, sym, subst, refl, ap, arith, length, map, take, drop, List, ◌<◌, ◌≤◌}
-use Rattle.ps_model.specs.declared.pieces.Slot.{Slot}
+use Rattle.std.proofs.Common.{◌∙◌, refl, ap, length, map, ◌<◌, ◌≤◌}
 use Rattle.ps_model.specs.Grid.{Grid, IsGrid, at_rest, cell_at}
 use Rattle.ps_play.specs.Inputs.{slot_set_moving, grid_with_cell, grid_with_cells}
 use Rattle.ps_play.proofs.Sweeps.{one_more_cell, all_changed, shape_kept, cells_from_rest}

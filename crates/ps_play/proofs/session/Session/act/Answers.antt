@@ -1,4 +1,4 @@
-use Rattle.std.proofs.Common.{◌≡◌, ◌∙◌, ap, ap₂, List}
+use Rattle.std.proofs.Common.{◌∙◌, ap, ap₂, List}
 use Rattle.std.specs.Prelude.{codes}
 use Rattle.ps_model.specs.declared.pieces.Motion.{Motion}
 use Rattle.ps_model.specs.declared.pieces.ObjectId.{ObjectId}
