@@ -208,34 +208,28 @@ fn refuses_rules_and_rows(rt: HostRuntime) -> Result<(), Fail> {
 
 #[test]
 fn refuses_games_not_played_yet(rt: HostRuntime) -> Result<(), Fail> {
-    for (option, rule, win, rows) in [
-        ("noaction\n", "", "", "P"),
+    for (option, rule, win, rows, line) in [
+        ("noaction\n", "", "", "P", 1),
         (
             "",
             "[ > Player | Crate ] -> [ > Player | > Crate ]\n",
-            "",
+            "Some Player\n",
             "P",
+            30,
         ),
-        ("", "", "Some Player\n", "P"),
-        ("", "", "", "P\n\n#"),
-        ("", "", "", "message x\nP"),
+        ("", "", "Some Player\n", "message x\nP", 31),
+        ("", "", "", "P\n\n#", 34),
+        ("", "", "", "P.\n===\n.#\n\n#", 36),
+        ("", "", "", "message x\nP", 32),
+        ("", "", "", "\nP\nmessage x", 34),
     ] {
         let text = format!(in rt.alloc();
             "{option}{NAMES}RULES\n{rule}WINCONDITIONS\n{win}LEVELS\n{rows}"
         )?;
-        let mut reader = MemoryReader::new(b"d", 1, None);
-        let mut writer = MemoryWriter::new(rt.alloc(), 10, 10)?;
-        let result = run(rt.alloc(), text.as_bytes(), &mut reader, &mut writer);
-        assert!(rt; is_not_yet(result), "{text}");
-        assert_eq!(rt; reader.given(), 0);
-        assert_eq!(rt; writer.bytes(), b"".as_slice());
+        let kind = FaultKind::NotYet;
+        expect_refusal(&rt, rt.alloc(), text.as_bytes(), Fault { kind, line })?;
     }
     Ok(())
-}
-
-/// Whether a run says of a text that it is a game which isn't played yet.
-fn is_not_yet(answer: Result<Ending, RunFault>) -> bool {
-    matches!(answer, Err(RunFault::Refused(fault)) if fault.kind == FaultKind::NotYet)
 }
 
 #[test]
