@@ -4,10 +4,7 @@ ghost use Rattle.std.specs.Prelude.{◌≡◌, ◌≤◌, ◌<◌, None, false, 
 ghost use Rattle.std.specs.Io.KnownBytes.{Appends, Consumes, IsAtEnd, Keeps};
 
 use super::traits::{ByteReader, ByteWriter, Failed};
-use std::io::{ErrorKind, Read, Write};
-
-/// How often a call that a signal interrupted is tried, in all.
-const TRIES: u32 = 64;
+use std::io::{Read, Write};
 
 /// How many bytes one call reads at most.
 const PIECE: usize = 4096;
@@ -103,43 +100,29 @@ fn read_piece<T: Read>(stream: &mut T, buffer: &mut [u8]) -> Result<usize, Faile
     Ok(count)
 }
 
-/// One read, tried again where a signal interrupted it.
+/// One read. Whatever error the stream answers, an interruption among them, is a failure.
 fn read_through<T: Read>(stream: &mut T, piece: &mut [u8]) -> Result<usize, Failed>
     ensures count { IfOk result (λ count. count ≤ length piece.old) }
     ensures given { IfOk result (λ count. Consumes (T.remaining stream.old) (T.remaining stream.new) (take count piece.new)) }
     ensures end { IfOk result (λ count. count ≡ 0 → 0 < length piece.old → IsAtEnd (T.remaining stream.new)) }
     ensures stays { OnErr result (Keeps (T.remaining stream.old) (T.remaining stream.new)) }
 {
-    for _try in 0..TRIES {
-        match stream.read(piece) {
-            Ok(count) => return Ok(count),
-            Err(error) => {
-                if error.kind() != ErrorKind::Interrupted {
-                    return Err(Failed);
-                }
-            }
-        }
+    match stream.read(piece) {
+        Ok(count) => Ok(count),
+        Err(_) => Err(Failed),
     }
-    Err(Failed)
 }
 
-/// One write of a front of `bytes`.
+/// One write of a front of `bytes`. Whatever error the stream answers, an interruption among them, is a failure.
 fn write_piece<T: Write>(stream: &mut T, bytes: &[u8]) -> Result<usize, Failed>
     ensures count { IfOk result (λ count. count ≤ length bytes.now) }
     ensures taken { IfOk result (λ count. Appends (T.contents stream.old) (T.contents stream.new) (take count bytes.now)) }
     ensures stays { OnErr result (Keeps (T.contents stream.old) (T.contents stream.new)) }
 {
-    for _try in 0..TRIES {
-        match stream.write(bytes) {
-            Ok(count) => return Ok(count),
-            Err(error) => {
-                if error.kind() != ErrorKind::Interrupted {
-                    return Err(Failed);
-                }
-            }
-        }
+    match stream.write(bytes) {
+        Ok(count) => Ok(count),
+        Err(_) => Err(Failed),
     }
-    Err(Failed)
 }
 
 /// Copies the first `count` bytes of `from` to the start of `buffer`.

@@ -8,6 +8,7 @@ pub mod EqualPlaces
 pub mod EqualPrograms
 mod FaultRows
 pub mod Endings
+pub mod Foldings
 pub mod Fronts
 pub mod HeldKeys
 mod HeldRows
