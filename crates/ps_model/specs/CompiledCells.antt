@@ -78,11 +78,11 @@ object_of_claim None = Leave
 abbrev pub claim_write : List Claim → Claim → LayerWrite
 claim_write left claim = record { layer = claim.layer; object = object_of_claim claim.object; motion = motion_written (claim_on claim.layer left) claim.motion }
 
--- the layer of a claim is cleared away
+-- the write that clears the layer of a claim away
 abbrev pub clear_write : Claim → LayerWrite
 clear_write claim = record { layer = claim.layer; object = Clear; motion = None }
 
--- no claim is on the layer of this one
+-- none of the claims is on the layer of that one
 abbrev pub is_alone : List Claim → Claim → Bool
 is_alone claims claim = not (list_any (λ other. nat_eq other.layer claim.layer) claims)
 
@@ -103,13 +103,13 @@ cell_by names left right = record { mask = mask_of names left; write = write_of 
 
 -- the laws ---------------------------------------------------------------------------------------------------------------
 
--- of a loose property, the members lie on one layer
+-- the members of a loose property lie on one layer
 abbrev pub IsOnOneLayer : Names → Wanted → Type 0
 IsOnOneLayer names (Each objects motion) = ⊤
 IsOnOneLayer names (Any objects motion) = are_on_one_layer names objects ≡ true
 IsOnOneLayer names (Without objects) = ⊤
 
--- so it is of what an item of a rule asks, on the left and on the right, under every reading
+-- so they do in what an item of a rule asks, on the left and on the right, under every reading
 abbrev pub LeftsAreOnOneLayer : Type 0
 LeftsAreOnOneLayer = (names : Names) (rule : SourceRule) (reading : Reading) (item : Item) → IsOnOneLayer names (wanted_left names rule reading item)
 
