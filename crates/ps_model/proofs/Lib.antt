@@ -53,6 +53,10 @@ pub mod KeptReadings
 pub mod KeptCells
 pub mod KeptRules
 pub mod KeptTurns
+pub mod FittingMasks
+pub mod RewritingWrites
+pub mod AgreeingCells
+pub mod AgreeingPrograms
 pub mod WholeRuns
 mod PushRows
 mod RoundRows
@@ -60,6 +64,7 @@ mod PartRows
 mod PropertyRows
 mod CommandRows
 mod CompiledRows
+mod CompilingRows
 mod RefusedRows
 mod PlayedGames1Rows
 mod PlayedGames2Rows

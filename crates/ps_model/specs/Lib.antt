@@ -69,4 +69,6 @@ pub mod Outputs
 pub mod Fronts
 pub mod GameRules
 pub mod KeptGrids
+pub mod CompiledCells
+pub mod CompiledRules
 pub mod Headline

@@ -6,6 +6,7 @@
 
 mod faults;
 mod held;
+mod laws_of_compiling;
 mod laws_of_grids;
 mod laws_of_rules;
 mod laws_of_runs;
@@ -18,6 +19,9 @@ mod texts;
 
 pub use faults::{Fault, FaultKind};
 pub use held::Held;
+pub use laws_of_compiling::{
+    cells_compile, loose_properties_lie_on_one_layer, programs_compile, rules_compile,
+};
 pub use laws_of_grids::{
     attempts_keep_grids, game_turns_keep_grids, groups_keep_grids, inputs_keep_grids,
     loops_keep_grids, passes_keep_grids, programs_keep_grids, readings_are_of_games,
