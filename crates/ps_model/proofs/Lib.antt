@@ -29,6 +29,10 @@ mod ObjectRows
 mod OutputRows
 mod SectionRows
 pub mod PassedLoops
+pub mod RisingPlaces
+pub mod TurnedPlaces
+pub mod TurnedAttempts
+pub mod TurnedPrograms
 pub mod SettledGroups
 pub mod Slots
 pub mod Stages
@@ -56,6 +60,7 @@ pub mod WholeRuns
 mod PushRows
 mod RoundRows
 mod PartRows
+mod TurnedRows
 mod PropertyRows
 mod CommandRows
 mod CompiledRows

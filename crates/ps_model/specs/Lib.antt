@@ -44,6 +44,7 @@ pub mod Programs
 pub mod GameGrids
 pub mod EqualMeanings
 pub mod Settling
+pub mod TurnedRound
 pub mod RulePrograms
 pub mod Compiled
 pub mod ReadingFaults

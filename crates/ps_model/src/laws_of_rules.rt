@@ -1,9 +1,10 @@
-//! Laws of rules: what rules that are alike have in common, and when rounds and passes end.
+//! Laws of rules: what rules that are alike have in common, what a rule turned round does, and when rounds and passes end.
 //!
 //! Each function here is a law: it has no body, and its contract is proved.
 
 ghost use Rattle.ps_model.specs.EqualMeanings.{EqualAttempts, EqualRounds, EqualGroups, EqualPasses, EqualLoops, EqualSections, EqualPrograms};
 ghost use Rattle.ps_model.specs.Settling.{GroupsSettle, LoopsPass};
+ghost use Rattle.ps_model.specs.TurnedRound.{PlacesTurned, AttemptsTurned, AttemptsForwards, RoundsForwards, GroupsForwards, PassesForwards, LoopsForwards, SectionsForwards, ProgramsForwards};
 
 /// Rules whose cells fit alike and rewrite alike come to the same, alone, in groups, in loops and in whole programs.
 pub fn equal_meanings()
@@ -21,4 +22,17 @@ pub fn equal_meanings()
 pub fn settling()
     ensures groups { GroupsSettle }
     ensures loops { LoopsPass }
+{}
+
+/// A rule turned round, its rows read from their other ends, does the same the opposite way. So each rule may face down or right.
+pub fn turning_round()
+    ensures places { PlacesTurned }
+    ensures turned { AttemptsTurned }
+    ensures attempts { AttemptsForwards }
+    ensures rounds { RoundsForwards }
+    ensures groups { GroupsForwards }
+    ensures passes { PassesForwards }
+    ensures loops { LoopsForwards }
+    ensures sections { SectionsForwards }
+    ensures programs { ProgramsForwards }
 {}
