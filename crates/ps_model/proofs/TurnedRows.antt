@@ -1,14 +1,15 @@
 -- Rules turned round, worked by hand: rows read from their other ends, their places, and attempts both ways.
-use Rattle.std.proofs.Common.{◌≡◌, ℕ, true, List, [], ◌∷◌, map, reverse, refl}
+use Rattle.std.proofs.Common.{◌≡◌, ℕ, true, List, [], ◌∷◌, map, reverse, refl, ap}
 use Rattle.ps_model.specs.declared.pieces.Direction.{Direction}
 use Rattle.ps_model.specs.declared.pieces.Direction.TheVariants.{Up, Down, Left, Right}
 use Rattle.ps_model.specs.declared.pieces.Motion.TheVariants.{Still}
 use Rattle.ps_model.specs.declared.pieces.Slot.{Slot}
 use Rattle.ps_model.specs.declared.pieces.Slot.TheVariants.{Bare, Holds}
+use Rattle.ps_model.specs.Directions.{opposite}
 use Rattle.ps_model.specs.SourceRules.{no_commands}
 use Rattle.ps_model.specs.RuleMeanings.{CellMeaning, RuleMeaning}
 use Rattle.ps_model.specs.Places.{places}
-use Rattle.ps_model.specs.Attempts.{State, same_cell, attempt}
+use Rattle.ps_model.specs.Attempts.{State, Result, same_cell, attempt}
 use Rattle.ps_model.specs.TurnedRound.{row_turned, turned_round, forwards}
 use Rattle.ps_model.proofs.RuleTexts.{object}
 
@@ -118,3 +119,7 @@ right_stays rows = refl
 -- and may be turned round too
 turned_rightwards : attempt (turned_round (rule_to Right (row_turned row ∷ []))) (across before) ≡ record { state = across behind; changed = true }
 turned_rightwards = refl
+
+-- with the parts alone in reverse order, and not the cells in them, it isn't so that attempts come to the same
+parts_alone_differ : ((rule : RuleMeaning) (state : State) → attempt (record rule { direction = opposite rule.direction; rows = map reverse rule.rows }) state ≡ attempt rule state) → ⊥
+parts_alone_differ law = cc (ap (λ (result : Result). result.changed) (law (rule_to Left (row ∷ [])) (across before)))
