@@ -33,6 +33,8 @@ pub mod RisingPlaces
 pub mod TurnedPlaces
 pub mod TurnedAttempts
 pub mod TurnedPrograms
+pub mod AlikePrograms
+pub mod AlikeRounds
 pub mod SettledGroups
 pub mod Slots
 pub mod Stages

@@ -36,3 +36,10 @@ AllZip-mapped R f g same [] [] h = refl
 AllZip-mapped R f g same [] (y ∷ ys) h = absurd h
 AllZip-mapped R f g same (x ∷ xs) [] h = absurd h
 AllZip-mapped {C = C} R f g same (x ∷ xs) (y ∷ ys) h = ap₂ (λ (z : C) (zs : List C). z ∷ zs) (same x y h.0) (AllZip-mapped R f g same xs ys h.1)
+
+-- what follows place by place
+pub AllZip-weaker : {A B : Type 0} (R S : A → B → Type 0) → ((x : A) (y : B) → R x y → S x y) → (xs : List A) (ys : List B) → AllZip R xs ys → AllZip S xs ys
+AllZip-weaker R S weaker [] [] h = tt
+AllZip-weaker R S weaker [] (y ∷ ys) h = absurd h
+AllZip-weaker R S weaker (x ∷ xs) [] h = absurd h
+AllZip-weaker R S weaker (x ∷ xs) (y ∷ ys) h = (weaker x y h.0, AllZip-weaker R S weaker xs ys h.1)

@@ -70,4 +70,5 @@ pub mod Outputs
 pub mod Fronts
 pub mod GameRules
 pub mod KeptGrids
+pub mod AlikeRounds
 pub mod Headline

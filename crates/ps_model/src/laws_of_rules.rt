@@ -2,6 +2,8 @@
 //!
 //! Each function here is a law: it has no body, and its contract is proved.
 
+ghost use Rattle.ps_model.specs.AlikeRounds.{KeptAreAlike, SameAreAlike, AlikeBothWays, AlikeThroughAnother, AppendedAreAlike, JoinedAreAlike, ForwardsAreAlike, IdleIsLeftOut};
+ghost use Rattle.ps_model.specs.AlikeRounds.{AlikeGroups, AlikePasses, AlikeLoops, AlikeSections, AlikePrograms};
 ghost use Rattle.ps_model.specs.EqualMeanings.{EqualAttempts, EqualRounds, EqualGroups, EqualPasses, EqualLoops, EqualSections, EqualPrograms};
 ghost use Rattle.ps_model.specs.Settling.{GroupsSettle, LoopsPass};
 ghost use Rattle.ps_model.specs.TurnedRound.{PlacesTurned, AttemptsTurned, AttemptsForwards, RoundsForwards, GroupsForwards, PassesForwards, LoopsForwards, SectionsForwards, ProgramsForwards};
@@ -35,4 +37,26 @@ pub fn turning_round()
     ensures loops { LoopsForwards }
     ensures sections { SectionsForwards }
     ensures programs { ProgramsForwards }
+{}
+
+/// Which lists of rules have equal rounds: those that are alike rule by rule, and what is made of such lists. So several rules may
+/// stand for one, each may face down or right, and one that does nothing may be left out.
+pub fn alike_rounds()
+    ensures kept { KeptAreAlike }
+    ensures same { SameAreAlike }
+    ensures back { AlikeBothWays }
+    ensures through { AlikeThroughAnother }
+    ensures appended { AppendedAreAlike }
+    ensures joined { JoinedAreAlike }
+    ensures forwards { ForwardsAreAlike }
+    ensures idle { IdleIsLeftOut }
+{}
+
+/// Lists of rules whose rounds are equal come to the same in groups, in loops and in whole programs.
+pub fn alike_programs()
+    ensures groups { AlikeGroups }
+    ensures passes { AlikePasses }
+    ensures loops { AlikeLoops }
+    ensures sections { AlikeSections }
+    ensures programs { AlikePrograms }
 {}
