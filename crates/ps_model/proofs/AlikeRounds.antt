@@ -11,7 +11,8 @@ use Rattle.ps_model.specs.Programs.{after_change, round}
 use Rattle.ps_model.specs.EqualMeanings.{EqualResults}
 use Rattle.ps_model.specs.TurnedRound.{forwards}
 use Rattle.ps_model.specs.KeptGrids.{Keeps}
-use Rattle.ps_model.specs.AlikeRounds.{Alike, IsIdle}
+use Rattle.ps_model.specs.IdleRules.{IsIdle}
+use Rattle.ps_model.specs.AlikeRounds.{Alike}
 use Rattle.ps_model.proofs.KeptRuns.{round-kept}
 use Rattle.ps_model.proofs.TurnedPrograms.{round-forwards}
 use Rattle.ps_model.proofs.AlikePrograms.{after_change-same}

@@ -34,6 +34,7 @@ pub mod TurnedPlaces
 pub mod TurnedAttempts
 pub mod TurnedPrograms
 pub mod AlikePrograms
+pub mod IdleRules
 pub mod AlikeRounds
 pub mod SettledGroups
 pub mod Slots
@@ -43,6 +44,7 @@ pub mod Steps
 pub mod Winners
 mod WinRows
 pub mod RuleTexts
+pub mod SmallBoards
 mod RuleShapeRows
 mod RuleNameRows
 mod RuleGroupRows
@@ -63,6 +65,7 @@ mod PushRows
 mod RoundRows
 mod PartRows
 mod TurnedRows
+mod IdleRows
 mod PropertyRows
 mod CommandRows
 mod CompiledRows

@@ -17,7 +17,7 @@ use Rattle.ps_model.proofs.Stages.{map-flat_map, same_map, same_flat_map}
 
 -- lists read backwards -----------------------------------------------------------------------------------------------------
 
-map-reverse : {A B : Type 0} (f : A → B) (xs : List A) → map f (reverse xs) ≡ reverse (map f xs)
+pub map-reverse : {A B : Type 0} (f : A → B) (xs : List A) → map f (reverse xs) ≡ reverse (map f xs)
 map-reverse f [] = refl
 map-reverse f (x ∷ xs) =
     ap (map f) (reverse-append (x ∷ []) xs) ∙ map-append f (reverse xs) (x ∷ []) ∙ ap (λ front. front ++ f x ∷ []) (map-reverse f xs) ∙ sym (reverse-append (f x ∷ []) (map f xs))
@@ -54,8 +54,14 @@ sizes-turned row =
     ∙ map-map length reverse row
     ∙ same_map (λ part. length (reverse part)) length length-reverse row
 
+-- what is made of its cells is that of the row's, turned round
+pub row_turned-mapped : {A B : Type 0} (f : A → B) (row : List (List A)) → row_turned (map (map f) row) ≡ map (map f) (row_turned row)
+row_turned-mapped f row =
+    ap reverse (map-map reverse (map f) row ∙ same_map (λ part. reverse (map f part)) (λ part. map f (reverse part)) (λ part. sym (map-reverse f part)) row ∙ sym (map-map (map f) reverse row))
+    ∙ sym (map-reverse (map f) (map reverse row))
+
 -- turned round twice it is as it was
-pub row_turned-twice : (row : List (List CellMeaning)) → row_turned (row_turned row) ≡ row
+pub row_turned-twice : {Cell : Type 0} (row : List (List Cell)) → row_turned (row_turned row) ≡ row
 row_turned-twice row = ap reverse (map-reverse reverse (map reverse row)) ∙ reverse-reverse (map reverse (map reverse row)) ∙ each_twice row
 
 -- what fits ----------------------------------------------------------------------------------------------------------------

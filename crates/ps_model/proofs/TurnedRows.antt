@@ -1,17 +1,13 @@
 -- Rules turned round, worked by hand: rows read from their other ends, their places, and attempts both ways.
-use Rattle.std.proofs.Common.{◌≡◌, ℕ, true, List, [], ◌∷◌, map, reverse, refl, ap}
-use Rattle.ps_model.specs.declared.pieces.Direction.{Direction}
+use Rattle.std.proofs.Common.{◌≡◌, true, List, [], ◌∷◌, map, reverse, refl, ap}
 use Rattle.ps_model.specs.declared.pieces.Direction.TheVariants.{Up, Down, Left, Right}
-use Rattle.ps_model.specs.declared.pieces.Motion.TheVariants.{Still}
 use Rattle.ps_model.specs.declared.pieces.Slot.{Slot}
-use Rattle.ps_model.specs.declared.pieces.Slot.TheVariants.{Bare, Holds}
 use Rattle.ps_model.specs.Directions.{opposite}
-use Rattle.ps_model.specs.SourceRules.{no_commands}
 use Rattle.ps_model.specs.RuleMeanings.{CellMeaning, RuleMeaning}
 use Rattle.ps_model.specs.Places.{places}
-use Rattle.ps_model.specs.Attempts.{State, Result, same_cell, attempt}
+use Rattle.ps_model.specs.Attempts.{State, Result, attempt}
 use Rattle.ps_model.specs.TurnedRound.{row_turned, turned_round, forwards}
-use Rattle.ps_model.proofs.RuleTexts.{object}
+use Rattle.ps_model.proofs.SmallBoards.{holding, bare, becomes, rule_to, across, upright, before}
 
 -- rows ---------------------------------------------------------------------------------------------------------------------
 
@@ -19,36 +15,11 @@ use Rattle.ps_model.proofs.RuleTexts.{object}
 row_from_other_end : (a b c : CellMeaning) → row_turned ((a ∷ []) ∷ (b ∷ c ∷ []) ∷ []) ≡ (c ∷ b ∷ []) ∷ (a ∷ []) ∷ []
 row_from_other_end a b c = refl
 
--- boards of one layer ------------------------------------------------------------------------------------------------------
-
--- a cell with that object, and one with none
-abbrev holding : ℕ → List Slot
-holding number = Holds (object number) Still ∷ []
-
-abbrev bare : List Slot
-bare = Bare ∷ []
-
--- the cell of a rule that fits one object, and puts another in its place
-abbrev becomes : ℕ → ℕ → CellMeaning
-becomes first second = record { fits = same_cell (holding first); rewritten = λ cell. holding second }
+-- a rule and a board behind it ---------------------------------------------------------------------------------------------
 
 -- [ 1 | ... | 2 | 3 ] -> [ 4 | ... | 5 | 6 ]
 abbrev row : List (List CellMeaning)
 row = (becomes 1 4 ∷ []) ∷ (becomes 2 5 ∷ becomes 3 6 ∷ []) ∷ []
-
-abbrev rule_to : Direction → List (List (List CellMeaning)) → RuleMeaning
-rule_to direction rows = record { direction = direction; rows = rows; rewrites = true; commands = no_commands }
-
--- a board with one row of cells, and a board with one column
-abbrev across : List (List Slot) → State
-across cells = record { grid = record { width = 6; height = 1; layers = 1; cells = cells }; queue = no_commands }
-
-abbrev upright : List (List Slot) → State
-upright cells = record { grid = record { width = 1; height = 6; layers = 1; cells = cells }; queue = no_commands }
-
--- 3 2 . 1 1 .
-abbrev before : List (List Slot)
-before = holding 3 ∷ holding 2 ∷ bare ∷ holding 1 ∷ holding 1 ∷ bare ∷ []
 
 -- 6 5 . 4 1 .
 abbrev behind : List (List Slot)

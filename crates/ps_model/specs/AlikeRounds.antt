@@ -1,16 +1,17 @@
 -- Two lists of rules are alike on a game where their rounds come to the same from each grid of the game, and to a grid of the game.
 -- They needn't be alike rule by rule, nor have as many rules: several may stand for one, some may be left out, and each may face
 -- down or right. Whatever is made of rounds comes to the same then: groups, passes, loops, sections and programs.
-use Rattle.std.specs.Prelude.{◌≡◌, ℕ, false, List, ◌∷◌, ◌++◌, map, All}
+use Rattle.std.specs.Prelude.{ℕ, List, ◌∷◌, ◌++◌, map, All}
 use Rattle.std.specs.List.{AllZip, flat_map}
 use Rattle.ps_model.specs.Names.{Names}
 use Rattle.ps_model.specs.GameGrids.{IsGridOf}
 use Rattle.ps_model.specs.RuleMeanings.{RuleMeaning}
-use Rattle.ps_model.specs.Attempts.{State, attempt}
+use Rattle.ps_model.specs.Attempts.{State}
 use Rattle.ps_model.specs.Programs.{Section, Group, Loop, round, group, pass, looped, section_run, program_run}
 use Rattle.ps_model.specs.EqualMeanings.{SameGroup, EqualResults, EqualProgress, EqualStates}
 use Rattle.ps_model.specs.TurnedRound.{forwards}
 use Rattle.ps_model.specs.KeptGrids.{Keeps}
+use Rattle.ps_model.specs.IdleRules.{IsIdle}
 
 -- alike --------------------------------------------------------------------------------------------------------------------
 
@@ -24,10 +25,6 @@ AlikeSection names (Group a) (Group b) = Alike names a b
 AlikeSection names (Group a) (Loop b) = ⊥
 AlikeSection names (Loop a) (Group b) = ⊥
 AlikeSection names (Loop a) (Loop b) = AllZip (Alike names) a b
-
--- a rule does nothing on a game: from each of its grids an attempt comes to the state that was there, and nothing changed
-abbrev pub IsIdle : Names → RuleMeaning → Type 0
-IsIdle names rule = (state : State) → IsGridOf names state.grid → attempt rule state ≡ record { state = state; changed = false }
 
 -- what is alike --------------------------------------------------------------------------------------------------------------
 

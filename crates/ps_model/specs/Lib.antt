@@ -70,5 +70,6 @@ pub mod Outputs
 pub mod Fronts
 pub mod GameRules
 pub mod KeptGrids
+pub mod IdleRules
 pub mod AlikeRounds
 pub mod Headline

@@ -13,8 +13,8 @@ use Rattle.ps_model.specs.Programs.{Section, Group, Loop, round, group, pass, lo
 
 -- turned round -------------------------------------------------------------------------------------------------------------
 
--- a row read from its other end: its last part comes first, and each part's last cell
-abbrev pub row_turned : List (List CellMeaning) → List (List CellMeaning)
+-- a row read from its other end, whatever its cells are: its last part comes first, and each part's last cell
+abbrev pub row_turned : {Cell : Type 0} → List (List Cell) → List (List Cell)
 row_turned row = reverse (map reverse row)
 
 -- a rule turned round: it faces the opposite way, and its rows are read from their other ends

@@ -1,10 +1,12 @@
-//! Laws of rules: what rules that are alike have in common, what a rule turned round does, and when rounds and passes end.
+//! Laws of rules: what rules that are alike have in common, what a rule turned round does, which rules do nothing, and when rounds
+//! and passes end.
 //!
 //! Each function here is a law: it has no body, and its contract is proved.
 
 ghost use Rattle.ps_model.specs.AlikeRounds.{KeptAreAlike, SameAreAlike, AlikeBothWays, AlikeThroughAnother, AppendedAreAlike, JoinedAreAlike, ForwardsAreAlike, IdleIsLeftOut};
 ghost use Rattle.ps_model.specs.AlikeRounds.{AlikeGroups, AlikePasses, AlikeLoops, AlikeSections, AlikePrograms};
 ghost use Rattle.ps_model.specs.EqualMeanings.{EqualAttempts, EqualRounds, EqualGroups, EqualPasses, EqualLoops, EqualSections, EqualPrograms};
+ghost use Rattle.ps_model.specs.IdleRules.{NowhereIsNothing, FittingNoneIsIdle, LeavingAllIsIdle};
 ghost use Rattle.ps_model.specs.Settling.{GroupsSettle, LoopsPass};
 ghost use Rattle.ps_model.specs.TurnedRound.{PlacesTurned, AttemptsTurned, AttemptsForwards, RoundsForwards, GroupsForwards, PassesForwards, LoopsForwards, SectionsForwards, ProgramsForwards};
 
@@ -59,4 +61,12 @@ pub fn alike_programs()
     ensures loops { AlikeLoops }
     ensures sections { AlikeSections }
     ensures programs { AlikePrograms }
+{}
+
+/// A rule does nothing where one of its cells fits none of the board's, and nothing at all where it has no commands and its cells
+/// leave what they fit as it is.
+pub fn idle_rules()
+    ensures nowhere { NowhereIsNothing }
+    ensures none { FittingNoneIsIdle }
+    ensures leaving { LeavingAllIsIdle }
 {}
