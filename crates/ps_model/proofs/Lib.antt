@@ -30,6 +30,13 @@ mod ObjectRows
 mod OutputRows
 mod SectionRows
 pub mod PassedLoops
+pub mod RisingPlaces
+pub mod TurnedPlaces
+pub mod TurnedAttempts
+pub mod TurnedPrograms
+pub mod AlikePrograms
+pub mod IdleRules
+pub mod AlikeRounds
 pub mod SettledGroups
 pub mod Slots
 pub mod Stages
@@ -38,6 +45,7 @@ pub mod Steps
 pub mod Winners
 mod WinRows
 pub mod RuleTexts
+pub mod SmallBoards
 mod RuleShapeRows
 mod RuleNameRows
 mod RuleGroupRows
@@ -61,6 +69,8 @@ pub mod WholeRuns
 mod PushRows
 mod RoundRows
 mod PartRows
+mod TurnedRows
+mod IdleRows
 mod PropertyRows
 mod CommandRows
 mod CompiledRows

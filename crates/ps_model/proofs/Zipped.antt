@@ -53,3 +53,10 @@ AllZip-flat_map P R f m g made [] all = tt
 AllZip-flat_map P R f m g made (x ∷ xs) all =
     subst (λ made. AllZip R made (flat_map g (x ∷ xs))) (sym (map-append m (f x) (flat_map f xs)))
     (AllZip-append R (map m (f x)) (g x) (map m (flat_map f xs)) (flat_map g xs) (made x (All-head P x xs all)) (AllZip-flat_map P R f m g made xs (All-tail P x xs all)))
+
+-- what follows place by place
+pub AllZip-weaker : {A B : Type 0} (R S : A → B → Type 0) → ((x : A) (y : B) → R x y → S x y) → (xs : List A) (ys : List B) → AllZip R xs ys → AllZip S xs ys
+AllZip-weaker R S weaker [] [] h = tt
+AllZip-weaker R S weaker [] (y ∷ ys) h = absurd h
+AllZip-weaker R S weaker (x ∷ xs) [] h = absurd h
+AllZip-weaker R S weaker (x ∷ xs) (y ∷ ys) h = (weaker x y h.0, AllZip-weaker R S weaker xs ys h.1)

@@ -44,6 +44,7 @@ pub mod Programs
 pub mod GameGrids
 pub mod EqualMeanings
 pub mod Settling
+pub mod TurnedRound
 pub mod RulePrograms
 pub mod Compiled
 pub mod ReadingFaults
@@ -71,4 +72,6 @@ pub mod GameRules
 pub mod KeptGrids
 pub mod CompiledCells
 pub mod CompiledRules
+pub mod IdleRules
+pub mod AlikeRounds
 pub mod Headline

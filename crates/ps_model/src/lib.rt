@@ -29,7 +29,9 @@ pub use laws_of_grids::{
     rules_keep_cells, runs_keep_grids, sections_keep_grids, settling_keeps_grids,
     slides_keep_grids, turns_keep_grids,
 };
-pub use laws_of_rules::{equal_meanings, settling};
+pub use laws_of_rules::{
+    alike_programs, alike_rounds, equal_meanings, idle_rules, settling, turning_round,
+};
 pub use laws_of_runs::{
     ends_of_output, fronts_of_output, held_bytes, keys_in_pieces, one_game, readings_by_stages,
 };
