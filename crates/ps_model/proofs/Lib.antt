@@ -72,3 +72,5 @@ mod OddTextRows
 mod OddRuleRows
 pub mod LinesInOrder
 pub mod FirstFaults
+pub mod KeptSides
+pub mod RulesOfNames

@@ -70,3 +70,6 @@ pub mod Fronts
 pub mod GameRules
 pub mod KeptGrids
 pub mod Headline
+pub mod GameLevels
+pub mod GamesOfTexts
+pub mod SameSides

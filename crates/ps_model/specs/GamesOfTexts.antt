@@ -1,0 +1,65 @@
+-- What every game of a text is: its names are bounded, it has an object and a layer, its rules speak of its own objects alone, and
+-- each of its levels is loaded as a grid of the game.
+use Rattle.std.specs.Prelude.{◌≡◌, ℕ, ◌<◌, Some, List, [], All}
+use Rattle.ps_model.specs.Lines.{Line}
+use Rattle.ps_model.specs.Names.{Names, object_count}
+use Rattle.ps_model.specs.NamesRead.{names_read}
+use Rattle.ps_model.specs.NameFaults.{name_faults}
+use Rattle.ps_model.specs.NameBounds.{AreBounded}
+use Rattle.ps_model.specs.RuleLines.{rules_read}
+use Rattle.ps_model.specs.GameRules.{IsLineOf}
+use Rattle.ps_model.specs.Levels.{Level, loaded}
+use Rattle.ps_model.specs.LevelLines.{entries_read}
+use Rattle.ps_model.specs.GameLevels.{IsLevelOf, IsEntryOf}
+use Rattle.ps_model.specs.GameGrids.{IsGridOf}
+use Rattle.ps_model.specs.Games.{Game, game}
+
+-- names ------------------------------------------------------------------------------------------------------------------
+
+-- names of lines without faults are bounded
+abbrev pub NamesReadAreBounded : Type 0
+NamesReadAreBounded =
+    (header : ℕ) (object_lines legend_lines layer_lines : List Line) → name_faults header object_lines legend_lines layer_lines ≡ [] →
+    AreBounded (names_read object_lines legend_lines layer_lines)
+
+-- so are the names of a game
+abbrev pub GamesAreBounded : Type 0
+GamesAreBounded = (text : List ℕ) (read : Game) → game text ≡ Some read → AreBounded read.names
+
+-- there is an object, and a layer
+abbrev pub HasObject : Names → Type 0
+HasObject names = (0 < object_count names) × (0 < names.layer_count)
+
+-- lines without faults of names declare an object, and a layer
+abbrev pub NamesReadHaveObjects : Type 0
+NamesReadHaveObjects =
+    (header : ℕ) (object_lines legend_lines layer_lines : List Line) → name_faults header object_lines legend_lines layer_lines ≡ [] →
+    HasObject (names_read object_lines legend_lines layer_lines)
+
+-- so a game has an object, and a layer
+abbrev pub GamesHaveObjects : Type 0
+GamesHaveObjects = (text : List ℕ) (read : Game) → game text ≡ Some read → HasObject read.names
+
+-- rules ------------------------------------------------------------------------------------------------------------------
+
+-- rules that are read, with names that are bounded, speak of objects of the game alone
+abbrev pub RulesReadAreOfNames : Type 0
+RulesReadAreOfNames = (names : Names) (lines : List Line) → AreBounded names → All (IsLineOf names) (rules_read names lines)
+
+-- so do the rules of a game
+abbrev pub GameRulesAreOfNames : Type 0
+GameRulesAreOfNames = (text : List ℕ) (read : Game) → game text ≡ Some read → All (IsLineOf read.names) read.rules
+
+-- levels -----------------------------------------------------------------------------------------------------------------
+
+-- a level of a game is loaded as a grid of the game
+abbrev pub LoadedLevelsAreGrids : Type 0
+LoadedLevelsAreGrids = (names : Names) (level : Level) → IsLevelOf names level → IsGridOf names (loaded names level)
+
+-- entries that are read, with names that are bounded and of which one is an object, are of the game
+abbrev pub EntriesReadAreOfNames : Type 0
+EntriesReadAreOfNames = (names : Names) (lines : List Line) → AreBounded names → 0 < object_count names → All (IsEntryOf names) (entries_read names lines)
+
+-- so are the entries of a game
+abbrev pub GameEntriesAreOfNames : Type 0
+GameEntriesAreOfNames = (text : List ℕ) (read : Game) → game text ≡ Some read → All (IsEntryOf read.names) read.entries
