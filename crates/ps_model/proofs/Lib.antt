@@ -74,3 +74,4 @@ pub mod LinesInOrder
 pub mod FirstFaults
 pub mod KeptSides
 pub mod RulesOfNames
+pub mod LevelsOfNames

@@ -1,7 +1,14 @@
 //! Laws of the definitions: what every game of a text is.
-ghost use Rattle.ps_model.specs.GamesOfTexts.{RulesReadAreOfNames};
+ghost use Rattle.ps_model.specs.GamesOfTexts.{RulesReadAreOfNames, LoadedLevelsAreGrids, EntriesReadAreOfNames};
 
 /// Rules that are read, with names that are bounded, speak of objects of the game alone.
 pub fn rules_are_of_games()
     ensures read { RulesReadAreOfNames }
+{}
+
+/// A level of a game is loaded as a grid of the game; and so are the levels that are read, with names that are bounded and of which
+/// one is an object.
+pub fn levels_are_of_games()
+    ensures loaded { LoadedLevelsAreGrids }
+    ensures read { EntriesReadAreOfNames }
 {}
