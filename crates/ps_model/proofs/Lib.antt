@@ -75,3 +75,6 @@ pub mod FirstFaults
 pub mod KeptSides
 pub mod RulesOfNames
 pub mod LevelsOfNames
+pub mod MentionedObjects
+pub mod FaultlessNames
+pub mod BoundedNames

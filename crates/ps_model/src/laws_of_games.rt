@@ -1,5 +1,11 @@
 //! Laws of the definitions: what every game of a text is.
-ghost use Rattle.ps_model.specs.GamesOfTexts.{RulesReadAreOfNames, LoadedLevelsAreGrids, EntriesReadAreOfNames};
+ghost use Rattle.ps_model.specs.GamesOfTexts.{NamesReadAreBounded, GamesAreBounded, RulesReadAreOfNames, LoadedLevelsAreGrids, EntriesReadAreOfNames};
+
+/// Names of lines without faults are bounded, and so are the names of every game.
+pub fn names_are_bounded()
+    ensures read { NamesReadAreBounded }
+    ensures games { GamesAreBounded }
+{}
 
 /// Rules that are read, with names that are bounded, speak of objects of the game alone.
 pub fn rules_are_of_games()
