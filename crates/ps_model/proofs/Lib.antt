@@ -78,3 +78,7 @@ pub mod LevelsOfNames
 pub mod MentionedObjects
 pub mod FaultlessNames
 pub mod BoundedNames
+pub mod OptionalSteps
+pub mod AllMentioned
+pub mod NoObjects
+pub mod ObjectsThere

@@ -20,6 +20,7 @@ use Rattle.ps_model.specs.RuleTree.{named_item, items_behind, is_gap, cell_of, r
 use Rattle.ps_model.specs.RuleLines.{LineForm, StartForm, EndForm, RuleForm, NoForm, form_of_shape, form_of_words, form_of, line_of_form, lines_with_words}
 use Rattle.ps_model.specs.GameRules.{IsItemOf, IsPairOf, IsRuleOf, IsLineOf}
 use Rattle.ps_model.specs.GamesOfTexts.{RulesReadAreOfNames}
+use Rattle.ps_model.proofs.OptionalSteps.{step-each, only_if-each}
 use Rattle.ps_model.proofs.Everywhere.{either_one, All-always, All-mapped, All-filter_map, All-slice_split}
 
 -- words ------------------------------------------------------------------------------------------------------------------
@@ -74,15 +75,6 @@ tokens_kept-game : (names : Names) (tokens : List Token) → All (IsTokenOf name
 tokens_kept-game names tokens all = All-filter (λ (token : Token). not (is_left_out token.symbol)) (IsTokenOf names) tokens all
 
 -- shapes -----------------------------------------------------------------------------------------------------------------
-
--- a step that may fail, behind another
-step-each : {A B : Type 0} (P : A → Type 0) (Q : B → Type 0) (found : Option A) (next : A → Option B) → IfSome found P → ((a : A) → P a → IfSome (next a) Q) → IfSome (found >>= next) Q
-step-each P Q None next h k = tt
-step-each P Q (Some a) next h k = k a h
-
-only_if-each : {A : Type 0} (P : A → Type 0) (test : Bool) (a : A) → P a → IfSome (only_if test a) P
-only_if-each P true a h = h
-only_if-each P false a h = tt
 
 one-there : {A : Type 0} (P : A → Type 0) (a : A) (others : Option (List A)) → P a → IfSome others (All P) → IfSome (option_map (λ others. a ∷ others) others) (All P)
 one-there P a None h all = tt

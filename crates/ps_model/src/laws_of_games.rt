@@ -1,10 +1,16 @@
 //! Laws of the definitions: what every game of a text is.
-ghost use Rattle.ps_model.specs.GamesOfTexts.{NamesReadAreBounded, GamesAreBounded, RulesReadAreOfNames, LoadedLevelsAreGrids, EntriesReadAreOfNames};
+ghost use Rattle.ps_model.specs.GamesOfTexts.{NamesReadAreBounded, GamesAreBounded, NamesReadHaveObjects, GamesHaveObjects, RulesReadAreOfNames, LoadedLevelsAreGrids, EntriesReadAreOfNames};
 
 /// Names of lines without faults are bounded, and so are the names of every game.
 pub fn names_are_bounded()
     ensures read { NamesReadAreBounded }
     ensures games { GamesAreBounded }
+{}
+
+/// Lines without faults of names declare an object, and a layer; so each game has an object, and a layer.
+pub fn games_have_objects()
+    ensures read { NamesReadHaveObjects }
+    ensures games { GamesHaveObjects }
 {}
 
 /// Rules that are read, with names that are bounded, speak of objects of the game alone.

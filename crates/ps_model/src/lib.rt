@@ -20,7 +20,9 @@ mod texts;
 
 pub use faults::{Fault, FaultKind};
 pub use held::Held;
-pub use laws_of_games::{levels_are_of_games, names_are_bounded, rules_are_of_games};
+pub use laws_of_games::{
+    games_have_objects, levels_are_of_games, names_are_bounded, rules_are_of_games,
+};
 pub use laws_of_grids::{
     attempts_keep_grids, game_turns_keep_grids, groups_keep_grids, inputs_keep_grids,
     loops_keep_grids, passes_keep_grids, programs_keep_grids, readings_are_of_games,
