@@ -82,3 +82,4 @@ pub mod OptionalSteps
 pub mod AllMentioned
 pub mod NoObjects
 pub mod ObjectsThere
+pub mod GamesOfTexts

@@ -1,6 +1,7 @@
--- What every game of a text is: its names are bounded, it has an object and a layer, its rules speak of its own objects alone, and
--- each of its levels is loaded as a grid of the game.
-use Rattle.std.specs.Prelude.{◌≡◌, ℕ, ◌<◌, Some, List, [], All}
+-- What every game of a text is: its names are bounded, it has an object and a layer, its rules speak of its own objects alone, each of
+-- its levels is loaded as a grid of the game, and each of its turns keeps such grids.
+use Rattle.std.specs.Prelude.{◌≡◌, ℕ, ◌<◌, Option, Some, List, [], All, ⊤}
+use Rattle.ps_model.specs.declared.play.Input.{Input}
 use Rattle.ps_model.specs.Lines.{Line}
 use Rattle.ps_model.specs.Names.{Names, object_count}
 use Rattle.ps_model.specs.NamesRead.{names_read}
@@ -9,10 +10,14 @@ use Rattle.ps_model.specs.NameBounds.{AreBounded}
 use Rattle.ps_model.specs.RuleLines.{rules_read}
 use Rattle.ps_model.specs.GameRules.{IsLineOf}
 use Rattle.ps_model.specs.Levels.{Level, loaded}
-use Rattle.ps_model.specs.LevelLines.{entries_read}
+use Rattle.ps_model.specs.LevelLines.{Entry, MessageEntry, LevelEntry, entries_read}
 use Rattle.ps_model.specs.GameLevels.{IsLevelOf, IsEntryOf}
 use Rattle.ps_model.specs.GameGrids.{IsGridOf}
+use Rattle.ps_model.specs.Grid.{Grid}
 use Rattle.ps_model.specs.Games.{Game, game}
+use Rattle.ps_model.specs.Turns.{script_of, turn}
+use Rattle.ps_model.specs.KeptGrids.{IsOutcomeOf}
+use Rattle.ps_model.specs.SameSides.{HasSides}
 
 -- names ------------------------------------------------------------------------------------------------------------------
 
@@ -63,3 +68,20 @@ EntriesReadAreOfNames = (names : Names) (lines : List Line) → AreBounded names
 -- so are the entries of a game
 abbrev pub GameEntriesAreOfNames : Type 0
 GameEntriesAreOfNames = (text : List ℕ) (read : Game) → game text ≡ Some read → All (IsEntryOf read.names) read.entries
+
+-- the entry is a level that is loaded as a grid of the game, or a message
+abbrev pub LoadsAsGrid : Names → Entry → Type 0
+LoadsAsGrid names (MessageEntry text) = ⊤
+LoadsAsGrid names (LevelEntry level) = IsGridOf names (loaded names level)
+
+-- each level of a game is loaded as a grid of the game
+abbrev pub GameLevelsAreGrids : Type 0
+GameLevelsAreGrids = (text : List ℕ) (read : Game) → game text ≡ Some read → All (LoadsAsGrid read.names) read.entries
+
+-- turns ------------------------------------------------------------------------------------------------------------------
+
+-- a turn of a game makes of each grid of the game one of the game, with the same sides
+abbrev pub GameTurnsKeepAll : Type 0
+GameTurnsKeepAll =
+    (text : List ℕ) (read : Game) → game text ≡ Some read → (input : Option Input) (g : Grid) → IsGridOf read.names g →
+    IsOutcomeOf read.names (turn (script_of read) input g) × HasSides g (turn (script_of read) input g)

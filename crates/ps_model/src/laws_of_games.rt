@@ -1,5 +1,5 @@
 //! Laws of the definitions: what every game of a text is.
-ghost use Rattle.ps_model.specs.GamesOfTexts.{NamesReadAreBounded, GamesAreBounded, NamesReadHaveObjects, GamesHaveObjects, RulesReadAreOfNames, LoadedLevelsAreGrids, EntriesReadAreOfNames};
+ghost use Rattle.ps_model.specs.GamesOfTexts.{NamesReadAreBounded, GamesAreBounded, NamesReadHaveObjects, GamesHaveObjects, RulesReadAreOfNames, GameRulesAreOfNames, LoadedLevelsAreGrids, EntriesReadAreOfNames, GameEntriesAreOfNames, GameLevelsAreGrids, GameTurnsKeepAll};
 
 /// Names of lines without faults are bounded, and so are the names of every game.
 pub fn names_are_bounded()
@@ -13,14 +13,22 @@ pub fn games_have_objects()
     ensures games { GamesHaveObjects }
 {}
 
-/// Rules that are read, with names that are bounded, speak of objects of the game alone.
+/// Rules that are read, with names that are bounded, speak of objects of the game alone; so do the rules of every game.
 pub fn rules_are_of_games()
     ensures read { RulesReadAreOfNames }
+    ensures games { GameRulesAreOfNames }
 {}
 
-/// A level of a game is loaded as a grid of the game; and so are the levels that are read, with names that are bounded and of which
-/// one is an object.
+/// A level of a game is loaded as a grid of the game. The levels that are read, with names that are bounded and of which one is an
+/// object, are of the game; so are the levels of every game.
 pub fn levels_are_of_games()
     ensures loaded { LoadedLevelsAreGrids }
     ensures read { EntriesReadAreOfNames }
+    ensures games { GameEntriesAreOfNames }
+    ensures grids { GameLevelsAreGrids }
+{}
+
+/// A turn of a game makes of each grid of the game one of the game, with the same sides.
+pub fn turns_are_of_games()
+    ensures { GameTurnsKeepAll }
 {}

@@ -22,6 +22,7 @@ pub use faults::{Fault, FaultKind};
 pub use held::Held;
 pub use laws_of_games::{
     games_have_objects, levels_are_of_games, names_are_bounded, rules_are_of_games,
+    turns_are_of_games,
 };
 pub use laws_of_grids::{
     attempts_keep_grids, game_turns_keep_grids, groups_keep_grids, inputs_keep_grids,
