@@ -1,5 +1,5 @@
 -- The names of lines without faults are bounded, and so are those of every game.
-use Rattle.std.proofs.Common.{◌≡◌, ℕ, zero, suc, ◌+◌, ◌<◌, ◌≤◌, ◌==◌, Bool, true, false, List, [], ◌∷◌, ◌++◌, map, length, refl, sym, Option, Some, None, arith, All}
+use Rattle.std.proofs.Common.{◌≡◌, ℕ, suc, ◌+◌, ◌<◌, ◌≤◌, ◌==◌, Bool, true, false, List, [], ◌∷◌, ◌++◌, map, length, refl, sym, Option, Some, None, arith, All}
 use mathlib.Core.Path.{subst}
 use Rattle.std.specs.Prelude.{IfSome, filter}
 use Rattle.std.specs.List.{filter_map, enumerate_from, range_with_len, last_or, zip, list_any}
@@ -14,18 +14,17 @@ use Rattle.ps_model.specs.declared.faults.Fault.{Fault}
 use Rattle.ps_model.specs.declared.faults.FaultKind.TheVariants.{NoLayer, BadObject, Twice, TooManyNames, UnknownName, AggregateInLayer, BadLine}
 use Rattle.ps_model.specs.Faults.{when}
 use Rattle.ps_model.specs.Limits.{object_limit, layer_limit}
-use Rattle.ps_model.specs.Lines.{Line, folded}
-use Rattle.ps_model.specs.Names.{Meaning, One, AllOf, AnyOf, Glyph, is_among, object_count}
+use Rattle.ps_model.specs.Lines.{folded}
+use Rattle.ps_model.specs.Names.{Meaning, One, AllOf, AnyOf, Glyph, is_among}
 use Rattle.ps_model.specs.NameBounds.{IsBelow, AreBounded}
 use Rattle.ps_model.specs.WrittenLines.{WrittenLine}
 use Rattle.ps_model.specs.ObjectLines.{ObjectText, one_character}
 use Rattle.ps_model.specs.Meanings.{is_aggregate}
 use Rattle.ps_model.specs.LayerLines.{Layer, objects_named, last_among, layers_found}
 use Rattle.ps_model.specs.NamesRead.{Declared, NameSections, entry_of, entries_of, glyph_of, glyph_with, layer_numbers, names_of, sections_of, name_sections}
-use Rattle.ps_model.specs.DeclarationFaults.{are_declared_again, is_bad_object, faults_of_object, object_faults, faults_of_layer, layer_faults}
-use Rattle.ps_model.specs.NameFaults.{no_layer_faults, name_faults}
+use Rattle.ps_model.specs.DeclarationFaults.{are_declared_again, is_bad_object, faults_of_object, object_faults, faults_of_layer}
 use Rattle.ps_model.specs.GamesOfTexts.{NamesReadAreBounded, GamesAreBounded}
-use Rattle.ps_model.proofs.Everywhere.{either_one, All-mapped, All-filter_map}
+use Rattle.ps_model.proofs.Everywhere.{All-filter_map}
 use Rattle.ps_model.proofs.MentionedObjects.{Speaks, all_declared-below}
 use Rattle.ps_model.proofs.FaultlessNames.{none-before, none-behind, untold, IsFaultless, faultless_sections, names_of_every_game}
 

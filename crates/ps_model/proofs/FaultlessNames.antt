@@ -9,10 +9,10 @@ use Rattle.ps_model.specs.TextFaults.{text_fault}
 use Rattle.ps_model.specs.Lines.{Line, lines_of}
 use Rattle.ps_model.specs.Sections.{section_lines, header_number, heading_faults}
 use Rattle.ps_model.specs.Names.{Names}
-use Rattle.ps_model.specs.NamesRead.{NameSections, name_sections, names_read}
+use Rattle.ps_model.specs.NamesRead.{NameSections, names_read}
 use Rattle.ps_model.specs.DeclarationFaults.{object_faults, form_faults, naming_faults, layer_faults}
 use Rattle.ps_model.specs.NameFaults.{folded_names, no_layer_faults, missing_faults, whole_faults, faults_of_sections, name_faults}
-use Rattle.ps_model.specs.Games.{Game, game_read, line_faults, faults, game}
+use Rattle.ps_model.specs.Games.{Game, game_read, line_faults, game}
 use Rattle.ps_model.proofs.OneGame.{game_is_faultless}
 
 -- there are no faults in the parts of none

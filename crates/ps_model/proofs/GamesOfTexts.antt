@@ -1,19 +1,19 @@
 -- The rules of every game speak of its own objects alone, each of its levels is loaded as a grid of the game, and each of its turns
 -- keeps such grids and their sides.
-use Rattle.std.proofs.Common.{◌≡◌, ℕ, ◌<◌, List, [], Option, Some}
+use Rattle.std.proofs.Common.{◌≡◌, List, []}
 use Rattle.std.specs.Prelude.{All}
 use Rattle.std.proofs.lemmas.List.Elements.{All-weaker}
 use Rattle.ps_model.specs.declared.texts.Section.TheVariants.{Objects, Legend, Layers, Rules, Levels}
 use Rattle.ps_model.specs.Lines.{Line}
 use Rattle.ps_model.specs.Sections.{section_lines, header_number}
-use Rattle.ps_model.specs.Names.{Names, object_count}
+use Rattle.ps_model.specs.Names.{Names}
 use Rattle.ps_model.specs.NamesRead.{names_read}
 use Rattle.ps_model.specs.NameBounds.{AreBounded}
 use Rattle.ps_model.specs.NameFaults.{name_faults}
 use Rattle.ps_model.specs.GameRules.{IsLineOf}
 use Rattle.ps_model.specs.LevelLines.{Entry, MessageEntry, LevelEntry}
 use Rattle.ps_model.specs.GameLevels.{IsEntryOf}
-use Rattle.ps_model.specs.Games.{Game, game_read}
+use Rattle.ps_model.specs.Games.{Game}
 use Rattle.ps_model.specs.Turns.{script_of}
 use Rattle.ps_model.specs.GamesOfTexts.{HasObject, LoadsAsGrid, GameRulesAreOfNames, GameEntriesAreOfNames, GameLevelsAreGrids, GameTurnsKeepAll}
 use Rattle.ps_model.proofs.FaultlessNames.{of_every_game}

@@ -4,14 +4,14 @@ use Rattle.std.specs.Prelude.{All, slice_get, not, if◌then◌else◌}
 use Rattle.ps_model.specs.declared.pieces.Slot.{Slot}
 use Rattle.ps_model.specs.declared.play.Input.{Input}
 use Rattle.ps_model.specs.Names.{Names}
-use Rattle.ps_model.specs.Grid.{Grid, at_rest}
+use Rattle.ps_model.specs.Grid.{Grid}
 use Rattle.ps_model.specs.RuleMeanings.{CellMeaning, RuleMeaning}
 use Rattle.ps_model.specs.SourceRules.{no_commands}
 use Rattle.ps_model.specs.Places.{cells_in}
 use Rattle.ps_model.specs.Attempts.{State, Rewritten, with_cell, rewritten_cell, rewritten_along, all_fit, rewritten_rows, applied, combinations_on, attempt}
 use Rattle.ps_model.specs.Programs.{Section, Group, Loop, program_run}
 use Rattle.ps_model.specs.Movement.{slid}
-use Rattle.ps_model.specs.Turns.{Script, Outcome, Blocked, Restarted, Finished, prepared, moved, played, same_cells, is_held, done_with, turn}
+use Rattle.ps_model.specs.Turns.{Script, Outcome, Blocked, Restarted, Finished, prepared, moved, played, same_cells, is_held, done_with}
 use Rattle.ps_model.specs.SameSides.{SameSides, HasSides, AttemptsKeepSides, RoundsKeepSides, SettlingKeepsSides, GroupsKeepSides, PassesKeepSides, LoopsKeepSides, SectionsKeepSides, RunsKeepSides, ProgramsKeepSides, SlidesKeepSides, RestKeepsSides, InputsKeepSides, TurnsKeepSides}
 use Rattle.ps_model.proofs.Everywhere.{either_way, either_one, All-always}
 use Rattle.ps_model.proofs.KeptPrograms.{RuleKeeps, SectionKeeps, round-keeps, settled-keeps, group-keeps, pass-keeps, looped-keeps, section_run-keeps, sections_run-keeps, program_run-keeps}

@@ -1,8 +1,8 @@
 -- The levels that are read have objects of the game alone and as many cells as their sides say, and so each is loaded as a grid of
 -- the game.
-use Rattle.std.proofs.Common.{◌≡◌, ℕ, zero, suc, ◌+◌, ◌*◌, ◌<◌, ◌≤◌, ◌⊎◌, inl, inr, Bool, true, false, cond, Option, Some, None, List, [], ◌∷◌, ◌++◌, length, map, get_or, fold, replicate, take, refl, sym, ap, ◌∙◌, arith}
+use Rattle.std.proofs.Common.{◌≡◌, ℕ, zero, suc, ◌+◌, ◌*◌, ◌<◌, Bool, true, false, cond, Option, Some, None, List, [], ◌∷◌, ◌++◌, length, map, get_or, fold, replicate, refl, ap, ◌∙◌, arith}
 use mathlib.Core.Path.{subst}
-use Rattle.std.specs.Prelude.{All, IfSome, ⊤, slice_set, slice_index_or, unwrap_or, find, encode_utf8, codes, if◌then◌else◌}
+use Rattle.std.specs.Prelude.{All, IfSome, ⊤, slice_set, slice_index_or, unwrap_or, find, encode_utf8, codes}
 use Rattle.std.specs.Char.{to_ascii_lowercase}
 use Rattle.std.specs.List.{flat_map, range_with_len, list_any}
 use Rattle.std.specs.Str.{bytes_eq}
@@ -19,7 +19,7 @@ use Rattle.ps_model.specs.declared.pieces.Slot.TheVariants.{Bare, Holds}
 use Rattle.ps_model.specs.Lines.{Line, folded}
 use Rattle.ps_model.specs.Names.{Meaning, One, AllOf, AnyOf, Names, layer_of, object_count, meaning_of, members_if, members_named}
 use Rattle.ps_model.specs.NameBounds.{IsBelow, AreBounded}
-use Rattle.ps_model.specs.Levels.{Level, shown_objects, objects_shown, is_ground, ground, with_ground, grounded, cell_of}
+use Rattle.ps_model.specs.Levels.{shown_objects, is_ground, ground, with_ground, grounded, cell_of}
 use Rattle.ps_model.specs.LevelLines.{EntryLines, MessageLine, LevelRows, characters_of, of_width, shown_in_level, row_cells, in_columns, entry_of, entry_lines}
 use Rattle.ps_model.specs.GameGrids.{IsSlotOf, IsCellFrom, IsCellOf}
 use Rattle.ps_model.specs.GameLevels.{AreObjectsOf, IsEntryOf}

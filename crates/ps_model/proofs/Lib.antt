@@ -83,3 +83,4 @@ pub mod AllMentioned
 pub mod NoObjects
 pub mod ObjectsThere
 pub mod GamesOfTexts
+mod GameFactRows

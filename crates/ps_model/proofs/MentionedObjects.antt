@@ -1,8 +1,7 @@
 -- Every object that a name of a text speaks of is one of those that are declared.
-use Rattle.std.proofs.Common.{◌≡◌, ℕ, zero, suc, ◌+◌, ◌<◌, ◌≤◌, Bool, true, false, List, [], ◌∷◌, ◌++◌, length, map, refl, Option, Some, None, All, arith}
-use mathlib.Core.Path.{subst}
+use Rattle.std.proofs.Common.{◌≡◌, ℕ, zero, suc, ◌+◌, ◌<◌, ◌≤◌, List, [], ◌∷◌, ◌++◌, length, map, refl, Option, Some, None, All, arith}
 use Rattle.std.specs.Prelude.{⊤, option_and_then, IfSome, slice_get}
-use Rattle.std.specs.List.{filter_map, cons_option, enumerate_from, flat_map, list_any, zip}
+use Rattle.std.specs.List.{filter_map, enumerate_from, flat_map, list_any, zip}
 use Rattle.std.specs.Map.{lookup}
 use Rattle.std.specs.Str.{bytes_eq}
 use Rattle.std.proofs.lemmas.List.Elements.{All-nil, All-cons, All-head, All-tail, All-append, All-map}

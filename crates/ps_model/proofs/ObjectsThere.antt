@@ -1,13 +1,12 @@
 -- Names without faults have an object: without one each line of the legend would mention a legend line first.
-use Rattle.std.proofs.Common.{◌≡◌, ℕ, zero, suc, ◌+◌, ◌<◌, ◌≤◌, ◌||◌, Bool, true, false, Option, Some, None, is_some, List, [], ◌∷◌, ◌++◌, length, map, refl, sym, ap, ◌∙◌, arith}
+use Rattle.std.proofs.Common.{◌≡◌, ℕ, zero, suc, ◌+◌, ◌<◌, ◌≤◌, ◌||◌, Bool, true, false, Option, Some, None, is_some, List, [], ◌∷◌, length, map, refl, sym, ap, ◌∙◌, arith}
 use mathlib.Core.Path.{subst}
-use Rattle.std.specs.Prelude.{All, IfSome, ⊤, option_map, slice_get, not, drop, codes, if◌then◌else◌}
+use Rattle.std.specs.Prelude.{All, IfSome, ⊤, option_map, slice_get, not, drop, codes}
 use Rattle.std.specs.Option.{is_none}
-use Rattle.std.specs.List.{flat_map, filter_map, enumerate_from, list_any, list_all}
+use Rattle.std.specs.List.{flat_map, filter_map, enumerate_from, list_all}
 use Rattle.std.specs.Str.{bytes_eq}
 use Rattle.std.specs.Map.{lookup}
 use Rattle.std.proofs.lemmas.List.{length-map}
-use Rattle.std.proofs.lemmas.List.FromFn.{length-enumerate_from}
 use Rattle.std.proofs.lemmas.List.Elements.{All-nil, All-cons, All-head, All-tail, All-map, All-weaker}
 use Rattle.std.proofs.lemmas.Map.Entries.{All-lookup}
 use Rattle.ps_model.specs.declared.texts.Joiner.{Joiner}
@@ -15,14 +14,14 @@ use Rattle.ps_model.specs.declared.texts.Joiner.TheVariants.{And, Or}
 use Rattle.ps_model.specs.declared.faults.Fault.{Fault}
 use Rattle.ps_model.specs.declared.faults.FaultKind.TheVariants.{UnknownName, Cycle, NoBackground}
 use Rattle.ps_model.specs.Faults.{when}
-use Rattle.ps_model.specs.Lines.{Line, folded}
+use Rattle.ps_model.specs.Lines.{folded}
 use Rattle.ps_model.specs.OptionSteps.{◌>>=◌}
 use Rattle.ps_model.specs.WrittenLines.{WrittenLine}
 use Rattle.ps_model.specs.Names.{Meaning}
-use Rattle.ps_model.specs.ObjectLines.{ObjectText, object_names}
+use Rattle.ps_model.specs.ObjectLines.{ObjectText}
 use Rattle.ps_model.specs.LegendLines.{RightSide, Declaration, joined_by, side_by, right_side, name_declared, is_key_word, declared_by, declarations}
-use Rattle.ps_model.specs.Meanings.{LegendName, Mention, OfObject, OfLine, known_names, line_mention, legend_name, legend_names, legend_meanings, mentions_of, mentions_of_name, all_mentioned, is_on_cycle, meaning_of_mention}
-use Rattle.ps_model.specs.NamesRead.{NameSections, all_declared, entries_of, layer_numbers, names_of, sections_of, name_sections}
+use Rattle.ps_model.specs.Meanings.{LegendName, Mention, OfObject, OfLine, line_mention, legend_name, legend_names, legend_meanings, mentions_of, mentions_of_name, all_mentioned, is_on_cycle, meaning_of_mention}
+use Rattle.ps_model.specs.NamesRead.{NameSections, all_declared, entries_of, layer_numbers, sections_of, name_sections}
 use Rattle.ps_model.specs.DeclarationFaults.{faults_of_legend_name}
 use Rattle.ps_model.specs.GamesOfTexts.{HasObject, NamesReadHaveObjects, GamesHaveObjects}
 use Rattle.ps_model.proofs.Everywhere.{either_one, All-always, All-mapped, All-filter_map, All-slice_get}

@@ -15,7 +15,7 @@ use Rattle.ps_model.specs.NameBounds.{IsBelow, AreBounded}
 use Rattle.ps_model.specs.RuleWords.{rule_words_in}
 use Rattle.ps_model.specs.RuleSymbols.{Symbol, Open, Without, Plus, Moves, StartsLoop, EndsLoop, Called, key_words, name_symbol, symbol_of, first_symbol, Token, token_by, tokens_at, tokens_of, is_left_out, tokens_kept}
 use Rattle.ps_model.specs.RuleShape.{is_open, is_close, is_bar, is_arrow, cut_at, has_kind, WrittenRow, WrittenSide, RuleShape, row_of_parts, row_of, side_of_parts, side_of, shape_of_parts, shape_of, beside, paired_cells, paired_rows}
-use Rattle.ps_model.specs.SourceRules.{Item, Is, No, CellPair, SourceRule, RuleLine}
+use Rattle.ps_model.specs.SourceRules.{Is, No}
 use Rattle.ps_model.specs.RuleTree.{named_item, items_behind, is_gap, cell_of, row_of_cells, rows_of}
 use Rattle.ps_model.specs.RuleLines.{LineForm, StartForm, EndForm, RuleForm, NoForm, form_of_shape, form_of_words, form_of, line_of_form, lines_with_words}
 use Rattle.ps_model.specs.GameRules.{IsItemOf, IsPairOf, IsRuleOf, IsLineOf}
