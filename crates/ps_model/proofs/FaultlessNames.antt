@@ -70,13 +70,17 @@ lines_faultless : (fault : Option Fault) (lines : List Line) → alone_or fault 
 lines_faultless (Some fault) lines e = cc
 lines_faultless None lines e = e
 
+-- what is read of all lines without faults, every game of a text has
+pub of_every_faultless : (P : Game → Type 0) → ((lines : List Line) → line_faults lines ≡ [] → P (game_read lines)) → (text : List ℕ) (read : Game) → game text ≡ Some read → P read
+of_every_faultless P h text read e =
+    let found = game_is_faultless text read e in
+    subst P (sym found.1) (h (lines_of text) (lines_faultless (text_fault text) (lines_of text) found.0))
+
 -- what is read of all lines whose names have no fault, every game of a text has
 pub of_every_game : (P : Game → Type 0) →
     ((lines : List Line) → name_faults (header_number lines Objects) (section_lines lines Objects) (section_lines lines Legend) (section_lines lines Layers) ≡ [] → P (game_read lines)) →
     (text : List ℕ) (read : Game) → game text ≡ Some read → P read
-of_every_game P h text read e =
-    let found = game_is_faultless text read e in
-    subst P (sym found.1) (h (lines_of text) (names_faultless (lines_of text) (lines_faultless (text_fault text) (lines_of text) found.0)))
+of_every_game P h text read e = of_every_faultless P (λ lines none. h lines (names_faultless lines none)) text read e
 
 -- what is read of names without faults, the names of every game of a text have
 pub names_of_every_game : (P : Names → Type 0) →

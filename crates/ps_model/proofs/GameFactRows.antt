@@ -15,7 +15,7 @@ use Rattle.ps_model.specs.Grid.{empty_grid}
 use Rattle.ps_model.specs.GameRules.{IsItemOf}
 use Rattle.ps_model.specs.Levels.{Level}
 use Rattle.ps_model.specs.LevelLines.{LevelEntry, entries_read}
-use Rattle.ps_model.specs.GameLevels.{AreObjectsOf, IsLevelOf}
+use Rattle.ps_model.specs.GameLevels.{AreObjectsOf, IsLevelOf, IsWithinLimits}
 use Rattle.ps_model.specs.SameSides.{SameSides}
 use Rattle.ps_model.specs.Games.{game}
 use Rattle.ps_model.proofs.BaseText.{base_game}
@@ -53,6 +53,16 @@ foreign_object : IsLevelOf two_objects (one_cell 1 (object 2 ∷ [])) → ⊥
 foreign_object h =
     let cell : AreObjectsOf two_objects (object 2 ∷ []) = All-head (AreObjectsOf two_objects) (object 2 ∷ []) [] h.objects in
     omega (arith, All-head (λ (each : ObjectId). each.0 < 2) (object 2) [] cell)
+
+-- a level of one cell is within the limits; one without a row, or with 65 columns, isn't
+small : IsWithinLimits (one_cell 1 [])
+small = record { columns = omega arith; some_row = omega arith; rows = omega arith }
+
+rowless : IsWithinLimits (record { width = 1; height = 0; cells = [] }) → ⊥
+rowless h = omega (arith, h.some_row)
+
+wide : IsWithinLimits (one_cell 65 []) → ⊥
+wide h = omega (arith, h.columns)
 
 -- a row is read with the background below
 read_with_objects : entries_read two_objects (section_lines (lines_of (codes "LEVELS\nP")) Levels) ≡ LevelEntry (one_cell 1 (object 1 ∷ object 0 ∷ [])) ∷ []

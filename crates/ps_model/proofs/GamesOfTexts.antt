@@ -1,6 +1,6 @@
 -- The rules of every game speak of its own objects alone, each of its levels is loaded as a grid of the game, and each of its turns
 -- keeps such grids and their sides.
-use Rattle.std.proofs.Common.{◌≡◌, List, []}
+use Rattle.std.proofs.Common.{◌≡◌, List, [], length, sym, ◌∙◌, arith}
 use Rattle.std.specs.Prelude.{All}
 use Rattle.std.proofs.lemmas.List.Elements.{All-weaker}
 use Rattle.ps_model.specs.declared.texts.Section.TheVariants.{Objects, Legend, Layers, Rules, Levels}
@@ -12,13 +12,15 @@ use Rattle.ps_model.specs.NameBounds.{AreBounded}
 use Rattle.ps_model.specs.NameFaults.{name_faults}
 use Rattle.ps_model.specs.GameRules.{IsLineOf}
 use Rattle.ps_model.specs.LevelLines.{Entry, MessageEntry, LevelEntry}
+use Rattle.ps_model.specs.declared.pieces.Slot.{Slot}
+use Rattle.ps_model.specs.GameGrids.{IsCellOf}
 use Rattle.ps_model.specs.GameLevels.{IsEntryOf}
 use Rattle.ps_model.specs.Games.{Game}
 use Rattle.ps_model.specs.Turns.{script_of}
-use Rattle.ps_model.specs.GamesOfTexts.{HasObject, LoadsAsGrid, GameRulesAreOfNames, GameEntriesAreOfNames, GameLevelsAreGrids, GameTurnsKeepAll}
+use Rattle.ps_model.specs.GamesOfTexts.{HasObject, LoadsAsGrid, GameRulesAreOfNames, GameEntriesAreOfNames, GameLevelsAreGrids, GridsOfGamesAreGrids, GameTurnsKeepAll}
 use Rattle.ps_model.proofs.FaultlessNames.{of_every_game}
-use Rattle.ps_model.proofs.BoundedNames.{names_read-bounded}
-use Rattle.ps_model.proofs.ObjectsThere.{names_read-have}
+use Rattle.ps_model.proofs.BoundedNames.{names_read-bounded, game-bounded}
+use Rattle.ps_model.proofs.ObjectsThere.{names_read-have, game-has}
 use Rattle.ps_model.proofs.RulesOfNames.{rules_read-game}
 use Rattle.ps_model.proofs.LevelsOfNames.{loaded-game, entries_read-game}
 use Rattle.ps_model.proofs.KeptTurns.{game_turn-keeps}
@@ -53,6 +55,21 @@ loads names (LevelEntry level) h = loaded-game names level h
 
 pub game-levels : GameLevelsAreGrids
 game-levels text read e = All-weaker (IsEntryOf read.names) (LoadsAsGrid read.names) (loads read.names) read.entries (game-entries text read e)
+
+pub game-grids : GridsOfGamesAreGrids
+game-grids text read e g h some_column columns some_row rows =
+    let bounded : AreBounded read.names = game-bounded text read e in
+    let has : HasObject read.names = game-has text read e in
+    record {
+      some_column = some_column;
+      columns = columns;
+      some_row = some_row;
+      rows = rows;
+      some_layer = omega (arith, h.layers, has.1);
+      few_layers = omega (arith, h.layers, bounded.few_layers);
+      cells = h.shape;
+      slots = All-weaker (IsCellOf read.names) (λ (cell : List Slot). length cell ≡ g.layers) (λ cell c. c.0 ∙ sym h.layers) g.cells h.cells;
+    }
 
 pub game-turns : GameTurnsKeepAll
 game-turns text read e input g h = (game_turn-keeps read input g (game-rules text read e) h, turn-sides (script_of read) input g)

@@ -84,3 +84,4 @@ pub mod NoObjects
 pub mod ObjectsThere
 pub mod GamesOfTexts
 mod GameFactRows
+pub mod LevelLimits

@@ -1,8 +1,9 @@
 -- What every game of a text is: its names are bounded, it has an object and a layer, its rules speak of its own objects alone, each of
 -- its levels is loaded as a grid of the game, and each of its turns keeps such grids.
-use Rattle.std.specs.Prelude.{◌≡◌, ℕ, ◌<◌, Option, Some, List, [], All, ⊤}
+use Rattle.std.specs.Prelude.{◌≡◌, ℕ, ◌<◌, ◌≤◌, Option, Some, List, [], All, ⊤}
 use Rattle.ps_model.specs.declared.play.Input.{Input}
 use Rattle.ps_model.specs.Lines.{Line}
+use Rattle.ps_model.specs.Limits.{side_limit}
 use Rattle.ps_model.specs.Names.{Names, object_count}
 use Rattle.ps_model.specs.NamesRead.{names_read}
 use Rattle.ps_model.specs.NameFaults.{name_faults}
@@ -11,9 +12,9 @@ use Rattle.ps_model.specs.RuleLines.{rules_read}
 use Rattle.ps_model.specs.GameRules.{IsLineOf}
 use Rattle.ps_model.specs.Levels.{Level, loaded}
 use Rattle.ps_model.specs.LevelLines.{Entry, MessageEntry, LevelEntry, entries_read}
-use Rattle.ps_model.specs.GameLevels.{IsLevelOf, IsEntryOf}
+use Rattle.ps_model.specs.GameLevels.{IsLevelOf, IsEntryOf, IsEntryWithinLimits}
 use Rattle.ps_model.specs.GameGrids.{IsGridOf}
-use Rattle.ps_model.specs.Grid.{Grid}
+use Rattle.ps_model.specs.Grid.{Grid, IsGrid}
 use Rattle.ps_model.specs.Games.{Game, game}
 use Rattle.ps_model.specs.Turns.{script_of, turn}
 use Rattle.ps_model.specs.KeptGrids.{IsOutcomeOf}
@@ -77,6 +78,18 @@ LoadsAsGrid names (LevelEntry level) = IsGridOf names (loaded names level)
 -- each level of a game is loaded as a grid of the game
 abbrev pub GameLevelsAreGrids : Type 0
 GameLevelsAreGrids = (text : List ℕ) (read : Game) → game text ≡ Some read → All (LoadsAsGrid read.names) read.entries
+
+-- the sides of each level of a game are within the limits
+abbrev pub GameLevelsAreWithinLimits : Type 0
+GameLevelsAreWithinLimits = (text : List ℕ) (read : Game) → game text ≡ Some read → All IsEntryWithinLimits read.entries
+
+-- grids ------------------------------------------------------------------------------------------------------------------
+
+-- a grid of a game is a grid, if its sides are within the limits
+abbrev pub GridsOfGamesAreGrids : Type 0
+GridsOfGamesAreGrids =
+    (text : List ℕ) (read : Game) → game text ≡ Some read → (g : Grid) → IsGridOf read.names g →
+    0 < g.width → g.width ≤ side_limit → 0 < g.height → g.height ≤ side_limit → IsGrid g
 
 -- turns ------------------------------------------------------------------------------------------------------------------
 

@@ -1,5 +1,5 @@
 //! Laws of the definitions: what every game of a text is.
-ghost use Rattle.ps_model.specs.GamesOfTexts.{NamesReadAreBounded, GamesAreBounded, NamesReadHaveObjects, GamesHaveObjects, RulesReadAreOfNames, GameRulesAreOfNames, LoadedLevelsAreGrids, EntriesReadAreOfNames, GameEntriesAreOfNames, GameLevelsAreGrids, GameTurnsKeepAll};
+ghost use Rattle.ps_model.specs.GamesOfTexts.{NamesReadAreBounded, GamesAreBounded, NamesReadHaveObjects, GamesHaveObjects, RulesReadAreOfNames, GameRulesAreOfNames, LoadedLevelsAreGrids, EntriesReadAreOfNames, GameEntriesAreOfNames, GameLevelsAreGrids, GameLevelsAreWithinLimits, GridsOfGamesAreGrids, GameTurnsKeepAll};
 
 /// Names of lines without faults are bounded, and so are the names of every game.
 pub fn names_are_bounded()
@@ -20,12 +20,18 @@ pub fn rules_are_of_games()
 {}
 
 /// A level of a game is loaded as a grid of the game. The levels that are read, with names that are bounded and of which one is an
-/// object, are of the game; so are the levels of every game.
+/// object, are of the game; so are the levels of every game, whose sides are within the limits.
 pub fn levels_are_of_games()
     ensures loaded { LoadedLevelsAreGrids }
     ensures read { EntriesReadAreOfNames }
     ensures games { GameEntriesAreOfNames }
     ensures grids { GameLevelsAreGrids }
+    ensures limits { GameLevelsAreWithinLimits }
+{}
+
+/// A grid of a game is a grid, if its sides are within the limits.
+pub fn grids_of_games()
+    ensures { GridsOfGamesAreGrids }
 {}
 
 /// A turn of a game makes of each grid of the game one of the game, with the same sides.

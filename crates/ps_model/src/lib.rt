@@ -21,7 +21,7 @@ mod texts;
 pub use faults::{Fault, FaultKind};
 pub use held::Held;
 pub use laws_of_games::{
-    games_have_objects, levels_are_of_games, names_are_bounded, rules_are_of_games,
+    games_have_objects, grids_of_games, levels_are_of_games, names_are_bounded, rules_are_of_games,
     turns_are_of_games,
 };
 pub use laws_of_grids::{
