@@ -88,3 +88,16 @@ mod OddTextRows
 mod OddRuleRows
 pub mod LinesInOrder
 pub mod FirstFaults
+pub mod KeptSides
+pub mod RulesOfNames
+pub mod LevelsOfNames
+pub mod MentionedObjects
+pub mod FaultlessNames
+pub mod BoundedNames
+pub mod OptionalSteps
+pub mod AllMentioned
+pub mod NoObjects
+pub mod ObjectsThere
+pub mod GamesOfTexts
+mod GameFactRows
+pub mod LevelLimits

@@ -75,3 +75,6 @@ pub mod CompiledRules
 pub mod IdleRules
 pub mod AlikeRounds
 pub mod Headline
+pub mod GameLevels
+pub mod GamesOfTexts
+pub mod SameSides

@@ -7,9 +7,11 @@
 mod faults;
 mod held;
 mod laws_of_compiling;
+mod laws_of_games;
 mod laws_of_grids;
 mod laws_of_rules;
 mod laws_of_runs;
+mod laws_of_sides;
 mod memory;
 mod options;
 mod pieces;
@@ -21,6 +23,10 @@ pub use faults::{Fault, FaultKind};
 pub use held::Held;
 pub use laws_of_compiling::{
     cells_compile, loose_properties_lie_on_one_layer, programs_compile, rules_compile,
+};
+pub use laws_of_games::{
+    games_have_objects, grids_of_games, levels_are_of_games, names_are_bounded, rules_are_of_games,
+    turns_are_of_games,
 };
 pub use laws_of_grids::{
     attempts_keep_grids, game_turns_keep_grids, groups_keep_grids, inputs_keep_grids,
@@ -35,6 +41,7 @@ pub use laws_of_rules::{
 pub use laws_of_runs::{
     ends_of_output, fronts_of_output, held_bytes, keys_in_pieces, one_game, readings_by_stages,
 };
+pub use laws_of_sides::{rules_keep_sides, turns_keep_sides};
 pub use memory::Memory;
 pub use options::Options;
 pub use pieces::{Direction, LayerId, Motion, ObjectId, Slot};
