@@ -3,7 +3,7 @@ use Rattle.std.proofs.Common.{◌≡◌, ℕ, zero, suc, ◌+◌, ◌<◌, ◌�
 use mathlib.Core.Path.{subst}
 use Rattle.std.specs.Prelude.{All, IfSome, ⊤, option_map, slice_get, not, drop, codes}
 use Rattle.std.specs.Option.{is_none}
-use Rattle.std.specs.List.{flat_map, filter_map, enumerate_from, list_all}
+use Rattle.std.specs.List.{flat_map, filter_map, enumerate_from, list_all, list_any}
 use Rattle.std.specs.Str.{bytes_eq}
 use Rattle.std.specs.Map.{lookup}
 use Rattle.std.proofs.lemmas.List.{length-map}
@@ -15,11 +15,10 @@ use Rattle.ps_model.specs.declared.faults.Fault.{Fault}
 use Rattle.ps_model.specs.declared.faults.FaultKind.TheVariants.{UnknownName, Cycle, NoBackground}
 use Rattle.ps_model.specs.Faults.{when}
 use Rattle.ps_model.specs.Lines.{folded}
-use Rattle.ps_model.specs.OptionSteps.{◌>>=◌}
 use Rattle.ps_model.specs.WrittenLines.{WrittenLine}
 use Rattle.ps_model.specs.Names.{Meaning}
 use Rattle.ps_model.specs.ObjectLines.{ObjectText}
-use Rattle.ps_model.specs.LegendLines.{RightSide, Declaration, joined_by, side_by, right_side, name_declared, is_key_word, declared_by, declarations}
+use Rattle.ps_model.specs.LegendLines.{RightSide, Declaration, joined_by, side_by, right_side, name_declared, is_key_word, is_sign, declared_with, declared_by, declarations}
 use Rattle.ps_model.specs.Meanings.{LegendName, Mention, OfObject, OfLine, line_mention, legend_name, legend_names, legend_meanings, mentions_of, mentions_of_name, all_mentioned, is_on_cycle, meaning_of_mention}
 use Rattle.ps_model.specs.NamesRead.{NameSections, all_declared, entries_of, layer_numbers, sections_of, name_sections}
 use Rattle.ps_model.specs.DeclarationFaults.{faults_of_legend_name}
@@ -70,11 +69,15 @@ name_given words = anything (name_declared words)
     anything None = tt
     anything (Some name) = tt
 
+declared_with-some : (number : ℕ) (name : List ℕ) (others : List (List ℕ)) → IfSome (declared_with number name others) Mentions
+declared_with-some number name others =
+    either_one (λ (found : Option Declaration). IfSome found Mentions) (is_sign name || list_any is_sign others) None (option_map (λ right. record { line = number; name = name; right = right }) (right_side others))
+    tt (mapped-each HasMentions Mentions (right_side others) _ (right_side-some others) (λ right h. h))
+
 declared_by-some : (line : WrittenLine) → IfSome (declared_by line) Mentions
 declared_by-some line =
-    let made : List ℕ → RightSide → Declaration = λ name right. record { line = line.number; name = name; right = right } in
-    step-each (λ name. ⊤) Mentions (name_declared line.words) (λ name. right_side (drop 2 line.words) >>= (λ right. Some (made name right))) (name_given line.words)
-    (λ name h. step-each HasMentions Mentions (right_side (drop 2 line.words)) (λ right. Some (made name right)) (right_side-some (drop 2 line.words)) (λ right k. k))
+    step-each (λ name. ⊤) Mentions (name_declared line.words) (λ name. declared_with line.number name (drop 2 line.words)) (name_given line.words)
+    (λ name h. declared_with-some line.number name (drop 2 line.words))
 
 declarations-some : (lines : List WrittenLine) → All Mentions (declarations lines)
 declarations-some lines = All-filter_map Mentions (λ line. ⊤) declared_by lines (λ line h. declared_by-some line) (All-always (λ line. ⊤) lines (λ line. tt))

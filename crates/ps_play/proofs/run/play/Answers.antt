@@ -1,4 +1,4 @@
-use Rattle.std.proofs.Common.{◌≡◌, ◌∙◌, ◌++◌, ◌+◌, ◌≤◌, refl, [], arith, rules, take, append-nil}
+use Rattle.std.proofs.Common.{◌≡◌, ◌∙◌, ◌++◌, ◌+◌, refl, [], arith, rules, take, append-nil}
 use Rattle.ps_model.specs.Names.{Names}
 use Rattle.ps_model.specs.Outputs.{end_of_keys_line}
 use Rattle.ps_devices.specs.Devices.{Loses}
