@@ -1,13 +1,11 @@
 //! The system's streams as devices.
 
-ghost use Rattle.std.specs.Prelude.{◌≡◌, ◌≤◌, ◌<◌, None, false, length, take, drop, IfOk, OnErr};
+ghost use Rattle.std.specs.Prelude.{◌≡◌, ◌+◌, ◌≤◌, ◌<◌, None, true, false, length, take, drop, IfOk, OnOk, OnErr, IsErr};
 ghost use Rattle.std.specs.Io.KnownBytes.{Appends, Consumes, IsAtEnd, Keeps};
+ghost use Rattle.ps_devices.specs.Devices.{most_calls};
 
 use super::traits::{ByteReader, ByteWriter, Failed};
-use std::io::{ErrorKind, Read, Write};
-
-/// How often a call that a signal interrupted is tried, in all.
-const TRIES: u32 = 64;
+use std::io::{Read, Write};
 
 /// How many bytes one call reads at most.
 const PIECE: usize = 4096;
@@ -45,7 +43,22 @@ impl<T: Read + Drop> ByteReader for FromStd<T> {
 
     ghost calls = { λ device. device.calls };
 
-    fn read_some(&mut self, buffer: &mut [u8]) -> Result<usize, Failed> {
+    /// One read of the stream: what it gives goes into `buffer`, and nothing of it is lost.
+    fn read_some(&mut self, buffer: &mut [u8]) -> Result<usize, Failed>
+        ensures count { IfOk result (λ count. count ≤ length buffer.old) }
+        ensures rest { IfOk result (λ count. drop count buffer.new ≡ drop count buffer.old) }
+        ensures well { OnOk result (self.new.failed ≡ self.old.failed) }
+        ensures told { OnErr result (self.new.failed ≡ true) }
+        ensures unread { OnErr result (buffer.new ≡ buffer.old) }
+        ensures last_count { IfOk result (λ count. self.new.last ≡ count) }
+        ensures last_none { OnErr result (self.new.last ≡ 0) }
+        ensures counted { self.old.calls < most_calls → self.new.calls ≡ self.old.calls + 1 }
+        ensures worn { most_calls ≤ self.old.calls → IsErr result }
+        ensures held { most_calls ≤ self.old.calls → self.new.calls ≡ self.old.calls }
+        ensures through { IfOk result (λ count. Consumes (T.remaining self.old.stream) (T.remaining self.new.stream) (take count buffer.new)) }
+        ensures ended { IfOk result (λ count. count ≡ 0 → 0 < length buffer.old → IsAtEnd (T.remaining self.new.stream)) }
+        ensures kept { OnErr result (Keeps (T.remaining self.old.stream) (T.remaining self.new.stream)) }
+    {
         self.last = 0;
         if self.calls == u64::MAX {
             self.failed = true;
@@ -70,7 +83,16 @@ impl<T: Write + Drop> ByteWriter for FromStd<T> {
 
     ghost has_failed = { λ device. device.failed };
 
-    fn write_some(&mut self, bytes: &[u8]) -> Result<usize, Failed> {
+    /// One write to the stream, which takes a front of `bytes` and nothing else.
+    fn write_some(&mut self, bytes: &[u8]) -> Result<usize, Failed>
+        ensures count { IfOk result (λ count. count ≤ length bytes.now) }
+        ensures well { IfOk result (λ count. 0 < count → self.new.failed ≡ self.old.failed) }
+        ensures idle { OnOk result (length bytes.now ≡ 0 → self.new.failed ≡ self.old.failed) }
+        ensures refused { IfOk result (λ count. count ≡ 0 → 0 < length bytes.now → self.new.failed ≡ true) }
+        ensures told { OnErr result (self.new.failed ≡ true) }
+        ensures through { IfOk result (λ count. Appends (T.contents self.old.stream) (T.contents self.new.stream) (take count bytes.now)) }
+        ensures kept { OnErr result (Keeps (T.contents self.old.stream) (T.contents self.new.stream)) }
+    {
         match write_piece(&mut self.stream, bytes) {
             Ok(count) => {
                 if count == 0 && !bytes.is_empty() {
@@ -103,43 +125,29 @@ fn read_piece<T: Read>(stream: &mut T, buffer: &mut [u8]) -> Result<usize, Faile
     Ok(count)
 }
 
-/// One read, tried again where a signal interrupted it.
+/// One read. Whatever error the stream answers, an interruption among them, is a failure.
 fn read_through<T: Read>(stream: &mut T, piece: &mut [u8]) -> Result<usize, Failed>
     ensures count { IfOk result (λ count. count ≤ length piece.old) }
     ensures given { IfOk result (λ count. Consumes (T.remaining stream.old) (T.remaining stream.new) (take count piece.new)) }
     ensures end { IfOk result (λ count. count ≡ 0 → 0 < length piece.old → IsAtEnd (T.remaining stream.new)) }
     ensures stays { OnErr result (Keeps (T.remaining stream.old) (T.remaining stream.new)) }
 {
-    for _try in 0..TRIES {
-        match stream.read(piece) {
-            Ok(count) => return Ok(count),
-            Err(error) => {
-                if error.kind() != ErrorKind::Interrupted {
-                    return Err(Failed);
-                }
-            }
-        }
+    match stream.read(piece) {
+        Ok(count) => Ok(count),
+        Err(_) => Err(Failed),
     }
-    Err(Failed)
 }
 
-/// One write of a front of `bytes`.
+/// One write of a front of `bytes`. Whatever error the stream answers, an interruption among them, is a failure.
 fn write_piece<T: Write>(stream: &mut T, bytes: &[u8]) -> Result<usize, Failed>
     ensures count { IfOk result (λ count. count ≤ length bytes.now) }
     ensures taken { IfOk result (λ count. Appends (T.contents stream.old) (T.contents stream.new) (take count bytes.now)) }
     ensures stays { OnErr result (Keeps (T.contents stream.old) (T.contents stream.new)) }
 {
-    for _try in 0..TRIES {
-        match stream.write(bytes) {
-            Ok(count) => return Ok(count),
-            Err(error) => {
-                if error.kind() != ErrorKind::Interrupted {
-                    return Err(Failed);
-                }
-            }
-        }
+    match stream.write(bytes) {
+        Ok(count) => Ok(count),
+        Err(_) => Err(Failed),
     }
-    Err(Failed)
 }
 
 /// Copies the first `count` bytes of `from` to the start of `buffer`.

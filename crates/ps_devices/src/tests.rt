@@ -1,5 +1,5 @@
 //! What the contracts of the devices don't say: that memory can be had, where the edges of a device in memory
-//! lie, and that an interrupted call is tried again.
+//! lie, and that an interrupted call has failed.
 
 use crate::{ByteReader, ByteWriter, Failed, FromStd, MemoryReader, MemoryWriter, write_whole};
 use ps_model::Memory;
@@ -66,18 +66,18 @@ fn whole_is_written_a_byte_at_a_time(rt: HostRuntime) -> Result<(), Memory> {
     Ok(())
 }
 
-/// A stream that a signal interrupts at its first calls, and that then gives or takes one byte a call.
+/// A stream whose first call a signal interrupts, and that then gives or takes one byte a call.
 #[derive(Drop)]
 struct Interrupted {
-    signals: u32,
+    signal: bool,
 }
 
 impl Interrupted {
     fn next(&mut self) -> io::Result<()> {
-        if self.signals == 0 {
+        if !self.signal {
             return Ok(());
         }
-        self.signals -= 1;
+        self.signal = false;
         Err(io::Error::from(ErrorKind::Interrupted))
     }
 }
@@ -105,20 +105,12 @@ impl Write for Interrupted {
 }
 
 #[test]
-fn interrupted_calls_are_tried_again(rt: HostRuntime) {
-    for (signals, result) in [(0, Ok(1)), (63, Ok(1)), (64, Err(Failed))] {
+fn interrupted_calls_have_failed(rt: HostRuntime) {
+    for (signal, result) in [(false, Ok(1)), (true, Err(Failed))] {
         let mut buffer = [0u8; 4];
-        let mut reader = FromStd::new(Interrupted { signals });
-        assert_eq!(rt;
-            reader.read_some(&mut buffer),
-            result,
-            "after {signals} signals"
-        );
-        let mut writer = FromStd::new(Interrupted { signals });
-        assert_eq!(rt;
-            writer.write_some(b"hello"),
-            result,
-            "after {signals} signals"
-        );
+        let mut reader = FromStd::new(Interrupted { signal });
+        assert_eq!(rt; reader.read_some(&mut buffer), result, "read");
+        let mut writer = FromStd::new(Interrupted { signal });
+        assert_eq!(rt; writer.write_some(b"hello"), result, "write");
     }
 }

@@ -10,6 +10,7 @@ use Rattle.std.proofs.lemmas.List.Elements.{All-nil, All-cons, All-head, All-tai
 use Rattle.std.proofs.lemmas.Nat.{mul-le}
 use Rattle.std.proofs.lemmas.Simd.{map-map}
 use Rattle.std.proofs.lemmas.Bool.Decides.{nat_tests}
+use Rattle.ps_model.specs.Limits.{rule_readings_limit}
 use Rattle.ps_model.specs.declared.faults.Fault.{Fault}
 use Rattle.ps_model.specs.declared.faults.FaultKind.{FaultKind}
 use Rattle.ps_model.specs.declared.pieces.ObjectId.{ObjectId}
@@ -219,7 +220,7 @@ none_when : (test : Bool) (kind : FaultKind) (line : ℕ) (rest : List Fault) �
 none_when true kind line rest e = cc
 none_when false kind line rest e = (refl, e)
 
-few_by : (count : ℕ) (over : Bool) → (nat_lt 4096 count || over) ≡ false → count ≤ 4096
+few_by : (count : ℕ) (over : Bool) → (nat_lt rule_readings_limit count || over) ≡ false → count ≤ rule_readings_limit
 few_by count true e = grind (arith, nat_tests)
 few_by count false e = grind (arith, nat_tests)
 

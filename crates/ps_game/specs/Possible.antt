@@ -3,6 +3,7 @@
 use Rattle.std.specs.Prelude.{ℕ, suc, ◌/◌, ◌%◌, nat_eq, Bool, true, ◌&&◌, not, if◌then◌else◌, Option, Some, None, option_map, List, [], ◌∷◌, length, map, slice_get, slice_index_or, ◌≤◌, ⊤}
 use Rattle.std.specs.Option.{option_to_list}
 use Rattle.std.specs.List.{flat_map, filter_map, list_all, list_any}
+use Rattle.ps_model.specs.Limits.{rule_readings_limit}
 use Rattle.ps_model.specs.declared.pieces.ObjectId.{ObjectId}
 use Rattle.ps_model.specs.Names.{Meaning, One, AllOf, AnyOf, Names, layer_of, members}
 use Rattle.ps_model.specs.declared.faults.Fault.{Fault}
@@ -143,7 +144,7 @@ has_empty lists = list_any (λ items. nat_eq (length items) 0) lists
 
 -- the rule of a line has no more readings than are tried
 abbrev pub HasFewReadings : Names → RuleLine → Type 0
-HasFewReadings names (Rule rule) = reading_count names rule ≤ 4096
+HasFewReadings names (Rule rule) = reading_count names rule ≤ rule_readings_limit
 HasFewReadings names LoopStart = ⊤
 HasFewReadings names LoopEnd = ⊤
 

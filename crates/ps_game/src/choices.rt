@@ -1,11 +1,13 @@
 //! The choices of a member for each occurrence of a fixed property, by their numbers.
 
 ghost use Rattle.std.specs.Prelude.{◌≡◌, ◌≤◌, ◌<◌, ◌*◌, IfOk, OnOk, IfSome, None};
+ghost use Rattle.ps_model.specs.Limits.{rule_readings_limit};
 ghost use Rattle.ps_model.specs.Readings.{ways};
 ghost use Rattle.ps_game.specs.Possible.{all_fixed_shown, member_lists, choice, has_empty, has_apart_choice};
 
 use crate::apart::are_sides_apart;
 use crate::claims::Claim;
+use crate::counted::RULE_READINGS_LIMIT;
 use crate::fixed::Fixed;
 use ps_model::{Memory, ObjectId};
 use ps_names::Names;
@@ -24,22 +26,22 @@ fn has_empty(fixed: &[Fixed<'_>]) -> bool
     false
 }
 
-/// The product, if it is no more than 4,096.
+/// The product, if it is no more than the most readings of a rule.
 fn few_times(count: usize, more: usize) -> Option<usize>
     ensures product { IfSome result (λ product. product ≡ count * more) }
-    ensures many { result ≡ None → 4096 < count * more }
+    ensures many { result ≡ None → rule_readings_limit < count * more }
 {
     let product = count.checked_mul(more)?;
-    if product > 4096 {
+    if product > RULE_READINGS_LIMIT as usize {
         return None;
     }
     Some(product)
 }
 
-/// How many choices there are, if they are no more than 4,096.
+/// How many choices there are, if they are no more than the most readings of a rule.
 fn choice_count(fixed: &[Fixed<'_>]) -> Option<usize>
     ensures count { IfSome result (λ count. count ≡ ways (member_lists (all_fixed_shown fixed.now))) }
-    ensures many { result ≡ None → 4096 < ways (member_lists (all_fixed_shown fixed.now)) }
+    ensures many { result ≡ None → rule_readings_limit < ways (member_lists (all_fixed_shown fixed.now)) }
 {
     if has_empty(fixed) {
         return Some(0);
@@ -74,14 +76,15 @@ fn choose(
     Ok(())
 }
 
-/// Whether under some choice no side claims a layer twice. More than 4,096 choices aren't tried: the answer is `true` then.
+/// Whether under some choice no side claims a layer twice. More choices than a rule may have readings
+/// aren't tried: the answer is `true` then.
 pub fn has_apart_choice(
     alloc: Global,
     names: &Names,
     fixed: &[Fixed<'_>],
     sides: &[List<Claim>],
 ) -> Result<bool, Memory>
-    ensures { IfOk result (λ yes. ways (member_lists (all_fixed_shown fixed.now)) ≤ 4096 → yes ≡ has_apart_choice names.now (all_fixed_shown fixed.now) sides.now) }
+    ensures { IfOk result (λ yes. ways (member_lists (all_fixed_shown fixed.now)) ≤ rule_readings_limit → yes ≡ has_apart_choice names.now (all_fixed_shown fixed.now) sides.now) }
 {
     let Some(count) = choice_count(fixed) else {
         return Ok(true);

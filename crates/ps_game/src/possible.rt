@@ -3,6 +3,7 @@
 ghost use Rattle.std.specs.Prelude.{◌≡◌, ◌≤◌, IfOk, []};
 ghost use Rattle.std.specs.List.{filter_map};
 ghost use Rattle.ps_model.specs.Faults.{first_fault};
+ghost use Rattle.ps_model.specs.Limits.{rule_readings_limit};
 ghost use Rattle.ps_model.specs.Readings.{reading_count};
 ghost use Rattle.ps_model.specs.ReadingFaults.{too_many_readings, impossible_rules};
 ghost use Rattle.ps_model.specs.ReadingMeanings.{has_possible};
@@ -19,9 +20,9 @@ use ps_rules::{Occurrences, RuleLine, RuleText, SourceRule};
 use std::alloc::Global;
 
 /// Whether some reading of the rule is possible. Directions and moves make no difference to that, so that only the choices of
-/// members are tried; a rule with more than 4,096 of them isn't, and counts as possible.
+/// members are tried; a rule with more of them than it may have readings isn't, and counts as possible.
 fn has_possible(alloc: Global, names: &Names, rule: &SourceRule) -> Result<bool, Memory>
-    ensures { IfOk result (λ yes. reading_count names.now (rule_shown rule.now) ≤ 4096 → yes ≡ has_possible names.now (rule_shown rule.now)) }
+    ensures { IfOk result (λ yes. reading_count names.now (rule_shown rule.now) ≤ rule_readings_limit → yes ≡ has_possible names.now (rule_shown rule.now)) }
 {
     let occurrences = Occurrences::of(alloc, rule)?;
     let fixed = fixed_of(alloc, names, &occurrences)?;

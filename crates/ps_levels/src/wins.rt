@@ -17,7 +17,7 @@ ghost use Rattle.ps_levels.specs.WinsShown.{words_shown, win_shown, wins_shown, 
 use crate::fault::WinFault;
 use ps_model::{Cut, Fault, FaultKind, Memory, Quantifier};
 use ps_names::{Meaning, Names};
-use ps_text::{Source, Word, same_name, words};
+use ps_text::{Source, Text, Word, same_name, words};
 use std::alloc::Global;
 use std::ops::Range;
 
@@ -86,40 +86,46 @@ fn win_of_words<'a>(words: &[Word<'a>]) -> Option<WinWords<'a>>
     win_with(words[0].text(), words[1].text(), Some(words[3].text()))
 }
 
-/// What the name behind `on` stands for, if there is none or it is declared.
-fn read_place<'a>(names: &'a Names, place: Option<&str>) -> Option<Option<&'a Meaning>>
-    ensures { option_map (λ found. option_map (λ m. meaning_shown m.now) found) result ≡ place_read names.now (option_map (λ name. name.now) place.entry) }
+/// What a name stands for, if it is declared. It is looked up with its letters folded, since that finds it at once.
+#[tactic(auto, using(ps_model::proofs::Foldings::folded_again))]
+fn meaning_of_name(alloc: Global, names: &Names, name: &str) -> Result<Option<Meaning>, Memory>
+    ensures { IfOk result (λ meaning. option_map meaning_shown meaning ≡ meaning_of names.now name.now) }
 {
-    let Some(name) = place else {
-        return Some(None);
-    };
-    let meaning = names.meaning(name)?;
-    Some(Some(meaning))
-}
-
-/// A meaning once more, if there is one.
-fn copied(alloc: Global, meaning: Option<&Meaning>) -> Result<Option<Meaning>, Memory>
-    ensures { IfOk result (λ copy. option_map meaning_shown copy ≡ option_map (λ m. meaning_shown m.now) meaning.entry) }
-{
-    let Some(meaning) = meaning else {
+    let folded = Text::folded(alloc, name)?;
+    let Some(meaning) = names.meaning(folded.as_str()) else {
         return Ok(None);
     };
     let copy = meaning.copied(alloc)?;
     Ok(Some(copy))
 }
 
+/// What the name behind `on` stands for, if there is none or it is declared.
+fn read_place(
+    alloc: Global,
+    names: &Names,
+    place: Option<&str>,
+) -> Result<Option<Option<Meaning>>, Memory>
+    ensures { IfOk result (λ read. option_map (λ found. option_map meaning_shown found) read ≡ place_read names.now (option_map (λ name. name.now) place.entry)) }
+{
+    let Some(name) = place else {
+        return Ok(Some(None));
+    };
+    let Some(meaning) = meaning_of_name(alloc, names, name)? else {
+        return Ok(None);
+    };
+    Ok(Some(Some(meaning)))
+}
+
 /// The win condition with what its names stand for, if they are declared.
 fn read_win(alloc: Global, names: &Names, words: WinWords<'_>) -> Result<Option<Win>, Memory>
     ensures { IfOk result (λ win. option_map win_shown win ≡ win_read names.now (words_shown words.entry)) }
 {
-    let Some(subject) = names.meaning(words.subject) else {
+    let Some(subject) = meaning_of_name(alloc, names, words.subject)? else {
         return Ok(None);
     };
-    let Some(place) = read_place(names, words.place) else {
+    let Some(place) = read_place(alloc, names, words.place)? else {
         return Ok(None);
     };
-    let subject = subject.copied(alloc)?;
-    let place = copied(alloc, place)?;
     Ok(Some(Win {
         quantifier: words.quantifier,
         subject,

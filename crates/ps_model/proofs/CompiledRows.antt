@@ -19,6 +19,7 @@ use Rattle.ps_model.specs.RulePrograms.{rule_in}
 use Rattle.ps_model.specs.Places.{cells_in}
 use Rattle.ps_model.specs.Attempts.{Result, attempt}
 use Rattle.ps_model.specs.Compiled.{Put, Leave, Clear, CompiledCell, CompiledRule, meaning_of_rule}
+use Rattle.ps_model.specs.CompiledRules.{compiled_rules}
 use Rattle.ps_model.proofs.RuleTexts.{base_names, with_name, lines_below, object, ac}
 
 -- the readings of a rule
@@ -58,6 +59,12 @@ crate_cell direction = record {
 
 abbrev pushing : Direction → CompiledRule
 pushing direction = record { direction = direction; rows = ((player_cell direction ∷ crate_cell direction ∷ []) ∷ []) ∷ []; rewrites = true; commands = no_commands }
+
+-- this is what its source compiles to
+made_of_source : flat_map (compiled_rules base_names) (filter_map rule_in (rules_read base_names (lines_below (codes "[ > Player | Crate ] -> [ > Player | > Crate ]\n"))))
+    ≡ map pushing (Up ∷ Down ∷ Left ∷ Right ∷ [])
+unfolding chars
+made_of_source = refl
 
 -- the rule compiled, in each direction
 abbrev compiled : List RuleMeaning
@@ -132,6 +139,12 @@ other_cells = record {
 
 abbrev other_compiled : List RuleMeaning
 other_compiled = meaning_of_rule (record { direction = Right; rows = (other_cells ∷ []) ∷ []; rewrites = true; commands = no_commands }) ∷ []
+
+-- these are what their source compiles to
+other_made_of_source : map (λ (rule : CompiledRule). rule.rows) (flat_map (compiled_rules (with_name (codes "ac") ac)) (filter_map rule_in (rules_read (with_name (codes "ac") ac)
+    (lines_below (codes "right [ AC | Crate no Target | | > Player | Wall ] -> [ > AC | | no Crate | Player | Wall ]\n"))))) ≡ ((other_cells ∷ []) ∷ []) ∷ []
+unfolding chars
+other_made_of_source = refl
 
 -- cells with nothing, Wall, Player or Crate, each beside nothing, A, B or C, on a Target and elsewhere; all that may move goes the
 -- same way or rests

@@ -1,24 +1,16 @@
 -- Rounds, groups, passes, loops, sections and programs of rules that are alike are equal, and keep the grid one of the game.
-use Rattle.std.proofs.Common.{ℕ, zero, suc, Bool, true, false, List, [], ◌∷◌, refl, ◌∙◌, ap}
+use Rattle.std.proofs.Common.{ℕ, List, [], ◌∷◌, refl}
 use Rattle.std.specs.List.{AllZip}
-use Rattle.ps_model.specs.Limits.{round_limit, repeat_limit}
 use Rattle.ps_model.specs.Names.{Names}
 use Rattle.ps_model.specs.GameGrids.{IsGridOf}
 use Rattle.ps_model.specs.RuleMeanings.{RuleMeaning}
-use Rattle.ps_model.specs.Attempts.{State, Result, attempt}
-use Rattle.ps_model.specs.Programs.{Section, Group, Loop, Progress, after_change, round, settled, group, pass, looped, section_run, sections_run, program_run}
+use Rattle.ps_model.specs.Attempts.{State, attempt}
+use Rattle.ps_model.specs.Programs.{Section, Group, Loop, round, group, pass, looped, section_run, program_run}
 use Rattle.ps_model.specs.EqualMeanings.{SameGroup, SameSection, EqualResults, EqualProgress, EqualStates}
-use Rattle.ps_model.proofs.EitherWay.{kept_either}
+use Rattle.ps_model.specs.AlikeRounds.{Alike, AlikeSection}
+use Rattle.ps_model.proofs.Zipped.{AllZip-weaker}
 use Rattle.ps_model.proofs.EqualAttempts.{attempt-same}
-
--- one thing done, and then another
-after_change-same : (names : Names) (first second : Result) → EqualResults names first second → (next next_too : State → Result) →
-    EqualResults names (next first.state) (next_too first.state) →
-    EqualResults names (after_change first.changed (next first.state)) (after_change second.changed (next_too second.state))
-after_change-same names first second one next next_too more = record {
-  equal = ap (after_change first.changed) more.equal ∙ ap (λ (result : Result). after_change result.changed (next_too result.state)) one.equal;
-  grid = more.grid;
-}
+use Rattle.ps_model.proofs.AlikePrograms.{after_change-same, group-alike, pass-alike, looped-alike, section_run-alike, program_run-alike}
 
 -- a round
 pub round-same : (names : Names) (a b : List RuleMeaning) → SameGroup names a b → (state : State) → IsGridOf names state.grid → EqualResults names (round a state) (round b state)
@@ -29,81 +21,34 @@ round-same names (x ∷ xs) (y ∷ ys) h state shape =
     let one = attempt-same names x y h.0 state shape in
     after_change-same names (attempt x state) (attempt y state) one (round xs) (round ys) (round-same names xs ys h.1 (attempt x state).state one.grid)
 
--- rounds, at most so many
-settled-same : (names : Names) (a b : List RuleMeaning) → SameGroup names a b → (rounds : ℕ) (changed : Bool) (state : State) → IsGridOf names state.grid →
-    EqualResults names (settled a rounds changed state) (settled b rounds changed state)
-settled-same names a b h zero changed state shape = record { equal = refl; grid = shape }
-settled-same names a b h (suc rounds) changed state shape =
-    let next = round-same names a b h state shape in
-    let made : Result = round a state in
-    let more = settled-same names a b h rounds true made.state next.grid in
-    let ends : State → Result = λ (end : State). record { state = end; changed = changed } in
-    record {
-      equal =
-          ap (λ (result : Result). elim made.changed [ true ↦ result | false ↦ ends made.state ]) more.equal
-          ∙ ap (λ (result : Result). elim result.changed [ true ↦ settled b rounds true result.state | false ↦ ends result.state ]) next.equal;
-      grid = kept_either (λ (result : Result). IsGridOf names result.state.grid) (settled a rounds true made.state) (ends made.state) more.grid next.grid made.changed;
-    }
+-- groups that are alike rule by rule
+groups-same : (names : Names) (a b : List (List RuleMeaning)) → AllZip (SameGroup names) a b → AllZip (Alike names) a b
+groups-same names a b h = AllZip-weaker (SameGroup names) (Alike names) (round-same names) a b h
+
+section-same : (names : Names) (a b : Section) → SameSection names a b → AlikeSection names a b
+section-same names (Group a) (Group b) h = round-same names a b h
+section-same names (Group a) (Loop b) h = absurd h
+section-same names (Loop a) (Group b) h = absurd h
+section-same names (Loop a) (Loop b) h = groups-same names a b h
 
 -- a group
 pub group-same : (names : Names) (a b : List RuleMeaning) → SameGroup names a b → (state : State) → IsGridOf names state.grid → EqualResults names (group a state) (group b state)
-unfolding group
-group-same names a b h state shape = settled-same names a b h round_limit false state shape
+group-same names a b h state shape = group-alike names a b (round-same names a b h) state shape
 
 -- a pass
 pub pass-same : (names : Names) (a b : List (List RuleMeaning)) → AllZip (SameGroup names) a b → (state : State) → IsGridOf names state.grid → EqualResults names (pass a state) (pass b state)
-pass-same names [] [] h state shape = record { equal = refl; grid = shape }
-pass-same names [] (y ∷ ys) h state shape = absurd h
-pass-same names (x ∷ xs) [] h state shape = absurd h
-pass-same names (x ∷ xs) (y ∷ ys) h state shape =
-    let one = group-same names x y h.0 state shape in
-    after_change-same names (group x state) (group y state) one (pass xs) (pass ys) (pass-same names xs ys h.1 (group x state).state one.grid)
+pass-same names a b h state shape = pass-alike names a b (groups-same names a b h) state shape
 
 -- a loop
 pub looped-same : (names : Names) (a b : List (List RuleMeaning)) → AllZip (SameGroup names) a b → (repeats : ℕ) (state : State) → IsGridOf names state.grid →
     EqualProgress names (looped a repeats state) (looped b repeats state)
-looped-same names a b h zero state shape =
-    let next = pass-same names a b h state shape in
-    record { equal = ap (λ (result : Result). let end : Progress = record { state = result.state; repeats = 0; stopped = result.changed } in end) next.equal; grid = next.grid }
-looped-same names a b h (suc repeats) state shape =
-    let next = pass-same names a b h state shape in
-    let made : Result = pass a state in
-    let more = looped-same names a b h repeats made.state next.grid in
-    let ends : State → Progress = λ (end : State). record { state = end; repeats = suc repeats; stopped = false } in
-    record {
-      equal =
-          ap (λ (progress : Progress). elim made.changed [ true ↦ progress | false ↦ ends made.state ]) more.equal
-          ∙ ap (λ (result : Result). elim result.changed [ true ↦ looped b repeats result.state | false ↦ ends result.state ]) next.equal;
-      grid = kept_either (λ (progress : Progress). IsGridOf names progress.state.grid) (looped a repeats made.state) (ends made.state) more.grid next.grid made.changed;
-    }
+looped-same names a b h repeats state shape = looped-alike names a b (groups-same names a b h) repeats state shape
 
 -- a section
 pub section_run-same : (names : Names) (a b : Section) → SameSection names a b → (repeats : ℕ) (state : State) → IsGridOf names state.grid →
     EqualProgress names (section_run a repeats state) (section_run b repeats state)
-section_run-same names (Group a) (Group b) h repeats state shape =
-    let made = group-same names a b h state shape in
-    record { equal = ap (λ (result : Result). let end : Progress = record { state = result.state; repeats = repeats; stopped = false } in end) made.equal; grid = made.grid }
-section_run-same names (Group a) (Loop b) h repeats state shape = absurd h
-section_run-same names (Loop a) (Group b) h repeats state shape = absurd h
-section_run-same names (Loop a) (Loop b) h repeats state shape = looped-same names a b h repeats state shape
-
-sections_run-same : (names : Names) (a b : List Section) → AllZip (SameSection names) a b → (repeats : ℕ) (state : State) → IsGridOf names state.grid →
-    EqualStates names (sections_run a repeats state) (sections_run b repeats state)
-sections_run-same names [] [] h repeats state shape = record { equal = refl; grid = shape }
-sections_run-same names [] (y ∷ ys) h repeats state shape = absurd h
-sections_run-same names (x ∷ xs) [] h repeats state shape = absurd h
-sections_run-same names (x ∷ xs) (y ∷ ys) h repeats state shape =
-    let next = section_run-same names x y h.0 repeats state shape in
-    let made : Progress = section_run x repeats state in
-    let more = sections_run-same names xs ys h.1 made.repeats made.state next.grid in
-    record {
-      equal =
-          ap (λ (end : State). elim made.stopped [ true ↦ made.state | false ↦ end ]) more.equal
-          ∙ ap (λ (progress : Progress). elim progress.stopped [ true ↦ progress.state | false ↦ sections_run ys progress.repeats progress.state ]) next.equal;
-      grid = kept_either (λ (end : State). IsGridOf names end.grid) made.state (sections_run xs made.repeats made.state) next.grid more.grid made.stopped;
-    }
+section_run-same names a b h repeats state shape = section_run-alike names a b (section-same names a b h) repeats state shape
 
 -- a program
 pub program_run-same : (names : Names) (a b : List Section) → AllZip (SameSection names) a b → (state : State) → IsGridOf names state.grid → EqualStates names (program_run a state) (program_run b state)
-unfolding program_run
-program_run-same names a b h state shape = sections_run-same names a b h repeat_limit state shape
+program_run-same names a b h state shape = program_run-alike names a b (AllZip-weaker (SameSection names) (AlikeSection names) (section-same names) a b h) state shape

@@ -26,7 +26,7 @@ pub All-groups_of : (P : SourceRule → Type 0) (rules : List SourceRule) → Al
 All-groups_of P [] all = All-nil (All P)
 All-groups_of P (rule ∷ rules) all = All-before_groups P rule (groups_of rules) (All-head P rule rules all) (All-groups_of P rules (All-tail P rule rules all))
 
-rule_in-game : (names : Names) (line : RuleLine) → IsLineOf names line → IfSome (rule_in line) (IsRuleOf names)
+pub rule_in-game : (names : Names) (line : RuleLine) → IsLineOf names line → IfSome (rule_in line) (IsRuleOf names)
 rule_in-game names (Rule rule) h = h
 rule_in-game names LoopStart h = tt
 rule_in-game names LoopEnd h = tt

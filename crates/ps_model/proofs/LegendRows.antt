@@ -98,6 +98,12 @@ bad_lines : map (λ line. fault line) (codes "X =" ∷ codes "X A" ∷ codes "= 
 unfolding chars
 bad_lines = refl
 
+-- no name of LEGEND is written as its sign is
+sign_as_name : map (λ line. fault line) (codes "= = A" ∷ codes "== A or B" ∷ codes "X = =" ∷ codes "X = A and =" ∷ codes "X = = or A" ∷ codes "X = A = B" ∷ [])
+    ≡ at BadLine 13 ∷ at BadLine 13 ∷ at BadLine 13 ∷ at BadLine 13 ∷ at BadLine 13 ∷ at BadLine 13 ∷ []
+unfolding chars
+sign_as_name = refl
+
 -- the forms of all lines are looked at before what they name
 form_before_names : fault (codes "X = Zed\nY = Y\nZ = A B") ≡ at BadLine 15
 unfolding chars

@@ -8,6 +8,7 @@ pub mod EqualPlaces
 pub mod EqualPrograms
 mod FaultRows
 pub mod Endings
+pub mod Foldings
 pub mod Fronts
 pub mod HeldKeys
 mod HeldRows
@@ -29,6 +30,13 @@ mod ObjectRows
 mod OutputRows
 mod SectionRows
 pub mod PassedLoops
+pub mod RisingPlaces
+pub mod TurnedPlaces
+pub mod TurnedAttempts
+pub mod TurnedPrograms
+pub mod AlikePrograms
+pub mod IdleRules
+pub mod AlikeRounds
 pub mod SettledGroups
 pub mod Slots
 pub mod Stages
@@ -37,6 +45,7 @@ pub mod Steps
 pub mod Winners
 mod WinRows
 pub mod RuleTexts
+pub mod SmallBoards
 mod RuleShapeRows
 mod RuleNameRows
 mod RuleGroupRows
@@ -52,13 +61,20 @@ pub mod KeptReadings
 pub mod KeptCells
 pub mod KeptRules
 pub mod KeptTurns
+pub mod FittingMasks
+pub mod RewritingWrites
+pub mod AgreeingCells
+pub mod AgreeingPrograms
 pub mod WholeRuns
 mod PushRows
 mod RoundRows
 mod PartRows
+mod TurnedRows
+mod IdleRows
 mod PropertyRows
 mod CommandRows
 mod CompiledRows
+mod CompilingRows
 mod RefusedRows
 mod PlayedGames1Rows
 mod PlayedGames2Rows
@@ -72,3 +88,16 @@ mod OddTextRows
 mod OddRuleRows
 pub mod LinesInOrder
 pub mod FirstFaults
+pub mod KeptSides
+pub mod RulesOfNames
+pub mod LevelsOfNames
+pub mod MentionedObjects
+pub mod FaultlessNames
+pub mod BoundedNames
+pub mod OptionalSteps
+pub mod AllMentioned
+pub mod NoObjects
+pub mod ObjectsThere
+pub mod GamesOfTexts
+mod GameFactRows
+pub mod LevelLimits

@@ -1,6 +1,6 @@
 -- The lines of LEGEND. `X = Y` makes X another name for Y, a synonym; `X = A and B` makes it an aggregate, all of the names that
 -- `and` joins; `X = A or B` a property, any of the names that `or` joins. Key words may be names.
-use Rattle.std.specs.Prelude.{ℕ, Bool, ◌&&◌, Option, None, Some, option_map, List, [], ◌∷◌, if◌then◌else◌, drop, codes, filter_map}
+use Rattle.std.specs.Prelude.{ℕ, Bool, ◌&&◌, ◌||◌, Option, None, Some, option_map, List, [], ◌∷◌, if◌then◌else◌, drop, codes, filter_map}
 use Rattle.std.specs.List.{list_any}
 use Rattle.std.specs.Str.{bytes_eq}
 use Rattle.ps_model.specs.declared.texts.Joiner.{Joiner}
@@ -48,12 +48,20 @@ name_declared [] = None
 name_declared (name ∷ []) = None
 name_declared (name ∷ second ∷ right) = if bytes_eq second (codes "=") then Some name else None
 
+-- the word is the sign that parts a line's two sides
+abbrev pub is_sign : List ℕ → Bool
+is_sign word = bytes_eq word (codes "=")
+
+-- what a line with these two sides declares: no name of LEGEND is written as the sign is
+abbrev pub declared_with : ℕ → List ℕ → List (List ℕ) → Option Declaration
+declared_with number name others =
+    if is_sign name || list_any is_sign others then None else option_map (λ right. record { line = number; name = name; right = right }) (right_side others)
+
 -- what a line declares; a line of another form declares nothing
 abbrev pub declared_by : WrittenLine → Option Declaration
 declared_by line = do
   name ← name_declared line.words
-  right ← right_side (drop 2 line.words)
-  Some (record { line = line.number; name = name; right = right })
+  declared_with line.number name (drop 2 line.words)
 
 -- what the lines of LEGEND declare
 abbrev pub declarations : List WrittenLine → List Declaration

@@ -44,6 +44,7 @@ pub mod Programs
 pub mod GameGrids
 pub mod EqualMeanings
 pub mod Settling
+pub mod TurnedRound
 pub mod RulePrograms
 pub mod Compiled
 pub mod ReadingFaults
@@ -69,4 +70,11 @@ pub mod Outputs
 pub mod Fronts
 pub mod GameRules
 pub mod KeptGrids
+pub mod CompiledCells
+pub mod CompiledRules
+pub mod IdleRules
+pub mod AlikeRounds
 pub mod Headline
+pub mod GameLevels
+pub mod GamesOfTexts
+pub mod SameSides

@@ -1,6 +1,6 @@
 //! The names that are known while the sections are read.
 
-ghost use Rattle.std.specs.Prelude.{◌≡◌, ◌++◌, ◌∷◌, [], false, IfOk, option_map, ◌<◌, length, map, slice_get, slice_index_or, ℕ};
+ghost use Rattle.std.specs.Prelude.{◌≡◌, ◌++◌, ◌∷◌, [], true, false, IfOk, option_map, ◌<◌, length, map, slice_get, slice_index_or, ℕ};
 ghost use Rattle.std.specs.Str.{bytes_eq};
 ghost use Rattle.std.specs.List.{list_any};
 ghost use Rattle.std.specs.Map.{lookup};
@@ -123,6 +123,7 @@ impl Known {
     ) -> Result<bool, Memory>
         ensures again { IfOk result (λ again. again ≡ list_any (bytes_eq (folded written.now)) (keys self.old)) }
         ensures new { IfOk result (λ again. again ≡ false → self.new ≡ self.old ++ named_as (mention_shown mention) written.now ∷ []) }
+        ensures stays { IfOk result (λ again. again ≡ true → self.new ≡ self.old) }
     {
         let name = written.to_ascii_lowercase(alloc)?;
         if self.names.contains_key(name.as_str()) {

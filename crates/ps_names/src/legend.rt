@@ -1,7 +1,8 @@
 //! LEGEND: what its lines declare.
 
 ghost use Rattle.std.specs.Prelude.{◌≡◌, IfOk, option_map, map};
-ghost use Rattle.ps_model.specs.LegendLines.{has_key_word, is_mixed, joined_by, right_side, name_declared, declared_by};
+ghost use Rattle.std.specs.List.{list_any};
+ghost use Rattle.ps_model.specs.LegendLines.{has_key_word, is_mixed, is_sign, joined_by, right_side, name_declared, declared_by};
 ghost use Rattle.ps_text.specs.WordViews.{text_of};
 ghost use Rattle.ps_names.specs.LegendShown.{side_shown, declaration_shown};
 ghost use Rattle.ps_names.specs.LinesShown.{line_shown};
@@ -113,7 +114,26 @@ pub fn name_declared<'a>(line: &WrittenLine<'a>) -> Option<&'a str>
     Some(line.words[0].text())
 }
 
-/// What a legend line declares; a line of another form declares nothing.
+/// Whether a word is `=`, the sign that parts a line's two sides.
+fn is_sign(word: &str) -> bool
+    ensures { result ≡ is_sign word.now }
+{
+    word == "="
+}
+
+/// Whether the sign is among words.
+fn has_sign(words: &[Word<'_>]) -> bool
+    ensures { result ≡ list_any is_sign (map text_of words.now) }
+{
+    for word in words {
+        if is_sign(word.text()) {
+            return true;
+        }
+    }
+    false
+}
+
+/// What a legend line declares; a line of another form declares nothing. No name is written as the sign is, so the line has it once.
 pub fn declared_by<'a>(
     alloc: Global,
     line: &WrittenLine<'a>,
@@ -123,7 +143,11 @@ pub fn declared_by<'a>(
     let Some(name) = name_declared(line) else {
         return Ok(None);
     };
-    let Some(right) = right_side(alloc, &line.words[2..])? else {
+    let others = &line.words[2..];
+    if is_sign(name) || has_sign(others) {
+        return Ok(None);
+    }
+    let Some(right) = right_side(alloc, others)? else {
         return Ok(None);
     };
     let line = line.number;

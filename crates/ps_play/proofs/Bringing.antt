@@ -1,5 +1,5 @@
 -- What the bytes of a piece bring, and all bytes that a reader had to give.
-use Rattle.std.proofs.Common.{◌≡◌, ◌∙◌, ℕ, ◌+◌, ◌<◌, List, [], ◌∷◌, ◌++◌, length, take, drop, get_or, Option, Some, None, refl, sym, ap, append_assoc, append-nil, arith, ◌≤◌, inl, inr, Ok}
+use Rattle.std.proofs.Common.{◌≡◌, ◌∙◌, ℕ, false, true, ◌+◌, ◌<◌, List, [], ◌∷◌, ◌++◌, length, take, drop, get_or, Option, Some, None, refl, sym, ap, append_assoc, append-nil, arith, ◌≤◌, inl, inr, Ok}
 use Rattle.std.specs.Prelude.{IfSome}
 use Rattle.std.proofs.lemmas.Bool.{cases_lt}
 use Rattle.std.proofs.lemmas.Grind.{common_steps}
@@ -82,8 +82,8 @@ if_some P None holds = tt
 if_some P (Some x) holds = holds x refl
 
 -- a call more
-pub one_call : (old new most : ℕ) → (old < most → new ≡ old + 1) → (most ≤ old → new ≡ old) → new ≤ old + 1
-one_call old new most counted held = elim (cases_lt old most) [ inl below ↦ (let e : new ≡ old + 1 = counted below in omega arith) | inr above ↦ (let e : new ≡ old = held above in omega arith) ]
+pub one_call : (old new most : ℕ) → (old < most → new ≡ old + 1) → (most ≤ old → false ≡ true) → new ≡ old + 1
+one_call old new most counted worn = elim (cases_lt old most) [ inl below ↦ counted below | inr above ↦ (let e : false ≡ true = worn above in cc) ]
 
 -- what is brought behind an opening that was written
 pub opened : (remaining old mid new : Option (List ℕ)) (screen start : List ℕ) (names those : Names) (g that : Grid) (ending : Ending) →

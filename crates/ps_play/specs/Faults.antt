@@ -36,3 +36,10 @@ IsDeviceFault (Refused fault) = ⊥
 IsDeviceFault Memory = Unit {0}
 IsDeviceFault Read = Unit {0}
 IsDeviceFault Write = Unit {0}
+
+-- memory was wanting, or the writer failed
+abbrev pub IsWriterFault : RunFault → Type 0
+IsWriterFault (Refused fault) = ⊥
+IsWriterFault Memory = Unit {0}
+IsWriterFault Read = ⊥
+IsWriterFault Write = Unit {0}

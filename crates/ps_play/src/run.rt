@@ -1,13 +1,13 @@
 //! A run: a game's text and the keys in, the frames out.
 
-ghost use Rattle.std.specs.Prelude.{◌≡◌, ◌≢◌, ◌+◌, ◌≤◌, ◌++◌, ◌∷◌, [], IfOk, IfErr, IfSome, OnOk, OnErr, IsSome, IsErrOf, List, ℕ, true};
+ghost use Rattle.std.specs.Prelude.{◌≡◌, ◌≢◌, ◌+◌, ◌≤◌, ◌++◌, ◌∷◌, ◌⊎◌, [], IfOk, IfErr, IfSome, OnOk, OnErr, IsSome, IsErrOf, List, ℕ, true};
 ghost use Rattle.ps_model.specs.Limits.{read_limit};
 ghost use Rattle.ps_model.specs.PlainGames.{plain_game};
 ghost use Rattle.ps_model.specs.Levels.{loaded};
 ghost use Rattle.ps_model.specs.PlainOutput.{opening};
 ghost use Rattle.ps_model.specs.Outputs.{end_of_keys_line};
 ghost use Rattle.ps_devices.specs.Devices.{Grows};
-ghost use Rattle.ps_play.specs.Faults.{IsRefusal, IsDeviceFault};
+ghost use Rattle.ps_play.specs.Faults.{IsRefusal, IsDeviceFault, IsWriterFault};
 ghost use Rattle.ps_play.specs.Playable.{IsPlayable};
 ghost use Rattle.ps_play.specs.Runs.{keys_apart, Outputs, Brings, Answers};
 
@@ -90,6 +90,8 @@ pub fn run<R: ByteReader, W: ByteWriter>(
     ensures unread { (fault : Fault) → result ≡ Err (RunFault.Refused fault) → reader.new ≡ reader.old }
     ensures unwritten { (fault : Fault) → result ≡ Err (RunFault.Refused fault) → writer.new ≡ writer.old }
     ensures calls { R.calls reader.new ≤ R.calls reader.old + read_limit }
+    ensures reads { result ≢ Err RunFault.Read → R.has_failed reader.new ≡ R.has_failed reader.old }
+    ensures unheard { result ≡ Err RunFault.Read → (R.has_failed reader.new ≡ true) ⊎ (R.calls reader.new ≡ R.calls reader.old + read_limit) }
     ensures writes { result ≢ Err RunFault.Write → W.has_failed writer.new ≡ W.has_failed writer.old }
     ensures stopped { result ≡ Err RunFault.Write → W.has_failed writer.new ≡ true }
     ensures answers { IfSome (R.remaining reader.old) (λ all. IfSome (W.contents writer.old) (λ before. Answers game.now all before (W.contents writer.new) result)) }
@@ -121,6 +123,8 @@ fn play_game<R: ByteReader, W: ByteWriter>(
 ) -> Result<Ending, RunFault>
     requires { IsPlayable game.now.names game.now.level }
     ensures calls { R.calls reader.new ≤ R.calls reader.old + read_limit }
+    ensures reads { result ≢ Err RunFault.Read → R.has_failed reader.new ≡ R.has_failed reader.old }
+    ensures unheard { result ≡ Err RunFault.Read → (R.has_failed reader.new ≡ true) ⊎ (R.calls reader.new ≡ R.calls reader.old + read_limit) }
     ensures writes { result ≢ Err RunFault.Write → W.has_failed writer.new ≡ W.has_failed writer.old }
     ensures stopped { result ≡ Err RunFault.Write → W.has_failed writer.new ≡ true }
     ensures well { IfErr result IsDeviceFault }
@@ -143,6 +147,8 @@ fn play<B: Board, R: ByteReader, W: ByteWriter>(
     writer: &mut W,
 ) -> Result<Ending, RunFault>
     ensures calls { R.calls reader.new ≤ R.calls reader.old + read_limit }
+    ensures reads { result ≢ Err RunFault.Read → R.has_failed reader.new ≡ R.has_failed reader.old }
+    ensures unheard { result ≡ Err RunFault.Read → (R.has_failed reader.new ≡ true) ⊎ (R.calls reader.new ≡ R.calls reader.old + read_limit) }
     ensures writes { result ≢ Err RunFault.Write → W.has_failed writer.new ≡ W.has_failed writer.old }
     ensures stopped { result ≡ Err RunFault.Write → W.has_failed writer.new ≡ true }
     ensures well { IfErr result IsDeviceFault }
@@ -175,7 +181,7 @@ fn play_piece<B: Board, W: ByteWriter>(
 ) -> Result<Option<Ending>, RunFault>
     ensures writes { result ≢ Err RunFault.Write → W.has_failed writer.new ≡ W.has_failed writer.old }
     ensures stopped { result ≡ Err RunFault.Write → W.has_failed writer.new ≡ true }
-    ensures well { IfErr result IsDeviceFault }
+    ensures well { IfErr result IsWriterFault }
     ensures game { OnOk result (session.new.game.now ≡ session.old.game.now) }
     ensures brings { IfOk result (λ ending. (text : List ℕ) × Grows (W.contents writer.old) (W.contents writer.new) text
         × Brings session.old.game.now.names (B.grid session.old.board) (keys_apart piece.now) (B.grid session.new.board) text ending) }
@@ -197,7 +203,7 @@ fn play_byte<B: Board, W: ByteWriter>(
 ) -> Result<Option<Ending>, RunFault>
     ensures writes { result ≢ Err RunFault.Write → W.has_failed writer.new ≡ W.has_failed writer.old }
     ensures stopped { result ≡ Err RunFault.Write → W.has_failed writer.new ≡ true }
-    ensures well { IfErr result IsDeviceFault }
+    ensures well { IfErr result IsWriterFault }
     ensures game { OnOk result (session.new.game.now ≡ session.old.game.now) }
     ensures brings { IfOk result (λ ending. (text : List ℕ) × Grows (W.contents writer.old) (W.contents writer.new) text
         × Brings session.old.game.now.names (B.grid session.old.board) (keys_apart (byte ∷ [])) (B.grid session.new.board) text ending) }
@@ -215,7 +221,7 @@ fn play_byte<B: Board, W: ByteWriter>(
 fn write_end_of_keys<W: ByteWriter>(screen: &mut Screen, writer: &mut W) -> Result<(), RunFault>
     ensures writes { result ≢ Err RunFault.Write → W.has_failed writer.new ≡ W.has_failed writer.old }
     ensures stopped { result ≡ Err RunFault.Write → W.has_failed writer.new ≡ true }
-    ensures well { IfErr result IsDeviceFault }
+    ensures well { IfErr result IsWriterFault }
     ensures written { OnOk result (Grows (W.contents writer.old) (W.contents writer.new) end_of_keys_line) }
 {
     screen.clear();

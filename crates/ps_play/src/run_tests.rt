@@ -233,6 +233,17 @@ fn refuses_games_not_played_yet(rt: HostRuntime) -> Result<(), Fail> {
 }
 
 #[test]
+fn reads_nothing_behind_the_ending(rt: HostRuntime) -> Result<(), Fail> {
+    let text = format!(in rt.alloc(); "{NAMES}{BELOW}P..")?;
+    let mut reader = MemoryReader::new(b"dqdd", 1, None);
+    let mut writer = MemoryWriter::new(rt.alloc(), 200, 200)?;
+    let result = run(rt.alloc(), text.as_bytes(), &mut reader, &mut writer);
+    assert_eq!(rt; result, Ok(Ending::Quit));
+    assert_eq!(rt; reader.given(), 2);
+    Ok(())
+}
+
+#[test]
 fn tells_of_devices_that_fail(rt: HostRuntime) -> Result<(), Fail> {
     let text = format!(in rt.alloc(); "{NAMES}{BELOW}P..")?;
     let opening = b"= T\n# level 1\nP..\n\n".as_slice();

@@ -5,7 +5,6 @@ pub mod Cuts
 pub mod SameRules
 pub mod Rows
 pub mod Words
-pub mod Foldings
 pub mod Repeats
 pub mod Founds
 pub mod Tallies

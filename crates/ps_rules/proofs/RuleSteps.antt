@@ -3,8 +3,6 @@ use Rattle.std.proofs.Common.{◌≡◌, ℕ, true, false, List, [], ◌∷◌, 
 use Rattle.std.specs.Prelude.{option_map, is_some}
 use Rattle.ps_model.specs.declared.faults.Fault.{Fault}
 use Rattle.ps_model.specs.declared.faults.FaultKind.{FaultKind}
-use Rattle.ps_model.specs.declared.faults.FaultKind.TheVariants.{Unbound}
-use Rattle.ps_model.specs.RuleNameFaults.{has_name_twice, puts_no_before_aggregate, has_unbound}
 use Rattle.ps_model.specs.Faults.{first_fault}
 use Rattle.ps_model.specs.RuleShape.{RuleShape}
 use Rattle.ps_model.specs.RuleFaults.{Above, faults_of_rule}
@@ -60,14 +58,6 @@ module _ (above : Above) (line : ℕ) (shape : RuleShape) (rule : SourceRule) wh
   told-last (Some kind) names last none neither s e l = cc
   told-last None (Some kind) last none neither s e l = cc
   told-last None None last none neither s e l = l ∙ sym (at_last (sym s) (sym e))
-
-pub unbound-first : (line : ℕ) (rule : SourceRule) → has_name_twice rule ≡ false → puts_no_before_aggregate rule ≡ false → has_unbound rule ≡ true
-    → Some (fault_at line Unbound) ≡ first_fault (name_faults line rule)
-unbound-first line rule a b e = rw (a, b, e) refl
-
-pub no-name-fault : (line : ℕ) (rule : SourceRule) → has_name_twice rule ≡ false → puts_no_before_aggregate rule ≡ false → has_unbound rule ≡ false
-    → None ≡ first_fault (name_faults line rule)
-no-name-fault line rule a b e = rw (a, b, e) refl
 
 pub rule-fine : (above : Above) (line : ℕ) (shape : RuleShape) (rule other : SourceRule) (kind : Option FaultKind) → kind ≡ None
     → option_map (fault_at line) kind ≡ first_fault (faults_of_rule above line shape rule) → rule ≡ other → faults_of_rule above line shape other ≡ []

@@ -158,6 +158,7 @@ impl Source {
         ensures taken { option_map taken_of result ≡ (line_at self.now line).taken }
         ensures line { IfSome result (λ word. word.span.line ≡ line) }
         ensures text { IfSome result (IsSliceOf self.now) }
+        ensures end { IfSome result (λ word. word.span.end ≡ word.span.start + length word.text.now) }
     {
         let row = self.row(line);
         let Some(place) = row.taken else {

@@ -1,5 +1,6 @@
 use Rattle.std.proofs.Common.{◌≡◌, ◌∙◌, ◌≤◌, ◌++◌, [], sym, ap, subst, rules, List, ℕ, Option, Some, length}
 use Rattle.std.proofs.lemmas.List.{length-map}
+use Rattle.ps_model.specs.Limits.{object_limit, layer_limit}
 use Rattle.ps_model.specs.declared.faults.Fault.{Fault as TheFault}
 use Rattle.ps_model.specs.Faults.{first_fault}
 use Rattle.ps_model.specs.Names.{Meaning}
@@ -176,4 +177,4 @@ invariant_of-result c =
     ap (λ ls. no_layers objects (layers_found (length objects) ls)) (sym same) ∙ ap (no_layers objects) (sym (c.deref-3.ensures.value ∙ placed)) ∙ none in
     let long : c.in_ok-layering.layering.count ≡ length (sections_of objects lines layer_lines).layers =
     c.in_ok-layering.ensures.count ∙ ap (λ (t : List (Named × Option Meaning)). length (layers_of_lines (entries_with t) layer_lines)) table ∙ ap length same in
-    subst AreBounded (sym part) (bounded objects lines layer_lines (subst (λ (n : ℕ). n ≤ 64) count c.in_ok-declared.ensures.few) (subst (λ (n : ℕ). n ≤ 32) long c.in_ok-layering.ensures.few) on)
+    subst AreBounded (sym part) (bounded objects lines layer_lines (subst (λ (n : ℕ). n ≤ object_limit) count c.in_ok-declared.ensures.few) (subst (λ (n : ℕ). n ≤ layer_limit) long c.in_ok-layering.ensures.few) on)

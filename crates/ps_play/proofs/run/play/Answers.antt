@@ -1,4 +1,4 @@
-use Rattle.std.proofs.Common.{◌≡◌, ◌∙◌, ◌++◌, ◌+◌, ◌≤◌, refl, [], arith, rules, take, append-nil}
+use Rattle.std.proofs.Common.{◌≡◌, ◌∙◌, ◌++◌, ◌+◌, refl, [], arith, rules, take, append-nil}
 use Rattle.ps_model.specs.Names.{Names}
 use Rattle.ps_model.specs.Outputs.{end_of_keys_line}
 use Rattle.ps_devices.specs.Devices.{Loses}
@@ -11,10 +11,11 @@ loop-call-preserved g c =
     let names : Names = c.args.session.now.game.now.names in
     let so_far = c.loop-call.invariant.brought in
     let more = rw (c.loop-call.invariant.game, c.in_default-2.is, c.split_at.ensures.front) at c.in_ok-ending.ensures.brings in
-    let calls : g.R.ByteReader.calls c.read_some.new.self ≤ g.R.ByteReader.calls c.loop-call.reader + 1 =
-    one_call _ _ _ c.in-Ok.ensures.counted c.in-Ok.ensures.held in
+    let calls : g.R.ByteReader.calls c.read_some.new.self ≡ g.R.ByteReader.calls c.loop-call.reader + 1 =
+    one_call _ _ _ c.in-Ok.ensures.counted c.in-Ok.ensures.worn in
     record {
       calls = omega (arith, calls, c.loop-call.invariant.calls);
+      heard = c.in-Ok.ensures.well ∙ c.loop-call.invariant.heard;
       game = c.in_ok-ending.ensures.game ∙ c.loop-call.invariant.game;
       well = c.in_ok-ending.ensures.writes (λ e. cc) ∙ c.loop-call.invariant.well;
       brought = (
