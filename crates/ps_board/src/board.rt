@@ -1,8 +1,8 @@
 //! What any board can do.
 
 ghost use Rattle.std.specs.Prelude.{◌≡◌, ℕ, ◌+◌, ◌*◌, ◌<◌, ◌≤◌, IfOk, None};
-ghost use Rattle.ps_model.specs.Grid.{Grid, IsGrid, IsPlace, empty_grid, slot_at, object_in, motion_in, slot_of, with_slot, at_rest};
-ghost use Rattle.ps_model.specs.Limits.{layer_limit, side_limit};
+ghost use Rattle.ps_model.specs.board.Grid.{Grid, IsGrid, IsPlace, empty_grid, slot_at, object_in, motion_in, slot_of, with_slot, at_rest};
+ghost use Rattle.ps_model.specs.declared.limits.TheConstants.{LAYER_LIMIT, SIDE_LIMIT};
 ghost use Rattle.ps_model.specs.declared.pieces.Motion.TheVariants.{Still};
 
 use ps_model::{LayerId, Memory, Motion, ObjectId};
@@ -19,9 +19,9 @@ pub trait Board: Drop {
 
     /// A board without objects, of so many columns, rows and layers. Without memory there is no board.
     fn try_empty(alloc: Global, width: u32, height: u32, layers: u32) -> Result<Self, Memory>
-        requires width { (0 < width) × (width ≤ side_limit) }
-        requires height { (0 < height) × (height ≤ side_limit) }
-        requires layers { (0 < layers) × (layers ≤ layer_limit) }
+        requires width { (0 < width) × (width ≤ SIDE_LIMIT) }
+        requires height { (0 < height) × (height ≤ SIDE_LIMIT) }
+        requires layers { (0 < layers) × (layers ≤ LAYER_LIMIT) }
         ensures { IfOk result (λ board. grid board ≡ empty_grid width height layers) };
 
     /// Another board that shows the same. Without memory there is none, and this one stays as it is.

@@ -2,8 +2,8 @@
 
 ghost use Rattle.std.specs.Prelude.{◌≡◌, ℕ, ◌+◌, ◌*◌, ◌<◌, ◌≤◌, IfOk, None, vec_len};
 ghost use Rattle.std.specs.Simd.{first_chunks};
-ghost use Rattle.ps_model.specs.Grid.{slot_at, slot_at_rest, slot_of};
-ghost use Rattle.ps_model.specs.Limits.{layer_limit, side_limit};
+ghost use Rattle.ps_model.specs.board.Grid.{slot_at, slot_at_rest, slot_of};
+ghost use Rattle.ps_model.specs.declared.limits.TheConstants.{LAYER_LIMIT, SIDE_LIMIT};
 
 use crate::board::Board;
 use ps_model::{LayerId, Memory, Motion, ObjectId, Slot};
@@ -17,11 +17,11 @@ pub struct ListBoard {
     layers: u32,
     slots: Vec<Slot>,
     ghost some_column: { 0 < width },
-    ghost columns: { width ≤ side_limit },
+    ghost columns: { width ≤ SIDE_LIMIT },
     ghost some_row: { 0 < height },
-    ghost rows: { height ≤ side_limit },
+    ghost rows: { height ≤ SIDE_LIMIT },
     ghost some_layer: { 0 < layers },
-    ghost few_layers: { layers ≤ layer_limit },
+    ghost few_layers: { layers ≤ LAYER_LIMIT },
     ghost whole: { vec_len slots ≡ width * height * layers },
 }
 

@@ -5,10 +5,10 @@ use Rattle.std.proofs.Math.Seq.{drop-cons}
 use Rattle.std.proofs.lemmas.List.{get_or_append_left, get_or-append-add, get_or-map, length-map, at_drop_all}
 use Rattle.std.proofs.lemmas.Nat.{div-mul-add, div_below, mod_below, mul-le, div-add-mod'}
 use Rattle.std.proofs.lemmas.Bool.Decides.{nat_tests}
-use Rattle.ps_model.specs.Limits.{rule_readings_limit}
+use Rattle.ps_model.specs.declared.limits.TheConstants.{RULE_READINGS_LIMIT}
 use Rattle.ps_model.specs.declared.pieces.ObjectId.{ObjectId}
-use Rattle.ps_model.specs.Readings.{one_of_each, ways}
-use Rattle.ps_model.proofs.Stages.{length-one_of_each}
+use Rattle.ps_model.specs.meaning.Readings.{one_of_each, ways}
+use Rattle.ps_laws.proofs.common.Stages.{length-one_of_each}
 use Rattle.ps_game.specs.Possible.{choice, has_empty}
 
 -- how many choices there are ----------------------------------------------------------------------------------------------
@@ -46,7 +46,7 @@ none_after false some e = e
 
 -- more than so many choices of the lists so far are more of all
 pub many_choices : (count all : ℕ) (items : List ObjectId) (others lists : List (List ObjectId)) → lists ≡ items ∷ others → has_empty lists ≡ false → count * ways lists ≡ all
-    → rule_readings_limit < count * length items → rule_readings_limit < all
+    → RULE_READINGS_LIMIT < count * length items → RULE_READINGS_LIMIT < all
 many_choices count all items others lists e some product many =
     let product_now : count * (length items * ways others) ≡ all = ap (λ (l : List (List ObjectId)). count * ways l) (sym e) ∙ product in
     let some_now : has_empty (items ∷ others) ≡ false = ap has_empty (sym e) ∙ some in

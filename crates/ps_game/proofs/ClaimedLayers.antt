@@ -9,15 +9,15 @@ use Rattle.std.proofs.lemmas.Simd.{map-map}
 use Rattle.ps_model.specs.declared.pieces.ObjectId.{ObjectId}
 use Rattle.ps_model.specs.declared.pieces.Direction.{Direction}
 use Rattle.ps_model.specs.declared.pieces.Motion.{Motion}
-use Rattle.ps_model.specs.Names.{Meaning, One, AllOf, AnyOf, Names, layer_of}
-use Rattle.ps_model.specs.SourceRules.{Item, Is, No, CellPair, SourceRule}
-use Rattle.ps_model.specs.Occurrences.{cells_of, bound_name, bound_word, is_loose}
-use Rattle.ps_model.specs.Readings.{Reading}
-use Rattle.ps_model.specs.Wanted.{Wanted, one_member, chosen_member, motion_of_word, wanted_name, wanted_left, wanted_right, Each, Any}
-use Rattle.ps_model.specs.Rewriting as rewriting
-use Rattle.ps_model.specs.Rewriting.{claims_of, loose_claim}
-use Rattle.ps_model.specs.ReadingMeanings.{are_apart, is_possible_cell, is_possible, right_of_cell}
-use Rattle.ps_model.proofs.Stages.{map-flat_map, same_flat_map}
+use Rattle.ps_model.specs.names.Names.{Meaning, One, AllOf, AnyOf, Names, layer_of}
+use Rattle.ps_model.specs.rules.SourceRules.{Item, Is, No, CellPair, SourceRule}
+use Rattle.ps_model.specs.meaning.Occurrences.{cells_of, bound_name, bound_word, is_loose}
+use Rattle.ps_model.specs.meaning.Readings.{Reading}
+use Rattle.ps_model.specs.meaning.Wanted.{Wanted, one_member, chosen_member, motion_of_word, wanted_name, wanted_left, wanted_right, Each, Any}
+use Rattle.ps_model.specs.meaning.Rewriting as rewriting
+use Rattle.ps_model.specs.meaning.Rewriting.{claims_of, loose_claim}
+use Rattle.ps_model.specs.meaning.ReadingMeanings.{are_apart, is_possible_cell, is_possible, right_of_cell}
+use Rattle.ps_laws.proofs.common.Stages.{map-flat_map, same_flat_map}
 use Rattle.ps_game.specs.declared.claims.Claim.{Claim}
 use Rattle.ps_game.specs.declared.claims.Claim.TheVariants.{Layer, Chosen}
 use Rattle.ps_game.specs.Possible.{place_of, chosen_claims, loose_claims, property_claims, name_claims, left_claims, right_claims, cell_sides, sides_of_cells, claim_layer, are_distinct, is_side_apart, are_sides_apart}

@@ -10,10 +10,10 @@ use Rattle.ps_model.specs.declared.texts.Section.{Section}
 use Rattle.ps_model.specs.declared.texts.Section.TheVariants.{Prelude}
 use Rattle.ps_model.specs.declared.faults.Fault.{Fault}
 use Rattle.ps_model.specs.declared.faults.FaultKind.TheVariants.{SectionOrder, Realtime}
-use Rattle.ps_model.specs.Faults.{when, first_fault}
-use Rattle.ps_model.specs.Lines.{Line, lines_of}
-use Rattle.ps_model.specs.Sections.{rank, header_lines, is_out_of_order, is_real_time, heading_faults_of}
-use Rattle.ps_model.proofs.LinesInOrder.{AreInOrder, in_order}
+use Rattle.ps_model.specs.text.Faults.{when, first_fault}
+use Rattle.ps_model.specs.text.Lines.{Line, lines_of}
+use Rattle.ps_model.specs.text.Sections.{rank, header_lines, is_out_of_order, is_real_time, heading_faults_of}
+use Rattle.ps_laws.proofs.common.LinesInOrder.{AreInOrder, in_order}
 use Rattle.ps_game.specs.Headings.{is_late_header, fault_by, heading_fault, place_below, headings_told}
 
 -- the header's section has no earlier place than that

@@ -10,7 +10,7 @@ use Rattle.std.proofs.lemmas.List.Elements.{All-nil, All-cons, All-head, All-tai
 use Rattle.std.proofs.lemmas.Nat.{mul-le}
 use Rattle.std.proofs.lemmas.Simd.{map-map}
 use Rattle.std.proofs.lemmas.Bool.Decides.{nat_tests}
-use Rattle.ps_model.specs.Limits.{rule_readings_limit}
+use Rattle.ps_model.specs.declared.limits.TheConstants.{RULE_READINGS_LIMIT}
 use Rattle.ps_model.specs.declared.faults.Fault.{Fault}
 use Rattle.ps_model.specs.declared.faults.FaultKind.{FaultKind}
 use Rattle.ps_model.specs.declared.pieces.ObjectId.{ObjectId}
@@ -19,17 +19,17 @@ use Rattle.ps_model.specs.declared.pieces.Direction.TheVariants as direction
 use Rattle.ps_model.specs.declared.pieces.Motion.{Motion}
 use Rattle.ps_model.specs.declared.rules.MovementWord.{MovementWord}
 use Rattle.ps_model.specs.declared.rules.MovementWord.TheVariants as word
-use Rattle.ps_model.specs.Directions.{along, left_of, turned, is_several}
-use Rattle.ps_model.specs.Faults.{first_fault, when}
-use Rattle.ps_model.specs.Names.{Names, members}
-use Rattle.ps_model.specs.SourceRules.{Item, Is, No, SourceRule, RuleLine, Rule, LoopStart, LoopEnd}
-use Rattle.ps_model.specs.Occurrences.{left_items, is_fixed}
-use Rattle.ps_model.specs.Readings.{one_of_each, ways, reading_count, member_choices, all_member_choices, move_choices, all_move_choices, written_directions, is_direction_free, directions_of, readings_in}
-use Rattle.ps_model.specs.ReadingMeanings.{is_possible, has_possible}
-use Rattle.ps_model.specs.ReadingFaults.{too_many_readings, impossible_rules}
-use Rattle.ps_model.specs.RulePrograms.{rule_in}
-use Rattle.ps_model.proofs.Stages.{map-flat_map, same_flat_map, length-one_of_each}
-use Rattle.ps_model.proofs.Everywhere.{All-always, All-mapped, All-flat_map, All-filter_map}
+use Rattle.ps_model.specs.meaning.Directions.{along, left_of, turned, is_several}
+use Rattle.ps_model.specs.text.Faults.{first_fault, when}
+use Rattle.ps_model.specs.names.Names.{Names, members}
+use Rattle.ps_model.specs.rules.SourceRules.{Item, Is, No, SourceRule, RuleLine, Rule, LoopStart, LoopEnd}
+use Rattle.ps_model.specs.meaning.Occurrences.{left_items, is_fixed}
+use Rattle.ps_model.specs.meaning.Readings.{one_of_each, ways, reading_count, member_choices, all_member_choices, move_choices, all_move_choices, written_directions, is_direction_free, directions_of, readings_in}
+use Rattle.ps_model.specs.meaning.ReadingMeanings.{is_possible, has_possible}
+use Rattle.ps_model.specs.rules.ReadingFaults.{too_many_readings, impossible_rules}
+use Rattle.ps_model.specs.board.RulePrograms.{rule_in}
+use Rattle.ps_laws.proofs.common.Stages.{map-flat_map, same_flat_map, length-one_of_each}
+use Rattle.ps_laws.proofs.common.Everywhere.{All-always, All-mapped, All-flat_map, All-filter_map}
 use Rattle.ps_game.specs.Possible.{fixed_item, fixed_items, member_lists, rule_sides, are_sides_apart, has_apart_choice, HasFewReadings, HaveFewReadings, impossible_at, first_impossible_of}
 use Rattle.ps_game.specs.Pairing.{choices_of, paired}
 use Rattle.ps_game.proofs.ClaimedLayers.{reading_by, possible_by_choice}
@@ -220,7 +220,7 @@ none_when : (test : Bool) (kind : FaultKind) (line : ℕ) (rest : List Fault) �
 none_when true kind line rest e = cc
 none_when false kind line rest e = (refl, e)
 
-few_by : (count : ℕ) (over : Bool) → (nat_lt rule_readings_limit count || over) ≡ false → count ≤ rule_readings_limit
+few_by : (count : ℕ) (over : Bool) → (nat_lt RULE_READINGS_LIMIT count || over) ≡ false → count ≤ RULE_READINGS_LIMIT
 few_by count true e = grind (arith, nat_tests)
 few_by count false e = grind (arith, nat_tests)
 

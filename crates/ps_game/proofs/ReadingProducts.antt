@@ -10,11 +10,11 @@ use Rattle.ps_model.specs.declared.pieces.Motion.{Motion}
 use Rattle.ps_model.specs.declared.pieces.ObjectId.{ObjectId}
 use Rattle.ps_model.specs.declared.rules.MovementWord.{MovementWord}
 use Rattle.ps_model.specs.declared.rules.MovementWord.TheVariants as word
-use Rattle.ps_model.specs.Directions.{along, left_of}
-use Rattle.ps_model.specs.Names.{Meaning, Names, members}
-use Rattle.ps_model.specs.SourceRules.{Item, Is, No, SourceRule}
-use Rattle.ps_model.specs.Occurrences.{is_fixed, left_items}
-use Rattle.ps_model.specs.Readings.{ways, move_choices, member_choices, moves_for, all_move_choices, all_member_choices, reading_count, directions_of}
+use Rattle.ps_model.specs.meaning.Directions.{along, left_of}
+use Rattle.ps_model.specs.names.Names.{Meaning, Names, members}
+use Rattle.ps_model.specs.rules.SourceRules.{Item, Is, No, SourceRule}
+use Rattle.ps_model.specs.meaning.Occurrences.{is_fixed, left_items}
+use Rattle.ps_model.specs.meaning.Readings.{ways, move_choices, member_choices, moves_for, all_move_choices, all_member_choices, reading_count, directions_of}
 use Rattle.ps_game.specs.ItemWays.{word_ways, move_ways, member_ways, item_ways}
 
 -- the ways of a choice that may be absent

@@ -4,9 +4,9 @@ use Rattle.std.specs.Prelude.{nat_lt}
 use Rattle.std.specs.List.{prefix_len}
 use Rattle.std.proofs.lemmas.Bool.Decides.{nat_tests}
 use Rattle.std.proofs.lemmas.List.Sums.{prefix_len_passes, prefix_len_stops, prefix_len-le-length}
-use Rattle.ps_model.specs.Lines.{Line, lines_of}
-use Rattle.ps_model.specs.LineNumbers.{no_line, line_at}
-use Rattle.ps_model.specs.Sections.{rank}
+use Rattle.ps_model.specs.text.Lines.{Line, lines_of}
+use Rattle.ps_model.specs.text.LineNumbers.{no_line, line_at}
+use Rattle.ps_model.specs.text.Sections.{rank}
 use Rattle.ps_game.specs.SectionPlaces.{stands_above, boundary}
 
 by_test : (a b : ℕ) → (nat_lt a b ≡ true) ⊎ (nat_lt a b ≡ false)

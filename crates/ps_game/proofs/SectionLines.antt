@@ -7,10 +7,10 @@ use Rattle.std.proofs.lemmas.Bool.Decides.{nat_tests}
 use Rattle.ps_model.specs.declared.texts.Section.{Section}
 use Rattle.ps_model.specs.declared.texts.Section.TheVariants.{Prelude}
 use Rattle.ps_model.specs.declared.faults.Fault.{Fault}
-use Rattle.ps_model.specs.Lines.{Line, lines_of}
-use Rattle.ps_model.specs.LineNumbers.{lines_between}
-use Rattle.ps_model.specs.Sections.{rank, is_of, is_real_time, section_lines, header_lines, header_number, has_section}
-use Rattle.ps_model.proofs.LinesInOrder.{IsBelow, AreInOrder, in_order}
+use Rattle.ps_model.specs.text.Lines.{Line, lines_of}
+use Rattle.ps_model.specs.text.LineNumbers.{lines_between}
+use Rattle.ps_model.specs.text.Sections.{rank, is_of, is_real_time, section_lines, header_lines, header_number, has_section}
+use Rattle.ps_laws.proofs.common.LinesInOrder.{IsBelow, AreInOrder, in_order}
 use Rattle.ps_game.specs.Headings.{is_late_header, fault_by, heading_fault, place_below, headings_told}
 use Rattle.ps_game.specs.SectionPlaces.{stands_above, boundary}
 

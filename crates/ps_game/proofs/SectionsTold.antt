@@ -7,12 +7,12 @@ use Rattle.ps_model.specs.declared.texts.Section.{Section}
 use Rattle.ps_model.specs.declared.texts.Section.TheVariants.{Prelude, Objects, Layers, Levels}
 use Rattle.ps_model.specs.declared.faults.Fault.{Fault}
 use Rattle.ps_model.specs.declared.faults.FaultKind.TheVariants.{NoSection}
-use Rattle.ps_model.specs.Faults.{when, first_fault}
-use Rattle.ps_model.specs.Lines.{Line, lines_of}
-use Rattle.ps_model.specs.Sections.{rank, header_lines, header_number, has_section, is_without_section, heading_faults, heading_faults_of}
+use Rattle.ps_model.specs.text.Faults.{when, first_fault}
+use Rattle.ps_model.specs.text.Lines.{Line, lines_of}
+use Rattle.ps_model.specs.text.Sections.{rank, header_lines, header_number, has_section, is_without_section, heading_faults, heading_faults_of}
 use Rattle.ps_game.specs.Headings.{headings_told}
 use Rattle.ps_game.specs.SectionPlaces.{boundary, IsSection}
-use Rattle.ps_model.proofs.FirstFaults.{first-front, none-first}
+use Rattle.ps_laws.proofs.common.FirstFaults.{first-front, none-first}
 use Rattle.ps_game.proofs.HeadingsTold.{headings-told}
 use Rattle.ps_game.proofs.SectionLines.{prelude_told, section_told, section_has, header_told}
 

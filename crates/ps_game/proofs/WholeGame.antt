@@ -3,24 +3,24 @@ use Rattle.std.proofs.Common.{◌≡◌, ℕ, List, [], ◌∷◌, ◌++◌, Som
 use Rattle.std.specs.List.{filter_map}
 use Rattle.ps_model.specs.declared.texts.Section.TheVariants.{Prelude, Objects, Legend, Layers, Rules, Wins, Levels}
 use Rattle.ps_model.specs.declared.faults.Fault.{Fault}
-use Rattle.ps_model.specs.Faults.{first_fault}
-use Rattle.ps_model.specs.Lines.{Line, lines_of}
-use Rattle.ps_model.specs.TextFaults.{text_fault}
-use Rattle.ps_model.specs.Preludes.{options_of, title_of}
-use Rattle.ps_model.specs.Sections.{section_lines, header_number, heading_faults}
-use Rattle.ps_model.specs.Names.{Names}
-use Rattle.ps_model.specs.NamesRead.{names_read}
-use Rattle.ps_model.specs.NameFaults.{name_faults}
-use Rattle.ps_model.specs.SourceRules.{SourceRule, RuleLine}
-use Rattle.ps_model.specs.RuleLines.{rules_read}
-use Rattle.ps_model.specs.RuleFaults.{rule_faults}
-use Rattle.ps_model.specs.RulePrograms.{rule_in}
-use Rattle.ps_model.specs.ReadingFaults.{too_many_readings, impossible_rules, or_impossible, reading_faults}
-use Rattle.ps_model.specs.LevelLines.{entries_read}
-use Rattle.ps_model.specs.LevelFaults.{level_faults}
-use Rattle.ps_model.specs.WinLines.{wins_read, win_faults}
-use Rattle.ps_model.specs.Games.{Game, game_with, game_read, line_faults, faults, unless, game_of_lines, game}
-use Rattle.ps_model.proofs.FirstFaults.{first-front}
+use Rattle.ps_model.specs.text.Faults.{first_fault}
+use Rattle.ps_model.specs.text.Lines.{Line, lines_of}
+use Rattle.ps_model.specs.text.TextFaults.{text_fault}
+use Rattle.ps_model.specs.text.Preludes.{options_of, title_of}
+use Rattle.ps_model.specs.text.Sections.{section_lines, header_number, heading_faults}
+use Rattle.ps_model.specs.names.Names.{Names}
+use Rattle.ps_model.specs.names.NamesRead.{names_read}
+use Rattle.ps_model.specs.names.NameFaults.{name_faults}
+use Rattle.ps_model.specs.rules.SourceRules.{SourceRule, RuleLine}
+use Rattle.ps_model.specs.rules.RuleLines.{rules_read}
+use Rattle.ps_model.specs.rules.RuleFaults.{rule_faults}
+use Rattle.ps_model.specs.board.RulePrograms.{rule_in}
+use Rattle.ps_model.specs.rules.ReadingFaults.{too_many_readings, impossible_rules, or_impossible, reading_faults}
+use Rattle.ps_model.specs.session.LevelLines.{entries_read}
+use Rattle.ps_model.specs.session.LevelFaults.{level_faults}
+use Rattle.ps_model.specs.board.WinLines.{wins_read, win_faults}
+use Rattle.ps_model.specs.game.Games.{Game, game_with, game_read, line_faults, faults, unless, game_of_lines, game}
+use Rattle.ps_laws.proofs.common.FirstFaults.{first-front}
 
 -- faults of which the front has none
 behind : (front rest : List Fault) (fault : Fault) → front ≡ [] → first_fault rest ≡ Some fault → first_fault (front ++ rest) ≡ Some fault

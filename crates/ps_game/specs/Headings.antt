@@ -3,8 +3,8 @@ use Rattle.std.specs.Prelude.{ℕ, nat_le, Bool, true, false, ◌&&◌, Option, 
 use Rattle.std.specs.Option.{option_or}
 use Rattle.ps_model.specs.declared.faults.Fault.{Fault}
 use Rattle.ps_model.specs.declared.faults.FaultKind.TheVariants.{SectionOrder, Realtime}
-use Rattle.ps_model.specs.Lines.{Line}
-use Rattle.ps_model.specs.Sections.{rank, is_real_time}
+use Rattle.ps_model.specs.text.Lines.{Line}
+use Rattle.ps_model.specs.text.Sections.{rank, is_real_time}
 
 -- a header is out of order where its section has no later place than the last one above
 abbrev pub is_late_header : ℕ → Line → Bool

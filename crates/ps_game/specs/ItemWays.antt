@@ -3,9 +3,9 @@
 use Rattle.std.specs.Prelude.{ℕ, ◌*◌, if◌then◌else◌, Some, None, List, [], ◌∷◌, length}
 use Rattle.ps_model.specs.declared.rules.MovementWord.{MovementWord}
 use Rattle.ps_model.specs.declared.rules.MovementWord.TheVariants as word
-use Rattle.ps_model.specs.Names.{Meaning, Names, members}
-use Rattle.ps_model.specs.SourceRules.{Item, Is, No, SourceRule}
-use Rattle.ps_model.specs.Occurrences.{is_fixed}
+use Rattle.ps_model.specs.names.Names.{Meaning, Names, members}
+use Rattle.ps_model.specs.rules.SourceRules.{Item, Is, No, SourceRule}
+use Rattle.ps_model.specs.meaning.Occurrences.{is_fixed}
 
 -- how many moves a word may mean, whatever the direction
 abbrev pub word_ways : MovementWord → ℕ

@@ -3,18 +3,18 @@
 use Rattle.std.specs.Prelude.{ℕ, suc, ◌/◌, ◌%◌, nat_eq, Bool, true, ◌&&◌, not, if◌then◌else◌, Option, Some, None, option_map, List, [], ◌∷◌, length, map, slice_get, slice_index_or, ◌≤◌, ⊤}
 use Rattle.std.specs.Option.{option_to_list}
 use Rattle.std.specs.List.{flat_map, filter_map, list_all, list_any}
-use Rattle.ps_model.specs.Limits.{rule_readings_limit}
+use Rattle.ps_model.specs.declared.limits.TheConstants.{RULE_READINGS_LIMIT}
 use Rattle.ps_model.specs.declared.pieces.ObjectId.{ObjectId}
-use Rattle.ps_model.specs.Names.{Meaning, One, AllOf, AnyOf, Names, layer_of, members}
+use Rattle.ps_model.specs.names.Names.{Meaning, One, AllOf, AnyOf, Names, layer_of, members}
 use Rattle.ps_model.specs.declared.faults.Fault.{Fault}
 use Rattle.ps_model.specs.declared.faults.FaultKind.TheVariants.{Impossible}
-use Rattle.ps_model.specs.Faults.{first_fault, when}
-use Rattle.ps_model.specs.SourceRules.{Item, Is, No, CellPair, SourceRule, RuleLine, Rule, LoopStart, LoopEnd}
-use Rattle.ps_model.specs.Occurrences.{cells_of, left_items, bound_name, is_fixed, is_loose}
-use Rattle.ps_model.specs.Readings.{one_of_each, ways, reading_count}
-use Rattle.ps_model.specs.ReadingMeanings.{has_possible}
-use Rattle.ps_model.specs.ReadingFaults.{impossible_rules}
-use Rattle.ps_model.specs.RulePrograms.{rule_in}
+use Rattle.ps_model.specs.text.Faults.{first_fault, when}
+use Rattle.ps_model.specs.rules.SourceRules.{Item, Is, No, CellPair, SourceRule, RuleLine, Rule, LoopStart, LoopEnd}
+use Rattle.ps_model.specs.meaning.Occurrences.{cells_of, left_items, bound_name, is_fixed, is_loose}
+use Rattle.ps_model.specs.meaning.Readings.{one_of_each, ways, reading_count}
+use Rattle.ps_model.specs.meaning.ReadingMeanings.{has_possible}
+use Rattle.ps_model.specs.rules.ReadingFaults.{impossible_rules}
+use Rattle.ps_model.specs.board.RulePrograms.{rule_in}
 use Rattle.ps_game.specs.declared.claims.Claim.{Claim}
 use Rattle.ps_game.specs.declared.claims.Claim.TheVariants.{Layer, Chosen}
 use Rattle.ps_game.specs.declared.fixed.Fixed.{Fixed}
@@ -144,7 +144,7 @@ has_empty lists = list_any (λ items. nat_eq (length items) 0) lists
 
 -- the rule of a line has no more readings than are tried
 abbrev pub HasFewReadings : Names → RuleLine → Type 0
-HasFewReadings names (Rule rule) = reading_count names rule ≤ rule_readings_limit
+HasFewReadings names (Rule rule) = reading_count names rule ≤ RULE_READINGS_LIMIT
 HasFewReadings names LoopStart = ⊤
 HasFewReadings names LoopEnd = ⊤
 

@@ -1,8 +1,8 @@
 //! The choices of a member for each occurrence of a fixed property, by their numbers.
 
 ghost use Rattle.std.specs.Prelude.{◌≡◌, ◌≤◌, ◌<◌, ◌*◌, IfOk, OnOk, IfSome, None};
-ghost use Rattle.ps_model.specs.Limits.{rule_readings_limit};
-ghost use Rattle.ps_model.specs.Readings.{ways};
+ghost use Rattle.ps_model.specs.declared.limits.TheConstants.{RULE_READINGS_LIMIT};
+ghost use Rattle.ps_model.specs.meaning.Readings.{ways};
 ghost use Rattle.ps_game.specs.Possible.{all_fixed_shown, member_lists, choice, has_empty, has_apart_choice};
 
 use crate::apart::are_sides_apart;
@@ -29,7 +29,7 @@ fn has_empty(fixed: &[Fixed<'_>]) -> bool
 /// The product, if it is no more than the most readings of a rule.
 fn few_times(count: usize, more: usize) -> Option<usize>
     ensures product { IfSome result (λ product. product ≡ count * more) }
-    ensures many { result ≡ None → rule_readings_limit < count * more }
+    ensures many { result ≡ None → RULE_READINGS_LIMIT < count * more }
 {
     let product = count.checked_mul(more)?;
     if product > RULE_READINGS_LIMIT as usize {
@@ -41,7 +41,7 @@ fn few_times(count: usize, more: usize) -> Option<usize>
 /// How many choices there are, if they are no more than the most readings of a rule.
 fn choice_count(fixed: &[Fixed<'_>]) -> Option<usize>
     ensures count { IfSome result (λ count. count ≡ ways (member_lists (all_fixed_shown fixed.now))) }
-    ensures many { result ≡ None → rule_readings_limit < ways (member_lists (all_fixed_shown fixed.now)) }
+    ensures many { result ≡ None → RULE_READINGS_LIMIT < ways (member_lists (all_fixed_shown fixed.now)) }
 {
     if has_empty(fixed) {
         return Some(0);
@@ -84,7 +84,7 @@ pub fn has_apart_choice(
     fixed: &[Fixed<'_>],
     sides: &[List<Claim>],
 ) -> Result<bool, Memory>
-    ensures { IfOk result (λ yes. ways (member_lists (all_fixed_shown fixed.now)) ≤ rule_readings_limit → yes ≡ has_apart_choice names.now (all_fixed_shown fixed.now) sides.now) }
+    ensures { IfOk result (λ yes. ways (member_lists (all_fixed_shown fixed.now)) ≤ RULE_READINGS_LIMIT → yes ≡ has_apart_choice names.now (all_fixed_shown fixed.now) sides.now) }
 {
     let Some(count) = choice_count(fixed) else {
         return Ok(true);

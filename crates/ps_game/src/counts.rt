@@ -2,10 +2,10 @@
 
 ghost use Rattle.std.specs.Prelude.{◌≡◌, IfOk};
 ghost use Rattle.std.specs.List.{filter_map};
-ghost use Rattle.ps_model.specs.Faults.{first_fault};
-ghost use Rattle.ps_model.specs.Readings.{reading_count};
-ghost use Rattle.ps_model.specs.ReadingFaults.{too_many_readings};
-ghost use Rattle.ps_model.specs.RulePrograms.{rule_in};
+ghost use Rattle.ps_model.specs.text.Faults.{first_fault};
+ghost use Rattle.ps_model.specs.meaning.Readings.{reading_count};
+ghost use Rattle.ps_model.specs.rules.ReadingFaults.{too_many_readings};
+ghost use Rattle.ps_model.specs.board.RulePrograms.{rule_in};
 ghost use Rattle.ps_rules.specs.RulesShown.{rule_shown};
 ghost use Rattle.ps_game.specs.Counted.{counted};
 

@@ -2,9 +2,9 @@
 
 ghost use Rattle.std.specs.Prelude.{◌≡◌, nat_eq, length};
 ghost use Rattle.std.specs.List.{list_any, list_all};
-ghost use Rattle.ps_model.specs.Directions.{turns_with_rule};
-ghost use Rattle.ps_model.specs.Occurrences.{cells_of as cells_of_rule};
-ghost use Rattle.ps_model.specs.Readings.{item_turns, is_steady, is_one_cell, directions_of};
+ghost use Rattle.ps_model.specs.meaning.Directions.{turns_with_rule};
+ghost use Rattle.ps_model.specs.meaning.Occurrences.{cells_of as cells_of_rule};
+ghost use Rattle.ps_model.specs.meaning.Readings.{item_turns, is_steady, is_one_cell, directions_of};
 ghost use Rattle.ps_game.specs.Counted.{counted};
 ghost use Rattle.ps_rules.specs.RulesShown.{item_shown, items_shown, cell_shown, cell_list_shown, tree_row_shown, tree_rows_shown, rule_shown};
 

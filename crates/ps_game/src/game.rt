@@ -2,10 +2,10 @@
 
 ghost use Rattle.std.specs.Prelude.{◌≡◌, IfOk, IfErr, OnOk, Some, All, []};
 ghost use Rattle.ps_model.specs.declared.faults.Fault.{Fault as TheFault};
-ghost use Rattle.ps_model.specs.Faults.{first_fault};
-ghost use Rattle.ps_model.specs.Games.{game, faults, game_of_lines, line_faults};
-ghost use Rattle.ps_model.specs.Lines.{lines_of};
-ghost use Rattle.ps_model.specs.ReadingFaults.{reading_faults};
+ghost use Rattle.ps_model.specs.text.Faults.{first_fault};
+ghost use Rattle.ps_model.specs.game.Games.{game, faults, game_of_lines, line_faults};
+ghost use Rattle.ps_model.specs.text.Lines.{lines_of};
+ghost use Rattle.ps_model.specs.rules.ReadingFaults.{reading_faults};
 ghost use Rattle.ps_levels.specs.Sized.{IsSizedEntry};
 ghost use Rattle.ps_game.specs.SectionPlaces.{AreSections};
 
@@ -38,7 +38,7 @@ pub struct Game {
 }
 
 impl Model for Game {
-    ghost use Rattle.ps_model.specs.Games.{Game as Meant};
+    ghost use Rattle.ps_model.specs.game.Games.{Game as Meant};
     ghost use Rattle.ps_levels.specs.EntriesShown.{entries_shown};
     ghost use Rattle.ps_levels.specs.WinsShown.{wins_shown};
 

@@ -2,10 +2,10 @@
 
 ghost use Rattle.std.specs.Prelude.{◌≡◌, ◌≤◌, ◌&&◌, length, IfOk, slice_index_or, [], map, codes};
 ghost use Rattle.std.specs.Str.{bytes_eq};
-ghost use Rattle.ps_model.specs.Lines.{Line, lines_of, folded};
-ghost use Rattle.ps_model.specs.LineNumbers.{line_at};
-ghost use Rattle.ps_model.specs.Sections.{rank, is_real_time};
-ghost use Rattle.ps_model.specs.Preludes.{begins_with};
+ghost use Rattle.ps_model.specs.text.Lines.{Line, lines_of, folded};
+ghost use Rattle.ps_model.specs.text.LineNumbers.{line_at};
+ghost use Rattle.ps_model.specs.text.Sections.{rank, is_real_time};
+ghost use Rattle.ps_model.specs.text.Preludes.{begins_with};
 ghost use Rattle.ps_text.specs.WordViews.{text_of};
 ghost use Rattle.ps_game.specs.Headings.{is_late_header, fault_by, heading_fault, headings_told, place_below};
 

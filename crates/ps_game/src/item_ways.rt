@@ -1,7 +1,7 @@
 //! In how many ways a rule's items can be read in one direction.
 
 ghost use Rattle.std.specs.Prelude.{◌≡◌, ◌*◌};
-ghost use Rattle.ps_model.specs.Occurrences.{left_items};
+ghost use Rattle.ps_model.specs.meaning.Occurrences.{left_items};
 ghost use Rattle.ps_names.specs.Shown.{meaning_shown};
 ghost use Rattle.ps_game.specs.Counted.{counted};
 ghost use Rattle.ps_game.specs.ItemWays.{word_ways, move_ways, meaning_ways, member_ways, item_ways};

@@ -1,7 +1,7 @@
 //! The layers of objects.
 
 ghost use Rattle.std.specs.Prelude.{◌≡◌};
-ghost use Rattle.ps_model.specs.Names.{layer_of};
+ghost use Rattle.ps_model.specs.names.Names.{layer_of};
 
 use ps_model::ObjectId;
 use ps_names::Names;

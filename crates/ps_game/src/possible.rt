@@ -2,12 +2,12 @@
 
 ghost use Rattle.std.specs.Prelude.{◌≡◌, ◌≤◌, IfOk, []};
 ghost use Rattle.std.specs.List.{filter_map};
-ghost use Rattle.ps_model.specs.Faults.{first_fault};
-ghost use Rattle.ps_model.specs.Limits.{rule_readings_limit};
-ghost use Rattle.ps_model.specs.Readings.{reading_count};
-ghost use Rattle.ps_model.specs.ReadingFaults.{too_many_readings, impossible_rules};
-ghost use Rattle.ps_model.specs.ReadingMeanings.{has_possible};
-ghost use Rattle.ps_model.specs.RulePrograms.{rule_in};
+ghost use Rattle.ps_model.specs.text.Faults.{first_fault};
+ghost use Rattle.ps_model.specs.declared.limits.TheConstants.{RULE_READINGS_LIMIT};
+ghost use Rattle.ps_model.specs.meaning.Readings.{reading_count};
+ghost use Rattle.ps_model.specs.rules.ReadingFaults.{too_many_readings, impossible_rules};
+ghost use Rattle.ps_model.specs.meaning.ReadingMeanings.{has_possible};
+ghost use Rattle.ps_model.specs.board.RulePrograms.{rule_in};
 ghost use Rattle.ps_rules.specs.RulesShown.{rule_shown, line_shown, lines_shown};
 ghost use Rattle.ps_game.specs.Possible.{HasFewReadings, HaveFewReadings, impossible_at, first_impossible_of};
 
@@ -22,7 +22,7 @@ use std::alloc::Global;
 /// Whether some reading of the rule is possible. Directions and moves make no difference to that, so that only the choices of
 /// members are tried; a rule with more of them than it may have readings isn't, and counts as possible.
 fn has_possible(alloc: Global, names: &Names, rule: &SourceRule) -> Result<bool, Memory>
-    ensures { IfOk result (λ yes. reading_count names.now (rule_shown rule.now) ≤ rule_readings_limit → yes ≡ has_possible names.now (rule_shown rule.now)) }
+    ensures { IfOk result (λ yes. reading_count names.now (rule_shown rule.now) ≤ RULE_READINGS_LIMIT → yes ≡ has_possible names.now (rule_shown rule.now)) }
 {
     let occurrences = Occurrences::of(alloc, rule)?;
     let fixed = fixed_of(alloc, names, &occurrences)?;

@@ -2,9 +2,9 @@
 
 ghost use Rattle.std.specs.Prelude.{◌≡◌, ◌≤◌, ◌&&◌, length, IfOk, option_map, unwrap_or, []};
 ghost use Rattle.std.specs.List.{list_any};
-ghost use Rattle.ps_model.specs.Lines.{folded, lines_of, taken_bytes};
-ghost use Rattle.ps_model.specs.LineNumbers.{line_at, lines_between};
-ghost use Rattle.ps_model.specs.Preludes.{begins_with, is_set, options_of, title_of};
+ghost use Rattle.ps_model.specs.text.Lines.{folded, lines_of, taken_bytes};
+ghost use Rattle.ps_model.specs.text.LineNumbers.{line_at, lines_between};
+ghost use Rattle.ps_model.specs.text.Preludes.{begins_with, is_set, options_of, title_of};
 ghost use Rattle.ps_game.specs.SectionPlaces.{IsStretch};
 
 use crate::headings::begins_with;

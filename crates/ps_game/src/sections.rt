@@ -2,9 +2,9 @@
 
 ghost use Rattle.std.specs.Prelude.{◌≡◌, ◌+◌, ◌≤◌, ◌<◌, nat_lt, length, IfOk, IfErr, Some, ◌&&◌, not, true, if◌then◌else◌};
 ghost use Rattle.ps_model.specs.declared.faults.Fault.{Fault as TheFault};
-ghost use Rattle.ps_model.specs.Faults.{first_fault};
-ghost use Rattle.ps_model.specs.Lines.{lines_of};
-ghost use Rattle.ps_model.specs.Sections.{heading_faults};
+ghost use Rattle.ps_model.specs.text.Faults.{first_fault};
+ghost use Rattle.ps_model.specs.text.Lines.{lines_of};
+ghost use Rattle.ps_model.specs.text.Sections.{heading_faults};
 ghost use Rattle.ps_game.specs.SectionPlaces.{boundary, AreSections};
 
 use crate::headings::{first_heading_fault, rank};

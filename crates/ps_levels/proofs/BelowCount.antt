@@ -8,12 +8,12 @@ use Rattle.std.proofs.lemmas.Grind.{common_steps}
 use Rattle.std.proofs.lemmas.List.Elements.{All-cons, All-map, All-append, All-head}
 use Rattle.std.proofs.lemmas.Map.Entries.{All-lookup}
 use Rattle.ps_model.specs.declared.pieces.ObjectId.{ObjectId}
-use Rattle.ps_model.specs.Lines.{Line, folded}
-use Rattle.ps_model.specs.Names.{Names, Meaning, One, AllOf, AnyOf, object_count, meaning_of, members_if, members_named}
-use Rattle.ps_model.specs.NameBounds.{AreBounded, IsBelow}
-use Rattle.ps_model.specs.Levels.{is_ground, ground, with_ground, grounded}
-use Rattle.ps_model.specs.LevelFaults.{character_meaning}
-use Rattle.ps_model.specs.LevelLines.{characters_of, of_width, shown_in_level, row_cells, in_columns}
+use Rattle.ps_model.specs.text.Lines.{Line, folded}
+use Rattle.ps_model.specs.names.Names.{Names, Meaning, One, AllOf, AnyOf, object_count, meaning_of, members_if, members_named}
+use Rattle.ps_model.specs.names.NameBounds.{AreBounded, IsBelow}
+use Rattle.ps_model.specs.board.Levels.{is_ground, ground, with_ground, grounded}
+use Rattle.ps_model.specs.session.LevelFaults.{character_meaning}
+use Rattle.ps_model.specs.session.LevelLines.{characters_of, of_width, shown_in_level, row_cells, in_columns}
 use Rattle.ps_levels.specs.Cells.{objects_of}
 use Rattle.ps_levels.specs.Sized.{AreBelow}
 

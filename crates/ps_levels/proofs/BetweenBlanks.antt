@@ -3,9 +3,9 @@ use Rattle.std.proofs.Common.{◌≡◌, ℕ, ◌+◌, ◌-◌, ◌<◌, true, L
 use Rattle.std.specs.Prelude.{slice_range}
 use Rattle.std.specs.List.{prefix_len}
 use Rattle.std.proofs.lemmas.List.{reverse-append, reverse-reverse, take-append-drop}
-use Rattle.ps_model.specs.Lines.{without_blank_end}
+use Rattle.ps_model.specs.text.Lines.{without_blank_end}
 use Rattle.std.proofs.lemmas.Bool.Decides.{nat_tests}
-use Rattle.ps_model.specs.Words.{is_blank}
+use Rattle.ps_model.specs.text.Words.{is_blank}
 
 pub blank_is_ascii : (byte : ℕ) → is_blank byte ≡ true → byte < 128
 blank_is_ascii byte h = grind (arith, nat_tests)

@@ -5,7 +5,7 @@ use Rattle.std.proofs.lemmas.Grind.{flat_map-append}
 use Rattle.std.proofs.lemmas.List.{map-id, append-nil}
 use Rattle.std.proofs.lemmas.List.FromFn.{map-range_with_len_more}
 use Rattle.ps_model.specs.declared.pieces.ObjectId.{ObjectId}
-use Rattle.ps_model.specs.LevelLines.{in_columns}
+use Rattle.ps_model.specs.session.LevelLines.{in_columns}
 
 abbrev Row : Type 0
 Row = List (List ObjectId)

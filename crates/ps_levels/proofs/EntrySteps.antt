@@ -6,16 +6,16 @@ use Rattle.std.proofs.lemmas.Bool.Decides.{nat_tests}
 use Rattle.std.proofs.lemmas.List.{length-map, length-append}
 use Rattle.ps_model.specs.declared.faults.Fault.{Fault}
 use Rattle.ps_model.specs.declared.faults.FaultKind.TheVariants.{TooManyEntries, NoLevel}
-use Rattle.ps_model.specs.Faults.{first_fault, when}
-use Rattle.ps_model.specs.Limits.{entry_limit}
-use Rattle.ps_model.specs.Lines.{Line, lines_of, is_blank_line}
-use Rattle.ps_model.specs.LineNumbers.{line_at, lines_between}
-use Rattle.ps_model.specs.Names.{Names}
-use Rattle.ps_model.specs.LevelLines.{Entry, EntryLines, MessageLine, LevelRows, is_message, is_row, entries_at, entry_lines, entry_of, entries_read}
-use Rattle.ps_model.specs.LevelFaults.{too_many, entry_faults, entries_faults, is_level, level_faults}
+use Rattle.ps_model.specs.text.Faults.{first_fault, when}
+use Rattle.ps_model.specs.declared.limits.TheConstants.{ENTRY_LIMIT}
+use Rattle.ps_model.specs.text.Lines.{Line, lines_of, is_blank_line}
+use Rattle.ps_model.specs.text.LineNumbers.{line_at, lines_between}
+use Rattle.ps_model.specs.names.Names.{Names}
+use Rattle.ps_model.specs.session.LevelLines.{Entry, EntryLines, MessageLine, LevelRows, is_message, is_row, entries_at, entry_lines, entry_of, entries_read}
+use Rattle.ps_model.specs.session.LevelFaults.{too_many, entry_faults, entries_faults, is_level, level_faults}
 use Rattle.ps_levels.specs.EntriesShown.{is_level_entry, level_lines}
-use Rattle.ps_model.proofs.LinesInOrder.{between-step, here-there, here-not}
-use Rattle.ps_model.proofs.FirstFaults.{first-front}
+use Rattle.ps_laws.proofs.common.LinesInOrder.{between-step, here-there, here-not}
+use Rattle.ps_laws.proofs.common.FirstFaults.{first-front}
 
 entry_above : (message blank : Bool) (line : Line) (below : List Line) → message ≡ true →
     (elim message as (λ b. List EntryLines) [ true ↦ MessageLine line ∷ [] | false ↦ elim ((not blank && not message) && not false) as (λ b. List EntryLines) [ true ↦ LevelRows line (take_while is_row below) ∷ [] | false ↦ [] ] ])
@@ -96,9 +96,9 @@ fine-entry names place next all rest found split n e =
     ∙ sym (ap (entries_faults names place) split ∙ ap (λ (faults : List Fault). faults ++ entries_faults names (suc place) rest) e)
 
 -- the entry over the limit
-pub over-limit : (place number : ℕ) (first : Line) → place ≡ entry_limit → first.number ≡ number → first_fault (too_many place first) ≡ Some (record { kind = TooManyEntries; line = number })
+pub over-limit : (place number : ℕ) (first : Line) → place ≡ ENTRY_LIMIT → first.number ≡ number → first_fault (too_many place first) ≡ Some (record { kind = TooManyEntries; line = number })
 over-limit place number first p n =
-    let over : nat_eq place entry_limit ≡ true = grind (arith, nat_tests) in
+    let over : nat_eq place ENTRY_LIMIT ≡ true = grind (arith, nat_tests) in
     rw (over, n) refl
 
 level_by : (names : Names) (entry : EntryLines) → is_level_entry (entry_of names entry) ≡ is_level entry

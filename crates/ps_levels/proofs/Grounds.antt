@@ -12,13 +12,13 @@ use Rattle.std.specs.Prelude.{nat_eq}
 use Rattle.std.proofs.Math.Seq.{drop-cons, take-suc}
 use Rattle.std.proofs.lemmas.Grind.{common_steps}
 use Rattle.std.proofs.lemmas.List.{map-append}
-use Rattle.ps_model.specs.Names.{layer_of, members_named}
-use Rattle.ps_model.specs.Levels.{ground, grounded}
+use Rattle.ps_model.specs.names.Names.{layer_of, members_named}
+use Rattle.ps_model.specs.board.Levels.{ground, grounded}
 use Rattle.std.proofs.lemmas.List.Folds.{find-append}
 use Rattle.ps_levels.specs.Cells.{cells_shown}
 use Rattle.ps_model.specs.declared.pieces.ObjectId.{ObjectId}
-use Rattle.ps_model.specs.Names.{Names}
-use Rattle.ps_model.specs.Levels.{is_ground, with_ground}
+use Rattle.ps_model.specs.names.Names.{Names}
+use Rattle.ps_model.specs.board.Levels.{is_ground, with_ground}
 
 any_by : {X : Type 0} (x : X) (b : Bool) (found : Option X) (rest : Bool) → rest ≡ is_some found → (b || rest) ≡ is_some (cond b (Some x) found)
 any_by x true found rest e = refl

@@ -6,19 +6,19 @@ use Rattle.std.proofs.lemmas.List.{append-nil}
 use Rattle.ps_model.specs.declared.faults.Fault.{Fault}
 use Rattle.ps_model.specs.declared.faults.FaultKind.{FaultKind}
 use Rattle.ps_model.specs.declared.faults.FaultKind.TheVariants.{TooManyEntries}
-use Rattle.ps_model.specs.Faults.{first_fault, when}
-use Rattle.ps_model.specs.Limits.{side_limit, entry_limit}
-use Rattle.ps_model.specs.Lines.{Line, lines_of}
-use Rattle.ps_model.specs.LineNumbers.{line_at, lines_between}
-use Rattle.ps_model.specs.Names.{Names}
-use Rattle.ps_model.specs.LevelFaults.{is_too_large, row_faults, rows_faults, too_many}
+use Rattle.ps_model.specs.text.Faults.{first_fault, when}
+use Rattle.ps_model.specs.declared.limits.TheConstants.{SIDE_LIMIT, ENTRY_LIMIT}
+use Rattle.ps_model.specs.text.Lines.{Line, lines_of}
+use Rattle.ps_model.specs.text.LineNumbers.{line_at, lines_between}
+use Rattle.ps_model.specs.names.Names.{Names}
+use Rattle.ps_model.specs.session.LevelFaults.{is_too_large, row_faults, rows_faults, too_many}
 use Rattle.ps_model.specs.declared.pieces.ObjectId.{ObjectId}
-use Rattle.ps_model.specs.Levels.{grounded}
-use Rattle.ps_model.specs.LevelLines.{LevelEntry, LevelRows, characters_of, row_cells, in_columns, level_of, entry_of}
-use Rattle.ps_model.specs.LineNumbers.{here}
+use Rattle.ps_model.specs.board.Levels.{grounded}
+use Rattle.ps_model.specs.session.LevelLines.{LevelEntry, LevelRows, characters_of, row_cells, in_columns, level_of, entry_of}
+use Rattle.ps_model.specs.text.LineNumbers.{here}
 use Rattle.ps_levels.specs.RowFaults.{level_faults_by}
-use Rattle.ps_model.proofs.LinesInOrder.{between-step, between-end, here-there}
-use Rattle.ps_model.proofs.FirstFaults.{first-front}
+use Rattle.ps_laws.proofs.common.LinesInOrder.{between-step, between-end, here-there}
+use Rattle.ps_laws.proofs.common.FirstFaults.{first-front}
 
 pub when-none : (b : Bool) (kind : FaultKind) (number : ℕ) → when b kind number ≡ [] → b ≡ false
 when-none true kind number e = absurd (let f = e in cc)
@@ -36,30 +36,30 @@ none-right (x ∷ xs) ys e = absurd (let f = e in cc)
 pub row-fits : (names : Names) (width place : ℕ) (row : Line) → row_faults names width place row ≡ [] → is_too_large width place ≡ false
 row-fits names width place row e = when-none _ _ row.number (none-right _ _ (none-right _ _ e))
 
-below-limit : (width place : ℕ) → is_too_large width place ≡ false → place ≤ side_limit → suc place ≤ side_limit
+below-limit : (width place : ℕ) → is_too_large width place ≡ false → place ≤ SIDE_LIMIT → suc place ≤ SIDE_LIMIT
 below-limit width place e h = grind (arith, nat_tests)
 
-narrow : (width : ℕ) → is_too_large width 0 ≡ false → width ≤ side_limit
+narrow : (width : ℕ) → is_too_large width 0 ≡ false → width ≤ SIDE_LIMIT
 narrow width e = grind (arith, nat_tests)
 
 -- rows without faults are no more than the limit
-pub rows-fit : (names : Names) (width place : ℕ) (rows : List Line) → place ≤ side_limit → rows_faults names width place rows ≡ [] → place + length rows ≤ side_limit
+pub rows-fit : (names : Names) (width place : ℕ) (rows : List Line) → place ≤ SIDE_LIMIT → rows_faults names width place rows ≡ [] → place + length rows ≤ SIDE_LIMIT
 rows-fit names width place [] h e = omega arith
 rows-fit names width place (row ∷ rows) h e =
     let here : List Fault = row_faults names width place row in
     let others : List Fault = rows_faults names width (suc place) rows in
-    let less : suc place ≤ side_limit = below-limit width place (row-fits names width place row (none-left here others e)) h in
-    let rest : suc place + length rows ≤ side_limit = rows-fit names width (suc place) rows less (none-right here others e) in
+    let less : suc place ≤ SIDE_LIMIT = below-limit width place (row-fits names width place row (none-left here others e)) h in
+    let rest : suc place + length rows ≤ SIDE_LIMIT = rows-fit names width (suc place) rows less (none-right here others e) in
     omega (arith, rest)
 
-pub level-narrow : (names : Names) (width place : ℕ) (first : Line) (below : List Line) → level_faults_by names width place first below ≡ [] → width ≤ side_limit
+pub level-narrow : (names : Names) (width place : ℕ) (first : Line) (below : List Line) → level_faults_by names width place first below ≡ [] → width ≤ SIDE_LIMIT
 level-narrow names width place first below e = narrow width (row-fits names width 0 first (none-left _ _ e))
 
-pub level-low : (names : Names) (width place : ℕ) (first : Line) (below : List Line) → level_faults_by names width place first below ≡ [] → suc (length below) ≤ side_limit
+pub level-low : (names : Names) (width place : ℕ) (first : Line) (below : List Line) → level_faults_by names width place first below ≡ [] → suc (length below) ≤ SIDE_LIMIT
 level-low names width place first below e =
     let others : List Fault = rows_faults names width 1 below in
     let behind : List Fault = too_many place first ++ others in
-    let fits : 1 + length below ≤ side_limit = rows-fit names width 1 below (omega arith) (none-right (too_many place first) others (none-right (row_faults names width 0 first) behind e)) in
+    let fits : 1 + length below ≤ SIDE_LIMIT = rows-fit names width 1 below (omega arith) (none-right (too_many place first) others (none-right (row_faults names width 0 first) behind e)) in
     omega (arith, fits)
 
 -- a line that is there alone
@@ -82,14 +82,14 @@ pub first-fine : (names : Names) (width : ℕ) (first : Line) (lines : List Line
 first-fine names width first lines one e = sym (append-nil (row_faults names width 0 first)) ∙ sym (ap (rows_faults names width 0) one) ∙ e
 
 -- the entry over the limit
-pub fault-of-place : (names : Names) (width place number : ℕ) (first : Line) (below : List Line) → row_faults names width 0 first ≡ [] → place ≡ entry_limit → first.number ≡ number →
+pub fault-of-place : (names : Names) (width place number : ℕ) (first : Line) (below : List Line) → row_faults names width 0 first ≡ [] → place ≡ ENTRY_LIMIT → first.number ≡ number →
     first_fault (level_faults_by names width place first below) ≡ Some (record { kind = TooManyEntries; line = number })
 fault-of-place names width place number first below e p n =
-    let over : nat_eq place entry_limit ≡ true = grind (arith, nat_tests) in
+    let over : nat_eq place ENTRY_LIMIT ≡ true = grind (arith, nat_tests) in
     ap first_fault (behind-none (row_faults names width 0 first) (too_many place first ++ rows_faults names width 1 below) e) ∙ rw (over, n) refl
 
 -- only rows below the first may have faults
-pub faults-below : (names : Names) (width place : ℕ) (first : Line) (below : List Line) → row_faults names width 0 first ≡ [] → nat_eq place entry_limit ≡ false → level_faults_by names width place first below ≡ rows_faults names width 1 below
+pub faults-below : (names : Names) (width place : ℕ) (first : Line) (below : List Line) → row_faults names width 0 first ≡ [] → nat_eq place ENTRY_LIMIT ≡ false → level_faults_by names width place first below ≡ rows_faults names width 1 below
 faults-below names width place first below e p = behind-none (row_faults names width 0 first) (too_many place first ++ rows_faults names width 1 below) e ∙ rw p refl
 
 -- a level by its parts

@@ -5,17 +5,17 @@ use Rattle.std.proofs.lemmas.List.{map-append, length-map, length-append}
 use Rattle.std.proofs.lemmas.Grind.{common_steps}
 use Rattle.ps_model.specs.declared.faults.Fault.{Fault}
 use Rattle.ps_model.specs.declared.faults.FaultKind.TheVariants.{UnknownGlyph, PropertyGlyph, TooLarge}
-use Rattle.ps_model.specs.Faults.{first_fault, when}
-use Rattle.ps_model.specs.Lines.{Line}
-use Rattle.ps_model.specs.Names.{Names, Meaning}
-use Rattle.ps_model.specs.LevelLines.{characters_of, of_width, row_cells}
-use Rattle.ps_model.specs.LevelFaults.{character_meaning, is_unknown_glyph, is_too_large, row_faults, rows_faults}
-use Rattle.ps_model.specs.Meanings.{is_property}
+use Rattle.ps_model.specs.text.Faults.{first_fault, when}
+use Rattle.ps_model.specs.text.Lines.{Line}
+use Rattle.ps_model.specs.names.Names.{Names, Meaning}
+use Rattle.ps_model.specs.session.LevelLines.{characters_of, of_width, row_cells}
+use Rattle.ps_model.specs.session.LevelFaults.{character_meaning, is_unknown_glyph, is_too_large, row_faults, rows_faults}
+use Rattle.ps_model.specs.names.Meanings.{is_property}
 use Rattle.std.specs.Borrow.{Bor}
 use Rattle.ps_names.specs.declared.meaning.Meaning as code
 use Rattle.ps_levels.specs.Cells.{is_unknown, objects_of, meaning_seen, meanings_shown}
 use Rattle.ps_levels.specs.RowFaults.{faults_of_meanings}
-use Rattle.ps_model.proofs.FirstFaults.{first-front}
+use Rattle.ps_laws.proofs.common.FirstFaults.{first-front}
 
 any-map : {A B : Type 0} (f : A → B) (test : B → Bool) (xs : List A) → list_any test (map f xs) ≡ list_any (λ x. test (f x)) xs
 any-map f test [] = refl

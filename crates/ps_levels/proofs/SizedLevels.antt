@@ -7,12 +7,12 @@ use Rattle.std.proofs.lemmas.List.{length-map, length-append, map-append}
 use Rattle.std.proofs.lemmas.List.FromFn.{length-range_with_len}
 use Rattle.std.proofs.lemmas.List.Elements.{All-cons, All-head, All-append}
 use Rattle.ps_model.specs.declared.pieces.ObjectId.{ObjectId}
-use Rattle.ps_model.specs.Lines.{Line}
-use Rattle.ps_model.specs.Names.{Names}
-use Rattle.ps_model.specs.NameBounds.{AreBounded}
-use Rattle.ps_model.specs.Levels.{grounded, ground, with_ground}
-use Rattle.ps_model.specs.LevelLines.{Entry, EntryLines, MessageLine, LevelRows, characters_of, row_cells, in_columns, entry_of, entry_lines, entries_read}
-use Rattle.ps_model.specs.LevelFaults.{entry_faults, entries_faults}
+use Rattle.ps_model.specs.text.Lines.{Line}
+use Rattle.ps_model.specs.names.Names.{Names}
+use Rattle.ps_model.specs.names.NameBounds.{AreBounded}
+use Rattle.ps_model.specs.board.Levels.{grounded, ground, with_ground}
+use Rattle.ps_model.specs.session.LevelLines.{Entry, EntryLines, MessageLine, LevelRows, characters_of, row_cells, in_columns, entry_of, entry_lines, entries_read}
+use Rattle.ps_model.specs.session.LevelFaults.{entry_faults, entries_faults}
 use Rattle.ps_levels.specs.declared.levels.Entry as code
 use Rattle.ps_levels.specs.EntriesShown.{entry_shown, entries_shown}
 use Rattle.ps_levels.specs.Sized.{IsSizedEntry, HasColumn}

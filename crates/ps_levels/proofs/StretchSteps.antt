@@ -5,11 +5,11 @@ use Rattle.std.specs.List.{take_while, prefix_len}
 use Rattle.std.proofs.Math.Seq.{take-add}
 use Rattle.std.proofs.lemmas.List.{drop-drop, append-nil}
 use Rattle.std.proofs.lemmas.List.Elements.{filter-append}
-use Rattle.ps_model.specs.Lines.{Line, lines_of, is_blank_line}
-use Rattle.ps_model.specs.LineNumbers.{line_at, lines_between}
-use Rattle.ps_model.specs.LevelLines.{EntryLines, MessageLine, LevelRows, is_message, is_row, entries_at}
-use Rattle.ps_model.specs.LineNumbers.{here}
-use Rattle.ps_model.proofs.LinesInOrder.{between-step, between-end}
+use Rattle.ps_model.specs.text.Lines.{Line, lines_of, is_blank_line}
+use Rattle.ps_model.specs.text.LineNumbers.{line_at, lines_between}
+use Rattle.ps_model.specs.session.LevelLines.{EntryLines, MessageLine, LevelRows, is_message, is_row, entries_at}
+use Rattle.ps_model.specs.text.LineNumbers.{here}
+use Rattle.ps_laws.proofs.common.LinesInOrder.{between-step, between-end}
 
 -- a stretch in two parts
 pub parted : (text : List ℕ) (from mid end : ℕ) → 1 ≤ from → from ≤ mid → mid ≤ end → lines_between text from end ≡ lines_between text from mid ++ lines_between text mid end

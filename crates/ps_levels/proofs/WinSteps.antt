@@ -5,12 +5,12 @@ use Rattle.std.proofs.lemmas.List.Elements.{filter_map-append}
 use Rattle.ps_model.specs.declared.faults.Fault.{Fault}
 use Rattle.ps_model.specs.declared.faults.FaultKind.{FaultKind}
 use Rattle.ps_model.specs.declared.faults.FaultKind.TheVariants.{BadWin, UnknownWinName}
-use Rattle.ps_model.specs.Faults.{first_fault, when}
-use Rattle.ps_model.specs.Lines.{Line, is_blank_line}
-use Rattle.ps_model.specs.Names.{Names}
-use Rattle.ps_model.specs.Wins.{Win}
+use Rattle.ps_model.specs.text.Faults.{first_fault, when}
+use Rattle.ps_model.specs.text.Lines.{Line, is_blank_line}
+use Rattle.ps_model.specs.names.Names.{Names}
+use Rattle.ps_model.specs.board.Wins.{Win}
 use Rattle.ps_levels.specs.WinsShown.{win_of_line}
-use Rattle.ps_model.specs.WinLines.{WinText, win_text, win_read, win_faults_of, wins_read}
+use Rattle.ps_model.specs.board.WinLines.{WinText, win_text, win_read, win_faults_of, wins_read}
 
 abbrev at_line : FaultKind → ℕ → Fault
 at_line kind line = record { kind = kind; line = line }

@@ -3,8 +3,8 @@ use Rattle.std.specs.Prelude.{Bool, not, Option, is_some, option_map, unwrap_or,
 use Rattle.std.specs.Global.{Global}
 use Rattle.std.specs.Borrow.{Bor}
 use Rattle.ps_model.specs.declared.pieces.ObjectId.{ObjectId}
-use Rattle.ps_model.specs.Names as model
-use Rattle.ps_model.specs.Levels.{shown_objects}
+use Rattle.ps_model.specs.names.Names as model
+use Rattle.ps_model.specs.board.Levels.{shown_objects}
 use Rattle.ps_names.specs.Shown.{meaning_shown}
 use Rattle.ps_names.specs.declared.meaning.Meaning.{Meaning}
 

@@ -1,8 +1,8 @@
 -- Levels and messages of the code as those of the definitions.
 use Rattle.std.specs.Prelude.{ℕ, ◌+◌, Bool, true, false, List, map}
 use Rattle.std.specs.List.{take_while}
-use Rattle.ps_model.specs.LevelLines as model
-use Rattle.ps_model.specs.LineNumbers.{line_at, lines_between}
+use Rattle.ps_model.specs.session.LevelLines as model
+use Rattle.ps_model.specs.text.LineNumbers.{line_at, lines_between}
 use Rattle.ps_levels.specs.declared.levels.Entry.{Entry}
 use Rattle.ps_levels.specs.declared.levels.Entry.TheVariants.{Message, Level}
 

@@ -3,11 +3,11 @@ use Rattle.std.specs.Prelude.{ℕ, Option, List, ◌++◌}
 use Rattle.std.specs.List.{list_any}
 use Rattle.ps_model.specs.declared.faults.Fault.{Fault}
 use Rattle.ps_model.specs.declared.faults.FaultKind.TheVariants.{UnknownGlyph, PropertyGlyph, TooLarge}
-use Rattle.ps_model.specs.Faults.{when}
-use Rattle.ps_model.specs.LevelFaults.{is_too_large, row_faults, rows_faults, too_many}
-use Rattle.ps_model.specs.Meanings.{is_property}
-use Rattle.ps_model.specs.Names.{Meaning, Names}
-use Rattle.ps_model.specs.Lines.{Line}
+use Rattle.ps_model.specs.text.Faults.{when}
+use Rattle.ps_model.specs.session.LevelFaults.{is_too_large, row_faults, rows_faults, too_many}
+use Rattle.ps_model.specs.names.Meanings.{is_property}
+use Rattle.ps_model.specs.names.Names.{Meaning, Names}
+use Rattle.ps_model.specs.text.Lines.{Line}
 use Rattle.ps_levels.specs.Cells.{is_unknown}
 
 -- the faults of a row at a place in a level of that width, whose characters up to the width stand for these

@@ -1,10 +1,10 @@
 -- What holds of the levels that are read: their sides are those of a board, and their objects are the game's.
 use Rattle.std.specs.Prelude.{ℕ, ◌≡◌, ◌<◌, ◌≤◌, ◌*◌, length, List, All, ⊤}
 use Rattle.ps_model.specs.declared.pieces.ObjectId.{ObjectId}
-use Rattle.ps_model.specs.Limits.{side_limit}
-use Rattle.ps_model.specs.Names.{Names, object_count}
-use Rattle.ps_model.specs.Levels.{Level}
-use Rattle.ps_model.specs.LevelLines.{Entry, MessageEntry, LevelEntry}
+use Rattle.ps_model.specs.declared.limits.TheConstants.{SIDE_LIMIT}
+use Rattle.ps_model.specs.names.Names.{Names, object_count}
+use Rattle.ps_model.specs.board.Levels.{Level}
+use Rattle.ps_model.specs.session.LevelLines.{Entry, MessageEntry, LevelEntry}
 
 -- every object of a cell is below the number
 abbrev pub AreBelow : ℕ → List ObjectId → Type 0
@@ -14,9 +14,9 @@ AreBelow count objects = All (λ object. object.0 < count) objects
 -- game's, if the game has any
 pub record IsSized (names : Names) (level : Level) : Type 0 where
   pub some_column : 1 ≤ level.width
-  pub columns : level.width ≤ side_limit
+  pub columns : level.width ≤ SIDE_LIMIT
   pub some_row : 1 ≤ level.height
-  pub rows : level.height ≤ side_limit
+  pub rows : level.height ≤ SIDE_LIMIT
   pub cells : length level.cells ≡ level.width * level.height
   pub objects : 1 ≤ object_count names → All (AreBelow (object_count names)) level.cells
 

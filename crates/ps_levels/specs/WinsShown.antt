@@ -1,10 +1,10 @@
 -- Win conditions of the code as those of the definitions.
 use Rattle.std.specs.Prelude.{List, Option, map, option_map}
-use Rattle.ps_model.specs.Wins as model
-use Rattle.ps_model.specs.OptionSteps.{◌>>=◌}
-use Rattle.ps_model.specs.Lines.{Line}
-use Rattle.ps_model.specs.Names.{Names}
-use Rattle.ps_model.specs.WinLines.{WinText, win_text, win_read}
+use Rattle.ps_model.specs.board.Wins as model
+use Rattle.ps_model.specs.text.OptionSteps.{◌>>=◌}
+use Rattle.ps_model.specs.text.Lines.{Line}
+use Rattle.ps_model.specs.names.Names.{Names}
+use Rattle.ps_model.specs.board.WinLines.{WinText, win_text, win_read}
 use Rattle.ps_names.specs.Shown.{meaning_shown}
 use Rattle.ps_levels.specs.declared.wins.Win.{Win}
 use Rattle.ps_levels.specs.declared.wins.WinWords.{WinWords}

@@ -1,7 +1,7 @@
 //! The cells of rows, column by column.
 
 ghost use Rattle.std.specs.Prelude.{◌≡◌, ◌++◌, [], map, IfOk, OnOk, slice_index_or};
-ghost use Rattle.ps_model.specs.LevelLines.{in_columns};
+ghost use Rattle.ps_model.specs.session.LevelLines.{in_columns};
 ghost use Rattle.ps_levels.specs.Cells.{cells_shown, rows_shown};
 
 use ps_model::{Memory, ObjectId};

@@ -2,9 +2,9 @@
 
 ghost use Rattle.std.specs.Prelude.{◌≡◌, [], map, option_map, unwrap_or, IfOk};
 ghost use Rattle.std.specs.List.{list_any};
-ghost use Rattle.ps_model.specs.LevelFaults.{character_meaning};
-ghost use Rattle.ps_model.specs.Meanings.{is_property};
-ghost use Rattle.ps_model.specs.Levels.{shown_objects};
+ghost use Rattle.ps_model.specs.session.LevelFaults.{character_meaning};
+ghost use Rattle.ps_model.specs.names.Meanings.{is_property};
+ghost use Rattle.ps_model.specs.board.Levels.{shown_objects};
 ghost use Rattle.ps_names.specs.Shown.{meaning_shown};
 ghost use Rattle.ps_levels.specs.Cells.{cells_shown, meaning_seen, meanings_shown, is_unknown, objects_of};
 

@@ -2,8 +2,8 @@
 
 ghost use Rattle.std.specs.Prelude.{◌≡◌, length, IfOk, nat_eq, find, slice_index_or, codes, unwrap_or, option_map};
 ghost use Rattle.std.specs.List.{flat_map};
-ghost use Rattle.ps_model.specs.Names.{members, members_named, layer_of};
-ghost use Rattle.ps_model.specs.Levels.{with_ground, grounded, background_layer};
+ghost use Rattle.ps_model.specs.names.Names.{members, members_named, layer_of};
+ghost use Rattle.ps_model.specs.board.Levels.{with_ground, grounded, background_layer};
 ghost use Rattle.ps_names.specs.Shown.{meaning_shown};
 ghost use Rattle.ps_levels.specs.Cells.{cells_shown};
 

@@ -2,11 +2,11 @@
 
 ghost use Rattle.std.specs.Prelude.{◌≡◌, ◌≤◌, ◌<◌, ◌+◌, ◌∷◌, [], true, false, length, map, IfOk, OnOk, IfErr, Some};
 ghost use Rattle.ps_model.specs.declared.faults.Fault.{Fault as TheFault};
-ghost use Rattle.ps_model.specs.Faults.{first_fault};
-ghost use Rattle.ps_model.specs.LevelFaults.{entry_faults};
-ghost use Rattle.ps_model.specs.LevelLines.{LevelEntry, characters_of, row_cells, entry_of};
-ghost use Rattle.ps_model.specs.LineNumbers.{line_at, lines_between};
-ghost use Rattle.ps_model.specs.Lines.{lines_of, is_blank_line};
+ghost use Rattle.ps_model.specs.text.Faults.{first_fault};
+ghost use Rattle.ps_model.specs.session.LevelFaults.{entry_faults};
+ghost use Rattle.ps_model.specs.session.LevelLines.{LevelEntry, characters_of, row_cells, entry_of};
+ghost use Rattle.ps_model.specs.text.LineNumbers.{line_at, lines_between};
+ghost use Rattle.ps_model.specs.text.Lines.{lines_of, is_blank_line};
 ghost use Rattle.ps_levels.specs.Cells.{rows_shown};
 ghost use Rattle.ps_levels.specs.LevelRowsAt.{rows_at};
 ghost use Rattle.ps_levels.specs.RowFaults.{level_faults_by};
@@ -35,7 +35,7 @@ pub struct Level {
 }
 
 impl Model for Level {
-    ghost use Rattle.ps_model.specs.Levels.{Level as Meant};
+    ghost use Rattle.ps_model.specs.board.Levels.{Level as Meant};
 
     ghost Value = { Meant };
 

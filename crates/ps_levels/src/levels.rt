@@ -3,12 +3,12 @@
 ghost use Rattle.std.specs.Prelude.{◌≡◌, ◌≤◌, ◌<◌, ◌+◌, ◌-◌, ◌++◌, ◌∷◌, [], true, false, length, map, All, IfOk, OnOk, IfErr, Some};
 ghost use Rattle.std.specs.List.{list_any};
 ghost use Rattle.ps_model.specs.declared.faults.Fault.{Fault as TheFault};
-ghost use Rattle.ps_model.specs.Faults.{first_fault};
-ghost use Rattle.ps_model.specs.LevelFaults.{too_many, entry_faults, entries_faults, level_faults};
-ghost use Rattle.ps_model.specs.LevelLines.{MessageEntry, entries_at, entry_lines, entry_of, entries_read};
-ghost use Rattle.ps_model.specs.LineNumbers.{line_at, lines_between};
-ghost use Rattle.ps_model.specs.Lines.{lines_of, is_blank_line, taken_bytes};
-ghost use Rattle.ps_model.specs.NameBounds.{AreBounded};
+ghost use Rattle.ps_model.specs.text.Faults.{first_fault};
+ghost use Rattle.ps_model.specs.session.LevelFaults.{too_many, entry_faults, entries_faults, level_faults};
+ghost use Rattle.ps_model.specs.session.LevelLines.{MessageEntry, entries_at, entry_lines, entry_of, entries_read};
+ghost use Rattle.ps_model.specs.text.LineNumbers.{line_at, lines_between};
+ghost use Rattle.ps_model.specs.text.Lines.{lines_of, is_blank_line, taken_bytes};
+ghost use Rattle.ps_model.specs.names.NameBounds.{AreBounded};
 ghost use Rattle.ps_levels.specs.EntriesShown.{entries_shown, is_level_entry, level_lines};
 ghost use Rattle.ps_levels.specs.Sized.{HasColumn, IsSizedEntry};
 

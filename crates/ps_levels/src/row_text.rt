@@ -3,10 +3,10 @@
 ghost use Rattle.std.specs.Prelude.{◌≡◌, ◌+◌, ◌≤◌, ◌<◌, false, length, drop, IfOk};
 ghost use Rattle.std.specs.List.{prefix_len};
 ghost use Rattle.std.specs.Str.{IsUtf8, IsCharBoundary, chars};
-ghost use Rattle.ps_model.specs.LevelLines.{characters_of};
-ghost use Rattle.ps_model.specs.LineNumbers.{line_at};
-ghost use Rattle.ps_model.specs.Lines.{lines_of, is_blank_line, without_blank_end};
-ghost use Rattle.ps_model.specs.Words.{is_blank};
+ghost use Rattle.ps_model.specs.session.LevelLines.{characters_of};
+ghost use Rattle.ps_model.specs.text.LineNumbers.{line_at};
+ghost use Rattle.ps_model.specs.text.Lines.{lines_of, is_blank_line, without_blank_end};
+ghost use Rattle.ps_model.specs.text.Words.{is_blank};
 
 use ps_model::Memory;
 use ps_text::Source;

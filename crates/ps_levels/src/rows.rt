@@ -2,13 +2,13 @@
 
 ghost use Rattle.std.specs.Prelude.{◌≡◌, ◌≤◌, ◌+◌, ◌++◌, [], length, map, take, IfOk, OnOk, IfErr, Some, nat_eq};
 ghost use Rattle.ps_model.specs.declared.faults.Fault.{Fault as TheFault};
-ghost use Rattle.ps_model.specs.Faults.{first_fault};
-ghost use Rattle.ps_model.specs.LevelFaults.{is_too_large, row_faults, rows_faults};
-ghost use Rattle.ps_model.specs.LevelLines.{characters_of, last_character, of_width, row_cells};
-ghost use Rattle.ps_model.specs.LineNumbers.{line_at, lines_between};
-ghost use Rattle.ps_model.specs.Lines.{lines_of};
+ghost use Rattle.ps_model.specs.text.Faults.{first_fault};
+ghost use Rattle.ps_model.specs.session.LevelFaults.{is_too_large, row_faults, rows_faults};
+ghost use Rattle.ps_model.specs.session.LevelLines.{characters_of, last_character, of_width, row_cells};
+ghost use Rattle.ps_model.specs.text.LineNumbers.{line_at, lines_between};
+ghost use Rattle.ps_model.specs.text.Lines.{lines_of};
 ghost use Rattle.ps_levels.specs.Cells.{cells_shown, meanings_shown, rows_shown};
-ghost use Rattle.ps_model.specs.LineNumbers.{here};
+ghost use Rattle.ps_model.specs.text.LineNumbers.{here};
 ghost use Rattle.ps_levels.specs.RowFaults.{faults_of_meanings};
 
 use crate::fault::LevelFault;

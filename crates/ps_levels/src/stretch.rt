@@ -3,9 +3,9 @@
 ghost use Rattle.std.specs.Prelude.{◌≡◌, ◌≤◌, ◌+◌, [], true, false, ◌&&◌, not, length, map, IfOk, slice_index_or};
 ghost use Rattle.std.specs.List.{take_while};
 ghost use Rattle.ps_model.specs.declared.texts.Cut.TheVariants.{Plain};
-ghost use Rattle.ps_model.specs.LevelLines.{is_message, is_row, entries_at};
-ghost use Rattle.ps_model.specs.LineNumbers.{line_at, lines_between};
-ghost use Rattle.ps_model.specs.Lines.{lines_of, folded};
+ghost use Rattle.ps_model.specs.session.LevelLines.{is_message, is_row, entries_at};
+ghost use Rattle.ps_model.specs.text.LineNumbers.{line_at, lines_between};
+ghost use Rattle.ps_model.specs.text.Lines.{lines_of, folded};
 ghost use Rattle.ps_text.specs.WordViews.{text_of};
 
 use ps_model::{Cut, Memory};

@@ -4,14 +4,14 @@ ghost use Rattle.std.specs.Prelude.{◌≡◌, ◌≤◌, ◌+◌, ◌++◌, Lis
 ghost use Rattle.std.specs.Map.{lookup};
 ghost use Rattle.std.specs.Str.{bytes_eq};
 ghost use Rattle.ps_model.specs.declared.faults.Fault.{Fault as TheFault};
-ghost use Rattle.ps_model.specs.Faults.{first_fault};
-ghost use Rattle.ps_model.specs.LineNumbers.{line_at, lines_between};
-ghost use Rattle.ps_model.specs.Lines.{Line, folded, lines_of};
-ghost use Rattle.ps_model.specs.Names.{meaning_of};
-ghost use Rattle.ps_model.specs.WinLines.{quantifiers, win_with, win_of_words, place_read, win_read, wins_read, win_faults_of, win_faults};
+ghost use Rattle.ps_model.specs.text.Faults.{first_fault};
+ghost use Rattle.ps_model.specs.text.LineNumbers.{line_at, lines_between};
+ghost use Rattle.ps_model.specs.text.Lines.{Line, folded, lines_of};
+ghost use Rattle.ps_model.specs.names.Names.{meaning_of};
+ghost use Rattle.ps_model.specs.board.WinLines.{quantifiers, win_with, win_of_words, place_read, win_read, wins_read, win_faults_of, win_faults};
 ghost use Rattle.ps_names.specs.Shown.{meaning_shown};
 ghost use Rattle.ps_text.specs.WordViews.{text_of};
-ghost use Rattle.ps_model.specs.LineNumbers.{here};
+ghost use Rattle.ps_model.specs.text.LineNumbers.{here};
 ghost use Rattle.ps_levels.specs.WinsShown.{words_shown, win_shown, wins_shown, win_of_line};
 
 use crate::fault::WinFault;

@@ -1,5 +1,10 @@
 //! Why a text is refused.
 
+ghost use Rattle.std.specs.Prelude.{◌≡◌, Some};
+ghost use Rattle.ps_model.specs.text.Refusals.{words_of, fault_line};
+
+use std::fmt;
+
 /// A cause of refusal. The order is that of the codes, by which causes in one line are told.
 #[derive(Clone, Copy, PartialEq, Eq, Debug)]
 pub enum FaultKind {
@@ -100,4 +105,77 @@ pub enum FaultKind {
 pub struct Fault {
     pub kind: FaultKind,
     pub line: u32,
+}
+
+impl FaultKind {
+    /// The code of the cause, a blank and its name, as `TX1 NotUtf8`.
+    pub fn words(self) -> &'static str
+        ensures { result.now ≡ words_of self }
+    {
+        match self {
+            FaultKind::NotUtf8 => "TX1 NotUtf8",
+            FaultKind::TooLong => "TX2 TooLong",
+            FaultKind::SectionOrder => "GM1 SectionOrder",
+            FaultKind::NoSection => "GM2 NoSection",
+            FaultKind::Realtime => "GM3 Realtime",
+            FaultKind::TooManyReadings => "GM4 TooManyReadings",
+            FaultKind::Impossible => "GM5 Impossible",
+            FaultKind::BadObject => "NA1 BadObject",
+            FaultKind::Twice => "NA2 Twice",
+            FaultKind::MixedAndOr => "NA3 MixedAndOr",
+            FaultKind::UnknownName => "NA4 UnknownName",
+            FaultKind::Cycle => "NA5 Cycle",
+            FaultKind::AggregateInProperty => "NA6 AggregateInProperty",
+            FaultKind::PropertyInAggregate => "NA7 PropertyInAggregate",
+            FaultKind::AggregateInLayer => "NA8 AggregateInLayer",
+            FaultKind::NoLayer => "NA9 NoLayer",
+            FaultKind::NoBackground => "NA10 NoBackground",
+            FaultKind::NoPlayer => "NA11 NoPlayer",
+            FaultKind::BadBackground => "NA12 BadBackground",
+            FaultKind::BadPlayer => "NA13 BadPlayer",
+            FaultKind::TooManyNames => "NA14 TooMany",
+            FaultKind::SameLayerAggregate => "NA15 SameLayerAggregate",
+            FaultKind::BadLine => "NA16 BadLine",
+            FaultKind::BadBracket => "RU1 BadBracket",
+            FaultKind::UnknownWord => "RU2 UnknownWord",
+            FaultKind::RowsDiffer => "RU3 RowsDiffer",
+            FaultKind::NothingRight => "RU4 NothingRight",
+            FaultKind::NameTwice => "RU5 NameTwice",
+            FaultKind::NoAggregate => "RU6 NoAggregate",
+            FaultKind::Unbound => "RU7 Unbound",
+            FaultKind::LateMove => "RU8 LateMove",
+            FaultKind::PlusAlone => "RU9 PlusAlone",
+            FaultKind::PlusLate => "RU10 PlusLate",
+            FaultKind::Loop => "RU11 Loop",
+            FaultKind::Ellipsis => "RU12 Ellipsis",
+            FaultKind::NotInProfile => "RU13 NotInProfile",
+            FaultKind::TooManyRules => "RU14 TooMany",
+            FaultKind::UnknownGlyph => "LV1 UnknownGlyph",
+            FaultKind::PropertyGlyph => "LV2 PropertyGlyph",
+            FaultKind::TooLarge => "LV3 TooLarge",
+            FaultKind::NoLevel => "LV4 NoLevel",
+            FaultKind::TooManyEntries => "LV5 TooMany",
+            FaultKind::BadWin => "WN1 BadWin",
+            FaultKind::UnknownWinName => "WN2 UnknownName",
+            FaultKind::NotYet => "NY1 NotYet",
+        }
+    }
+}
+
+/// As `TX1 NotUtf8`.
+impl fmt::Display for FaultKind {
+    ghost output = { λ kind. Some (words_of kind) };
+
+    fn fmt<W: fmt::Write>(&self, f: &mut fmt::Formatter<W>) -> fmt::Result {
+        f.write_str(self.words())
+    }
+}
+
+/// As `line 3: TX1 NotUtf8`.
+impl fmt::Display for Fault {
+    ghost output = { λ fault. Some (fault_line fault) };
+
+    fn fmt<W: fmt::Write>(&self, f: &mut fmt::Formatter<W>) -> fmt::Result {
+        write!(f, "line {}: {}", self.line, self.kind)
+    }
 }

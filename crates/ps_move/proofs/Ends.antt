@@ -10,10 +10,10 @@ use Rattle.ps_model.specs.declared.pieces.Motion.{Motion}
 use Rattle.ps_model.specs.declared.pieces.Motion.TheVariants.{Going}
 use Rattle.ps_model.specs.declared.pieces.Slot.{Slot}
 use Rattle.ps_model.specs.declared.pieces.Slot.TheVariants.{Bare, Holds}
-use Rattle.ps_model.specs.Grid.{Grid, IsGrid, cell_count, cell_at, slot_at, slot_at_rest, at_rest}
-use Rattle.ps_model.specs.Movement.{target, is_bare, is_bare_slot, winner, slides_within, slides, if_slides, entrant, slid_slot, slid}
-use Rattle.ps_model.specs.WeakMovement.{landing}
-use Rattle.ps_model.proofs.Winners.{IsLink, link_of, winner-contends, slides_within-more}
+use Rattle.ps_model.specs.board.Grid.{Grid, IsGrid, cell_count, cell_at, slot_at, slot_at_rest, at_rest}
+use Rattle.ps_model.specs.board.Movement.{target, is_bare, is_bare_slot, winner, slides_within, slides, if_slides, entrant, slid_slot, slid}
+use Rattle.ps_model.specs.board.WeakMovement.{landing}
+use Rattle.ps_laws.proofs.common.Winners.{IsLink, link_of, winner-contends, slides_within-more}
 use Rattle.ps_move.specs.Visits.{way}
 use Rattle.ps_move.specs.Midway.{IsMidway, motion_left}
 use Rattle.ps_move.specs.Order.{ComesBefore, IsInOrder}

@@ -10,10 +10,10 @@ use Rattle.ps_model.specs.declared.pieces.Motion.{Motion}
 use Rattle.ps_model.specs.declared.pieces.Motion.TheVariants.{Still, Going, Acting}
 use Rattle.ps_model.specs.declared.pieces.Slot.{Slot}
 use Rattle.ps_model.specs.declared.pieces.Slot.TheVariants.{Bare, Holds}
-use Rattle.ps_model.specs.Grid.{Grid, cell_count, slot_at, neighbour}
-use Rattle.ps_model.specs.Movement.{target, aim_of, is_bare, is_bare_slot, winner}
-use Rattle.ps_model.specs.WeakMovement.{landing}
-use Rattle.ps_model.proofs.Winners.{slides_by, winner-of_bare, winner-of_left}
+use Rattle.ps_model.specs.board.Grid.{Grid, cell_count, slot_at, neighbour}
+use Rattle.ps_model.specs.board.Movement.{target, aim_of, is_bare, is_bare_slot, winner}
+use Rattle.ps_model.specs.board.WeakMovement.{landing}
+use Rattle.ps_laws.proofs.common.Winners.{slides_by, winner-of_bare, winner-of_left}
 use Rattle.ps_move.specs.Visits.{way, if_bare, is_going}
 use Rattle.ps_move.specs.Midway.{IsMidway, motion_left}
 use Rattle.ps_move.specs.Order.{next_on, ComesBefore, InTime, going_on, HasWon, IsInOrder}

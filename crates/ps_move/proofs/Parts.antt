@@ -10,13 +10,13 @@ use Rattle.ps_model.specs.declared.pieces.Motion.{Motion}
 use Rattle.ps_model.specs.declared.pieces.Motion.TheVariants.{Still, Going, Acting}
 use Rattle.ps_model.specs.declared.pieces.Slot.{Slot}
 use Rattle.ps_model.specs.declared.pieces.Slot.TheVariants.{Bare, Holds}
-use Rattle.ps_model.specs.Limits.{side_limit, layer_limit}
-use Rattle.ps_model.specs.Grid.{Grid, IsGrid, IsPlace, slot_at, slot_at_rest, at_rest, with_slot, neighbour}
-use Rattle.ps_model.specs.Movement.{target, aim_of, is_bare, is_bare_slot}
-use Rattle.ps_model.specs.WeakMovement.{IsWeaklySlid, landing}
-use Rattle.ps_model.proofs.Slots.{slot_at-at_rest, IsGrid-with_slot}
-use Rattle.ps_model.proofs.Counts.{count_of-at_rest}
-use Rattle.ps_model.proofs.Neighbours.{neighbour-within}
+use Rattle.ps_model.specs.declared.limits.TheConstants.{SIDE_LIMIT, LAYER_LIMIT}
+use Rattle.ps_model.specs.board.Grid.{Grid, IsGrid, IsPlace, slot_at, slot_at_rest, at_rest, with_slot, neighbour}
+use Rattle.ps_model.specs.board.Movement.{target, aim_of, is_bare, is_bare_slot}
+use Rattle.ps_model.specs.board.WeakMovement.{IsWeaklySlid, landing}
+use Rattle.ps_laws.proofs.common.Slots.{slot_at-at_rest, IsGrid-with_slot}
+use Rattle.ps_laws.proofs.common.Counts.{count_of-at_rest}
+use Rattle.ps_laws.proofs.common.Neighbours.{neighbour-within}
 use Rattle.ps_move.specs.Visits.{way, if_bare, gone, visited, is_going, going_count}
 use Rattle.ps_move.specs.Midway.{IsMidway}
 use Rattle.ps_move.specs.Order.{IsInOrder}
@@ -121,13 +121,13 @@ part_cell went old new first cell layer end p = record {
 }
 
 -- how many objects there can be
-pub going_count-bound : (g : Grid) → IsGrid g → going_count g ≤ side_limit * side_limit * layer_limit
+pub going_count-bound : (g : Grid) → IsGrid g → going_count g ≤ SIDE_LIMIT * SIDE_LIMIT * LAYER_LIMIT
 going_count-bound g shape =
     let each : (k : ℕ) (d : List Slot) → k < length g.cells → count_by is_going (get_or g.cells k d) ≤ g.layers =
     λ (k : ℕ) (d : List Slot) (h : k < length g.cells). let n = count_by-le-length is_going (get_or g.cells k d) in let l = shape.slots k d h in omega arith in
     let all : going_count g ≤ length g.cells * g.layers = sum_by-le (count_by is_going) g.layers g.cells each in
-    let cells : g.width * g.height ≤ side_limit * side_limit = mul-le-mul shape.columns shape.rows in
-    let slots : g.width * g.height * g.layers ≤ side_limit * side_limit * layer_limit = mul-le-mul cells shape.few_layers in
+    let cells : g.width * g.height ≤ SIDE_LIMIT * SIDE_LIMIT = mul-le-mul shape.columns shape.rows in
+    let slots : g.width * g.height * g.layers ≤ SIDE_LIMIT * SIDE_LIMIT * LAYER_LIMIT = mul-le-mul cells shape.few_layers in
     let all' : going_count g ≤ g.width * g.height * g.layers = rw (← shape.cells) all in
     omega arith
 

@@ -10,11 +10,11 @@ use Rattle.ps_model.specs.declared.pieces.Motion.{Motion}
 use Rattle.ps_model.specs.declared.pieces.Motion.TheVariants.{Still, Going}
 use Rattle.ps_model.specs.declared.pieces.Slot.{Slot}
 use Rattle.ps_model.specs.declared.pieces.Slot.TheVariants.{Bare, Holds}
-use Rattle.ps_model.specs.Grid.{Grid, IsGrid, IsPlace, cell_at, slot_at, with_slot, neighbour}
-use Rattle.ps_model.specs.Movement.{target, aim_of}
-use Rattle.ps_model.specs.WeakMovement.{count_of, landing, holds_object}
-use Rattle.ps_model.proofs.Slots.{cell_long, slot_at-with_same, slot_at-with_other_cell, slot_at-with_other_layer, IsGrid-with_slot}
-use Rattle.ps_model.proofs.Counts.{one_if, count_by-set, count_on-with_same, count_on-with_other}
+use Rattle.ps_model.specs.board.Grid.{Grid, IsGrid, IsPlace, cell_at, slot_at, with_slot, neighbour}
+use Rattle.ps_model.specs.board.Movement.{target, aim_of}
+use Rattle.ps_model.specs.board.WeakMovement.{count_of, landing, holds_object}
+use Rattle.ps_laws.proofs.common.Slots.{cell_long, slot_at-with_same, slot_at-with_other_cell, slot_at-with_other_layer, IsGrid-with_slot}
+use Rattle.ps_laws.proofs.common.Counts.{one_if, count_by-set, count_on-with_same, count_on-with_other}
 use Rattle.ps_move.specs.Visits.{is_going, going_count}
 use Rattle.ps_move.specs.Midway.{IsMidway, motion_left}
 use Rattle.ps_move.specs.Order.{going_on}

@@ -5,8 +5,8 @@ use Rattle.ps_model.specs.declared.pieces.ObjectId.{ObjectId}
 use Rattle.ps_model.specs.declared.pieces.Motion.{Motion}
 use Rattle.ps_model.specs.declared.pieces.Motion.TheVariants.{Still}
 use Rattle.ps_model.specs.declared.pieces.Slot.TheVariants.{Holds}
-use Rattle.ps_model.specs.Grid.{Grid, slot_at}
-use Rattle.ps_model.specs.WeakMovement.{count_of, landing}
+use Rattle.ps_model.specs.board.Grid.{Grid, slot_at}
+use Rattle.ps_model.specs.board.WeakMovement.{count_of, landing}
 
 -- the motion of an object that may have gone
 abbrev pub motion_left : Bool → Motion → Motion

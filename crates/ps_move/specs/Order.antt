@@ -2,8 +2,8 @@
 -- lowest, and the next pass begins anew. So an object that can go is visited in time to enter its target as its winner.
 use Rattle.std.specs.Prelude.{◌≡◌, ℕ, ◌+◌, ◌<◌, ◌≤◌, nat_lt, Bool, true, false, Some, length, count_by, slice_index_or}
 use Rattle.ps_model.specs.declared.pieces.Slot.TheVariants.{Bare}
-use Rattle.ps_model.specs.Grid.{Grid}
-use Rattle.ps_model.specs.Movement.{is_bare, winner, slides_within}
+use Rattle.ps_model.specs.board.Grid.{Grid}
+use Rattle.ps_model.specs.board.Movement.{is_bare, winner, slides_within}
 use Rattle.ps_move.specs.Visits.{way, is_going}
 use Rattle.ps_move.specs.Midway.{IsMidway}
 

@@ -1,6 +1,6 @@
 -- The parts of a movement.
 use Rattle.std.specs.Prelude.{◌≡◌, ℕ, ◌+◌, ◌≤◌, ◌||◌, Bool, false, cond}
-use Rattle.ps_model.specs.Grid.{Grid, IsGrid}
+use Rattle.ps_model.specs.board.Grid.{Grid, IsGrid}
 use Rattle.ps_move.specs.Visits.{going_count}
 use Rattle.ps_move.specs.Order.{IsInOrder}
 

@@ -4,8 +4,8 @@ use Rattle.std.specs.Prelude.{ℕ, Bool, true, false, Option, Some, None, count_
 use Rattle.ps_model.specs.declared.pieces.Motion.TheVariants.{Still, Going, Acting}
 use Rattle.ps_model.specs.declared.pieces.Slot.{Slot}
 use Rattle.ps_model.specs.declared.pieces.Slot.TheVariants.{Bare, Holds}
-use Rattle.ps_model.specs.Grid.{Grid, slot_at, slot_at_rest, with_slot}
-use Rattle.ps_model.specs.Movement.{target, is_bare}
+use Rattle.ps_model.specs.board.Grid.{Grid, slot_at, slot_at_rest, with_slot}
+use Rattle.ps_model.specs.board.Movement.{target, is_bare}
 
 -- the cell, if its layer is bare
 abbrev pub if_bare : Grid → ℕ → Option ℕ → Option ℕ

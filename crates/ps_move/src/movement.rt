@@ -6,9 +6,9 @@
 //! cell, the next one after it, and after the last cell the first.
 
 ghost use Rattle.std.specs.Prelude.{◌≡◌, ℕ, ◌+◌, ◌*◌, ◌<◌, ◌≤◌, IfSome, is_some};
-ghost use Rattle.ps_model.specs.Grid.{IsGrid, IsPlace, at_rest, neighbour};
-ghost use Rattle.ps_model.specs.Movement.{slid};
-ghost use Rattle.ps_model.specs.WeakMovement.{IsWeaklySlid};
+ghost use Rattle.ps_model.specs.board.Grid.{IsGrid, IsPlace, at_rest, neighbour};
+ghost use Rattle.ps_model.specs.board.Movement.{slid};
+ghost use Rattle.ps_model.specs.board.WeakMovement.{IsWeaklySlid};
 ghost use Rattle.ps_move.specs.Visits.{way, visited, going_count};
 ghost use Rattle.ps_move.specs.Parts.{IsPart};
 

@@ -6,13 +6,13 @@ use Rattle.std.proofs.lemmas.List.{length-map}
 use Rattle.std.proofs.lemmas.List.Elements.{All-nil, All-cons, All-head, All-tail, All-map}
 use Rattle.std.proofs.lemmas.List.FromFn.{length-map-range_with_len}
 use Rattle.ps_model.specs.declared.pieces.ObjectId.{ObjectId}
-use Rattle.ps_model.specs.Limits.{object_limit, layer_limit}
-use Rattle.ps_model.specs.Names.{Meaning, One, AllOf, AnyOf, Glyph, is_among}
-use Rattle.ps_model.specs.NameBounds.{IsBelow, AreBounded}
-use Rattle.ps_model.specs.WrittenLines.{WrittenLine}
-use Rattle.ps_model.specs.ObjectLines.{ObjectText, one_character}
-use Rattle.ps_model.specs.LayerLines.{Layer, objects_named, last_among, layers_found}
-use Rattle.ps_model.specs.NamesRead.{Declared, entry_of, entries_of, glyph_of, glyph_with, layer_numbers, names_of, sections_of}
+use Rattle.ps_model.specs.declared.limits.TheConstants.{OBJECT_LIMIT, LAYER_LIMIT}
+use Rattle.ps_model.specs.names.Names.{Meaning, One, AllOf, AnyOf, Glyph, is_among}
+use Rattle.ps_model.specs.names.NameBounds.{IsBelow, AreBounded}
+use Rattle.ps_model.specs.text.WrittenLines.{WrittenLine}
+use Rattle.ps_model.specs.names.ObjectLines.{ObjectText, one_character}
+use Rattle.ps_model.specs.names.LayerLines.{Layer, objects_named, last_among, layers_found}
+use Rattle.ps_model.specs.names.NamesRead.{Declared, entry_of, entries_of, glyph_of, glyph_with, layer_numbers, names_of, sections_of}
 use Rattle.ps_names.specs.Wholes.{no_layers}
 use Rattle.ps_names.proofs.FactsOfNames.{Speaks, all-speak}
 
@@ -69,8 +69,8 @@ glyphs-below n (d ∷ declared) h =
 pub length-found : (count : ℕ) (layers : List Layer) → length (layers_found count layers) ≡ count
 length-found count layers = length-map-range_with_len (λ number. last_among (map objects_named layers) (record { 0 = number })) 0 count
 
-pub bounded : (objects : List ObjectText) (lines layer_lines : List WrittenLine) → length objects ≤ object_limit
-    → length (sections_of objects lines layer_lines).layers ≤ layer_limit → no_layers objects (sections_of objects lines layer_lines).object_layers ≡ []
+pub bounded : (objects : List ObjectText) (lines layer_lines : List WrittenLine) → length objects ≤ OBJECT_LIMIT
+    → length (sections_of objects lines layer_lines).layers ≤ LAYER_LIMIT → no_layers objects (sections_of objects lines layer_lines).object_layers ≡ []
     → AreBounded (names_of (sections_of objects lines layer_lines))
 bounded objects lines layer_lines few_objects few_layers on =
     let layers : List Layer = (sections_of objects lines layer_lines).layers in

@@ -3,7 +3,7 @@ use Rattle.std.proofs.Common.{◌≡◌, ℕ, List, [], ◌∷◌, ◌++◌, Non
 use Rattle.std.specs.Str.{chars, IsUtf8}
 use Rattle.std.proofs.Math.Utf8.{encode, encodes}
 use Rattle.std.proofs.lemmas.Str.{chars_past_char, encodes-chars, chars-nil}
-use Rattle.ps_model.specs.ObjectLines.{only, one_character}
+use Rattle.ps_model.specs.names.ObjectLines.{only, one_character}
 
 pub no_character : (bs : List ℕ) → bs ≡ [] → one_character bs ≡ None
 no_character bs e = rw (e, chars-nil) refl

@@ -6,7 +6,7 @@ use Rattle.std.proofs.lemmas.List.{get_or-set_same, get_or-set_other, get_or-rep
 use Rattle.std.proofs.lemmas.Bool.Decides.{nat_tests}
 use Rattle.ps_model.specs.declared.texts.Joiner.{Joiner}
 use Rattle.ps_model.specs.declared.texts.Joiner.TheVariants.{Alone, And, Or}
-use Rattle.ps_model.specs.Meanings.{LegendName, Mention, OfObject, OfLine, meaning_by, meaning_behind}
+use Rattle.ps_model.specs.names.Meanings.{LegendName, Mention, OfObject, OfLine, meaning_by, meaning_behind}
 use Rattle.ps_names.specs.declared.ends.End.{End}
 use Rattle.ps_names.specs.declared.ends.End.TheVariants.{Unknown}
 use Rattle.ps_names.specs.MeaningSteps.{behind_synonym}

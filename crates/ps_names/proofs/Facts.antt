@@ -7,9 +7,9 @@ use Rattle.std.proofs.lemmas.List.Elements.{All-nil, All-cons, All-head, All-tai
 use Rattle.ps_model.specs.declared.pieces.ObjectId.{ObjectId}
 use Rattle.ps_model.specs.declared.texts.Joiner.{Joiner}
 use Rattle.ps_model.specs.declared.texts.Joiner.TheVariants.{Alone, And, Or}
-use Rattle.ps_model.specs.Names.{Meaning}
-use Rattle.ps_model.specs.NameBounds.{IsBelow}
-use Rattle.ps_model.specs.Meanings.{LegendName, Mention, OfObject, OfLine, same_mention, mentions_of, mentions_of_name, with_mentioned, all_mentioned, object_of, objects_of, meaning_by, meaning_behind}
+use Rattle.ps_model.specs.names.Names.{Meaning}
+use Rattle.ps_model.specs.names.NameBounds.{IsBelow}
+use Rattle.ps_model.specs.names.Meanings.{LegendName, Mention, OfObject, OfLine, same_mention, mentions_of, mentions_of_name, with_mentioned, all_mentioned, object_of, objects_of, meaning_by, meaning_behind}
 
 abbrev pub IsObject : ℕ → ObjectId → Type 0
 IsObject n object = object.0 < n

@@ -7,14 +7,14 @@ use Rattle.std.specs.Str.{bytes_eq}
 use Rattle.std.proofs.lemmas.List.Elements.{All-nil, All-cons, All-head, All-tail, All-append}
 use Rattle.std.proofs.lemmas.Map.Entries.{All-lookup}
 use Rattle.ps_model.specs.declared.pieces.ObjectId.{ObjectId}
-use Rattle.ps_model.specs.Lines.{folded}
-use Rattle.ps_model.specs.Names.{Meaning}
-use Rattle.ps_model.specs.NameBounds.{IsBelow}
-use Rattle.ps_model.specs.WrittenLines.{WrittenLine}
-use Rattle.ps_model.specs.ObjectLines.{ObjectText, object_names, names_of_object, name_of}
-use Rattle.ps_model.specs.LegendLines.{Declaration, declarations}
-use Rattle.ps_model.specs.Meanings.{LegendName, Mention, OfLine, legend_meanings, legend_name, known_names, object_mention, line_mention, meaning_behind}
-use Rattle.ps_model.specs.NamesRead.{Declared, object_declared, legend_declared, all_declared}
+use Rattle.ps_model.specs.text.Lines.{folded}
+use Rattle.ps_model.specs.names.Names.{Meaning}
+use Rattle.ps_model.specs.names.NameBounds.{IsBelow}
+use Rattle.ps_model.specs.text.WrittenLines.{WrittenLine}
+use Rattle.ps_model.specs.names.ObjectLines.{ObjectText, object_names, names_of_object, name_of}
+use Rattle.ps_model.specs.names.LegendLines.{Declaration, declarations}
+use Rattle.ps_model.specs.names.Meanings.{LegendName, Mention, OfLine, legend_meanings, legend_name, known_names, object_mention, line_mention, meaning_behind}
+use Rattle.ps_model.specs.names.NamesRead.{Declared, object_declared, legend_declared, all_declared}
 use Rattle.ps_names.specs.Sections.{legend_of}
 use Rattle.ps_names.proofs.Facts.{IsObject, IsMention, IsName, IsBelowIf, behind-below}
 

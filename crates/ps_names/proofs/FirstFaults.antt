@@ -1,7 +1,7 @@
 -- The first fault of two lists.
 use Rattle.std.proofs.Common.{◌≡◌, true, List, [], ◌∷◌, ◌++◌, Option, None, Some, is_some, refl}
 use Rattle.ps_model.specs.declared.faults.Fault.{Fault}
-use Rattle.ps_model.specs.Faults.{first_fault}
+use Rattle.ps_model.specs.text.Faults.{first_fault}
 
 -- it stands in the front
 pub first-here : (a b : List Fault) (f : Option Fault) → is_some f ≡ true → f ≡ first_fault a → f ≡ first_fault (a ++ b)

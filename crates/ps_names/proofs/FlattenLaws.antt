@@ -8,8 +8,8 @@ use Rattle.std.proofs.lemmas.List.Sums.{sum_by-cons}
 use Rattle.std.proofs.lemmas.List.Elements.{filter_map-append}
 use Rattle.std.proofs.lemmas.Bool.Decides.{nat_tests}
 use Rattle.ps_model.specs.declared.pieces.ObjectId.{ObjectId}
-use Rattle.ps_model.specs.Names.{is_among, same_object}
-use Rattle.ps_model.specs.Meanings.{LegendName, Mention, OfObject, OfLine, same_mention, mentions_of, mentions_of_name, with_mentioned, object_of, objects_of, mention_count}
+use Rattle.ps_model.specs.names.Names.{is_among, same_object}
+use Rattle.ps_model.specs.names.Meanings.{LegendName, Mention, OfObject, OfLine, same_mention, mentions_of, mentions_of_name, with_mentioned, object_of, objects_of, mention_count}
 use Rattle.ps_names.specs.Flattened.{merged, spoken, all_spoken, spoken_by, room_from, IsFlatAt, IsFlat}
 use Rattle.ps_names.specs.declared.legend_names.LegendName as code
 use Rattle.ps_names.specs.LegendNames.{legend_shown}

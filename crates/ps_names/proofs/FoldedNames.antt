@@ -3,7 +3,7 @@ use Rattle.std.proofs.Common.{◌≡◌, ℕ, ◌+◌, Bool, true, false, List, 
 use Rattle.std.specs.Prelude.{nat_lt}
 use Rattle.std.specs.Char.{to_ascii_lowercase}
 use Rattle.std.proofs.lemmas.Bool.Decides.{nat_tests}
-use Rattle.ps_model.specs.Lines.{folded}
+use Rattle.ps_model.specs.text.Lines.{folded}
 
 letter : (x : ℕ) (a b : Bool) → nat_lt x 65 ≡ a → nat_lt x 91 ≡ b → to_ascii_lowercase (to_ascii_lowercase x) ≡ to_ascii_lowercase x
 letter x true b p q = rw (p, p) refl

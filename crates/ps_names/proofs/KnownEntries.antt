@@ -10,9 +10,9 @@ use Rattle.std.specs.Str.{bytes_eq}
 use Rattle.std.proofs.lemmas.List.{map-append, length-map}
 use Rattle.indexmap.specs.IndexMap.{IndexMap, insert_entry, get}
 use Rattle.indexmap.proofs.CallerLemmas.{insert_entry-new}
-use Rattle.ps_model.specs.Meanings as model
-use Rattle.ps_model.specs.Lines.{folded}
-use Rattle.ps_model.specs.ObjectLines.{one_character}
+use Rattle.ps_model.specs.names.Meanings as model
+use Rattle.ps_model.specs.text.Lines.{folded}
+use Rattle.ps_model.specs.names.ObjectLines.{one_character}
 use Rattle.ps_names.specs.declared.mention.Mention.{Mention}
 use Rattle.ps_names.specs.declared.known.Entry.{Entry}
 use Rattle.ps_names.specs.Known.{Named, named_shown, named_as, keys, mentions_of_names, mention_shown}

@@ -6,8 +6,8 @@ use Rattle.std.proofs.lemmas.List.{same_lists, get_or-set_same, get_or-set_other
 use Rattle.std.proofs.lemmas.List.FromFn.{length-map-range_with_len, get_or-map-range_with_len}
 use Rattle.std.proofs.lemmas.Bool.Decides.{nat_tests}
 use Rattle.ps_model.specs.declared.pieces.ObjectId.{ObjectId}
-use Rattle.ps_model.specs.Names.{is_among}
-use Rattle.ps_model.specs.LayerLines.{last_among, Layer, objects_named, layers_found}
+use Rattle.ps_model.specs.names.Names.{is_among}
+use Rattle.ps_model.specs.names.LayerLines.{last_among, Layer, objects_named, layers_found}
 use Rattle.ps_names.specs.LayersShown.{placed, placed_each}
 
 length-placed : (layer : ℕ) (places : List (Option ℕ)) (objects : List ObjectId) → length (placed layer places objects) ≡ length places

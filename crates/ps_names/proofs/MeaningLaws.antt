@@ -5,8 +5,8 @@ use Rattle.std.proofs.Math.Seq.{drop-cons}
 use Rattle.std.specs.Prelude.{option_and_then, slice_get}
 use Rattle.ps_model.specs.declared.texts.Joiner.{Joiner}
 use Rattle.ps_model.specs.declared.texts.Joiner.TheVariants.{Alone, And, Or}
-use Rattle.ps_model.specs.Names.{Meaning}
-use Rattle.ps_model.specs.Meanings.{LegendName, Mention, OfObject, OfLine, meaning_by, meaning_behind}
+use Rattle.ps_model.specs.names.Names.{Meaning}
+use Rattle.ps_model.specs.names.Meanings.{LegendName, Mention, OfObject, OfLine, meaning_by, meaning_behind}
 use Rattle.ps_names.specs.MeaningSteps.{alone, behind_synonym, joined_meaning, joined_at, joined_meanings, meaning_at}
 
 by_joiner : (legend : List LegendName) (of_mention : Mention → Option Meaning) (joiner : Joiner) (name : LegendName) (next : Mention) → alone joiner name.mentions ≡ Some next

@@ -4,7 +4,7 @@ use lib.Pointwise.{pointwise}
 use Rattle.std.proofs.lemmas.List.Folds.{list_any-append}
 use Rattle.std.proofs.lemmas.Bool.Decides.{nat_tests}
 use Rattle.ps_model.specs.declared.pieces.ObjectId.{ObjectId}
-use Rattle.ps_model.specs.Names.{is_among, same_object}
+use Rattle.ps_model.specs.names.Names.{is_among, same_object}
 use Rattle.ps_names.specs.Flattened.{merged}
 use Rattle.ps_names.proofs.LevelLaws.{first, second}
 

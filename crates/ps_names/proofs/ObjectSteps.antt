@@ -2,9 +2,9 @@
 use Rattle.std.proofs.Common.{◌≡◌, ℕ, suc, ◌+◌, ◌-◌, ◌<◌, true, false, List, [], ◌∷◌, ◌++◌, length, drop, take, get_or, sym, ap, ◌∙◌, arith, append_assoc}
 use Rattle.std.specs.List.{prefix_len}
 use Rattle.std.proofs.Math.Seq.{drop-cons}
-use Rattle.ps_model.specs.LineNumbers.{line_at}
-use Rattle.ps_model.specs.ObjectLines.{ObjectText, is_sprite_row, lines_below, objects_below}
-use Rattle.ps_model.specs.Lines.{is_blank_line, plain_words}
+use Rattle.ps_model.specs.text.LineNumbers.{line_at}
+use Rattle.ps_model.specs.names.ObjectLines.{ObjectText, is_sprite_row, lines_below, objects_below}
+use Rattle.ps_model.specs.text.Lines.{is_blank_line, plain_words}
 use Rattle.ps_names.specs.LinesThere.{lines_at}
 
 -- the rows of a sprite that has so many, where these lines are left

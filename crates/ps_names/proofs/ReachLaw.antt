@@ -9,8 +9,8 @@ use Rattle.std.proofs.lemmas.List.Folds.{list_any-append}
 use Rattle.std.proofs.lemmas.Option.{slice_get_past}
 use Rattle.std.proofs.lemmas.Bool.Decides.{nat_tests}
 use Rattle.ps_model.specs.declared.pieces.ObjectId.{ObjectId}
-use Rattle.ps_model.specs.Names.{is_among, same_object}
-use Rattle.ps_model.specs.Meanings.{LegendName, Mention, OfObject, OfLine, same_mention, mentions_of, mentions_of_name, with_mentioned, object_of, all_mentioned, mention_count}
+use Rattle.ps_model.specs.names.Names.{is_among, same_object}
+use Rattle.ps_model.specs.names.Meanings.{LegendName, Mention, OfObject, OfLine, same_mention, mentions_of, mentions_of_name, with_mentioned, object_of, all_mentioned, mention_count}
 use Rattle.std.proofs.lemmas.List.{length-map}
 use Rattle.ps_names.specs.declared.legend_names.LegendName as code
 use Rattle.ps_names.specs.declared.mention.Mention.{Mention as Waits}

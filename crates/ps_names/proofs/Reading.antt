@@ -3,15 +3,15 @@ use Rattle.std.proofs.Common.{suc, ◌+◌, ◌∷◌, filter_map, ◌≡◌, �
 use Rattle.std.specs.List.{enumerate_from}
 use Rattle.std.proofs.lemmas.List.{length-map}
 use Rattle.ps_model.specs.declared.faults.Fault.{Fault}
-use Rattle.ps_model.specs.Names.{Meaning, Names, Glyph}
-use Rattle.ps_model.specs.WrittenLines.{WrittenLine}
-use Rattle.ps_model.specs.ObjectLines.{ObjectText, object_names}
-use Rattle.ps_model.specs.LegendLines.{declarations}
-use Rattle.ps_model.specs.Meanings.{LegendName, OfLine, legend_meanings, legend_name, known_names, meaning_behind}
-use Rattle.ps_model.specs.LayerLines.{Layer, layers_of_lines, layers_found}
-use Rattle.ps_model.specs.DeclarationFaults.{layer_faults}
-use Rattle.ps_model.specs.NamesRead.{sections_of, names_of, layer_numbers, entries_of, glyph_of}
-use Rattle.ps_model.specs.NameFaults.{faults_of_sections}
+use Rattle.ps_model.specs.names.Names.{Meaning, Names, Glyph}
+use Rattle.ps_model.specs.text.WrittenLines.{WrittenLine}
+use Rattle.ps_model.specs.names.ObjectLines.{ObjectText, object_names}
+use Rattle.ps_model.specs.names.LegendLines.{declarations}
+use Rattle.ps_model.specs.names.Meanings.{LegendName, OfLine, legend_meanings, legend_name, known_names, meaning_behind}
+use Rattle.ps_model.specs.names.LayerLines.{Layer, layers_of_lines, layers_found}
+use Rattle.ps_model.specs.names.DeclarationFaults.{layer_faults}
+use Rattle.ps_model.specs.names.NamesRead.{sections_of, names_of, layer_numbers, entries_of, glyph_of}
+use Rattle.ps_model.specs.names.NameFaults.{faults_of_sections}
 use Rattle.ps_names.specs.Known.{Named}
 use Rattle.ps_names.specs.Tables.{entries_with, with_meanings, glyph_named}
 use Rattle.ps_names.specs.Sections.{known_of, legend_of, declaring_faults, faults_of_whole}

@@ -5,13 +5,13 @@ use Rattle.std.specs.Option.{option_or}
 use Rattle.std.proofs.lemmas.List.{map-append}
 use Rattle.ps_model.specs.declared.faults.Fault.{Fault}
 use Rattle.ps_model.specs.declared.pieces.ObjectId.{ObjectId}
-use Rattle.ps_model.specs.Faults.{first_fault}
-use Rattle.ps_model.specs.Lines.{folded}
-use Rattle.ps_model.specs.WrittenLines.{WrittenLine}
-use Rattle.ps_model.specs.ObjectLines.{ObjectText, object_names, names_of_object, name_of}
-use Rattle.ps_model.specs.LegendLines.{Declaration, declarations}
-use Rattle.ps_model.specs.Meanings.{known_names, object_mention, line_mention}
-use Rattle.ps_model.specs.NameFaults.{folded_names}
+use Rattle.ps_model.specs.text.Faults.{first_fault}
+use Rattle.ps_model.specs.text.Lines.{folded}
+use Rattle.ps_model.specs.text.WrittenLines.{WrittenLine}
+use Rattle.ps_model.specs.names.ObjectLines.{ObjectText, object_names, names_of_object, name_of}
+use Rattle.ps_model.specs.names.LegendLines.{Declaration, declarations}
+use Rattle.ps_model.specs.names.Meanings.{known_names, object_mention, line_mention}
+use Rattle.ps_model.specs.names.NameFaults.{folded_names}
 use Rattle.ps_names.specs.Known.{keys, mention_of, mentions_of_names, named_object}
 use Rattle.ps_names.specs.LegendShown.{named_line}
 use Rattle.ps_names.specs.Sections.{known_of}

@@ -5,13 +5,13 @@ use Rattle.std.specs.List.{enumerate_from, filter_map, cons_option, zip}
 use Rattle.std.proofs.lemmas.List.{map-append}
 use Rattle.std.proofs.lemmas.List.Elements.{filter_map-append}
 use Rattle.ps_model.specs.declared.pieces.ObjectId.{ObjectId}
-use Rattle.ps_model.specs.Names.{Meaning, One}
-use Rattle.ps_model.specs.WrittenLines.{WrittenLine}
-use Rattle.ps_model.specs.Lines.{folded}
-use Rattle.ps_model.specs.ObjectLines.{ObjectText, object_names, one_character}
-use Rattle.ps_model.specs.LegendLines.{Declaration, declarations}
-use Rattle.ps_model.specs.Meanings.{LegendName, Mention, OfObject, OfLine, legend_name, known_names}
-use Rattle.ps_model.specs.NamesRead.{Declared, object_declared, legend_declared, all_declared, entry_of, entries_of, glyph_of}
+use Rattle.ps_model.specs.names.Names.{Meaning, One}
+use Rattle.ps_model.specs.text.WrittenLines.{WrittenLine}
+use Rattle.ps_model.specs.text.Lines.{folded}
+use Rattle.ps_model.specs.names.ObjectLines.{ObjectText, object_names, one_character}
+use Rattle.ps_model.specs.names.LegendLines.{Declaration, declarations}
+use Rattle.ps_model.specs.names.Meanings.{LegendName, Mention, OfObject, OfLine, legend_name, known_names}
+use Rattle.ps_model.specs.names.NamesRead.{Declared, object_declared, legend_declared, all_declared, entry_of, entries_of, glyph_of}
 use Rattle.ps_names.specs.Known.{Named, named_object}
 use Rattle.ps_names.specs.LegendShown.{named_line}
 use Rattle.ps_names.specs.Tables.{with_meaning, with_meanings, entry_with, entries_with, glyph_named}

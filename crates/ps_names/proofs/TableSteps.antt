@@ -9,8 +9,8 @@ use Rattle.std.specs.List.{zip, filter_map, cons_option}
 use Rattle.std.specs.Str.{bytes_eq}
 use Rattle.std.specs.Map.{lookup}
 use Rattle.std.specs.Prelude.{option_to_list, option_and_then}
-use Rattle.ps_model.specs.NamesRead.{glyph_with}
-use Rattle.ps_model.specs.Names.{Meaning, Glyph}
+use Rattle.ps_model.specs.names.NamesRead.{glyph_with}
+use Rattle.ps_model.specs.names.Names.{Meaning, Glyph}
 use Rattle.ps_names.specs.Known.{Named, keys}
 use Rattle.ps_names.specs.Tables.{entry_with, entries_with, glyph_named}
 

@@ -5,12 +5,12 @@ use Rattle.std.specs.Option.{is_none}
 use Rattle.std.specs.Str.{bytes_eq}
 use Rattle.std.proofs.lemmas.Bool.Decides.{nat_tests}
 use Rattle.ps_model.specs.declared.faults.FaultKind.{FaultKind}
-use Rattle.ps_model.specs.Faults.{first_fault}
-use Rattle.ps_model.specs.Lines.{folded}
-use Rattle.ps_model.specs.Names.{Meaning}
-use Rattle.ps_model.specs.ObjectLines.{ObjectText}
-use Rattle.ps_model.specs.Meanings.{LegendName}
-use Rattle.ps_model.specs.NameFaults.{shares_layer}
+use Rattle.ps_model.specs.text.Faults.{first_fault}
+use Rattle.ps_model.specs.text.Lines.{folded}
+use Rattle.ps_model.specs.names.Names.{Meaning}
+use Rattle.ps_model.specs.names.ObjectLines.{ObjectText}
+use Rattle.ps_model.specs.names.Meanings.{LegendName}
+use Rattle.ps_model.specs.names.NameFaults.{shares_layer}
 use Rattle.ps_names.specs.Wholes.{no_layers, declares, lines_of_name, faults_of_lines, shared_layers}
 
 eq-sym : (x y : ℕ) (a b : Bool) → nat_eq x y ≡ a → nat_eq y x ≡ b → a ≡ b

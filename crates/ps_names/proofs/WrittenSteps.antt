@@ -2,9 +2,9 @@
 use Rattle.std.proofs.Common.{◌≡◌, ℕ, suc, ◌<◌, Bool, true, false, List, [], ◌∷◌, ◌++◌, length, drop, get_or, refl, append_assoc}
 use Rattle.std.proofs.Math.Seq.{drop-cons}
 use Rattle.ps_model.specs.declared.texts.Cut.{Cut}
-use Rattle.ps_model.specs.Lines.{Line, is_blank_line}
-use Rattle.ps_model.specs.LineNumbers.{line_at}
-use Rattle.ps_model.specs.WrittenLines.{WrittenLine, written_lines}
+use Rattle.ps_model.specs.text.Lines.{Line, is_blank_line}
+use Rattle.ps_model.specs.text.LineNumbers.{line_at}
+use Rattle.ps_model.specs.text.WrittenLines.{WrittenLine, written_lines}
 use Rattle.ps_names.specs.LinesThere.{lines_at}
 
 split_by : (cut : Cut) (line : Line) (others : List Line) (blank : Bool) → is_blank_line line ≡ blank

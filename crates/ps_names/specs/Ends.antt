@@ -1,6 +1,6 @@
 -- Where the synonyms behind a mention end.
 use Rattle.std.specs.Prelude.{ℕ, ◌+◌, ◌≡◌, ⊤, None, List, slice_index_or}
-use Rattle.ps_model.specs.Meanings.{LegendName, Mention, OfLine, meaning_behind}
+use Rattle.ps_model.specs.names.Meanings.{LegendName, Mention, OfLine, meaning_behind}
 use Rattle.ps_names.specs.declared.ends.End.{End}
 use Rattle.ps_names.specs.declared.ends.End.TheVariants.{Unknown, Never, At}
 use Rattle.ps_names.specs.Known.{mention_shown}

@@ -2,8 +2,8 @@
 use Rattle.std.specs.Prelude.{ℕ, suc, ◌+◌, true, false, cond, List, [], ◌∷◌, ◌++◌, ◌≡◌, length, slice_index_or}
 use Rattle.std.specs.List.{list_any, flat_map}
 use Rattle.ps_model.specs.declared.pieces.ObjectId.{ObjectId}
-use Rattle.ps_model.specs.Names.{is_among}
-use Rattle.ps_model.specs.Meanings.{LegendName, Mention, OfObject, OfLine, same_mention, mentions_of}
+use Rattle.ps_model.specs.names.Names.{is_among}
+use Rattle.ps_model.specs.names.Meanings.{LegendName, Mention, OfObject, OfLine, same_mention, mentions_of}
 use Rattle.ps_names.specs.Levels.{level, are_below}
 
 -- objects, and behind them those of others that aren't among them yet

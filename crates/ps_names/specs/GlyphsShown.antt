@@ -1,6 +1,6 @@
 -- The glyphs of the code as the glyphs of the definitions.
 use Rattle.std.specs.Prelude.{List, map}
-use Rattle.ps_model.specs.Names as model
+use Rattle.ps_model.specs.names.Names as model
 use Rattle.ps_names.specs.declared.glyphs.Glyph.{Glyph}
 use Rattle.ps_names.specs.Shown.{meaning_shown}
 

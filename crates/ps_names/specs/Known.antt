@@ -2,9 +2,9 @@
 use Rattle.std.specs.Prelude.{ℕ, List, Option, String, string_bytes, map}
 use Rattle.std.specs.Global.{Global}
 use Rattle.ps_model.specs.declared.pieces.ObjectId.{ObjectId}
-use Rattle.ps_model.specs.Lines.{folded}
-use Rattle.ps_model.specs.ObjectLines.{one_character}
-use Rattle.ps_model.specs.Meanings as model
+use Rattle.ps_model.specs.text.Lines.{folded}
+use Rattle.ps_model.specs.names.ObjectLines.{one_character}
+use Rattle.ps_model.specs.names.Meanings as model
 use Rattle.ps_names.specs.declared.mention.Mention.{Mention}
 use Rattle.ps_names.specs.declared.mention.Mention.TheVariants.{Object, Line}
 use Rattle.ps_names.specs.declared.known.Entry.{Entry}

@@ -3,10 +3,10 @@ use Rattle.std.specs.Prelude.{ℕ, suc, List, [], ◌∷◌, Option, Some, map, 
 use Rattle.std.specs.Str.{bytes_eq}
 use Rattle.std.specs.Map.{lookup}
 use Rattle.ps_model.specs.declared.pieces.ObjectId.{ObjectId}
-use Rattle.ps_model.specs.Lines.{folded}
-use Rattle.ps_model.specs.Names as model
-use Rattle.ps_model.specs.LayerLines as layers
-use Rattle.ps_model.specs.WrittenLines.{WrittenLine}
+use Rattle.ps_model.specs.text.Lines.{folded}
+use Rattle.ps_model.specs.names.Names as model
+use Rattle.ps_model.specs.names.LayerLines as layers
+use Rattle.ps_model.specs.text.WrittenLines.{WrittenLine}
 use Rattle.ps_names.specs.declared.layers.Layer.{Layer}
 use Rattle.ps_names.specs.Shown.{meaning_shown}
 use Rattle.ps_names.specs.Known.{Named}

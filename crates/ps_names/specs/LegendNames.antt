@@ -3,10 +3,10 @@ use Rattle.std.specs.Prelude.{ℕ, zero, suc, Bool, true, false, Option, List, [
 use Rattle.std.specs.Str.{bytes_eq}
 use Rattle.std.specs.Map.{lookup}
 use Rattle.ps_model.specs.declared.pieces.ObjectId.{ObjectId}
-use Rattle.ps_model.specs.Lines.{folded}
-use Rattle.ps_model.specs.Names.{is_among}
-use Rattle.ps_model.specs.Meanings as model
-use Rattle.ps_model.specs.Meanings.{OfObject, OfLine, mentions_of}
+use Rattle.ps_model.specs.text.Lines.{folded}
+use Rattle.ps_model.specs.names.Names.{is_among}
+use Rattle.ps_model.specs.names.Meanings as model
+use Rattle.ps_model.specs.names.Meanings.{OfObject, OfLine, mentions_of}
 use Rattle.ps_names.specs.declared.legend_names.LegendName.{LegendName}
 use Rattle.ps_names.specs.declared.reach.Reach as code
 use Rattle.ps_names.specs.Known.{Named, mentions_of_names, mentions_shown}

@@ -1,7 +1,7 @@
 -- The legend lines of the code as those of the definitions.
 use Rattle.std.specs.Prelude.{ℕ, ◌++◌, List, Option, option_map, map}
-use Rattle.ps_model.specs.LegendLines as model
-use Rattle.ps_model.specs.Meanings as meanings
+use Rattle.ps_model.specs.names.LegendLines as model
+use Rattle.ps_model.specs.names.Meanings as meanings
 use Rattle.ps_names.specs.declared.legend.RightSide.{RightSide}
 use Rattle.ps_names.specs.declared.legend.Declaration.{Declaration}
 use Rattle.ps_names.specs.Known.{Named, named_as}

@@ -1,7 +1,7 @@
 -- Levels of the legend lines: a line mentions none of a higher level.
 use Rattle.std.specs.Prelude.{ℕ, ◌+◌, ◌≡◌, nat_lt, Bool, true, List, slice_index_or}
 use Rattle.std.specs.List.{list_all}
-use Rattle.ps_model.specs.Meanings.{LegendName, Mention, OfObject, OfLine, mentions_of}
+use Rattle.ps_model.specs.names.Meanings.{LegendName, Mention, OfObject, OfLine, mentions_of}
 
 -- the level of the line of a place
 abbrev pub level : List ℕ → ℕ → ℕ

@@ -1,9 +1,9 @@
 -- The lines of the code as the lines of the definitions.
 use Rattle.std.specs.Prelude.{ℕ, List, ◌≡◌, map}
 use Rattle.ps_model.specs.declared.texts.Cut.{Cut}
-use Rattle.ps_model.specs.WrittenLines as model
-use Rattle.ps_model.specs.ObjectLines as objects
-use Rattle.ps_model.specs.Words.{word_texts}
+use Rattle.ps_model.specs.text.WrittenLines as model
+use Rattle.ps_model.specs.names.ObjectLines as objects
+use Rattle.ps_model.specs.text.Words.{word_texts}
 use Rattle.ps_text.specs.WordViews.{text_of, texts_under}
 use Rattle.ps_names.specs.declared.lines.WrittenLine.{WrittenLine}
 use Rattle.ps_names.specs.declared.objects.ObjectText.{ObjectText}

@@ -1,7 +1,7 @@
 -- The lines of numbers.
 use Rattle.std.specs.Prelude.{ℕ, ◌≤◌, List, length, map}
-use Rattle.ps_model.specs.Lines.{Line, lines_of}
-use Rattle.ps_model.specs.LineNumbers.{line_at}
+use Rattle.ps_model.specs.text.Lines.{Line, lines_of}
+use Rattle.ps_model.specs.text.LineNumbers.{line_at}
 
 -- the text has a line of that number
 abbrev pub IsLine : List ℕ → ℕ → Type 0

@@ -3,9 +3,9 @@ use Rattle.std.specs.Prelude.{ℕ, Option, None, Some, option_map, option_and_th
 use Rattle.ps_model.specs.declared.texts.Joiner.{Joiner}
 use Rattle.ps_model.specs.declared.texts.Joiner.TheVariants.{Alone, And, Or}
 use Rattle.ps_model.specs.declared.faults.Fault.{Fault}
-use Rattle.ps_model.specs.Names as model
-use Rattle.ps_model.specs.Meanings.{LegendName, Mention, OfObject, OfLine, objects_of, meaning_behind, meaning_of_mention}
-use Rattle.ps_model.specs.DeclarationFaults.{faults_of_legend_name}
+use Rattle.ps_model.specs.names.Names as model
+use Rattle.ps_model.specs.names.Meanings.{LegendName, Mention, OfObject, OfLine, objects_of, meaning_behind, meaning_of_mention}
+use Rattle.ps_model.specs.names.DeclarationFaults.{faults_of_legend_name}
 use Rattle.ps_names.specs.declared.meaning.Meaning.{Meaning}
 use Rattle.ps_names.specs.Shown.{meaning_shown}
 

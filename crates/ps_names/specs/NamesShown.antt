@@ -1,6 +1,6 @@
 -- The names as the code keeps them as those of the definitions.
 use Rattle.std.specs.Prelude.{ℕ, List, Option}
-use Rattle.ps_model.specs.Names as model
+use Rattle.ps_model.specs.names.Names as model
 use Rattle.ps_names.specs.declared.glyphs.Glyph.{Glyph}
 use Rattle.ps_names.specs.GlyphsShown.{glyphs_shown}
 use Rattle.ps_names.specs.Known.{Named}

@@ -6,13 +6,13 @@ use Rattle.std.specs.Map.{lookup}
 use Rattle.std.specs.Prelude.{codes}
 use Rattle.ps_model.specs.declared.faults.Fault.{Fault}
 use Rattle.ps_model.specs.declared.faults.FaultKind.TheVariants.{BadBackground, BadPlayer}
-use Rattle.ps_model.specs.Names.{Meaning}
-use Rattle.ps_model.specs.WrittenLines.{WrittenLine}
-use Rattle.ps_model.specs.ObjectLines.{ObjectText, object_names}
-use Rattle.ps_model.specs.LegendLines.{declarations}
-use Rattle.ps_model.specs.Meanings.{LegendName, legend_names, legend_meanings, is_aggregate}
-use Rattle.ps_model.specs.DeclarationFaults.{object_faults, form_faults, naming_faults}
-use Rattle.ps_model.specs.NameFaults.{folded_names, is_bad_background}
+use Rattle.ps_model.specs.names.Names.{Meaning}
+use Rattle.ps_model.specs.text.WrittenLines.{WrittenLine}
+use Rattle.ps_model.specs.names.ObjectLines.{ObjectText, object_names}
+use Rattle.ps_model.specs.names.LegendLines.{declarations}
+use Rattle.ps_model.specs.names.Meanings.{LegendName, legend_names, legend_meanings, is_aggregate}
+use Rattle.ps_model.specs.names.DeclarationFaults.{object_faults, form_faults, naming_faults}
+use Rattle.ps_model.specs.names.NameFaults.{folded_names, is_bad_background}
 use Rattle.ps_names.specs.Known.{Named, named_object}
 use Rattle.ps_names.specs.LegendShown.{named_line}
 use Rattle.ps_names.specs.Wholes.{no_layers, missing, faults_of_lines, lines_of_name, shared_layers}

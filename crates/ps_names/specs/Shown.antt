@@ -1,5 +1,5 @@
 -- The meanings of the code as the meanings of the definitions.
-use Rattle.ps_model.specs.Names as model
+use Rattle.ps_model.specs.names.Names as model
 use Rattle.ps_names.specs.declared.meaning.Meaning.{Meaning}
 use Rattle.ps_names.specs.declared.meaning.Meaning.TheVariants.{One, All, Any}
 

@@ -1,8 +1,8 @@
 -- The table of names with what they stand for.
 use Rattle.std.specs.Prelude.{ℕ, List, Option, option_map, option_and_then, map, filter_map}
-use Rattle.ps_model.specs.Names.{Meaning, Glyph}
-use Rattle.ps_model.specs.Meanings.{meaning_of_mention}
-use Rattle.ps_model.specs.NamesRead.{glyph_with}
+use Rattle.ps_model.specs.names.Names.{Meaning, Glyph}
+use Rattle.ps_model.specs.names.Meanings.{meaning_of_mention}
+use Rattle.ps_model.specs.names.NamesRead.{glyph_with}
 use Rattle.ps_names.specs.declared.known.KnownName.{KnownName}
 use Rattle.ps_names.specs.Known.{Named, mention_shown}
 

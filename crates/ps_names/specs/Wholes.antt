@@ -7,12 +7,12 @@ use Rattle.std.specs.Map.{lookup}
 use Rattle.ps_model.specs.declared.faults.Fault.{Fault}
 use Rattle.ps_model.specs.declared.faults.FaultKind.{FaultKind}
 use Rattle.ps_model.specs.declared.faults.FaultKind.TheVariants.{NoLayer, NoBackground, NoPlayer, SameLayerAggregate}
-use Rattle.ps_model.specs.Faults.{when}
-use Rattle.ps_model.specs.Lines.{folded}
-use Rattle.ps_model.specs.Names.{Meaning}
-use Rattle.ps_model.specs.ObjectLines.{ObjectText}
-use Rattle.ps_model.specs.Meanings.{LegendName}
-use Rattle.ps_model.specs.NameFaults.{shares_layer}
+use Rattle.ps_model.specs.text.Faults.{when}
+use Rattle.ps_model.specs.text.Lines.{folded}
+use Rattle.ps_model.specs.names.Names.{Meaning}
+use Rattle.ps_model.specs.names.ObjectLines.{ObjectText}
+use Rattle.ps_model.specs.names.Meanings.{LegendName}
+use Rattle.ps_model.specs.names.NameFaults.{shares_layer}
 
 -- an object without a layer
 abbrev pub no_layer_at : ObjectText × Option ℕ → List Fault

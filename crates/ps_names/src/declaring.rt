@@ -2,11 +2,11 @@
 
 ghost use Rattle.std.specs.Prelude.{◌≡◌, ◌≤◌, ◌++◌, [], None, Some, IfOk, OnOk, IfErr, length, map};
 ghost use Rattle.ps_model.specs.declared.faults.Fault.{Fault as TheFault};
-ghost use Rattle.ps_model.specs.DeclarationFaults.{object_faults, naming_faults};
-ghost use Rattle.ps_model.specs.Faults.{first_fault};
-ghost use Rattle.ps_model.specs.Limits.{object_limit};
-ghost use Rattle.ps_model.specs.Meanings.{legend_name, legend_meanings};
-ghost use Rattle.ps_model.specs.ObjectLines.{object_names};
+ghost use Rattle.ps_model.specs.names.DeclarationFaults.{object_faults, naming_faults};
+ghost use Rattle.ps_model.specs.text.Faults.{first_fault};
+ghost use Rattle.ps_model.specs.declared.limits.TheConstants.{OBJECT_LIMIT};
+ghost use Rattle.ps_model.specs.names.Meanings.{legend_name, legend_meanings};
+ghost use Rattle.ps_model.specs.names.ObjectLines.{object_names};
 ghost use Rattle.ps_names.specs.Known.{named_object, mentions_of_names};
 ghost use Rattle.ps_names.specs.LegendNames.{legend_shown};
 ghost use Rattle.ps_names.specs.LegendShown.{declarations_shown};
@@ -47,7 +47,7 @@ pub fn refuse(fault: Option<Fault>) -> Result<(), NameFault>
 /// Declares the names of the objects. `Refused`: the lines of OBJECTS have a fault.
 pub fn known_objects(alloc: Global, objects: &[ObjectText<'_>]) -> Result<Known, NameFault>
     ensures part { IfOk result (λ known. known ≡ map named_object (object_names (objects_shown objects.now))) }
-    ensures few { OnOk result (length objects.now ≤ object_limit) }
+    ensures few { OnOk result (length objects.now ≤ OBJECT_LIMIT) }
     ensures fine { OnOk result (object_faults 0 [] (objects_shown objects.now) ≡ []) }
     ensures refused { IfErr result (λ e. (fault : TheFault) → e ≡ NameFault.Refused fault → first_fault (object_faults 0 [] (objects_shown objects.now)) ≡ Some fault) }
 {

@@ -1,7 +1,7 @@
 //! Where the synonyms of the legend end.
 
 ghost use Rattle.std.specs.Prelude.{◌≡◌, ◌+◌, Some, None, IfOk, slice_set, slice_index_or, option_map, List};
-ghost use Rattle.ps_model.specs.Meanings as model;
+ghost use Rattle.ps_model.specs.names.Meanings as model;
 ghost use Rattle.ps_names.specs.Known.{mention_shown};
 ghost use Rattle.ps_names.specs.LegendNames.{legend_shown};
 ghost use Rattle.ps_names.specs.MeaningSteps.{behind_synonym};

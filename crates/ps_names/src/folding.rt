@@ -2,7 +2,7 @@
 
 ghost use Rattle.std.specs.Prelude.{◌≡◌, IsTrue};
 ghost use Rattle.std.specs.Str.{bytes_eq};
-ghost use Rattle.ps_model.specs.Lines.{folded};
+ghost use Rattle.ps_model.specs.text.Lines.{folded};
 
 /// Whether a name as it is written, its letters folded, is the name given.
 pub fn folds_to(written: &str, name: &str) -> bool

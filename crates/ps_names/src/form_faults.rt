@@ -3,10 +3,10 @@
 ghost use Rattle.std.specs.Prelude.{◌≡◌, ◌≤◌, ◌++◌, ◌∷◌, [], Some, false, IfOk, OnOk, IfErr, length, map, option_map, option_to_list};
 ghost use Rattle.std.specs.List.{enumerate_from};
 ghost use Rattle.ps_model.specs.declared.faults.Fault.{Fault as TheFault};
-ghost use Rattle.ps_model.specs.DeclarationFaults.{are_declared_again, faults_of_form, form_faults};
-ghost use Rattle.ps_model.specs.Faults.{first_fault};
-ghost use Rattle.ps_model.specs.LegendLines.{declared_by, declarations};
-ghost use Rattle.ps_model.specs.Meanings.{OfLine};
+ghost use Rattle.ps_model.specs.names.DeclarationFaults.{are_declared_again, faults_of_form, form_faults};
+ghost use Rattle.ps_model.specs.text.Faults.{first_fault};
+ghost use Rattle.ps_model.specs.names.LegendLines.{declared_by, declarations};
+ghost use Rattle.ps_model.specs.names.Meanings.{OfLine};
 ghost use Rattle.ps_names.specs.Known.{keys, named_as, mention_shown};
 ghost use Rattle.ps_names.specs.LegendShown.{declaration_shown, declarations_shown, named_line};
 ghost use Rattle.ps_names.specs.LinesShown.{line_shown, lines_shown};

@@ -1,7 +1,7 @@
 //! The characters that show objects in a level and in a frame.
 
 ghost use Rattle.std.specs.Prelude.{◌≡◌, ◌++◌, IfOk, OnOk, option_map, option_to_list, option_and_then, Some};
-ghost use Rattle.ps_model.specs.NamesRead.{glyph_with};
+ghost use Rattle.ps_model.specs.names.NamesRead.{glyph_with};
 ghost use Rattle.ps_names.specs.GlyphsShown.{glyph_shown, glyphs_shown};
 ghost use Rattle.ps_names.specs.Shown.{meaning_shown};
 

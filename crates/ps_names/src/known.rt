@@ -4,9 +4,9 @@ ghost use Rattle.std.specs.Prelude.{◌≡◌, ◌++◌, ◌∷◌, [], true, fa
 ghost use Rattle.std.specs.Str.{bytes_eq};
 ghost use Rattle.std.specs.List.{list_any};
 ghost use Rattle.std.specs.Map.{lookup};
-ghost use Rattle.ps_model.specs.Lines.{folded};
-ghost use Rattle.ps_model.specs.ObjectLines.{one_character};
-ghost use Rattle.ps_model.specs.DeclarationFaults.{are_declared_again};
+ghost use Rattle.ps_model.specs.text.Lines.{folded};
+ghost use Rattle.ps_model.specs.names.ObjectLines.{one_character};
+ghost use Rattle.ps_model.specs.names.DeclarationFaults.{are_declared_again};
 ghost use Rattle.ps_text.specs.WordViews.{text_of};
 ghost use Rattle.ps_names.specs.Known.{Named, keys, mention_shown, mentions_of_names, named_as};
 ghost use Rattle.ps_names.specs.Tables.{known_name_shown};

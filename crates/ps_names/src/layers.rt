@@ -5,13 +5,13 @@ ghost use Rattle.std.specs.List.{list_any};
 ghost use Rattle.std.specs.Option.{is_none};
 ghost use Rattle.std.specs.Str.{bytes_eq};
 ghost use Rattle.std.specs.Map.{lookup};
-ghost use Rattle.ps_model.specs.DeclarationFaults.{faults_of_layer, layer_faults};
-ghost use Rattle.ps_model.specs.Faults.{first_fault};
-ghost use Rattle.ps_model.specs.LayerLines.{layers_of_lines, objects_named, layers_found};
-ghost use Rattle.ps_model.specs.Limits.{layer_limit};
-ghost use Rattle.ps_model.specs.Lines.{folded};
-ghost use Rattle.ps_model.specs.Meanings.{is_aggregate};
-ghost use Rattle.ps_model.specs.Names.{members_if};
+ghost use Rattle.ps_model.specs.names.DeclarationFaults.{faults_of_layer, layer_faults};
+ghost use Rattle.ps_model.specs.text.Faults.{first_fault};
+ghost use Rattle.ps_model.specs.names.LayerLines.{layers_of_lines, objects_named, layers_found};
+ghost use Rattle.ps_model.specs.declared.limits.TheConstants.{LAYER_LIMIT};
+ghost use Rattle.ps_model.specs.text.Lines.{folded};
+ghost use Rattle.ps_model.specs.names.Meanings.{is_aggregate};
+ghost use Rattle.ps_model.specs.names.Names.{members_if};
 ghost use Rattle.ps_text.specs.WordViews.{text_of};
 ghost use Rattle.ps_names.specs.LayersShown.{named_by, layer_over, layer_shown, layers_shown, placed, placed_each};
 ghost use Rattle.ps_names.specs.LinesShown.{line_shown, lines_shown};
@@ -146,7 +146,7 @@ fn fault_of_layer(number: u32, layer: &Layer<'_>) -> Option<Fault>
 /// The first fault of the lines of COLLISIONLAYERS.
 pub fn fault_of_layers(layers: &[Layer<'_>]) -> Option<Fault>
     ensures fault { result ≡ first_fault (layer_faults (layers_shown layers.now)) }
-    ensures few { result ≡ None → length layers.now ≤ layer_limit }
+    ensures few { result ≡ None → length layers.now ≤ LAYER_LIMIT }
 {
     for number in 0..layers.len() {
         let fault = fault_of_layer(number as u32, &layers[number]);
@@ -204,7 +204,7 @@ pub fn layers_found(
     count: usize,
     layers: &[Layer<'_>],
 ) -> Result<Vec<Option<u32>>, Memory>
-    requires few { length layers.now ≤ layer_limit }
+    requires few { length layers.now ≤ LAYER_LIMIT }
     ensures { IfOk result (λ places. places.items ≡ layers_found count (layers_shown layers.now)) }
 {
     let mut places = Vec::from_elem(alloc, None, count)?;

@@ -2,7 +2,7 @@
 
 ghost use Rattle.std.specs.Prelude.{◌≡◌, IfOk, option_map, map};
 ghost use Rattle.std.specs.List.{list_any};
-ghost use Rattle.ps_model.specs.LegendLines.{has_key_word, is_mixed, is_sign, joined_by, right_side, name_declared, declared_by};
+ghost use Rattle.ps_model.specs.names.LegendLines.{has_key_word, is_mixed, is_sign, joined_by, right_side, name_declared, declared_by};
 ghost use Rattle.ps_text.specs.WordViews.{text_of};
 ghost use Rattle.ps_names.specs.LegendShown.{side_shown, declaration_shown};
 ghost use Rattle.ps_names.specs.LinesShown.{line_shown};

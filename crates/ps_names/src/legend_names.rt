@@ -4,8 +4,8 @@ ghost use Rattle.std.specs.Prelude.{◌≡◌, ◌++◌, IfOk, OnOk, map, length
 ghost use Rattle.std.specs.List.{list_all};
 ghost use Rattle.std.specs.Str.{bytes_eq};
 ghost use Rattle.std.specs.Map.{lookup};
-ghost use Rattle.ps_model.specs.Lines.{folded};
-ghost use Rattle.ps_model.specs.Meanings.{legend_name};
+ghost use Rattle.ps_model.specs.text.Lines.{folded};
+ghost use Rattle.ps_model.specs.names.Meanings.{legend_name};
 ghost use Rattle.ps_names.specs.Known.{mention_shown, mentions_shown, mentions_of_names};
 ghost use Rattle.ps_names.specs.LegendShown.{declaration_shown, declarations_shown};
 ghost use Rattle.ps_names.specs.LegendNames.{found_among, name_shown, legend_shown};

@@ -1,12 +1,12 @@
 //! The lines of a section.
 
 ghost use Rattle.std.specs.Prelude.{◌≡◌, ◌≤◌, ◌+◌, ◌++◌, ◌∷◌, [], IfOk, OnOk, length, All};
-ghost use Rattle.ps_model.specs.LineNumbers.{line_at, lines_between};
-ghost use Rattle.ps_model.specs.Lines.{lines_of};
-ghost use Rattle.ps_model.specs.WrittenLines.{written_lines};
+ghost use Rattle.ps_model.specs.text.LineNumbers.{line_at, lines_between};
+ghost use Rattle.ps_model.specs.text.Lines.{lines_of};
+ghost use Rattle.ps_model.specs.text.WrittenLines.{written_lines};
 ghost use Rattle.ps_names.specs.LinesShown.{IsPlainCut, lines_shown};
 ghost use Rattle.ps_names.specs.LinesThere.{IsLine, lines_at};
-ghost use Rattle.ps_model.specs.LineNumbers.{here};
+ghost use Rattle.ps_model.specs.text.LineNumbers.{here};
 
 use ps_model::Memory;
 use ps_text::{Cut, Source, Word, words};

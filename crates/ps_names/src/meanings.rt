@@ -1,7 +1,7 @@
 //! What the names of LEGEND stand for.
 
 ghost use Rattle.std.specs.Prelude.{◌≡◌, ◌≤◌, ◌<◌, ◌-◌, None, Some, [], IfOk, length, option_map, ℕ, suc, slice_get, true};
-ghost use Rattle.ps_model.specs.Meanings.{objects_of, OfLine, meaning_behind, legend_meanings};
+ghost use Rattle.ps_model.specs.names.Meanings.{objects_of, OfLine, meaning_behind, legend_meanings};
 ghost use Rattle.ps_names.specs.Known.{mention_shown, mentions_shown};
 ghost use Rattle.ps_names.specs.LegendNames.{name_shown, legend_shown};
 ghost use Rattle.ps_names.specs.MeaningSteps.{meaning_shown_if, meanings_shown, alone, behind_synonym, joined_meaning, joined_meanings};

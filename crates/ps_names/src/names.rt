@@ -1,8 +1,8 @@
 //! The names of a game.
 
 ghost use Rattle.std.specs.Prelude.{◌≡◌, ◌<◌, length, option_map};
-ghost use Rattle.ps_model.specs.Names.{meaning_of, layer_of, object_count};
-ghost use Rattle.ps_model.specs.NameBounds.{AreBounded};
+ghost use Rattle.ps_model.specs.names.Names.{meaning_of, layer_of, object_count};
+ghost use Rattle.ps_model.specs.names.NameBounds.{AreBounded};
 ghost use Rattle.ps_names.specs.GlyphsShown.{glyphs_shown};
 ghost use Rattle.ps_names.specs.Shown.{meaning_shown};
 
@@ -23,8 +23,8 @@ pub struct Names {
 }
 
 impl Model for Names {
-    ghost use Rattle.ps_model.specs.Names.{Names as Meant};
-    ghost use Rattle.ps_model.specs.NameBounds.{AreBounded};
+    ghost use Rattle.ps_model.specs.names.Names.{Names as Meant};
+    ghost use Rattle.ps_model.specs.names.NameBounds.{AreBounded};
     ghost use Rattle.ps_names.specs.NamesShown.{names_shown};
 
     ghost Value = { Meant };

@@ -2,9 +2,9 @@
 
 ghost use Rattle.std.specs.Prelude.{◌≡◌, ◌≤◌, ◌<◌, None, IfOk, length, map, option_map, slice_index_or};
 ghost use Rattle.std.specs.List.{list_any};
-ghost use Rattle.ps_model.specs.DeclarationFaults.{puts_aggregate_in_property, puts_property_in_aggregate, naming_faults};
-ghost use Rattle.ps_model.specs.Faults.{first_fault};
-ghost use Rattle.ps_model.specs.Meanings.{is_aggregate, is_property, meaning_of_mention};
+ghost use Rattle.ps_model.specs.names.DeclarationFaults.{puts_aggregate_in_property, puts_property_in_aggregate, naming_faults};
+ghost use Rattle.ps_model.specs.text.Faults.{first_fault};
+ghost use Rattle.ps_model.specs.names.Meanings.{is_aggregate, is_property, meaning_of_mention};
 ghost use Rattle.ps_names.specs.Known.{mention_shown, mentions_shown};
 ghost use Rattle.ps_names.specs.LegendNames.{name_shown, legend_shown};
 ghost use Rattle.ps_names.specs.MeaningSteps.{meanings_shown, faults_at};

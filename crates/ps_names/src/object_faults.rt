@@ -1,10 +1,10 @@
 //! The faults of the lines of OBJECTS.
 
 ghost use Rattle.std.specs.Prelude.{◌≡◌, ◌≤◌, ◌++◌, None, IfOk, length, map};
-ghost use Rattle.ps_model.specs.DeclarationFaults.{is_bad_object, faults_of_object, object_faults};
-ghost use Rattle.ps_model.specs.Faults.{first_fault};
-ghost use Rattle.ps_model.specs.Limits.{object_limit};
-ghost use Rattle.ps_model.specs.ObjectLines.{names_well, is_whole, names_of_object, object_names};
+ghost use Rattle.ps_model.specs.names.DeclarationFaults.{is_bad_object, faults_of_object, object_faults};
+ghost use Rattle.ps_model.specs.text.Faults.{first_fault};
+ghost use Rattle.ps_model.specs.declared.limits.TheConstants.{OBJECT_LIMIT};
+ghost use Rattle.ps_model.specs.names.ObjectLines.{names_well, is_whole, names_of_object, object_names};
 ghost use Rattle.ps_text.specs.WordViews.{text_of};
 ghost use Rattle.ps_names.specs.Known.{keys, named_object};
 ghost use Rattle.ps_names.specs.LinesShown.{object_shown, objects_shown};
@@ -80,7 +80,7 @@ pub fn fault_of_objects(
 ) -> Result<Option<Fault>, Memory>
     ensures fault { IfOk result (λ fault. fault ≡ first_fault (object_faults 0 (keys known.old) (objects_shown objects.now))) }
     ensures known { IfOk result (λ fault. fault ≡ None → known.new ≡ known.old ++ map named_object (object_names (objects_shown objects.now))) }
-    ensures few { IfOk result (λ fault. fault ≡ None → length objects.now ≤ object_limit) }
+    ensures few { IfOk result (λ fault. fault ≡ None → length objects.now ≤ OBJECT_LIMIT) }
 {
     for number in 0..objects.len() {
         let fault = fault_of_object(alloc, known, number as u32, &objects[number])?;

@@ -1,9 +1,9 @@
 //! OBJECTS: which objects there are, and by which names.
 
 ghost use Rattle.std.specs.Prelude.{◌≡◌, ◌≤◌, ◌<◌, ◌++◌, ◌∷◌, [], IfOk, OnOk, length, All, drop};
-ghost use Rattle.ps_model.specs.LineNumbers.{line_at};
-ghost use Rattle.ps_model.specs.Lines.{lines_of};
-ghost use Rattle.ps_model.specs.ObjectLines.{is_sprite_byte, is_sprite_word, is_sprite_row, sprite_rows, lines_below, objects_below, object_texts};
+ghost use Rattle.ps_model.specs.text.LineNumbers.{line_at};
+ghost use Rattle.ps_model.specs.text.Lines.{lines_of};
+ghost use Rattle.ps_model.specs.names.ObjectLines.{is_sprite_byte, is_sprite_word, is_sprite_row, sprite_rows, lines_below, objects_below, object_texts};
 ghost use Rattle.ps_names.specs.LinesShown.{objects_shown};
 ghost use Rattle.ps_names.specs.LinesThere.{IsLine, lines_at};
 

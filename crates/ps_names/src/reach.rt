@@ -1,8 +1,8 @@
 //! What a name of the legend reaches: the objects and the legend lines that it mentions, itself or through other lines.
 
 ghost use Rattle.std.specs.Prelude.{◌≡◌, ◌≤◌, ◌<◌, ◌+◌, ◌++◌, ◌∷◌, [], IfOk, OnOk, map, length, reverse, slice_index_or, slice_set, replicate, false, true, ℕ};
-ghost use Rattle.ps_model.specs.Names.{is_among};
-ghost use Rattle.ps_model.specs.Meanings.{mentions_of, mention_count, is_on_cycle, objects_of};
+ghost use Rattle.ps_model.specs.names.Names.{is_among};
+ghost use Rattle.ps_model.specs.names.Meanings.{mentions_of, mention_count, is_on_cycle, objects_of};
 ghost use Rattle.ps_names.specs.Known.{mention_shown, mentions_shown};
 ghost use Rattle.ps_names.specs.LegendNames.{name_shown, legend_shown, is_reached, with_reached, reached_from, reached_shown, waiting, reached_with};
 ghost use Rattle.ps_names.specs.Levels.{Fall};

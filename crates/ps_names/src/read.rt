@@ -2,12 +2,12 @@
 
 ghost use Rattle.std.specs.Prelude.{◌≡◌, ◌≤◌, ◌+◌, ◌-◌, IfOk, OnOk, IfErr, length, Some, []};
 ghost use Rattle.ps_model.specs.declared.faults.Fault.{Fault as TheFault};
-ghost use Rattle.ps_model.specs.Faults.{first_fault};
-ghost use Rattle.ps_model.specs.LineNumbers.{lines_between};
-ghost use Rattle.ps_model.specs.Lines.{lines_of};
-ghost use Rattle.ps_model.specs.NameBounds.{AreBounded};
-ghost use Rattle.ps_model.specs.NameFaults.{name_faults, faults_of_sections};
-ghost use Rattle.ps_model.specs.NamesRead.{names_read, names_of, sections_of};
+ghost use Rattle.ps_model.specs.text.Faults.{first_fault};
+ghost use Rattle.ps_model.specs.text.LineNumbers.{lines_between};
+ghost use Rattle.ps_model.specs.text.Lines.{lines_of};
+ghost use Rattle.ps_model.specs.names.NameBounds.{AreBounded};
+ghost use Rattle.ps_model.specs.names.NameFaults.{name_faults, faults_of_sections};
+ghost use Rattle.ps_model.specs.names.NamesRead.{names_read, names_of, sections_of};
 ghost use Rattle.ps_names.specs.LinesShown.{objects_shown, lines_shown};
 
 use crate::declaring::refuse;

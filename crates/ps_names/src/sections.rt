@@ -2,12 +2,12 @@
 
 ghost use Rattle.std.specs.Prelude.{◌≡◌, ◌≤◌, ◌<◌, ◌++◌, [], Some, IfOk, OnOk, IfErr, length, map, List, unwrap_or};
 ghost use Rattle.ps_model.specs.declared.faults.Fault.{Fault as TheFault};
-ghost use Rattle.ps_model.specs.DeclarationFaults.{layer_faults};
-ghost use Rattle.ps_model.specs.Faults.{first_fault};
-ghost use Rattle.ps_model.specs.LayerLines.{layers_of_lines, layers_found};
-ghost use Rattle.ps_model.specs.Limits.{object_limit, layer_limit};
-ghost use Rattle.ps_model.specs.Meanings.{legend_meanings};
-ghost use Rattle.ps_model.specs.NamesRead.{layer_numbers};
+ghost use Rattle.ps_model.specs.names.DeclarationFaults.{layer_faults};
+ghost use Rattle.ps_model.specs.text.Faults.{first_fault};
+ghost use Rattle.ps_model.specs.names.LayerLines.{layers_of_lines, layers_found};
+ghost use Rattle.ps_model.specs.declared.limits.TheConstants.{OBJECT_LIMIT, LAYER_LIMIT};
+ghost use Rattle.ps_model.specs.names.Meanings.{legend_meanings};
+ghost use Rattle.ps_model.specs.names.NamesRead.{layer_numbers};
 ghost use Rattle.ps_names.specs.LegendNames.{legend_shown};
 ghost use Rattle.ps_names.specs.LinesShown.{objects_shown, lines_shown};
 ghost use Rattle.ps_names.specs.MeaningSteps.{meanings_shown};
@@ -54,7 +54,7 @@ pub fn declare_names<'a>(
     ensures known { IfOk result (λ declared. declared.known ≡ known_of (objects_shown objects.now) (lines_shown lines.now)) }
     ensures legend { IfOk result (λ declared. legend_shown declared.legend.names.items ≡ legend_of (objects_shown objects.now) (lines_shown lines.now)) }
     ensures meanings { IfOk result (λ declared. meanings_shown declared.legend.meanings.items ≡ legend_meanings (legend_of (objects_shown objects.now) (lines_shown lines.now))) }
-    ensures few { OnOk result (length objects.now ≤ object_limit) }
+    ensures few { OnOk result (length objects.now ≤ OBJECT_LIMIT) }
     ensures fine { OnOk result ((others : List TheFault) → declaring_faults (objects_shown objects.now) (lines_shown lines.now) others ≡ others) }
     ensures refused { IfErr result (λ e. (fault : TheFault) → e ≡ NameFault.Refused fault → (others : List TheFault) → first_fault (declaring_faults (objects_shown objects.now) (lines_shown lines.now) others) ≡ Some fault) }
 {
@@ -73,7 +73,7 @@ pub fn read_layers(
 ) -> Result<Layering, NameFault>
     ensures places { IfOk result (λ made. made.places.items ≡ layers_found objects (layers_of_lines (entries_with table.now) (lines_shown lines.now))) }
     ensures count { IfOk result (λ made. made.count ≡ length (layers_of_lines (entries_with table.now) (lines_shown lines.now))) }
-    ensures few { IfOk result (λ made. made.count ≤ layer_limit) }
+    ensures few { IfOk result (λ made. made.count ≤ LAYER_LIMIT) }
     ensures fine { OnOk result (layer_faults (layers_of_lines (entries_with table.now) (lines_shown lines.now)) ≡ []) }
     ensures refused { IfErr result (λ e. (fault : TheFault) → e ≡ NameFault.Refused fault → first_fault (layer_faults (layers_of_lines (entries_with table.now) (lines_shown lines.now))) ≡ Some fault) }
 {

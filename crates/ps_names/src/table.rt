@@ -4,8 +4,8 @@ ghost use Rattle.std.specs.Prelude.{◌≡◌, ◌+◌, ◌++◌, IfOk, option_m
 ghost use Rattle.std.specs.Option.{option_or};
 ghost use Rattle.std.specs.Str.{bytes_eq};
 ghost use Rattle.std.specs.Map.{lookup};
-ghost use Rattle.ps_model.specs.Lines.{folded};
-ghost use Rattle.ps_model.specs.Meanings.{meaning_of_mention};
+ghost use Rattle.ps_model.specs.text.Lines.{folded};
+ghost use Rattle.ps_model.specs.names.Meanings.{meaning_of_mention};
 ghost use Rattle.ps_names.specs.Known.{mention_shown};
 ghost use Rattle.ps_names.specs.MeaningSteps.{meaning_shown_if, meanings_shown};
 ghost use Rattle.ps_names.specs.Shown.{meaning_shown};
@@ -33,7 +33,7 @@ pub struct Table {
 impl Model for Table {
     ghost use Rattle.std.specs.Prelude.{List, Option};
     ghost use Rattle.std.specs.List.{zip};
-    ghost use Rattle.ps_model.specs.Names.{Meaning as Meant};
+    ghost use Rattle.ps_model.specs.names.Names.{Meaning as Meant};
     ghost use Rattle.ps_names.specs.Known.{Named};
     ghost use Rattle.ps_names.specs.MeaningSteps.{meanings_shown};
 

@@ -4,10 +4,10 @@ ghost use Rattle.std.specs.Prelude.{◌≡◌, ◌≤◌, ◌<◌, ◌++◌, not
 ghost use Rattle.std.specs.List.{list_any, list_all, flat_map};
 ghost use Rattle.std.specs.Str.{bytes_eq};
 ghost use Rattle.std.specs.Map.{lookup};
-ghost use Rattle.ps_model.specs.Faults.{first_fault};
-ghost use Rattle.ps_model.specs.Meanings.{is_aggregate};
-ghost use Rattle.ps_model.specs.Names.{members_if};
-ghost use Rattle.ps_model.specs.NameFaults.{layers_among, differ, repeat, is_bad_background, shares_layer};
+ghost use Rattle.ps_model.specs.text.Faults.{first_fault};
+ghost use Rattle.ps_model.specs.names.Meanings.{is_aggregate};
+ghost use Rattle.ps_model.specs.names.Names.{members_if};
+ghost use Rattle.ps_model.specs.names.NameFaults.{layers_among, differ, repeat, is_bad_background, shares_layer};
 ghost use Rattle.ps_names.specs.LegendNames.{legend_shown, name_shown};
 ghost use Rattle.ps_names.specs.LinesShown.{objects_shown};
 ghost use Rattle.ps_names.specs.MeaningSteps.{meanings_shown};

@@ -6,12 +6,12 @@ use Rattle.std.proofs.lemmas.Grind.{common_steps}
 use Rattle.std.proofs.lemmas.List.{take-append-drop}
 use Rattle.ps_model.specs.declared.play.Ending.{Ending}
 use Rattle.ps_model.specs.declared.play.Ending.TheVariants.{EndOfKeys}
-use Rattle.ps_model.specs.Names.{Names}
-use Rattle.ps_model.specs.Grid.{Grid}
-use Rattle.ps_model.specs.PlainOutput.{output, output_from, opening}
-use Rattle.ps_model.specs.Outputs.{Output, after_text, end_of_keys_line}
-use Rattle.ps_model.specs.PlainGames.{PlainGame, plain_game}
-use Rattle.ps_model.specs.Levels.{loaded}
+use Rattle.ps_model.specs.names.Names.{Names}
+use Rattle.ps_model.specs.board.Grid.{Grid}
+use Rattle.ps_model.specs.game.PlainOutput.{output, output_from, opening}
+use Rattle.ps_model.specs.game.Outputs.{Output, after_text, end_of_keys_line}
+use Rattle.ps_model.specs.game.PlainGames.{PlainGame, plain_game}
+use Rattle.ps_model.specs.board.Levels.{loaded}
 use Rattle.ps_devices.specs.Devices.{Grows, Loses, IsSpent}
 use Rattle.ps_play.specs.Runs.{keys_apart, Reaches, Outputs, Brings, Answers}
 use Rattle.ps_devices.proofs.Pieces.{grows_twice}

@@ -5,8 +5,8 @@ use Rattle.std.proofs.lemmas.Grind.{common_steps}
 use Rattle.std.proofs.lemmas.List.Elements.{filter_map-append}
 use Rattle.ps_model.specs.declared.pieces.Slot.{Slot}
 use Rattle.ps_model.specs.declared.pieces.Slot.TheVariants.{Bare, Holds}
-use Rattle.ps_model.specs.Grid.{object_in}
-use Rattle.ps_model.specs.Frames.{objects_in}
+use Rattle.ps_model.specs.board.Grid.{object_in}
+use Rattle.ps_model.specs.session.Frames.{objects_in}
 
 one_slot : (slot : Slot) → objects_in (slot ∷ []) ≡ option_to_list (object_in slot)
 one_slot Bare = refl

@@ -3,8 +3,8 @@ use Rattle.std.proofs.Common.{◌≡◌, ◌∙◌, ℕ, suc, zero, ◌+◌, Lis
 use Rattle.std.specs.List.{flat_map, range_with_len}
 use Rattle.std.specs.Prelude.{unwrap_or, find}
 use Rattle.ps_model.specs.declared.pieces.ObjectId.{ObjectId}
-use Rattle.ps_model.specs.Names.{Glyph, members}
-use Rattle.ps_model.specs.Frames.{same_objects, first_of_three, character_of}
+use Rattle.ps_model.specs.names.Names.{Glyph, members}
+use Rattle.ps_model.specs.session.Frames.{same_objects, first_of_three, character_of}
 
 -- what one more number brings
 pub flat_map_range_more : {X : Type 0} (f : ℕ → List X) (a n j : ℕ) → a + n ≡ j → flat_map f (range_with_len a (n + 1)) ≡ flat_map f (range_with_len a n) ++ f j

@@ -9,9 +9,9 @@ use Rattle.ps_model.specs.declared.pieces.ObjectId.{ObjectId}
 use Rattle.ps_model.specs.declared.pieces.Motion.TheVariants.{Still}
 use Rattle.ps_model.specs.declared.pieces.Slot.{Slot}
 use Rattle.ps_model.specs.declared.pieces.Slot.TheVariants.{Bare, Holds}
-use Rattle.ps_model.specs.Names.{Names, layer_of}
-use Rattle.ps_model.specs.Grid.{Grid, IsGrid, cell_at, with_slot, empty_grid}
-use Rattle.ps_model.specs.Levels.{Level, cell_of, loaded}
+use Rattle.ps_model.specs.names.Names.{Names, layer_of}
+use Rattle.ps_model.specs.board.Grid.{Grid, IsGrid, cell_at, with_slot, empty_grid}
+use Rattle.ps_model.specs.board.Levels.{Level, cell_of, loaded}
 use Rattle.ps_play.specs.Inputs.{grid_with_cell}
 use Rattle.ps_play.specs.Playable.{IsPlayable}
 

@@ -2,13 +2,13 @@
 use Rattle.std.proofs.Common.{◌≡◌, ℕ, ◌<◌, Bool, true, false, ◌&&◌, List, [], ◌∷◌, Option, Some, refl, ap, ◌∙◌, subst, arith}
 use Rattle.std.specs.Prelude.{All, nat_lt}
 use Rattle.std.proofs.lemmas.Bool.Decides.{nat_tests}
-use Rattle.ps_model.specs.Names.{Names, object_count}
-use Rattle.ps_model.specs.NameBounds.{AreBounded}
-use Rattle.ps_model.specs.Levels.{Level}
-use Rattle.ps_model.specs.LevelLines.{Entry, MessageEntry, LevelEntry}
-use Rattle.ps_model.specs.OptionSteps.{◌>>=◌}
-use Rattle.ps_model.specs.Games.{Game, game}
-use Rattle.ps_model.specs.PlainGames.{PlainGame, only_level, is_plain, plain_of, plain_game}
+use Rattle.ps_model.specs.names.Names.{Names, object_count}
+use Rattle.ps_model.specs.names.NameBounds.{AreBounded}
+use Rattle.ps_model.specs.board.Levels.{Level}
+use Rattle.ps_model.specs.session.LevelLines.{Entry, MessageEntry, LevelEntry}
+use Rattle.ps_model.specs.text.OptionSteps.{◌>>=◌}
+use Rattle.ps_model.specs.game.Games.{Game, game}
+use Rattle.ps_model.specs.game.PlainGames.{PlainGame, only_level, is_plain, plain_of, plain_game}
 use Rattle.ps_levels.specs.Sized.{IsSized, IsSizedEntry}
 use Rattle.ps_play.specs.Playable.{IsPlayable}
 

@@ -6,12 +6,12 @@ use Rattle.std.proofs.lemmas.Grind.{flat_map-append}
 use Rattle.ps_model.specs.declared.play.Ending.{Ending}
 use Rattle.ps_model.specs.declared.play.Key.{Key}
 use Rattle.ps_model.specs.declared.play.Key.TheVariants.{Move, Undo, Restart, Quit}
-use Rattle.ps_model.specs.Names.{Names}
-use Rattle.ps_model.specs.Grid.{Grid}
-use Rattle.ps_model.specs.Frames.{frame}
-use Rattle.ps_model.specs.Keys.{key_of, leading_arrow, keys_behind, keys_of}
-use Rattle.ps_model.specs.PlainOutput.{turned}
-use Rattle.ps_model.specs.Outputs.{Output, after_text}
+use Rattle.ps_model.specs.names.Names.{Names}
+use Rattle.ps_model.specs.board.Grid.{Grid}
+use Rattle.ps_model.specs.session.Frames.{frame}
+use Rattle.ps_model.specs.session.Keys.{key_of, leading_arrow, keys_behind, keys_of}
+use Rattle.ps_model.specs.game.PlainOutput.{turned}
+use Rattle.ps_model.specs.game.Outputs.{Output, after_text}
 use Rattle.ps_play.specs.Runs.{keys_apart, is_not_yet, are_heard, StepsTo, Reaches, Outputs, Brings}
 
 -- outputs with equal texts and endings are equal

@@ -7,10 +7,10 @@ use Rattle.std.proofs.lemmas.List.Elements.{All-append, All-take, All-drop, All-
 use Rattle.std.proofs.lemmas.Grind.{common_steps}
 use Rattle.ps_model.specs.declared.pieces.Slot.{Slot}
 use Rattle.ps_model.specs.declared.pieces.Slot.TheVariants.{Bare, Holds}
-use Rattle.ps_model.specs.Grid.{Grid, IsGrid, cell_at, slot_at, with_slot, slot_at_rest}
+use Rattle.ps_model.specs.board.Grid.{Grid, IsGrid, cell_at, slot_at, with_slot, slot_at_rest}
 use Rattle.ps_model.specs.declared.pieces.Motion.{Motion}
 use Rattle.ps_model.specs.declared.pieces.ObjectId.{ObjectId}
-use Rattle.ps_model.specs.Inputs.{slot_with_motion}
+use Rattle.ps_model.specs.board.Inputs.{slot_with_motion}
 use Rattle.ps_play.specs.Inputs.{slot_set_moving, grid_with_cell, grid_with_cells}
 
 -- a list keeps its length while its elements are changed

@@ -2,9 +2,9 @@
 use Rattle.std.specs.Prelude.{◌≡◌, ◌⊎◌, ℕ, List, Some, None, IsSome}
 use Rattle.ps_model.specs.declared.faults.Fault.{Fault}
 use Rattle.ps_model.specs.declared.faults.FaultKind.TheVariants.{NotYet}
-use Rattle.ps_model.specs.Faults.{first_fault}
-use Rattle.ps_model.specs.Games.{game, faults}
-use Rattle.ps_model.specs.PlainGames.{plain_game}
+use Rattle.ps_model.specs.text.Faults.{first_fault}
+use Rattle.ps_model.specs.game.Games.{game, faults}
+use Rattle.ps_model.specs.game.PlainGames.{plain_game}
 use Rattle.ps_game.specs.declared.fault.ReadFault.{ReadFault}
 use Rattle.ps_game.specs.declared.fault.ReadFault.TheVariants.{Refused as Unread, Memory as NoMemory}
 use Rattle.ps_play.specs.declared.run.RunFault.{RunFault}

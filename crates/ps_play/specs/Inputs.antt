@@ -4,8 +4,8 @@ use Rattle.ps_model.specs.declared.pieces.Motion.{Motion}
 use Rattle.ps_model.specs.declared.pieces.ObjectId.{ObjectId}
 use Rattle.ps_model.specs.declared.pieces.Slot.{Slot}
 use Rattle.ps_model.specs.declared.pieces.Slot.TheVariants.{Bare, Holds}
-use Rattle.ps_model.specs.Names.{is_among}
-use Rattle.ps_model.specs.Grid.{Grid}
+use Rattle.ps_model.specs.names.Names.{is_among}
+use Rattle.ps_model.specs.board.Grid.{Grid}
 
 -- a slot whose object, if it is one of these, gets the motion, and else keeps its own
 abbrev pub slot_set_moving : List ObjectId → Motion → Slot → Slot

@@ -5,13 +5,13 @@ use Rattle.ps_model.specs.declared.play.Ending.{Ending}
 use Rattle.ps_model.specs.declared.play.Ending.TheVariants.{Quit as Quits}
 use Rattle.ps_model.specs.declared.play.Key.{Key}
 use Rattle.ps_model.specs.declared.play.Key.TheVariants.{Move, Undo, Restart, Quit}
-use Rattle.ps_model.specs.Names.{Names}
-use Rattle.ps_model.specs.Grid.{Grid}
-use Rattle.ps_model.specs.Frames.{frame}
-use Rattle.ps_model.specs.Keys.{key_of}
-use Rattle.ps_model.specs.PlainGames.{PlainGame, plain_game}
-use Rattle.ps_model.specs.PlainOutput.{turned, output_from, output}
-use Rattle.ps_model.specs.Outputs.{quit_line}
+use Rattle.ps_model.specs.names.Names.{Names}
+use Rattle.ps_model.specs.board.Grid.{Grid}
+use Rattle.ps_model.specs.session.Frames.{frame}
+use Rattle.ps_model.specs.session.Keys.{key_of}
+use Rattle.ps_model.specs.game.PlainGames.{PlainGame, plain_game}
+use Rattle.ps_model.specs.game.PlainOutput.{turned, output_from, output}
+use Rattle.ps_model.specs.game.Outputs.{quit_line}
 use Rattle.ps_play.specs.declared.run.RunFault.{RunFault}
 
 -- the keys of bytes of which each is a key by itself or means nothing

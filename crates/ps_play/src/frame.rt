@@ -4,12 +4,12 @@
 //! background layer's; else one for the object on its topmost occupied layer alone; else by `?`.
 
 ghost use Rattle.std.specs.Prelude.{◌≡◌, [], ◌∷◌, ◌++◌, ◌<◌, OnOk, IfOk, option_to_list, option_map, map, filter, find, not};
-ghost use Rattle.ps_model.specs.Grid.{IsGrid, cell_at, cell_count, slot_at};
+ghost use Rattle.ps_model.specs.board.Grid.{IsGrid, cell_at, cell_count, slot_at};
 ghost use Rattle.std.specs.List.{list_all};
-ghost use Rattle.ps_model.specs.Names.{is_among, layer_of, members};
-ghost use Rattle.ps_model.specs.Levels.{background_layer, is_ground};
+ghost use Rattle.ps_model.specs.names.Names.{is_among, layer_of, members};
+ghost use Rattle.ps_model.specs.board.Levels.{background_layer, is_ground};
 ghost use Rattle.ps_names.specs.GlyphsShown.{glyph_shown, glyphs_shown};
-ghost use Rattle.ps_model.specs.Frames.{objects_in, same_objects, topmost, glyph_of_objects, character_of, shown_character, frame_row, frame};
+ghost use Rattle.ps_model.specs.session.Frames.{objects_in, same_objects, topmost, glyph_of_objects, character_of, shown_character, frame_row, frame};
 
 use crate::meanings::{members, members_named};
 use crate::screen::Screen;

@@ -1,7 +1,7 @@
 //! The keys of a stream of bytes.
 
 ghost use Rattle.std.specs.Prelude.{◌≡◌};
-ghost use Rattle.ps_model.specs.Keys.{key_of};
+ghost use Rattle.ps_model.specs.session.Keys.{key_of};
 
 use ps_model::{Input, Key};
 

@@ -3,9 +3,9 @@
 ghost use Rattle.std.specs.Prelude.{◌≡◌, ◌<◌, IfOk, All, fold, slice_set};
 ghost use Rattle.ps_model.specs.declared.pieces.Motion.TheVariants.{Still};
 ghost use Rattle.ps_model.specs.declared.pieces.Slot.TheVariants.{Holds};
-ghost use Rattle.ps_model.specs.Grid.{IsGrid, cell_at, cell_count};
-ghost use Rattle.ps_model.specs.Names.{layer_of, object_count};
-ghost use Rattle.ps_model.specs.Levels.{loaded};
+ghost use Rattle.ps_model.specs.board.Grid.{IsGrid, cell_at, cell_count};
+ghost use Rattle.ps_model.specs.names.Names.{layer_of, object_count};
+ghost use Rattle.ps_model.specs.board.Levels.{loaded};
 ghost use Rattle.ps_play.specs.Inputs.{grid_with_cell};
 ghost use Rattle.ps_play.specs.Playable.{IsPlayable};
 

@@ -1,7 +1,7 @@
 //! The objects that names speak of.
 
 ghost use Rattle.std.specs.Prelude.{◌≡◌};
-ghost use Rattle.ps_model.specs.Names.{members, members_named};
+ghost use Rattle.ps_model.specs.names.Names.{members, members_named};
 ghost use Rattle.ps_names.specs.Shown.{meaning_shown};
 
 use ps_model::ObjectId;

@@ -1,7 +1,7 @@
 //! Where a text has the first thing that this version doesn't play yet.
 
 ghost use Rattle.std.specs.Prelude.{◌≡◌, ◌≤◌, length};
-ghost use Rattle.ps_model.specs.Lines.{lines_of};
+ghost use Rattle.ps_model.specs.text.Lines.{lines_of};
 ghost use Rattle.ps_game.specs.SectionPlaces.{IsStretch, AreSections};
 
 use crate::plain::are_unset;

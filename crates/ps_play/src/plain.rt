@@ -1,8 +1,8 @@
 //! The games that this version plays.
 
 ghost use Rattle.std.specs.Prelude.{◌≡◌, ◌&&◌, IfSome, All, option_map, nat_lt, nat_eq, length};
-ghost use Rattle.ps_model.specs.PlainGames.{are_unset, is_plain, only_level, plain_of};
-ghost use Rattle.ps_model.specs.NameBounds.{AreBounded};
+ghost use Rattle.ps_model.specs.game.PlainGames.{are_unset, is_plain, only_level, plain_of};
+ghost use Rattle.ps_model.specs.names.NameBounds.{AreBounded};
 ghost use Rattle.ps_levels.specs.EntriesShown.{entries_shown};
 ghost use Rattle.ps_levels.specs.Sized.{IsSizedEntry};
 ghost use Rattle.ps_play.specs.Playable.{IsPlayable};
@@ -22,7 +22,7 @@ pub struct PlainGame<'g> {
 }
 
 impl<'g> Model for PlainGame<'g> {
-    ghost use Rattle.ps_model.specs.PlainGames.{PlainGame as Meant};
+    ghost use Rattle.ps_model.specs.game.PlainGames.{PlainGame as Meant};
 
     ghost Value = { Meant };
 

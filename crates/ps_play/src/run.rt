@@ -1,11 +1,11 @@
 //! A run: a game's text and the keys in, the frames out.
 
 ghost use Rattle.std.specs.Prelude.{◌≡◌, ◌≢◌, ◌+◌, ◌≤◌, ◌++◌, ◌∷◌, ◌⊎◌, [], IfOk, IfErr, IfSome, OnOk, OnErr, IsSome, IsErrOf, List, ℕ, true};
-ghost use Rattle.ps_model.specs.Limits.{read_limit};
-ghost use Rattle.ps_model.specs.PlainGames.{plain_game};
-ghost use Rattle.ps_model.specs.Levels.{loaded};
-ghost use Rattle.ps_model.specs.PlainOutput.{opening};
-ghost use Rattle.ps_model.specs.Outputs.{end_of_keys_line};
+ghost use Rattle.ps_model.specs.declared.limits.TheConstants.{READ_LIMIT};
+ghost use Rattle.ps_model.specs.game.PlainGames.{plain_game};
+ghost use Rattle.ps_model.specs.board.Levels.{loaded};
+ghost use Rattle.ps_model.specs.game.PlainOutput.{opening};
+ghost use Rattle.ps_model.specs.game.Outputs.{end_of_keys_line};
 ghost use Rattle.ps_devices.specs.Devices.{Grows};
 ghost use Rattle.ps_play.specs.Faults.{IsRefusal, IsDeviceFault, IsWriterFault};
 ghost use Rattle.ps_play.specs.Playable.{IsPlayable};
@@ -89,9 +89,9 @@ pub fn run<R: ByteReader, W: ByteWriter>(
     ensures refused { IfErr result (λ fault. IsRefusal game.now fault) }
     ensures unread { (fault : Fault) → result ≡ Err (RunFault.Refused fault) → reader.new ≡ reader.old }
     ensures unwritten { (fault : Fault) → result ≡ Err (RunFault.Refused fault) → writer.new ≡ writer.old }
-    ensures calls { R.calls reader.new ≤ R.calls reader.old + read_limit }
+    ensures calls { R.calls reader.new ≤ R.calls reader.old + READ_LIMIT }
     ensures reads { result ≢ Err RunFault.Read → R.has_failed reader.new ≡ R.has_failed reader.old }
-    ensures unheard { result ≡ Err RunFault.Read → (R.has_failed reader.new ≡ true) ⊎ (R.calls reader.new ≡ R.calls reader.old + read_limit) }
+    ensures unheard { result ≡ Err RunFault.Read → (R.has_failed reader.new ≡ true) ⊎ (R.calls reader.new ≡ R.calls reader.old + READ_LIMIT) }
     ensures writes { result ≢ Err RunFault.Write → W.has_failed writer.new ≡ W.has_failed writer.old }
     ensures stopped { result ≡ Err RunFault.Write → W.has_failed writer.new ≡ true }
     ensures answers { IfSome (R.remaining reader.old) (λ all. IfSome (W.contents writer.old) (λ before. Answers game.now all before (W.contents writer.new) result)) }
@@ -122,9 +122,9 @@ fn play_game<R: ByteReader, W: ByteWriter>(
     writer: &mut W,
 ) -> Result<Ending, RunFault>
     requires { IsPlayable game.now.names game.now.level }
-    ensures calls { R.calls reader.new ≤ R.calls reader.old + read_limit }
+    ensures calls { R.calls reader.new ≤ R.calls reader.old + READ_LIMIT }
     ensures reads { result ≢ Err RunFault.Read → R.has_failed reader.new ≡ R.has_failed reader.old }
-    ensures unheard { result ≡ Err RunFault.Read → (R.has_failed reader.new ≡ true) ⊎ (R.calls reader.new ≡ R.calls reader.old + read_limit) }
+    ensures unheard { result ≡ Err RunFault.Read → (R.has_failed reader.new ≡ true) ⊎ (R.calls reader.new ≡ R.calls reader.old + READ_LIMIT) }
     ensures writes { result ≢ Err RunFault.Write → W.has_failed writer.new ≡ W.has_failed writer.old }
     ensures stopped { result ≡ Err RunFault.Write → W.has_failed writer.new ≡ true }
     ensures well { IfErr result IsDeviceFault }
@@ -146,9 +146,9 @@ fn play<B: Board, R: ByteReader, W: ByteWriter>(
     reader: &mut R,
     writer: &mut W,
 ) -> Result<Ending, RunFault>
-    ensures calls { R.calls reader.new ≤ R.calls reader.old + read_limit }
+    ensures calls { R.calls reader.new ≤ R.calls reader.old + READ_LIMIT }
     ensures reads { result ≢ Err RunFault.Read → R.has_failed reader.new ≡ R.has_failed reader.old }
-    ensures unheard { result ≡ Err RunFault.Read → (R.has_failed reader.new ≡ true) ⊎ (R.calls reader.new ≡ R.calls reader.old + read_limit) }
+    ensures unheard { result ≡ Err RunFault.Read → (R.has_failed reader.new ≡ true) ⊎ (R.calls reader.new ≡ R.calls reader.old + READ_LIMIT) }
     ensures writes { result ≢ Err RunFault.Write → W.has_failed writer.new ≡ W.has_failed writer.old }
     ensures stopped { result ≡ Err RunFault.Write → W.has_failed writer.new ≡ true }
     ensures well { IfErr result IsDeviceFault }

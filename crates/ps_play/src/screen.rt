@@ -1,7 +1,7 @@
 //! What is to be written: bytes gathered before they go out.
 
 ghost use Rattle.std.specs.Prelude.{◌≡◌, [], ◌++◌, OnOk, OnErr, encode_utf8};
-ghost use Rattle.ps_model.specs.Frames.{written_line};
+ghost use Rattle.ps_model.specs.session.Frames.{written_line};
 
 use ps_model::Memory;
 use std::alloc::Global;

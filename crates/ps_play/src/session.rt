@@ -1,9 +1,9 @@
 //! A game that is being played.
 
 ghost use Rattle.std.specs.Prelude.{◌≡◌, ◌++◌, OnOk, IfOk, List, ℕ};
-ghost use Rattle.ps_model.specs.Levels.{loaded};
-ghost use Rattle.ps_model.specs.Frames.{frame};
-ghost use Rattle.ps_model.specs.PlainOutput.{opening, turned};
+ghost use Rattle.ps_model.specs.board.Levels.{loaded};
+ghost use Rattle.ps_model.specs.session.Frames.{frame};
+ghost use Rattle.ps_model.specs.game.PlainOutput.{opening, turned};
 ghost use Rattle.ps_play.specs.Playable.{IsPlayable};
 ghost use Rattle.ps_play.specs.Runs.{StepsTo};
 

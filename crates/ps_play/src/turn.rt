@@ -1,9 +1,9 @@
 //! What an input does to a board.
 
 ghost use Rattle.std.specs.Prelude.{◌≡◌, ◌*◌, ◌<◌, slice_set, map};
-ghost use Rattle.ps_model.specs.Grid.{IsGrid, IsPlace, cell_at, slot_at, with_slot, cell_count};
-ghost use Rattle.ps_model.specs.Names.{is_among};
-ghost use Rattle.ps_model.specs.Inputs.{motion_of, with_motion};
+ghost use Rattle.ps_model.specs.board.Grid.{IsGrid, IsPlace, cell_at, slot_at, with_slot, cell_count};
+ghost use Rattle.ps_model.specs.names.Names.{is_among};
+ghost use Rattle.ps_model.specs.board.Inputs.{motion_of, with_motion};
 ghost use Rattle.ps_play.specs.Inputs.{slot_set_moving, grid_with_cell};
 
 use ps_board::Board;

@@ -1,11 +1,11 @@
 -- What a line of RULES is, by its words.
 use Rattle.std.proofs.Common.{◌≡◌, ℕ, List, [], ◌∷◌, Some, None, false, refl}
-use Rattle.ps_model.specs.Lines.{Line}
-use Rattle.ps_model.specs.RuleLines.{LineForm, StartForm, EndForm, RuleForm, NoForm, form_of, form_of_words, form_of_shape, line_of_form}
-use Rattle.ps_model.specs.RuleShape.{shape_of}
-use Rattle.ps_model.specs.RuleFaults.{Above, above_next, faults_of_form, faults_of_count, faults_of_line, has_left_out}
-use Rattle.ps_model.specs.RuleSymbols.{Symbol, Open, Close, Bar, Arrow, Ellipsis, Plus, Late, Without, Moves, Asks, StartsLoop, EndsLoop, LeftOut, Called, Unknown, Token}
-use Rattle.ps_model.specs.SourceRules.{RuleLine, Rule, LoopStart, LoopEnd, SourceRule}
+use Rattle.ps_model.specs.text.Lines.{Line}
+use Rattle.ps_model.specs.rules.RuleLines.{LineForm, StartForm, EndForm, RuleForm, NoForm, form_of, form_of_words, form_of_shape, line_of_form}
+use Rattle.ps_model.specs.rules.RuleShape.{shape_of}
+use Rattle.ps_model.specs.rules.RuleFaults.{Above, above_next, faults_of_form, faults_of_count, faults_of_line, has_left_out}
+use Rattle.ps_model.specs.rules.RuleSymbols.{Symbol, Open, Close, Bar, Arrow, Ellipsis, Plus, Late, Without, Moves, Asks, StartsLoop, EndsLoop, LeftOut, Called, Unknown, Token}
+use Rattle.ps_model.specs.rules.SourceRules.{RuleLine, Rule, LoopStart, LoopEnd, SourceRule}
 use Rattle.ps_rules.specs.declared.lines.LoopMark.{LoopMark}
 use Rattle.ps_rules.specs.declared.lines.LoopMark.TheVariants.{Start, End}
 use Rattle.ps_rules.specs.FormsShown.{loop_mark_of, mark_of, form_of_mark, below_line, count_faults}

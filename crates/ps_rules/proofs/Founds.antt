@@ -1,8 +1,8 @@
 -- What is found among items and among those behind them.
 use Rattle.std.proofs.Common.{◌≡◌, ℕ, Bool, List, [], ◌∷◌, ◌++◌, Some, None, refl, ap, sym, ◌∙◌, filter}
 use Rattle.std.proofs.lemmas.List.Elements.{filter-append, filter_map-append}
-use Rattle.ps_model.specs.Occurrences.{numbers, number_of, here_or_only}
-use Rattle.ps_model.specs.SourceRules.{Item}
+use Rattle.ps_model.specs.meaning.Occurrences.{numbers, number_of, here_or_only}
+use Rattle.ps_model.specs.rules.SourceRules.{Item}
 use Rattle.ps_rules.specs.SoughtItems.{found_with, found_from, only_found, first_number}
 use Rattle.ps_rules.specs.declared.sought.Found.{Found}
 use Rattle.ps_rules.specs.declared.sought.Found.TheVariants.{Nothing, Several}

@@ -1,18 +1,18 @@
 -- One line of RULES more.
 use Rattle.std.proofs.Common.{◌≡◌, ℕ, ◌≤◌, true, false, List, ◌++◌, Some, length, refl, ap, ◌∙◌}
 use Rattle.ps_model.specs.declared.faults.Fault.{Fault}
-use Rattle.ps_model.specs.LineNumbers.{line_at}
-use Rattle.ps_model.specs.Lines.{Line, lines_of, is_blank_line}
-use Rattle.ps_model.specs.Names.{Names}
-use Rattle.ps_model.specs.RuleFaults.{Above, above_next, faults_of_line, faults_below}
-use Rattle.ps_model.specs.RuleLines.{lines_with_words}
-use Rattle.ps_model.specs.RuleSymbols.{tokens_of}
+use Rattle.ps_model.specs.text.LineNumbers.{line_at}
+use Rattle.ps_model.specs.text.Lines.{Line, lines_of, is_blank_line}
+use Rattle.ps_model.specs.names.Names.{Names}
+use Rattle.ps_model.specs.rules.RuleFaults.{Above, above_next, faults_of_line, faults_below}
+use Rattle.ps_model.specs.rules.RuleLines.{lines_with_words}
+use Rattle.ps_model.specs.rules.RuleSymbols.{tokens_of}
 use Rattle.ps_rules.specs.FormsShown.{form_at}
-use Rattle.ps_model.specs.LineNumbers.{here}
+use Rattle.ps_model.specs.text.LineNumbers.{here}
 use Rattle.ps_rules.specs.RefusedLines.{IsRefused}
 use Rattle.ps_rules.proofs.RuleSteps.{first-some}
-use Rattle.ps_model.specs.Faults.{first_fault}
-use Rattle.ps_model.proofs.LinesInOrder.{line_at-number}
+use Rattle.ps_model.specs.text.Faults.{first_fault}
+use Rattle.ps_laws.proofs.common.LinesInOrder.{line_at-number}
 
 pub below-step : (text : List ℕ) (line : ℕ) (names : Names) (above : Above) (rest : List Line) → 1 ≤ line → line ≤ length (lines_of text)
     → (line_at text line).is_there ≡ true → is_blank_line (line_at text line) ≡ false

@@ -3,9 +3,9 @@ use Rattle.std.proofs.Common.{◌≡◌, ℕ, Bool, true, false, not, ◌&&◌, 
 use Rattle.std.specs.Prelude.{nat_eq}
 use Rattle.std.specs.List.{list_any, list_all}
 use Rattle.ps_model.specs.declared.pieces.ObjectId.{ObjectId}
-use Rattle.ps_model.specs.Names.{Names, One, AllOf, AnyOf}
-use Rattle.ps_model.specs.Occurrences.{names_it, is_loose, are_on_one_layer, cells_of}
-use Rattle.ps_model.specs.SourceRules.{Item, Is, No, CellPair, SourceRule}
+use Rattle.ps_model.specs.names.Names.{Names, One, AllOf, AnyOf}
+use Rattle.ps_model.specs.meaning.Occurrences.{names_it, is_loose, are_on_one_layer, cells_of}
+use Rattle.ps_model.specs.rules.SourceRules.{Item, Is, No, CellPair, SourceRule}
 use Rattle.ps_rules.specs.Unmatched.{has_property, is_unmatched}
 
 -- properties of one line are one, whatever objects are given with them

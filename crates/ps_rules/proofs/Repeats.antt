@@ -5,8 +5,8 @@ use Rattle.std.proofs.lemmas.List.{append-nil}
 use Rattle.std.proofs.lemmas.List.Folds.{list_any-append}
 use Rattle.std.proofs.lemmas.Bool.Decides.{nat_tests}
 use Rattle.ps_model.specs.declared.pieces.ObjectId.{ObjectId}
-use Rattle.ps_model.specs.Names.{same_object}
-use Rattle.ps_model.specs.RuleNameFaults.{has_twice}
+use Rattle.ps_model.specs.names.Names.{same_object}
+use Rattle.ps_model.specs.rules.RuleNameFaults.{has_twice}
 use Rattle.ps_rules.specs.Twice.{twice_behind, object_numbers}
 use Rattle.ps_rules.proofs.Words.{any_map}
 

@@ -3,10 +3,10 @@ use Rattle.std.proofs.Common.{◌≡◌, ℕ, true, false, List, [], ◌∷◌, 
 use Rattle.std.specs.Prelude.{option_map, is_some}
 use Rattle.ps_model.specs.declared.faults.Fault.{Fault}
 use Rattle.ps_model.specs.declared.faults.FaultKind.{FaultKind}
-use Rattle.ps_model.specs.Faults.{first_fault}
-use Rattle.ps_model.specs.RuleShape.{RuleShape}
-use Rattle.ps_model.specs.RuleFaults.{Above, faults_of_rule}
-use Rattle.ps_model.specs.SourceRules.{SourceRule}
+use Rattle.ps_model.specs.text.Faults.{first_fault}
+use Rattle.ps_model.specs.rules.RuleShape.{RuleShape}
+use Rattle.ps_model.specs.rules.RuleFaults.{Above, faults_of_rule}
+use Rattle.ps_model.specs.rules.SourceRules.{SourceRule}
 use Rattle.ps_rules.specs.FaultsShown.{fault_at, shape_faults, name_faults, last_faults}
 
 pub first-some : (faults others : List Fault) (fault : Fault) → first_fault faults ≡ Some fault → first_fault (faults ++ others) ≡ Some fault

@@ -1,7 +1,7 @@
 -- Rules with the same parts.
 use Rattle.std.proofs.Common.{◌≡◌, ℕ, Bool, List, refl}
 use Rattle.ps_model.specs.declared.pieces.Direction.{Direction}
-use Rattle.ps_model.specs.SourceRules.{CellPair, Commands, SourceRule}
+use Rattle.ps_model.specs.rules.SourceRules.{CellPair, Commands, SourceRule}
 
 abbrev pub rule_with : ℕ → Bool → Bool → List Direction → List (List (List CellPair)) → Bool → Commands → SourceRule
 rule_with line late joined directions rows rewrites commands =

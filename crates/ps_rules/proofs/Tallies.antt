@@ -5,10 +5,10 @@ use Rattle.std.specs.Map.{lookup}
 use Rattle.std.proofs.lemmas.Bool.Decides.{nat_tests}
 use Rattle.ps_model.specs.declared.pieces.ObjectId.{ObjectId}
 use Rattle.ps_model.specs.declared.rules.MovementWord.{MovementWord}
-use Rattle.ps_model.specs.Directions.{word_number}
-use Rattle.ps_model.specs.Names.{Meaning, One, AllOf, AnyOf}
-use Rattle.ps_model.specs.Occurrences.{same_meaning, has_movement, numbers}
-use Rattle.ps_model.specs.SourceRules.{Item, Is, No}
+use Rattle.ps_model.specs.meaning.Directions.{word_number}
+use Rattle.ps_model.specs.names.Names.{Meaning, One, AllOf, AnyOf}
+use Rattle.ps_model.specs.meaning.Occurrences.{same_meaning, has_movement, numbers}
+use Rattle.ps_model.specs.rules.SourceRules.{Item, Is, No}
 use Rattle.ps_rules.specs.SoughtItems.{found_with, found_from}
 use Rattle.ps_rules.specs.Tallies.{found_of, with_if, Key, Named, Moving, has_key, is_name_key, is_word_key, found_at}
 use Rattle.ps_rules.specs.declared.index.Index.{Index}

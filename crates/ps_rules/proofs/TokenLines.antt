@@ -1,9 +1,9 @@
 -- The words of a line as a source gives them, against their places.
 use Rattle.std.proofs.Common.{◌≡◌, ℕ, ◌+◌, List, [], ◌∷◌, map, refl, ap, ap₂}
 use Rattle.ps_model.specs.declared.texts.Span.{Span}
-use Rattle.ps_model.specs.Lines.{Line}
-use Rattle.ps_model.specs.RuleSymbols.{Symbol, token_by, tokens_at, first_symbol, symbol_of}
-use Rattle.ps_model.specs.Names.{Names}
+use Rattle.ps_model.specs.text.Lines.{Line}
+use Rattle.ps_model.specs.rules.RuleSymbols.{Symbol, token_by, tokens_at, first_symbol, symbol_of}
+use Rattle.ps_model.specs.names.Names.{Names}
 use Rattle.ps_text.specs.declared.cutting.Word.{Word}
 use Rattle.ps_text.specs.WordViews.{text_of, span_of, bytes_at, span_at}
 use Rattle.ps_rules.specs.SymbolsShown.{token_of_word, tokens_of_words}

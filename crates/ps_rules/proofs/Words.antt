@@ -2,11 +2,11 @@
 use Rattle.std.proofs.Common.{◌≡◌, Bool, ◌||◌, List, [], ◌∷◌, ◌++◌, map, refl, ap, sym, ◌∙◌}
 use Rattle.std.specs.List.{list_any, flat_map}
 use Rattle.std.proofs.lemmas.List.Folds.{list_any-append}
-use Rattle.ps_model.specs.RuleSymbols.{Symbol, Token}
-use Rattle.ps_model.specs.RuleShape.{has_kind, WrittenSide, words_in_cells, cells_in}
-use Rattle.ps_model.specs.RuleShapeFaults.{are_there}
-use Rattle.ps_model.specs.RuleNameFaults.{is_no_before_aggregate}
-use Rattle.ps_model.specs.SourceRules.{Item}
+use Rattle.ps_model.specs.rules.RuleSymbols.{Symbol, Token}
+use Rattle.ps_model.specs.rules.RuleShape.{has_kind, WrittenSide, words_in_cells, cells_in}
+use Rattle.ps_model.specs.rules.RuleShapeFaults.{are_there}
+use Rattle.ps_model.specs.rules.RuleNameFaults.{is_no_before_aggregate}
+use Rattle.ps_model.specs.rules.SourceRules.{Item}
 
 pub are_there_append : (xs ys : List Token) → are_there (xs ++ ys) ≡ (are_there xs || are_there ys)
 are_there_append [] ys = refl

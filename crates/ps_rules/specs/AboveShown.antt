@@ -1,6 +1,6 @@
 -- What stands above a line, of the code as of the definitions.
 use Rattle.std.specs.Prelude.{ℕ, suc, Bool, Some, None}
-use Rattle.ps_model.specs.RuleFaults as model
+use Rattle.ps_model.specs.rules.RuleFaults as model
 use Rattle.ps_rules.specs.declared.above.Above.{Above}
 
 abbrev pub above_shown : Above → model.Above

@@ -2,8 +2,8 @@
 use Rattle.std.specs.Prelude.{List, map}
 use Rattle.std.specs.Borrow.{Bor}
 use Rattle.std.specs.Global.{Vec}
-use Rattle.ps_model.specs.RuleSymbols as model
-use Rattle.ps_model.specs.RuleShape as shape
+use Rattle.ps_model.specs.rules.RuleSymbols as model
+use Rattle.ps_model.specs.rules.RuleShape as shape
 use Rattle.ps_rules.specs.declared.cells.WrittenCell.{WrittenCell}
 use Rattle.ps_rules.specs.SymbolsShown.{tokens_shown}
 

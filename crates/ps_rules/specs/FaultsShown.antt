@@ -3,12 +3,12 @@ use Rattle.std.specs.Prelude.{ℕ, List, ◌++◌}
 use Rattle.ps_model.specs.declared.faults.Fault.{Fault}
 use Rattle.ps_model.specs.declared.faults.FaultKind.{FaultKind}
 use Rattle.ps_model.specs.declared.faults.FaultKind.TheVariants.{BadBracket, UnknownWord, RowsDiffer, NothingRight, NameTwice, NoAggregate, Unbound, LateMove, PlusAlone, PlusLate, Ellipsis}
-use Rattle.ps_model.specs.Faults.{when}
-use Rattle.ps_model.specs.RuleShape.{RuleShape}
-use Rattle.ps_model.specs.RuleFaults.{Above, has_lone_plus, joins_other_part}
-use Rattle.ps_model.specs.RuleShapeFaults.{has_bad_bracket, has_unknown_word, has_other_rows, has_nothing_right, has_late_move, has_bad_ellipsis}
-use Rattle.ps_model.specs.RuleNameFaults.{has_name_twice, puts_no_before_aggregate, has_unbound}
-use Rattle.ps_model.specs.SourceRules.{SourceRule}
+use Rattle.ps_model.specs.text.Faults.{when}
+use Rattle.ps_model.specs.rules.RuleShape.{RuleShape}
+use Rattle.ps_model.specs.rules.RuleFaults.{Above, has_lone_plus, joins_other_part}
+use Rattle.ps_model.specs.rules.RuleShapeFaults.{has_bad_bracket, has_unknown_word, has_other_rows, has_nothing_right, has_late_move, has_bad_ellipsis}
+use Rattle.ps_model.specs.rules.RuleNameFaults.{has_name_twice, puts_no_before_aggregate, has_unbound}
+use Rattle.ps_model.specs.rules.SourceRules.{SourceRule}
 
 abbrev pub fault_at : ℕ → FaultKind → Fault
 fault_at line kind = record { kind = kind; line = line }

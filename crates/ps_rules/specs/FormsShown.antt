@@ -1,14 +1,14 @@
 -- Loop lines by their words.
 use Rattle.std.specs.Prelude.{ℕ, List, [], ◌∷◌, Option, Some, None}
-use Rattle.ps_model.specs.RuleSymbols.{Symbol, StartsLoop, EndsLoop, Token, tokens_of, tokens_kept}
+use Rattle.ps_model.specs.rules.RuleSymbols.{Symbol, StartsLoop, EndsLoop, Token, tokens_of, tokens_kept}
 use Rattle.ps_model.specs.declared.faults.Fault.{Fault}
 use Rattle.ps_model.specs.declared.faults.FaultKind.TheVariants.{TooManyRules}
-use Rattle.ps_model.specs.Faults.{when}
-use Rattle.ps_model.specs.LineNumbers.{line_at}
-use Rattle.ps_model.specs.Names.{Names}
-use Rattle.ps_model.specs.RuleFaults.{Above, is_one_too_many}
-use Rattle.ps_model.specs.RuleLines.{LineForm, StartForm, EndForm, form_of}
-use Rattle.ps_model.specs.SourceRules.{RuleLine, Rule, LoopStart, LoopEnd}
+use Rattle.ps_model.specs.text.Faults.{when}
+use Rattle.ps_model.specs.text.LineNumbers.{line_at}
+use Rattle.ps_model.specs.names.Names.{Names}
+use Rattle.ps_model.specs.rules.RuleFaults.{Above, is_one_too_many}
+use Rattle.ps_model.specs.rules.RuleLines.{LineForm, StartForm, EndForm, form_of}
+use Rattle.ps_model.specs.rules.SourceRules.{RuleLine, Rule, LoopStart, LoopEnd}
 use Rattle.ps_rules.specs.AboveShown.{below_rule, below_start, below_end}
 use Rattle.ps_rules.specs.declared.lines.LoopMark.{LoopMark}
 use Rattle.ps_rules.specs.declared.lines.LoopMark.TheVariants.{Start, End}

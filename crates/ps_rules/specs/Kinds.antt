@@ -1,11 +1,11 @@
 -- The kinds of words of the code as the tests of the definitions, and parts of a line's words.
 use Rattle.std.specs.Prelude.{Bool, not, List, map}
 use Rattle.std.specs.Borrow.{Bor}
-use Rattle.ps_model.specs.RuleSymbols.{Symbol, is_left_out}
-use Rattle.ps_model.specs.RuleSymbols as model
-use Rattle.ps_model.specs.RuleShape.{is_open, is_close, is_bar, is_arrow, is_ellipsis, is_late, is_plus}
-use Rattle.ps_model.specs.RuleShapeFaults.{is_cell_word, is_rule_word, is_command, is_movement}
-use Rattle.ps_model.specs.RuleTree.{gives}
+use Rattle.ps_model.specs.rules.RuleSymbols.{Symbol, is_left_out}
+use Rattle.ps_model.specs.rules.RuleSymbols as model
+use Rattle.ps_model.specs.rules.RuleShape.{is_open, is_close, is_bar, is_arrow, is_ellipsis, is_late, is_plus}
+use Rattle.ps_model.specs.rules.RuleShapeFaults.{is_cell_word, is_rule_word, is_command, is_movement}
+use Rattle.ps_model.specs.rules.RuleTree.{gives}
 use Rattle.ps_rules.specs.declared.symbols.Token.{Token}
 use Rattle.ps_rules.specs.declared.kinds.Kind.{Kind}
 use Rattle.ps_rules.specs.declared.kinds.Kind.TheVariants.{Open, Close, Bar, Arrow, Ellipsis, Late, Plus, LeftOut, OfCell, NotOfCell, NotOfRule, Command, NoCommand, Movement, Gives}

@@ -1,12 +1,12 @@
 -- A line that is refused.
 use Rattle.std.specs.Prelude.{ℕ, ◌≡◌, true, false, List, Some}
 use Rattle.ps_model.specs.declared.faults.Fault.{Fault}
-use Rattle.ps_model.specs.Faults.{first_fault}
-use Rattle.ps_model.specs.LineNumbers.{line_at}
-use Rattle.ps_model.specs.Lines.{is_blank_line}
-use Rattle.ps_model.specs.Names.{Names}
-use Rattle.ps_model.specs.RuleFaults.{Above, faults_of_line}
-use Rattle.ps_model.specs.RuleSymbols.{tokens_of}
+use Rattle.ps_model.specs.text.Faults.{first_fault}
+use Rattle.ps_model.specs.text.LineNumbers.{line_at}
+use Rattle.ps_model.specs.text.Lines.{is_blank_line}
+use Rattle.ps_model.specs.names.Names.{Names}
+use Rattle.ps_model.specs.rules.RuleFaults.{Above, faults_of_line}
+use Rattle.ps_model.specs.rules.RuleSymbols.{tokens_of}
 use Rattle.ps_rules.specs.FormsShown.{form_at}
 
 -- the line of that number is there and isn't blank, and the fault is its first

@@ -1,7 +1,7 @@
 -- The trees of the code as the trees of the definitions.
 use Rattle.std.specs.Prelude.{List, map}
 use Rattle.std.specs.Borrow.{Bor}
-use Rattle.ps_model.specs.SourceRules as model
+use Rattle.ps_model.specs.rules.SourceRules as model
 use Rattle.ps_names.specs.Shown.{meaning_shown}
 use Rattle.ps_rules.specs.declared.tree.Item.{Item}
 use Rattle.ps_rules.specs.declared.tree.Item.TheVariants.{Is, No}

@@ -1,6 +1,6 @@
 -- The shape of the code as the shape of the definitions.
 use Rattle.std.specs.Prelude.{List, map, Option, option_map, ◌++◌}
-use Rattle.ps_model.specs.RuleShape as model
+use Rattle.ps_model.specs.rules.RuleShape as model
 use Rattle.ps_rules.specs.declared.shapes.WrittenRow.{WrittenRow}
 use Rattle.ps_rules.specs.declared.shapes.WrittenSide.{WrittenSide}
 use Rattle.ps_rules.specs.declared.shapes.RuleShape.{RuleShape}

@@ -1,8 +1,8 @@
 -- Looking for occurrences of names and of movement words.
 use Rattle.std.specs.Prelude.{ℕ, Bool, ◌&&◌, Option, Some, None, List, [], ◌∷◌}
 use Rattle.std.specs.List.{flat_map}
-use Rattle.ps_model.specs.Occurrences.{names_it, moves_so}
-use Rattle.ps_model.specs.SourceRules.{Item, CellPair}
+use Rattle.ps_model.specs.meaning.Occurrences.{names_it, moves_so}
+use Rattle.ps_model.specs.rules.SourceRules.{Item, CellPair}
 use Rattle.ps_names.specs.Shown.{meaning_shown}
 use Rattle.ps_rules.specs.declared.sought.Sought.{Sought}
 use Rattle.ps_rules.specs.declared.sought.Sought.TheVariants.{Name, Word, Both}

@@ -1,7 +1,7 @@
 -- The words of the code as the words of the definitions.
 use Rattle.std.specs.Prelude.{ℕ, List, [], ◌∷◌, map}
-use Rattle.ps_model.specs.RuleSymbols as model
-use Rattle.ps_model.specs.Names.{Names}
+use Rattle.ps_model.specs.rules.RuleSymbols as model
+use Rattle.ps_model.specs.names.Names.{Names}
 use Rattle.ps_names.specs.Shown.{meaning_shown}
 use Rattle.ps_rules.specs.declared.symbols.Command.{Command}
 use Rattle.ps_rules.specs.declared.symbols.Command.TheVariants.{Cancel, Restart, Again, Checkpoint, Win, Message, Sound}

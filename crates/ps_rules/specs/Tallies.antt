@@ -2,10 +2,10 @@
 use Rattle.std.specs.Prelude.{◌≡◌, filter, ℕ, nat_eq, Bool, false, cond, Option, unwrap_or, List}
 use Rattle.std.specs.Map.{lookup}
 use Rattle.ps_model.specs.declared.rules.MovementWord.{MovementWord}
-use Rattle.ps_model.specs.Directions.{word_number}
-use Rattle.ps_model.specs.Names.{Meaning, One, AllOf, AnyOf}
-use Rattle.ps_model.specs.Occurrences.{same_meaning, has_movement, names_it, moves_so, numbers}
-use Rattle.ps_model.specs.SourceRules.{Item, CellPair}
+use Rattle.ps_model.specs.meaning.Directions.{word_number}
+use Rattle.ps_model.specs.names.Names.{Meaning, One, AllOf, AnyOf}
+use Rattle.ps_model.specs.meaning.Occurrences.{same_meaning, has_movement, names_it, moves_so, numbers}
+use Rattle.ps_model.specs.rules.SourceRules.{Item, CellPair}
 use Rattle.ps_rules.specs.SoughtItems.{found_with, found_from, left_of}
 use Rattle.ps_rules.specs.declared.index.Index.{Index}
 use Rattle.ps_rules.specs.declared.sought.Found.{Found}

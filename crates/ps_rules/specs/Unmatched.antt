@@ -1,9 +1,9 @@
 -- Properties, by their legend lines, that stand on the right of a cell whose left lacks them.
 use Rattle.std.specs.Prelude.{◌≡◌, ℕ, nat_eq, Bool, false, not, ◌&&◌, Option, Some, None, List, []}
 use Rattle.std.specs.List.{list_any}
-use Rattle.ps_model.specs.Names.{AnyOf}
-use Rattle.ps_model.specs.Occurrences.{names_it}
-use Rattle.ps_model.specs.SourceRules.{Item, CellPair}
+use Rattle.ps_model.specs.names.Names.{AnyOf}
+use Rattle.ps_model.specs.meaning.Occurrences.{names_it}
+use Rattle.ps_model.specs.rules.SourceRules.{Item, CellPair}
 
 -- the line is one of the set
 abbrev pub is_in : List ℕ → ℕ → Bool

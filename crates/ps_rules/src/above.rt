@@ -1,8 +1,8 @@
 //! What stands above a line of RULES.
 
 ghost use Rattle.std.specs.Prelude.{◌≡◌, ◌<◌, Some, suc, None};
-ghost use Rattle.ps_model.specs.Limits.{rule_limit};
-ghost use Rattle.ps_model.specs.RuleFaults.{nothing_above, has_lone_plus, joins_other_part, is_other_part};
+ghost use Rattle.ps_model.specs.declared.limits.TheConstants.{RULE_LIMIT};
+ghost use Rattle.ps_model.specs.rules.RuleFaults.{nothing_above, has_lone_plus, joins_other_part, is_other_part};
 ghost use Rattle.ps_rules.specs.AboveShown.{above_shown, below_rule, below_start, below_end};
 ghost use Rattle.ps_rules.specs.RulesShown.{rule_shown};
 
@@ -46,7 +46,7 @@ impl Above {
 
     /// What stands above the line below a rule. There are fewer rules than the limit.
     pub fn with_rule(self, late: bool) -> Above
-        requires { self.rules < rule_limit }
+        requires { self.rules < RULE_LIMIT }
         ensures { above_shown result ≡ below_rule (above_shown self) late }
     {
         Above {

@@ -2,8 +2,8 @@
 
 ghost use Rattle.std.specs.Prelude.{◌≡◌, [], IfOk, map, drop, slice_index_or};
 ghost use Rattle.std.specs.List.{list_all};
-ghost use Rattle.ps_model.specs.RuleShape.{paired_cells, paired_rows, is_ellipsis};
-ghost use Rattle.ps_model.specs.RuleTree.{is_gap};
+ghost use Rattle.ps_model.specs.rules.RuleShape.{paired_cells, paired_rows, is_ellipsis};
+ghost use Rattle.ps_model.specs.rules.RuleTree.{is_gap};
 ghost use Rattle.ps_rules.specs.CellsShown.{words_shown, cells_shown, cell_rows_shown, cells_of_rows};
 ghost use Rattle.ps_rules.specs.Kinds.{is_kind, parts_shown};
 ghost use Rattle.ps_rules.specs.ShapesShown.{row_shown, rows_shown, shape_shown};

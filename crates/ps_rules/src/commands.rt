@@ -1,11 +1,11 @@
 //! The directions and the commands of a rule.
 
 ghost use Rattle.std.specs.Prelude.{◌≡◌, ◌++◌, ◌∷◌, [], IfOk, OnOk, List as Sequence, ℕ, Option, None, fold, filter, length, ◌≤◌, if◌then◌else◌};
-ghost use Rattle.ps_model.specs.LineNumbers.{line_at};
-ghost use Rattle.ps_model.specs.Lines.{lines_of};
-ghost use Rattle.ps_model.specs.RuleShape.{has_kind};
-ghost use Rattle.ps_model.specs.RuleTree.{gives, directions_given, with_command, text_of, commands_of};
-ghost use Rattle.ps_model.specs.SourceRules.{no_commands};
+ghost use Rattle.ps_model.specs.text.LineNumbers.{line_at};
+ghost use Rattle.ps_model.specs.text.Lines.{lines_of};
+ghost use Rattle.ps_model.specs.rules.RuleShape.{has_kind};
+ghost use Rattle.ps_model.specs.rules.RuleTree.{gives, directions_given, with_command, text_of, commands_of};
+ghost use Rattle.ps_model.specs.rules.SourceRules.{no_commands};
 ghost use Rattle.ps_rules.specs.Asked.{asked_shown};
 ghost use Rattle.ps_rules.specs.RulesShown.{commands_shown};
 ghost use Rattle.ps_rules.specs.SymbolsShown.{symbol_shown, tokens_shown};

@@ -2,8 +2,8 @@
 
 ghost use Rattle.std.specs.Prelude.{◌≡◌, ◌||◌, [], map, nat_lt, length, filter, slice_index_or};
 ghost use Rattle.std.specs.List.{list_any};
-ghost use Rattle.ps_model.specs.RuleShape.{has_kind, is_ellipsis, paired_cells, paired_rows};
-ghost use Rattle.ps_model.specs.RuleShapeFaults.{mixes_ellipsis, ends_in_ellipsis, has_many_ellipses, has_wrong_ellipsis, has_lone_ellipsis, has_bad_ellipsis};
+ghost use Rattle.ps_model.specs.rules.RuleShape.{has_kind, is_ellipsis, paired_cells, paired_rows};
+ghost use Rattle.ps_model.specs.rules.RuleShapeFaults.{mixes_ellipsis, ends_in_ellipsis, has_many_ellipses, has_wrong_ellipsis, has_lone_ellipsis, has_bad_ellipsis};
 ghost use Rattle.ps_rules.specs.CellsShown.{words_shown, cells_shown, cell_rows_shown};
 ghost use Rattle.ps_rules.specs.Kinds.{parts_shown};
 ghost use Rattle.ps_rules.specs.ShapesShown.{side_shown, shape_shown};

@@ -1,8 +1,8 @@
 //! What is found of each name and of each movement word among items.
 
 ghost use Rattle.std.specs.Prelude.{◌≡◌, ◌∷◌, IfOk, OnOk, List as Sequence, filter};
-ghost use Rattle.ps_model.specs.Occurrences.{numbers};
-ghost use Rattle.ps_model.specs.SourceRules.{Item as TheItem};
+ghost use Rattle.ps_model.specs.meaning.Occurrences.{numbers};
+ghost use Rattle.ps_model.specs.rules.SourceRules.{Item as TheItem};
 ghost use Rattle.ps_names.specs.Shown.{meaning_shown};
 ghost use Rattle.ps_rules.specs.RulesShown.{item_shown, items_shown, cell_shown, cell_list_shown};
 ghost use Rattle.ps_rules.specs.SoughtItems.{found_from};

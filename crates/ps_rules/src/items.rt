@@ -1,8 +1,8 @@
 //! The items of a cell.
 
 ghost use Rattle.std.specs.Prelude.{◌≡◌, ◌++◌, ◌∷◌, [], IfOk, OnOk};
-ghost use Rattle.ps_model.specs.RuleSymbols.{Called};
-ghost use Rattle.ps_model.specs.RuleTree.{named_item, items_of};
+ghost use Rattle.ps_model.specs.rules.RuleSymbols.{Called};
+ghost use Rattle.ps_model.specs.rules.RuleTree.{named_item, items_of};
 ghost use Rattle.ps_names.specs.Shown.{meaning_shown};
 ghost use Rattle.ps_rules.specs.RulesShown.{item_shown, items_shown};
 ghost use Rattle.ps_rules.specs.SymbolsShown.{symbol_shown, tokens_shown};

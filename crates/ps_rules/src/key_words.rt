@@ -3,7 +3,7 @@
 ghost use Rattle.std.specs.Prelude.{◌≡◌, IfOk, option_map};
 ghost use Rattle.std.specs.Str.{bytes_eq};
 ghost use Rattle.std.specs.Map.{lookup};
-ghost use Rattle.ps_model.specs.RuleSymbols.{shape_words, movement_words, command_words, left_out_words, key_words, symbol_of, first_symbol};
+ghost use Rattle.ps_model.specs.rules.RuleSymbols.{shape_words, movement_words, command_words, left_out_words, key_words, symbol_of, first_symbol};
 ghost use Rattle.ps_rules.specs.SymbolsShown.{symbol_shown};
 
 use crate::symbols::{Command, Symbol, name_symbol};

@@ -1,10 +1,10 @@
 //! Kinds of words, by which a rule is cut and its words are judged.
 
 ghost use Rattle.std.specs.Prelude.{◌≡◌, IfOk};
-ghost use Rattle.ps_model.specs.RuleShape.{has_kind, cut_at};
-ghost use Rattle.ps_model.specs.RuleSymbols.{Moves};
-ghost use Rattle.ps_model.specs.RuleTree.{gives};
-ghost use Rattle.ps_model.specs.RuleShapeFaults.{is_rule_word, is_cell_word};
+ghost use Rattle.ps_model.specs.rules.RuleShape.{has_kind, cut_at};
+ghost use Rattle.ps_model.specs.rules.RuleSymbols.{Moves};
+ghost use Rattle.ps_model.specs.rules.RuleTree.{gives};
+ghost use Rattle.ps_model.specs.rules.RuleShapeFaults.{is_rule_word, is_cell_word};
 ghost use Rattle.ps_rules.specs.Kinds.{is_kind, parts_shown};
 ghost use Rattle.ps_rules.specs.SymbolsShown.{symbol_shown, tokens_shown};
 

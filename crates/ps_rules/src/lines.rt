@@ -2,13 +2,13 @@
 
 ghost use Rattle.std.specs.Prelude.{◌≡◌, ◌≤◌, [], Some, IfOk, IfErr, OnOk, length};
 ghost use Rattle.ps_model.specs.declared.faults.Fault.{Fault as TheFault};
-ghost use Rattle.ps_model.specs.Faults.{first_fault};
-ghost use Rattle.ps_model.specs.LineNumbers.{line_at};
-ghost use Rattle.ps_model.specs.Lines.{lines_of};
-ghost use Rattle.ps_model.specs.RuleFaults.{faults_of_form, faults_of_line, above_next};
-ghost use Rattle.ps_model.specs.RuleLines.{form_of, form_of_shape, line_of_form};
-ghost use Rattle.ps_model.specs.RuleShape.{shape_of};
-ghost use Rattle.ps_model.specs.RuleSymbols.{tokens_of, tokens_kept};
+ghost use Rattle.ps_model.specs.text.Faults.{first_fault};
+ghost use Rattle.ps_model.specs.text.LineNumbers.{line_at};
+ghost use Rattle.ps_model.specs.text.Lines.{lines_of};
+ghost use Rattle.ps_model.specs.rules.RuleFaults.{faults_of_form, faults_of_line, above_next};
+ghost use Rattle.ps_model.specs.rules.RuleLines.{form_of, form_of_shape, line_of_form};
+ghost use Rattle.ps_model.specs.rules.RuleShape.{shape_of};
+ghost use Rattle.ps_model.specs.rules.RuleSymbols.{tokens_of, tokens_kept};
 ghost use Rattle.ps_rules.specs.AboveShown.{above_shown};
 ghost use Rattle.ps_rules.specs.FormsShown.{mark_of, loop_mark_of, form_of_mark, form_at, below_line, count_faults};
 ghost use Rattle.ps_rules.specs.RulesShown.{line_shown};

@@ -2,8 +2,8 @@
 
 ghost use Rattle.std.specs.Prelude.{◌≡◌};
 ghost use Rattle.std.specs.List.{list_all};
-ghost use Rattle.ps_model.specs.Names.{layer_of};
-ghost use Rattle.ps_model.specs.Occurrences.{are_on_one_layer, is_loose};
+ghost use Rattle.ps_model.specs.names.Names.{layer_of};
+ghost use Rattle.ps_model.specs.meaning.Occurrences.{are_on_one_layer, is_loose};
 ghost use Rattle.std.specs.Prelude.{nat_eq};
 ghost use Rattle.ps_names.specs.Shown.{meaning_shown};
 

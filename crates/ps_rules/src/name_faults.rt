@@ -2,9 +2,9 @@
 
 ghost use Rattle.std.specs.Prelude.{◌≡◌, ◌||◌, ◌++◌, IfOk};
 ghost use Rattle.std.specs.List.{list_any};
-ghost use Rattle.ps_model.specs.Directions.{is_several};
-ghost use Rattle.ps_model.specs.Occurrences.{cells_of};
-ghost use Rattle.ps_model.specs.RuleNameFaults.{has_name_twice, puts_no_before_aggregate, is_no_before_aggregate, has_unbound, is_unbound, is_name_unbound, is_word_unbound};
+ghost use Rattle.ps_model.specs.meaning.Directions.{is_several};
+ghost use Rattle.ps_model.specs.meaning.Occurrences.{cells_of};
+ghost use Rattle.ps_model.specs.rules.RuleNameFaults.{has_name_twice, puts_no_before_aggregate, is_no_before_aggregate, has_unbound, is_unbound, is_name_unbound, is_word_unbound};
 ghost use Rattle.ps_names.specs.Shown.{meaning_shown};
 ghost use Rattle.ps_rules.specs.RulesShown.{item_shown, items_shown, cell_shown, cell_list_shown};
 

@@ -2,9 +2,9 @@
 
 ghost use Rattle.std.specs.Prelude.{◌≡◌, List as Sequence, ℕ, IfOk, filter};
 ghost use Rattle.std.specs.List.{list_any, list_all};
-ghost use Rattle.ps_model.specs.Directions.{is_several};
-ghost use Rattle.ps_model.specs.Names.{layer_of};
-ghost use Rattle.ps_model.specs.Occurrences.{here_or_only, numbers, bound_name, bound_word, cells_of as cells_of_rule, are_on_one_layer, is_on_left_too, is_loose, names_it};
+ghost use Rattle.ps_model.specs.meaning.Directions.{is_several};
+ghost use Rattle.ps_model.specs.names.Names.{layer_of};
+ghost use Rattle.ps_model.specs.meaning.Occurrences.{here_or_only, numbers, bound_name, bound_word, cells_of as cells_of_rule, are_on_one_layer, is_on_left_too, is_loose, names_it};
 ghost use Rattle.ps_names.specs.Shown.{meaning_shown};
 ghost use Rattle.ps_rules.specs.RulesShown.{rule_shown, cell_shown, items_shown, cell_list_shown};
 ghost use Rattle.ps_rules.specs.declared.sought.Found.TheVariants.{Nothing};
@@ -35,8 +35,8 @@ pub struct Occurrences<'r> {
 
 impl<'r> Model for Occurrences<'r> {
     ghost use Rattle.std.specs.Prelude.{◌≡◌};
-    ghost use Rattle.ps_model.specs.SourceRules.{SourceRule as Meant};
-    ghost use Rattle.ps_model.specs.Occurrences.{cells_of};
+    ghost use Rattle.ps_model.specs.rules.SourceRules.{SourceRule as Meant};
+    ghost use Rattle.ps_model.specs.meaning.Occurrences.{cells_of};
     ghost use Rattle.ps_rules.specs.RulesShown.{rule_shown, cell_list_shown};
     ghost use Rattle.ps_rules.specs.Tallies.{IsIndexOf};
     ghost use Rattle.ps_rules.specs.Unmatched.{AreUnmatched};

@@ -2,7 +2,7 @@
 
 ghost use Rattle.std.specs.Prelude.{◌≡◌, IfOk, map};
 ghost use Rattle.std.specs.List.{slice_split};
-ghost use Rattle.ps_model.specs.RuleTree.{cell_of, is_gap, row_of_cells};
+ghost use Rattle.ps_model.specs.rules.RuleTree.{cell_of, is_gap, row_of_cells};
 ghost use Rattle.ps_rules.specs.CellsShown.{words_shown, cells_shown, cell_rows_shown, cell_parts_shown};
 ghost use Rattle.ps_rules.specs.RulesShown.{cell_shown, part_shown, tree_row_shown, tree_rows_shown};
 

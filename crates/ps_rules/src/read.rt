@@ -2,13 +2,13 @@
 
 ghost use Rattle.std.specs.Prelude.{◌≡◌, ◌≤◌, ◌+◌, ◌++◌, [], Some, List, IfOk, IfErr, OnOk, length};
 ghost use Rattle.ps_model.specs.declared.faults.Fault.{Fault as TheFault};
-ghost use Rattle.ps_model.specs.Faults.{first_fault};
-ghost use Rattle.ps_model.specs.LineNumbers.{lines_between};
-ghost use Rattle.ps_model.specs.Lines.{Line, lines_of};
-ghost use Rattle.ps_model.specs.RuleFaults.{rule_faults, faults_below};
-ghost use Rattle.ps_model.specs.RuleLines.{rules_read, lines_with_words};
+ghost use Rattle.ps_model.specs.text.Faults.{first_fault};
+ghost use Rattle.ps_model.specs.text.LineNumbers.{lines_between};
+ghost use Rattle.ps_model.specs.text.Lines.{Line, lines_of};
+ghost use Rattle.ps_model.specs.rules.RuleFaults.{rule_faults, faults_below};
+ghost use Rattle.ps_model.specs.rules.RuleLines.{rules_read, lines_with_words};
 ghost use Rattle.ps_rules.specs.AboveShown.{above_shown};
-ghost use Rattle.ps_model.specs.LineNumbers.{here};
+ghost use Rattle.ps_model.specs.text.LineNumbers.{here};
 ghost use Rattle.ps_rules.specs.RefusedLines.{IsRefused};
 ghost use Rattle.ps_rules.specs.RulesShown.{lines_shown};
 ghost use Rattle.ps_rules.specs.declared.fault.RuleFault.TheVariants.{Refused};

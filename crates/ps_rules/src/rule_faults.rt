@@ -2,13 +2,13 @@
 
 ghost use Rattle.std.specs.Prelude.{◌≡◌, ◌≤◌, ◌<◌, [], Some, None, IfOk, IfErr, OnOk, length, map, option_map, ℕ};
 ghost use Rattle.ps_model.specs.declared.faults.Fault.{Fault as TheFault};
-ghost use Rattle.ps_model.specs.Faults.{first_fault};
-ghost use Rattle.ps_model.specs.LineNumbers.{line_at};
-ghost use Rattle.ps_model.specs.Lines.{lines_of};
-ghost use Rattle.ps_model.specs.RuleFaults.{faults_of_rule};
-ghost use Rattle.ps_model.specs.RuleNameFaults.{has_name_twice, puts_no_before_aggregate, has_unbound};
-ghost use Rattle.ps_model.specs.RuleShape.{paired_cells, paired_rows};
-ghost use Rattle.ps_model.specs.RuleTree.{rule_of};
+ghost use Rattle.ps_model.specs.text.Faults.{first_fault};
+ghost use Rattle.ps_model.specs.text.LineNumbers.{line_at};
+ghost use Rattle.ps_model.specs.text.Lines.{lines_of};
+ghost use Rattle.ps_model.specs.rules.RuleFaults.{faults_of_rule};
+ghost use Rattle.ps_model.specs.rules.RuleNameFaults.{has_name_twice, puts_no_before_aggregate, has_unbound};
+ghost use Rattle.ps_model.specs.rules.RuleShape.{paired_cells, paired_rows};
+ghost use Rattle.ps_model.specs.rules.RuleTree.{rule_of};
 ghost use Rattle.ps_rules.specs.AboveShown.{above_shown};
 ghost use Rattle.ps_rules.specs.CellsShown.{cell_rows_shown};
 ghost use Rattle.ps_rules.specs.FaultsShown.{fault_at, shape_faults, name_faults, last_faults};

@@ -1,10 +1,10 @@
 //! The tree of a rule.
 
 ghost use Rattle.std.specs.Prelude.{◌≡◌, ◌≤◌, IfOk, length, map};
-ghost use Rattle.ps_model.specs.LineNumbers.{line_at};
-ghost use Rattle.ps_model.specs.Lines.{lines_of};
-ghost use Rattle.ps_model.specs.RuleShape.{paired_cells, paired_rows};
-ghost use Rattle.ps_model.specs.RuleTree.{rule_of};
+ghost use Rattle.ps_model.specs.text.LineNumbers.{line_at};
+ghost use Rattle.ps_model.specs.text.Lines.{lines_of};
+ghost use Rattle.ps_model.specs.rules.RuleShape.{paired_cells, paired_rows};
+ghost use Rattle.ps_model.specs.rules.RuleTree.{rule_of};
 ghost use Rattle.ps_rules.specs.CellsShown.{cell_rows_shown};
 ghost use Rattle.ps_rules.specs.RulesShown.{rule_shown};
 ghost use Rattle.ps_rules.specs.ShapesShown.{shape_shown};

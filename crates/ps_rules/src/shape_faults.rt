@@ -2,8 +2,8 @@
 
 ghost use Rattle.std.specs.Prelude.{◌≡◌, ◌++◌, [], length, slice_index_or};
 ghost use Rattle.std.specs.List.{list_any};
-ghost use Rattle.ps_model.specs.RuleShape.{has_kind, is_bar, beside};
-ghost use Rattle.ps_model.specs.RuleShapeFaults.{words_outside, has_bad_bracket, has_unknown_word, has_other_rows, has_nothing_right, has_late_move, lengths_differ};
+ghost use Rattle.ps_model.specs.rules.RuleShape.{has_kind, is_bar, beside};
+ghost use Rattle.ps_model.specs.rules.RuleShapeFaults.{words_outside, has_bad_bracket, has_unknown_word, has_other_rows, has_nothing_right, has_late_move, lengths_differ};
 ghost use Rattle.ps_rules.specs.CellsShown.{cells_of_rows};
 ghost use Rattle.ps_rules.specs.Kinds.{is_kind};
 ghost use Rattle.ps_rules.specs.ShapesShown.{rows_shown, shape_shown};

@@ -2,8 +2,8 @@
 //! and bars part a row in cells.
 
 ghost use Rattle.std.specs.Prelude.{◌≡◌, IfOk, option_map, map};
-ghost use Rattle.ps_model.specs.OptionSteps.{all_there};
-ghost use Rattle.ps_model.specs.RuleShape.{row_of, side_of, shape_of};
+ghost use Rattle.ps_model.specs.text.OptionSteps.{all_there};
+ghost use Rattle.ps_model.specs.rules.RuleShape.{row_of, side_of, shape_of};
 ghost use Rattle.ps_rules.specs.Kinds.{parts_shown};
 ghost use Rattle.ps_rules.specs.ShapesShown.{row_shown, rows_shown, side_shown, shape_shown};
 ghost use Rattle.ps_rules.specs.SymbolsShown.{tokens_shown};

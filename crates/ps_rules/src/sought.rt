@@ -4,10 +4,10 @@ ghost use Rattle.std.specs.Prelude.{◌≡◌, ◌++◌, ◌∷◌, List as Sequ
 ghost use Rattle.std.specs.List.{flat_map};
 ghost use Rattle.std.specs.Option.{option_to_list};
 ghost use Rattle.ps_model.specs.declared.pieces.ObjectId.{ObjectId as TheObject};
-ghost use Rattle.ps_model.specs.Directions.{same_word, word_number};
-ghost use Rattle.ps_model.specs.Names.{One, AllOf, AnyOf};
-ghost use Rattle.ps_model.specs.Occurrences.{same_meaning, names_it, moves_so, numbers, has_movement};
-ghost use Rattle.ps_model.specs.SourceRules.{Item as TheItem, Is};
+ghost use Rattle.ps_model.specs.meaning.Directions.{same_word, word_number};
+ghost use Rattle.ps_model.specs.names.Names.{One, AllOf, AnyOf};
+ghost use Rattle.ps_model.specs.meaning.Occurrences.{same_meaning, names_it, moves_so, numbers, has_movement};
+ghost use Rattle.ps_model.specs.rules.SourceRules.{Item as TheItem, Is};
 ghost use Rattle.ps_names.specs.Shown.{meaning_shown};
 ghost use Rattle.ps_rules.specs.RulesShown.{item_shown, items_shown, cell_shown, cell_list_shown};
 ghost use Rattle.ps_rules.specs.declared.sought.Found.TheVariants.{Nothing};

@@ -1,7 +1,7 @@
 //! What each word of a line of RULES is.
 
 ghost use Rattle.std.specs.Prelude.{◌≡◌, option_map};
-ghost use Rattle.ps_model.specs.RuleSymbols.{name_symbol};
+ghost use Rattle.ps_model.specs.rules.RuleSymbols.{name_symbol};
 ghost use Rattle.ps_names.specs.Shown.{meaning_shown};
 ghost use Rattle.ps_rules.specs.SymbolsShown.{symbol_shown};
 

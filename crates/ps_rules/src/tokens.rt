@@ -1,9 +1,9 @@
 //! The words of a line of RULES, each with what it is.
 
 ghost use Rattle.std.specs.Prelude.{◌≡◌, ◌≤◌, ◌++◌, ◌∷◌, [], IfOk, OnOk, length};
-ghost use Rattle.ps_model.specs.LineNumbers.{line_at};
-ghost use Rattle.ps_model.specs.Lines.{lines_of};
-ghost use Rattle.ps_model.specs.RuleSymbols.{symbol_of, first_symbol, tokens_of, tokens_kept};
+ghost use Rattle.ps_model.specs.text.LineNumbers.{line_at};
+ghost use Rattle.ps_model.specs.text.Lines.{lines_of};
+ghost use Rattle.ps_model.specs.rules.RuleSymbols.{symbol_of, first_symbol, tokens_of, tokens_kept};
 ghost use Rattle.ps_rules.specs.SymbolsShown.{token_shown, tokens_shown, token_of_word};
 
 use crate::key_words::{first_symbol, symbol_of};

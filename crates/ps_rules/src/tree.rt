@@ -86,7 +86,7 @@ pub struct RuleText {
 
 impl Model for RuleText {
     ghost use Rattle.std.specs.Prelude.{List, map};
-    ghost use Rattle.ps_model.specs.SourceRules.{RuleLine as Meant};
+    ghost use Rattle.ps_model.specs.rules.SourceRules.{RuleLine as Meant};
     ghost use Rattle.ps_rules.specs.RulesShown.{line_shown};
 
     ghost Value = { List Meant };

@@ -2,7 +2,7 @@
 
 ghost use Rattle.std.specs.Prelude.{◌≡◌, ◌++◌, IfOk, OnOk, map};
 ghost use Rattle.std.specs.List.{flat_map};
-ghost use Rattle.ps_model.specs.Occurrences.{cells_of};
+ghost use Rattle.ps_model.specs.meaning.Occurrences.{cells_of};
 ghost use Rattle.ps_rules.specs.RulesShown.{cell_shown, part_shown, tree_row_shown, rule_shown, cell_list_shown};
 
 use crate::tree::{CellPair, SourceRule};

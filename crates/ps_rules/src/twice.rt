@@ -3,7 +3,7 @@
 ghost use Rattle.std.specs.Prelude.{◌≡◌, ◌||◌, ◌++◌, ◌∷◌, [], List as Sequence, ℕ, IfOk};
 ghost use Rattle.std.specs.List.{list_any, flat_map, filter_map};
 ghost use Rattle.std.specs.Option.{option_to_list};
-ghost use Rattle.ps_model.specs.RuleNameFaults.{objects_named, property_named, name_twice};
+ghost use Rattle.ps_model.specs.rules.RuleNameFaults.{objects_named, property_named, name_twice};
 ghost use Rattle.ps_rules.specs.RulesShown.{item_shown, items_shown, cell_shown, cell_list_shown};
 ghost use Rattle.ps_rules.specs.Twice.{twice_behind, object_numbers};
 

@@ -2,8 +2,8 @@
 
 ghost use Rattle.std.specs.Prelude.{◌≡◌, ◌||◌, ◌&&◌, not, ◌∷◌, [], IfOk, OnOk, nat_eq, ℕ, List as Sequence};
 ghost use Rattle.std.specs.List.{list_any};
-ghost use Rattle.ps_model.specs.RuleNameFaults.{property_named};
-ghost use Rattle.ps_model.specs.SourceRules.{Item as TheItem};
+ghost use Rattle.ps_model.specs.rules.RuleNameFaults.{property_named};
+ghost use Rattle.ps_model.specs.rules.SourceRules.{Item as TheItem};
 ghost use Rattle.ps_rules.specs.RulesShown.{item_shown, items_shown, cell_shown, cell_list_shown};
 ghost use Rattle.ps_rules.specs.Unmatched.{is_in, is_line, has_property, is_unmatched, AreUnmatched};
 

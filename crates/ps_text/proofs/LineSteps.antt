@@ -13,7 +13,7 @@ use Rattle.std.proofs.lemmas.List.Sums.{fails_before_first, prefix_len-le-length
 use Rattle.std.proofs.lemmas.Slice.Eq.{starts_is}
 use Rattle.std.proofs.lemmas.Str.{IsCharBoundary-past_char}
 use Rattle.ps_model.specs.declared.texts.Section.TheVariants.{Prelude}
-use Rattle.ps_model.specs.Lines.{Line, is_line_feed, mark_length, without_empty_end, as_lines, lines_from, lines_of}
+use Rattle.ps_model.specs.text.Lines.{Line, is_line_feed, mark_length, without_empty_end, as_lines, lines_from, lines_of}
 use Rattle.ps_text.specs.declared.rows.Row.{Row}
 use Rattle.ps_text.specs.declared.rows.Above.{Above}
 use Rattle.ps_text.specs.Rows.{shown, raw_at, line_below, above_next, lines_behind}

@@ -8,7 +8,7 @@ use Rattle.std.proofs.lemmas.Bool.Decides.{nat_tests}
 use Rattle.std.proofs.lemmas.Grind.{common_steps}
 use Rattle.std.proofs.lemmas.List.{get_or-map}
 use Rattle.std.proofs.lemmas.Slice.Eq.{bytes_eq-Decides}
-use Rattle.ps_model.specs.Lines.{folded, is_word, behind_arrow}
+use Rattle.ps_model.specs.text.Lines.{folded, is_word, behind_arrow}
 use Rattle.ps_text.specs.Places.{IsWordPlace}
 use Rattle.ps_text.specs.declared.scan.Place.{Place}
 use Rattle.ps_text.specs.TakenPlaces.{IsTextStart}

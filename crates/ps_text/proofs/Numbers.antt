@@ -3,8 +3,8 @@ use Rattle.std.proofs.Common.{◌≡◌, ℕ, zero, suc, ◌+◌, ◌-◌, ◌<�
 use Rattle.std.proofs.lemmas.List.{get_or-map, length-map}
 use Rattle.ps_model.specs.declared.texts.Section.{Section}
 use Rattle.ps_model.specs.declared.texts.Section.TheVariants.{Prelude}
-use Rattle.ps_model.specs.Lines.{Line, lines_of, lines_from, mark_length}
-use Rattle.ps_model.specs.LineNumbers.{line_at, no_line}
+use Rattle.ps_model.specs.text.Lines.{Line, lines_of, lines_from, mark_length}
+use Rattle.ps_model.specs.text.LineNumbers.{line_at, no_line}
 use Rattle.ps_text.specs.declared.rows.Row.{Row}
 use Rattle.ps_text.specs.Rows.{shown, IsTable}
 

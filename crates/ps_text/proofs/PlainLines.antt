@@ -6,9 +6,9 @@ use Rattle.std.proofs.Math.Utf8.{scalar, scalars, encode, encodes}
 use Rattle.std.proofs.lemmas.Bool.Decides.{nat_tests}
 use Rattle.std.proofs.lemmas.List.{append-nil}
 use Rattle.std.proofs.lemmas.Str.{IsUtf8-nil, IsUtf8-append, IsUtf8-encode, IsUtf8-from_ascii, encode_ascii, inside_one}
-use Rattle.ps_model.specs.Words.{is_blank}
+use Rattle.ps_model.specs.text.Words.{is_blank}
 use Rattle.ps_text.specs.PlainLines.{IsPlain}
-use Rattle.ps_model.specs.Lines.{without_comments, depth_behind, in_comment}
+use Rattle.ps_model.specs.text.Lines.{without_comments, depth_behind, in_comment}
 
 -- the bytes are no ASCII
 abbrev pub AreHigh : List ℕ → Type 0

@@ -5,8 +5,8 @@ use Rattle.std.specs.List.{prefix_len}
 use Rattle.std.proofs.lemmas.Bool.Decides.{nat_tests}
 use Rattle.std.proofs.lemmas.Grind.{common_steps}
 use Rattle.std.proofs.lemmas.List.{drop_all, drop-drop}
-use Rattle.ps_model.specs.Words.{is_blank, run_to}
-use Rattle.ps_model.specs.RuleWords.{rule_words_from, rule_words_in, words_behind_plus, own_length, begins_arrow, is_alone, is_bracket_or_bar, is_sign}
+use Rattle.ps_model.specs.text.Words.{is_blank, run_to}
+use Rattle.ps_model.specs.text.RuleWords.{rule_words_from, rule_words_in, words_behind_plus, own_length, begins_arrow, is_alone, is_bracket_or_bar, is_sign}
 use Rattle.ps_text.specs.Places.{rule_words_behind}
 
 -- no `->` at the last byte

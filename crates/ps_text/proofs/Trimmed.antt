@@ -5,8 +5,8 @@ use Rattle.std.specs.List.{prefix_len}
 use Rattle.std.proofs.Math.Seq.{take-append_seam}
 use Rattle.std.proofs.lemmas.Grind.{common_steps}
 use Rattle.std.proofs.lemmas.List.{reverse-append, reverse-reverse, take-append-drop, take-take, drop-take, drop-drop}
-use Rattle.ps_model.specs.Words.{is_blank}
-use Rattle.ps_model.specs.Lines.{without_blank_end}
+use Rattle.ps_model.specs.text.Words.{is_blank}
+use Rattle.ps_model.specs.text.Lines.{without_blank_end}
 use Rattle.ps_text.specs.TakenPlaces.{trimmed_of}
 
 -- the bytes without the blanks at their end are the first of them

@@ -3,7 +3,7 @@ use Rattle.std.proofs.Common.{◌≡◌, ℕ, zero, suc, ◌+◌, ◌-◌, ◌<�
 use Rattle.std.specs.Prelude.{IfSome, slice_range}
 use Rattle.std.proofs.lemmas.Grind.{common_steps}
 use Rattle.std.proofs.lemmas.List.{drop-drop, same_lists}
-use Rattle.ps_model.specs.Words.{is_blank}
+use Rattle.ps_model.specs.text.Words.{is_blank}
 use Rattle.ps_text.specs.declared.scan.Place.{Place}
 use Rattle.ps_text.specs.PlainLines.{IsPlain, IsVeiled}
 use Rattle.ps_text.specs.Places.{IsSolid}

@@ -1,6 +1,6 @@
 -- A word's span from its three numbers.
 use Rattle.std.proofs.Common.{◌≡◌, ℕ, ◌+◌, refl}
-use Rattle.ps_model.specs.Lines.{Line}
+use Rattle.ps_model.specs.text.Lines.{Line}
 use Rattle.ps_text.specs.declared.cutting.Word.{Word}
 use Rattle.ps_text.specs.WordViews.{span_of, span_at}
 

@@ -4,7 +4,7 @@ use Rattle.std.proofs.lemmas.Bool.Decides.{nat_tests}
 use Rattle.std.proofs.lemmas.List.{drop_all}
 use Rattle.ps_model.specs.declared.texts.Cut.{Cut}
 use Rattle.ps_model.specs.declared.texts.Cut.TheVariants.{Plain, Legend, Layers, Rule}
-use Rattle.ps_model.specs.Words.{is_blank, parts_words, stands_alone, words_from}
+use Rattle.ps_model.specs.text.Words.{is_blank, parts_words, stands_alone, words_from}
 
 -- a byte that parts words is read past
 pub past_parting_step : (cut : Cut) (line : List ℕ) (at : ℕ) → at < length line → parts_words cut (get_or line at 0) ≡ true →

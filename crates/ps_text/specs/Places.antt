@@ -3,8 +3,8 @@ use Rattle.std.specs.Prelude.{ℕ, ◌≡◌, ◌+◌, ◌≤◌, ◌<◌, false
 use Rattle.std.specs.Str.{IsCharBoundary}
 use Rattle.ps_model.specs.declared.texts.Cut.{Cut}
 use Rattle.ps_model.specs.declared.texts.Cut.TheVariants.{Plain, Legend, Layers, Rule}
-use Rattle.ps_model.specs.Words.{is_blank, words_from}
-use Rattle.ps_model.specs.RuleWords.{rule_words_from}
+use Rattle.ps_model.specs.text.Words.{is_blank, words_from}
+use Rattle.ps_model.specs.text.RuleWords.{rule_words_from}
 use Rattle.ps_text.specs.declared.scan.Place.{Place}
 
 -- the words of a line from the one found on

@@ -1,6 +1,6 @@
 -- A line with blanks for its comments, and a line with blanks for some of its bytes.
 use Rattle.std.specs.Prelude.{ℕ, ◌≡◌, false, List, length, slice_index}
-use Rattle.ps_model.specs.Words.{is_blank}
+use Rattle.ps_model.specs.text.Words.{is_blank}
 
 -- a line as long as it was, in which each byte that is no blank is the line's own, and no comment begins
 pub record IsPlain (raw plain : List ℕ) : Type 0 where

@@ -3,8 +3,8 @@ use Rattle.std.specs.Prelude.{ℕ, ◌+◌, ◌≤◌, ◌<◌, ◌≡◌, Optio
 use Rattle.std.specs.List.{slice_split, position_or_len}
 use Rattle.std.specs.Str.{IsCharBoundary}
 use Rattle.ps_model.specs.declared.texts.Section.{Section}
-use Rattle.ps_model.specs.Limits.{text_limit}
-use Rattle.ps_model.specs.Lines.{Line, Taken, is_line_feed, without_empty_end, without_comments, header_of, text_place, bytes_left, text_taken, is_read, depth_below, lines_from, lines_of}
+use Rattle.ps_model.specs.declared.limits.TheConstants.{TEXT_LIMIT}
+use Rattle.ps_model.specs.text.Lines.{Line, Taken, is_line_feed, without_empty_end, without_comments, header_of, text_place, bytes_left, text_taken, is_read, depth_below, lines_from, lines_of}
 use Rattle.ps_text.specs.declared.scan.Place.{Place}
 use Rattle.ps_text.specs.declared.rows.Row.{Row}
 use Rattle.ps_text.specs.declared.rows.Above.{Above}
@@ -88,8 +88,8 @@ pub record IsRow (text : List ℕ) (row : Row) : Type 0 where
 
 -- the rows are those of the text's lines
 pub record IsTable (text : List ℕ) (rows : List Row) : Type 0 where
-  pub short : length text ≤ text_limit
+  pub short : length text ≤ TEXT_LIMIT
   pub told : map (shown text) rows ≡ lines_of text
   pub whole : All (IsRow text) rows
   pub some : 0 < length rows
-  pub few : length rows ≤ text_limit + 1
+  pub few : length rows ≤ TEXT_LIMIT + 1

@@ -2,8 +2,8 @@
 use Rattle.std.specs.Prelude.{ℕ, ◌≡◌, ◌+◌, ◌-◌, ◌≤◌, ◌<◌, ◌++◌, false, Option, Some, None, List, [], length, take, drop, replicate, slice_index, slice_range}
 use Rattle.std.specs.List.{prefix_len}
 use Rattle.std.specs.Str.{IsCharBoundary}
-use Rattle.ps_model.specs.Words.{is_blank}
-use Rattle.ps_model.specs.Lines.{without_blank_end}
+use Rattle.ps_model.specs.text.Words.{is_blank}
+use Rattle.ps_model.specs.text.Lines.{without_blank_end}
 use Rattle.ps_text.specs.declared.scan.Place.{Place}
 use Rattle.ps_text.specs.Places.{rule_words_behind}
 

@@ -2,8 +2,8 @@
 use Rattle.std.specs.Prelude.{ℕ, ◌≡◌, ◌+◌, ◌≤◌, ◌<◌, List, [], ◌∷◌, map, slice_range}
 use Rattle.ps_model.specs.declared.texts.Cut.{Cut}
 use Rattle.ps_model.specs.declared.texts.Span.{Span}
-use Rattle.ps_model.specs.Lines.{Line, Taken}
-use Rattle.ps_model.specs.RuleWords.{words_under}
+use Rattle.ps_model.specs.text.Lines.{Line, Taken}
+use Rattle.ps_model.specs.text.RuleWords.{words_under}
 use Rattle.ps_text.specs.declared.cutting.Word.{Word}
 
 abbrev pub span_of : Word → Span

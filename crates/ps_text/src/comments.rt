@@ -1,8 +1,8 @@
 //! Comments: what stands in one reads as blanks.
 
 ghost use Rattle.std.specs.Prelude.{◌≡◌, ◌+◌, ◌≤◌, if◌then◌else◌, length, fold, string_bytes, IfOk};
-ghost use Rattle.ps_model.specs.Limits.{text_limit};
-ghost use Rattle.ps_model.specs.Lines as lines;
+ghost use Rattle.ps_model.specs.declared.limits.TheConstants.{TEXT_LIMIT};
+ghost use Rattle.ps_model.specs.text.Lines as lines;
 ghost use Rattle.ps_text.specs.PlainLines.{IsPlain};
 
 use ps_model::Memory;
@@ -27,7 +27,7 @@ fn plain_byte(depth: u32, byte: u8) -> u8
 
 /// How many comments are open behind the byte, where so many are before it.
 fn depth_after(depth: u32, byte: u8) -> u32
-    requires { depth ≤ text_limit }
+    requires { depth ≤ TEXT_LIMIT }
     ensures depth { result ≡ lines.depth_behind depth byte }
     ensures most { result ≤ depth + 1 }
 {
@@ -42,7 +42,7 @@ fn depth_after(depth: u32, byte: u8) -> u32
 
 /// How many comments are open behind the line, where so many are before it.
 pub fn depth_after_line(line: &[u8], depth: u32) -> u32
-    requires { depth + length line.now ≤ text_limit }
+    requires { depth + length line.now ≤ TEXT_LIMIT }
     ensures depth { result ≡ fold lines.depth_behind depth line.now }
     ensures most { result ≤ depth + length line.now }
 {
@@ -55,7 +55,7 @@ pub fn depth_after_line(line: &[u8], depth: u32) -> u32
 
 /// The line's bytes with a blank for each that stands in a comment, where so many comments are open before it.
 fn plain_bytes(alloc: Global, line: &[u8], depth: u32) -> Result<Vec<u8>, Memory>
-    requires { depth + length line.now ≤ text_limit }
+    requires { depth + length line.now ≤ TEXT_LIMIT }
     ensures { IfOk result (λ plain. plain.items ≡ lines.without_comments depth line.now) }
 {
     let mut plain = Vec::with_capacity(alloc, line.len())?;
@@ -69,7 +69,7 @@ fn plain_bytes(alloc: Global, line: &[u8], depth: u32) -> Result<Vec<u8>, Memory
 
 /// The line with a blank for each byte that stands in a comment, where so many comments are open before it.
 pub fn plain_line(alloc: Global, line: &str, depth: u32) -> Result<String, Memory>
-    requires { depth + length line.now ≤ text_limit }
+    requires { depth + length line.now ≤ TEXT_LIMIT }
     ensures bytes { IfOk result (λ plain. string_bytes plain ≡ lines.without_comments depth line.now) }
     ensures plain { IfOk result (λ plain. IsPlain line.now (string_bytes plain)) }
 {

@@ -2,10 +2,10 @@
 
 ghost use Rattle.std.specs.Prelude.{◌≡◌, ◌+◌, ◌≤◌, ◌<◌, length, map, slice_range, IfOk, IfSome, All};
 ghost use Rattle.std.specs.Str.{IsUtf8, IsCharBoundary};
-ghost use Rattle.ps_model.specs.Limits.{text_limit};
-ghost use Rattle.ps_model.specs.LineNumbers.{line_at};
-ghost use Rattle.ps_model.specs.Lines.{lines_of};
-ghost use Rattle.ps_model.specs.RuleWords.{words_under};
+ghost use Rattle.ps_model.specs.declared.limits.TheConstants.{TEXT_LIMIT};
+ghost use Rattle.ps_model.specs.text.LineNumbers.{line_at};
+ghost use Rattle.ps_model.specs.text.Lines.{lines_of};
+ghost use Rattle.ps_model.specs.text.RuleWords.{words_under};
 ghost use Rattle.ps_text.specs.Places.{words_behind, words_found, IsWordPlace};
 ghost use Rattle.ps_text.specs.TakenPlaces.{IsTextPlace};
 ghost use Rattle.ps_text.specs.WordViews.{span_of, text_of, span_at, texts_under, IsSliceOf, AreRisingSpans};
@@ -43,7 +43,7 @@ impl<'a> Word<'a> {
 /// The word at a place of a line.
 pub fn word_at<'a>(line: &'a str, row: &Row, place: Place) -> Word<'a>
     requires place { IsTextPlace line.now place }
-    requires short { row.now.start + length line.now ≤ text_limit }
+    requires short { row.now.start + length line.now ≤ TEXT_LIMIT }
     ensures text { result.text.now ≡ slice_range line.entry.now place.start place.end }
     ensures line { result.span.line ≡ row.now.number }
     ensures start { result.span.start ≡ row.now.start + place.start }

@@ -3,7 +3,7 @@
 ghost use Rattle.std.specs.Prelude.{◌≡◌};
 ghost use Rattle.std.specs.Map.{lookup};
 ghost use Rattle.std.specs.Str.{IsUtf8, bytes_eq};
-ghost use Rattle.ps_model.specs.Lines.{folded, headers, header_of};
+ghost use Rattle.ps_model.specs.text.Lines.{folded, headers, header_of};
 
 use crate::scan::next_word;
 use ps_model::{Cut, Section};

@@ -2,8 +2,8 @@
 
 ghost use Rattle.std.specs.Prelude.{◌≡◌, ◌==◌, ◌||◌};
 ghost use Rattle.std.specs.List.{list_all, list_any};
-ghost use Rattle.ps_model.specs.Words.{is_blank};
-ghost use Rattle.ps_model.specs.Lines.{are_blank, is_divider, is_comment, is_read};
+ghost use Rattle.ps_model.specs.text.Words.{is_blank};
+ghost use Rattle.ps_model.specs.text.Lines.{are_blank, is_divider, is_comment, is_read};
 
 use crate::scan::is_blank_byte;
 

@@ -2,7 +2,7 @@
 
 ghost use Rattle.std.specs.Prelude.{◌≡◌};
 ghost use Rattle.std.specs.Str.{bytes_eq};
-ghost use Rattle.ps_model.specs.Lines.{folded};
+ghost use Rattle.ps_model.specs.text.Lines.{folded};
 
 /// Whether two names are one. ASCII letters are compared in either case, all other characters as they stand: PuzzleScript
 /// tells no `Player` from `PLAYER`.

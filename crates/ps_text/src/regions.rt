@@ -3,8 +3,8 @@
 ghost use Rattle.std.specs.Prelude.{◌≡◌, ◌+◌, ◌-◌, ◌<◌, ◌≤◌, ◌==◌, ◌++◌, not, length, drop, take, replicate, option_map, string_bytes, slice_index, slice_range, IfSome, IfOk, OnOk};
 ghost use Rattle.std.specs.List.{prefix_len};
 ghost use Rattle.std.specs.Str.{IsUtf8, IsCharBoundary};
-ghost use Rattle.ps_model.specs.Words.{is_blank};
-ghost use Rattle.ps_model.specs.Lines as lines;
+ghost use Rattle.ps_model.specs.text.Words.{is_blank};
+ghost use Rattle.ps_model.specs.text.Lines as lines;
 ghost use Rattle.ps_text.specs.PlainLines.{IsPlain};
 ghost use Rattle.ps_text.specs.TakenPlaces.{IsTextPlace, start_of, trimmed_of, bytes_without, IsTrimmed};
 

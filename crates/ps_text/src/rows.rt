@@ -3,8 +3,8 @@
 ghost use Rattle.std.specs.Prelude.{◌≡◌, ◌+◌, ◌<◌, ◌≤◌, length, drop, take, fold, option_map, string_bytes, IfOk, IfSome, slice_index};
 ghost use Rattle.std.specs.List.{position_or_len};
 ghost use Rattle.std.specs.Str.{IsCharBoundary};
-ghost use Rattle.ps_model.specs.Limits.{text_limit};
-ghost use Rattle.ps_model.specs.Lines as lines;
+ghost use Rattle.ps_model.specs.declared.limits.TheConstants.{TEXT_LIMIT};
+ghost use Rattle.ps_model.specs.text.Lines as lines;
 ghost use Rattle.ps_text.specs.PlainLines.{IsVeiled};
 ghost use Rattle.ps_text.specs.TakenPlaces.{IsTextPlace, start_of};
 ghost use Rattle.ps_text.specs.Rows.{shown, shown_as, raw_at, line_below, above_next, IsBelow, IsRow, IsRowOf, IsTable};
@@ -73,7 +73,7 @@ fn line_end(text: &[u8], start: usize) -> usize
 
 /// How many comments are open below a line of that section before which so many are: none where a text ends the line.
 fn depth_below_line(section: Section, region: Option<Place>, depth: u32, raw: &[u8]) -> u32
-    requires { depth + length raw.now ≤ text_limit }
+    requires { depth + length raw.now ≤ TEXT_LIMIT }
     ensures depth { result ≡ lines.depth_below section (option_map start_of region) depth raw.now }
     ensures most { result ≤ depth + length raw.now }
 {
@@ -85,7 +85,7 @@ fn depth_below_line(section: Section, region: Option<Place>, depth: u32, raw: &[
 
 /// The row of a line, and what the line below finds above it.
 fn row_below(alloc: Global, raw: &str, above: Above) -> Result<(Row, Above), Memory>
-    requires short { above.start + length raw.now ≤ text_limit }
+    requires short { above.start + length raw.now ≤ TEXT_LIMIT }
     requires depth { above.depth ≤ above.start }
     requires counted { above.number ≤ above.start + 1 }
     ensures row { IfOk result (λ made. shown_as raw.now made.0 ≡ line_below above raw.now) }
@@ -121,7 +121,7 @@ fn row_below(alloc: Global, raw: &str, above: Above) -> Result<(Row, Above), Mem
 
 /// The row of the line that begins there, and what the line below finds above it.
 fn row_at(alloc: Global, text: &str, above: Above) -> Result<(Row, Above), Memory>
-    requires short { length text.now ≤ text_limit }
+    requires short { length text.now ≤ TEXT_LIMIT }
     requires cuttable { IsCharBoundary text.now above.start }
     requires depth { above.depth ≤ above.start }
     requires counted { above.number ≤ above.start + 1 }
@@ -138,7 +138,7 @@ fn row_at(alloc: Global, text: &str, above: Above) -> Result<(Row, Above), Memor
 
 /// The lines of a text.
 pub fn table(alloc: Global, text: &str) -> Result<Vec<Row>, Memory>
-    requires { length text.now ≤ text_limit }
+    requires { length text.now ≤ TEXT_LIMIT }
     ensures { IfOk result (λ rows. IsTable text.now rows.items) }
 {
     let first = Above {

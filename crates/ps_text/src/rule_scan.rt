@@ -2,8 +2,8 @@
 
 ghost use Rattle.std.specs.Prelude.{◌≡◌, ◌+◌, ◌<◌, ◌≤◌, ◌||◌, ◌&&◌, ◌==◌, true, false, not, ◌∷◌, length, drop, None, slice_index, IfSome};
 ghost use Rattle.std.specs.Str.{IsUtf8, IsCharBoundary};
-ghost use Rattle.ps_model.specs.Words.{is_blank};
-ghost use Rattle.ps_model.specs.RuleWords as rules;
+ghost use Rattle.ps_model.specs.text.Words.{is_blank};
+ghost use Rattle.ps_model.specs.text.RuleWords as rules;
 ghost use Rattle.ps_text.specs.Places.{rule_words_behind, rule_words_with, IsSolid, IsArrow, IsWordPlace};
 
 use crate::scan::{Place, is_blank_byte, past_parting};

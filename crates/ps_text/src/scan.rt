@@ -3,7 +3,7 @@
 ghost use Rattle.std.specs.Prelude.{◌≡◌, ◌+◌, ◌<◌, ◌≤◌, false, ◌∷◌, length, drop, None, slice_index, IfSome};
 ghost use Rattle.std.specs.List.{prefix_len};
 ghost use Rattle.std.specs.Str.{IsUtf8, IsCharBoundary};
-ghost use Rattle.ps_model.specs.Words.{is_blank, parts_words, stands_alone, words_from};
+ghost use Rattle.ps_model.specs.text.Words.{is_blank, parts_words, stands_alone, words_from};
 ghost use Rattle.ps_text.specs.Places.{words_with, IsSolid, IsWordPlace};
 
 use ps_model::Cut;

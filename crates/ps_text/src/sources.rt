@@ -3,10 +3,10 @@
 ghost use Rattle.std.specs.Prelude.{◌≡◌, ◌+◌, ◌≤◌, length, option_map, Some, None, IfOk, IfErr, IfSome, OnOk, Err};
 ghost use Rattle.std.specs.Str.{IsUtf8};
 ghost use Rattle.ps_model.specs.declared.faults.Fault.{Fault as TheFault};
-ghost use Rattle.ps_model.specs.Limits.{text_limit};
-ghost use Rattle.ps_model.specs.LineNumbers.{line_at};
-ghost use Rattle.ps_model.specs.Lines.{lines_of, is_blank_line};
-ghost use Rattle.ps_model.specs.TextFaults.{text_fault, line_of_place};
+ghost use Rattle.ps_model.specs.declared.limits.TheConstants.{TEXT_LIMIT};
+ghost use Rattle.ps_model.specs.text.LineNumbers.{line_at};
+ghost use Rattle.ps_model.specs.text.Lines.{lines_of, is_blank_line};
+ghost use Rattle.ps_model.specs.text.TextFaults.{text_fault, line_of_place};
 ghost use Rattle.ps_text.specs.Rows.{shown, IsRow};
 ghost use Rattle.ps_text.specs.WordViews.{taken_of, span_of, IsSliceOf};
 
@@ -41,7 +41,7 @@ impl Model for Source {
 
 /// The number of the line that a place of a text stands in.
 fn line_of(bytes: &[u8], place: usize) -> u32
-    requires short { length bytes.now ≤ text_limit }
+    requires short { length bytes.now ≤ TEXT_LIMIT }
     requires within { place ≤ length bytes.now }
     ensures { result ≡ line_of_place bytes.now place }
 {
@@ -52,7 +52,7 @@ fn line_of(bytes: &[u8], place: usize) -> u32
 /// The bytes as a text, or why they are refused.
 fn checked(bytes: &[u8]) -> Result<&str, Fault>
     ensures text { IfOk result (λ text. text.now ≡ bytes.now) }
-    ensures short { OnOk result (length bytes.now ≤ text_limit) }
+    ensures short { OnOk result (length bytes.now ≤ TEXT_LIMIT) }
     ensures fine { OnOk result (text_fault bytes.now ≡ None) }
     ensures refused { IfErr result (λ fault. text_fault bytes.now ≡ Some fault) }
 {
@@ -80,7 +80,7 @@ impl Source {
     pub fn read(alloc: Global, bytes: &[u8]) -> Result<Source, TextFault>
         ensures text { IfOk result (λ source. source ≡ bytes.now) }
         ensures utf8 { IfOk result (λ source. IsUtf8 source) }
-        ensures short { IfOk result (λ source. length source ≤ text_limit) }
+        ensures short { IfOk result (λ source. length source ≤ TEXT_LIMIT) }
         ensures fine { OnOk result (text_fault bytes.now ≡ None) }
         ensures refused { IfErr result (λ error. (fault : TheFault) → error ≡ TextFault.Refused fault → text_fault bytes.now ≡ Some fault) }
         ensures refuses { (fault : TheFault) → text_fault bytes.now ≡ Some fault → result ≡ Err (TextFault.Refused fault) }
@@ -97,7 +97,7 @@ impl Source {
         requires there { line ≤ length (lines_of self.now) }
         ensures line { shown self.now result.now ≡ line_at self.now line }
         ensures row { IsRow self.now result.now }
-        ensures short { length self.now ≤ text_limit }
+        ensures short { length self.now ≤ TEXT_LIMIT }
     {
         &self.rows[line as usize - 1]
     }
@@ -106,7 +106,7 @@ impl Source {
     pub fn lines(&self) -> u32
         ensures lines { result ≡ length (lines_of self.now) }
         ensures some { 1 ≤ result }
-        ensures few { result ≤ text_limit + 1 }
+        ensures few { result ≤ TEXT_LIMIT + 1 }
     {
         self.rows.len() as u32
     }

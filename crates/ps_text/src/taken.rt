@@ -3,8 +3,8 @@
 ghost use Rattle.std.specs.Prelude.{◌≡◌, ◌+◌, ◌≤◌, ◌==◌, not, ◌∷◌, [], length, drop, take, codes, option_map, find, Some, None, IfSome, slice_range};
 ghost use Rattle.std.specs.List.{prefix_len, list_any};
 ghost use Rattle.std.specs.Str.{IsUtf8, IsCharBoundary, bytes_eq};
-ghost use Rattle.ps_model.specs.Lines as lines;
-ghost use Rattle.ps_model.specs.RuleWords.{rule_words_in};
+ghost use Rattle.ps_model.specs.text.Lines as lines;
+ghost use Rattle.ps_model.specs.text.RuleWords.{rule_words_in};
 ghost use Rattle.ps_text.specs.Places.{rule_words_behind};
 ghost use Rattle.ps_text.specs.TakenPlaces.{words_past, IsTextStart};
 

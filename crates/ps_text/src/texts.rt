@@ -2,7 +2,7 @@
 
 ghost use Rattle.std.specs.Prelude.{◌≡◌, IfOk};
 ghost use Rattle.std.specs.Str.{IsUtf8};
-ghost use Rattle.ps_model.specs.Lines.{folded};
+ghost use Rattle.ps_model.specs.text.Lines.{folded};
 
 use ps_model::Memory;
 use std::alloc::Global;

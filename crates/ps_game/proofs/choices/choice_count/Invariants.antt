@@ -1,5 +1,5 @@
 use Rattle.std.proofs.Common.{◌≡◌, ◌*◌, false, drop}
-use Rattle.ps_model.specs.Readings.{ways}
+use Rattle.ps_model.specs.meaning.Readings.{ways}
 use Rattle.ps_game.specs.Possible.{all_fixed_shown, member_lists, has_empty}
 use Rattle.ps_game.proofs.choices.choice_count.Given as goal
 

@@ -1,5 +1,5 @@
 use Rattle.std.proofs.Common.{◌≡◌, ◌<◌, ◌++◌, drop}
-use Rattle.ps_model.specs.Readings.{ways}
+use Rattle.ps_model.specs.meaning.Readings.{ways}
 use Rattle.ps_game.specs.Possible.{all_fixed_shown, member_lists, choice}
 use Rattle.ps_game.proofs.choices.choose.Given as goal
 

@@ -1,6 +1,6 @@
 use Rattle.std.proofs.Common.{◌≡◌, ◌+◌, ◌<◌, ◌≤◌, ℕ, List, drop, suc, arith, sym, ◌∙◌}
 use Rattle.ps_model.specs.declared.pieces.ObjectId.{ObjectId}
-use Rattle.ps_model.specs.Readings.{one_of_each, ways}
+use Rattle.ps_model.specs.meaning.Readings.{one_of_each, ways}
 use Rattle.ps_game.specs.Possible.{all_fixed_shown, member_lists, are_sides_apart, choice}
 use Rattle.ps_game.proofs.ChoiceSteps.{choice_here, tried, all_tried}
 use Rattle.ps_game.proofs.choices.has_apart_choice.Goals as goal

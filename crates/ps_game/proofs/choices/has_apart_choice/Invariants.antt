@@ -1,6 +1,6 @@
 use Rattle.std.proofs.Common.{◌≡◌, drop}
 use Rattle.std.specs.List.{list_any}
-use Rattle.ps_model.specs.Readings.{one_of_each}
+use Rattle.ps_model.specs.meaning.Readings.{one_of_each}
 use Rattle.ps_game.specs.Possible.{all_fixed_shown, member_lists, are_sides_apart, has_apart_choice}
 use Rattle.ps_game.proofs.choices.has_apart_choice.Given as goal
 

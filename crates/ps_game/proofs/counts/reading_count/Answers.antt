@@ -1,7 +1,7 @@
 use Rattle.std.proofs.Common.{◌≡◌, length, ap, sym, ◌∙◌}
-use Rattle.ps_model.specs.Occurrences.{left_items}
-use Rattle.ps_model.specs.Readings.{directions_of}
-use Rattle.ps_model.specs.SourceRules as model
+use Rattle.ps_model.specs.meaning.Occurrences.{left_items}
+use Rattle.ps_model.specs.meaning.Readings.{directions_of}
+use Rattle.ps_model.specs.rules.SourceRules as model
 use Rattle.ps_rules.specs.RulesShown.{rule_shown}
 use Rattle.ps_game.specs.Counted.{counted}
 use Rattle.ps_game.specs.ItemWays.{item_ways}

@@ -1,6 +1,6 @@
 use Rattle.std.proofs.Common.{◌≡◌, drop}
 use Rattle.std.specs.List.{list_all}
-use Rattle.ps_model.specs.Readings.{is_steady}
+use Rattle.ps_model.specs.meaning.Readings.{is_steady}
 use Rattle.ps_rules.specs.RulesShown.{cell_list_shown}
 use Rattle.ps_game.proofs.directions.are_steady.Given as goal
 

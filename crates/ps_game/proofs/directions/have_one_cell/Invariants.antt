@@ -1,6 +1,6 @@
 use Rattle.std.proofs.Common.{◌≡◌, drop}
 use Rattle.std.specs.List.{list_all}
-use Rattle.ps_model.specs.Readings.{is_one_cell}
+use Rattle.ps_model.specs.meaning.Readings.{is_one_cell}
 use Rattle.ps_rules.specs.RulesShown.{tree_rows_shown}
 use Rattle.ps_game.proofs.directions.have_one_cell.Given as goal
 

@@ -1,6 +1,6 @@
 use Rattle.std.proofs.Common.{◌≡◌, drop}
 use Rattle.std.specs.List.{list_any}
-use Rattle.ps_model.specs.Readings.{item_turns}
+use Rattle.ps_model.specs.meaning.Readings.{item_turns}
 use Rattle.ps_rules.specs.RulesShown.{items_shown}
 use Rattle.ps_game.proofs.directions.some_turn.Given as goal
 

@@ -1,8 +1,8 @@
 use Rattle.std.proofs.Common.{rules, ◌≡◌, List, Some}
 use Rattle.ps_model.specs.declared.faults.Fault.{Fault as TheFault}
-use Rattle.ps_model.specs.Faults.{first_fault}
-use Rattle.ps_model.specs.Games.{line_faults}
-use Rattle.ps_model.specs.Lines.{Line, lines_of}
+use Rattle.ps_model.specs.text.Faults.{first_fault}
+use Rattle.ps_model.specs.game.Games.{line_faults}
+use Rattle.ps_model.specs.text.Lines.{Line, lines_of}
 use Rattle.ps_names.specs.declared.fault.NameFault.{NameFault}
 use Rattle.ps_names.specs.declared.fault.NameFault.TheVariants.{Refused as NamesRefused}
 use Rattle.ps_rules.specs.declared.fault.RuleFault.{RuleFault}

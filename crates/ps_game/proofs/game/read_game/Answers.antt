@@ -1,7 +1,7 @@
 use Rattle.std.proofs.Common.{rules, ◌≡◌, ℕ, List, Some}
 use Rattle.ps_model.specs.declared.faults.Fault.{Fault as TheFault}
-use Rattle.ps_model.specs.Faults.{first_fault}
-use Rattle.ps_model.specs.Games.{faults}
+use Rattle.ps_model.specs.text.Faults.{first_fault}
+use Rattle.ps_model.specs.game.Games.{faults}
 use Rattle.ps_text.specs.declared.errors.TextFault.{TextFault}
 use Rattle.ps_text.specs.declared.errors.TextFault.TheVariants.{Refused as TextRefused}
 use Rattle.ps_game.specs.declared.fault.ReadFault.{ReadFault}

@@ -1,5 +1,5 @@
 use Rattle.std.proofs.Common.{◌≡◌, ◌-◌, drop}
-use Rattle.ps_model.specs.Lines.{lines_of}
+use Rattle.ps_model.specs.text.Lines.{lines_of}
 use Rattle.ps_game.specs.Headings.{headings_told}
 use Rattle.ps_game.proofs.headings.first_heading_fault.Given as goal
 

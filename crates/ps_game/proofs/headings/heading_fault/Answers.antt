@@ -1,7 +1,7 @@
 use Rattle.std.proofs.Common.{◌∙◌, sym, ap, ap₂, ℕ}
-use Rattle.ps_model.specs.LineNumbers.{line_at}
-use Rattle.ps_model.specs.Sections.{is_real_time}
-use Rattle.ps_model.proofs.LinesInOrder.{line_at-number}
+use Rattle.ps_model.specs.text.LineNumbers.{line_at}
+use Rattle.ps_model.specs.text.Sections.{is_real_time}
+use Rattle.ps_laws.proofs.common.LinesInOrder.{line_at-number}
 use Rattle.ps_game.specs.Headings.{is_late_header, fault_by}
 use Rattle.ps_game.proofs.headings.heading_fault.Goals as goal
 

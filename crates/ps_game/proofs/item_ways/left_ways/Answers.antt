@@ -1,7 +1,7 @@
 use Rattle.std.proofs.Common.{◌≡◌, ◌*◌, ◌+◌, ℕ, List, drop, ap, sym, ◌∙◌}
 use Rattle.std.specs.Borrow.{Bor}
 use Rattle.std.specs.List.{flat_map}
-use Rattle.ps_model.specs.SourceRules as model
+use Rattle.ps_model.specs.rules.SourceRules as model
 use Rattle.ps_rules.specs.RulesShown.{items_shown, cell_list_shown}
 use Rattle.ps_rules.specs.declared.tree.CellPair.{CellPair}
 use Rattle.ps_rules.specs.declared.tree.Item.{Item}

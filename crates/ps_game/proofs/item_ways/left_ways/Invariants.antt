@@ -1,6 +1,6 @@
 use Rattle.std.proofs.Common.{◌≡◌, ◌*◌, drop}
 use Rattle.std.specs.List.{flat_map}
-use Rattle.ps_model.specs.Occurrences.{left_items}
+use Rattle.ps_model.specs.meaning.Occurrences.{left_items}
 use Rattle.ps_rules.specs.RulesShown.{cell_list_shown}
 use Rattle.ps_game.specs.Counted.{counted}
 use Rattle.ps_game.specs.ItemWays.{item_ways}

@@ -1,9 +1,9 @@
 use Rattle.std.proofs.Common.{rules, ◌≡◌, ◌∙◌, ◌+◌, ◌&&◌, ◌||◌, sym, ap, refl, arith, true, false, Bool}
 use Rattle.std.specs.List.{list_any}
-use Rattle.ps_model.specs.Lines.{folded}
-use Rattle.ps_model.specs.LineNumbers.{line_at, lines_between}
-use Rattle.ps_model.specs.Preludes.{begins_with}
-use Rattle.ps_model.proofs.LinesInOrder.{between-step}
+use Rattle.ps_model.specs.text.Lines.{folded}
+use Rattle.ps_model.specs.text.LineNumbers.{line_at, lines_between}
+use Rattle.ps_model.specs.text.Preludes.{begins_with}
+use Rattle.ps_laws.proofs.common.LinesInOrder.{between-step}
 use Rattle.ps_game.proofs.LineSteps.{any_step}
 use Rattle.ps_game.proofs.prelude.is_set.Goals as goal
 

@@ -1,7 +1,7 @@
 use Rattle.std.proofs.Common.{◌≡◌}
-use Rattle.ps_model.specs.Lines.{folded}
-use Rattle.ps_model.specs.LineNumbers.{lines_between}
-use Rattle.ps_model.specs.Preludes.{is_set}
+use Rattle.ps_model.specs.text.Lines.{folded}
+use Rattle.ps_model.specs.text.LineNumbers.{lines_between}
+use Rattle.ps_model.specs.text.Preludes.{is_set}
 use Rattle.ps_game.proofs.prelude.is_set.Given as goal
 
 abbrev pub invariant-loop-line : goal.invariant-loop-line

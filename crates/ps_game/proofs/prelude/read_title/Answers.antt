@@ -1,9 +1,9 @@
 use Rattle.std.proofs.Common.{rules, ◌≡◌, ◌∙◌, ◌+◌, ◌&&◌, sym, ap, refl, subst, arith, true, false, Bool, cond, Some, List, ℕ, Option}
 use Rattle.std.specs.Prelude.{find, codes, IfOk, unwrap_or, option_map, []}
-use Rattle.ps_model.specs.Lines.{Line, taken_bytes}
-use Rattle.ps_model.specs.LineNumbers.{line_at, lines_between}
-use Rattle.ps_model.specs.Preludes.{begins_with, title_of}
-use Rattle.ps_model.proofs.LinesInOrder.{between-step}
+use Rattle.ps_model.specs.text.Lines.{Line, taken_bytes}
+use Rattle.ps_model.specs.text.LineNumbers.{line_at, lines_between}
+use Rattle.ps_model.specs.text.Preludes.{begins_with, title_of}
+use Rattle.ps_laws.proofs.common.LinesInOrder.{between-step}
 use Rattle.ps_game.proofs.LineSteps.{find_step}
 use Rattle.ps_game.proofs.prelude.read_title.Goals as goal
 

@@ -1,7 +1,7 @@
 use Rattle.std.proofs.Common.{◌≡◌}
 use Rattle.std.specs.Prelude.{codes, find}
-use Rattle.ps_model.specs.LineNumbers.{lines_between}
-use Rattle.ps_model.specs.Preludes.{begins_with}
+use Rattle.ps_model.specs.text.LineNumbers.{lines_between}
+use Rattle.ps_model.specs.text.Preludes.{begins_with}
 use Rattle.ps_game.proofs.prelude.read_title.Given as goal
 
 abbrev pub invariant-loop-line : goal.invariant-loop-line

@@ -2,7 +2,7 @@ use Rattle.std.proofs.Common.{◌≡◌, ◌≤◌, ◌<◌, arith, true, false,
 use Rattle.std.specs.Prelude.{nat_lt}
 use Rattle.std.proofs.lemmas.Bool.Decides.{nat_tests}
 use Rattle.ps_model.specs.declared.texts.Section.{Section}
-use Rattle.ps_model.specs.Sections.{rank}
+use Rattle.ps_model.specs.text.Sections.{rank}
 use Rattle.ps_game.proofs.SectionEnds.{still_above, here_ends, boundary_within}
 use Rattle.ps_game.proofs.sections.boundary.Goals as goal
 

@@ -3,7 +3,7 @@ use Rattle.std.specs.Prelude.{nat_lt}
 use Rattle.ps_model.specs.declared.texts.Section.TheVariants.{Objects, Legend, Layers, Rules, Wins, Levels}
 use Rattle.ps_model.specs.declared.faults.Fault.{Fault}
 use Rattle.ps_model.specs.declared.faults.FaultKind.TheVariants.{NoSection}
-use Rattle.ps_model.specs.Lines.{lines_of}
+use Rattle.ps_model.specs.text.Lines.{lines_of}
 use Rattle.ps_text.specs.declared.errors.TextFault.TheVariants.{Refused}
 use Rattle.ps_game.specs.Headings.{headings_told}
 use Rattle.ps_game.proofs.SectionEnds.{boundary_rises}

@@ -1,5 +1,5 @@
 use Rattle.std.proofs.Common.{◌≡◌}
-use Rattle.ps_model.specs.LevelLines.{in_columns}
+use Rattle.ps_model.specs.session.LevelLines.{in_columns}
 use Rattle.ps_levels.specs.Cells.{cells_shown, rows_shown}
 use Rattle.ps_levels.proofs.columns.in_columns.Given as goal
 

@@ -4,9 +4,9 @@ use Rattle.std.specs.Char.{to_ascii_lowercase}
 use Rattle.std.specs.Map.{lookup}
 use Rattle.std.specs.Str.{bytes_eq}
 use Rattle.std.proofs.lemmas.Str.Ascii.{lowercase-lowercase}
-use Rattle.ps_model.specs.LevelFaults.{character_meaning}
-use Rattle.ps_model.specs.Lines.{folded}
-use Rattle.ps_model.specs.Names.{Names, Meaning, meaning_of}
+use Rattle.ps_model.specs.session.LevelFaults.{character_meaning}
+use Rattle.ps_model.specs.text.Lines.{folded}
+use Rattle.ps_model.specs.names.Names.{Names, Meaning, meaning_of}
 use Rattle.ps_levels.proofs.Letters.{folded_character}
 use Rattle.ps_levels.proofs.glyphs.character_meaning.Goals as goal
 

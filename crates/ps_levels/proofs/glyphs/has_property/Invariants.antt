@@ -1,6 +1,6 @@
 use Rattle.std.proofs.Common.{◌≡◌, drop}
 use Rattle.std.specs.List.{list_any}
-use Rattle.ps_model.specs.Meanings.{is_property}
+use Rattle.ps_model.specs.names.Meanings.{is_property}
 use Rattle.ps_levels.specs.Cells.{meanings_shown}
 use Rattle.ps_levels.proofs.glyphs.has_property.Given as goal
 

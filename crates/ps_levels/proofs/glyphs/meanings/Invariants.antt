@@ -1,5 +1,5 @@
 use Rattle.std.proofs.Common.{◌≡◌, ◌++◌, map, drop}
-use Rattle.ps_model.specs.LevelFaults.{character_meaning}
+use Rattle.ps_model.specs.session.LevelFaults.{character_meaning}
 use Rattle.ps_levels.specs.Cells.{meanings_shown}
 use Rattle.ps_levels.proofs.glyphs.meanings.Given as goal
 

@@ -1,7 +1,7 @@
 use Rattle.std.proofs.Common.{◌∙◌, [], arith, List}
 use Rattle.std.specs.Borrow.{Bor}
 use Rattle.ps_model.specs.declared.pieces.ObjectId.{ObjectId}
-use Rattle.ps_model.specs.Levels.{with_ground}
+use Rattle.ps_model.specs.board.Levels.{with_ground}
 use Rattle.ps_levels.proofs.Grounds.{grown, grounds}
 use Rattle.ps_levels.proofs.ground.fill_ground.Goals as goal
 

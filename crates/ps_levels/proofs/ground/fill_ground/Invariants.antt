@@ -1,5 +1,5 @@
 use Rattle.std.proofs.Common.{◌≡◌, map, take}
-use Rattle.ps_model.specs.Levels.{with_ground}
+use Rattle.ps_model.specs.board.Levels.{with_ground}
 use Rattle.ps_levels.specs.Cells.{cells_shown}
 use Rattle.ps_levels.proofs.ground.fill_ground.Given as goal
 

@@ -1,7 +1,7 @@
 use Rattle.std.proofs.Common.{rules, ◌≡◌, ◌∙◌, ◌++◌, ◌∷◌, [], sym, ap, true, false, ℕ}
 use Rattle.std.specs.Prelude.{find, is_some, nat_eq}
-use Rattle.ps_model.specs.Names.{layer_of}
-use Rattle.ps_model.specs.Levels.{is_ground}
+use Rattle.ps_model.specs.names.Names.{layer_of}
+use Rattle.ps_model.specs.board.Levels.{is_ground}
 use Rattle.ps_levels.proofs.Grounds.{has_ground, lacks_ground}
 use Rattle.ps_levels.proofs.ground.filled.Goals as goal
 

@@ -2,7 +2,7 @@ use Rattle.std.proofs.Common.{rules, ◌≡◌, ◌∙◌, [], sym, ap, arith, S
 use Rattle.std.specs.Prelude.{find, nat_eq, unwrap_or, Bool}
 use Rattle.std.specs.Borrow.{Bor}
 use Rattle.ps_model.specs.declared.pieces.ObjectId.{ObjectId}
-use Rattle.ps_model.specs.Names.{layer_of}
+use Rattle.ps_model.specs.names.Names.{layer_of}
 use Rattle.ps_levels.proofs.Grounds.{first_here, none_here}
 use Rattle.ps_levels.proofs.ground.first_on.Goals as goal
 

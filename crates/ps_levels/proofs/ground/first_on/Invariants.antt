@@ -1,7 +1,7 @@
 use Rattle.std.proofs.Common.{◌≡◌, drop}
 use Rattle.std.specs.Prelude.{find, nat_eq, unwrap_or}
 use Rattle.std.specs.List.{flat_map}
-use Rattle.ps_model.specs.Names.{layer_of}
+use Rattle.ps_model.specs.names.Names.{layer_of}
 use Rattle.ps_levels.specs.Cells.{cells_shown}
 use Rattle.ps_levels.proofs.ground.first_on.Given as goal
 

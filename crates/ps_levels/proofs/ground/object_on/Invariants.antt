@@ -1,6 +1,6 @@
 use Rattle.std.proofs.Common.{◌≡◌, drop}
 use Rattle.std.specs.Prelude.{nat_eq, find}
-use Rattle.ps_model.specs.Names.{layer_of}
+use Rattle.ps_model.specs.names.Names.{layer_of}
 use Rattle.ps_levels.proofs.ground.object_on.Given as goal
 
 abbrev pub invariant-loop-object : goal.invariant-loop-object

@@ -4,11 +4,11 @@ use Rattle.std.specs.Global.{Global}
 use Rattle.std.specs.Borrow.{Bor}
 use Rattle.std.proofs.lemmas.List.{length-map}
 use Rattle.ps_model.specs.declared.pieces.ObjectId.{ObjectId}
-use Rattle.ps_model.specs.Limits.{side_limit}
-use Rattle.ps_model.specs.Lines.{Line}
-use Rattle.ps_model.specs.LineNumbers.{line_at, lines_between}
-use Rattle.ps_model.specs.Levels.{grounded}
-use Rattle.ps_model.specs.LevelLines.{row_cells, in_columns}
+use Rattle.ps_model.specs.declared.limits.TheConstants.{SIDE_LIMIT}
+use Rattle.ps_model.specs.text.Lines.{Line}
+use Rattle.ps_model.specs.text.LineNumbers.{line_at, lines_between}
+use Rattle.ps_model.specs.board.Levels.{grounded}
+use Rattle.ps_model.specs.session.LevelLines.{row_cells, in_columns}
 use Rattle.ps_levels.specs.Cells.{cells_shown, rows_shown}
 use Rattle.ps_levels.proofs.LevelSteps.{level-low, level-made}
 use Rattle.ps_levels.proofs.level.read_level.Goals as goal
@@ -22,7 +22,7 @@ overflow_cast-result-2 c =
     let names = c.args.names.now in
     let first : Line = line_at text c.args.lines.start in
     let below : List Line = lines_between text (c.args.lines.start + 1) c.args.lines.end in
-    let low : suc (length below) ≤ side_limit = level-low names c.in_ok-width.width c.args.place first below c.in_ok-rows.ensures.fine in
+    let low : suc (length below) ≤ SIDE_LIMIT = level-low names c.in_ok-width.width c.args.place first below c.in_ok-rows.ensures.fine in
     let rows : length c.in_ok-rows.rows.items ≡ length (first ∷ below) =
     sym (length-map c.in_ok-rows.rows.items (λ (row : Row). cells_shown row.items)) ∙ ap length c.in_ok-rows.ensures.part ∙ length-map (first ∷ below) (row_cells names c.in_ok-width.width) in
     omega (arith, low, rows, c.in_ok-rows.rows.ok.0, c.len.ensures)

@@ -6,17 +6,17 @@ use Rattle.std.proofs.lemmas.Bool.Decides.{nat_tests}
 use Rattle.ps_model.specs.declared.pieces.ObjectId.{ObjectId}
 use Rattle.ps_model.specs.declared.faults.Fault.{Fault as TheFault}
 use Rattle.ps_model.specs.declared.faults.FaultKind.TheVariants.{TooManyEntries}
-use Rattle.ps_model.specs.Faults.{first_fault}
-use Rattle.ps_model.specs.Limits.{entry_limit}
-use Rattle.ps_model.specs.LineNumbers.{line_at, lines_between}
-use Rattle.ps_model.specs.Lines.{Line}
-use Rattle.ps_model.specs.LevelFaults.{row_faults, rows_faults}
-use Rattle.ps_model.specs.LevelLines.{row_cells}
+use Rattle.ps_model.specs.text.Faults.{first_fault}
+use Rattle.ps_model.specs.declared.limits.TheConstants.{ENTRY_LIMIT}
+use Rattle.ps_model.specs.text.LineNumbers.{line_at, lines_between}
+use Rattle.ps_model.specs.text.Lines.{Line}
+use Rattle.ps_model.specs.session.LevelFaults.{row_faults, rows_faults}
+use Rattle.ps_model.specs.session.LevelLines.{row_cells}
 use Rattle.ps_levels.specs.declared.fault.LevelFault.{LevelFault}
 use Rattle.ps_levels.specs.declared.fault.LevelFault.TheVariants.{Refused}
 use Rattle.ps_levels.specs.Cells.{cells_shown}
 use Rattle.ps_levels.specs.RowFaults.{level_faults_by}
-use Rattle.ps_model.proofs.LinesInOrder.{line_at-number}
+use Rattle.ps_laws.proofs.common.LinesInOrder.{line_at-number}
 use Rattle.ps_levels.proofs.LevelSteps.{one-line, fault-in-first, first-fine, fault-of-place, faults-below}
 use Rattle.ps_levels.proofs.RowSteps.{rows-counted}
 use Rattle.ps_levels.proofs.level.read_rows.Goals as goal
@@ -50,7 +50,7 @@ returns-then-place-eq-ENTRY_LIMIT-clause-refused c = λ fault e.
     let fine : row_faults names c.args.width 0 first ≡ [] = first-fine names c.args.width first lines one (ap (λ (n : ℕ). rows_faults names c.args.width n lines) (sym zero) ∙ c.in_ok-add_rows.ensures.fine) in
     let told : TheFault = record { kind = TooManyEntries; line = c.args.lines.start } in
     let same : told ≡ fault = cc in
-    let over : c.args.place ≡ entry_limit = grind (arith, nat_tests) in
+    let over : c.args.place ≡ ENTRY_LIMIT = grind (arith, nat_tests) in
     fault-of-place names c.args.width c.args.place c.args.lines.start first below fine over (line_at-number text c.args.lines.start c.requires.from_one (omega arith)) ∙ ap Some same
 
 pub returns-in_err-add_rows-2-clause-refused : goal.returns-in_err-add_rows-2-clause-refused
@@ -66,7 +66,7 @@ returns-in_err-add_rows-2-clause-refused c =
     let counted : length c.add_rows.new.rows.items ≡ 1 =
     rows-counted (λ (row : Row). cells_shown row.items) (row_cells names c.args.width) c.new-rows.result.items c.add_rows.new.rows.items lines c.in_ok-add_rows.ensures.part
     ∙ ap (λ (n : ℕ). n + length lines) zero ∙ ap (λ (ls : List Line). 0 + length ls) one in
-    let place : nat_eq c.args.place entry_limit ≡ false = grind (arith, nat_tests) in
+    let place : nat_eq c.args.place ENTRY_LIMIT ≡ false = grind (arith, nat_tests) in
     let fault : LevelFault = c.in_err-add_rows-2.field-0.0 in
     let told : (f : TheFault) → fault ≡ Refused f → first_fault (level_faults_by names c.args.width c.args.place first below) ≡ Some f =
     λ f e. ap first_fault (faults-below names c.args.width c.args.place first below fine place)
@@ -86,5 +86,5 @@ returns-clause-fine c =
     let counted : length c.add_rows.new.rows.items ≡ 1 =
     rows-counted (λ (row : Row). cells_shown row.items) (row_cells names c.args.width) c.new-rows.result.items c.add_rows.new.rows.items lines c.in_ok-add_rows.ensures.part
     ∙ ap (λ (n : ℕ). n + length lines) zero ∙ ap (λ (ls : List Line). 0 + length ls) one in
-    let place : nat_eq c.args.place entry_limit ≡ false = grind (arith, nat_tests) in
+    let place : nat_eq c.args.place ENTRY_LIMIT ≡ false = grind (arith, nat_tests) in
     faults-below names c.args.width c.args.place first below fine place ∙ ap (λ (n : ℕ). rows_faults names c.args.width n below) (sym counted) ∙ c.in_ok-add_rows-2.ensures.fine

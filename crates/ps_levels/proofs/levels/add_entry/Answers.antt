@@ -1,10 +1,10 @@
 use Rattle.std.proofs.Common.{rules, ◌≡◌, ◌+◌, ◌++◌, ap, sym, List, length, map, Some, true, false}
 use Rattle.ps_model.specs.declared.faults.Fault.{Fault as TheFault}
-use Rattle.ps_model.specs.Faults.{first_fault}
-use Rattle.ps_model.specs.Lines.{is_blank_line}
-use Rattle.ps_model.specs.LineNumbers.{line_at, lines_between}
-use Rattle.ps_model.specs.LevelFaults.{entries_faults}
-use Rattle.ps_model.specs.LevelLines.{EntryLines, MessageLine, is_message, entry_of, entry_lines, entries_at}
+use Rattle.ps_model.specs.text.Faults.{first_fault}
+use Rattle.ps_model.specs.text.Lines.{is_blank_line}
+use Rattle.ps_model.specs.text.LineNumbers.{line_at, lines_between}
+use Rattle.ps_model.specs.session.LevelFaults.{entries_faults}
+use Rattle.ps_model.specs.session.LevelLines.{EntryLines, MessageLine, is_message, entry_of, entry_lines, entries_at}
 use Rattle.ps_levels.specs.declared.fault.LevelFault.{LevelFault}
 use Rattle.ps_levels.specs.declared.fault.LevelFault.TheVariants.{Refused}
 use Rattle.ps_levels.specs.EntriesShown.{entry_shown, entries_shown, level_lines}

@@ -1,9 +1,9 @@
 use Rattle.std.proofs.Common.{◌≡◌, ◌∙◌, ap, length, Some, arith}
 use Rattle.ps_model.specs.declared.faults.Fault.{Fault as TheFault}
 use Rattle.ps_model.specs.declared.faults.FaultKind.TheVariants.{TooManyEntries}
-use Rattle.ps_model.specs.Limits.{entry_limit}
-use Rattle.ps_model.specs.LineNumbers.{line_at}
-use Rattle.ps_model.proofs.LinesInOrder.{line_at-number}
+use Rattle.ps_model.specs.declared.limits.TheConstants.{ENTRY_LIMIT}
+use Rattle.ps_model.specs.text.LineNumbers.{line_at}
+use Rattle.ps_laws.proofs.common.LinesInOrder.{line_at-number}
 use Rattle.ps_levels.proofs.EntrySteps.{over-limit}
 use Rattle.ps_levels.proofs.SizedLevels.{shown-columns-more}
 use Rattle.ps_levels.proofs.levels.add_message.Goals as goal
@@ -12,7 +12,7 @@ pub returns-then-len-eq-ENTRY_LIMIT-clause-refused : goal.returns-then-len-eq-EN
 returns-then-len-eq-ENTRY_LIMIT-clause-refused c = λ fault e.
     let told : TheFault = record { kind = TooManyEntries; line = c.args.line } in
     let same : told ≡ fault = cc in
-    let over : length c.args.entries.now.items ≡ entry_limit = omega arith in
+    let over : length c.args.entries.now.items ≡ ENTRY_LIMIT = omega arith in
     over-limit (length c.args.entries.now.items) c.args.line (line_at c.args.source.now c.args.line) over (line_at-number c.args.source.now c.args.line c.requires.from_one c.requires.there) ∙ ap Some same
 
 pub returns-clause-columns : goal.returns-clause-columns

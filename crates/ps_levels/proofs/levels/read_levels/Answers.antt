@@ -3,13 +3,13 @@ use Rattle.std.specs.List.{list_any}
 use Rattle.std.proofs.lemmas.List.{append-nil}
 use Rattle.ps_model.specs.declared.faults.Fault.{Fault as TheFault}
 use Rattle.ps_model.specs.declared.faults.FaultKind.TheVariants.{NoLevel}
-use Rattle.ps_model.specs.Lines.{Line}
-use Rattle.ps_model.specs.LineNumbers.{lines_between}
-use Rattle.ps_model.specs.LevelFaults.{entries_faults}
-use Rattle.ps_model.specs.LevelLines.{entry_lines, entries_read}
+use Rattle.ps_model.specs.text.Lines.{Line}
+use Rattle.ps_model.specs.text.LineNumbers.{lines_between}
+use Rattle.ps_model.specs.session.LevelFaults.{entries_faults}
+use Rattle.ps_model.specs.session.LevelLines.{entry_lines, entries_read}
 use Rattle.ps_levels.specs.declared.levels.Entry as code
 use Rattle.ps_levels.specs.EntriesShown.{entries_shown, is_level_entry}
-use Rattle.ps_model.proofs.LinesInOrder.{between-end}
+use Rattle.ps_laws.proofs.common.LinesInOrder.{between-end}
 use Rattle.std.specs.Prelude.{All}
 use Rattle.ps_levels.specs.Sized.{HasColumn, IsSizedEntry}
 use Rattle.ps_levels.proofs.SizedLevels.{sized-levels}

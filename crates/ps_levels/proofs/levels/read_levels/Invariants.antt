@@ -1,7 +1,7 @@
 use Rattle.std.proofs.Common.{◌≡◌, ◌≤◌, ◌-◌, ◌++◌, length}
-use Rattle.ps_model.specs.LevelFaults.{entries_faults}
-use Rattle.ps_model.specs.LevelLines.{entry_lines, entries_read}
-use Rattle.ps_model.specs.LineNumbers.{lines_between}
+use Rattle.ps_model.specs.session.LevelFaults.{entries_faults}
+use Rattle.ps_model.specs.session.LevelLines.{entry_lines, entries_read}
+use Rattle.ps_model.specs.text.LineNumbers.{lines_between}
 use Rattle.std.specs.Prelude.{All}
 use Rattle.ps_levels.specs.Sized.{HasColumn}
 use Rattle.ps_levels.specs.EntriesShown.{entries_shown}

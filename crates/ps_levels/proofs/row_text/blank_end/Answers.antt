@@ -1,8 +1,8 @@
 use Rattle.std.proofs.Common.{rules, ◌≡◌, ◌∙◌, ◌-◌, ◌<◌, true, false, length, get_or, sym, ap, arith}
 use Rattle.std.specs.Prelude.{slice_range}
 use Rattle.std.proofs.lemmas.Str.{IsCharBoundary-before_ascii}
-use Rattle.ps_model.specs.Words.{is_blank}
-use Rattle.ps_model.specs.Lines.{without_blank_end}
+use Rattle.ps_model.specs.text.Words.{is_blank}
+use Rattle.ps_model.specs.text.Lines.{without_blank_end}
 use Rattle.ps_levels.proofs.BetweenBlanks.{blank_is_ascii}
 use Rattle.ps_levels.proofs.BlankEnds.{one_blank_less, ends_here}
 use Rattle.ps_levels.proofs.row_text.blank_end.Goals as goal

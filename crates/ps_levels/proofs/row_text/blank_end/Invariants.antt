@@ -1,7 +1,7 @@
 use Rattle.std.proofs.Common.{◌≡◌, ◌≤◌, ◌-◌, length, drop}
 use Rattle.std.specs.Prelude.{slice_range}
 use Rattle.std.specs.Str.{IsCharBoundary}
-use Rattle.ps_model.specs.Lines.{without_blank_end}
+use Rattle.ps_model.specs.text.Lines.{without_blank_end}
 use Rattle.ps_levels.proofs.row_text.blank_end.Given as goal
 
 abbrev pub invariant-loop-end : goal.invariant-loop-end

@@ -1,9 +1,9 @@
 use Rattle.std.proofs.Common.{◌≡◌, ◌∙◌, sym, ap, subst, ◌<◌, List, ℕ, length}
 use Rattle.std.specs.List.{prefix_len}
 use Rattle.std.specs.Prelude.{drop}
-use Rattle.ps_model.specs.Words.{is_blank}
-use Rattle.ps_model.specs.Lines.{without_blank_end}
-use Rattle.ps_model.specs.LineNumbers.{line_at}
+use Rattle.ps_model.specs.text.Words.{is_blank}
+use Rattle.ps_model.specs.text.Lines.{without_blank_end}
+use Rattle.ps_model.specs.text.LineNumbers.{line_at}
 use Rattle.ps_levels.proofs.WrittenRows.{some-characters}
 use Rattle.ps_levels.proofs.row_text.characters_of.Goals as goal
 

@@ -2,7 +2,7 @@ use Rattle.std.proofs.Common.{rules, ◌≡◌, ◌+◌, ◌<◌, true, length, 
 use Rattle.std.specs.List.{prefix_len}
 use Rattle.std.proofs.lemmas.List.Sums.{prefix_len-drop_yes}
 use Rattle.std.proofs.lemmas.Str.{IsCharBoundary-after_ascii, IsCharBoundary-start}
-use Rattle.ps_model.specs.Words.{is_blank}
+use Rattle.ps_model.specs.text.Words.{is_blank}
 use Rattle.ps_levels.proofs.BetweenBlanks.{blank_is_ascii}
 use Rattle.ps_levels.proofs.row_text.past_blanks.Goals as goal
 

@@ -1,7 +1,7 @@
 use Rattle.std.proofs.Common.{◌≡◌, ◌+◌, drop}
 use Rattle.std.specs.List.{prefix_len}
 use Rattle.std.specs.Str.{IsCharBoundary}
-use Rattle.ps_model.specs.Words.{is_blank}
+use Rattle.ps_model.specs.text.Words.{is_blank}
 use Rattle.ps_levels.proofs.row_text.past_blanks.Given as goal
 
 abbrev pub invariant-loop-at : goal.invariant-loop-at

@@ -1,7 +1,7 @@
 use Rattle.std.proofs.Common.{◌∙◌, ◌+◌, ap, List, ℕ, length, drop}
 use Rattle.std.specs.List.{prefix_len}
-use Rattle.ps_model.specs.Words.{is_blank}
-use Rattle.ps_model.specs.Lines.{without_blank_end}
+use Rattle.ps_model.specs.text.Words.{is_blank}
+use Rattle.ps_model.specs.text.Lines.{without_blank_end}
 use Rattle.ps_levels.proofs.BetweenBlanks.{between-blanks}
 use Rattle.ps_levels.proofs.row_text.without_blank_ends.Goals as goal
 

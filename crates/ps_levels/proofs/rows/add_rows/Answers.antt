@@ -4,15 +4,15 @@ use Rattle.std.specs.Global.{Global}
 use Rattle.std.specs.Borrow.{Bor}
 use Rattle.ps_model.specs.declared.pieces.ObjectId.{ObjectId}
 use Rattle.ps_model.specs.declared.faults.Fault.{Fault as TheFault}
-use Rattle.ps_model.specs.Faults.{first_fault}
-use Rattle.ps_model.specs.LineNumbers.{lines_between}
-use Rattle.ps_model.specs.LevelFaults.{rows_faults}
-use Rattle.ps_model.specs.LevelLines.{row_cells}
+use Rattle.ps_model.specs.text.Faults.{first_fault}
+use Rattle.ps_model.specs.text.LineNumbers.{lines_between}
+use Rattle.ps_model.specs.session.LevelFaults.{rows_faults}
+use Rattle.ps_model.specs.session.LevelLines.{row_cells}
 use Rattle.ps_levels.specs.declared.fault.LevelFault.{LevelFault}
 use Rattle.ps_levels.specs.declared.fault.LevelFault.TheVariants.{Refused}
-use Rattle.ps_model.specs.LineNumbers.{here}
+use Rattle.ps_model.specs.text.LineNumbers.{here}
 use Rattle.ps_levels.specs.Cells.{cells_shown, rows_shown}
-use Rattle.ps_model.proofs.LinesInOrder.{between-step}
+use Rattle.ps_laws.proofs.common.LinesInOrder.{between-step}
 use Rattle.ps_levels.proofs.RowSteps.{first-of-rows, none-of-rows, rows-more, rows-counted}
 use Rattle.ps_levels.proofs.rows.add_rows.Goals as goal
 

@@ -1,7 +1,7 @@
 use Rattle.std.proofs.Common.{◌≡◌, ◌++◌, map, length}
-use Rattle.ps_model.specs.LevelFaults.{rows_faults}
-use Rattle.ps_model.specs.LevelLines.{row_cells}
-use Rattle.ps_model.specs.LineNumbers.{lines_between}
+use Rattle.ps_model.specs.session.LevelFaults.{rows_faults}
+use Rattle.ps_model.specs.session.LevelLines.{row_cells}
+use Rattle.ps_model.specs.text.LineNumbers.{lines_between}
 use Rattle.ps_levels.specs.Cells.{rows_shown}
 use Rattle.ps_levels.proofs.rows.add_rows.Given as goal
 

@@ -2,13 +2,13 @@ use Rattle.std.proofs.Common.{rules, ◌≡◌, ◌∙◌, sym, ap, map, List, �
 use Rattle.std.specs.Borrow.{Bor}
 use Rattle.ps_names.specs.declared.meaning.Meaning as code
 use Rattle.ps_model.specs.declared.faults.Fault.{Fault as TheFault}
-use Rattle.ps_model.specs.Faults.{first_fault}
-use Rattle.ps_model.specs.LevelFaults.{character_meaning, row_faults}
-use Rattle.ps_model.specs.LevelLines.{of_width}
-use Rattle.ps_model.specs.LineNumbers.{line_at}
-use Rattle.ps_model.specs.Lines.{Line}
+use Rattle.ps_model.specs.text.Faults.{first_fault}
+use Rattle.ps_model.specs.session.LevelFaults.{character_meaning, row_faults}
+use Rattle.ps_model.specs.session.LevelLines.{of_width}
+use Rattle.ps_model.specs.text.LineNumbers.{line_at}
+use Rattle.ps_model.specs.text.Lines.{Line}
 use Rattle.ps_levels.specs.Cells.{meanings_shown, objects_of}
-use Rattle.ps_model.proofs.LinesInOrder.{line_at-number}
+use Rattle.ps_laws.proofs.common.LinesInOrder.{line_at-number}
 use Rattle.ps_levels.proofs.RowSteps.{faults-seen, cells-by-meanings, none-first}
 use Rattle.ps_levels.proofs.rows.read_row.Goals as goal
 

@@ -1,9 +1,9 @@
 use Rattle.std.proofs.Common.{rules, ◌≡◌, ◌∙◌, ◌++◌, ◌&&◌, ap, List, true, false, arith}
 use Rattle.std.specs.Prelude.{not}
 use Rattle.std.proofs.lemmas.List.{append-nil}
-use Rattle.ps_model.specs.Lines.{Line}
-use Rattle.ps_model.specs.LineNumbers.{line_at, lines_between}
-use Rattle.ps_model.specs.LevelLines.{is_row}
+use Rattle.ps_model.specs.text.Lines.{Line}
+use Rattle.ps_model.specs.text.LineNumbers.{line_at, lines_between}
+use Rattle.ps_model.specs.session.LevelLines.{is_row}
 use Rattle.ps_levels.proofs.StretchSteps.{level-goes-on, level-ends}
 use Rattle.ps_levels.proofs.stretch.level_end.Goals as goal
 

@@ -1,7 +1,7 @@
 use Rattle.std.proofs.Common.{◌≡◌, ◌++◌, true}
 use Rattle.std.specs.List.{take_while}
-use Rattle.ps_model.specs.LevelLines.{is_row, entries_at}
-use Rattle.ps_model.specs.LineNumbers.{lines_between}
+use Rattle.ps_model.specs.session.LevelLines.{is_row, entries_at}
+use Rattle.ps_model.specs.text.LineNumbers.{lines_between}
 use Rattle.ps_levels.proofs.stretch.level_end.Given as goal
 
 abbrev pub invariant-loop-line : goal.invariant-loop-line

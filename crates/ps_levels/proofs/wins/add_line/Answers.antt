@@ -1,12 +1,12 @@
 use Rattle.std.proofs.Common.{rules, ◌≡◌, ◌∙◌, ap, Some, true}
 use Rattle.ps_model.specs.declared.faults.Fault.{Fault as TheFault}
-use Rattle.ps_model.specs.Faults.{first_fault}
-use Rattle.ps_model.specs.LineNumbers.{line_at}
-use Rattle.ps_model.specs.WinLines.{win_faults_of, win_faults}
+use Rattle.ps_model.specs.text.Faults.{first_fault}
+use Rattle.ps_model.specs.text.LineNumbers.{line_at}
+use Rattle.ps_model.specs.board.WinLines.{win_faults_of, win_faults}
 use Rattle.ps_levels.specs.declared.fault.WinFault.{WinFault}
 use Rattle.ps_levels.specs.declared.fault.WinFault.TheVariants.{Refused}
-use Rattle.ps_model.specs.LineNumbers.{here}
-use Rattle.ps_model.proofs.FirstFaults.{faults-here}
+use Rattle.ps_model.specs.text.LineNumbers.{here}
+use Rattle.ps_laws.proofs.common.FirstFaults.{faults-here}
 use Rattle.ps_levels.proofs.wins.add_line.Goals as goal
 
 pub returns-in_err-win-clause-refused : goal.returns-in_err-win-clause-refused

@@ -1,11 +1,11 @@
 use Rattle.std.proofs.Common.{rules, ◌≡◌, ◌∙◌, ap, Some, None, false}
 use Rattle.ps_model.specs.declared.faults.Fault.{Fault as TheFault}
 use Rattle.ps_model.specs.declared.faults.FaultKind.TheVariants.{BadWin, UnknownWinName}
-use Rattle.ps_model.specs.LineNumbers.{line_at}
-use Rattle.ps_model.specs.Lines.{Line, is_blank_line}
-use Rattle.ps_model.specs.WinLines.{win_text, win_read, WinText}
+use Rattle.ps_model.specs.text.LineNumbers.{line_at}
+use Rattle.ps_model.specs.text.Lines.{Line, is_blank_line}
+use Rattle.ps_model.specs.board.WinLines.{win_text, win_read, WinText}
 use Rattle.ps_levels.specs.WinsShown.{words_shown}
-use Rattle.ps_model.proofs.LinesInOrder.{line_at-number}
+use Rattle.ps_laws.proofs.common.LinesInOrder.{line_at-number}
 use Rattle.ps_levels.proofs.WinSteps.{bad-win, unknown-win-name}
 use Rattle.ps_levels.proofs.wins.read_line.Goals as goal
 

@@ -1,14 +1,14 @@
 use Rattle.std.proofs.Common.{rules, ◌≡◌, ◌∙◌, ◌+◌, ap, sym, refl, arith, Some}
 use Rattle.ps_model.specs.declared.faults.Fault.{Fault as TheFault}
-use Rattle.ps_model.specs.Faults.{first_fault}
-use Rattle.ps_model.specs.LineNumbers.{lines_between}
-use Rattle.ps_model.specs.WinLines.{win_faults_of, win_faults}
+use Rattle.ps_model.specs.text.Faults.{first_fault}
+use Rattle.ps_model.specs.text.LineNumbers.{lines_between}
+use Rattle.ps_model.specs.board.WinLines.{win_faults_of, win_faults}
 use Rattle.ps_levels.specs.declared.fault.WinFault.{WinFault}
 use Rattle.ps_levels.specs.declared.fault.WinFault.TheVariants.{Refused}
-use Rattle.ps_model.specs.LineNumbers.{here}
+use Rattle.ps_model.specs.text.LineNumbers.{here}
 use Rattle.ps_levels.specs.WinsShown.{wins_shown}
-use Rattle.ps_model.proofs.LinesInOrder.{between-step}
-use Rattle.ps_model.proofs.FirstFaults.{first-of-lines, none-of-lines}
+use Rattle.ps_laws.proofs.common.LinesInOrder.{between-step}
+use Rattle.ps_laws.proofs.common.FirstFaults.{first-of-lines, none-of-lines}
 use Rattle.ps_levels.proofs.WinSteps.{wins-more}
 use Rattle.ps_levels.proofs.wins.read_wins.Goals as goal
 

@@ -1,6 +1,6 @@
 use Rattle.std.proofs.Common.{◌≡◌, ◌++◌}
-use Rattle.ps_model.specs.LineNumbers.{lines_between}
-use Rattle.ps_model.specs.WinLines.{wins_read, win_faults}
+use Rattle.ps_model.specs.text.LineNumbers.{lines_between}
+use Rattle.ps_model.specs.board.WinLines.{wins_read, win_faults}
 use Rattle.ps_levels.specs.WinsShown.{wins_shown}
 use Rattle.ps_levels.proofs.wins.read_wins.Given as goal
 

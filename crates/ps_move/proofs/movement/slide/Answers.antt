@@ -1,6 +1,6 @@
 use Rattle.std.proofs.Common.{◌≡◌, ◌∙◌, ◌+◌, ◌*◌, ◌≤◌, Bool, false, cond, subst, arith, refl}
-use Rattle.ps_model.specs.Grid.{Grid, IsGrid, at_rest}
-use Rattle.ps_model.specs.WeakMovement.{IsWeaklySlid}
+use Rattle.ps_model.specs.board.Grid.{Grid, IsGrid, at_rest}
+use Rattle.ps_model.specs.board.WeakMovement.{IsWeaklySlid}
 use Rattle.ps_move.specs.Visits.{going_count}
 use Rattle.ps_move.specs.Order.{IsInOrder}
 use Rattle.ps_move.proofs.Parts.{going_count-bound, order_none, rest_slides}

@@ -1,6 +1,6 @@
 use Rattle.std.proofs.Common.{false, ◌≡◌, ◌+◌, ◌*◌, ◌<◌, ◌≤◌}
-use Rattle.ps_model.specs.Limits.{side_limit, layer_limit}
-use Rattle.ps_model.specs.Grid.{IsGrid}
+use Rattle.ps_model.specs.declared.limits.TheConstants.{SIDE_LIMIT, LAYER_LIMIT}
+use Rattle.ps_model.specs.board.Grid.{IsGrid}
 use Rattle.ps_move.specs.Visits.{going_count}
 use Rattle.ps_move.specs.Order.{IsInOrder}
 use Rattle.ps_move.proofs.movement.slide.Given as goal
@@ -12,7 +12,7 @@ invariant-loop-passes g l =
       some : 0 < l.passes;
       first : l.passes ≡ 1 → g.B.Board.grid l.board ≡ g.B.Board.grid l.fn.board;
       few : l.passes + going_count (g.B.Board.grid l.board) ≤ going_count (g.B.Board.grid l.fn.board) + 1;
-      room : IsGrid (g.B.Board.grid l.board) → going_count (g.B.Board.grid l.fn.board) ≤ side_limit * side_limit * layer_limit;
+      room : IsGrid (g.B.Board.grid l.board) → going_count (g.B.Board.grid l.fn.board) ≤ SIDE_LIMIT * SIDE_LIMIT * LAYER_LIMIT;
     }
 
 -- each pass but the last leaves fewer objects with a direction

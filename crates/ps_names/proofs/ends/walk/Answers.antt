@@ -1,5 +1,5 @@
 use Rattle.std.proofs.Common.{◌≡◌, ◌∙◌, rules, sym, ap, Some, List, rules}
-use Rattle.ps_model.specs.Meanings as model
+use Rattle.ps_model.specs.names.Meanings as model
 use Rattle.ps_names.specs.declared.mention.Mention.TheVariants.{Line}
 use Rattle.ps_names.specs.Known.{mention_shown}
 use Rattle.ps_names.specs.LegendNames.{legend_shown}

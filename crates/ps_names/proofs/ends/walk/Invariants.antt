@@ -1,4 +1,4 @@
-use Rattle.ps_model.specs.Meanings.{OfLine}
+use Rattle.ps_model.specs.names.Meanings.{OfLine}
 use Rattle.ps_names.specs.Known.{mention_shown}
 use Rattle.ps_names.specs.LegendNames.{legend_shown}
 use Rattle.ps_names.specs.Ends.{StandsBehind}

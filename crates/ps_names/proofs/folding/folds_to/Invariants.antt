@@ -1,6 +1,6 @@
 use Rattle.std.proofs.Common.{◌≡◌, drop}
 use Rattle.std.specs.Str.{bytes_eq}
-use Rattle.ps_model.specs.Lines.{folded}
+use Rattle.ps_model.specs.text.Lines.{folded}
 use Rattle.ps_names.proofs.folding.folds_to.Given as goal
 
 abbrev pub invariant-loop-at : goal.invariant-loop-at

@@ -1,7 +1,7 @@
 use Rattle.std.proofs.Common.{◌≡◌, ◌∙◌, sym, ap, refl, rules, List, ℕ, Some, suc}
 use Rattle.ps_model.specs.declared.faults.Fault.{Fault as TheFault}
-use Rattle.ps_model.specs.DeclarationFaults.{faults_of_form, form_faults}
-use Rattle.ps_model.specs.Faults.{first_fault}
+use Rattle.ps_model.specs.names.DeclarationFaults.{faults_of_form, form_faults}
+use Rattle.ps_model.specs.text.Faults.{first_fault}
 use Rattle.ps_names.specs.declared.fault.NameFault.{NameFault}
 use Rattle.ps_names.specs.declared.fault.NameFault.TheVariants.{Refused}
 use Rattle.ps_names.specs.declared.lines.WrittenLine.{WrittenLine}

@@ -1,7 +1,7 @@
 use Rattle.std.proofs.Common.{◌≡◌, ◌++◌, drop, length, map}
 use Rattle.std.specs.List.{enumerate_from}
-use Rattle.ps_model.specs.DeclarationFaults.{form_faults}
-use Rattle.ps_model.specs.LegendLines.{declarations}
+use Rattle.ps_model.specs.names.DeclarationFaults.{form_faults}
+use Rattle.ps_model.specs.names.LegendLines.{declarations}
 use Rattle.ps_names.specs.Known.{keys}
 use Rattle.ps_names.specs.LegendShown.{declarations_shown, named_line}
 use Rattle.ps_names.specs.LinesShown.{lines_shown}

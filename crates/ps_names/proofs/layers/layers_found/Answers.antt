@@ -1,5 +1,5 @@
 use Rattle.std.proofs.Common.{◌≡◌, ◌∙◌, sym, ap, List, [], drop, map, arith}
-use Rattle.ps_model.specs.LayerLines.{objects_named}
+use Rattle.ps_model.specs.names.LayerLines.{objects_named}
 use Rattle.ps_names.specs.declared.layers.Layer.{Layer}
 use Rattle.ps_names.specs.LayersShown.{placed_each, layers_shown}
 use Rattle.ps_names.proofs.Elements.{past-end}

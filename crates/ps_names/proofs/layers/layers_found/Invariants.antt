@@ -1,5 +1,5 @@
 use Rattle.std.proofs.Common.{◌≡◌, drop, map, replicate, None}
-use Rattle.ps_model.specs.LayerLines.{objects_named}
+use Rattle.ps_model.specs.names.LayerLines.{objects_named}
 use Rattle.ps_names.specs.LayersShown.{placed_each, layers_shown}
 use Rattle.ps_names.proofs.layers.layers_found.Given as goal
 

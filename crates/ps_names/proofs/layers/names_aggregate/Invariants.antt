@@ -1,6 +1,6 @@
 use Rattle.std.proofs.Common.{◌≡◌, drop, map, option_map}
 use Rattle.std.specs.List.{list_any}
-use Rattle.ps_model.specs.Meanings.{is_aggregate}
+use Rattle.ps_model.specs.names.Meanings.{is_aggregate}
 use Rattle.ps_names.specs.Shown.{meaning_shown}
 use Rattle.ps_names.proofs.layers.names_aggregate.Given as goal
 

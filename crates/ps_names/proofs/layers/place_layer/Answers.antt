@@ -1,6 +1,6 @@
 use Rattle.std.proofs.Common.{◌≡◌, ◌∙◌, ◌+◌, ◌∷◌, sym, ap, arith, List, ℕ, Option, map, drop, option_map}
 use Rattle.std.specs.List.{flat_map}
-use Rattle.ps_model.specs.Names.{members_if}
+use Rattle.ps_model.specs.names.Names.{members_if}
 use Rattle.ps_names.specs.Shown.{meaning_shown}
 use Rattle.ps_names.specs.LayersShown.{placed}
 use Rattle.ps_names.proofs.Elements.{element-first}

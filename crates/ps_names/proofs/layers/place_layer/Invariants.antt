@@ -1,7 +1,7 @@
 use Rattle.std.proofs.Common.{◌≡◌, drop, map, option_map}
 use Rattle.std.specs.List.{flat_map}
-use Rattle.ps_model.specs.Names.{members_if}
-use Rattle.ps_model.specs.LayerLines.{objects_named}
+use Rattle.ps_model.specs.names.Names.{members_if}
+use Rattle.ps_model.specs.names.LayerLines.{objects_named}
 use Rattle.ps_names.specs.LayersShown.{placed, layer_shown}
 use Rattle.ps_names.specs.Shown.{meaning_shown}
 use Rattle.ps_names.proofs.layers.place_layer.Given as goal

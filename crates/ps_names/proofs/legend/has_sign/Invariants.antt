@@ -1,6 +1,6 @@
 use Rattle.std.proofs.Common.{◌≡◌, map, drop}
 use Rattle.std.specs.List.{list_any}
-use Rattle.ps_model.specs.LegendLines.{is_sign}
+use Rattle.ps_model.specs.names.LegendLines.{is_sign}
 use Rattle.ps_text.specs.WordViews.{text_of}
 use Rattle.ps_names.proofs.legend.has_sign.Given as goal
 

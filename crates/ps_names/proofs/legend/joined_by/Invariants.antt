@@ -1,5 +1,5 @@
 use Rattle.std.proofs.Common.{◌≡◌, map, length}
-use Rattle.ps_model.specs.LegendLines.{joined_by}
+use Rattle.ps_model.specs.names.LegendLines.{joined_by}
 use Rattle.ps_text.specs.WordViews.{text_of}
 use Rattle.ps_names.specs.LegendShown.{behind}
 use Rattle.ps_names.proofs.legend.joined_by.Given as goal

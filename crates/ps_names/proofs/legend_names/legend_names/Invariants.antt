@@ -1,5 +1,5 @@
 use Rattle.std.proofs.Common.{◌≡◌, ◌++◌, drop, length, map}
-use Rattle.ps_model.specs.Meanings.{legend_name}
+use Rattle.ps_model.specs.names.Meanings.{legend_name}
 use Rattle.ps_names.specs.Known.{mentions_of_names}
 use Rattle.ps_names.specs.LegendShown.{declarations_shown}
 use Rattle.ps_names.specs.LegendNames.{legend_shown}

@@ -1,5 +1,5 @@
 use Rattle.std.proofs.Common.{◌≡◌, ◌<◌, ◌+◌, ℕ, true}
-use Rattle.ps_model.specs.Meanings.{OfLine, mentions_of}
+use Rattle.ps_model.specs.names.Meanings.{OfLine, mentions_of}
 use Rattle.ps_names.specs.LegendNames.{legend_shown}
 use Rattle.ps_names.specs.Levels.{level, are_below}
 use Rattle.ps_names.proofs.levels.fall.Given as goal

@@ -1,9 +1,9 @@
 use Rattle.std.proofs.Common.{◌∙◌, ◌+◌, ◌++◌, sym, ap, refl, arith, List, ℕ, append_assoc}
-use Rattle.ps_model.specs.Lines.{Line}
-use Rattle.ps_model.specs.LineNumbers.{lines_between}
+use Rattle.ps_model.specs.text.Lines.{Line}
+use Rattle.ps_model.specs.text.LineNumbers.{lines_between}
 use Rattle.ps_names.specs.LinesThere.{lines_at}
-use Rattle.ps_model.specs.LineNumbers.{here}
-use Rattle.ps_model.proofs.LinesInOrder.{between-step}
+use Rattle.ps_model.specs.text.LineNumbers.{here}
+use Rattle.ps_laws.proofs.common.LinesInOrder.{between-step}
 use Rattle.ps_names.proofs.lines.lines_there.Goals as goal
 
 pub loop-line-preserved : goal.loop-line-preserved

@@ -1,5 +1,5 @@
 use Rattle.std.proofs.Common.{◌≡◌, ◌++◌, ◌+◌, ◌≤◌, length, All}
-use Rattle.ps_model.specs.LineNumbers.{lines_between}
+use Rattle.ps_model.specs.text.LineNumbers.{lines_between}
 use Rattle.ps_names.specs.LinesThere.{IsLine, lines_at}
 use Rattle.ps_names.proofs.lines.lines_there.Given as goal
 

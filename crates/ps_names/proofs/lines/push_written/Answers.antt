@@ -1,10 +1,10 @@
 use Rattle.std.proofs.Common.{◌≡◌, ◌∙◌, refl, rules, false, map}
 use Rattle.std.proofs.lemmas.List.{map-append}
-use Rattle.ps_model.specs.LineNumbers.{line_at}
-use Rattle.ps_model.specs.Lines.{is_blank_line}
-use Rattle.ps_model.specs.Words.{word_texts}
+use Rattle.ps_model.specs.text.LineNumbers.{line_at}
+use Rattle.ps_model.specs.text.Lines.{is_blank_line}
+use Rattle.ps_model.specs.text.Words.{word_texts}
 use Rattle.ps_text.specs.WordViews.{text_of}
-use Rattle.ps_model.proofs.LinesInOrder.{line_at-number}
+use Rattle.ps_laws.proofs.common.LinesInOrder.{line_at-number}
 use Rattle.ps_names.proofs.lines.push_written.Goals as goal
 
 pub returns-clause-lines : goal.returns-clause-lines

@@ -1,5 +1,5 @@
 use Rattle.std.proofs.Common.{◌≡◌, ◌++◌, ◌≤◌, length, drop}
-use Rattle.ps_model.specs.WrittenLines.{written_lines}
+use Rattle.ps_model.specs.text.WrittenLines.{written_lines}
 use Rattle.ps_names.specs.LinesThere.{lines_at}
 use Rattle.ps_names.specs.LinesShown.{lines_shown}
 use Rattle.ps_names.proofs.lines.written_lines.Given as goal

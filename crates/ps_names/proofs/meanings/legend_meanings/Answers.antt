@@ -1,7 +1,7 @@
 use Rattle.std.proofs.Common.{◌≡◌, ◌∙◌, ◌+◌, ◌<◌, ◌++◌, ap, sym, refl, arith, List, ℕ, length, map}
 use Rattle.std.specs.List.{enumerate_from, drop-map}
 use Rattle.std.proofs.lemmas.List.{length-map, map-append}
-use Rattle.ps_model.specs.Meanings.{LegendName, OfLine, meaning_behind}
+use Rattle.ps_model.specs.names.Meanings.{LegendName, OfLine, meaning_behind}
 use Rattle.ps_names.specs.LegendNames.{name_shown, legend_shown}
 use Rattle.ps_names.specs.MeaningSteps.{meaning_shown_if, meanings_shown, meaning_at}
 use Rattle.ps_names.proofs.MeaningLaws.{meanings-step}

@@ -1,6 +1,6 @@
 use Rattle.std.proofs.Common.{◌≡◌, ◌++◌, drop, map}
 use Rattle.std.specs.List.{enumerate_from}
-use Rattle.ps_model.specs.Meanings.{legend_meanings}
+use Rattle.ps_model.specs.names.Meanings.{legend_meanings}
 use Rattle.ps_names.specs.LegendNames.{legend_shown}
 use Rattle.ps_names.specs.MeaningSteps.{meanings_shown, meaning_at}
 use Rattle.ps_names.proofs.meanings.legend_meanings.Given as goal

@@ -1,5 +1,5 @@
 use Rattle.std.proofs.Common.{◌≡◌, ◌-◌, length}
-use Rattle.ps_model.specs.Meanings.{OfLine, meaning_behind}
+use Rattle.ps_model.specs.names.Meanings.{OfLine, meaning_behind}
 use Rattle.ps_names.specs.Known.{mention_shown}
 use Rattle.ps_names.specs.LegendNames.{legend_shown}
 use Rattle.ps_names.proofs.meanings.meaning_behind.Given as goal

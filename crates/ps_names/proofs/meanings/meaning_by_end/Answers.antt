@@ -1,5 +1,5 @@
 use Rattle.std.proofs.Common.{◌≡◌, ◌∙◌, ◌<◌, ◌+◌, ◌-◌, ℕ, suc, sym, ap, length, List, arith, rules}
-use Rattle.ps_model.specs.Meanings.{LegendName, OfLine, meaning_behind}
+use Rattle.ps_model.specs.names.Meanings.{LegendName, OfLine, meaning_behind}
 use Rattle.ps_names.specs.Known.{mention_shown}
 use Rattle.ps_names.specs.LegendNames.{legend_shown}
 use Rattle.ps_names.specs.Ends.{EndsAt}

@@ -1,5 +1,5 @@
 use Rattle.std.proofs.Common.{◌≡◌, ◌∙◌, None, suc, sym, ap, get_or, List}
-use Rattle.ps_model.specs.Meanings.{LegendName, OfLine, meaning_behind}
+use Rattle.ps_model.specs.names.Meanings.{LegendName, OfLine, meaning_behind}
 use Rattle.ps_names.specs.Known.{mention_shown}
 use Rattle.ps_names.specs.LegendNames.{legend_shown}
 use Rattle.ps_names.specs.MeaningSteps.{behind_synonym}

@@ -1,8 +1,8 @@
 use Rattle.std.proofs.Common.{◌≡◌, ◌∙◌, sym, ap, refl, rules, List, ℕ, is_some, true, suc}
 use Rattle.std.specs.List.{enumerate_from, flat_map}
 use Rattle.ps_model.specs.declared.faults.Fault.{Fault}
-use Rattle.ps_model.specs.Faults.{first_fault}
-use Rattle.ps_model.specs.Meanings.{LegendName}
+use Rattle.ps_model.specs.text.Faults.{first_fault}
+use Rattle.ps_model.specs.names.Meanings.{LegendName}
 use Rattle.ps_names.specs.declared.legend_names.LegendName as code
 use Rattle.ps_names.specs.LegendNames.{name_shown, legend_shown}
 use Rattle.ps_names.specs.MeaningSteps.{meanings_shown, faults_at}

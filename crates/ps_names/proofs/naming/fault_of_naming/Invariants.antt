@@ -1,7 +1,7 @@
 use Rattle.std.proofs.Common.{◌≡◌, drop}
 use Rattle.std.specs.List.{enumerate_from, flat_map}
-use Rattle.ps_model.specs.DeclarationFaults.{naming_faults}
-use Rattle.ps_model.specs.Faults.{first_fault}
+use Rattle.ps_model.specs.names.DeclarationFaults.{naming_faults}
+use Rattle.ps_model.specs.text.Faults.{first_fault}
 use Rattle.ps_names.specs.LegendNames.{legend_shown}
 use Rattle.ps_names.specs.MeaningSteps.{meanings_shown, faults_at}
 use Rattle.ps_names.proofs.naming.fault_of_naming.Given as goal

@@ -1,6 +1,6 @@
 use Rattle.std.proofs.Common.{◌≡◌, drop, map}
 use Rattle.std.specs.List.{list_any}
-use Rattle.ps_model.specs.Meanings.{is_aggregate, meaning_of_mention}
+use Rattle.ps_model.specs.names.Meanings.{is_aggregate, meaning_of_mention}
 use Rattle.ps_names.specs.Known.{mentions_shown}
 use Rattle.ps_names.specs.MeaningSteps.{meanings_shown}
 use Rattle.ps_names.proofs.naming.some_aggregate.Given as goal

@@ -1,6 +1,6 @@
 use Rattle.std.proofs.Common.{◌≡◌, ◌∙◌, sym, ap, refl, rules, List, ℕ, is_some, true, suc}
-use Rattle.ps_model.specs.DeclarationFaults.{faults_of_object, object_faults}
-use Rattle.ps_model.specs.Faults.{first_fault}
+use Rattle.ps_model.specs.names.DeclarationFaults.{faults_of_object, object_faults}
+use Rattle.ps_model.specs.text.Faults.{first_fault}
 use Rattle.ps_names.specs.Known.{keys}
 use Rattle.ps_names.specs.LinesShown.{object_shown, objects_shown}
 use Rattle.ps_names.specs.declared.objects.ObjectText.{ObjectText}

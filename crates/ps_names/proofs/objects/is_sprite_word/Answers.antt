@@ -2,7 +2,7 @@ use Rattle.std.proofs.Common.{◌≡◌, ◌∙◌, sym, ap, rules, tests, Bool,
 use Rattle.std.specs.List.{list_all}
 use Rattle.std.proofs.lemmas.Iterator.{YieldsList-from_slice}
 use Rattle.std.proofs.lemmas.Iterator.Search.{all_from_yields_List}
-use Rattle.ps_model.specs.ObjectLines.{is_sprite_byte}
+use Rattle.ps_model.specs.names.ObjectLines.{is_sprite_byte}
 use Rattle.ps_names.proofs.objects.is_sprite_word.Goals as goal
 
 pub returns-then-word-eq5 : goal.returns-then-word-eq5

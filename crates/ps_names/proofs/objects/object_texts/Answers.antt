@@ -1,6 +1,6 @@
 use Rattle.std.proofs.Common.{◌++◌, ◌∙◌, sym, ap, List, ℕ, drop}
 use Rattle.std.proofs.lemmas.List.{drop-drop}
-use Rattle.ps_model.specs.ObjectLines.{objects_below}
+use Rattle.ps_model.specs.names.ObjectLines.{objects_below}
 use Rattle.ps_names.specs.LinesThere.{lines_at}
 use Rattle.ps_names.specs.LinesShown.{objects_shown}
 use Rattle.ps_names.proofs.Elements.{rest-of}

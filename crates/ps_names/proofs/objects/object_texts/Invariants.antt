@@ -1,5 +1,5 @@
 use Rattle.std.proofs.Common.{◌≡◌, ◌++◌, drop}
-use Rattle.ps_model.specs.ObjectLines.{objects_below, object_texts}
+use Rattle.ps_model.specs.names.ObjectLines.{objects_below, object_texts}
 use Rattle.ps_names.specs.LinesThere.{lines_at}
 use Rattle.ps_names.specs.LinesShown.{objects_shown}
 use Rattle.ps_names.proofs.objects.object_texts.Given as goal

@@ -1,13 +1,13 @@
 use Rattle.std.proofs.Common.{◌≡◌, ◌∙◌, ap, refl, rules, arith, false, get_or, List, ℕ}
 use Rattle.std.proofs.lemmas.List.{map-append}
 use Rattle.std.proofs.lemmas.List.Elements.{All-get_or}
-use Rattle.ps_model.specs.LineNumbers.{line_at}
-use Rattle.ps_model.specs.Lines.{is_blank_line}
+use Rattle.ps_model.specs.text.LineNumbers.{line_at}
+use Rattle.ps_model.specs.text.Lines.{is_blank_line}
 use Rattle.ps_names.specs.LinesThere.{IsLine, lines_at}
 use Rattle.ps_names.specs.LinesShown.{objects_shown}
-use Rattle.ps_model.specs.ObjectLines.{lines_below}
+use Rattle.ps_model.specs.names.ObjectLines.{lines_below}
 use Rattle.ps_names.proofs.Elements.{rest-of}
-use Rattle.ps_model.proofs.LinesInOrder.{line_at-number}
+use Rattle.ps_laws.proofs.common.LinesInOrder.{line_at-number}
 use Rattle.ps_names.proofs.ObjectSteps.{object-step}
 use Rattle.ps_names.proofs.objects.over.Goals as goal
 

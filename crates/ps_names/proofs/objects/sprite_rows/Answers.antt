@@ -1,6 +1,6 @@
 use Rattle.std.proofs.Common.{◌≡◌, ◌<◌, ◌+◌, ◌∙◌, sym, refl, rules, arith, true, false, get_or}
-use Rattle.ps_model.specs.LineNumbers.{line_at}
-use Rattle.ps_model.specs.ObjectLines.{is_sprite_row}
+use Rattle.ps_model.specs.text.LineNumbers.{line_at}
+use Rattle.ps_model.specs.names.ObjectLines.{is_sprite_row}
 use Rattle.ps_names.proofs.ObjectSteps.{row-step, row-stop}
 use Rattle.ps_names.proofs.objects.sprite_rows.Goals as goal
 

@@ -1,6 +1,6 @@
 use Rattle.std.proofs.Common.{◌≡◌, ◌+◌, ◌-◌, ◌≤◌, drop, take}
 use Rattle.std.specs.List.{prefix_len}
-use Rattle.ps_model.specs.ObjectLines.{is_sprite_row, sprite_rows}
+use Rattle.ps_model.specs.names.ObjectLines.{is_sprite_row, sprite_rows}
 use Rattle.ps_names.specs.LinesThere.{lines_at}
 use Rattle.ps_names.proofs.objects.sprite_rows.Given as goal
 

@@ -1,7 +1,7 @@
 use Rattle.std.proofs.Common.{◌≡◌, ◌∙◌, ◌<◌, ap, List, Bool, false, get_or, length, true, sym, rules}
 use Rattle.std.specs.List.{list_any}
 use Rattle.std.proofs.lemmas.List.{length-map}
-use Rattle.ps_model.specs.Meanings.{LegendName, OfLine, all_mentioned, same_mention}
+use Rattle.ps_model.specs.names.Meanings.{LegendName, OfLine, all_mentioned, same_mention}
 use Rattle.ps_names.specs.declared.mention.Mention.{Mention as Waits}
 use Rattle.ps_names.specs.Known.{mentions_shown}
 use Rattle.ps_names.specs.LegendNames.{Reached, name_shown, legend_shown, reached_shown}

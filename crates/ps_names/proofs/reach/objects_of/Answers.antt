@@ -1,5 +1,5 @@
 use Rattle.std.proofs.Common.{◌≡◌, ◌∙◌, ap, List, filter_map}
-use Rattle.ps_model.specs.Meanings.{LegendName, all_mentioned, object_of}
+use Rattle.ps_model.specs.names.Meanings.{LegendName, all_mentioned, object_of}
 use Rattle.ps_names.specs.declared.mention.Mention.{Mention as Waits}
 use Rattle.ps_names.specs.Known.{mentions_shown}
 use Rattle.ps_names.specs.LegendNames.{Reached, legend_shown, reached_shown}

@@ -1,5 +1,5 @@
 use Rattle.std.proofs.Common.{◌≡◌, ◌+◌, [], drop, length, replicate, false}
-use Rattle.ps_model.specs.Meanings.{mention_count}
+use Rattle.ps_model.specs.names.Meanings.{mention_count}
 use Rattle.ps_names.specs.Known.{mentions_shown}
 use Rattle.ps_names.specs.LegendNames.{reached_with, reached_from, legend_shown}
 use Rattle.ps_names.proofs.reach.reach_of.Given as goal

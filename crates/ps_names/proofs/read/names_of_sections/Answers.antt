@@ -1,16 +1,16 @@
 use Rattle.std.proofs.Common.{◌≡◌, ◌∙◌, ◌≤◌, ◌++◌, [], sym, ap, subst, rules, List, ℕ, Option, Some, length}
 use Rattle.std.proofs.lemmas.List.{length-map}
-use Rattle.ps_model.specs.Limits.{object_limit, layer_limit}
+use Rattle.ps_model.specs.declared.limits.TheConstants.{OBJECT_LIMIT, LAYER_LIMIT}
 use Rattle.ps_model.specs.declared.faults.Fault.{Fault as TheFault}
-use Rattle.ps_model.specs.Faults.{first_fault}
-use Rattle.ps_model.specs.Names.{Meaning}
-use Rattle.ps_model.specs.NameBounds.{AreBounded}
-use Rattle.ps_model.specs.WrittenLines.{WrittenLine}
-use Rattle.ps_model.specs.ObjectLines.{ObjectText}
-use Rattle.ps_model.specs.DeclarationFaults.{layer_faults}
-use Rattle.ps_model.specs.LayerLines.{layers_of_lines, layers_found}
-use Rattle.ps_model.specs.NamesRead.{sections_of, layer_numbers}
-use Rattle.ps_model.specs.NameFaults.{faults_of_sections}
+use Rattle.ps_model.specs.text.Faults.{first_fault}
+use Rattle.ps_model.specs.names.Names.{Meaning}
+use Rattle.ps_model.specs.names.NameBounds.{AreBounded}
+use Rattle.ps_model.specs.text.WrittenLines.{WrittenLine}
+use Rattle.ps_model.specs.names.ObjectLines.{ObjectText}
+use Rattle.ps_model.specs.names.DeclarationFaults.{layer_faults}
+use Rattle.ps_model.specs.names.LayerLines.{layers_of_lines, layers_found}
+use Rattle.ps_model.specs.names.NamesRead.{sections_of, layer_numbers}
+use Rattle.ps_model.specs.names.NameFaults.{faults_of_sections}
 use Rattle.ps_names.specs.declared.fault.NameFault.{NameFault}
 use Rattle.ps_names.specs.declared.fault.NameFault.TheVariants.{Refused}
 use Rattle.ps_names.specs.declared.meaning.Meaning as code
@@ -177,4 +177,4 @@ invariant_of-result c =
     ap (λ ls. no_layers objects (layers_found (length objects) ls)) (sym same) ∙ ap (no_layers objects) (sym (c.deref-3.ensures.value ∙ placed)) ∙ none in
     let long : c.in_ok-layering.layering.count ≡ length (sections_of objects lines layer_lines).layers =
     c.in_ok-layering.ensures.count ∙ ap (λ (t : List (Named × Option Meaning)). length (layers_of_lines (entries_with t) layer_lines)) table ∙ ap length same in
-    subst AreBounded (sym part) (bounded objects lines layer_lines (subst (λ (n : ℕ). n ≤ object_limit) count c.in_ok-declared.ensures.few) (subst (λ (n : ℕ). n ≤ layer_limit) long c.in_ok-layering.ensures.few) on)
+    subst AreBounded (sym part) (bounded objects lines layer_lines (subst (λ (n : ℕ). n ≤ OBJECT_LIMIT) count c.in_ok-declared.ensures.few) (subst (λ (n : ℕ). n ≤ LAYER_LIMIT) long c.in_ok-layering.ensures.few) on)

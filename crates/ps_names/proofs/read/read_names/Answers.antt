@@ -1,12 +1,12 @@
 use Rattle.std.proofs.Common.{◌≡◌, ◌∙◌, ◌-◌, sym, ap, refl, rules, List, ℕ, Some}
 use Rattle.ps_model.specs.declared.faults.Fault.{Fault as TheFault}
 use Rattle.ps_model.specs.declared.texts.Cut.TheVariants.{Legend, Layers}
-use Rattle.ps_model.specs.Faults.{first_fault}
-use Rattle.ps_model.specs.LineNumbers.{lines_between}
-use Rattle.ps_model.specs.WrittenLines.{WrittenLine, written_lines}
-use Rattle.ps_model.specs.ObjectLines.{ObjectText, object_texts}
-use Rattle.ps_model.specs.NamesRead.{NameSections, sections_of, names_of}
-use Rattle.ps_model.specs.NameFaults.{name_faults, faults_of_sections}
+use Rattle.ps_model.specs.text.Faults.{first_fault}
+use Rattle.ps_model.specs.text.LineNumbers.{lines_between}
+use Rattle.ps_model.specs.text.WrittenLines.{WrittenLine, written_lines}
+use Rattle.ps_model.specs.names.ObjectLines.{ObjectText, object_texts}
+use Rattle.ps_model.specs.names.NamesRead.{NameSections, sections_of, names_of}
+use Rattle.ps_model.specs.names.NameFaults.{name_faults, faults_of_sections}
 use Rattle.ps_names.specs.declared.fault.NameFault.{NameFault}
 use Rattle.ps_names.specs.declared.fault.NameFault.TheVariants.{Refused}
 use Rattle.ps_names.specs.LinesShown.{objects_shown, lines_shown}

@@ -1,12 +1,12 @@
 use Rattle.std.proofs.Common.{◌≡◌, ◌∙◌, ◌++◌, [], sym, ap, refl, rules, List, Some, map}
 use Rattle.ps_model.specs.declared.faults.Fault.{Fault as TheFault}
-use Rattle.ps_model.specs.WrittenLines.{WrittenLine}
-use Rattle.ps_model.specs.ObjectLines.{ObjectText, object_names}
-use Rattle.ps_model.specs.LegendLines.{Declaration, declarations}
-use Rattle.ps_model.specs.Meanings.{LegendName, legend_name, legend_meanings}
-use Rattle.ps_model.specs.DeclarationFaults.{form_faults, naming_faults}
-use Rattle.ps_model.specs.NameFaults.{folded_names}
-use Rattle.ps_model.specs.Faults.{first_fault}
+use Rattle.ps_model.specs.text.WrittenLines.{WrittenLine}
+use Rattle.ps_model.specs.names.ObjectLines.{ObjectText, object_names}
+use Rattle.ps_model.specs.names.LegendLines.{Declaration, declarations}
+use Rattle.ps_model.specs.names.Meanings.{LegendName, legend_name, legend_meanings}
+use Rattle.ps_model.specs.names.DeclarationFaults.{form_faults, naming_faults}
+use Rattle.ps_model.specs.names.NameFaults.{folded_names}
+use Rattle.ps_model.specs.text.Faults.{first_fault}
 use Rattle.std.specs.List.{enumerate_from}
 use Rattle.ps_names.specs.declared.fault.NameFault.{NameFault}
 use Rattle.ps_names.specs.declared.fault.NameFault.TheVariants.{Refused}

@@ -2,8 +2,8 @@ use Rattle.std.proofs.Common.{List, codes}
 use Rattle.std.specs.Str.{bytes_eq}
 use Rattle.std.specs.Map.{lookup}
 use Rattle.ps_model.specs.declared.faults.FaultKind.TheVariants.{BadBackground, BadPlayer}
-use Rattle.ps_model.specs.Meanings.{LegendName, is_aggregate}
-use Rattle.ps_model.specs.NameFaults.{is_bad_background}
+use Rattle.ps_model.specs.names.Meanings.{LegendName, is_aggregate}
+use Rattle.ps_model.specs.names.NameFaults.{is_bad_background}
 use Rattle.ps_names.specs.LegendNames.{legend_shown}
 use Rattle.ps_names.specs.LinesShown.{objects_shown}
 use Rattle.ps_names.specs.MeaningSteps.{meanings_shown}

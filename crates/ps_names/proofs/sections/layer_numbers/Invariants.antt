@@ -1,5 +1,5 @@
 use Rattle.std.proofs.Common.{◌≡◌, ◌++◌, drop}
-use Rattle.ps_model.specs.NamesRead.{layer_numbers}
+use Rattle.ps_model.specs.names.NamesRead.{layer_numbers}
 use Rattle.ps_names.proofs.sections.layer_numbers.Given as goal
 
 abbrev pub invariant-loop-place : goal.invariant-loop-place

@@ -1,5 +1,5 @@
 use Rattle.std.proofs.Common.{rules, ◌≡◌, ℕ, true, length, ◌∙◌, ap, sym}
-use Rattle.ps_model.specs.Meanings.{OfLine, mentions_of}
+use Rattle.ps_model.specs.names.Meanings.{OfLine, mentions_of}
 use Rattle.ps_names.specs.Known.{mentions_shown}
 use Rattle.ps_names.specs.LegendNames.{legend_shown}
 use Rattle.ps_names.specs.Flattened.{IsFlatAt}

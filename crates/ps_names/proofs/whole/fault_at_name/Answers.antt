@@ -1,7 +1,7 @@
 use Rattle.std.proofs.Common.{◌≡◌, ◌∙◌, ◌+◌, ap, sym, rules, arith, true, false, List, drop}
 use Rattle.std.specs.Str.{bytes_eq}
-use Rattle.ps_model.specs.Faults.{first_fault}
-use Rattle.ps_model.specs.Lines.{folded}
+use Rattle.ps_model.specs.text.Faults.{first_fault}
+use Rattle.ps_model.specs.text.Lines.{folded}
 use Rattle.ps_names.specs.declared.legend_names.LegendName as code
 use Rattle.ps_names.specs.LegendNames.{legend_shown, name_shown}
 use Rattle.ps_names.specs.Wholes.{faults_of_lines, lines_of_name}

@@ -1,5 +1,5 @@
 use Rattle.std.proofs.Common.{◌≡◌, drop, true}
-use Rattle.ps_model.specs.Faults.{first_fault}
+use Rattle.ps_model.specs.text.Faults.{first_fault}
 use Rattle.ps_names.specs.LegendNames.{legend_shown}
 use Rattle.ps_names.specs.Wholes.{faults_of_lines, lines_of_name}
 use Rattle.ps_names.proofs.whole.fault_at_name.Given as goal

@@ -2,8 +2,8 @@ use Rattle.std.proofs.Common.{◌≡◌, ap, sym, rules, false, codes}
 use Rattle.std.specs.Str.{bytes_eq}
 use Rattle.std.specs.Map.{lookup}
 use Rattle.ps_model.specs.declared.faults.FaultKind.TheVariants.{BadBackground}
-use Rattle.ps_model.specs.Faults.{first_fault}
-use Rattle.ps_model.specs.NameFaults.{is_bad_background}
+use Rattle.ps_model.specs.text.Faults.{first_fault}
+use Rattle.ps_model.specs.names.NameFaults.{is_bad_background}
 use Rattle.ps_names.specs.LegendNames.{legend_shown}
 use Rattle.ps_names.specs.Tables.{entries_with}
 use Rattle.ps_names.specs.Wholes.{lines_of_name}

@@ -2,8 +2,8 @@ use Rattle.std.proofs.Common.{◌≡◌, ◌∙◌, ◌+◌, ◌<◌, ap, sym, a
 use Rattle.std.specs.Prelude.{not}
 use Rattle.std.specs.Option.{is_none}
 use Rattle.std.specs.List.{drop-map}
-use Rattle.ps_model.specs.ObjectLines.{ObjectText}
-use Rattle.ps_model.specs.Faults.{first_fault}
+use Rattle.ps_model.specs.names.ObjectLines.{ObjectText}
+use Rattle.ps_model.specs.text.Faults.{first_fault}
 use Rattle.ps_names.specs.LinesShown.{objects_shown, object_shown}
 use Rattle.ps_names.specs.Wholes.{no_layers}
 use Rattle.ps_names.proofs.WholeSteps.{no-layer-step}

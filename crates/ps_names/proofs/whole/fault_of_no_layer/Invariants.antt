@@ -1,5 +1,5 @@
 use Rattle.std.proofs.Common.{◌≡◌, drop}
-use Rattle.ps_model.specs.Faults.{first_fault}
+use Rattle.ps_model.specs.text.Faults.{first_fault}
 use Rattle.ps_names.specs.LinesShown.{objects_shown}
 use Rattle.ps_names.specs.Wholes.{no_layers}
 use Rattle.ps_names.proofs.whole.fault_of_no_layer.Given as goal

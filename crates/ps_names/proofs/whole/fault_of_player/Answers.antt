@@ -2,8 +2,8 @@ use Rattle.std.proofs.Common.{◌≡◌, ap, sym, rules, false, codes}
 use Rattle.std.specs.Str.{bytes_eq}
 use Rattle.std.specs.Map.{lookup}
 use Rattle.ps_model.specs.declared.faults.FaultKind.TheVariants.{BadPlayer}
-use Rattle.ps_model.specs.Faults.{first_fault}
-use Rattle.ps_model.specs.Meanings.{is_aggregate}
+use Rattle.ps_model.specs.text.Faults.{first_fault}
+use Rattle.ps_model.specs.names.Meanings.{is_aggregate}
 use Rattle.ps_names.specs.LegendNames.{legend_shown}
 use Rattle.ps_names.specs.Tables.{entries_with}
 use Rattle.ps_names.specs.Wholes.{lines_of_name}

@@ -1,6 +1,6 @@
 use Rattle.std.proofs.Common.{◌≡◌, drop, nat_eq}
 use Rattle.std.specs.List.{list_any}
-use Rattle.ps_model.specs.NameFaults.{layers_among}
+use Rattle.ps_model.specs.names.NameFaults.{layers_among}
 use Rattle.ps_names.proofs.whole.is_some_on.Given as goal
 
 abbrev pub invariant-loop-object : goal.invariant-loop-object

@@ -1,5 +1,5 @@
 use Rattle.std.proofs.Common.{◌≡◌, length}
-use Rattle.ps_model.specs.NameFaults.{layers_among, repeat}
+use Rattle.ps_model.specs.names.NameFaults.{layers_among, repeat}
 use Rattle.ps_names.proofs.whole.repeat.Given as goal
 
 abbrev pub invariant-loop-first : goal.invariant-loop-first

@@ -1,6 +1,6 @@
 use Rattle.std.proofs.Common.{◌≡◌, ◌++◌}
 use Rattle.std.specs.List.{flat_map, range_with_len}
-use Rattle.ps_model.specs.Frames.{frame_row}
+use Rattle.ps_model.specs.session.Frames.{frame_row}
 use Rattle.ps_play.proofs.frame.add_frame.Given as goal
 
 -- the rows passed by

@@ -1,7 +1,7 @@
 use Rattle.std.proofs.Common.{◌∙◌, ◌++◌, ◌+◌, ◌*◌, ℕ, ap}
 use Rattle.std.specs.Prelude.{encode_utf8}
-use Rattle.ps_model.specs.Grid.{cell_at}
-use Rattle.ps_model.specs.Frames.{shown_character}
+use Rattle.ps_model.specs.board.Grid.{cell_at}
+use Rattle.ps_model.specs.session.Frames.{shown_character}
 use Rattle.ps_play.proofs.Painting.{text_more}
 use Rattle.ps_play.proofs.frame.add_row.Goals as goal
 

@@ -1,8 +1,8 @@
 use Rattle.std.proofs.Common.{◌≡◌, ◌++◌, ◌+◌, ◌*◌}
 use Rattle.std.specs.Prelude.{encode_utf8}
 use Rattle.std.specs.List.{flat_map, range_with_len}
-use Rattle.ps_model.specs.Grid.{cell_at}
-use Rattle.ps_model.specs.Frames.{shown_character}
+use Rattle.ps_model.specs.board.Grid.{cell_at}
+use Rattle.ps_model.specs.session.Frames.{shown_character}
 use Rattle.ps_play.proofs.frame.add_row.Given as goal
 
 -- the characters of the columns passed by

@@ -1,6 +1,6 @@
 use Rattle.std.proofs.Common.{◌≡◌, take}
 use Rattle.std.specs.Prelude.{filter, not}
-use Rattle.ps_model.specs.Levels.{is_ground}
+use Rattle.ps_model.specs.board.Levels.{is_ground}
 use Rattle.ps_play.proofs.frame.gather_above.Given as goal
 
 -- those of the objects passed by

@@ -1,7 +1,7 @@
 use Rattle.std.proofs.Common.{◌≡◌, ◌∙◌, ap, refl, arith, length, ◌<◌, ◌≤◌}
 use Rattle.std.proofs.lemmas.List.{take_all}
-use Rattle.ps_model.specs.Grid.{Grid, cell_at}
-use Rattle.ps_model.specs.Frames.{objects_in}
+use Rattle.ps_model.specs.board.Grid.{Grid, cell_at}
+use Rattle.ps_model.specs.session.Frames.{objects_in}
 use Rattle.ps_play.proofs.Objects.{objects_in-more}
 use Rattle.ps_play.proofs.frame.gather_objects.Goals as goal
 

@@ -1,6 +1,6 @@
 use Rattle.std.proofs.Common.{◌≡◌, take}
-use Rattle.ps_model.specs.Grid.{cell_at}
-use Rattle.ps_model.specs.Frames.{objects_in}
+use Rattle.ps_model.specs.board.Grid.{cell_at}
+use Rattle.ps_model.specs.session.Frames.{objects_in}
 use Rattle.ps_play.proofs.frame.gather_objects.Given as goal
 
 -- the objects of the layers passed by

@@ -1,7 +1,7 @@
 use Rattle.std.proofs.Common.{◌≡◌, drop}
 use Rattle.std.specs.Prelude.{find}
-use Rattle.ps_model.specs.Names.{members}
-use Rattle.ps_model.specs.Frames.{same_objects}
+use Rattle.ps_model.specs.names.Names.{members}
+use Rattle.ps_model.specs.session.Frames.{same_objects}
 use Rattle.ps_names.specs.GlyphsShown.{glyphs_shown}
 use Rattle.ps_play.proofs.frame.glyph_for.Given as goal
 

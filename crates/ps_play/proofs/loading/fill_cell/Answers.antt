@@ -6,8 +6,8 @@ use Rattle.ps_model.specs.declared.pieces.ObjectId.{ObjectId}
 use Rattle.ps_model.specs.declared.pieces.Motion.TheVariants.{Still}
 use Rattle.ps_model.specs.declared.pieces.Slot.{Slot}
 use Rattle.ps_model.specs.declared.pieces.Slot.TheVariants.{Holds}
-use Rattle.ps_model.specs.Names.{Names, layer_of}
-use Rattle.ps_model.specs.Grid.{Grid, cell_at, with_slot}
+use Rattle.ps_model.specs.names.Names.{Names, layer_of}
+use Rattle.ps_model.specs.board.Grid.{Grid, cell_at, with_slot}
 use Rattle.ps_play.specs.Inputs.{grid_with_cell}
 use Rattle.ps_play.proofs.PartLoaded.{put_in_cell}
 use Rattle.ps_play.proofs.loading.fill_cell.Goals as goal

@@ -2,8 +2,8 @@ use Rattle.std.proofs.Common.{◌≡◌, take, fold}
 use Rattle.std.specs.Prelude.{slice_set}
 use Rattle.ps_model.specs.declared.pieces.Motion.TheVariants.{Still}
 use Rattle.ps_model.specs.declared.pieces.Slot.TheVariants.{Holds}
-use Rattle.ps_model.specs.Names.{layer_of}
-use Rattle.ps_model.specs.Grid.{cell_at}
+use Rattle.ps_model.specs.names.Names.{layer_of}
+use Rattle.ps_model.specs.board.Grid.{cell_at}
 use Rattle.ps_play.specs.Inputs.{grid_with_cell}
 use Rattle.ps_play.proofs.loading.fill_cell.Given as goal
 

@@ -5,9 +5,9 @@ use Rattle.ps_model.specs.declared.pieces.ObjectId.{ObjectId}
 use Rattle.ps_model.specs.declared.pieces.Motion.TheVariants.{Still}
 use Rattle.ps_model.specs.declared.pieces.Slot.{Slot}
 use Rattle.ps_model.specs.declared.pieces.Slot.TheVariants.{Holds}
-use Rattle.ps_model.specs.Names.{Names, layer_of}
-use Rattle.ps_model.specs.Grid.{Grid, cell_at}
-use Rattle.ps_model.specs.Levels.{Level}
+use Rattle.ps_model.specs.names.Names.{Names, layer_of}
+use Rattle.ps_model.specs.board.Grid.{Grid, cell_at}
+use Rattle.ps_model.specs.board.Levels.{Level}
 use Rattle.ps_play.specs.Inputs.{grid_with_cell}
 use Rattle.ps_play.proofs.PartLoaded.{partly_shape, one_more_loaded, all_loaded, none_loaded}
 use Rattle.ps_play.proofs.loading.load.Goals as goal

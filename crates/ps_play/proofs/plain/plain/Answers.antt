@@ -1,6 +1,6 @@
 use Rattle.std.proofs.Common.{rules, ◌≡◌, true, Some, refl, sym, ap, subst}
-use Rattle.ps_model.specs.Games.{Game}
-use Rattle.ps_model.specs.PlainGames.{is_plain, only_level}
+use Rattle.ps_model.specs.game.Games.{Game}
+use Rattle.ps_model.specs.game.PlainGames.{is_plain, only_level}
 use Rattle.ps_levels.specs.EntriesShown.{entries_shown}
 use Rattle.ps_play.specs.Playable.{IsPlayable}
 use Rattle.ps_play.proofs.PlainGames.{playable}

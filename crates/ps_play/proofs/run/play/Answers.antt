@@ -1,6 +1,6 @@
 use Rattle.std.proofs.Common.{◌≡◌, ◌∙◌, ◌++◌, ◌+◌, refl, [], arith, rules, take, append-nil}
-use Rattle.ps_model.specs.Names.{Names}
-use Rattle.ps_model.specs.Outputs.{end_of_keys_line}
+use Rattle.ps_model.specs.names.Names.{Names}
+use Rattle.ps_model.specs.game.Outputs.{end_of_keys_line}
 use Rattle.ps_devices.specs.Devices.{Loses}
 use Rattle.ps_devices.proofs.Pieces.{grows_twice, loses_twice}
 use Rattle.ps_play.proofs.Bringing.{given_front, all_given, keys_end, run_ends, run_goes_on, if_some, one_call}

@@ -1,6 +1,6 @@
 use Rattle.std.proofs.Common.{◌∙◌, ◌++◌, ap, List, ℕ}
-use Rattle.ps_model.specs.PlainGames.{PlainGame}
-use Rattle.ps_model.specs.PlainOutput.{opening}
+use Rattle.ps_model.specs.game.PlainGames.{PlainGame}
+use Rattle.ps_model.specs.game.PlainOutput.{opening}
 use Rattle.ps_play.proofs.Bringing.{opened}
 use Rattle.ps_play.proofs.run.play_game.Goals as goal
 

@@ -1,5 +1,5 @@
 use Rattle.std.proofs.Common.{◌∙◌, ◌++◌, refl}
-use Rattle.ps_model.specs.Names.{Names}
+use Rattle.ps_model.specs.names.Names.{Names}
 use Rattle.ps_devices.proofs.Pieces.{grows_twice}
 use Rattle.ps_play.proofs.Bringing.{piece_goes_on, piece_ends}
 use Rattle.ps_play.proofs.run.play_piece.Goals as goal

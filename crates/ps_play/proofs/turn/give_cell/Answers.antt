@@ -1,5 +1,5 @@
 use Rattle.std.proofs.Common.{◌≡◌, ◌∙◌, ap, refl, arith, length, ◌<◌, ◌≤◌}
-use Rattle.ps_model.specs.Grid.{Grid, cell_at, with_slot, slot_at}
+use Rattle.ps_model.specs.board.Grid.{Grid, cell_at, with_slot, slot_at}
 use Rattle.ps_play.specs.Inputs.{slot_set_moving, grid_with_cell}
 use Rattle.ps_play.proofs.Sweeps.{one_more_slot, all_changed}
 use Rattle.ps_play.proofs.turn.give_cell.Goals as goal

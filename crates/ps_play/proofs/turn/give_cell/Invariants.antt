@@ -1,5 +1,5 @@
 use Rattle.std.proofs.Common.{◌≡◌, ◌++◌, map, take, drop}
-use Rattle.ps_model.specs.Grid.{cell_at}
+use Rattle.ps_model.specs.board.Grid.{cell_at}
 use Rattle.ps_play.specs.Inputs.{slot_set_moving, grid_with_cell}
 use Rattle.ps_play.proofs.turn.give_cell.Given as goal
 

@@ -1,5 +1,5 @@
 use Rattle.std.proofs.Common.{◌∙◌, refl, ap, length, map, ◌<◌, ◌≤◌}
-use Rattle.ps_model.specs.Grid.{Grid, IsGrid, at_rest, cell_at}
+use Rattle.ps_model.specs.board.Grid.{Grid, IsGrid, at_rest, cell_at}
 use Rattle.ps_play.specs.Inputs.{slot_set_moving, grid_with_cell, grid_with_cells}
 use Rattle.ps_play.proofs.Sweeps.{one_more_cell, all_changed, shape_kept, cells_from_rest}
 use Rattle.ps_play.proofs.turn.give_motion.Goals as goal

@@ -1,5 +1,5 @@
 use Rattle.std.proofs.Common.{◌≡◌, ◌++◌, map, take, drop}
-use Rattle.ps_model.specs.Grid.{Grid, at_rest}
+use Rattle.ps_model.specs.board.Grid.{Grid, at_rest}
 use Rattle.ps_play.specs.Inputs.{slot_set_moving, grid_with_cells}
 use Rattle.ps_play.proofs.turn.give_motion.Given as goal
 

@@ -1,6 +1,6 @@
 use Rattle.std.proofs.Common.{◌≡◌, drop}
 use Rattle.std.specs.List.{list_all}
-use Rattle.ps_model.specs.RuleShape.{is_ellipsis}
+use Rattle.ps_model.specs.rules.RuleShape.{is_ellipsis}
 use Rattle.ps_rules.specs.SymbolsShown.{tokens_shown}
 use Rattle.ps_rules.proofs.cells.are_ellipses.Given as goal
 

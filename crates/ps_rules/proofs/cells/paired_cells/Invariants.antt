@@ -1,5 +1,5 @@
 use Rattle.std.proofs.Common.{◌≡◌, ◌++◌, drop}
-use Rattle.ps_model.specs.RuleShape.{paired_cells, beside}
+use Rattle.ps_model.specs.rules.RuleShape.{paired_cells, beside}
 use Rattle.ps_rules.specs.Kinds.{parts_shown}
 use Rattle.ps_rules.specs.CellsShown.{cells_shown}
 use Rattle.ps_rules.proofs.cells.paired_cells.Given as goal

@@ -1,5 +1,5 @@
 use Rattle.std.proofs.Common.{◌≡◌, ◌++◌, drop, map}
-use Rattle.ps_model.specs.RuleShape.{paired_cells, paired_rows, beside}
+use Rattle.ps_model.specs.rules.RuleShape.{paired_cells, paired_rows, beside}
 use Rattle.ps_rules.specs.ShapesShown.{rows_shown, shape_shown}
 use Rattle.ps_rules.specs.CellsShown.{cell_rows_shown, cells_of_rows}
 use Rattle.ps_rules.proofs.cells.paired_rows.Given as goal

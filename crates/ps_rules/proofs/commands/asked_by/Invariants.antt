@@ -1,6 +1,6 @@
 use Rattle.std.proofs.Common.{◌≡◌, ℕ, List, Option, drop, fold}
-use Rattle.ps_model.specs.RuleTree.{with_command}
-use Rattle.ps_model.specs.SourceRules.{no_commands}
+use Rattle.ps_model.specs.rules.RuleTree.{with_command}
+use Rattle.ps_model.specs.rules.SourceRules.{no_commands}
 use Rattle.ps_rules.specs.Asked.{asked_shown}
 use Rattle.ps_rules.specs.SymbolsShown.{tokens_shown}
 use Rattle.ps_rules.proofs.commands.asked_by.Given as goal

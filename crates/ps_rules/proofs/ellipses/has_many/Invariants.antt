@@ -1,7 +1,7 @@
 use Rattle.std.proofs.Common.{◌≡◌, drop}
 use Rattle.std.specs.Prelude.{nat_lt, length, filter, if◌then◌else◌, ◌+◌}
-use Rattle.ps_model.specs.RuleShape.{has_kind, is_ellipsis}
-use Rattle.ps_model.specs.RuleShapeFaults.{has_many_ellipses}
+use Rattle.ps_model.specs.rules.RuleShape.{has_kind, is_ellipsis}
+use Rattle.ps_model.specs.rules.RuleShapeFaults.{has_many_ellipses}
 use Rattle.ps_rules.specs.Kinds.{parts_shown}
 use Rattle.ps_rules.proofs.ellipses.has_many.Given as goal
 

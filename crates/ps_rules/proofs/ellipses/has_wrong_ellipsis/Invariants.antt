@@ -1,7 +1,7 @@
 use Rattle.std.proofs.Common.{◌≡◌, drop}
 use Rattle.std.specs.List.{list_any}
 use Rattle.std.specs.Prelude.{◌||◌}
-use Rattle.ps_model.specs.RuleShapeFaults.{mixes_ellipsis, ends_in_ellipsis, has_many_ellipses, has_wrong_ellipsis}
+use Rattle.ps_model.specs.rules.RuleShapeFaults.{mixes_ellipsis, ends_in_ellipsis, has_many_ellipses, has_wrong_ellipsis}
 use Rattle.ps_rules.specs.ShapesShown.{side_shown, rows_shown}
 use Rattle.ps_rules.proofs.ellipses.has_wrong_ellipsis.Given as goal
 

@@ -1,6 +1,6 @@
 use Rattle.std.proofs.Common.{◌≡◌, drop}
 use Rattle.std.specs.List.{list_any}
-use Rattle.ps_model.specs.RuleShapeFaults.{has_lone_ellipsis}
+use Rattle.ps_model.specs.rules.RuleShapeFaults.{has_lone_ellipsis}
 use Rattle.ps_rules.specs.CellsShown.{cell_rows_shown}
 use Rattle.ps_rules.proofs.ellipses.rows_have_lone.Given as goal
 

@@ -1,6 +1,6 @@
 use Rattle.std.proofs.Common.{◌≡◌, drop}
 use Rattle.std.specs.List.{list_any}
-use Rattle.ps_model.specs.RuleShapeFaults.{has_lone_ellipsis}
+use Rattle.ps_model.specs.rules.RuleShapeFaults.{has_lone_ellipsis}
 use Rattle.ps_rules.specs.CellsShown.{cells_shown}
 use Rattle.ps_rules.proofs.ellipses.some_has_lone.Given as goal
 

@@ -1,6 +1,6 @@
 use Rattle.std.proofs.Common.{◌≡◌, drop}
 use Rattle.std.specs.List.{list_any}
-use Rattle.ps_model.specs.RuleShapeFaults.{mixes_ellipsis}
+use Rattle.ps_model.specs.rules.RuleShapeFaults.{mixes_ellipsis}
 use Rattle.ps_rules.specs.Kinds.{parts_shown}
 use Rattle.ps_rules.proofs.ellipses.some_mixes.Given as goal
 

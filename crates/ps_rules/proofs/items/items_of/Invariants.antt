@@ -1,5 +1,5 @@
 use Rattle.std.proofs.Common.{◌≡◌, ◌++◌, drop}
-use Rattle.ps_model.specs.RuleTree.{items_of, items_behind}
+use Rattle.ps_model.specs.rules.RuleTree.{items_of, items_behind}
 use Rattle.ps_rules.specs.RulesShown.{items_shown}
 use Rattle.ps_rules.specs.SymbolsShown.{symbol_shown, tokens_shown}
 use Rattle.ps_rules.proofs.items.items_of.Given as goal

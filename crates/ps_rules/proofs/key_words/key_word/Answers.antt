@@ -1,7 +1,7 @@
 use Rattle.std.proofs.Common.{rules, ◌≡◌, ◌++◌, ◌∙◌, sym, Some, None}
 use Rattle.std.specs.Str.{bytes_eq}
 use Rattle.std.specs.Map.{lookup}
-use Rattle.ps_model.specs.RuleSymbols.{shape_words, movement_words, command_words, left_out_words}
+use Rattle.ps_model.specs.rules.RuleSymbols.{shape_words, movement_words, command_words, left_out_words}
 use Rattle.ps_rules.specs.SymbolsShown.{symbol_shown}
 use Rattle.ps_rules.proofs.Lookups.{lookup-first, lookup-second}
 use Rattle.ps_rules.proofs.key_words.key_word.Goals as goal

@@ -1,5 +1,5 @@
 use Rattle.std.proofs.Common.{◌≡◌, drop}
-use Rattle.ps_model.specs.RuleShape.{has_kind}
+use Rattle.ps_model.specs.rules.RuleShape.{has_kind}
 use Rattle.ps_rules.specs.Kinds.{is_kind}
 use Rattle.ps_rules.specs.SymbolsShown.{tokens_shown}
 use Rattle.ps_rules.proofs.kinds.has_kind.Given as goal

@@ -1,11 +1,11 @@
 use Rattle.std.proofs.Common.{rules, ◌≡◌, ◌∙◌, ℕ, [], Some, List, ap, sym, false}
 use Rattle.ps_model.specs.declared.faults.Fault.{Fault as TheFault}
-use Rattle.ps_model.specs.Faults.{first_fault}
-use Rattle.ps_model.specs.LineNumbers.{line_at}
-use Rattle.ps_model.specs.Lines.{Line}
-use Rattle.ps_model.specs.RuleFaults.{Above, faults_of_form, faults_of_line, has_left_out}
-use Rattle.ps_model.specs.RuleLines.{LineForm, form_of, line_of_form}
-use Rattle.ps_model.specs.RuleSymbols.{Token, tokens_of, tokens_kept}
+use Rattle.ps_model.specs.text.Faults.{first_fault}
+use Rattle.ps_model.specs.text.LineNumbers.{line_at}
+use Rattle.ps_model.specs.text.Lines.{Line}
+use Rattle.ps_model.specs.rules.RuleFaults.{Above, faults_of_form, faults_of_line, has_left_out}
+use Rattle.ps_model.specs.rules.RuleLines.{LineForm, form_of, line_of_form}
+use Rattle.ps_model.specs.rules.RuleSymbols.{Token, tokens_of, tokens_kept}
 use Rattle.ps_rules.specs.AboveShown.{above_shown}
 use Rattle.ps_rules.specs.FormsShown.{form_at}
 use Rattle.ps_rules.specs.RulesShown.{line_shown}

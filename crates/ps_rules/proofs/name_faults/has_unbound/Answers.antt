@@ -1,7 +1,7 @@
 use Rattle.std.proofs.Common.{◌∙◌, ap, List}
 use Rattle.std.specs.List.{list_any}
-use Rattle.ps_model.specs.SourceRules.{CellPair}
-use Rattle.ps_model.specs.RuleNameFaults.{is_unbound}
+use Rattle.ps_model.specs.rules.SourceRules.{CellPair}
+use Rattle.ps_model.specs.rules.RuleNameFaults.{is_unbound}
 use Rattle.ps_rules.proofs.name_faults.has_unbound.Goals as goal
 
 pub returns : goal.returns

@@ -1,7 +1,7 @@
 use Rattle.std.proofs.Common.{rules, ◌≡◌, ◌∙◌, ap, refl}
 use Rattle.std.specs.Option.{is_none}
-use Rattle.ps_model.specs.Occurrences.{bound_name}
-use Rattle.ps_model.specs.RuleNameFaults.{is_name_unbound}
+use Rattle.ps_model.specs.meaning.Occurrences.{bound_name}
+use Rattle.ps_model.specs.rules.RuleNameFaults.{is_name_unbound}
 use Rattle.ps_names.specs.Shown.{meaning_shown}
 use Rattle.ps_rules.specs.RulesShown.{cell_shown}
 use Rattle.ps_rules.proofs.name_faults.is_name_unbound.Goals as goal

@@ -1,6 +1,6 @@
 use Rattle.std.proofs.Common.{◌≡◌, drop}
 use Rattle.std.specs.List.{list_any}
-use Rattle.ps_model.specs.RuleNameFaults.{is_unbound}
+use Rattle.ps_model.specs.rules.RuleNameFaults.{is_unbound}
 use Rattle.ps_rules.specs.RulesShown.{items_shown, cell_shown}
 use Rattle.ps_rules.proofs.name_faults.some_unbound.Given as goal
 

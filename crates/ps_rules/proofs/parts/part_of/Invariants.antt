@@ -1,5 +1,5 @@
 use Rattle.std.proofs.Common.{◌≡◌, ◌++◌, drop, map}
-use Rattle.ps_model.specs.RuleTree.{cell_of}
+use Rattle.ps_model.specs.rules.RuleTree.{cell_of}
 use Rattle.ps_rules.specs.CellsShown.{cells_shown}
 use Rattle.ps_rules.specs.RulesShown.{part_shown}
 use Rattle.ps_rules.proofs.parts.part_of.Given as goal

@@ -1,7 +1,7 @@
 use Rattle.std.proofs.Common.{rules, tests, ◌∙◌, sym, ap, map}
 use Rattle.std.proofs.lemmas.Iterator.Consumers.{map_from_collect}
 use Rattle.std.proofs.lemmas.Iterator.Splits.{YieldsList-from_slice_split}
-use Rattle.ps_model.specs.RuleTree.{is_gap}
+use Rattle.ps_model.specs.rules.RuleTree.{is_gap}
 use Rattle.ps_rules.specs.CellsShown.{words_shown, cells_shown}
 use Rattle.ps_rules.proofs.Cuts.{if_ok, cut-shown, parts-now}
 use Rattle.ps_rules.proofs.parts.parted.Goals as goal

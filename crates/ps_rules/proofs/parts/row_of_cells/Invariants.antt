@@ -1,5 +1,5 @@
 use Rattle.std.proofs.Common.{◌≡◌, ◌++◌, drop, map}
-use Rattle.ps_model.specs.RuleTree.{cell_of}
+use Rattle.ps_model.specs.rules.RuleTree.{cell_of}
 use Rattle.ps_rules.specs.CellsShown.{cell_parts_shown}
 use Rattle.ps_rules.specs.RulesShown.{tree_row_shown}
 use Rattle.ps_rules.proofs.parts.row_of_cells.Given as goal

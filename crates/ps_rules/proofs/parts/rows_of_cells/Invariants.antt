@@ -1,5 +1,5 @@
 use Rattle.std.proofs.Common.{◌≡◌, ◌++◌, drop, map}
-use Rattle.ps_model.specs.RuleTree.{row_of_cells}
+use Rattle.ps_model.specs.rules.RuleTree.{row_of_cells}
 use Rattle.ps_rules.specs.CellsShown.{cell_rows_shown}
 use Rattle.ps_rules.specs.RulesShown.{tree_rows_shown}
 use Rattle.ps_rules.proofs.parts.rows_of_cells.Given as goal

@@ -1,9 +1,9 @@
 use Rattle.std.proofs.Common.{rules, ◌≡◌, ◌∙◌, ◌++◌, ℕ, List, ap, sym, true, false}
 use Rattle.ps_model.specs.declared.faults.Fault.{Fault as TheFault}
-use Rattle.ps_model.specs.LineNumbers.{line_at}
-use Rattle.ps_model.specs.Lines.{is_blank_line}
-use Rattle.ps_model.specs.RuleFaults.{Above, above_next, faults_below}
-use Rattle.ps_model.specs.RuleLines.{lines_with_words}
+use Rattle.ps_model.specs.text.LineNumbers.{line_at}
+use Rattle.ps_model.specs.text.Lines.{is_blank_line}
+use Rattle.ps_model.specs.rules.RuleFaults.{Above, above_next, faults_below}
+use Rattle.ps_model.specs.rules.RuleLines.{lines_with_words}
 use Rattle.ps_rules.specs.AboveShown.{above_shown}
 use Rattle.ps_rules.specs.FormsShown.{form_at}
 use Rattle.ps_rules.specs.RefusedLines.{IsRefused}

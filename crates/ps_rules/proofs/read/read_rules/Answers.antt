@@ -1,15 +1,15 @@
 use Rattle.std.proofs.Common.{rules, arith, ◌≡◌, ◌∙◌, ◌++◌, ◌+◌, ℕ, Some, List, ap, sym, refl}
 use Rattle.ps_model.specs.declared.faults.Fault.{Fault as TheFault}
-use Rattle.ps_model.specs.Faults.{first_fault}
-use Rattle.ps_model.specs.LineNumbers.{lines_between}
-use Rattle.ps_model.specs.Lines.{Line}
-use Rattle.ps_model.specs.RuleFaults.{rule_faults, faults_below}
-use Rattle.ps_model.specs.RuleLines.{rules_read, lines_with_words}
+use Rattle.ps_model.specs.text.Faults.{first_fault}
+use Rattle.ps_model.specs.text.LineNumbers.{lines_between}
+use Rattle.ps_model.specs.text.Lines.{Line}
+use Rattle.ps_model.specs.rules.RuleFaults.{rule_faults, faults_below}
+use Rattle.ps_model.specs.rules.RuleLines.{rules_read, lines_with_words}
 use Rattle.ps_rules.specs.AboveShown.{above_shown}
 use Rattle.ps_rules.specs.RulesShown.{lines_shown}
 use Rattle.ps_rules.specs.declared.fault.RuleFault.{RuleFault}
 use Rattle.ps_rules.specs.declared.fault.RuleFault.TheVariants.{Refused}
-use Rattle.ps_model.proofs.LinesInOrder.{between-step}
+use Rattle.ps_laws.proofs.common.LinesInOrder.{between-step}
 use Rattle.ps_rules.proofs.LineSteps.{refused-step}
 use Rattle.ps_rules.proofs.read.read_rules.Goals as goal
 

@@ -1,7 +1,7 @@
 use Rattle.std.proofs.Common.{◌≡◌, ◌++◌}
-use Rattle.ps_model.specs.LineNumbers.{lines_between}
-use Rattle.ps_model.specs.RuleFaults.{rule_faults, faults_below}
-use Rattle.ps_model.specs.RuleLines.{rules_read, lines_with_words}
+use Rattle.ps_model.specs.text.LineNumbers.{lines_between}
+use Rattle.ps_model.specs.rules.RuleFaults.{rule_faults, faults_below}
+use Rattle.ps_model.specs.rules.RuleLines.{rules_read, lines_with_words}
 use Rattle.ps_rules.specs.AboveShown.{above_shown}
 use Rattle.ps_rules.specs.RulesShown.{lines_shown}
 use Rattle.ps_rules.proofs.read.read_rules.Given as goal

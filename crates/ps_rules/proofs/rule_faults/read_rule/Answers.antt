@@ -1,5 +1,5 @@
-use Rattle.ps_model.specs.LineNumbers.{line_at}
-use Rattle.ps_model.specs.RuleTree.{rule_of}
+use Rattle.ps_model.specs.text.LineNumbers.{line_at}
+use Rattle.ps_model.specs.rules.RuleTree.{rule_of}
 use Rattle.ps_rules.specs.AboveShown.{above_shown}
 use Rattle.ps_rules.specs.RulesShown.{rule_shown}
 use Rattle.ps_rules.specs.ShapesShown.{shape_shown}

@@ -1,7 +1,7 @@
 use Rattle.std.proofs.Common.{◌≡◌, drop}
 use Rattle.std.specs.List.{list_any}
-use Rattle.ps_model.specs.RuleShape.{beside}
-use Rattle.ps_model.specs.RuleShapeFaults.{lengths_differ}
+use Rattle.ps_model.specs.rules.RuleShape.{beside}
+use Rattle.ps_model.specs.rules.RuleShapeFaults.{lengths_differ}
 use Rattle.ps_rules.specs.CellsShown.{cells_of_rows}
 use Rattle.ps_rules.specs.ShapesShown.{rows_shown}
 use Rattle.ps_rules.proofs.shape_faults.some_lengths_differ.Given as goal

@@ -1,6 +1,6 @@
 use Rattle.std.proofs.Common.{◌≡◌, drop, map}
-use Rattle.ps_model.specs.OptionSteps.{all_there}
-use Rattle.ps_model.specs.RuleShape.{row_of}
+use Rattle.ps_model.specs.text.OptionSteps.{all_there}
+use Rattle.ps_model.specs.rules.RuleShape.{row_of}
 use Rattle.ps_rules.specs.Kinds.{parts_shown}
 use Rattle.ps_rules.specs.ShapesShown.{behind, rows_shown}
 use Rattle.ps_rules.proofs.shapes.rows_of.Given as goal

@@ -1,6 +1,6 @@
 use Rattle.std.proofs.Common.{◌≡◌, drop}
-use Rattle.ps_model.specs.RuleShape.{before_end, words_before}
-use Rattle.ps_model.specs.RuleShapeFaults.{are_there}
+use Rattle.ps_model.specs.rules.RuleShape.{before_end, words_before}
+use Rattle.ps_model.specs.rules.RuleShapeFaults.{are_there}
 use Rattle.ps_rules.specs.ShapesShown.{side_shown, rows_shown}
 use Rattle.ps_rules.specs.SymbolsShown.{tokens_shown}
 use Rattle.ps_rules.proofs.sides.are_there_before_end.Given as goal

@@ -1,6 +1,6 @@
 use Rattle.std.proofs.Common.{◌≡◌, drop}
-use Rattle.ps_model.specs.RuleShape.{words_behind}
-use Rattle.ps_model.specs.RuleShapeFaults.{are_there}
+use Rattle.ps_model.specs.rules.RuleShape.{words_behind}
+use Rattle.ps_model.specs.rules.RuleShapeFaults.{are_there}
 use Rattle.std.specs.List.{flat_map}
 use Rattle.ps_rules.specs.ShapesShown.{side_shown, rows_shown}
 use Rattle.ps_rules.proofs.sides.are_there_behind.Given as goal

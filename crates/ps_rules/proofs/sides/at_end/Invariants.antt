@@ -1,5 +1,5 @@
 use Rattle.std.proofs.Common.{◌≡◌, drop, fold}
-use Rattle.ps_model.specs.RuleShape.{at_end}
+use Rattle.ps_model.specs.rules.RuleShape.{at_end}
 use Rattle.ps_rules.specs.ShapesShown.{rows_shown, side_shown}
 use Rattle.ps_rules.specs.SymbolsShown.{tokens_shown}
 use Rattle.ps_rules.proofs.sides.at_end.Given as goal

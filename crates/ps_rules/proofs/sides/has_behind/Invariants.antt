@@ -1,5 +1,5 @@
 use Rattle.std.proofs.Common.{◌≡◌, drop}
-use Rattle.ps_model.specs.RuleShape.{has_kind, words_behind}
+use Rattle.ps_model.specs.rules.RuleShape.{has_kind, words_behind}
 use Rattle.std.specs.List.{flat_map}
 use Rattle.ps_rules.specs.Kinds.{is_kind}
 use Rattle.ps_rules.specs.ShapesShown.{side_shown, rows_shown}

@@ -1,6 +1,6 @@
 use Rattle.std.proofs.Common.{◌∙◌, ap}
 use Rattle.std.specs.List.{list_any}
-use Rattle.ps_model.specs.RuleShape.{has_kind}
+use Rattle.ps_model.specs.rules.RuleShape.{has_kind}
 use Rattle.ps_rules.specs.Kinds.{is_kind}
 use Rattle.ps_rules.specs.ShapesShown.{side_shown, rows_shown}
 use Rattle.ps_rules.proofs.Words.{any-in-cells}

@@ -1,5 +1,5 @@
 use Rattle.std.proofs.Common.{◌≡◌, drop}
-use Rattle.ps_model.specs.RuleShapeFaults.{misses_name, misses_name_behind}
+use Rattle.ps_model.specs.rules.RuleShapeFaults.{misses_name, misses_name_behind}
 use Rattle.ps_rules.specs.SymbolsShown.{symbol_shown, tokens_shown}
 use Rattle.ps_rules.proofs.sides.misses_name.Given as goal
 

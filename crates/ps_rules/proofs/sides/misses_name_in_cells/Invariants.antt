@@ -1,7 +1,7 @@
 use Rattle.std.proofs.Common.{◌≡◌, drop}
 use Rattle.std.specs.List.{list_any}
-use Rattle.ps_model.specs.RuleShape.{cells_in}
-use Rattle.ps_model.specs.RuleShapeFaults.{misses_name}
+use Rattle.ps_model.specs.rules.RuleShape.{cells_in}
+use Rattle.ps_model.specs.rules.RuleShapeFaults.{misses_name}
 use Rattle.std.specs.List.{flat_map}
 use Rattle.ps_rules.specs.ShapesShown.{side_shown, rows_shown}
 use Rattle.ps_rules.proofs.sides.misses_name_in_cells.Given as goal

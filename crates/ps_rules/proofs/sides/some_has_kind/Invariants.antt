@@ -1,6 +1,6 @@
 use Rattle.std.proofs.Common.{◌≡◌, drop}
 use Rattle.std.specs.List.{list_any}
-use Rattle.ps_model.specs.RuleShape.{has_kind}
+use Rattle.ps_model.specs.rules.RuleShape.{has_kind}
 use Rattle.ps_rules.specs.Kinds.{is_kind, parts_shown}
 use Rattle.ps_rules.proofs.sides.some_has_kind.Given as goal
 

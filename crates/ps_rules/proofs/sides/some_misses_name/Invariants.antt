@@ -1,6 +1,6 @@
 use Rattle.std.proofs.Common.{◌≡◌, drop}
 use Rattle.std.specs.List.{list_any}
-use Rattle.ps_model.specs.RuleShapeFaults.{misses_name}
+use Rattle.ps_model.specs.rules.RuleShapeFaults.{misses_name}
 use Rattle.ps_rules.specs.Kinds.{parts_shown}
 use Rattle.ps_rules.proofs.sides.some_misses_name.Given as goal
 

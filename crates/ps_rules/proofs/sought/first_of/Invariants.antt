@@ -1,6 +1,6 @@
 use Rattle.std.proofs.Common.{◌≡◌, drop}
 use Rattle.std.specs.Prelude.{filter}
-use Rattle.ps_model.specs.Occurrences.{numbers}
+use Rattle.ps_model.specs.meaning.Occurrences.{numbers}
 use Rattle.ps_rules.specs.RulesShown.{items_shown}
 use Rattle.ps_rules.specs.SoughtItems.{is_sought, first_number}
 use Rattle.ps_rules.proofs.sought.first_of.Given as goal

@@ -1,5 +1,5 @@
 use Rattle.std.proofs.Common.{◌≡◌, ◌++◌, drop}
-use Rattle.ps_model.specs.RuleSymbols.{tokens_kept}
+use Rattle.ps_model.specs.rules.RuleSymbols.{tokens_kept}
 use Rattle.ps_rules.specs.SymbolsShown.{tokens_shown}
 use Rattle.ps_rules.proofs.tokens.tokens_kept.Given as goal
 

@@ -1,8 +1,8 @@
 use Rattle.std.proofs.Common.{rules, refl, ◌++◌, [], ◌≡◌, ◌∙◌, ◌∷◌, sym, List, map, ap}
-use Rattle.ps_model.specs.LineNumbers.{line_at}
-use Rattle.ps_model.specs.Lines.{Line}
-use Rattle.ps_model.specs.RuleSymbols.{first_symbol, symbol_of}
-use Rattle.ps_model.specs.RuleWords.{rule_words_in}
+use Rattle.ps_model.specs.text.LineNumbers.{line_at}
+use Rattle.ps_model.specs.text.Lines.{Line}
+use Rattle.ps_model.specs.rules.RuleSymbols.{first_symbol, symbol_of}
+use Rattle.ps_model.specs.text.RuleWords.{rule_words_in}
 use Rattle.ps_text.specs.declared.cutting.Word.{Word}
 use Rattle.ps_text.specs.WordViews.{text_of, span_of, bytes_at, span_at}
 use Rattle.ps_rules.specs.SymbolsShown.{tokens_shown, tokens_of_words, token_of_word}

@@ -1,5 +1,5 @@
 use Rattle.std.proofs.Common.{◌≡◌, ◌++◌, map, drop}
-use Rattle.ps_model.specs.RuleSymbols.{symbol_of}
+use Rattle.ps_model.specs.rules.RuleSymbols.{symbol_of}
 use Rattle.ps_rules.specs.SymbolsShown.{tokens_shown, token_of_word}
 use Rattle.ps_rules.proofs.tokens.tokens_of.Given as goal
 

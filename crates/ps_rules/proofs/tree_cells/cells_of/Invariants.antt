@@ -1,6 +1,6 @@
 use Rattle.std.proofs.Common.{◌≡◌, ◌++◌, drop}
 use Rattle.std.specs.List.{flat_map}
-use Rattle.ps_model.specs.Occurrences.{cells_of}
+use Rattle.ps_model.specs.meaning.Occurrences.{cells_of}
 use Rattle.ps_rules.specs.RulesShown.{tree_rows_shown, rule_shown, cell_list_shown}
 use Rattle.ps_rules.proofs.tree_cells.cells_of.Given as goal
 

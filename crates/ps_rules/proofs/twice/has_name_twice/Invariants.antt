@@ -1,7 +1,7 @@
 use Rattle.std.proofs.Common.{◌≡◌, drop}
 use Rattle.std.specs.List.{list_any}
 use Rattle.std.specs.Prelude.{◌||◌}
-use Rattle.ps_model.specs.RuleNameFaults.{name_twice}
+use Rattle.ps_model.specs.rules.RuleNameFaults.{name_twice}
 use Rattle.ps_rules.specs.RulesShown.{cell_list_shown}
 use Rattle.ps_rules.proofs.twice.has_name_twice.Given as goal
 

@@ -1,7 +1,7 @@
 use Rattle.std.proofs.Common.{◌≡◌, drop}
 use Rattle.std.specs.Prelude.{[]}
 use Rattle.std.specs.List.{filter_map}
-use Rattle.ps_model.specs.RuleNameFaults.{property_named}
+use Rattle.ps_model.specs.rules.RuleNameFaults.{property_named}
 use Rattle.ps_rules.specs.RulesShown.{items_shown}
 use Rattle.ps_rules.specs.Twice.{twice_behind}
 use Rattle.ps_rules.proofs.twice.property_twice.Given as goal

@@ -1,6 +1,6 @@
 use Rattle.std.proofs.Common.{◌≡◌, ◌+◌, ◌≤◌, drop}
 use Rattle.std.specs.Prelude.{fold}
-use Rattle.ps_model.specs.Lines.{depth_behind}
+use Rattle.ps_model.specs.text.Lines.{depth_behind}
 use Rattle.ps_text.proofs.comments.depth_after_line.Given as goal
 
 abbrev pub invariant-loop-byte : goal.invariant-loop-byte

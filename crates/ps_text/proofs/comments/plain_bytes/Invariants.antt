@@ -1,5 +1,5 @@
 use Rattle.std.proofs.Common.{◌≡◌, ◌+◌, ◌++◌, ◌≤◌, drop}
-use Rattle.ps_model.specs.Lines.{without_comments}
+use Rattle.ps_model.specs.text.Lines.{without_comments}
 use Rattle.ps_text.proofs.comments.plain_bytes.Given as goal
 
 abbrev pub invariant-loop-byte : goal.invariant-loop-byte

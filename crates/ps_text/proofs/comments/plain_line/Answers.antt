@@ -1,7 +1,7 @@
 use Rattle.std.proofs.Common.{rules, string_bytes, ◌≡◌, ◌∙◌, List, ℕ, sym, ap, subst}
 use Rattle.std.specs.Str.{IsUtf8}
 use Rattle.ps_text.specs.PlainLines.{IsPlain}
-use Rattle.ps_model.specs.Lines.{without_comments}
+use Rattle.ps_model.specs.text.Lines.{without_comments}
 use Rattle.ps_text.proofs.PlainLines.{plain_utf8, plain_line_is}
 use Rattle.ps_text.proofs.comments.plain_line.Goals as goal
 

@@ -3,8 +3,8 @@ use Rattle.std.specs.Prelude.{IfSome, slice_range}
 use Rattle.std.proofs.lemmas.Grind.{common_steps}
 use Rattle.std.proofs.lemmas.List.{map-append}
 use Rattle.std.proofs.lemmas.List.Elements.{All-push}
-use Rattle.ps_model.specs.Lines.{Line}
-use Rattle.ps_model.specs.LineNumbers.{line_at}
+use Rattle.ps_model.specs.text.Lines.{Line}
+use Rattle.ps_model.specs.text.LineNumbers.{line_at}
 use Rattle.ps_text.specs.Places.{words_behind, words_found, IsWordPlace}
 use Rattle.ps_text.specs.PlainLines.{IsVeiled}
 use Rattle.ps_text.specs.WordViews.{span_of, text_of, span_at, bytes_at, IsSliceOf, AreRisingSpans}

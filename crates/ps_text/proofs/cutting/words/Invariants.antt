@@ -1,7 +1,7 @@
 use Rattle.std.proofs.Common.{◌≡◌, ◌++◌, ◌-◌, ◌<◌, ℕ, List, suc, map, length, Some, None}
 use Rattle.std.specs.Prelude.{All, IfSome}
-use Rattle.ps_model.specs.LineNumbers.{line_at}
-use Rattle.ps_model.specs.RuleWords.{words_under}
+use Rattle.ps_model.specs.text.LineNumbers.{line_at}
+use Rattle.ps_model.specs.text.RuleWords.{words_under}
 use Rattle.ps_text.specs.Places.{words_found, IsWordPlace}
 use Rattle.ps_text.specs.WordViews.{span_of, text_of, span_at, bytes_at, texts_under, IsSliceOf, AreRisingSpans}
 use Rattle.ps_text.proofs.RisingSpans.{rise_limit}

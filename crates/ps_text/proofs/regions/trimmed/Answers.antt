@@ -2,8 +2,8 @@ use Rattle.std.proofs.Common.{◌≡◌, ◌∙◌, ◌+◌, ◌-◌, ◌≤◌,
 use Rattle.std.specs.Prelude.{slice_range}
 use Rattle.std.specs.List.{prefix_len}
 use Rattle.std.proofs.lemmas.Grind.{common_steps}
-use Rattle.ps_model.specs.Words.{is_blank}
-use Rattle.ps_model.specs.Lines.{without_blank_end}
+use Rattle.ps_model.specs.text.Words.{is_blank}
+use Rattle.ps_model.specs.text.Lines.{without_blank_end}
 use Rattle.ps_text.proofs.Trimmed.{region_of_front, trimmed_region}
 use Rattle.ps_text.proofs.regions.trimmed.Goals as goal
 

@@ -1,6 +1,6 @@
 use Rattle.std.proofs.Common.{◌≡◌, ◌+◌, drop}
 use Rattle.std.specs.List.{position_or_len}
-use Rattle.ps_model.specs.Lines.{is_line_feed}
+use Rattle.ps_model.specs.text.Lines.{is_line_feed}
 use Rattle.ps_text.proofs.rows.line_end.Given as goal
 
 abbrev pub invariant-loop-at : goal.invariant-loop-at

@@ -1,7 +1,7 @@
 use Rattle.std.proofs.Common.{◌≡◌, ◌+◌, ◌-◌, ◌≤◌, ◌++◌, map, length}
 use Rattle.std.specs.Prelude.{All}
 use Rattle.std.specs.Str.{IsCharBoundary}
-use Rattle.ps_model.specs.Lines.{lines_of}
+use Rattle.ps_model.specs.text.Lines.{lines_of}
 use Rattle.ps_text.specs.Rows.{shown, lines_behind, IsRow}
 use Rattle.ps_text.proofs.rows.table.Given as goal
 

@@ -1,7 +1,7 @@
 use Rattle.std.proofs.Common.{rules, ◌≡◌, ◌+◌, ℕ, true, get_or, subst, arith}
 use Rattle.std.specs.Str.{IsCharBoundary}
 use Rattle.std.proofs.lemmas.Str.{IsCharBoundary-after_ascii}
-use Rattle.ps_model.specs.RuleWords.{is_alone}
+use Rattle.ps_model.specs.text.RuleWords.{is_alone}
 use Rattle.ps_text.specs.Places.{IsArrow}
 use Rattle.ps_text.proofs.RuleWordSteps.{mark_is_ascii}
 use Rattle.ps_text.proofs.rule_scan.own_len.Goals as goal

@@ -1,6 +1,6 @@
 use Rattle.std.proofs.Common.{rules, ◌≡◌, ◌∙◌, ◌+◌, ◌<◌, true, false, length, drop, get_or, refl, arith}
-use Rattle.ps_model.specs.Words.{is_blank}
-use Rattle.ps_model.specs.RuleWords.{own_length}
+use Rattle.ps_model.specs.text.Words.{is_blank}
+use Rattle.ps_model.specs.text.RuleWords.{own_length}
 use Rattle.ps_text.proofs.Solid.{solid_one, solid_more}
 use Rattle.ps_text.proofs.RuleWordSteps.{rule_run_begins, rule_run_goes_on}
 use Rattle.ps_text.proofs.rule_scan.rule_run_end.Goals as goal

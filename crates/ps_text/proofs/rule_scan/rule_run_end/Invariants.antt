@@ -1,5 +1,5 @@
 use Rattle.std.proofs.Common.{◌≡◌, drop, Some}
-use Rattle.ps_model.specs.RuleWords.{rule_words_from}
+use Rattle.ps_model.specs.text.RuleWords.{rule_words_from}
 use Rattle.ps_text.specs.Places.{rule_words_behind, IsSolid}
 use Rattle.ps_text.proofs.rule_scan.rule_run_end.Given as goal
 

@@ -1,6 +1,6 @@
 use Rattle.std.proofs.Common.{rules, ◌≡◌, ◌+◌, ◌<◌, true, length, get_or, refl, arith}
 use Rattle.std.proofs.lemmas.Str.{IsCharBoundary-after_ascii}
-use Rattle.ps_model.specs.Words.{stands_alone}
+use Rattle.ps_model.specs.text.Words.{stands_alone}
 use Rattle.ps_text.proofs.WordSteps.{alone_is_ascii, no_parting_no_blank}
 use Rattle.ps_text.proofs.Solid.{solid_one}
 use Rattle.ps_text.proofs.scan.next_word.Goals as goal

@@ -2,7 +2,7 @@ use Rattle.std.proofs.Common.{rules, ◌≡◌, ◌∙◌, ◌+◌, ◌<◌, tru
 use Rattle.std.specs.List.{prefix_len}
 use Rattle.std.proofs.lemmas.List.Sums.{prefix_len-drop_yes}
 use Rattle.std.proofs.lemmas.Str.{IsCharBoundary-after_ascii}
-use Rattle.ps_model.specs.Words.{parts_words}
+use Rattle.ps_model.specs.text.Words.{parts_words}
 use Rattle.ps_text.proofs.WordSteps.{past_parting_step, parting_is_ascii}
 use Rattle.ps_text.proofs.scan.past_parting.Goals as goal
 

@@ -1,7 +1,7 @@
 use Rattle.std.proofs.Common.{◌≡◌, ◌+◌, drop, None}
 use Rattle.std.specs.List.{prefix_len}
 use Rattle.std.specs.Str.{IsCharBoundary}
-use Rattle.ps_model.specs.Words.{parts_words, words_from}
+use Rattle.ps_model.specs.text.Words.{parts_words, words_from}
 use Rattle.ps_text.proofs.scan.past_parting.Given as goal
 
 abbrev pub invariant-loop-at : goal.invariant-loop-at

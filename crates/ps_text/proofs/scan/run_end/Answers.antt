@@ -1,5 +1,5 @@
 use Rattle.std.proofs.Common.{rules, ◌≡◌, ◌∙◌, ◌+◌, ◌<◌, false, length, get_or, refl, arith}
-use Rattle.ps_model.specs.Words.{parts_words, stands_alone}
+use Rattle.ps_model.specs.text.Words.{parts_words, stands_alone}
 use Rattle.ps_text.proofs.Solid.{solid_one, solid_more}
 use Rattle.ps_text.proofs.WordSteps.{run_begins, run_goes_on, no_parting_no_blank}
 use Rattle.ps_text.proofs.scan.run_end.Goals as goal

@@ -1,6 +1,6 @@
 use Rattle.std.proofs.Common.{rules, ◌≡◌, ◌∙◌, ◌∷◌, [], false, codes, sym, ap}
-use Rattle.ps_model.specs.Lines.{behind_arrow, is_word}
-use Rattle.ps_model.specs.RuleWords.{rule_words_in}
+use Rattle.ps_model.specs.text.Lines.{behind_arrow, is_word}
+use Rattle.ps_model.specs.text.RuleWords.{rule_words_in}
 use Rattle.ps_text.specs.Places.{rule_words_behind}
 use Rattle.ps_text.proofs.NamedWords.{past_word, found_from_start}
 use Rattle.ps_text.proofs.taken.arrow_end.Goals as goal

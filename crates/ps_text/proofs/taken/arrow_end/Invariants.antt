@@ -1,7 +1,7 @@
 use Rattle.std.proofs.Common.{◌≡◌, ◌-◌, suc, None, Some, length}
 use Rattle.std.specs.Prelude.{IfSome}
-use Rattle.ps_model.specs.Lines.{behind_arrow}
-use Rattle.ps_model.specs.RuleWords.{rule_words_in}
+use Rattle.ps_model.specs.text.Lines.{behind_arrow}
+use Rattle.ps_model.specs.text.RuleWords.{rule_words_in}
 use Rattle.ps_text.specs.Places.{rule_words_with, IsWordPlace}
 use Rattle.ps_text.proofs.taken.arrow_end.Given as goal
 

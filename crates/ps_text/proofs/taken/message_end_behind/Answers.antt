@@ -2,7 +2,7 @@ use Rattle.std.proofs.Common.{rules, ◌≡◌, ◌∷◌, [], true, refl, codes
 use Rattle.std.specs.Prelude.{slice_range}
 use Rattle.std.specs.List.{list_any}
 use Rattle.std.specs.Str.{bytes_eq}
-use Rattle.ps_model.specs.Lines.{folded}
+use Rattle.ps_model.specs.text.Lines.{folded}
 use Rattle.ps_text.proofs.NamedWords.{text_behind_word}
 use Rattle.ps_text.proofs.taken.message_end_behind.Goals as goal
 

@@ -3,7 +3,7 @@ use Rattle.std.specs.Prelude.{slice_range}
 use Rattle.std.specs.List.{list_any}
 use Rattle.std.specs.Str.{bytes_eq}
 use Rattle.std.proofs.lemmas.Str.{IsCharBoundary-start}
-use Rattle.ps_model.specs.Lines.{folded}
+use Rattle.ps_model.specs.text.Lines.{folded}
 use Rattle.ps_text.proofs.NamedWords.{text_behind_word}
 use Rattle.ps_text.proofs.taken.title_end.Goals as goal
 

@@ -3,7 +3,7 @@ use Rattle.std.specs.Simd.{first_chunks}
 use Rattle.std.proofs.lemmas.List.Edits.{map_over_more}
 use Rattle.std.proofs.lemmas.Grind.{common_steps}
 use Rattle.ps_model.specs.declared.pieces.Slot.{Slot}
-use Rattle.ps_model.specs.Grid.{Grid, slot_at_rest}
+use Rattle.ps_model.specs.board.Grid.{Grid, slot_at_rest}
 use Rattle.ps_board.proofs.Cells.{first_chunks-map}
 use Rattle.ps_board.proofs.list_board.ListBoardBoard.clear_moves.Goals as goal
 

@@ -1,5 +1,5 @@
 use Rattle.std.proofs.Common.{◌≡◌, ◌++◌, map, take, drop}
-use Rattle.ps_model.specs.Grid.{slot_at_rest}
+use Rattle.ps_model.specs.board.Grid.{slot_at_rest}
 use Rattle.ps_board.proofs.list_board.ListBoardBoard.clear_moves.Given as goal
 
 -- the slots passed by are at rest

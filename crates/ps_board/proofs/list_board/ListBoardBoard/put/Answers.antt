@@ -1,6 +1,6 @@
 use Rattle.std.proofs.Common.{◌*◌, ap, List, []}
 use Rattle.ps_model.specs.declared.pieces.Slot.{Slot}
-use Rattle.ps_model.specs.Grid.{Grid, slot_of}
+use Rattle.ps_model.specs.board.Grid.{Grid, slot_of}
 use Rattle.ps_board.proofs.Cells.{first_chunks-set}
 use Rattle.ps_board.proofs.list_board.ListBoardBoard.put.Goals as goal
 

@@ -3,7 +3,7 @@ use Rattle.std.specs.Simd.{first_chunks}
 use Rattle.std.proofs.lemmas.Grind.{common_steps}
 use Rattle.ps_model.specs.declared.pieces.Slot.{Slot}
 use Rattle.ps_model.specs.declared.pieces.Slot.TheVariants.{Bare}
-use Rattle.ps_model.specs.Grid.{Grid}
+use Rattle.ps_model.specs.board.Grid.{Grid}
 use Rattle.ps_board.proofs.Cells.{first_chunks-replicate}
 use Rattle.ps_board.proofs.list_board.ListBoardBoard.try_empty.Goals as goal
 

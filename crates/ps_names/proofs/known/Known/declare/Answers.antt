@@ -3,7 +3,7 @@ use Rattle.std.specs.Str.{bytes_eq}
 use Rattle.std.specs.String.{string_bytes}
 use Rattle.std.specs.List.{list_any}
 use Rattle.std.specs.Map.{lookup}
-use Rattle.ps_model.specs.Lines.{folded}
+use Rattle.ps_model.specs.text.Lines.{folded}
 use Rattle.ps_names.specs.Known.{Named, keys}
 use Rattle.ps_names.proofs.KnownEntries.{is_some-lookup-shown, insert-named}
 use Rattle.ps_names.proofs.known.Known.declare.Goals as goal

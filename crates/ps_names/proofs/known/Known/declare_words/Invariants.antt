@@ -1,5 +1,5 @@
 use Rattle.std.proofs.Common.{◌≡◌, ◌++◌, drop, map}
-use Rattle.ps_model.specs.DeclarationFaults.{are_declared_again}
+use Rattle.ps_model.specs.names.DeclarationFaults.{are_declared_again}
 use Rattle.ps_text.specs.WordViews.{text_of}
 use Rattle.ps_names.specs.Known.{keys, mention_shown, named_as}
 use Rattle.ps_names.proofs.known.Known.declare_words.Given as goal

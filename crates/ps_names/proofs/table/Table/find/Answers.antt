@@ -3,8 +3,8 @@ use Rattle.std.specs.Prelude.{slice_get}
 use Rattle.std.specs.Str.{bytes_eq}
 use Rattle.std.specs.Map.{lookup}
 use Rattle.std.proofs.lemmas.Option.{slice_get_past}
-use Rattle.ps_model.specs.Names.{Meaning}
-use Rattle.ps_model.specs.Lines.{folded}
+use Rattle.ps_model.specs.names.Names.{Meaning}
+use Rattle.ps_model.specs.text.Lines.{folded}
 use Rattle.ps_names.specs.Known.{Named}
 use Rattle.ps_names.specs.MeaningSteps.{meanings_shown}
 use Rattle.ps_names.specs.Tables.{entries_with}

@@ -1,8 +1,8 @@
 use Rattle.std.proofs.Common.{◌≡◌, ◌∙◌, ◌+◌, ◌++◌, ap, sym, arith, List, suc, Some, None, Option, drop}
 use Rattle.std.specs.Prelude.{slice_get, slice_index_or, option_to_list, option_and_then}
 use Rattle.std.specs.List.{zip, filter_map}
-use Rattle.ps_model.specs.Names.{Meaning, Glyph}
-use Rattle.ps_model.specs.NamesRead.{glyph_with}
+use Rattle.ps_model.specs.names.Names.{Meaning, Glyph}
+use Rattle.ps_model.specs.names.NamesRead.{glyph_with}
 use Rattle.ps_names.specs.declared.meaning.Meaning as code
 use Rattle.ps_names.specs.Known.{Named}
 use Rattle.ps_names.specs.MeaningSteps.{meanings_shown}

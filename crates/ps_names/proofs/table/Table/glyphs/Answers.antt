@@ -3,7 +3,7 @@ use Rattle.std.specs.Prelude.{slice_get}
 use Rattle.std.specs.List.{filter_map}
 use Rattle.std.proofs.lemmas.List.{append-nil}
 use Rattle.std.proofs.lemmas.Option.{slice_get_past}
-use Rattle.ps_model.specs.Names.{Meaning}
+use Rattle.ps_model.specs.names.Names.{Meaning}
 use Rattle.ps_names.specs.Known.{Named}
 use Rattle.ps_names.specs.GlyphsShown.{glyphs_shown}
 use Rattle.ps_names.specs.MeaningSteps.{meanings_shown}

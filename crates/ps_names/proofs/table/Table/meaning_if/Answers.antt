@@ -5,9 +5,9 @@ use Rattle.std.specs.Map.{lookup}
 use Rattle.ps_names.specs.declared.meaning.Meaning as code
 use Rattle.std.specs.Str.{bytes_eq}
 use Rattle.std.specs.Option.{option_or}
-use Rattle.ps_model.specs.Names.{Meaning}
-use Rattle.ps_model.specs.Meanings.{OfLine}
-use Rattle.ps_model.specs.Lines.{folded}
+use Rattle.ps_model.specs.names.Names.{Meaning}
+use Rattle.ps_model.specs.names.Meanings.{OfLine}
+use Rattle.ps_model.specs.text.Lines.{folded}
 use Rattle.ps_names.specs.Known.{Named}
 use Rattle.ps_names.specs.MeaningSteps.{meanings_shown}
 use Rattle.ps_names.specs.Tables.{known_name_shown, entries_with}

@@ -2,7 +2,7 @@ use Rattle.std.proofs.Common.{◌≡◌, ◌∙◌, ◌+◌, ap, sym, refl, arit
 use Rattle.std.specs.Prelude.{slice_get}
 use Rattle.std.specs.List.{zip}
 use Rattle.std.proofs.lemmas.List.{map-append}
-use Rattle.ps_model.specs.Names.{Meaning}
+use Rattle.ps_model.specs.names.Names.{Meaning}
 use Rattle.ps_names.specs.MeaningSteps.{meaning_shown_if, meanings_shown}
 use Rattle.ps_names.specs.Tables.{known_name_shown, meaning_with}
 use Rattle.ps_names.proofs.TableSteps.{made-step, zip-map, done}

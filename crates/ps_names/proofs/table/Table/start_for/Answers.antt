@@ -1,7 +1,7 @@
 use Rattle.std.proofs.Common.{◌≡◌, ◌∙◌, ap, rules, List, [], ℕ}
 use Rattle.std.specs.Prelude.{slice_index_or}
 use Rattle.std.specs.Str.{bytes_eq}
-use Rattle.ps_model.specs.Lines.{folded}
+use Rattle.ps_model.specs.text.Lines.{folded}
 use Rattle.ps_names.specs.Known.{keys}
 use Rattle.ps_names.specs.MeaningSteps.{meanings_shown}
 use Rattle.ps_names.proofs.TableSteps.{names-before}

@@ -2,11 +2,11 @@ use Rattle.std.proofs.Common.{◌∙◌, ap, ap₂, List}
 use Rattle.std.specs.Prelude.{codes}
 use Rattle.ps_model.specs.declared.pieces.Motion.{Motion}
 use Rattle.ps_model.specs.declared.pieces.ObjectId.{ObjectId}
-use Rattle.ps_model.specs.Grid.{Grid}
-use Rattle.ps_model.specs.Movement.{slid}
-use Rattle.ps_model.specs.Names.{members_named}
-use Rattle.ps_model.specs.Inputs.{with_motion}
-use Rattle.ps_model.specs.PlainGames.{PlainGame}
+use Rattle.ps_model.specs.board.Grid.{Grid}
+use Rattle.ps_model.specs.board.Movement.{slid}
+use Rattle.ps_model.specs.names.Names.{members_named}
+use Rattle.ps_model.specs.board.Inputs.{with_motion}
+use Rattle.ps_model.specs.game.PlainGames.{PlainGame}
 use Rattle.ps_play.proofs.session.Session.act.Goals as goal
 
 pub returns-clause-moved : goal.returns-clause-moved

@@ -1,5 +1,5 @@
 use Rattle.std.proofs.Common.{◌≡◌, drop, filter}
-use Rattle.ps_model.specs.Occurrences.{numbers}
+use Rattle.ps_model.specs.meaning.Occurrences.{numbers}
 use Rattle.ps_rules.specs.RulesShown.{items_shown}
 use Rattle.ps_rules.specs.SoughtItems.{found_from}
 use Rattle.ps_rules.specs.Tallies.{Key, has_key, found_at}

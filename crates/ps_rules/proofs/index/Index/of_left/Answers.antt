@@ -1,6 +1,6 @@
 use Rattle.std.proofs.Common.{arith, ◌≡◌, ◌∙◌, ◌∷◌, ◌+◌, suc, ℕ, sym, ap, filter, drop, Bor, List}
 use Rattle.std.proofs.lemmas.List.{at_drop_all}
-use Rattle.ps_model.specs.Occurrences.{numbers}
+use Rattle.ps_model.specs.meaning.Occurrences.{numbers}
 use Rattle.ps_rules.specs.declared.tree.CellPair.{CellPair}
 use Rattle.ps_rules.specs.RulesShown.{cell_shown, cell_list_shown}
 use Rattle.ps_rules.specs.SoughtItems.{found_from, left_of}

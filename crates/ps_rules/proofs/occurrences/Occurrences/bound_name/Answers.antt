@@ -1,6 +1,6 @@
 use Rattle.std.proofs.Common.{◌∙◌, ap, filter, List}
-use Rattle.ps_model.specs.Occurrences.{bound_name, here_or_only, names_it, numbers, left_items}
-use Rattle.ps_model.specs.SourceRules.{SourceRule}
+use Rattle.ps_model.specs.meaning.Occurrences.{bound_name, here_or_only, names_it, numbers, left_items}
+use Rattle.ps_model.specs.rules.SourceRules.{SourceRule}
 use Rattle.ps_names.specs.Shown.{meaning_shown}
 use Rattle.ps_rules.specs.RulesShown.{items_shown, cell_shown, rule_shown}
 use Rattle.ps_rules.specs.declared.tree.Item.{Item}

@@ -1,7 +1,7 @@
 use Rattle.std.proofs.Common.{rules, ◌≡◌, ◌∙◌, ◌+◌, ◌≤◌, length, string_bytes, ap, ℕ, List, arith}
 use Rattle.std.specs.Prelude.{slice_range}
 use Rattle.std.proofs.lemmas.Grind.{common_steps}
-use Rattle.ps_model.specs.Lines.{Line}
+use Rattle.ps_model.specs.text.Lines.{Line}
 use Rattle.ps_text.specs.TakenPlaces.{IsTextPlace}
 use Rattle.ps_text.proofs.Slices.{part_of_line}
 use Rattle.ps_text.proofs.Numbers.{number_of_line}

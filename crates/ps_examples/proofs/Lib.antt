@@ -1,0 +1,5 @@
+pub mod text
+pub mod names
+pub mod rules
+pub mod turns
+pub mod games

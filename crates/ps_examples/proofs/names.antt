@@ -1,0 +1,5 @@
+mod ObjectRows
+mod LegendRows
+mod LayerRows
+mod NameRows
+pub mod NameTexts

@@ -1,0 +1,8 @@
+mod RuleShapeRows
+mod RuleNameRows
+mod RuleGroupRows
+mod RuleTreeRows
+mod ReadingFaultRows
+mod FaultRows
+mod OddRuleRows
+pub mod RuleTexts

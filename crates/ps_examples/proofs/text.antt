@@ -1,0 +1,4 @@
+mod LineRows
+mod CommentRows
+mod SectionRows
+mod OddTextRows

@@ -1,0 +1,12 @@
+mod MovementRows
+mod WinRows
+mod PushRows
+mod RoundRows
+mod PartRows
+mod TurnedRows
+mod IdleRows
+mod PropertyRows
+mod CommandRows
+mod CompiledRows
+mod CompilingRows
+pub mod SmallBoards

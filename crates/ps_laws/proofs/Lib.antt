@@ -1,0 +1,6 @@
+pub mod masks
+pub mod texts
+pub mod grids
+pub mod alike
+pub mod keys
+pub mod common

@@ -1,0 +1,12 @@
+pub mod AlikePrograms
+pub mod AlikeRounds
+pub mod EqualAttempts
+pub mod EqualPlaces
+pub mod EqualPrograms
+pub mod IdleRules
+pub mod PassedLoops
+pub mod SettledGroups
+pub mod TurnedAttempts
+pub mod TurnedPlaces
+pub mod TurnedPrograms
+pub mod RisingPlaces

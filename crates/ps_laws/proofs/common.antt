@@ -1,0 +1,14 @@
+pub mod Counts
+pub mod EitherWay
+pub mod Everywhere
+pub mod FirstFaults
+pub mod Foldings
+pub mod LinesInOrder
+pub mod Neighbours
+pub mod OptionalSteps
+pub mod Slots
+pub mod StagedReadings
+pub mod Stages
+pub mod Steps
+pub mod Winners
+pub mod Zipped

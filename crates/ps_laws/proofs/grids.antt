@@ -1,0 +1,10 @@
+pub mod KeptAttempts
+pub mod KeptCells
+pub mod KeptPrograms
+pub mod KeptReadings
+pub mod KeptRules
+pub mod KeptRuns
+pub mod KeptSides
+pub mod KeptSlides
+pub mod KeptTurns
+pub mod GameCells

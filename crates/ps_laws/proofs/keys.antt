@@ -1,0 +1,4 @@
+pub mod Endings
+pub mod Fronts
+pub mod HeldKeys
+pub mod KeysInPieces

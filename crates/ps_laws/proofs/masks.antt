@@ -1,0 +1,4 @@
+pub mod FittingMasks
+pub mod RewritingWrites
+pub mod AgreeingCells
+pub mod AgreeingPrograms

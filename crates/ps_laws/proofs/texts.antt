@@ -1,0 +1,12 @@
+pub mod AllMentioned
+pub mod BoundedNames
+pub mod FaultlessNames
+pub mod GamesOfTexts
+pub mod LevelLimits
+pub mod LevelsOfNames
+pub mod MentionedObjects
+pub mod NoObjects
+pub mod ObjectsThere
+pub mod RulesOfNames
+pub mod GameLaws
+pub mod OneGame

@@ -1,0 +1,14 @@
+pub mod OneGame
+pub mod Stages
+pub mod Settling
+pub mod EqualMeanings
+pub mod KeptGrids
+pub mod SameSides
+pub mod IdleRules
+pub mod AlikeRounds
+pub mod GamesOfTexts
+pub mod Fronts
+pub mod CompilingCells
+pub mod CompilingRules
+pub mod TurningRound
+pub mod ReadingInPieces

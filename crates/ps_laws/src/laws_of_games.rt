@@ -1,0 +1,40 @@
+//! Laws of the definitions: what every game of a text is.
+ghost use Rattle.ps_laws.specs.GamesOfTexts.{NamesReadAreBounded, GamesAreBounded, NamesReadHaveObjects, GamesHaveObjects, RulesReadAreOfNames, GameRulesAreOfNames, LoadedLevelsAreGrids, EntriesReadAreOfNames, GameEntriesAreOfNames, GameLevelsAreGrids, GameLevelsAreWithinLimits, GridsOfGamesAreGrids, GameTurnsKeepAll};
+
+/// Names of lines without faults are bounded, and so are the names of every game.
+pub fn names_are_bounded()
+    ensures read { NamesReadAreBounded }
+    ensures games { GamesAreBounded }
+{}
+
+/// Lines without faults of names declare an object, and a layer; so each game has an object, and a layer.
+pub fn games_have_objects()
+    ensures read { NamesReadHaveObjects }
+    ensures games { GamesHaveObjects }
+{}
+
+/// Rules that are read, with names that are bounded, speak of objects of the game alone; so do the rules of every game.
+pub fn rules_are_of_games()
+    ensures read { RulesReadAreOfNames }
+    ensures games { GameRulesAreOfNames }
+{}
+
+/// A level of a game is loaded as a grid of the game. The levels that are read, with names that are bounded and of which one is an
+/// object, are of the game; so are the levels of every game, whose sides are within the limits.
+pub fn levels_are_of_games()
+    ensures loaded { LoadedLevelsAreGrids }
+    ensures read { EntriesReadAreOfNames }
+    ensures games { GameEntriesAreOfNames }
+    ensures grids { GameLevelsAreGrids }
+    ensures limits { GameLevelsAreWithinLimits }
+{}
+
+/// A grid of a game is a grid, if its sides are within the limits.
+pub fn grids_of_games()
+    ensures { GridsOfGamesAreGrids }
+{}
+
+/// A turn of a game makes of each grid of the game one of the game, with the same sides.
+pub fn turns_are_of_games()
+    ensures { GameTurnsKeepAll }
+{}

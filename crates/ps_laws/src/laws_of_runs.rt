@@ -1,0 +1,66 @@
+//! Laws over the definitions of readings, of keys and of runs. Each function does nothing: its contract is a law that the
+//! definitions keep.
+
+ghost use Rattle.ps_laws.specs.Stages.{MovesOneByOne, MembersOneByOne, MovesInTwoStages, MembersInTwoStages, ReadByStages, ReadOneInOther, ReadingsCounted};
+ghost use Rattle.ps_laws.specs.ReadingInPieces.{HeldAtEnd, HeldIsBegun, HeldIsSilent, KeysInPieces, ReadPieceByPiece, ReadByteByByte, OneByteMore};
+ghost use Rattle.ps_laws.specs.Fronts.{FrontGrows, FrontOfOutput, FrontInPieces, FrontOfMore, OutputOfEnded, OutputOfUnended, OutputOnceEnded, EndIsQuiet, EndStays, EndsOtherwise, WrittenByEnding};
+ghost use Rattle.ps_laws.specs.OneGame.{AtMostOneGame, FaultBarsGame, FaultlessIsGame, GameIsFaultless, GameOrFault};
+
+/// The readings of a rule can be made stage by stage, by directions, by moves and by members, each stage splitting all
+/// that is made so far by one occurrence after the other: they are the same, in the same order, and as many as are
+/// counted.
+pub fn readings_by_stages()
+    ensures moves { MovesOneByOne }
+    ensures members { MembersOneByOne }
+    ensures moves_in_two { MovesInTwoStages }
+    ensures members_in_two { MembersInTwoStages }
+    ensures stages { ReadByStages }
+    ensures one_in_other { ReadOneInOther }
+    ensures counted { ReadingsCounted }
+{}
+
+/// The bytes at the end of a piece that may begin an arrow are held. They are nothing, ESC, or ESC and `[`, and bring no
+/// key as yet.
+pub fn held_bytes()
+    ensures at_end { HeldAtEnd }
+    ensures begun { HeldIsBegun }
+    ensures silent { HeldIsSilent }
+{}
+
+/// Keys that come in pieces, or byte by byte: a reader needs nothing of the bytes before but what is held of them.
+pub fn keys_in_pieces()
+    ensures pieces { KeysInPieces }
+    ensures piece_by_piece { ReadPieceByPiece }
+    ensures byte_by_byte { ReadByteByByte }
+    ensures one_byte_more { OneByteMore }
+{}
+
+/// What a run has written grows with each key, and each such front is a front of the whole output, whatever keys come
+/// behind them.
+pub fn fronts_of_output()
+    ensures grows { FrontGrows }
+    ensures of_output { FrontOfOutput }
+    ensures in_pieces { FrontInPieces }
+    ensures of_more { FrontOfMore }
+{}
+
+/// The whole output is the front of all keys, where the run has ended; where the keys end first, a line that says so
+/// stands behind it. Keys after the end change nothing.
+pub fn ends_of_output()
+    ensures ended { OutputOfEnded }
+    ensures unended { OutputOfUnended }
+    ensures once_ended { OutputOnceEnded }
+    ensures quiet { EndIsQuiet }
+    ensures stays { EndStays }
+    ensures otherwise { EndsOtherwise }
+    ensures by_ending { WrittenByEnding }
+{}
+
+/// A text has at most one game. It has one exactly where it has no fault.
+pub fn one_game()
+    ensures at_most { AtMostOneGame }
+    ensures barred { FaultBarsGame }
+    ensures faultless { FaultlessIsGame }
+    ensures of_game { GameIsFaultless }
+    ensures either { GameOrFault }
+{}

@@ -1,8 +1,0 @@
-use Rattle.ps_model.proofs.AgreeingCells.{left_on_one_layer, right_on_one_layer}
-use Rattle.ps_model.proofs.laws_of_compiling.loose_properties_lie_on_one_layer.Goals as goal
-
-pub returns-clause-left : goal.returns-clause-left
-returns-clause-left c = left_on_one_layer
-
-pub returns-clause-right : goal.returns-clause-right
-returns-clause-right c = right_on_one_layer

@@ -1,5 +1,0 @@
-use Rattle.ps_model.proofs.GamesOfTexts.{game-turns}
-use Rattle.ps_model.proofs.laws_of_games.turns_are_of_games.Goals as goal
-
-pub returns : goal.returns
-returns c = game-turns

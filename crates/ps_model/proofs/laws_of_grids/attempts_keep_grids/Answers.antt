@@ -1,5 +1,0 @@
-use Rattle.ps_model.proofs.KeptAttempts.{attempt-keeps}
-use Rattle.ps_model.proofs.laws_of_grids.attempts_keep_grids.Goals as goal
-
-pub returns : goal.returns
-returns c = attempt-keeps

@@ -1,5 +1,0 @@
-use Rattle.ps_model.proofs.KeptTurns.{game_turn-keeps}
-use Rattle.ps_model.proofs.laws_of_grids.game_turns_keep_grids.Goals as goal
-
-pub returns : goal.returns
-returns c = game_turn-keeps

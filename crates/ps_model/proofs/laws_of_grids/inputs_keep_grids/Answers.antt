@@ -1,5 +1,0 @@
-use Rattle.ps_model.proofs.KeptTurns.{with_input-keeps}
-use Rattle.ps_model.proofs.laws_of_grids.inputs_keep_grids.Goals as goal
-
-pub returns : goal.returns
-returns c = with_input-keeps

@@ -1,5 +1,0 @@
-use Rattle.ps_model.proofs.KeptRuns.{looped-kept}
-use Rattle.ps_model.proofs.laws_of_grids.loops_keep_grids.Goals as goal
-
-pub returns : goal.returns
-returns c = looped-kept

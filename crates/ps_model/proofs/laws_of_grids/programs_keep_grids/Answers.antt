@@ -1,5 +1,0 @@
-use Rattle.ps_model.proofs.KeptRuns.{program_run-kept}
-use Rattle.ps_model.proofs.laws_of_grids.programs_keep_grids.Goals as goal
-
-pub returns : goal.returns
-returns c = program_run-kept

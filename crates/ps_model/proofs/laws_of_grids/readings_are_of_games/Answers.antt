@@ -1,5 +1,0 @@
-use Rattle.ps_model.proofs.KeptReadings.{readings-game}
-use Rattle.ps_model.proofs.laws_of_grids.readings_are_of_games.Goals as goal
-
-pub returns : goal.returns
-returns c = readings-game

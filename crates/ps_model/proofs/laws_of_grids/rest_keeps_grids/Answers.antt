@@ -1,5 +1,0 @@
-use Rattle.ps_model.proofs.KeptTurns.{at_rest-keeps}
-use Rattle.ps_model.proofs.laws_of_grids.rest_keeps_grids.Goals as goal
-
-pub returns : goal.returns
-returns c = at_rest-keeps

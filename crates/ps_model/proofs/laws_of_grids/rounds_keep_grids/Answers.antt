@@ -1,5 +1,0 @@
-use Rattle.ps_model.proofs.KeptRuns.{round-kept}
-use Rattle.ps_model.proofs.laws_of_grids.rounds_keep_grids.Goals as goal
-
-pub returns : goal.returns
-returns c = round-kept

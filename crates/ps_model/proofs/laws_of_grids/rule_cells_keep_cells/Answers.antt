@@ -1,5 +1,0 @@
-use Rattle.ps_model.proofs.KeptCells.{cell_meaning-keeps}
-use Rattle.ps_model.proofs.laws_of_grids.rule_cells_keep_cells.Goals as goal
-
-pub returns : goal.returns
-returns c = cell_meaning-keeps

@@ -1,5 +1,0 @@
-use Rattle.ps_model.proofs.KeptRules.{program_of-keep}
-use Rattle.ps_model.proofs.laws_of_grids.rule_programs_keep_cells.Goals as goal
-
-pub returns : goal.returns
-returns c = program_of-keep

@@ -1,5 +1,0 @@
-use Rattle.ps_model.proofs.KeptCells.{meanings-keep}
-use Rattle.ps_model.proofs.laws_of_grids.rules_keep_cells.Goals as goal
-
-pub returns : goal.returns
-returns c = meanings-keep

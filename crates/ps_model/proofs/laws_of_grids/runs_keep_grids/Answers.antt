@@ -1,5 +1,0 @@
-use Rattle.ps_model.proofs.KeptRuns.{sections_run-kept}
-use Rattle.ps_model.proofs.laws_of_grids.runs_keep_grids.Goals as goal
-
-pub returns : goal.returns
-returns c = sections_run-kept

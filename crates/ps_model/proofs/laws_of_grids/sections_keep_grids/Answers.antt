@@ -1,5 +1,0 @@
-use Rattle.ps_model.proofs.KeptRuns.{section_run-kept}
-use Rattle.ps_model.proofs.laws_of_grids.sections_keep_grids.Goals as goal
-
-pub returns : goal.returns
-returns c = section_run-kept

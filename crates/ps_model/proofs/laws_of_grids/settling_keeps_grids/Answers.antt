@@ -1,5 +1,0 @@
-use Rattle.ps_model.proofs.KeptRuns.{settled-kept}
-use Rattle.ps_model.proofs.laws_of_grids.settling_keeps_grids.Goals as goal
-
-pub returns : goal.returns
-returns c = settled-kept

@@ -1,5 +1,0 @@
-use Rattle.ps_model.proofs.KeptSlides.{slid-keeps}
-use Rattle.ps_model.proofs.laws_of_grids.slides_keep_grids.Goals as goal
-
-pub returns : goal.returns
-returns c = slid-keeps

@@ -1,6 +1,0 @@
-use Rattle.ps_model.proofs.HeldKeys.{one_byte_more}
-use Rattle.ps_model.proofs.KeysInPieces as keys
-use Rattle.ps_model.proofs.laws_of_runs.keys_in_pieces.Goals as goal
-
-pub returns : goal.returns
-returns c = record { pieces = keys.keys_in_pieces; piece_by_piece = keys.read_piece_by_piece; byte_by_byte = keys.read_byte_by_byte; one_byte_more = one_byte_more }

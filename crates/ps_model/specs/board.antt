@@ -1,0 +1,14 @@
+pub mod Grid
+pub mod Levels
+pub mod Places
+pub mod Attempts
+pub mod Programs
+pub mod RulePrograms
+pub mod Movement
+pub mod WeakMovement
+pub mod Wins
+pub mod WinLines
+pub mod Winning
+pub mod Inputs
+pub mod Turns
+pub mod GameGrids

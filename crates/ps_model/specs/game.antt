@@ -1,0 +1,5 @@
+pub mod Games
+pub mod Outputs
+pub mod Headline
+pub mod PlainGames
+pub mod PlainOutput

@@ -1,0 +1,13 @@
+pub mod Directions
+pub mod Occurrences
+pub mod Readings
+pub mod Wanted
+pub mod Fitting
+pub mod Rewriting
+pub mod RuleMeanings
+pub mod ReadingMeanings
+pub mod Compiled
+pub mod CompiledCells
+pub mod CompiledRules
+pub mod TurnedRound
+pub mod GameRules

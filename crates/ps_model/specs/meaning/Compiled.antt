@@ -1,0 +1,139 @@
+-- Compiled rules, as data: for each cell a mask, which tells the cells of the board that it fits, and a write, which tells what it
+-- makes of them. A mask and a write mean the same two facts that a reading of a source rule means, so places, attempts, rounds and
+-- programs are the same words for both.
+use Rattle.std.specs.Prelude.{ℕ, suc, nat_eq, Bool, false, ◌&&◌, not, Option, Some, None, List, [], ◌∷◌, map, find, slice_index_or}
+use Rattle.std.specs.List.{list_all, list_any}
+use Rattle.ps_model.specs.declared.pieces.ObjectId.{ObjectId}
+use Rattle.ps_model.specs.declared.pieces.Direction.{Direction}
+use Rattle.ps_model.specs.declared.pieces.Motion.{Motion}
+use Rattle.ps_model.specs.declared.pieces.Slot.{Slot}
+use Rattle.ps_model.specs.declared.pieces.Slot.TheVariants.{Bare, Holds}
+use Rattle.ps_model.specs.board.Grid.{object_in, motion_in, slot_of}
+use Rattle.ps_model.specs.names.Names.{same_object}
+use Rattle.ps_model.specs.rules.SourceRules.{Commands}
+use Rattle.ps_model.specs.meaning.Fitting.{same_motion}
+use Rattle.ps_model.specs.meaning.Rewriting.{slot_without}
+use Rattle.ps_model.specs.meaning.RuleMeanings.{CellMeaning, RuleMeaning}
+use Rattle.ps_model.specs.board.Programs.{Section, Group, Loop}
+
+-- masks ------------------------------------------------------------------------------------------------------------------
+
+-- a layer is asked for a motion
+pub record MotionTest : Type 0 where
+  pub layer : ℕ
+  pub motion : Motion
+
+-- what a cell must have to fit: each needed object, no barred one, one of each list, and each layer's motion
+pub record CellMask : Type 0 where
+  pub needed : List ObjectId
+  pub barred : List ObjectId
+  pub one_of : List (List ObjectId)
+  pub motions : List MotionTest
+
+-- the slot holds that object
+abbrev pub slot_holds : ObjectId → Slot → Bool
+slot_holds object Bare = false
+slot_holds object (Holds held motion) = same_object object held
+
+-- the object stands in the cell
+abbrev pub is_in : List Slot → ObjectId → Bool
+is_in cell object = list_any (slot_holds object) cell
+
+-- the layer has the motion that is asked for
+abbrev pub moves_as_asked : List Slot → MotionTest → Bool
+moves_as_asked cell test = same_motion test.motion (motion_in (slice_index_or cell test.layer Bare))
+
+-- the cell fits the mask
+abbrev pub mask_fits : CellMask → List Slot → Bool
+mask_fits mask cell =
+    list_all (is_in cell) mask.needed
+    && (not (list_any (is_in cell) mask.barred)
+    && (list_all (λ objects. list_any (is_in cell) objects) mask.one_of && list_all (moves_as_asked cell) mask.motions))
+
+-- writes -----------------------------------------------------------------------------------------------------------------
+
+-- what becomes of a layer's object: another is put there, it is left, or it is cleared away
+pub data ObjectWrite : Type 0 where
+  Put : ObjectId → ObjectWrite
+  Leave : ObjectWrite
+  Clear : ObjectWrite
+
+-- what becomes of a layer: its object; and its motion, which is kept where none is given
+pub record LayerWrite : Type 0 where
+  pub layer : ℕ
+  pub object : ObjectWrite
+  pub motion : Option Motion
+
+-- what becomes of a cell: first these objects go, and then these layers are written
+pub record CellWrite : Type 0 where
+  pub gone : List ObjectId
+  pub layers : List LayerWrite
+
+-- the motion that is given, or the one that is kept
+abbrev pub motion_or : Option Motion → Motion → Motion
+motion_or None kept = kept
+motion_or (Some given) kept = given
+
+-- a slot written
+abbrev pub object_written : ObjectWrite → Option Motion → Slot → Slot
+object_written (Put object) motion slot = Holds object (motion_or motion (motion_in slot))
+object_written Leave motion slot = slot_of (object_in slot) (motion_or motion (motion_in slot))
+object_written Clear motion slot = Bare
+
+-- a slot written by its layer's write, if there is one
+abbrev pub slot_written : Option LayerWrite → Slot → Slot
+slot_written None slot = slot
+slot_written (Some write) slot = object_written write.object write.motion slot
+
+-- the write of a layer
+abbrev pub write_on : ℕ → List LayerWrite → Option LayerWrite
+write_on layer writes = find (λ write. nat_eq write.layer layer) writes
+
+-- the slots of a cell written, from a layer on
+abbrev pub written_from : CellWrite → ℕ → List Slot → List Slot
+written_from write layer [] = []
+written_from write layer (slot ∷ slots) = slot_written (write_on layer write.layers) (slot_without write.gone slot) ∷ written_from write (suc layer) slots
+
+-- a cell written
+abbrev pub cell_written : CellWrite → List Slot → List Slot
+cell_written write cell = written_from write 0 cell
+
+-- rules and programs -----------------------------------------------------------------------------------------------------
+
+-- a cell of a compiled rule
+pub record CompiledCell : Type 0 where
+  pub mask : CellMask
+  pub write : CellWrite
+
+-- a compiled rule
+pub record CompiledRule : Type 0 where
+  pub direction : Direction
+  -- its rows; a row is a list of parts, parted by its ellipses, and a part is a list of cells
+  pub rows : List (List (List CompiledCell))
+  pub rewrites : Bool
+  pub commands : Commands
+
+-- a section of a compiled program: a group of rules, or a loop over groups
+pub data CompiledSection : Type 0 where
+  CompiledGroup : List CompiledRule → CompiledSection
+  CompiledLoop : List (List CompiledRule) → CompiledSection
+
+-- the meaning of a compiled cell, of a compiled rule and of a section
+abbrev pub meaning_of_cell : CompiledCell → CellMeaning
+meaning_of_cell cell = record { fits = mask_fits cell.mask; rewritten = cell_written cell.write }
+
+abbrev pub meaning_of_rule : CompiledRule → RuleMeaning
+meaning_of_rule rule = record {
+  direction = rule.direction;
+  rows = map (map (map meaning_of_cell)) rule.rows;
+  rewrites = rule.rewrites;
+  commands = rule.commands;
+}
+
+abbrev pub meaning_of_section : CompiledSection → Section
+meaning_of_section (CompiledGroup rules) = Group (map meaning_of_rule rules)
+meaning_of_section (CompiledLoop body) = Loop (map (map meaning_of_rule) body)
+
+-- the meaning of a compiled program
+abbrev pub meaning_of_program : List CompiledSection → List Section
+meaning_of_program sections = map meaning_of_section sections

@@ -1,0 +1,9 @@
+pub mod Names
+pub mod ObjectLines
+pub mod LegendLines
+pub mod Meanings
+pub mod LayerLines
+pub mod NamesRead
+pub mod DeclarationFaults
+pub mod NameFaults
+pub mod NameBounds

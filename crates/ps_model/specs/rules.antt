@@ -1,0 +1,9 @@
+pub mod SourceRules
+pub mod RuleSymbols
+pub mod RuleShape
+pub mod RuleTree
+pub mod RuleLines
+pub mod RuleFaults
+pub mod RuleShapeFaults
+pub mod RuleNameFaults
+pub mod ReadingFaults

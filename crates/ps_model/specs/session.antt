@@ -1,0 +1,9 @@
+pub mod LevelLines
+pub mod LevelFaults
+pub mod GameLevels
+pub mod Sessions
+pub mod StartSteps
+pub mod KeySteps
+pub mod Keys
+pub mod HeldKeys
+pub mod Frames

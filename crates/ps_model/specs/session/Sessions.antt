@@ -1,0 +1,93 @@
+-- A session: where a player is in a game. Each key gives a new session and a text that is written. What a session is, and the lines
+-- and boards that its steps speak of, stand here; the start of a level and the keys have files of their own.
+use Rattle.std.specs.Prelude.{ℕ, suc, ◌-◌, Bool, true, false, if◌then◌else◌, List, [], ◌∷◌, ◌++◌, length, take, drop, filter, codes}
+use Rattle.ps_model.specs.declared.play.Ending.{Ending}
+use Rattle.ps_model.specs.declared.limits.TheConstants.{HISTORY_LIMIT}
+use Rattle.std.specs.Fmt.{decimal}
+use Rattle.ps_model.specs.board.Grid.{Grid}
+use Rattle.ps_model.specs.session.LevelLines.{Entry, MessageEntry, LevelEntry}
+use Rattle.ps_model.specs.session.Frames.{written_line, frame}
+use Rattle.ps_model.specs.board.Turns.{Script, Done}
+
+-- a level that is played: its place among the entries; its board; the boards that undo goes back to, the latest last; and the
+-- board that a restart goes back to
+pub record Play : Type 0 where
+  pub entry : ℕ
+  pub board : Grid
+  pub history : List Grid
+  pub target : Grid
+
+-- what a level's message goes on with once it is dismissed: nothing; the end of the level; or so many more again turns, those of a
+-- key or those of the start of a level
+pub data Pending : Type 0 where
+  Nothing : Pending
+  LevelDone : Pending
+  KeyAgain : ℕ → Pending
+  StartAgain : ℕ → Pending
+
+-- a session: in a level; in a level whose message waits; at a message entry, by its place among the entries; or at the end
+pub data Session : Type 0 where
+  Playing : Play → Session
+  Waiting : Play → Pending → Session
+  AtMessage : ℕ → Session
+  Ended : Ending → Session
+
+-- a session, and the text that is written on the way to it
+pub record Step : Type 0 where
+  pub session : Session
+  pub text : List ℕ
+
+-- a step without a text, and a step behind a text
+abbrev pub quietly : Session → Step
+quietly session = record { session = session; text = [] }
+
+abbrev pub after : List ℕ → Step → Step
+after text step = record { session = step.session; text = text ++ step.text }
+
+-- what is written --------------------------------------------------------------------------------------------------------
+
+-- the line of a message
+abbrev pub message_line : List ℕ → List ℕ
+message_line text = written_line (codes "! ") text
+
+-- the frame of a level that is played
+abbrev pub shown : Script → Play → List ℕ
+shown script play = frame script.names play.board
+
+-- the entry is a level
+abbrev pub is_level : Entry → Bool
+is_level (MessageEntry text) = false
+is_level (LevelEntry level) = true
+
+-- the number of the level at that place among the entries: levels alone are counted, from 1
+abbrev pub level_number : Script → ℕ → ℕ
+level_number script entry = length (filter is_level (take (suc entry) script.entries))
+
+-- the line that opens a level, and the line that closes it
+abbrev pub level_line : Script → ℕ → List ℕ
+level_line script entry = written_line (codes "# level ") (decimal (level_number script entry))
+
+abbrev pub done_line : Script → ℕ → List ℕ
+done_line script entry = written_line (codes "* level ") (decimal (level_number script entry) ++ codes " done")
+
+-- boards -----------------------------------------------------------------------------------------------------------------
+
+-- the last boards of a list, as many as are kept
+abbrev pub kept : List Grid → List Grid
+kept boards = drop (length boards - HISTORY_LIMIT) boards
+
+-- the board enters the history
+abbrev pub remembered : Play → Play
+remembered play = record { entry = play.entry; board = play.board; history = kept (play.history ++ play.board ∷ []); target = play.target }
+
+-- the level with that board
+abbrev pub with_board : Play → Grid → Play
+with_board play board = record { entry = play.entry; board = board; history = play.history; target = play.target }
+
+-- the level with the board of a done turn; the board is the restart target too, where the turn sets a checkpoint
+abbrev pub with_turn : Play → Done → Play
+with_turn play done = record { entry = play.entry; board = done.board; history = play.history; target = if done.checkpoint then done.board else play.target }
+
+-- a level whose message waits
+abbrev pub waiting : Play → List ℕ → Pending → Step
+waiting play text pending = record { session = Waiting play pending; text = message_line text }

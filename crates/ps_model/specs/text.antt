@@ -1,0 +1,12 @@
+pub mod Words
+pub mod RuleWords
+pub mod Lines
+pub mod LineNumbers
+pub mod WrittenLines
+pub mod TextFaults
+pub mod Faults
+pub mod Refusals
+pub mod Reads
+pub mod Sections
+pub mod Preludes
+pub mod OptionSteps
