@@ -5,8 +5,8 @@ ghost use Rattle.ps_model.specs.declared.faults.Fault.{Fault as TheFault};
 ghost use Rattle.ps_model.specs.text.Faults.{first_fault};
 ghost use Rattle.ps_model.specs.game.Games.{game, faults};
 
-use ps_game::{Fault, ReadFault, read_game};
-use ps_model::Memory;
+use ps_game::{Fault, read_game};
+use ps_model::{Memory, Refusal};
 use std::alloc::Global;
 use std::fmt;
 
@@ -35,7 +35,7 @@ pub fn judge(alloc: Global, text: &[u8]) -> Result<Verdict, Memory>
 {
     match read_game(alloc, text) {
         Ok(_) => Ok(Verdict::Accepted),
-        Err(ReadFault::Refused(fault)) => Ok(Verdict::Refused(fault)),
-        Err(ReadFault::Memory) => Err(Memory),
+        Err(Refusal::Refused(fault)) => Ok(Verdict::Refused(fault)),
+        Err(Refusal::Memory) => Err(Memory),
     }
 }

@@ -5,10 +5,8 @@ ghost use Rattle.std.specs.Io.KnownBytes.{Appends, Consumes, IsAtEnd, Keeps};
 ghost use Rattle.ps_devices.specs.Devices.{most_calls};
 
 use super::traits::{ByteReader, ByteWriter, Failed};
+use ps_model::CALL_LIMIT;
 use std::io::{Read, Write};
-
-/// How many bytes one call reads at most.
-const PIECE: usize = 4096;
 
 /// A reader or a writer of std's. It can't tell which bytes the system gave or took, and tells the rest: its
 /// failure, the number of its calls and what the last one gave.
@@ -108,7 +106,7 @@ impl<T: Write + Drop> ByteWriter for FromStd<T> {
     }
 }
 
-/// One read into the start of `buffer`, at most `PIECE` bytes. std doesn't say that a read leaves the rest of its
+/// One read into the start of `buffer`, at most `CALL_LIMIT` bytes. std doesn't say that a read leaves the rest of its
 /// buffer alone, so it has one of its own.
 fn read_piece<T: Read>(stream: &mut T, buffer: &mut [u8]) -> Result<usize, Failed>
     ensures count { IfOk result (λ count. count ≤ length buffer.old) }
@@ -118,8 +116,8 @@ fn read_piece<T: Read>(stream: &mut T, buffer: &mut [u8]) -> Result<usize, Faile
     ensures rest { IfOk result (λ count. drop count buffer.new ≡ drop count buffer.old) }
     ensures unread { OnErr result (buffer.new ≡ buffer.old) }
 {
-    let mut piece = [0u8; PIECE];
-    let room = buffer.len().min(PIECE);
+    let mut piece = [0u8; CALL_LIMIT];
+    let room = buffer.len().min(CALL_LIMIT);
     let count = read_through(stream, &mut piece[..room])?;
     copy_front(&piece, count, buffer);
     Ok(count)

@@ -3,5 +3,4 @@ pub mod Headings
 pub mod ItemWays
 pub mod Pairing
 pub mod Possible
-pub mod ReadFaults
 pub mod SectionPlaces

@@ -7,9 +7,8 @@ ghost use Rattle.ps_game.specs.Possible.{all_fixed_shown, member_lists, choice, 
 
 use crate::apart::are_sides_apart;
 use crate::claims::Claim;
-use crate::counted::RULE_READINGS_LIMIT;
 use crate::fixed::Fixed;
-use ps_model::{Memory, ObjectId};
+use ps_model::{Memory, ObjectId, RULE_READINGS_LIMIT};
 use ps_names::Names;
 use ps_text::List;
 use std::alloc::Global;

@@ -3,8 +3,7 @@
 ghost use Rattle.std.specs.Prelude.{◌≡◌, ◌*◌};
 ghost use Rattle.ps_game.specs.Counted.{counted};
 
-/// The most readings that a rule may have.
-pub const RULE_READINGS_LIMIT: u32 = 4096;
+use ps_model::RULE_READINGS_LIMIT;
 
 /// A count, or one more than the most readings of a rule, where it is over that.
 pub fn counted(count: u64) -> u32

@@ -9,16 +9,13 @@ ghost use Rattle.ps_model.specs.board.RulePrograms.{rule_in};
 ghost use Rattle.ps_rules.specs.RulesShown.{rule_shown};
 ghost use Rattle.ps_game.specs.Counted.{counted};
 
-use crate::counted::{RULE_READINGS_LIMIT, times};
+use crate::counted::times;
 use crate::directions::direction_count;
 use crate::item_ways::left_ways;
-use ps_model::{Fault, FaultKind, Memory};
+use ps_model::{Fault, FaultKind, Memory, READINGS_LIMIT, RULE_READINGS_LIMIT};
 use ps_names::Names;
 use ps_rules::{Occurrences, RuleLine, RuleText, SourceRule};
 use std::alloc::Global;
-
-/// The most readings that all rules of a game may have.
-const READINGS_LIMIT: u32 = 65536;
 
 /// How many readings a rule has, as far as they are counted.
 fn reading_count(alloc: Global, names: &Names, rule: &SourceRule) -> Result<u32, Memory>

@@ -1,10 +1,11 @@
 //! Rules with as many readings as they may have, and with one cell or one rule more.
 
 use crate::counts::first_too_many;
-use crate::{Fault, FaultKind, ReadFault, read_sections};
+use crate::{Fault, FaultKind, read_sections};
+use ps_model::Refusal;
 use ps_names::read_names;
 use ps_rules::read_rules;
-use ps_text::{Source, TextFault};
+use ps_text::Source;
 use std::alloc::Global;
 use std::test::Fail;
 
@@ -32,7 +33,7 @@ impl<'a> Row<'a> {
 }
 
 /// Puts the rule last.
-fn push_rule(rules: &mut String, row: Row<'_>) -> Result<(), TextFault> {
+fn push_rule(rules: &mut String, row: Row<'_>) -> Result<(), Refusal> {
     rules.push_str(row.directions)?;
     rules.push_str(" [ ")?;
     rules.push_str(row.words)?;
@@ -45,7 +46,7 @@ fn push_rule(rules: &mut String, row: Row<'_>) -> Result<(), TextFault> {
 }
 
 /// The text of the game with these rules.
-fn source_of(alloc: Global, rules: &str) -> Result<Source, TextFault> {
+fn source_of(alloc: Global, rules: &str) -> Result<Source, Refusal> {
     let mut text = String::from_str(alloc, HEAD)?;
     text.push_str(rules)?;
     text.push_str("LEVELS\nP\n")?;
@@ -53,7 +54,7 @@ fn source_of(alloc: Global, rules: &str) -> Result<Source, TextFault> {
 }
 
 /// The fault that the readings of these rules have, of which the first stands on line 21.
-fn fault_of(alloc: Global, rules: &str) -> Result<Option<Fault>, ReadFault> {
+fn fault_of(alloc: Global, rules: &str) -> Result<Option<Fault>, Refusal> {
     let source = source_of(alloc, rules)?;
     let sections = read_sections(alloc, &source)?;
     let names = read_names(

@@ -10,13 +10,12 @@ ghost use Rattle.ps_levels.specs.Sized.{IsSizedEntry};
 ghost use Rattle.ps_game.specs.SectionPlaces.{AreSections};
 
 use crate::counts::first_too_many;
-use crate::fault::ReadFault;
 use crate::parts::{entries_of, names_of, rules_of, wins_of};
 use crate::possible::first_impossible;
 use crate::prelude::{read_options, read_title};
 use crate::sections::{Sections, read_sections};
 use ps_levels::{Entry, Win};
-use ps_model::Options;
+use ps_model::{Options, Refusal};
 use ps_names::Names;
 use ps_rules::RuleText;
 use ps_text::{Source, Text};
@@ -49,24 +48,24 @@ impl Model for Game {
 
 /// Whether the readings of the rules are neither too many nor, of some rule, all impossible. `Refused` with the first fault of
 /// the readings, if they have one.
-fn check_readings(alloc: Global, names: &Names, rules: &RuleText) -> Result<(), ReadFault>
+fn check_readings(alloc: Global, names: &Names, rules: &RuleText) -> Result<(), Refusal>
     ensures fine { OnOk result (reading_faults names.now rules.now ≡ []) }
-    ensures refused { IfErr result (λ e. (fault : TheFault) → e ≡ ReadFault.Refused fault → first_fault (reading_faults names.now rules.now) ≡ Some fault) }
+    ensures refused { IfErr result (λ e. (fault : TheFault) → e ≡ Refusal.Refused fault → first_fault (reading_faults names.now rules.now) ≡ Some fault) }
 {
     if let Some(fault) = first_too_many(alloc, names, rules)? {
-        return Err(ReadFault::Refused(fault));
+        return Err(Refusal::Refused(fault));
     }
     if let Some(fault) = first_impossible(alloc, names, rules)? {
-        return Err(ReadFault::Refused(fault));
+        return Err(Refusal::Refused(fault));
     }
     Ok(())
 }
 
 /// The game of a text whose sections are told: each part is read in its turn, so that the first fault is met first.
-fn game_of_sections(alloc: Global, source: &Source, sections: &Sections) -> Result<Game, ReadFault>
+fn game_of_sections(alloc: Global, source: &Source, sections: &Sections) -> Result<Game, Refusal>
     requires { AreSections source.now sections.now }
     ensures game { IfOk result (λ read. game_of_lines (lines_of source.now) ≡ Some read) }
-    ensures refused { IfErr result (λ e. (fault : TheFault) → e ≡ ReadFault.Refused fault → first_fault (line_faults (lines_of source.now)) ≡ Some fault) }
+    ensures refused { IfErr result (λ e. (fault : TheFault) → e ≡ Refusal.Refused fault → first_fault (line_faults (lines_of source.now)) ≡ Some fault) }
     ensures sized { IfOk result (λ read. All (IsSizedEntry read.names) read.entries) }
 {
     let names = names_of(alloc, source, sections)?;
@@ -91,9 +90,9 @@ fn game_of_sections(alloc: Global, source: &Source, sections: &Sections) -> Resu
 /// `Refused` with the first fault of the text, in the order of refusals: that it is too long or not UTF-8; of its headers and its
 /// prelude; of its names; of its rules; of its levels; of its win conditions; of the readings of its rules. `Memory` if a growth was
 /// refused.
-pub fn read_game(alloc: Global, text: &[u8]) -> Result<Game, ReadFault>
+pub fn read_game(alloc: Global, text: &[u8]) -> Result<Game, Refusal>
     ensures game { IfOk result (λ read. game text.now ≡ Some read) }
-    ensures refused { IfErr result (λ e. (fault : TheFault) → e ≡ ReadFault.Refused fault → first_fault (faults text.now) ≡ Some fault) }
+    ensures refused { IfErr result (λ e. (fault : TheFault) → e ≡ Refusal.Refused fault → first_fault (faults text.now) ≡ Some fault) }
     ensures sized { IfOk result (λ read. All (IsSizedEntry read.names) read.entries) }
 {
     let source = Source::read(alloc, text)?;

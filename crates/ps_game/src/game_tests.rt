@@ -1,7 +1,8 @@
 //! Whole texts: the faults that they have, worked by hand, and what is read of texts without one.
 
-use crate::{Fault, FaultKind, Game, Options, ReadFault, read_game};
+use crate::{Fault, FaultKind, Game, Options, read_game};
 use ps_levels::Entry;
+use ps_model::Refusal;
 use std::alloc::Global;
 use std::process::Abort;
 use std::test::Fail;
@@ -11,16 +12,16 @@ const HEAD: &str =
     "title T\nOBJECTS\nBackground .\ngreen\nWall #\nbrown\nPlayer P\nwhite\nCrate *\norange\nTarget O\nblue\nA\nred\nB\npink\nC\ngray\nD\nblack\nLEGEND\n@ = Crate and Target\nAT = A or Target\nCOLLISIONLAYERS\nBackground\nTarget\nPlayer, Wall, Crate\nA B C D\n";
 
 /// The game with these rules from line 30 on, these win conditions below them and this end of LEVELS.
-fn read(alloc: Global, rules: &str, wins: &str, levels: &str) -> Result<Game, ReadFault> {
+fn read(alloc: Global, rules: &str, wins: &str, levels: &str) -> Result<Game, Refusal> {
     let Ok(text) = format!(in alloc; "{HEAD}RULES\n{rules}WINCONDITIONS\n{wins}LEVELS\n{levels}")
     else {
-        return Err(ReadFault::Memory);
+        return Err(Refusal::Memory);
     };
     read_game(alloc, text.as_bytes())
 }
 
-fn expect_refusal(rt: &impl Abort, read: Result<Game, ReadFault>, kind: FaultKind, line: u32) {
-    assert_eq!(rt; read.err(), Some(ReadFault::Refused(Fault { kind, line })));
+fn expect_refusal(rt: &impl Abort, read: Result<Game, Refusal>, kind: FaultKind, line: u32) {
+    assert_eq!(rt; read.err(), Some(Refusal::Refused(Fault { kind, line })));
 }
 
 #[test]

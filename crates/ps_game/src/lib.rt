@@ -7,7 +7,6 @@ mod claims;
 mod counted;
 mod counts;
 mod directions;
-mod fault;
 mod fixed;
 mod game;
 mod headings;
@@ -18,10 +17,9 @@ mod possible;
 mod prelude;
 mod sections;
 
-pub use fault::ReadFault;
 pub use game::{Game, read_game};
 pub use prelude::{read_options, read_title};
-pub use ps_model::{Fault, FaultKind, Options};
+pub use ps_model::{Fault, FaultKind, Options, Refusal};
 pub use sections::{Sections, read_sections};
 
 #[cfg(test)]

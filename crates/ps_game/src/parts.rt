@@ -19,18 +19,19 @@ ghost use Rattle.ps_levels.specs.WinsShown.{wins_shown};
 ghost use Rattle.ps_game.specs.SectionPlaces.{AreSections};
 
 use crate::sections::Sections;
-use ps_levels::{Entry, LevelFault, Win, WinFault, read_levels, read_wins};
-use ps_names::{NameFault, Names, read_names};
-use ps_rules::{RuleFault, RuleText, read_rules};
+use ps_levels::{Entry, Win, read_levels, read_wins};
+use ps_model::Refusal;
+use ps_names::{Names, read_names};
+use ps_rules::{RuleText, read_rules};
 use ps_text::Source;
 use std::alloc::Global;
 
 /// The names of a text.
-pub fn names_of(alloc: Global, source: &Source, sections: &Sections) -> Result<Names, NameFault>
+pub fn names_of(alloc: Global, source: &Source, sections: &Sections) -> Result<Names, Refusal>
     requires { AreSections source.now sections.now }
     ensures part { IfOk result (λ names. names ≡ names_read (section_lines (lines_of source.now) Objects) (section_lines (lines_of source.now) Legend) (section_lines (lines_of source.now) Layers)) }
     ensures fine { OnOk result (name_faults (header_number (lines_of source.now) Objects) (section_lines (lines_of source.now) Objects) (section_lines (lines_of source.now) Legend) (section_lines (lines_of source.now) Layers) ≡ []) }
-    ensures refused { IfErr result (λ e. (fault : TheFault) → e ≡ NameFault.Refused fault → first_fault (name_faults (header_number (lines_of source.now) Objects) (section_lines (lines_of source.now) Objects) (section_lines (lines_of source.now) Legend) (section_lines (lines_of source.now) Layers)) ≡ Some fault) }
+    ensures refused { IfErr result (λ e. (fault : TheFault) → e ≡ Refusal.Refused fault → first_fault (name_faults (header_number (lines_of source.now) Objects) (section_lines (lines_of source.now) Objects) (section_lines (lines_of source.now) Legend) (section_lines (lines_of source.now) Layers)) ≡ Some fault) }
 {
     let objects = sections.objects.start..sections.objects.end;
     let legend = sections.legend.start..sections.legend.end;
@@ -44,11 +45,11 @@ pub fn rules_of(
     source: &Source,
     sections: &Sections,
     names: &Names,
-) -> Result<RuleText, RuleFault>
+) -> Result<RuleText, Refusal>
     requires { AreSections source.now sections.now }
     ensures part { IfOk result (λ rules. rules ≡ rules_read names.now (section_lines (lines_of source.now) Rules)) }
     ensures fine { OnOk result (rule_faults names.now (section_lines (lines_of source.now) Rules) ≡ []) }
-    ensures refused { IfErr result (λ e. (fault : TheFault) → e ≡ RuleFault.Refused fault → first_fault (rule_faults names.now (section_lines (lines_of source.now) Rules)) ≡ Some fault) }
+    ensures refused { IfErr result (λ e. (fault : TheFault) → e ≡ Refusal.Refused fault → first_fault (rule_faults names.now (section_lines (lines_of source.now) Rules)) ≡ Some fault) }
 {
     let lines = sections.rules.start..sections.rules.end;
     read_rules(alloc, source, lines, names)
@@ -60,11 +61,11 @@ pub fn entries_of(
     source: &Source,
     sections: &Sections,
     names: &Names,
-) -> Result<Vec<Entry>, LevelFault>
+) -> Result<Vec<Entry>, Refusal>
     requires { AreSections source.now sections.now }
     ensures part { IfOk result (λ entries. entries_shown entries.items ≡ entries_read names.now (section_lines (lines_of source.now) Levels)) }
     ensures fine { OnOk result (level_faults names.now (header_number (lines_of source.now) Levels) (section_lines (lines_of source.now) Levels) ≡ []) }
-    ensures refused { IfErr result (λ e. (fault : TheFault) → e ≡ LevelFault.Refused fault → first_fault (level_faults names.now (header_number (lines_of source.now) Levels) (section_lines (lines_of source.now) Levels)) ≡ Some fault) }
+    ensures refused { IfErr result (λ e. (fault : TheFault) → e ≡ Refusal.Refused fault → first_fault (level_faults names.now (header_number (lines_of source.now) Levels) (section_lines (lines_of source.now) Levels)) ≡ Some fault) }
     ensures sized { IfOk result (λ entries. All (IsSizedEntry names.now) (entries_shown entries.items)) }
 {
     // The count of objects tells the prover that the names are bounded.
@@ -79,11 +80,11 @@ pub fn wins_of(
     source: &Source,
     sections: &Sections,
     names: &Names,
-) -> Result<Vec<Win>, WinFault>
+) -> Result<Vec<Win>, Refusal>
     requires { AreSections source.now sections.now }
     ensures part { IfOk result (λ wins. wins_shown wins.items ≡ wins_read names.now (section_lines (lines_of source.now) Wins)) }
     ensures fine { OnOk result (win_faults names.now (section_lines (lines_of source.now) Wins) ≡ []) }
-    ensures refused { IfErr result (λ e. (fault : TheFault) → e ≡ WinFault.Refused fault → first_fault (win_faults names.now (section_lines (lines_of source.now) Wins)) ≡ Some fault) }
+    ensures refused { IfErr result (λ e. (fault : TheFault) → e ≡ Refusal.Refused fault → first_fault (win_faults names.now (section_lines (lines_of source.now) Wins)) ≡ Some fault) }
 {
     let lines = sections.wins.start..sections.wins.end;
     read_wins(alloc, source, lines, names)

@@ -8,8 +8,8 @@ ghost use Rattle.ps_model.specs.text.Sections.{heading_faults};
 ghost use Rattle.ps_game.specs.SectionPlaces.{boundary, AreSections};
 
 use crate::headings::{first_heading_fault, rank};
-use ps_model::{Fault, FaultKind};
-use ps_text::{Source, TextFault};
+use ps_model::{Fault, FaultKind, Refusal};
+use ps_text::Source;
 use std::alloc::Global;
 use std::ops::Range;
 
@@ -68,12 +68,12 @@ fn is_without_section(objects: bool, layers: bool, levels: bool) -> bool
 /// `Refused` with the first fault of headers and prelude: by line, a header that repeats or follows a later section's, and a line
 /// of the prelude that asks for real time; then, at the last line, that OBJECTS, COLLISIONLAYERS or LEVELS is missing. `Memory`
 /// if a growth was refused.
-pub fn read_sections(alloc: Global, source: &Source) -> Result<Sections, TextFault>
+pub fn read_sections(alloc: Global, source: &Source) -> Result<Sections, Refusal>
     ensures told { IfOk result (λ sections. AreSections source.now sections) }
-    ensures refused { IfErr result (λ e. (fault : TheFault) → e ≡ TextFault.Refused fault → first_fault (heading_faults (lines_of source.now)) ≡ Some fault) }
+    ensures refused { IfErr result (λ e. (fault : TheFault) → e ≡ Refusal.Refused fault → first_fault (heading_faults (lines_of source.now)) ≡ Some fault) }
 {
     if let Some(fault) = first_heading_fault(alloc, source)? {
-        return Err(TextFault::Refused(fault));
+        return Err(Refusal::Refused(fault));
     }
     let objects = boundary(source, 1, 1);
     let legend = boundary(source, objects, 2);
@@ -84,7 +84,7 @@ pub fn read_sections(alloc: Global, source: &Source) -> Result<Sections, TextFau
     let levels = boundary(source, wins, 7);
     let end = boundary(source, levels, 8);
     if is_without_section(objects < legend, layers < rules, levels < end) {
-        return Err(TextFault::Refused(Fault {
+        return Err(Refusal::Refused(Fault {
             kind: FaultKind::NoSection,
             line: source.lines(),
         }));

@@ -1,7 +1,8 @@
 //! Texts with values worked by hand.
 
 use crate::{Fault, FaultKind, Options, Sections, read_options, read_sections, read_title};
-use ps_text::{Source, TextFault};
+use ps_model::Refusal;
+use ps_text::Source;
 use std::alloc::Global;
 use std::process::Abort;
 use std::test::Fail;
@@ -10,13 +11,13 @@ use std::test::Fail;
 const GAME: &str =
     "title A Tale (of two)\nNOUNDO now\n(norestart)\nrequire_player_movement\nOBJECTS\nBackground\ngreen\nPlayer\nLEGEND\nP = Player\nCOLLISIONLAYERS\nBackground\nPlayer\nRULES\nWINCONDITIONS\nSome Player\nLEVELS\nP\n";
 
-fn read(alloc: Global, text: &str) -> Result<Sections, TextFault> {
+fn read(alloc: Global, text: &str) -> Result<Sections, Refusal> {
     let source = Source::read(alloc, text.as_bytes())?;
     read_sections(alloc, &source)
 }
 
-fn expect_refusal(rt: &impl Abort, read: Result<Sections, TextFault>, kind: FaultKind, line: u32) {
-    assert_eq!(rt; read.err(), Some(TextFault::Refused(Fault { kind, line })));
+fn expect_refusal(rt: &impl Abort, read: Result<Sections, Refusal>, kind: FaultKind, line: u32) {
+    assert_eq!(rt; read.err(), Some(Refusal::Refused(Fault { kind, line })));
 }
 
 #[test]

@@ -12,19 +12,15 @@ ghost use Rattle.ps_levels.specs.LevelRowsAt.{rows_at};
 ghost use Rattle.ps_levels.specs.RowFaults.{level_faults_by};
 
 use crate::columns::in_columns;
-use crate::fault::LevelFault;
 use crate::ground::fill_ground;
 use crate::row_text::characters_of;
 use crate::rows::add_rows;
-use ps_model::{Fault, FaultKind, Memory, ObjectId};
+use ps_model::{ENTRY_LIMIT, Fault, FaultKind, Memory, ObjectId, Refusal};
 use ps_names::Names;
 use ps_text::{List, Source};
 use std::alloc::Global;
 use std::marker::Model;
 use std::ops::Range;
-
-/// The most levels and messages of a game.
-pub const ENTRY_LIMIT: usize = 999;
 
 /// A level: its sides, each from 1 to 64, and the objects of each cell, in columns from the left and each column from the top.
 #[derive(Drop, Debug)]
@@ -74,22 +70,22 @@ fn read_rows<'a>(
     lines: Range<u32>,
     width: usize,
     place: usize,
-) -> Result<Vec<Vec<&'a [ObjectId]>>, LevelFault>
+) -> Result<Vec<Vec<&'a [ObjectId]>>, Refusal>
     requires from_one { 1 ≤ lines.start }
     requires ordered { lines.start < lines.end }
     requires there { lines.end ≤ length (lines_of source.now) + 1 }
     requires row { (line_at source.now lines.start).is_there ≡ true }
     ensures part { IfOk result (λ rows. rows_shown rows.items ≡ map (row_cells names.now width) (line_at source.now lines.start ∷ lines_between source.now (lines.start + 1) lines.end)) }
     ensures fine { OnOk result (level_faults_by names.now width place (line_at source.now lines.start) (lines_between source.now (lines.start + 1) lines.end) ≡ []) }
-    ensures refused { IfErr result (λ e. (fault : TheFault) → e ≡ LevelFault.Refused fault → first_fault (level_faults_by names.now width place (line_at source.now lines.start) (lines_between source.now (lines.start + 1) lines.end)) ≡ Some fault) }
+    ensures refused { IfErr result (λ e. (fault : TheFault) → e ≡ Refusal.Refused fault → first_fault (level_faults_by names.now width place (line_at source.now lines.start) (lines_between source.now (lines.start + 1) lines.end)) ≡ Some fault) }
 {
     let first = lines.start;
     let below = first + 1;
     let mut rows = Vec::new(alloc);
     add_rows(alloc, source, names, first..below, width, &mut rows)?;
-    if place == ENTRY_LIMIT {
+    if place == ENTRY_LIMIT as usize {
         let kind = FaultKind::TooManyEntries;
-        return Err(LevelFault::Refused(Fault { kind, line: first }));
+        return Err(Refusal::Refused(Fault { kind, line: first }));
     }
     add_rows(alloc, source, names, below..lines.end, width, &mut rows)?;
     Ok(rows)
@@ -114,7 +110,7 @@ pub fn read_level(
     names: &Names,
     lines: Range<u32>,
     place: usize,
-) -> Result<Level, LevelFault>
+) -> Result<Level, Refusal>
     requires from_one { 1 ≤ lines.start }
     requires ordered { lines.start < lines.end }
     requires there { lines.end ≤ length (lines_of source.now) + 1 }
@@ -123,7 +119,7 @@ pub fn read_level(
     ensures part { IfOk result (λ level. LevelEntry level ≡ entry_of names.now (rows_at source.now lines.start lines.end)) }
     ensures column { IfOk result (λ level. 1 ≤ level.width) }
     ensures fine { OnOk result (entry_faults names.now place (rows_at source.now lines.start lines.end) ≡ []) }
-    ensures refused { IfErr result (λ e. (fault : TheFault) → e ≡ LevelFault.Refused fault → first_fault (entry_faults names.now place (rows_at source.now lines.start lines.end)) ≡ Some fault) }
+    ensures refused { IfErr result (λ e. (fault : TheFault) → e ≡ Refusal.Refused fault → first_fault (entry_faults names.now place (rows_at source.now lines.start lines.end)) ≡ Some fault) }
 {
     let width = width_of(alloc, source, lines.start)?;
     let rows = read_rows(alloc, source, names, lines, width, place)?;

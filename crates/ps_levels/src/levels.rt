@@ -12,10 +12,9 @@ ghost use Rattle.ps_model.specs.names.NameBounds.{AreBounded};
 ghost use Rattle.ps_levels.specs.EntriesShown.{entries_shown, is_level_entry, level_lines};
 ghost use Rattle.ps_levels.specs.Sized.{HasColumn, IsSizedEntry};
 
-use crate::fault::LevelFault;
-use crate::level::{ENTRY_LIMIT, Level, read_level};
+use crate::level::{Level, read_level};
 use crate::stretch::{is_message, level_end};
-use ps_model::{Fault, FaultKind};
+use ps_model::{ENTRY_LIMIT, Fault, FaultKind, Refusal};
 use ps_names::Names;
 use ps_text::{Source, Text};
 use std::alloc::Global;
@@ -47,17 +46,17 @@ fn add_message(
     source: &Source,
     line: u32,
     entries: &mut Vec<Entry>,
-) -> Result<(), LevelFault>
+) -> Result<(), Refusal>
     requires from_one { 1 ≤ line }
     requires there { line ≤ length (lines_of source.now) }
     ensures part { OnOk result (entries_shown entries.new.items ≡ entries_shown entries.old.items ++ MessageEntry (taken_bytes (line_at source.now line)) ∷ []) }
     ensures columns { All HasColumn (entries_shown entries.old.items) → OnOk result (All HasColumn (entries_shown entries.new.items)) }
     ensures fine { OnOk result (too_many (length entries.old.items) (line_at source.now line) ≡ []) }
-    ensures refused { IfErr result (λ e. (fault : TheFault) → e ≡ LevelFault.Refused fault → first_fault (too_many (length entries.old.items) (line_at source.now line)) ≡ Some fault) }
+    ensures refused { IfErr result (λ e. (fault : TheFault) → e ≡ Refusal.Refused fault → first_fault (too_many (length entries.old.items) (line_at source.now line)) ≡ Some fault) }
 {
-    if entries.len() == ENTRY_LIMIT {
+    if entries.len() == ENTRY_LIMIT as usize {
         let kind = FaultKind::TooManyEntries;
-        return Err(LevelFault::Refused(Fault { kind, line }));
+        return Err(Refusal::Refused(Fault { kind, line }));
     }
     let text = Text::from_str(alloc, message_text(source, line))?;
     entries.push(Entry::Message(text))?;
@@ -72,7 +71,7 @@ fn add_level(
     names: &Names,
     lines: Range<u32>,
     entries: &mut Vec<Entry>,
-) -> Result<u32, LevelFault>
+) -> Result<u32, Refusal>
     requires from_one { 1 ≤ lines.start }
     requires ordered { lines.start < lines.end }
     requires there { lines.end ≤ length (lines_of source.now) + 1 }
@@ -83,7 +82,7 @@ fn add_level(
     ensures part { OnOk result (entries_shown entries.new.items ≡ entries_shown entries.old.items ++ entry_of names.now (level_lines source.now lines.start lines.end) ∷ []) }
     ensures columns { All HasColumn (entries_shown entries.old.items) → OnOk result (All HasColumn (entries_shown entries.new.items)) }
     ensures fine { OnOk result (entry_faults names.now (length entries.old.items) (level_lines source.now lines.start lines.end) ≡ []) }
-    ensures refused { IfErr result (λ e. (fault : TheFault) → e ≡ LevelFault.Refused fault → first_fault (entry_faults names.now (length entries.old.items) (level_lines source.now lines.start lines.end)) ≡ Some fault) }
+    ensures refused { IfErr result (λ e. (fault : TheFault) → e ≡ Refusal.Refused fault → first_fault (entry_faults names.now (length entries.old.items) (level_lines source.now lines.start lines.end)) ≡ Some fault) }
     ensures rest { IfOk result (λ next. entries_at true (lines_between source.now (lines.start + 1) lines.end) ≡ entry_lines (lines_between source.now next lines.end)) }
 {
     let end = level_end(alloc, source, lines.start + 1..lines.end)?;
@@ -100,7 +99,7 @@ fn add_entry(
     names: &Names,
     lines: Range<u32>,
     entries: &mut Vec<Entry>,
-) -> Result<u32, LevelFault>
+) -> Result<u32, Refusal>
     requires from_one { 1 ≤ lines.start }
     requires ordered { lines.start < lines.end }
     requires there { lines.end ≤ length (lines_of source.now) + 1 }
@@ -109,7 +108,7 @@ fn add_entry(
     ensures part { IfOk result (λ next. entries_shown entries.new.items ++ entries_read names.now (lines_between source.now next lines.end) ≡ entries_shown entries.old.items ++ entries_read names.now (lines_between source.now lines.start lines.end)) }
     ensures columns { All HasColumn (entries_shown entries.old.items) → OnOk result (All HasColumn (entries_shown entries.new.items)) }
     ensures fine { IfOk result (λ next. entries_faults names.now (length entries.new.items) (entry_lines (lines_between source.now next lines.end)) ≡ entries_faults names.now (length entries.old.items) (entry_lines (lines_between source.now lines.start lines.end))) }
-    ensures refused { IfErr result (λ e. (fault : TheFault) → e ≡ LevelFault.Refused fault → first_fault (entries_faults names.now (length entries.old.items) (entry_lines (lines_between source.now lines.start lines.end))) ≡ Some fault) }
+    ensures refused { IfErr result (λ e. (fault : TheFault) → e ≡ Refusal.Refused fault → first_fault (entries_faults names.now (length entries.old.items) (entry_lines (lines_between source.now lines.start lines.end))) ≡ Some fault) }
 {
     let line = lines.start;
     if !source.is_there(line) {
@@ -150,14 +149,14 @@ pub fn read_levels(
     source: &Source,
     lines: Range<u32>,
     names: &Names,
-) -> Result<Vec<Entry>, LevelFault>
+) -> Result<Vec<Entry>, Refusal>
     requires from_one { 1 ≤ lines.start }
     requires ordered { lines.start ≤ lines.end }
     requires there { lines.end ≤ length (lines_of source.now) + 1 }
     ensures part { IfOk result (λ entries. entries_shown entries.items ≡ entries_read names.now (lines_between source.now lines.start lines.end)) }
     ensures sized { AreBounded names.now → IfOk result (λ entries. All (IsSizedEntry names.now) (entries_shown entries.items)) }
     ensures fine { OnOk result (level_faults names.now (lines.start - 1) (lines_between source.now lines.start lines.end) ≡ []) }
-    ensures refused { IfErr result (λ e. (fault : TheFault) → e ≡ LevelFault.Refused fault → first_fault (level_faults names.now (lines.start - 1) (lines_between source.now lines.start lines.end)) ≡ Some fault) }
+    ensures refused { IfErr result (λ e. (fault : TheFault) → e ≡ Refusal.Refused fault → first_fault (level_faults names.now (lines.start - 1) (lines_between source.now lines.start lines.end)) ≡ Some fault) }
 {
     let header = lines.start - 1;
     let mut entries = Vec::new(alloc);
@@ -167,7 +166,7 @@ pub fn read_levels(
     }
     if !has_level(&entries) {
         let kind = FaultKind::NoLevel;
-        return Err(LevelFault::Refused(Fault { kind, line: header }));
+        return Err(Refusal::Refused(Fault { kind, line: header }));
     }
     Ok(entries)
 }

@@ -2,7 +2,6 @@
 #![tactic(auto)]
 
 mod columns;
-mod fault;
 mod glyphs;
 mod ground;
 mod level;
@@ -12,7 +11,6 @@ mod rows;
 mod stretch;
 mod wins;
 
-pub use fault::{LevelFault, WinFault};
 pub use level::Level;
 pub use levels::{Entry, read_levels};
 pub use wins::{Win, read_wins};

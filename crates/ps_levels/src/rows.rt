@@ -11,17 +11,13 @@ ghost use Rattle.ps_levels.specs.Cells.{cells_shown, meanings_shown, rows_shown}
 ghost use Rattle.ps_model.specs.text.LineNumbers.{here};
 ghost use Rattle.ps_levels.specs.RowFaults.{faults_of_meanings};
 
-use crate::fault::LevelFault;
 use crate::glyphs::{cells_of, has_property, has_unknown, meanings};
 use crate::row_text::characters_of;
-use ps_model::{Fault, FaultKind, Memory, ObjectId};
+use ps_model::{Fault, FaultKind, Memory, ObjectId, Refusal, SIDE_LIMIT};
 use ps_names::{Meaning, Names};
 use ps_text::Source;
 use std::alloc::Global;
 use std::ops::Range;
-
-/// The most columns of a level, and the most rows.
-const SIDE_LIMIT: usize = 64;
 
 /// The last of a row's characters.
 fn last_character(characters: &[char]) -> char
@@ -48,7 +44,7 @@ fn fill(characters: &mut Vec<char>, width: usize) -> Result<(), Memory>
 fn is_too_large(width: usize, place: usize) -> bool
     ensures { result ≡ is_too_large width place }
 {
-    (place == 0 && width > SIDE_LIMIT) || place == SIDE_LIMIT
+    (place == 0 && width > SIDE_LIMIT as usize) || place == SIDE_LIMIT as usize
 }
 
 /// The first fault of a row whose characters stand for these, at a place in a level.
@@ -98,19 +94,19 @@ fn read_row<'a>(
     line: u32,
     width: usize,
     place: usize,
-) -> Result<Vec<&'a [ObjectId]>, LevelFault>
+) -> Result<Vec<&'a [ObjectId]>, Refusal>
     requires from_one { 1 ≤ line }
     requires there { line ≤ length (lines_of source.now) }
     ensures part { IfOk result (λ cells. cells_shown cells.items ≡ row_cells names.now width (line_at source.now line)) }
     ensures fine { OnOk result (row_faults names.now width place (line_at source.now line) ≡ []) }
-    ensures refused { IfErr result (λ e. (fault : TheFault) → e ≡ LevelFault.Refused fault → first_fault (row_faults names.now width place (line_at source.now line)) ≡ Some fault) }
+    ensures refused { IfErr result (λ e. (fault : TheFault) → e ≡ Refusal.Refused fault → first_fault (row_faults names.now width place (line_at source.now line)) ≡ Some fault) }
 {
     let mut characters = characters_of(alloc, source, line)?;
     let written = written(&characters, width);
     fill(&mut characters, width)?;
     let meanings = meanings(alloc, names, &characters)?;
     if let Some(fault) = row_fault(front(&meanings, written), width, place, line) {
-        return Err(LevelFault::Refused(fault));
+        return Err(Refusal::Refused(fault));
     }
     let cells = cells_of(alloc, &meanings)?;
     Ok(cells)
@@ -124,12 +120,12 @@ fn add_row<'a>(
     line: u32,
     width: usize,
     rows: &mut Vec<Vec<&'a [ObjectId]>>,
-) -> Result<(), LevelFault>
+) -> Result<(), Refusal>
     requires from_one { 1 ≤ line }
     requires there { line ≤ length (lines_of source.now) }
     ensures part { OnOk result (rows_shown rows.new.items ≡ rows_shown rows.old.items ++ map (row_cells names.now width) (here source.now line)) }
     ensures fine { OnOk result (rows_faults names.now width (length rows.old.items) (here source.now line) ≡ []) }
-    ensures refused { IfErr result (λ e. (fault : TheFault) → e ≡ LevelFault.Refused fault → first_fault (rows_faults names.now width (length rows.old.items) (here source.now line)) ≡ Some fault) }
+    ensures refused { IfErr result (λ e. (fault : TheFault) → e ≡ Refusal.Refused fault → first_fault (rows_faults names.now width (length rows.old.items) (here source.now line)) ≡ Some fault) }
 {
     if !source.is_there(line) {
         return Ok(());
@@ -147,13 +143,13 @@ pub fn add_rows<'a>(
     lines: Range<u32>,
     width: usize,
     rows: &mut Vec<Vec<&'a [ObjectId]>>,
-) -> Result<(), LevelFault>
+) -> Result<(), Refusal>
     requires from_one { 1 ≤ lines.start }
     requires ordered { lines.start ≤ lines.end }
     requires there { lines.end ≤ length (lines_of source.now) + 1 }
     ensures part { OnOk result (rows_shown rows.new.items ≡ rows_shown rows.old.items ++ map (row_cells names.now width) (lines_between source.now lines.start lines.end)) }
     ensures fine { OnOk result (rows_faults names.now width (length rows.old.items) (lines_between source.now lines.start lines.end) ≡ []) }
-    ensures refused { IfErr result (λ e. (fault : TheFault) → e ≡ LevelFault.Refused fault → first_fault (rows_faults names.now width (length rows.old.items) (lines_between source.now lines.start lines.end)) ≡ Some fault) }
+    ensures refused { IfErr result (λ e. (fault : TheFault) → e ≡ Refusal.Refused fault → first_fault (rows_faults names.now width (length rows.old.items) (lines_between source.now lines.start lines.end)) ≡ Some fault) }
 {
     for line in lines.start..lines.end {
         add_row(alloc, source, names, line, width, rows)?;

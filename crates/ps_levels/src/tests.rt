@@ -1,7 +1,7 @@
 //! Win conditions and levels of small games, with values worked by hand, and lines that are refused.
 
-use crate::{Entry, LevelFault, Win, WinFault, read_levels, read_wins};
-use ps_model::{Fault, FaultKind, Quantifier};
+use crate::{Entry, Win, read_levels, read_wins};
+use ps_model::{Fault, FaultKind, Quantifier, Refusal};
 use ps_names::{Meaning, Names, ObjectId, read_names};
 use ps_text::{List, Source};
 use std::alloc::Global;
@@ -81,7 +81,7 @@ fn game_of(alloc: Global, head: Head, lines: &str) -> Option<Game> {
 }
 
 /// The win conditions of these lines below the header.
-fn wins_of(alloc: Global, lines: &str) -> Option<Result<Vec<Win>, WinFault>> {
+fn wins_of(alloc: Global, lines: &str) -> Option<Result<Vec<Win>, Refusal>> {
     let game = game_of(alloc, ABOVE_WINS, lines)?;
     let lines = game.lines;
     if lines.start == 0 || lines.start > lines.end || lines.end > game.source.lines() + 1 {
@@ -91,7 +91,7 @@ fn wins_of(alloc: Global, lines: &str) -> Option<Result<Vec<Win>, WinFault>> {
 }
 
 /// The entries of these lines below the header.
-fn entries_of(alloc: Global, head: Head, lines: &str) -> Option<Result<Vec<Entry>, LevelFault>> {
+fn entries_of(alloc: Global, head: Head, lines: &str) -> Option<Result<Vec<Entry>, Refusal>> {
     let game = game_of(alloc, head, lines)?;
     let lines = game.lines;
     if lines.start == 0 || lines.start > lines.end || lines.end > game.source.lines() + 1 {
@@ -103,7 +103,7 @@ fn entries_of(alloc: Global, head: Head, lines: &str) -> Option<Result<Vec<Entry
 /// Whether win conditions are refused for that cause at that line.
 fn wins_refused(alloc: Global, lines: &str, kind: FaultKind, line: u32) -> bool {
     match wins_of(alloc, lines) {
-        Some(Err(WinFault::Refused(fault))) => fault == Fault { kind, line },
+        Some(Err(Refusal::Refused(fault))) => fault == Fault { kind, line },
         _ => false,
     }
 }
@@ -111,7 +111,7 @@ fn wins_refused(alloc: Global, lines: &str, kind: FaultKind, line: u32) -> bool 
 /// Whether levels are refused for that cause at that line.
 fn levels_refused(alloc: Global, lines: &str, kind: FaultKind, line: u32) -> bool {
     match entries_of(alloc, ABOVE_LEVELS, lines) {
-        Some(Err(LevelFault::Refused(fault))) => fault == Fault { kind, line },
+        Some(Err(Refusal::Refused(fault))) => fault == Fault { kind, line },
         _ => false,
     }
 }
@@ -256,7 +256,7 @@ fn refuses_levels(rt: HostRuntime) {
     assert!(rt; levels_refused(alloc, "P .\n", FaultKind::UnknownGlyph, 30));
     assert!(rt; levels_refused(alloc, "\nmessage P\n", FaultKind::NoLevel, 29));
     match entries_of(alloc, TWO_GROUNDS, "P\nq\n") {
-        Some(Err(LevelFault::Refused(fault))) => {
+        Some(Err(Refusal::Refused(fault))) => {
             assert!(rt; fault.kind == FaultKind::PropertyGlyph && fault.line == 17);
         }
         _ => panic!(rt; "the property isn't refused"),

@@ -14,8 +14,7 @@ ghost use Rattle.ps_text.specs.WordViews.{text_of};
 ghost use Rattle.ps_model.specs.text.LineNumbers.{here};
 ghost use Rattle.ps_levels.specs.WinsShown.{words_shown, win_shown, wins_shown, win_of_line};
 
-use crate::fault::WinFault;
-use ps_model::{Cut, Fault, FaultKind, Memory, Quantifier};
+use ps_model::{Cut, Fault, FaultKind, Memory, Quantifier, Refusal};
 use ps_names::{Meaning, Names};
 use ps_text::{Source, Text, Word, same_name, words};
 use std::alloc::Global;
@@ -139,12 +138,12 @@ fn read_line(
     source: &Source,
     line: u32,
     names: &Names,
-) -> Result<Option<Win>, WinFault>
+) -> Result<Option<Win>, Refusal>
     requires from_one { 1 ≤ line }
     requires there { line ≤ length (lines_of source.now) }
     ensures part { IfOk result (λ win. option_map win_shown win ≡ win_of_line names.now (line_at source.now line)) }
     ensures fine { OnOk result (win_faults_of names.now (line_at source.now line) ≡ []) }
-    ensures refused { IfErr result (λ e. (fault : TheFault) → e ≡ WinFault.Refused fault → first_fault (win_faults_of names.now (line_at source.now line)) ≡ Some fault) }
+    ensures refused { IfErr result (λ e. (fault : TheFault) → e ≡ Refusal.Refused fault → first_fault (win_faults_of names.now (line_at source.now line)) ≡ Some fault) }
 {
     let words = words(alloc, source, line, Cut::Plain)?;
     let Some(words) = win_of_words(&words) else {
@@ -152,11 +151,11 @@ fn read_line(
             return Ok(None);
         }
         let kind = FaultKind::BadWin;
-        return Err(WinFault::Refused(Fault { kind, line }));
+        return Err(Refusal::Refused(Fault { kind, line }));
     };
     let Some(win) = read_win(alloc, names, words)? else {
         let kind = FaultKind::UnknownWinName;
-        return Err(WinFault::Refused(Fault { kind, line }));
+        return Err(Refusal::Refused(Fault { kind, line }));
     };
     Ok(Some(win))
 }
@@ -168,12 +167,12 @@ fn add_line(
     line: u32,
     names: &Names,
     wins: &mut Vec<Win>,
-) -> Result<(), WinFault>
+) -> Result<(), Refusal>
     requires from_one { 1 ≤ line }
     requires there { line ≤ length (lines_of source.now) }
     ensures part { OnOk result (wins_shown wins.new.items ≡ wins_shown wins.old.items ++ wins_read names.now (here source.now line)) }
     ensures fine { OnOk result (win_faults names.now (here source.now line) ≡ []) }
-    ensures refused { IfErr result (λ e. (fault : TheFault) → e ≡ WinFault.Refused fault → first_fault (win_faults names.now (here source.now line)) ≡ Some fault) }
+    ensures refused { IfErr result (λ e. (fault : TheFault) → e ≡ Refusal.Refused fault → first_fault (win_faults names.now (here source.now line)) ≡ Some fault) }
 {
     if !source.is_there(line) {
         return Ok(());
@@ -195,13 +194,13 @@ pub fn read_wins(
     source: &Source,
     lines: Range<u32>,
     names: &Names,
-) -> Result<Vec<Win>, WinFault>
+) -> Result<Vec<Win>, Refusal>
     requires from_one { 1 ≤ lines.start }
     requires ordered { lines.start ≤ lines.end }
     requires there { lines.end ≤ length (lines_of source.now) + 1 }
     ensures part { IfOk result (λ wins. wins_shown wins.items ≡ wins_read names.now (lines_between source.now lines.start lines.end)) }
     ensures fine { OnOk result (win_faults names.now (lines_between source.now lines.start lines.end) ≡ []) }
-    ensures refused { IfErr result (λ e. (fault : TheFault) → e ≡ WinFault.Refused fault → first_fault (win_faults names.now (lines_between source.now lines.start lines.end)) ≡ Some fault) }
+    ensures refused { IfErr result (λ e. (fault : TheFault) → e ≡ Refusal.Refused fault → first_fault (win_faults names.now (lines_between source.now lines.start lines.end)) ≡ Some fault) }
 {
     let mut wins = Vec::new(alloc);
     for line in lines.start..lines.end {

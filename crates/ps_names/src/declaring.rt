@@ -13,7 +13,6 @@ ghost use Rattle.ps_names.specs.LegendShown.{declarations_shown};
 ghost use Rattle.ps_names.specs.LinesShown.{objects_shown};
 ghost use Rattle.ps_names.specs.MeaningSteps.{meanings_shown};
 
-use crate::fault::NameFault;
 use crate::known::Known;
 use crate::legend::Declaration;
 use crate::legend_names::{LegendName, legend_names};
@@ -23,7 +22,7 @@ use crate::naming::fault_of_naming;
 use crate::object_faults::fault_of_objects;
 use crate::objects::ObjectText;
 use crate::order::order_of;
-use ps_model::Fault;
+use ps_model::{Fault, Refusal};
 use std::alloc::Global;
 
 /// The names of the legend, and what each stands for, if it stands for anything.
@@ -34,22 +33,22 @@ pub struct Legend<'a> {
 }
 
 /// Refuses where there is a fault.
-pub fn refuse(fault: Option<Fault>) -> Result<(), NameFault>
+pub fn refuse(fault: Option<Fault>) -> Result<(), Refusal>
     ensures fine { OnOk result (fault ≡ None) }
-    ensures refused { IfErr result (λ e. (found : TheFault) → e ≡ NameFault.Refused found → fault ≡ Some found) }
+    ensures refused { IfErr result (λ e. (found : TheFault) → e ≡ Refusal.Refused found → fault ≡ Some found) }
 {
     let Some(fault) = fault else {
         return Ok(());
     };
-    Err(NameFault::Refused(fault))
+    Err(Refusal::Refused(fault))
 }
 
 /// Declares the names of the objects. `Refused`: the lines of OBJECTS have a fault.
-pub fn known_objects(alloc: Global, objects: &[ObjectText<'_>]) -> Result<Known, NameFault>
+pub fn known_objects(alloc: Global, objects: &[ObjectText<'_>]) -> Result<Known, Refusal>
     ensures part { IfOk result (λ known. known ≡ map named_object (object_names (objects_shown objects.now))) }
     ensures few { OnOk result (length objects.now ≤ OBJECT_LIMIT) }
     ensures fine { OnOk result (object_faults 0 [] (objects_shown objects.now) ≡ []) }
-    ensures refused { IfErr result (λ e. (fault : TheFault) → e ≡ NameFault.Refused fault → first_fault (object_faults 0 [] (objects_shown objects.now)) ≡ Some fault) }
+    ensures refused { IfErr result (λ e. (fault : TheFault) → e ≡ Refusal.Refused fault → first_fault (object_faults 0 [] (objects_shown objects.now)) ≡ Some fault) }
 {
     let mut known = Known::new(alloc);
     let fault = fault_of_objects(alloc, &mut known, objects)?;
@@ -62,12 +61,12 @@ pub fn read_legend<'a>(
     alloc: Global,
     known: &Known,
     declarations: &[Declaration<'a>],
-) -> Result<Legend<'a>, NameFault>
+) -> Result<Legend<'a>, Refusal>
     requires few { length declarations.now ≤ 4294967295 }
     ensures names { IfOk result (λ legend. legend_shown legend.names.items ≡ map (legend_name (mentions_of_names known.now)) (declarations_shown declarations.now)) }
     ensures meanings { IfOk result (λ legend. meanings_shown legend.meanings.items ≡ legend_meanings (map (legend_name (mentions_of_names known.now)) (declarations_shown declarations.now))) }
     ensures fine { OnOk result (naming_faults (map (legend_name (mentions_of_names known.now)) (declarations_shown declarations.now)) (legend_meanings (map (legend_name (mentions_of_names known.now)) (declarations_shown declarations.now))) ≡ []) }
-    ensures refused { IfErr result (λ e. (fault : TheFault) → e ≡ NameFault.Refused fault → first_fault (naming_faults (map (legend_name (mentions_of_names known.now)) (declarations_shown declarations.now)) (legend_meanings (map (legend_name (mentions_of_names known.now)) (declarations_shown declarations.now)))) ≡ Some fault) }
+    ensures refused { IfErr result (λ e. (fault : TheFault) → e ≡ Refusal.Refused fault → first_fault (naming_faults (map (legend_name (mentions_of_names known.now)) (declarations_shown declarations.now)) (legend_meanings (map (legend_name (mentions_of_names known.now)) (declarations_shown declarations.now)))) ≡ Some fault) }
 {
     let names = legend_names(alloc, known, declarations)?;
     let order = order_of(alloc, &names)?;

@@ -11,12 +11,11 @@ ghost use Rattle.ps_names.specs.Known.{keys, named_as, mention_shown};
 ghost use Rattle.ps_names.specs.LegendShown.{declaration_shown, declarations_shown, named_line};
 ghost use Rattle.ps_names.specs.LinesShown.{line_shown, lines_shown};
 
-use crate::fault::NameFault;
 use crate::known::Known;
 use crate::legend::{Declaration, declared_by, is_mixed, name_declared};
 use crate::lines::WrittenLine;
 use crate::mention::Mention;
-use ps_model::{Fault, FaultKind, Memory};
+use ps_model::{Fault, FaultKind, Memory, Refusal};
 use std::alloc::Global;
 
 /// Declares a name, if there is one. Tells whether it is known already.
@@ -42,24 +41,24 @@ fn declare_line<'a>(
     known: &mut Known,
     line: &WrittenLine<'a>,
     place: u32,
-) -> Result<Declaration<'a>, NameFault>
+) -> Result<Declaration<'a>, Refusal>
     ensures part { IfOk result (λ declared. declared_by (line_shown line.now) ≡ Some (declaration_shown declared)) }
     ensures known { IfOk result (λ declared. known.new ≡ known.old ++ named_line (place, declaration_shown declared) ∷ []) }
     ensures fine { OnOk result (faults_of_form (keys known.old) (line_shown line.now) ≡ []) }
-    ensures refused { IfErr result (λ e. (fault : TheFault) → e ≡ NameFault.Refused fault → first_fault (faults_of_form (keys known.old) (line_shown line.now)) ≡ Some fault) }
+    ensures refused { IfErr result (λ e. (fault : TheFault) → e ≡ Refusal.Refused fault → first_fault (faults_of_form (keys known.old) (line_shown line.now)) ≡ Some fault) }
 {
     let number = line.number;
     if declare_if(alloc, known, name_declared(line), Mention::Line(place))? {
         let kind = FaultKind::Twice;
-        return Err(NameFault::Refused(Fault { kind, line: number }));
+        return Err(Refusal::Refused(Fault { kind, line: number }));
     }
     if is_mixed(line) {
         let kind = FaultKind::MixedAndOr;
-        return Err(NameFault::Refused(Fault { kind, line: number }));
+        return Err(Refusal::Refused(Fault { kind, line: number }));
     }
     let Some(declared) = declared_by(alloc, line)? else {
         let kind = FaultKind::BadLine;
-        return Err(NameFault::Refused(Fault { kind, line: number }));
+        return Err(Refusal::Refused(Fault { kind, line: number }));
     };
     Ok(declared)
 }
@@ -69,13 +68,13 @@ pub fn declare_legend<'a>(
     alloc: Global,
     known: &mut Known,
     lines: &[WrittenLine<'a>],
-) -> Result<Vec<Declaration<'a>>, NameFault>
+) -> Result<Vec<Declaration<'a>>, Refusal>
     requires few { length lines.now ≤ 4294967295 }
     ensures long { IfOk result (λ made. length made.items ≡ length lines.now) }
     ensures part { IfOk result (λ made. declarations_shown made.items ≡ declarations (lines_shown lines.now)) }
     ensures known { OnOk result (known.new ≡ known.old ++ map named_line (enumerate_from 0 (declarations (lines_shown lines.now)))) }
     ensures fine { OnOk result (form_faults (keys known.old) (lines_shown lines.now) ≡ []) }
-    ensures refused { IfErr result (λ e. (fault : TheFault) → e ≡ NameFault.Refused fault → first_fault (form_faults (keys known.old) (lines_shown lines.now)) ≡ Some fault) }
+    ensures refused { IfErr result (λ e. (fault : TheFault) → e ≡ Refusal.Refused fault → first_fault (form_faults (keys known.old) (lines_shown lines.now)) ≡ Some fault) }
 {
     let mut made = Vec::new(alloc);
     for place in 0..lines.len() {

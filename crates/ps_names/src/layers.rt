@@ -22,12 +22,9 @@ use crate::lines::WrittenLine;
 use crate::meaning::Meaning;
 use crate::naming::is_aggregate;
 use crate::table::Table;
-use ps_model::{Fault, FaultKind, Memory, ObjectId};
+use ps_model::{Fault, FaultKind, LAYER_LIMIT, Memory, ObjectId};
 use ps_text::Word;
 use std::alloc::Global;
-
-/// The most layers of a game.
-const LAYER_LIMIT: u32 = 32;
 
 /// A line of COLLISIONLAYERS.
 #[derive(Drop)]

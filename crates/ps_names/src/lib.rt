@@ -3,7 +3,6 @@
 
 mod declaring;
 mod ends;
-mod fault;
 mod folding;
 mod form_faults;
 mod glyphs;
@@ -28,11 +27,10 @@ mod spoken;
 mod table;
 mod whole;
 
-pub use fault::NameFault;
 pub use glyphs::Glyph;
 pub use meaning::Meaning;
 pub use names::Names;
-pub use ps_model::{Fault, FaultKind, LayerId, ObjectId};
+pub use ps_model::{Fault, FaultKind, LayerId, ObjectId, Refusal};
 pub use read::read_names;
 
 #[cfg(test)]

@@ -12,12 +12,9 @@ ghost use Rattle.ps_names.specs.LinesShown.{object_shown, objects_shown};
 use crate::known::{Known, one_character};
 use crate::mention::Mention;
 use crate::objects::ObjectText;
-use ps_model::{Fault, FaultKind, Memory, ObjectId};
+use ps_model::{Fault, FaultKind, Memory, OBJECT_LIMIT, ObjectId};
 use ps_text::Word;
 use std::alloc::Global;
-
-/// The most objects of a game.
-const OBJECT_LIMIT: u32 = 64;
 
 /// Whether the words are a name, and at most a second one of one character.
 fn names_well(words: &[Word<'_>]) -> bool

@@ -11,12 +11,12 @@ ghost use Rattle.ps_model.specs.names.NamesRead.{names_read, names_of, sections_
 ghost use Rattle.ps_names.specs.LinesShown.{objects_shown, lines_shown};
 
 use crate::declaring::refuse;
-use crate::fault::NameFault;
 use crate::lines::{WrittenLine, lines_there, written_lines};
 use crate::names::Names;
 use crate::objects::{ObjectText, object_texts};
 use crate::sections::{declare_names, fault_of_whole, layer_numbers, read_layers};
 use crate::table::Table;
+use ps_model::Refusal;
 use ps_text::{Cut, Source};
 use std::alloc::Global;
 use std::ops::Range;
@@ -28,11 +28,11 @@ fn names_of_sections(
     objects: &[ObjectText<'_>],
     legend_lines: &[WrittenLine<'_>],
     layer_lines: &[WrittenLine<'_>],
-) -> Result<Names, NameFault>
+) -> Result<Names, Refusal>
     requires few { length legend_lines.now ≤ 4294967295 }
     ensures part { IfOk result (λ names. names ≡ names_of (sections_of (objects_shown objects.now) (lines_shown legend_lines.now) (lines_shown layer_lines.now))) }
     ensures fine { OnOk result (faults_of_sections header (sections_of (objects_shown objects.now) (lines_shown legend_lines.now) (lines_shown layer_lines.now)) ≡ []) }
-    ensures refused { IfErr result (λ e. (fault : TheFault) → e ≡ NameFault.Refused fault → first_fault (faults_of_sections header (sections_of (objects_shown objects.now) (lines_shown legend_lines.now) (lines_shown layer_lines.now))) ≡ Some fault) }
+    ensures refused { IfErr result (λ e. (fault : TheFault) → e ≡ Refusal.Refused fault → first_fault (faults_of_sections header (sections_of (objects_shown objects.now) (lines_shown legend_lines.now) (lines_shown layer_lines.now))) ≡ Some fault) }
 {
     let declared = declare_names(alloc, objects, legend_lines)?;
     let legend = declared.legend;
@@ -59,7 +59,7 @@ pub fn read_names(
     objects: Range<u32>,
     legend: Range<u32>,
     layers: Range<u32>,
-) -> Result<Names, NameFault>
+) -> Result<Names, Refusal>
     requires objects_from_one { 1 ≤ objects.start }
     requires objects_ordered { objects.start ≤ objects.end }
     requires objects_there { objects.end ≤ length (lines_of source.now) + 1 }
@@ -71,7 +71,7 @@ pub fn read_names(
     requires layers_there { layers.end ≤ length (lines_of source.now) + 1 }
     ensures part { IfOk result (λ names. names ≡ names_read (lines_between source.now objects.start objects.end) (lines_between source.now legend.start legend.end) (lines_between source.now layers.start layers.end)) }
     ensures fine { OnOk result (name_faults (objects.start - 1) (lines_between source.now objects.start objects.end) (lines_between source.now legend.start legend.end) (lines_between source.now layers.start layers.end) ≡ []) }
-    ensures refused { IfErr result (λ e. (fault : TheFault) → e ≡ NameFault.Refused fault → first_fault (name_faults (objects.start - 1) (lines_between source.now objects.start objects.end) (lines_between source.now legend.start legend.end) (lines_between source.now layers.start layers.end)) ≡ Some fault) }
+    ensures refused { IfErr result (λ e. (fault : TheFault) → e ≡ Refusal.Refused fault → first_fault (name_faults (objects.start - 1) (lines_between source.now objects.start objects.end) (lines_between source.now legend.start legend.end) (lines_between source.now layers.start layers.end)) ≡ Some fault) }
     ensures facts { IfOk result (λ names. AreBounded names) }
 {
     let header = objects.start - 1;

@@ -15,7 +15,6 @@ ghost use Rattle.ps_names.specs.Sections.{known_of, legend_of, declaring_faults,
 ghost use Rattle.ps_names.specs.Tables.{entries_with};
 
 use crate::declaring::{Legend, known_objects, read_legend, refuse};
-use crate::fault::NameFault;
 use crate::form_faults::declare_legend;
 use crate::known::Known;
 use crate::layers::{fault_of_layers, layers_found, layers_of_lines};
@@ -26,7 +25,7 @@ use crate::whole::{
     fault_of_background, fault_of_missing, fault_of_no_layer, fault_of_player,
     fault_of_shared_layer,
 };
-use ps_model::{Fault, Memory};
+use ps_model::{Fault, Memory, Refusal};
 use std::alloc::Global;
 
 /// What OBJECTS and LEGEND declare.
@@ -49,14 +48,14 @@ pub fn declare_names<'a>(
     alloc: Global,
     objects: &[ObjectText<'_>],
     lines: &[WrittenLine<'a>],
-) -> Result<Declared<'a>, NameFault>
+) -> Result<Declared<'a>, Refusal>
     requires few { length lines.now ≤ 4294967295 }
     ensures known { IfOk result (λ declared. declared.known ≡ known_of (objects_shown objects.now) (lines_shown lines.now)) }
     ensures legend { IfOk result (λ declared. legend_shown declared.legend.names.items ≡ legend_of (objects_shown objects.now) (lines_shown lines.now)) }
     ensures meanings { IfOk result (λ declared. meanings_shown declared.legend.meanings.items ≡ legend_meanings (legend_of (objects_shown objects.now) (lines_shown lines.now))) }
     ensures few { OnOk result (length objects.now ≤ OBJECT_LIMIT) }
     ensures fine { OnOk result ((others : List TheFault) → declaring_faults (objects_shown objects.now) (lines_shown lines.now) others ≡ others) }
-    ensures refused { IfErr result (λ e. (fault : TheFault) → e ≡ NameFault.Refused fault → (others : List TheFault) → first_fault (declaring_faults (objects_shown objects.now) (lines_shown lines.now) others) ≡ Some fault) }
+    ensures refused { IfErr result (λ e. (fault : TheFault) → e ≡ Refusal.Refused fault → (others : List TheFault) → first_fault (declaring_faults (objects_shown objects.now) (lines_shown lines.now) others) ≡ Some fault) }
 {
     let mut known = known_objects(alloc, objects)?;
     let declarations = declare_legend(alloc, &mut known, lines)?;
@@ -70,12 +69,12 @@ pub fn read_layers(
     table: &Table,
     objects: usize,
     lines: &[WrittenLine<'_>],
-) -> Result<Layering, NameFault>
+) -> Result<Layering, Refusal>
     ensures places { IfOk result (λ made. made.places.items ≡ layers_found objects (layers_of_lines (entries_with table.now) (lines_shown lines.now))) }
     ensures count { IfOk result (λ made. made.count ≡ length (layers_of_lines (entries_with table.now) (lines_shown lines.now))) }
     ensures few { IfOk result (λ made. made.count ≤ LAYER_LIMIT) }
     ensures fine { OnOk result (layer_faults (layers_of_lines (entries_with table.now) (lines_shown lines.now)) ≡ []) }
-    ensures refused { IfErr result (λ e. (fault : TheFault) → e ≡ NameFault.Refused fault → first_fault (layer_faults (layers_of_lines (entries_with table.now) (lines_shown lines.now))) ≡ Some fault) }
+    ensures refused { IfErr result (λ e. (fault : TheFault) → e ≡ Refusal.Refused fault → first_fault (layer_faults (layers_of_lines (entries_with table.now) (lines_shown lines.now))) ≡ Some fault) }
 {
     let layers = layers_of_lines(alloc, table, lines)?;
     refuse(fault_of_layers(&layers))?;

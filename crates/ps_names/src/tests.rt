@@ -1,6 +1,7 @@
 //! Names of a game of nine objects on four layers, what legends say, and texts that are refused, each with its line.
 
-use crate::{FaultKind, Glyph, Meaning, NameFault, Names, ObjectId, read_names};
+use crate::{FaultKind, Glyph, Meaning, Names, ObjectId, read_names};
+use ps_model::Refusal;
 use ps_text::{List, Source};
 use std::alloc::Global;
 use std::ops::Range;
@@ -36,7 +37,7 @@ fn read(
     objects: Range<u32>,
     legend: Range<u32>,
     layers: Range<u32>,
-) -> Option<Result<Names, NameFault>> {
+) -> Option<Result<Names, Refusal>> {
     let source = Source::read(alloc, text.as_bytes()).ok()?;
     let end = source.lines() + 1;
     if objects.start == 0 || legend.start == 0 || layers.start == 0 {
@@ -52,7 +53,7 @@ fn read(
 }
 
 /// Reads a text with the headers OBJECTS, LEGEND and COLLISIONLAYERS.
-fn read_text(alloc: Global, text: &str) -> Option<Result<Names, NameFault>> {
+fn read_text(alloc: Global, text: &str) -> Option<Result<Names, Refusal>> {
     let source = Source::read(alloc, text.as_bytes()).ok()?;
     let end = source.lines() + 1;
     let objects = line_of(text, "OBJECTS");
@@ -77,7 +78,7 @@ fn joined(alloc: Global, parts: &[&str]) -> Option<String> {
 }
 
 /// Reads a legend over the five objects; its lines are those from line 13 on.
-fn with_legend(alloc: Global, legend: &str) -> Option<Result<Names, NameFault>> {
+fn with_legend(alloc: Global, legend: &str) -> Option<Result<Names, Refusal>> {
     let text = joined(
         alloc,
         &[FIVE, "LEGEND\n", legend, "\nCOLLISIONLAYERS\n", LAYERS],
@@ -86,9 +87,9 @@ fn with_legend(alloc: Global, legend: &str) -> Option<Result<Names, NameFault>> 
 }
 
 /// Whether the text is refused with that cause at that line.
-fn is_refused(read: Option<Result<Names, NameFault>>, kind: FaultKind, line: u32) -> bool {
+fn is_refused(read: Option<Result<Names, Refusal>>, kind: FaultKind, line: u32) -> bool {
     match read {
-        Some(Err(NameFault::Refused(fault))) => fault.kind == kind && fault.line == line,
+        Some(Err(Refusal::Refused(fault))) => fault.kind == kind && fault.line == line,
         _ => false,
     }
 }

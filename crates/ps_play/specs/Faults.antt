@@ -5,13 +5,13 @@ use Rattle.ps_model.specs.declared.faults.FaultKind.TheVariants.{NotYet}
 use Rattle.ps_model.specs.text.Faults.{first_fault}
 use Rattle.ps_model.specs.game.Games.{game, faults}
 use Rattle.ps_model.specs.game.PlainGames.{plain_game}
-use Rattle.ps_game.specs.declared.fault.ReadFault.{ReadFault}
-use Rattle.ps_game.specs.declared.fault.ReadFault.TheVariants.{Refused as Unread, Memory as NoMemory}
+use Rattle.ps_model.specs.declared.refusal.Refusal.{Refusal}
+use Rattle.ps_model.specs.declared.refusal.Refusal.TheVariants.{Refused as Unread, Memory as NoMemory}
 use Rattle.ps_play.specs.declared.run.RunFault.{RunFault}
 use Rattle.ps_play.specs.declared.run.RunFault.TheVariants.{Refused, Memory, Read, Write}
 
 -- the fault of a run for a fault of reading
-abbrev pub fault_of : ReadFault → RunFault
+abbrev pub fault_of : Refusal → RunFault
 fault_of (Unread fault) = Refused fault
 fault_of NoMemory = Memory
 

@@ -10,7 +10,6 @@ mod loading_tests;
 mod meanings;
 mod not_yet;
 mod plain;
-mod report;
 mod run;
 #[cfg(test)]
 mod run_tests;

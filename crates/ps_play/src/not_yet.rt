@@ -6,8 +6,8 @@ ghost use Rattle.ps_game.specs.SectionPlaces.{IsStretch, AreSections};
 
 use crate::plain::are_unset;
 use ps_game::{Sections, read_options, read_sections};
-use ps_model::Memory;
-use ps_text::{Source, TextFault};
+use ps_model::{Memory, Refusal};
+use ps_text::Source;
 use std::alloc::Global;
 use std::ops::Range;
 
@@ -93,13 +93,13 @@ fn first_of_sections(alloc: Global, source: &Source, sections: &Sections) -> Res
 pub fn first_unplayed(alloc: Global, text: &[u8]) -> Result<u32, Memory> {
     match first_unplayed_of(alloc, text) {
         Ok(line) => Ok(line),
-        Err(TextFault::Refused(_)) => Ok(1),
-        Err(TextFault::Memory) => Err(Memory),
+        Err(Refusal::Refused(_)) => Ok(1),
+        Err(Refusal::Memory) => Err(Memory),
     }
 }
 
 /// The same, with the fault of a text that has one.
-fn first_unplayed_of(alloc: Global, text: &[u8]) -> Result<u32, TextFault> {
+fn first_unplayed_of(alloc: Global, text: &[u8]) -> Result<u32, Refusal> {
     let source = Source::read(alloc, text)?;
     let sections = read_sections(alloc, &source)?;
     let line = first_of_sections(alloc, &source, &sections)?;

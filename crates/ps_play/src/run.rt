@@ -14,24 +14,20 @@ ghost use Rattle.ps_play.specs.Runs.{keys_apart, Outputs, Brings, Answers};
 use crate::keys::read_key;
 use crate::not_yet::first_unplayed;
 use crate::plain::{PlainGame, plain};
-use crate::report::words;
 use crate::screen::Screen;
 use crate::session::Session;
 use ps_board::{Board, ListBoard};
 use ps_devices::{ByteReader, ByteWriter, write_whole};
-use ps_game::{ReadFault, read_game};
-use ps_model::{Ending, Fault, FaultKind, Memory};
+use ps_game::read_game;
+use ps_model::{CALL_LIMIT, Ending, Fault, FaultKind, Memory, READ_LIMIT, Refusal};
 use std::alloc::Global;
 use thiserror::Error;
-
-/// How many bytes are asked for by one call that reads keys.
-const PIECE: usize = 4096;
 
 /// Why a run didn't come to its end.
 #[derive(Clone, Copy, PartialEq, Eq, Debug, Error)]
 pub enum RunFault {
     /// The text is refused, and nothing was read or written.
-    #[error("line {}: {}", .0.line, words(.0.kind))]
+    #[error("{0}")]
     Refused(Fault),
     /// A growth was refused.
     #[error("out of memory")]
@@ -54,15 +50,15 @@ impl From<Memory> for RunFault {
     }
 }
 
-impl From<ReadFault> for RunFault {
+impl From<Refusal> for RunFault {
     ghost use Rattle.ps_play.specs.Faults.{fault_of};
 
     ghost from_gives = { λ refusal fault. fault ≡ fault_of refusal };
 
-    fn from(refusal: ReadFault) -> RunFault {
+    fn from(refusal: Refusal) -> RunFault {
         match refusal {
-            ReadFault::Refused(fault) => RunFault::Refused(fault),
-            ReadFault::Memory => RunFault::Memory,
+            Refusal::Refused(fault) => RunFault::Refused(fault),
+            Refusal::Memory => RunFault::Memory,
         }
     }
 }
@@ -155,8 +151,8 @@ fn play<B: Board, R: ByteReader, W: ByteWriter>(
     ensures brings { IfOk result (λ ending. IfSome (R.remaining reader.old) (λ all. (text : List ℕ) × Grows (W.contents writer.old) (W.contents writer.new) text
         × Outputs session.old.game.now.names (B.grid session.old.board) (keys_apart all) text ending)) }
 {
-    let mut buffer = [0u8; PIECE];
-    for _call in 0..16777216u32 {
+    let mut buffer = [0u8; CALL_LIMIT];
+    for _call in 0..READ_LIMIT {
         let Ok(count) = reader.read_some(&mut buffer) else {
             return Err(RunFault::Read);
         };

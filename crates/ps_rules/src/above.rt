@@ -8,9 +8,6 @@ ghost use Rattle.ps_rules.specs.RulesShown.{rule_shown};
 
 use crate::tree::SourceRule;
 
-/// The most rules of a game.
-pub const RULE_LIMIT: u32 = 1024;
-
 /// What stands above a line of RULES.
 #[derive(Clone, Copy)]
 pub struct Above {

@@ -5,7 +5,6 @@ mod above;
 mod cells;
 mod commands;
 mod ellipses;
-mod fault;
 mod index;
 mod items;
 mod key_words;
@@ -31,9 +30,8 @@ mod tree_cells;
 mod twice;
 mod unmatched;
 
-pub use fault::RuleFault;
 pub use occurrences::Occurrences;
-pub use ps_model::{Direction, Fault, FaultKind, MovementWord};
+pub use ps_model::{Direction, Fault, FaultKind, MovementWord, Refusal};
 pub use read::read_rules;
 pub use tree::{CellPair, Commands, Item, RuleLine, RuleText, SourceRule};
 

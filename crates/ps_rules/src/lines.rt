@@ -13,17 +13,16 @@ ghost use Rattle.ps_rules.specs.AboveShown.{above_shown};
 ghost use Rattle.ps_rules.specs.FormsShown.{mark_of, loop_mark_of, form_of_mark, form_at, below_line, count_faults};
 ghost use Rattle.ps_rules.specs.RulesShown.{line_shown};
 ghost use Rattle.ps_rules.specs.SymbolsShown.{symbol_shown, tokens_shown};
-ghost use Rattle.ps_rules.specs.declared.fault.RuleFault.TheVariants.{Refused};
+ghost use Rattle.ps_model.specs.declared.refusal.Refusal.TheVariants.{Refused};
 
-use crate::above::{Above, RULE_LIMIT};
-use crate::fault::RuleFault;
+use crate::above::Above;
 use crate::kinds::{Kind, has_kind};
 use crate::rule_faults::read_rule;
 use crate::shapes::shape_of;
 use crate::symbols::{Symbol, Token};
 use crate::tokens::{tokens_kept, tokens_of};
 use crate::tree::RuleLine;
-use ps_model::{Fault, FaultKind};
+use ps_model::{Fault, FaultKind, RULE_LIMIT, Refusal};
 use ps_names::Names;
 use ps_text::Source;
 use std::alloc::Global;
@@ -57,7 +56,7 @@ fn loop_mark(tokens: &[Token<'_>]) -> Option<LoopMark>
 }
 
 /// A loop line: `Refused` where a loop starts within a loop, or ends without its start.
-fn loop_line(mark: LoopMark, above: Above, line: u32) -> Result<RuleLine, RuleFault>
+fn loop_line(mark: LoopMark, above: Above, line: u32) -> Result<RuleLine, Refusal>
     ensures part { IfOk result (λ made. line_of_form (form_of_mark mark) ≡ Some (line_shown made)) }
     ensures fine { OnOk result (faults_of_form (above_shown above) line (form_of_mark mark) ≡ []) }
     ensures refused { IfErr result (λ e. (fault : TheFault) → e ≡ Refused fault → first_fault (faults_of_form (above_shown above) line (form_of_mark mark)) ≡ Some fault) }
@@ -69,13 +68,13 @@ fn loop_line(mark: LoopMark, above: Above, line: u32) -> Result<RuleLine, RuleFa
     match mark {
         LoopMark::Start => {
             if above.start.is_some() {
-                return Err(RuleFault::Refused(fault));
+                return Err(Refusal::Refused(fault));
             }
             Ok(RuleLine::LoopStart)
         }
         LoopMark::End => {
             if above.start.is_none() {
-                return Err(RuleFault::Refused(fault));
+                return Err(Refusal::Refused(fault));
             }
             Ok(RuleLine::LoopEnd)
         }
@@ -89,7 +88,7 @@ fn rule_line(
     line: u32,
     tokens: &[Token<'_>],
     above: Above,
-) -> Result<RuleLine, RuleFault>
+) -> Result<RuleLine, Refusal>
     requires from_one { 1 ≤ line }
     requires there { line ≤ length (lines_of source.now) }
     ensures part { IfOk result (λ made. line_of_form (form_of_shape (line_at source.now line) (shape_of (tokens_shown tokens.now))) ≡ Some (line_shown made)) }
@@ -97,7 +96,7 @@ fn rule_line(
     ensures refused { IfErr result (λ e. (fault : TheFault) → e ≡ Refused fault → first_fault (faults_of_form (above_shown above) line (form_of_shape (line_at source.now line) (shape_of (tokens_shown tokens.now)))) ≡ Some fault) }
 {
     let Some(shape) = shape_of(alloc, tokens)? else {
-        return Err(RuleFault::Refused(Fault {
+        return Err(Refusal::Refused(Fault {
             kind: FaultKind::BadBracket,
             line,
         }));
@@ -114,7 +113,7 @@ fn line_of_words(
     line: u32,
     tokens: &[Token<'_>],
     above: Above,
-) -> Result<RuleLine, RuleFault>
+) -> Result<RuleLine, Refusal>
     requires from_one { 1 ≤ line }
     requires there { line ≤ length (lines_of source.now) }
     ensures part { IfOk result (λ made. line_of_form (form_of (line_at source.now line) (tokens_shown tokens.now)) ≡ Some (line_shown made)) }
@@ -130,7 +129,7 @@ fn line_of_words(
 }
 
 /// What stands above the line below this one. `Refused` where this one is a rule over the limit.
-fn next_below(above: Above, line: u32, made: &RuleLine) -> Result<Above, RuleFault>
+fn next_below(above: Above, line: u32, made: &RuleLine) -> Result<Above, Refusal>
     ensures part { IfOk result (λ next. above_shown next ≡ below_line (above_shown above) line (line_shown made.now)) }
     ensures fine { OnOk result (count_faults (above_shown above) line (line_shown made.now) ≡ []) }
     ensures refused { IfErr result (λ e. (fault : TheFault) → e ≡ Refused fault → first_fault (count_faults (above_shown above) line (line_shown made.now)) ≡ Some fault) }
@@ -138,7 +137,7 @@ fn next_below(above: Above, line: u32, made: &RuleLine) -> Result<Above, RuleFau
     match made {
         RuleLine::Rule(rule) => {
             if above.rules >= RULE_LIMIT {
-                return Err(RuleFault::Refused(Fault {
+                return Err(Refusal::Refused(Fault {
                     kind: FaultKind::TooManyRules,
                     line,
                 }));
@@ -164,7 +163,7 @@ pub fn read_line(
     line: u32,
     names: &Names,
     above: Above,
-) -> Result<Read, RuleFault>
+) -> Result<Read, Refusal>
     requires from_one { 1 ≤ line }
     requires there { line ≤ length (lines_of source.now) }
     ensures part { IfOk result (λ read. line_of_form (form_at source.now line names.now) ≡ Some (line_shown read.line)) }
@@ -176,7 +175,7 @@ pub fn read_line(
     let kept = tokens_kept(alloc, &tokens)?;
     let made = line_of_words(alloc, source, line, &kept, above)?;
     if has_kind(Kind::LeftOut, &tokens) {
-        return Err(RuleFault::Refused(Fault {
+        return Err(Refusal::Refused(Fault {
             kind: FaultKind::NotInProfile,
             line,
         }));

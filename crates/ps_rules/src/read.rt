@@ -11,13 +11,12 @@ ghost use Rattle.ps_rules.specs.AboveShown.{above_shown};
 ghost use Rattle.ps_model.specs.text.LineNumbers.{here};
 ghost use Rattle.ps_rules.specs.RefusedLines.{IsRefused};
 ghost use Rattle.ps_rules.specs.RulesShown.{lines_shown};
-ghost use Rattle.ps_rules.specs.declared.fault.RuleFault.TheVariants.{Refused};
+ghost use Rattle.ps_model.specs.declared.refusal.Refusal.TheVariants.{Refused};
 
 use crate::above::Above;
-use crate::fault::RuleFault;
 use crate::lines::read_line;
 use crate::tree::{RuleLine, RuleText};
-use ps_model::{Fault, FaultKind};
+use ps_model::{Fault, FaultKind, Refusal};
 use ps_names::Names;
 use ps_text::Source;
 use std::alloc::Global;
@@ -31,7 +30,7 @@ fn over(
     names: &Names,
     above: Above,
     made: &mut Vec<RuleLine>,
-) -> Result<Above, RuleFault>
+) -> Result<Above, Refusal>
     requires from_one { 1 ≤ line }
     requires there { line ≤ length (lines_of source.now) }
     ensures part { OnOk result ((rest : List Line) → lines_shown made.new.items ++ rules_read names.now rest ≡ lines_shown made.old.items ++ rules_read names.now (here source.now line ++ rest)) }
@@ -60,13 +59,13 @@ pub fn read_rules(
     source: &Source,
     lines: Range<u32>,
     names: &Names,
-) -> Result<RuleText, RuleFault>
+) -> Result<RuleText, Refusal>
     requires from_one { 1 ≤ lines.start }
     requires ordered { lines.start ≤ lines.end }
     requires there { lines.end ≤ length (lines_of source.now) + 1 }
     ensures part { IfOk result (λ text. text ≡ rules_read names.now (lines_between source.now lines.start lines.end)) }
     ensures fine { OnOk result (rule_faults names.now (lines_between source.now lines.start lines.end) ≡ []) }
-    ensures refused { IfErr result (λ e. (fault : TheFault) → e ≡ RuleFault.Refused fault → first_fault (rule_faults names.now (lines_between source.now lines.start lines.end)) ≡ Some fault) }
+    ensures refused { IfErr result (λ e. (fault : TheFault) → e ≡ Refusal.Refused fault → first_fault (rule_faults names.now (lines_between source.now lines.start lines.end)) ≡ Some fault) }
 {
     let mut made = Vec::new(alloc);
     let mut above = Above::nothing();
@@ -74,7 +73,7 @@ pub fn read_rules(
         above = over(alloc, source, line, names, above, &mut made)?;
     }
     if let Some(line) = above.start {
-        return Err(RuleFault::Refused(Fault {
+        return Err(Refusal::Refused(Fault {
             kind: FaultKind::Loop,
             line,
         }));

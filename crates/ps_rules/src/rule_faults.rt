@@ -14,12 +14,11 @@ ghost use Rattle.ps_rules.specs.CellsShown.{cell_rows_shown};
 ghost use Rattle.ps_rules.specs.FaultsShown.{fault_at, shape_faults, name_faults, last_faults};
 ghost use Rattle.ps_rules.specs.RulesShown.{rule_shown};
 ghost use Rattle.ps_rules.specs.ShapesShown.{shape_shown};
-ghost use Rattle.ps_rules.specs.declared.fault.RuleFault.TheVariants.{Refused};
+ghost use Rattle.ps_model.specs.declared.refusal.Refusal.TheVariants.{Refused};
 
 use crate::above::Above;
 use crate::cells::{WrittenCell, paired_rows};
 use crate::ellipses::has_bad_ellipsis;
-use crate::fault::RuleFault;
 use crate::name_faults::{has_unbound, puts_no_before_aggregate};
 use crate::occurrences::Occurrences;
 use crate::rules::rule_of;
@@ -29,7 +28,7 @@ use crate::shape_faults::{
 use crate::shapes::RuleShape;
 use crate::tree::SourceRule;
 use crate::twice::has_name_twice;
-use ps_model::{Fault, FaultKind, Memory};
+use ps_model::{Fault, FaultKind, Memory, Refusal};
 use ps_text::Source;
 use std::alloc::Global;
 
@@ -135,7 +134,7 @@ pub fn read_rule(
     line: u32,
     shape: &RuleShape<'_, '_>,
     above: Above,
-) -> Result<SourceRule, RuleFault>
+) -> Result<SourceRule, Refusal>
     requires from_one { 1 ≤ line }
     requires there { line ≤ length (lines_of source.now) }
     ensures part { IfOk result (λ rule. rule_shown rule ≡ rule_of (line_at source.now line) (shape_shown shape.now)) }
@@ -145,7 +144,7 @@ pub fn read_rule(
     let cells = paired_rows(alloc, shape)?;
     let rule = rule_of(alloc, source, line, shape, &cells)?;
     if let Some(kind) = fault_of(alloc, shape, &cells, &rule, above)? {
-        return Err(RuleFault::Refused(Fault { kind, line }));
+        return Err(Refusal::Refused(Fault { kind, line }));
     }
     Ok(rule)
 }

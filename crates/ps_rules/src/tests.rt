@@ -1,9 +1,10 @@
 //! Rules of a small game with nine objects on four layers, and rules that are refused.
 
 use crate::{
-    CellPair, Direction, FaultKind, Item, MovementWord, Occurrences, RuleFault, RuleLine, RuleText,
+    CellPair, Direction, FaultKind, Item, MovementWord, Occurrences, RuleLine, RuleText,
     SourceRule, read_rules,
 };
+use ps_model::Refusal;
 use ps_names::{Meaning, Names, ObjectId, read_names};
 use ps_text::Source;
 use std::alloc::Global;
@@ -14,33 +15,33 @@ const HEAD: &str =
     "title T\nOBJECTS\nBackground .\ngreen\nWall #\nbrown\nPlayer P\nwhite\nCrate *\norange\nTarget O\nblue\nA\nred\nB\npink\nC\ngray\nD\nblack\nLEGEND\n@ = Crate and Target\nAT = A or Target\nCOLLISIONLAYERS\nBackground\nTarget\nPlayer, Wall, Crate\nA B C D\nRULES\n";
 
 /// The text of the game with these rules.
-fn source_of(alloc: Global, rules: &str) -> Result<Source, RuleFault> {
+fn source_of(alloc: Global, rules: &str) -> Result<Source, Refusal> {
     let mut text = String::from_str(alloc, HEAD)?;
     text.push_str(rules)?;
     let Ok(source) = Source::read(alloc, text.as_bytes()) else {
-        return Err(RuleFault::Memory);
+        return Err(Refusal::Memory);
     };
     Ok(source)
 }
 
 /// The names of the game.
-fn names_of(alloc: Global, source: &Source) -> Result<Names, RuleFault> {
+fn names_of(alloc: Global, source: &Source) -> Result<Names, Refusal> {
     if source.lines() < 29 {
-        return Err(RuleFault::Memory);
+        return Err(Refusal::Memory);
     }
     let Ok(names) = read_names(alloc, source, 3..21, 22..24, 25..29) else {
-        return Err(RuleFault::Memory);
+        return Err(Refusal::Memory);
     };
     Ok(names)
 }
 
 /// The game's rules, which stand from line 30 on.
-fn rules_of(alloc: Global, rules: &str) -> Result<RuleText, RuleFault> {
+fn rules_of(alloc: Global, rules: &str) -> Result<RuleText, Refusal> {
     let source = source_of(alloc, rules)?;
     let names = names_of(alloc, &source)?;
     let end = source.lines() + 1;
     if end < 30 {
-        return Err(RuleFault::Memory);
+        return Err(Refusal::Memory);
     }
     read_rules(alloc, &source, 30..end, &names)
 }
@@ -58,8 +59,8 @@ fn are_refused(alloc: Global, rules: &[&str], kind: FaultKind) -> bool {
 /// Whether the rules are refused for that cause at that line.
 fn is_refused(alloc: Global, rules: &str, kind: FaultKind, line: u32) -> bool {
     match rules_of(alloc, rules) {
-        Err(RuleFault::Refused(fault)) => fault.kind == kind && fault.line == line,
-        Err(RuleFault::Memory) => false,
+        Err(Refusal::Refused(fault)) => fault.kind == kind && fault.line == line,
+        Err(Refusal::Memory) => false,
         Ok(_) => false,
     }
 }
@@ -113,7 +114,7 @@ fn reads_a_rule(rt: HostRuntime) -> Result<(), Fail> {
         rt.alloc(),
         "late down up [ Player no Crate | ... | A ] -> [ > Crate | ... | ] again message Well done\n",
     );
-    assert!(rt; matches!(text, Err(RuleFault::Refused(_))));
+    assert!(rt; matches!(text, Err(Refusal::Refused(_))));
     let Ok(text) = rules_of(
         rt.alloc(),
         "down up [ > Player no Crate | ... | A ] -> [ < Player | ... | ] again message Well (done)\n",

@@ -6,7 +6,6 @@
 
 mod comments;
 mod cutting;
-mod errors;
 mod headers;
 mod kinds;
 mod lists;
@@ -20,10 +19,9 @@ mod taken;
 mod texts;
 
 pub use cutting::{Word, words};
-pub use errors::TextFault;
 pub use lists::List;
 pub use naming::same_name;
-pub use ps_model::{Cut, Fault, FaultKind, Memory, Section, Span};
+pub use ps_model::{Cut, Fault, FaultKind, Memory, Refusal, Section, Span};
 pub use sources::Source;
 pub use texts::Text;
 

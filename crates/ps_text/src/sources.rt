@@ -11,15 +11,11 @@ ghost use Rattle.ps_text.specs.Rows.{shown, IsRow};
 ghost use Rattle.ps_text.specs.WordViews.{taken_of, span_of, IsSliceOf};
 
 use crate::cutting::{Word, word_at};
-use crate::errors::TextFault;
 use crate::kinds::is_blank_text;
 use crate::rows::{Row, table};
-use ps_model::{Fault, FaultKind, Section};
+use ps_model::{Fault, FaultKind, Refusal, Section, TEXT_LIMIT};
 use std::alloc::Global;
 use std::marker::Model;
-
-/// The most bytes of a text.
-const TEXT_LIMIT: usize = 1048576;
 
 /// The text of a game. Contracts see its bytes.
 #[derive(Drop, Debug)]
@@ -77,13 +73,13 @@ impl Source {
     /// `Refused` with `TooLong` at line 1 if there are more than 1,048,576 bytes; else with `NotUtf8` if they aren't UTF-8,
     /// at the line of the first byte that belongs to no whole character; lines are counted from 1, by line feeds.
     /// `Memory` if there is no room for two copies of the text and the table.
-    pub fn read(alloc: Global, bytes: &[u8]) -> Result<Source, TextFault>
+    pub fn read(alloc: Global, bytes: &[u8]) -> Result<Source, Refusal>
         ensures text { IfOk result (λ source. source ≡ bytes.now) }
         ensures utf8 { IfOk result (λ source. IsUtf8 source) }
         ensures short { IfOk result (λ source. length source ≤ TEXT_LIMIT) }
         ensures fine { OnOk result (text_fault bytes.now ≡ None) }
-        ensures refused { IfErr result (λ error. (fault : TheFault) → error ≡ TextFault.Refused fault → text_fault bytes.now ≡ Some fault) }
-        ensures refuses { (fault : TheFault) → text_fault bytes.now ≡ Some fault → result ≡ Err (TextFault.Refused fault) }
+        ensures refused { IfErr result (λ error. (fault : TheFault) → error ≡ Refusal.Refused fault → text_fault bytes.now ≡ Some fault) }
+        ensures refuses { (fault : TheFault) → text_fault bytes.now ≡ Some fault → result ≡ Err (Refusal.Refused fault) }
     {
         let text = checked(bytes)?;
         let rows = table(alloc, text)?;

@@ -1,8 +1,7 @@
 //! Texts with values worked by hand.
 
-use crate::{
-    Cut, Fault, FaultKind, List, Section, Source, Span, Text, TextFault, Word, same_name, words,
-};
+use crate::{Cut, Fault, FaultKind, List, Section, Source, Span, Text, Word, same_name, words};
+use ps_model::Refusal;
 use std::alloc::{AllocError, Global};
 use std::process::Abort;
 use std::test::Fail;
@@ -201,7 +200,7 @@ fn takes_texts_as_they_stand(rt: HostRuntime) -> Result<(), Fail> {
 
 #[test]
 fn refuses_bytes(rt: HostRuntime) -> Result<(), Fail> {
-    let refused = |kind, line| Some(TextFault::Refused(Fault { kind, line }));
+    let refused = |kind, line| Some(Refusal::Refused(Fault { kind, line }));
     assert_eq!(rt;
         Source::read(rt.alloc(), b"ti\n\xff").err(),
         refused(FaultKind::NotUtf8, 2)

@@ -4,7 +4,7 @@ use Rattle.ps_model.specs.declared.texts.Section.TheVariants.{Objects, Legend, L
 use Rattle.ps_model.specs.declared.faults.Fault.{Fault}
 use Rattle.ps_model.specs.declared.faults.FaultKind.TheVariants.{NoSection}
 use Rattle.ps_model.specs.text.Lines.{lines_of}
-use Rattle.ps_text.specs.declared.errors.TextFault.TheVariants.{Refused}
+use Rattle.ps_model.specs.declared.refusal.Refusal.TheVariants.{Refused}
 use Rattle.ps_game.specs.Headings.{headings_told}
 use Rattle.ps_game.proofs.SectionEnds.{boundary_rises}
 use Rattle.ps_game.proofs.SectionsTold.{line_refused, section_refused, headings_fine, first_there, last_there, is_prelude, is_section, is_header_of}

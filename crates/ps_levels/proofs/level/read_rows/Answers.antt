@@ -12,8 +12,8 @@ use Rattle.ps_model.specs.text.LineNumbers.{line_at, lines_between}
 use Rattle.ps_model.specs.text.Lines.{Line}
 use Rattle.ps_model.specs.session.LevelFaults.{row_faults, rows_faults}
 use Rattle.ps_model.specs.session.LevelLines.{row_cells}
-use Rattle.ps_levels.specs.declared.fault.LevelFault.{LevelFault}
-use Rattle.ps_levels.specs.declared.fault.LevelFault.TheVariants.{Refused}
+use Rattle.ps_model.specs.declared.refusal.Refusal.{Refusal}
+use Rattle.ps_model.specs.declared.refusal.Refusal.TheVariants.{Refused}
 use Rattle.ps_levels.specs.Cells.{cells_shown}
 use Rattle.ps_levels.specs.RowFaults.{level_faults_by}
 use Rattle.ps_laws.proofs.common.LinesInOrder.{line_at-number}
@@ -33,7 +33,7 @@ returns-in_err-add_rows-clause-refused c =
     let lines = lines_between text c.args.lines.start (c.args.lines.start + 1) in
     let one : lines ≡ first ∷ [] = one-line text c.args.lines.start (c.args.lines.start + 1) c.requires.from_one (omega arith) refl c.requires.row in
     let zero : length c.new-rows.result.items ≡ 0 = ap length c.new-rows.ensures.items in
-    let fault : LevelFault = c.in_err-add_rows.field-0.0 in
+    let fault : Refusal = c.in_err-add_rows.field-0.0 in
     let told : (f : TheFault) → fault ≡ Refused f → first_fault (level_faults_by names c.args.width c.args.place first below) ≡ Some f =
     λ f e. fault-in-first names c.args.width c.args.place first below lines f one (ap (λ (n : ℕ). first_fault (rows_faults names c.args.width n lines)) (sym zero) ∙ c.in_err-add_rows.ensures.refused f e) in
     search (rules, told)
@@ -67,7 +67,7 @@ returns-in_err-add_rows-2-clause-refused c =
     rows-counted (λ (row : Row). cells_shown row.items) (row_cells names c.args.width) c.new-rows.result.items c.add_rows.new.rows.items lines c.in_ok-add_rows.ensures.part
     ∙ ap (λ (n : ℕ). n + length lines) zero ∙ ap (λ (ls : List Line). 0 + length ls) one in
     let place : nat_eq c.args.place ENTRY_LIMIT ≡ false = grind (arith, nat_tests) in
-    let fault : LevelFault = c.in_err-add_rows-2.field-0.0 in
+    let fault : Refusal = c.in_err-add_rows-2.field-0.0 in
     let told : (f : TheFault) → fault ≡ Refused f → first_fault (level_faults_by names c.args.width c.args.place first below) ≡ Some f =
     λ f e. ap first_fault (faults-below names c.args.width c.args.place first below fine place)
     ∙ ap (λ (n : ℕ). first_fault (rows_faults names c.args.width n below)) (sym counted) ∙ c.in_err-add_rows-2.ensures.refused f e in

@@ -5,8 +5,8 @@ use Rattle.ps_model.specs.text.Lines.{is_blank_line}
 use Rattle.ps_model.specs.text.LineNumbers.{line_at, lines_between}
 use Rattle.ps_model.specs.session.LevelFaults.{entries_faults}
 use Rattle.ps_model.specs.session.LevelLines.{EntryLines, MessageLine, is_message, entry_of, entry_lines, entries_at}
-use Rattle.ps_levels.specs.declared.fault.LevelFault.{LevelFault}
-use Rattle.ps_levels.specs.declared.fault.LevelFault.TheVariants.{Refused}
+use Rattle.ps_model.specs.declared.refusal.Refusal.{Refusal}
+use Rattle.ps_model.specs.declared.refusal.Refusal.TheVariants.{Refused}
 use Rattle.ps_levels.specs.EntriesShown.{entry_shown, entries_shown, level_lines}
 use Rattle.ps_levels.proofs.EntrySteps.{past-missing, past-message, past-blank, first-of-level, past-level, entry-more, entries-counted, fault-of-entry, fine-entry}
 use Rattle.ps_levels.proofs.levels.add_entry.Goals as goal
@@ -46,7 +46,7 @@ returns-in_err-add_message-clause-refused c =
     let there : (line_at text line).is_there ≡ true = search rules in
     let message : is_message (line_at text line) ≡ true = search rules in
     let split = past-message text line end c.requires.from_one c.requires.ordered c.requires.there there message in
-    let fault : LevelFault = c.in_err-add_message.field-0.0 in
+    let fault : Refusal = c.in_err-add_message.field-0.0 in
     let told : (f : TheFault) → fault ≡ Refused f → first_fault (entries_faults names (length c.args.entries.now.items) all) ≡ Some f =
     λ f e. fault-of-entry names (length c.args.entries.now.items) all rest (MessageLine (line_at text line)) f split (c.in_err-add_message.ensures.refused f e) in
     search (rules, told)
@@ -116,7 +116,7 @@ returns-in_err-next-clause-refused c =
     let there : (line_at text line).is_there ≡ true = search rules in
     let message : is_message (line_at text line) ≡ false = search rules in
     let blank : is_blank_line (line_at text line) ≡ false = search rules in
-    let fault : LevelFault = c.in_err-next.field-0.0 in
+    let fault : Refusal = c.in_err-next.field-0.0 in
     let split = first-of-level text line end c.requires.from_one c.requires.ordered c.requires.there there message blank in
     let told : (f : TheFault) → fault ≡ Refused f → first_fault (entries_faults names (length c.args.entries.now.items) all) ≡ Some f =
     λ f e. fault-of-entry names (length c.args.entries.now.items) all (entries_at true (lines_between text (line + 1) end)) (level_lines text line end) f split (c.in_err-next.ensures.refused f e) in

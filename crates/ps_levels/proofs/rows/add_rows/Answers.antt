@@ -8,8 +8,8 @@ use Rattle.ps_model.specs.text.Faults.{first_fault}
 use Rattle.ps_model.specs.text.LineNumbers.{lines_between}
 use Rattle.ps_model.specs.session.LevelFaults.{rows_faults}
 use Rattle.ps_model.specs.session.LevelLines.{row_cells}
-use Rattle.ps_levels.specs.declared.fault.LevelFault.{LevelFault}
-use Rattle.ps_levels.specs.declared.fault.LevelFault.TheVariants.{Refused}
+use Rattle.ps_model.specs.declared.refusal.Refusal.{Refusal}
+use Rattle.ps_model.specs.declared.refusal.Refusal.TheVariants.{Refused}
 use Rattle.ps_model.specs.text.LineNumbers.{here}
 use Rattle.ps_levels.specs.Cells.{cells_shown, rows_shown}
 use Rattle.ps_laws.proofs.common.LinesInOrder.{between-step}
@@ -22,7 +22,7 @@ returns-in_err-add_row-clause-refused c =
     let names = c.args.names.now in
     let line = c.loop-line.line in
     let step = between-step text line (line + 1) c.args.lines.end (omega arith) (omega arith) (omega arith) refl in
-    let fault : LevelFault = c.in_err-add_row.field-0.0 in
+    let fault : Refusal = c.in_err-add_row.field-0.0 in
     let told : (f : TheFault) → fault ≡ Refused f → first_fault (rows_faults names c.args.width (length c.args.rows.now.items) (lines_between text c.args.lines.start c.args.lines.end)) ≡ Some f =
     λ f e. ap first_fault (sym c.loop-line.invariant.fine)
     ∙ first-of-rows names c.args.width (length c.loop-line.rows.items) (lines_between text line c.args.lines.end) (here text line) (lines_between text (line + 1) c.args.lines.end) f step (c.in_err-add_row.ensures.refused f e) in

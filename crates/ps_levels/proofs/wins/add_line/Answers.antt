@@ -3,8 +3,8 @@ use Rattle.ps_model.specs.declared.faults.Fault.{Fault as TheFault}
 use Rattle.ps_model.specs.text.Faults.{first_fault}
 use Rattle.ps_model.specs.text.LineNumbers.{line_at}
 use Rattle.ps_model.specs.board.WinLines.{win_faults_of, win_faults}
-use Rattle.ps_levels.specs.declared.fault.WinFault.{WinFault}
-use Rattle.ps_levels.specs.declared.fault.WinFault.TheVariants.{Refused}
+use Rattle.ps_model.specs.declared.refusal.Refusal.{Refusal}
+use Rattle.ps_model.specs.declared.refusal.Refusal.TheVariants.{Refused}
 use Rattle.ps_model.specs.text.LineNumbers.{here}
 use Rattle.ps_laws.proofs.common.FirstFaults.{faults-here}
 use Rattle.ps_levels.proofs.wins.add_line.Goals as goal
@@ -14,7 +14,7 @@ returns-in_err-win-clause-refused c =
     let text = c.args.source.now in
     let names = c.args.names.now in
     let there : (line_at text c.args.line).is_there ≡ true = search rules in
-    let fault : WinFault = c.in_err-win.field-0.0 in
+    let fault : Refusal = c.in_err-win.field-0.0 in
     let told : (f : TheFault) → fault ≡ Refused f → first_fault (win_faults names (here text c.args.line)) ≡ Some f =
     λ f e. ap first_fault (faults-here (win_faults_of names) text c.args.line there) ∙ c.in_err-win.ensures.refused f e in
     search (rules, told)

@@ -3,8 +3,8 @@ use Rattle.ps_model.specs.declared.faults.Fault.{Fault as TheFault}
 use Rattle.ps_model.specs.text.Faults.{first_fault}
 use Rattle.ps_model.specs.text.LineNumbers.{lines_between}
 use Rattle.ps_model.specs.board.WinLines.{win_faults_of, win_faults}
-use Rattle.ps_levels.specs.declared.fault.WinFault.{WinFault}
-use Rattle.ps_levels.specs.declared.fault.WinFault.TheVariants.{Refused}
+use Rattle.ps_model.specs.declared.refusal.Refusal.{Refusal}
+use Rattle.ps_model.specs.declared.refusal.Refusal.TheVariants.{Refused}
 use Rattle.ps_model.specs.text.LineNumbers.{here}
 use Rattle.ps_levels.specs.WinsShown.{wins_shown}
 use Rattle.ps_laws.proofs.common.LinesInOrder.{between-step}
@@ -18,7 +18,7 @@ returns-in_err-add_line-clause-refused c =
     let names = c.args.names.now in
     let line = c.loop-line.line in
     let step = between-step text line (line + 1) c.args.lines.end (omega arith) (omega arith) (omega arith) refl in
-    let fault : WinFault = c.in_err-add_line.field-0.0 in
+    let fault : Refusal = c.in_err-add_line.field-0.0 in
     let told : (f : TheFault) → fault ≡ Refused f → first_fault (win_faults names (lines_between text c.args.lines.start c.args.lines.end)) ≡ Some f =
     λ f e. ap first_fault (sym c.loop-line.invariant.fine)
     ∙ first-of-lines (win_faults_of names) (lines_between text line c.args.lines.end) (here text line) (lines_between text (line + 1) c.args.lines.end) f step (c.in_err-add_line.ensures.refused f e) in

@@ -2,8 +2,8 @@ use Rattle.std.proofs.Common.{◌≡◌, ◌∙◌, sym, ap, refl, rules, List, 
 use Rattle.ps_model.specs.declared.faults.Fault.{Fault as TheFault}
 use Rattle.ps_model.specs.names.DeclarationFaults.{faults_of_form, form_faults}
 use Rattle.ps_model.specs.text.Faults.{first_fault}
-use Rattle.ps_names.specs.declared.fault.NameFault.{NameFault}
-use Rattle.ps_names.specs.declared.fault.NameFault.TheVariants.{Refused}
+use Rattle.ps_model.specs.declared.refusal.Refusal.{Refusal}
+use Rattle.ps_model.specs.declared.refusal.Refusal.TheVariants.{Refused}
 use Rattle.ps_names.specs.declared.lines.WrittenLine.{WrittenLine}
 use Rattle.ps_names.specs.Known.{keys}
 use Rattle.ps_names.specs.LinesShown.{line_shown, lines_shown}
@@ -15,7 +15,7 @@ pub returns-in_err-declared-clause-refused : goal.returns-in_err-declared-clause
 returns-in_err-declared-clause-refused c =
     let before : List (List ℕ) = keys c.loop-place.known in
     let step = element-first c.args.lines.now c.loop-place.place (suc c.loop-place.place) c.index-lines-place.result _ c.loop-place-test.true refl c.index-lines-place.is in
-    let fault : NameFault = c.in_err-declared.field-0.0 in
+    let fault : Refusal = c.in_err-declared.field-0.0 in
     let told : (f : TheFault) → fault ≡ Refused f → first_fault (form_faults (keys c.args.known.now) (lines_shown c.args.lines.now)) ≡ Some f =
     λ f e. sym (ap first_fault c.loop-place.invariant.faults) ∙ ap (λ (xs : List WrittenLine). first_fault (form_faults before (lines_shown xs))) step
     ∙ first-found (faults_of_form before (line_shown c.index-lines-place.result)) _ f (c.in_err-declared.ensures.refused f e) in

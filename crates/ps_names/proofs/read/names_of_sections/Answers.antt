@@ -11,8 +11,8 @@ use Rattle.ps_model.specs.names.DeclarationFaults.{layer_faults}
 use Rattle.ps_model.specs.names.LayerLines.{layers_of_lines, layers_found}
 use Rattle.ps_model.specs.names.NamesRead.{sections_of, layer_numbers}
 use Rattle.ps_model.specs.names.NameFaults.{faults_of_sections}
-use Rattle.ps_names.specs.declared.fault.NameFault.{NameFault}
-use Rattle.ps_names.specs.declared.fault.NameFault.TheVariants.{Refused}
+use Rattle.ps_model.specs.declared.refusal.Refusal.{Refusal}
+use Rattle.ps_model.specs.declared.refusal.Refusal.TheVariants.{Refused}
 use Rattle.ps_names.specs.declared.meaning.Meaning as code
 use Rattle.ps_names.specs.Known.{Named}
 use Rattle.ps_names.specs.LinesShown.{objects_shown, object_shown, lines_shown}
@@ -31,7 +31,7 @@ returns-in_err-declared-clause-refused c =
     let objects : List ObjectText = objects_shown c.args.objects.now in
     let lines : List WrittenLine = lines_shown c.args.legend_lines.now in
     let layer_lines : List WrittenLine = lines_shown c.args.layer_lines.now in
-    let fault : NameFault = c.in_err-declared.field-0.0 in
+    let fault : Refusal = c.in_err-declared.field-0.0 in
     let told : (f : TheFault) → fault ≡ Refused f → first_fault (faults_of_sections c.args.header (sections_of objects lines layer_lines)) ≡ Some f =
     λ f e. ap first_fault (sym (faults-here objects lines layer_lines c.args.header)) ∙ c.in_err-declared.ensures.refused f e _ in
     search (rules, told)
@@ -46,7 +46,7 @@ returns-in_err-layering-clause-refused c =
     c.in_ok-table.ensures ∙ ap (λ (ms : List (Option code.Meaning)). with_meanings (meanings_shown ms) known) c.deref.ensures.value
     ∙ ap (λ (ms : List (Option Meaning)). with_meanings ms known) c.in_ok-declared.ensures.meanings ∙ ap (with_meanings (meanings_here objects lines layer_lines)) c.in_ok-declared.ensures.known in
     let as_layers : (t : List (Named × Option Meaning)) → List TheFault = λ t. layer_faults (layers_of_lines (entries_with t) layer_lines) in
-    let fault : NameFault = c.in_err-layering.field-0.0 in
+    let fault : Refusal = c.in_err-layering.field-0.0 in
     let told : (f : TheFault) → fault ≡ Refused f → first_fault (faults_of_sections c.args.header (sections_of objects lines layer_lines)) ≡ Some f =
     λ f e. ap first_fault (sym (faults-here objects lines layer_lines c.args.header)) ∙ ap first_fault (c.in_ok-declared.ensures.fine _)
     ∙ first-found (layer_faults (layers_here objects lines layer_lines)) _ f (ap (λ t. first_fault (as_layers t)) (sym table) ∙ c.in_err-layering.ensures.refused f e) in
@@ -97,7 +97,7 @@ returns-in_err-refuse-clause-refused c =
     (entries_with c.in_ok-table.table) c.deref-4.result.now ≡ _ =
     whole-here objects lines layer_lines c.args.header c.deref-3.result.now _ _ _ c.deref-4.result.now (c.deref-4.ensures.value ∙ layers ∙ ap layer_numbers (sym c.deref-3.ensures.value))
     (c.deref-3.ensures.value ∙ placed) c.in_ok-declared.ensures.legend c.in_ok-declared.ensures.meanings table in
-    let fault : NameFault = c.in_err-refuse.field-0.0 in
+    let fault : Refusal = c.in_err-refuse.field-0.0 in
     let told : (f : TheFault) → fault ≡ Refused f → first_fault (faults_of_sections c.args.header (sections_of objects lines layer_lines)) ≡ Some f =
     λ f e. ap first_fault (sym (faults-here objects lines layer_lines c.args.header)) ∙ ap first_fault (c.in_ok-declared.ensures.fine _)
     ∙ ap (λ (before : List TheFault). first_fault (before ++ told_here objects lines layer_lines c.args.header)) here ∙ ap first_fault (sym whole) ∙ sym c.fault_of_whole.ensures ∙ c.in_err-refuse.ensures.refused f e in

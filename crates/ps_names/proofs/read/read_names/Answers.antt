@@ -7,8 +7,8 @@ use Rattle.ps_model.specs.text.WrittenLines.{WrittenLine, written_lines}
 use Rattle.ps_model.specs.names.ObjectLines.{ObjectText, object_texts}
 use Rattle.ps_model.specs.names.NamesRead.{NameSections, sections_of, names_of}
 use Rattle.ps_model.specs.names.NameFaults.{name_faults, faults_of_sections}
-use Rattle.ps_names.specs.declared.fault.NameFault.{NameFault}
-use Rattle.ps_names.specs.declared.fault.NameFault.TheVariants.{Refused}
+use Rattle.ps_model.specs.declared.refusal.Refusal.{Refusal}
+use Rattle.ps_model.specs.declared.refusal.Refusal.TheVariants.{Refused}
 use Rattle.ps_names.specs.LinesShown.{objects_shown, lines_shown}
 use Rattle.ps_names.specs.LinesThere.{lines_at}
 use Rattle.ps_names.proofs.read.read_names.Goals as goal
@@ -30,7 +30,7 @@ returns-in_err-names-clause-refused c =
     ap lines_shown c.deref-6.ensures.value ∙ c.in_ok-layers-2.ensures.lines ∙ ap (λ (ns : List ℕ). written_lines Layers (lines_at text ns)) c.deref-3.ensures.value
     ∙ ap (written_lines Layers) c.in_ok-layers.ensures.lines in
     let same = same-sections _ _ _ _ _ _ objects legend layers in
-    let fault : NameFault = c.in_err-names.field-0.0 in
+    let fault : Refusal = c.in_err-names.field-0.0 in
     let told : (f : TheFault) → fault ≡ Refused f → first_fault (name_faults (c.args.objects.start - 1) (lines_between text c.args.objects.start c.args.objects.end)
     (lines_between text c.args.legend.start c.args.legend.end) (lines_between text c.args.layers.start c.args.layers.end)) ≡ Some f =
     λ f e. ap (λ (s : NameSections). first_fault (faults_of_sections (c.args.objects.start - 1) s)) (sym same) ∙ c.in_err-names.ensures.refused f e in

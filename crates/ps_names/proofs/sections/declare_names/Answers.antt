@@ -8,8 +8,8 @@ use Rattle.ps_model.specs.names.DeclarationFaults.{form_faults, naming_faults}
 use Rattle.ps_model.specs.names.NameFaults.{folded_names}
 use Rattle.ps_model.specs.text.Faults.{first_fault}
 use Rattle.std.specs.List.{enumerate_from}
-use Rattle.ps_names.specs.declared.fault.NameFault.{NameFault}
-use Rattle.ps_names.specs.declared.fault.NameFault.TheVariants.{Refused}
+use Rattle.ps_model.specs.declared.refusal.Refusal.{Refusal}
+use Rattle.ps_model.specs.declared.refusal.Refusal.TheVariants.{Refused}
 use Rattle.ps_names.specs.Known.{Named, keys, mentions_of_names, named_object}
 use Rattle.ps_names.specs.LegendShown.{declarations_shown, named_line}
 use Rattle.ps_names.specs.LinesShown.{objects_shown, lines_shown}
@@ -32,7 +32,7 @@ returns-in_err-declarations-clause-refused c =
     let objects : List ObjectText = objects_shown c.args.objects.now in
     let lines : List WrittenLine = lines_shown c.args.lines.now in
     let forms = forms-of objects lines c.in_ok-known.known c.in_ok-known.ensures.part in
-    let fault : NameFault = c.in_err-declarations.field-0.0 in
+    let fault : Refusal = c.in_err-declarations.field-0.0 in
     let told : (f : TheFault) → fault ≡ Refused f → (others : List TheFault) → first_fault (declaring_faults objects lines others) ≡ Some f =
     λ f e others. rw (c.in_ok-known.ensures.fine) (first-found (form_faults (folded_names objects) lines) _ f (ap first_fault forms ∙ c.in_err-declarations.ensures.refused f e)) in
     search (rules, told)
@@ -45,7 +45,7 @@ returns-in_err-legend-clause-refused c =
     let none : form_faults (folded_names objects) lines ≡ [] = forms ∙ c.in_ok-declarations.ensures.fine in
     let legend = legend-as objects lines c.in_ok-known.known c.declare_legend.new.known (declarations_shown c.deref.result.now) c.in_ok-known.ensures.part c.in_ok-declarations.ensures.known
     (ap declarations_shown c.deref.ensures.value ∙ c.in_ok-declarations.ensures.part) in
-    let fault : NameFault = c.in_err-legend.field-0.0 in
+    let fault : Refusal = c.in_err-legend.field-0.0 in
     let told : (f : TheFault) → fault ≡ Refused f → (others : List TheFault) → first_fault (declaring_faults objects lines others) ≡ Some f =
     λ f e others. rw (c.in_ok-known.ensures.fine, none) (
     first-found (naming_faults (legend_of objects lines) (legend_meanings (legend_of objects lines))) others f

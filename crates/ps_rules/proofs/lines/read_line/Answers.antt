@@ -10,8 +10,8 @@ use Rattle.ps_rules.specs.AboveShown.{above_shown}
 use Rattle.ps_rules.specs.FormsShown.{form_at}
 use Rattle.ps_rules.specs.RulesShown.{line_shown}
 use Rattle.ps_rules.specs.SymbolsShown.{tokens_shown}
-use Rattle.ps_rules.specs.declared.fault.RuleFault.{RuleFault}
-use Rattle.ps_rules.specs.declared.fault.RuleFault.TheVariants.{Refused}
+use Rattle.ps_model.specs.declared.refusal.Refusal.{Refusal}
+use Rattle.ps_model.specs.declared.refusal.Refusal.TheVariants.{Refused}
 use Rattle.ps_rules.proofs.RuleSteps.{first-some}
 use Rattle.ps_rules.proofs.FormSteps.{next-of-form, count-of-form, line-count}
 use Rattle.ps_rules.proofs.lines.read_line.Goals as goal
@@ -25,7 +25,7 @@ returns-in_err-made-clause-refused c =
     let tokens : tokens_shown c.deref.result.now ≡ tokens_of c.args.names.now line = ap tokens_shown c.deref.ensures.value ∙ c.in_ok-tokens.ensures in
     let kept : tokens_shown c.deref-2.result.now ≡ tokens_kept (tokens_of c.args.names.now line) =
     ap tokens_shown c.deref-2.ensures.value ∙ c.in_ok-kept.ensures ∙ ap tokens_kept tokens in
-    let fault : RuleFault = c.in_err-made.field-0.0 in
+    let fault : Refusal = c.in_err-made.field-0.0 in
     let told : (f : TheFault) → fault ≡ Refused f → first_fault (faults_of_line above c.args.line (tokens_of c.args.names.now line) form) ≡ Some f =
     λ f e. first-some (faults_of_form above c.args.line form) _ f
     (ap (λ (ts : List Token). first_fault (faults_of_form above c.args.line (form_of line ts))) (sym kept) ∙ c.in_err-made.ensures.refused f e) in
@@ -44,7 +44,7 @@ returns-in_err-next-clause-refused c =
     let fine : faults_of_form above c.args.line form ≡ [] = ap (λ (ts : List Token). faults_of_form above c.args.line (form_of line ts)) (sym kept) ∙ c.in_ok-made.ensures.fine in
     let whole : has_left_out (tokens_of c.args.names.now line) ≡ false =
     ap has_left_out (sym (ap tokens_shown c.deref-3.ensures.value ∙ c.in_ok-tokens.ensures)) ∙ sym c.has_kind.ensures ∙ c.if-has_kind.false in
-    let fault : RuleFault = c.in_err-next.field-0.0 in
+    let fault : Refusal = c.in_err-next.field-0.0 in
     let told : (f : TheFault) → fault ≡ Refused f → first_fault (faults_of_line above c.args.line (tokens_of c.args.names.now line) form) ≡ Some f =
     λ f e. ap first_fault (line-count above c.args.line (tokens_of c.args.names.now line) form fine whole ∙ sym (count-of-form above c.args.line form _ part)) ∙ c.in_err-next.ensures.refused f e in
     search (rules, told)

@@ -7,8 +7,8 @@ use Rattle.ps_model.specs.rules.RuleLines.{lines_with_words}
 use Rattle.ps_rules.specs.AboveShown.{above_shown}
 use Rattle.ps_rules.specs.FormsShown.{form_at}
 use Rattle.ps_rules.specs.RefusedLines.{IsRefused}
-use Rattle.ps_rules.specs.declared.fault.RuleFault.{RuleFault}
-use Rattle.ps_rules.specs.declared.fault.RuleFault.TheVariants.{Refused}
+use Rattle.ps_model.specs.declared.refusal.Refusal.{Refusal}
+use Rattle.ps_model.specs.declared.refusal.Refusal.TheVariants.{Refused}
 use Rattle.ps_rules.proofs.LineSteps.{below-step}
 use Rattle.ps_rules.proofs.read.over.Goals as goal
 
@@ -17,7 +17,7 @@ returns-in_err-read-clause-refused c =
     let text : List ℕ = c.args.source.now in
     let there : (line_at text c.args.line).is_there ≡ true = search rules in
     let written : is_blank_line (line_at text c.args.line) ≡ false = search rules in
-    let fault : RuleFault = c.in_err-read.field-0.0 in
+    let fault : Refusal = c.in_err-read.field-0.0 in
     let told : (f : TheFault) → fault ≡ Refused f → IsRefused text c.args.line c.args.names.now (above_shown c.args.above) f =
     λ f e. record { there = there; written = written; told = c.in_err-read.ensures.refused f e } in
     search (rules, told)

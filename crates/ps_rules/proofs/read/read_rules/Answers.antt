@@ -7,8 +7,8 @@ use Rattle.ps_model.specs.rules.RuleFaults.{rule_faults, faults_below}
 use Rattle.ps_model.specs.rules.RuleLines.{rules_read, lines_with_words}
 use Rattle.ps_rules.specs.AboveShown.{above_shown}
 use Rattle.ps_rules.specs.RulesShown.{lines_shown}
-use Rattle.ps_rules.specs.declared.fault.RuleFault.{RuleFault}
-use Rattle.ps_rules.specs.declared.fault.RuleFault.TheVariants.{Refused}
+use Rattle.ps_model.specs.declared.refusal.Refusal.{Refusal}
+use Rattle.ps_model.specs.declared.refusal.Refusal.TheVariants.{Refused}
 use Rattle.ps_laws.proofs.common.LinesInOrder.{between-step}
 use Rattle.ps_rules.proofs.LineSteps.{refused-step}
 use Rattle.ps_rules.proofs.read.read_rules.Goals as goal
@@ -19,7 +19,7 @@ returns-in_err-above-clause-refused c =
     let end : ℕ = c.args.lines.end in
     let line : ℕ = c.loop-line.line in
     let step = between-step text line (line + 1) end (omega arith) (omega arith) (omega arith) refl in
-    let fault : RuleFault = c.in_err-above.field-0.0 in
+    let fault : Refusal = c.in_err-above.field-0.0 in
     let told : (f : TheFault) → fault ≡ Refused f → first_fault (rule_faults c.args.names.now (lines_between text c.args.lines.start end)) ≡ Some f =
     λ f e.
     let own = c.in_err-above.ensures.refused f e in
