@@ -4,6 +4,7 @@
 //! proves that its code does just that.
 #![tactic(auto)]
 
+mod compiled;
 mod faults;
 mod held;
 mod limits;
@@ -15,6 +16,7 @@ mod refusal;
 mod rules;
 mod texts;
 
+pub use compiled::{Claim, LayerWrite, LayeredObject, MotionTest, ObjectWrite};
 pub use faults::{Fault, FaultKind};
 pub use held::Held;
 pub use limits::{

@@ -1,14 +1,20 @@
 -- The mask and the write of what a rule's cell asks for. What the left asks makes the mask; what both sides claim of layers makes
--- the write. They mean what their sources mean: the mask on the cells of a game, the write on every cell at all.
+-- the write. Both mean what their sources mean on the cells of a game.
 use Rattle.std.specs.Prelude.{nat_eq, Bool, not, Option, Some, None, option_map, List, [], ◌∷◌, ◌++◌, map, filter}
 use Rattle.std.specs.List.{flat_map, filter_map, list_any}
 use Rattle.ps_model.specs.declared.pieces.ObjectId.{ObjectId}
 use Rattle.ps_model.specs.declared.pieces.Motion.{Motion}
 use Rattle.ps_model.specs.declared.pieces.Motion.TheVariants.{Still}
 use Rattle.ps_model.specs.names.Names.{Names}
-use Rattle.ps_model.specs.meaning.Wanted.{Wanted, Each, Any, Without}
-use Rattle.ps_model.specs.meaning.Rewriting.{Claim, claims_of, taken_away, claim_on}
-use Rattle.ps_model.specs.meaning.Compiled.{MotionTest, CellMask, ObjectWrite, Put, Leave, Clear, LayerWrite, CellWrite, CompiledCell}
+use Rattle.ps_model.specs.meaning.Wanted.{Wanted, Each, Any, Without, denied}
+use Rattle.ps_model.specs.meaning.Rewriting.{own_layer, claims_of, claim_on}
+use Rattle.ps_model.specs.declared.compiled.Claim.{Claim}
+use Rattle.ps_model.specs.declared.compiled.LayeredObject.{LayeredObject}
+use Rattle.ps_model.specs.declared.compiled.MotionTest.{MotionTest}
+use Rattle.ps_model.specs.declared.compiled.ObjectWrite.{ObjectWrite}
+use Rattle.ps_model.specs.declared.compiled.ObjectWrite.TheVariants.{Put, Leave, Clear}
+use Rattle.ps_model.specs.declared.compiled.LayerWrite.{LayerWrite}
+use Rattle.ps_model.specs.meaning.Compiled.{CellMask, CellWrite, CompiledCell}
 
 -- masks ------------------------------------------------------------------------------------------------------------------
 
@@ -17,12 +23,6 @@ abbrev pub needed_by : Wanted → List ObjectId
 needed_by (Each objects motion) = objects
 needed_by (Any objects motion) = []
 needed_by (Without objects) = []
-
--- the objects of which none may stand there
-abbrev pub barred_by : Wanted → List ObjectId
-barred_by (Each objects motion) = []
-barred_by (Any objects motion) = []
-barred_by (Without objects) = objects
 
 -- the list of objects of which one must stand there
 abbrev pub one_of_by : Wanted → List (List ObjectId)
@@ -34,17 +34,17 @@ one_of_by (Without objects) = []
 abbrev pub motion_test : Claim → Option MotionTest
 motion_test claim = option_map (λ motion. record { layer = claim.layer; motion = motion }) claim.motion
 
--- the motions that layers are asked for
-abbrev pub motions_by : Names → Wanted → List MotionTest
-motions_by names wanted = filter_map motion_test (claims_of names wanted)
+-- an object with its layer
+abbrev pub layered : Names → ObjectId → LayeredObject
+layered names object = record { object = object; layer = own_layer names object }
 
 -- the mask of what the left asks
 abbrev pub mask_of : Names → List Wanted → CellMask
 mask_of names left = record {
-  needed = flat_map needed_by left;
-  barred = flat_map barred_by left;
-  one_of = flat_map one_of_by left;
-  motions = flat_map (motions_by names) left;
+  needed = map (layered names) (flat_map needed_by left);
+  barred = map (layered names) (flat_map denied left);
+  one_of = map (map (layered names)) (flat_map one_of_by left);
+  motions = filter_map motion_test (flat_map (claims_of names) left);
 }
 
 -- writes -----------------------------------------------------------------------------------------------------------------
@@ -67,7 +67,7 @@ object_of_claim None = Leave
 
 -- the write of a layer that the right claims
 abbrev pub claim_write : List Claim → Claim → LayerWrite
-claim_write left claim = record { layer = claim.layer; object = object_of_claim claim.object; motion = motion_written (claim_on claim.layer left) claim.motion }
+claim_write left claim = record { layer = claim.layer; object = object_of_claim claim.object; motion = motion_written (claim_on (claim.layer).0 left) claim.motion }
 
 -- the write that clears the layer of a claim away
 abbrev pub clear_write : Claim → LayerWrite
@@ -75,7 +75,7 @@ clear_write claim = record { layer = claim.layer; object = Clear; motion = None 
 
 -- none of the claims is on the layer of that one
 abbrev pub is_alone : List Claim → Claim → Bool
-is_alone claims claim = not (list_any (λ other. nat_eq other.layer claim.layer) claims)
+is_alone claims claim = not (list_any (λ other. nat_eq (other.layer).0 (claim.layer).0) claims)
 
 -- the writes of the layers that the right claims, and then of those that the left alone does
 abbrev pub layer_writes : List Claim → List Claim → List LayerWrite
@@ -84,7 +84,7 @@ layer_writes left right = map (claim_write left) right ++ map clear_write (filte
 -- the write of what both sides ask
 abbrev pub write_of : Names → List Wanted → List Wanted → CellWrite
 write_of names left right =
-    record { gone = flat_map taken_away right; layers = layer_writes (flat_map (claims_of names) left) (flat_map (claims_of names) right) }
+    record { gone = map (layered names) (flat_map denied right); layers = layer_writes (flat_map (claims_of names) left) (flat_map (claims_of names) right) }
 
 -- cells ------------------------------------------------------------------------------------------------------------------
 

@@ -7,9 +7,11 @@ use Rattle.ps_model.specs.names.Names.{Names}
 use Rattle.ps_model.specs.rules.SourceRules.{CellPair, SourceRule}
 use Rattle.ps_model.specs.meaning.Readings.{Reading, readings}
 use Rattle.ps_model.specs.meaning.RuleMeanings.{CellMeaning, RuleMeaning}
-use Rattle.ps_model.specs.meaning.Wanted.{Wanted, wanted_left, wanted_right}
+use Rattle.ps_model.specs.meaning.Wanted.{Wanted, denied, wanted_left, wanted_right}
 use Rattle.ps_model.specs.meaning.Fitting.{has}
-use Rattle.ps_model.specs.meaning.Rewriting.{Claim, claims_of, taken_away, rewritten_from}
+use Rattle.ps_model.specs.meaning.Rewriting.{claims_of, rewritten_from}
+use Rattle.ps_model.specs.declared.compiled.Claim.{Claim}
+use Rattle.ps_model.specs.meaning.Occurrences.{cells_of}
 
 -- what the left of a cell asks under a reading, and what the right does
 abbrev pub left_of_cell : Names → SourceRule → Reading → CellPair → List Wanted
@@ -23,7 +25,7 @@ abbrev pub meaning_by : Names → List Wanted → List Wanted → CellMeaning
 meaning_by names left right =
     let left_claims : List Claim = flat_map (claims_of names) left in
     let right_claims : List Claim = flat_map (claims_of names) right in
-    let gone : List ObjectId = flat_map taken_away right in
+    let gone : List ObjectId = flat_map denied right in
     record { fits = λ cell. list_all (has names cell) left; rewritten = λ cell. rewritten_from left_claims right_claims gone 0 cell }
 
 -- the meaning of a cell under a reading
@@ -33,7 +35,7 @@ cell_meaning names rule reading cell = meaning_by names (left_of_cell names rule
 -- no two claims are on one layer
 abbrev pub are_apart : List Claim → Bool
 are_apart [] = true
-are_apart (claim ∷ others) = not (list_any (λ other. nat_eq claim.layer other.layer) others) && are_apart others
+are_apart (claim ∷ others) = not (list_any (λ other. nat_eq (claim.layer).0 (other.layer).0) others) && are_apart others
 
 -- no side of the cell names one layer twice
 abbrev pub is_possible_cell : Names → SourceRule → Reading → CellPair → Bool
@@ -42,7 +44,7 @@ is_possible_cell names rule reading cell =
 
 -- a reading is possible where no cell of one side has two names of one layer
 abbrev pub is_possible : Names → SourceRule → Reading → Bool
-is_possible names rule reading = list_all (λ row. list_all (list_all (is_possible_cell names rule reading)) row) rule.rows
+is_possible names rule reading = list_all (is_possible_cell names rule reading) (cells_of rule)
 
 -- the meaning of a rule under a reading
 abbrev pub reading_meaning : Names → SourceRule → Reading → RuleMeaning

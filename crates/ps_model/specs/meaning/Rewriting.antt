@@ -3,6 +3,8 @@
 -- is as it was.
 use Rattle.std.specs.Prelude.{ℕ, suc, nat_eq, if◌then◌else◌, Option, Some, None, unwrap_or, List, [], ◌∷◌, map, find}
 use Rattle.ps_model.specs.declared.pieces.ObjectId.{ObjectId}
+use Rattle.ps_model.specs.declared.pieces.LayerId.{LayerId}
+use Rattle.ps_model.specs.declared.compiled.Claim.{Claim}
 use Rattle.ps_model.specs.declared.pieces.Motion.{Motion}
 use Rattle.ps_model.specs.declared.pieces.Motion.TheVariants.{Still}
 use Rattle.ps_model.specs.declared.pieces.Slot.{Slot}
@@ -11,28 +13,24 @@ use Rattle.ps_model.specs.board.Grid.{object_in, motion_in, slot_of}
 use Rattle.ps_model.specs.names.Names.{Names, layer_of, is_among}
 use Rattle.ps_model.specs.meaning.Wanted.{Wanted, Each, Any, Without}
 
--- what a name says of a layer: which object stands there (of a loose property it isn't said), and with which motion
-pub record Claim : Type 0 where
-  pub layer : ℕ
-  pub object : Option ObjectId
-  pub motion : Option Motion
+-- the layer of an object, as a layer
+abbrev pub own_layer : Names → ObjectId → LayerId
+own_layer names object = record { 0 = layer_of names object }
+
+-- the claim of an object
+abbrev pub object_claim : Names → Option Motion → ObjectId → Claim
+object_claim names motion object = record { layer = own_layer names object; object = Some object; motion = motion }
 
 -- the claim of a loose property, whose members lie on one layer
 abbrev pub loose_claim : Names → Option Motion → List ObjectId → List Claim
 loose_claim names motion [] = []
-loose_claim names motion (first ∷ others) = record { layer = layer_of names first; object = None; motion = motion } ∷ []
+loose_claim names motion (first ∷ others) = record { layer = own_layer names first; object = None; motion = motion } ∷ []
 
 -- what is claimed of layers; `no` claims nothing
 abbrev pub claims_of : Names → Wanted → List Claim
-claims_of names (Each objects motion) = map (λ object. record { layer = layer_of names object; object = Some object; motion = motion }) objects
+claims_of names (Each objects motion) = map (object_claim names motion) objects
 claims_of names (Any objects motion) = loose_claim names motion objects
 claims_of names (Without objects) = []
-
--- the objects that `no` takes away
-abbrev pub taken_away : Wanted → List ObjectId
-taken_away (Each objects motion) = []
-taken_away (Any objects motion) = []
-taken_away (Without objects) = objects
 
 -- the slot without its object, if that is taken away
 abbrev pub slot_without : List ObjectId → Slot → Slot
@@ -41,7 +39,7 @@ slot_without gone (Holds object motion) = if is_among gone object then Bare else
 
 -- the claim on a layer
 abbrev pub claim_on : ℕ → List Claim → Option Claim
-claim_on layer claims = find (λ claim. nat_eq claim.layer layer) claims
+claim_on layer claims = find (λ claim. nat_eq (claim.layer).0 layer) claims
 
 -- the motion that a layer keeps where the right names it without a word: its own, where the left names it without a word too;
 -- none otherwise

@@ -19,6 +19,12 @@ pub data Wanted : Type 0 where
   Any : List ObjectId → Option Motion → Wanted
   Without : List ObjectId → Wanted
 
+-- the objects that `no` denies: on the left none of them may stand in the cell, and on the right they are taken away
+abbrev pub denied : Wanted → List ObjectId
+denied (Each objects motion) = []
+denied (Any objects motion) = []
+denied (Without objects) = objects
+
 -- the move that is chosen for an occurrence
 abbrev pub chosen_move : Reading → Option ℕ → Option Motion
 chosen_move reading None = None

@@ -1,0 +1,48 @@
+-- Compiled rules of the code as those of the definitions.
+use Rattle.std.specs.Prelude.{List, map}
+use Rattle.ps_model.specs.meaning.Compiled as model
+use Rattle.ps_rules.specs.RulesShown.{commands_shown}
+use Rattle.ps_program.specs.declared.cells.CellMask.{CellMask}
+use Rattle.ps_program.specs.declared.cells.CellWrite.{CellWrite}
+use Rattle.ps_program.specs.declared.cells.CompiledCell.{CompiledCell}
+use Rattle.ps_program.specs.declared.rules.CompiledRule.{CompiledRule}
+use Rattle.ps_program.specs.declared.program.CompiledSection.{CompiledSection}
+use Rattle.ps_program.specs.declared.program.CompiledSection.TheVariants.{Group, Loop}
+
+abbrev pub mask_shown : CellMask → model.CellMask
+mask_shown mask = record { needed = mask.needed; barred = mask.barred; one_of = mask.one_of; motions = mask.motions }
+
+abbrev pub write_shown : CellWrite → model.CellWrite
+write_shown write = record { gone = write.gone; layers = write.layers }
+
+abbrev pub cell_shown : CompiledCell → model.CompiledCell
+cell_shown cell = record { mask = mask_shown cell.mask; write = write_shown cell.write }
+
+-- a row of a rule, and its rows
+abbrev pub row_shown : List (List CompiledCell) → List (List model.CompiledCell)
+row_shown parts = map (map cell_shown) parts
+
+abbrev pub rows_shown : List (List (List CompiledCell)) → List (List (List model.CompiledCell))
+rows_shown rows = map row_shown rows
+
+abbrev pub rule_shown : CompiledRule → model.CompiledRule
+rule_shown rule = record {
+  direction = rule.direction;
+  rows = rows_shown rule.rows;
+  rewrites = rule.rewrites;
+  commands = commands_shown rule.commands.now;
+}
+
+-- the rules of a group, and the groups of a loop
+abbrev pub rules_shown : List CompiledRule → List model.CompiledRule
+rules_shown rules = map rule_shown rules
+
+abbrev pub groups_shown : List (List CompiledRule) → List (List model.CompiledRule)
+groups_shown groups = map rules_shown groups
+
+abbrev pub section_shown : CompiledSection → model.CompiledSection
+section_shown (Group rules) = model.CompiledGroup (rules_shown rules)
+section_shown (Loop body) = model.CompiledLoop (groups_shown body)
+
+abbrev pub sections_shown : List CompiledSection → List model.CompiledSection
+sections_shown sections = map section_shown sections

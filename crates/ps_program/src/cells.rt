@@ -1,0 +1,29 @@
+//! A cell of a compiled rule: its mask, which tells the cells of a board that it fits, and its write, which tells what it makes
+//! of them.
+
+use ps_model::{LayerWrite, LayeredObject, MotionTest};
+use ps_text::List;
+
+/// What a cell of a board must have to fit: each needed object, no barred one, one of each list, and each layer's motion.
+#[derive(Drop, Debug)]
+pub struct CellMask {
+    pub needed: List<LayeredObject>,
+    pub barred: List<LayeredObject>,
+    /// One list for each property that is kept loose: its members, which lie on one layer.
+    pub one_of: List<List<LayeredObject>>,
+    pub motions: List<MotionTest>,
+}
+
+/// What becomes of a cell of a board: first these objects go from their layers, and then these layers are written.
+#[derive(Drop, Debug)]
+pub struct CellWrite {
+    pub gone: List<LayeredObject>,
+    pub layers: List<LayerWrite>,
+}
+
+/// A cell of a compiled rule.
+#[derive(Drop, Debug)]
+pub struct CompiledCell {
+    pub mask: CellMask,
+    pub write: CellWrite,
+}

@@ -1,0 +1,12 @@
+//! Compiled rules: masks, writes, rules, groups, loops and programs, as what runs them reads them.
+#![tactic(auto)]
+
+mod cells;
+mod program;
+mod rules;
+
+pub use cells::{CellMask, CellWrite, CompiledCell};
+pub use program::{CompiledSection, Program};
+pub use ps_model::{Direction, LayerWrite, LayeredObject, MotionTest, ObjectWrite};
+pub use ps_rules::Commands;
+pub use rules::CompiledRule;
