@@ -11,8 +11,8 @@ pub fn loose_properties_lie_on_one_layer()
     ensures right { RightsAreOnOneLayer }
 {}
 
-/// The mask of what the left of a cell asks fits the cells of a game that have it; the write of what both sides ask makes of each
-/// cell what their claims make of it; so the compiled cell and its source agree.
+/// The mask of what the left of a cell asks fits the cells that have it; the write of what both sides ask makes of each cell of a
+/// game what their claims make of it; so the compiled cell and its source agree on the cells of a game.
 pub fn cells_compile()
     ensures masks { MasksFit }
     ensures writes { WritesRewrite }

@@ -3,7 +3,9 @@
 use Rattle.std.proofs.Common.{◌≡◌, ℕ, List, [], ◌∷◌, ◌++◌, map, refl, Option, Some}
 use Rattle.std.specs.Prelude.{codes}
 use Rattle.std.specs.Str.{chars}
+use Rattle.ps_model.specs.declared.pieces.LayerId.{LayerId}
 use Rattle.ps_model.specs.declared.pieces.ObjectId.{ObjectId}
+use Rattle.ps_model.specs.declared.compiled.LayeredObject.{LayeredObject}
 use Rattle.ps_model.specs.declared.faults.Fault.{Fault}
 use Rattle.ps_model.specs.declared.faults.FaultKind.{FaultKind}
 use Rattle.ps_model.specs.names.Names.{Meaning, One, AllOf, AnyOf, Names}
@@ -17,6 +19,14 @@ use Rattle.ps_examples.proofs.names.NameTexts.{names_of_text}
 
 abbrev pub object : ℕ → ObjectId
 object number = record { 0 = number }
+
+-- a layer
+abbrev pub layer_id : ℕ → LayerId
+layer_id number = record { 0 = number }
+
+-- an object, and its layer
+abbrev pub placed : ℕ → ℕ → LayeredObject
+placed number layer = record { object = object number; layer = layer_id layer }
 
 -- what a name stands for that is one object
 abbrev pub one : ℕ → Meaning

@@ -18,9 +18,10 @@ use Rattle.ps_model.specs.meaning.ReadingMeanings.{meanings}
 use Rattle.ps_model.specs.board.RulePrograms.{rule_in}
 use Rattle.ps_model.specs.board.Places.{cells_in}
 use Rattle.ps_model.specs.board.Attempts.{Result, attempt}
-use Rattle.ps_model.specs.meaning.Compiled.{Put, Leave, Clear, CompiledCell, CompiledRule, meaning_of_rule}
+use Rattle.ps_model.specs.meaning.Compiled.{CompiledCell, CompiledRule, meaning_of_rule}
+use Rattle.ps_model.specs.declared.compiled.ObjectWrite.TheVariants.{Put, Leave, Clear}
 use Rattle.ps_model.specs.meaning.CompiledRules.{compiled_rules}
-use Rattle.ps_examples.proofs.rules.RuleTexts.{base_names, with_name, lines_below, object, ac}
+use Rattle.ps_examples.proofs.rules.RuleTexts.{base_names, with_name, lines_below, object, layer_id, placed, ac}
 
 -- the readings of a rule
 abbrev readings_of : Names → List ℕ → List RuleMeaning
@@ -47,14 +48,14 @@ source = readings_of base_names (codes "[ > Player | Crate ] -> [ > Player | > C
 -- its cells compiled, in a direction: Player, who goes there, goes on; Crate, however it moves, goes there
 abbrev player_cell : Direction → CompiledCell
 player_cell direction = record {
-  mask = record { needed = object 2 ∷ []; barred = []; one_of = []; motions = record { layer = 2; motion = Going direction } ∷ [] };
-  write = record { gone = []; layers = record { layer = 2; object = Put (object 2); motion = Some (Going direction) } ∷ [] };
+  mask = record { needed = placed 2 2 ∷ []; barred = []; one_of = []; motions = record { layer = layer_id 2; motion = Going direction } ∷ [] };
+  write = record { gone = []; layers = record { layer = layer_id 2; object = Put (object 2); motion = Some (Going direction) } ∷ [] };
 }
 
 abbrev crate_cell : Direction → CompiledCell
 crate_cell direction = record {
-  mask = record { needed = object 3 ∷ []; barred = []; one_of = []; motions = [] };
-  write = record { gone = []; layers = record { layer = 2; object = Put (object 3); motion = Some (Going direction) } ∷ [] };
+  mask = record { needed = placed 3 2 ∷ []; barred = []; one_of = []; motions = [] };
+  write = record { gone = []; layers = record { layer = layer_id 2; object = Put (object 3); motion = Some (Going direction) } ∷ [] };
 }
 
 abbrev pushing : Direction → CompiledRule
@@ -121,20 +122,20 @@ other_source = readings_of (with_name (codes "ac") ac) (codes "right [ AC | Crat
 -- Player, who goes right, rests; and Wall keeps its motion
 abbrev other_cells : List CompiledCell
 other_cells = record {
-  mask = record { needed = []; barred = []; one_of = (object 5 ∷ object 7 ∷ []) ∷ []; motions = [] };
-  write = record { gone = []; layers = record { layer = 3; object = Leave; motion = Some (Going Right) } ∷ [] };
+  mask = record { needed = []; barred = []; one_of = (placed 5 3 ∷ placed 7 3 ∷ []) ∷ []; motions = [] };
+  write = record { gone = []; layers = record { layer = layer_id 3; object = Leave; motion = Some (Going Right) } ∷ [] };
 } ∷ record {
-  mask = record { needed = object 3 ∷ []; barred = object 4 ∷ []; one_of = []; motions = [] };
-  write = record { gone = []; layers = record { layer = 2; object = Clear; motion = None } ∷ [] };
+  mask = record { needed = placed 3 2 ∷ []; barred = placed 4 1 ∷ []; one_of = []; motions = [] };
+  write = record { gone = []; layers = record { layer = layer_id 2; object = Clear; motion = None } ∷ [] };
 } ∷ record {
   mask = record { needed = []; barred = []; one_of = []; motions = [] };
-  write = record { gone = object 3 ∷ []; layers = [] };
+  write = record { gone = placed 3 2 ∷ []; layers = [] };
 } ∷ record {
-  mask = record { needed = object 2 ∷ []; barred = []; one_of = []; motions = record { layer = 2; motion = Going Right } ∷ [] };
-  write = record { gone = []; layers = record { layer = 2; object = Put (object 2); motion = Some Still } ∷ [] };
+  mask = record { needed = placed 2 2 ∷ []; barred = []; one_of = []; motions = record { layer = layer_id 2; motion = Going Right } ∷ [] };
+  write = record { gone = []; layers = record { layer = layer_id 2; object = Put (object 2); motion = Some Still } ∷ [] };
 } ∷ record {
-  mask = record { needed = object 1 ∷ []; barred = []; one_of = []; motions = [] };
-  write = record { gone = []; layers = record { layer = 2; object = Put (object 1); motion = None } ∷ [] };
+  mask = record { needed = placed 1 2 ∷ []; barred = []; one_of = []; motions = [] };
+  write = record { gone = []; layers = record { layer = layer_id 2; object = Put (object 1); motion = None } ∷ [] };
 } ∷ []
 
 abbrev other_compiled : List RuleMeaning

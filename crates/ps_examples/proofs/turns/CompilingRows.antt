@@ -14,10 +14,13 @@ use Rattle.ps_model.specs.rules.RuleLines.{rules_read}
 use Rattle.ps_model.specs.board.RulePrograms.{rule_in}
 use Rattle.ps_model.specs.meaning.Wanted.{Wanted, Each, Any, Without}
 use Rattle.ps_model.specs.meaning.Fitting.{has}
-use Rattle.ps_model.specs.meaning.Compiled.{CellMask, Put, Leave, Clear, CompiledCell, CompiledRule, CompiledGroup, CompiledLoop, mask_fits}
+use Rattle.ps_model.specs.meaning.Rewriting.{rewritten_from}
+use Rattle.ps_model.specs.meaning.Compiled.{CellMask, CompiledCell, CompiledRule, CompiledGroup, CompiledLoop, mask_fits, cell_written}
+use Rattle.ps_model.specs.declared.compiled.LayeredObject.{LayeredObject}
+use Rattle.ps_model.specs.declared.compiled.ObjectWrite.TheVariants.{Put, Leave, Clear}
 use Rattle.ps_model.specs.meaning.CompiledCells.{mask_of, write_of}
 use Rattle.ps_model.specs.meaning.CompiledRules.{compiled_rules, compiled_program}
-use Rattle.ps_examples.proofs.rules.RuleTexts.{base_names, lines_below, object}
+use Rattle.ps_examples.proofs.rules.RuleTexts.{base_names, lines_below, object, layer_id, placed}
 
 -- masks ------------------------------------------------------------------------------------------------------------------
 
@@ -30,10 +33,10 @@ all_asked : mask_of base_names (
     ∷ Any (object 6 ∷ []) None
     ∷ []
     ) ≡ record {
-      needed = object 3 ∷ object 4 ∷ object 0 ∷ [];
-      barred = object 1 ∷ object 2 ∷ [];
-      one_of = (object 5 ∷ object 7 ∷ []) ∷ (object 6 ∷ []) ∷ [];
-      motions = record { layer = 2; motion = Acting } ∷ record { layer = 1; motion = Acting } ∷ record { layer = 3; motion = Going Up } ∷ [];
+      needed = placed 3 2 ∷ placed 4 1 ∷ placed 0 0 ∷ [];
+      barred = placed 1 2 ∷ placed 2 2 ∷ [];
+      one_of = (placed 5 3 ∷ placed 7 3 ∷ []) ∷ (placed 6 3 ∷ []) ∷ [];
+      motions = record { layer = layer_id 2; motion = Acting } ∷ record { layer = layer_id 1; motion = Acting } ∷ record { layer = layer_id 3; motion = Going Up } ∷ [];
     }
 all_asked = refl
 
@@ -45,9 +48,9 @@ none_asked = refl
 abbrev misplaced : List Slot
 misplaced = Holds (object 3) Still ∷ Bare ∷ Bare ∷ Bare ∷ []
 
--- there a mask finds it, and its source doesn't
-found_there : mask_fits (mask_of base_names (Each (object 3 ∷ []) None ∷ [])) misplaced ≡ true
-found_there = refl
+-- there neither a mask nor its source finds it: each looks at its own layer alone
+not_fitted_there : mask_fits (mask_of base_names (Each (object 3 ∷ []) None ∷ [])) misplaced ≡ false
+not_fitted_there = refl
 
 not_found_there : list_all (has base_names misplaced) (Each (object 3 ∷ []) None ∷ []) ≡ false
 not_found_there = refl
@@ -75,12 +78,12 @@ all_written : write_of base_names (
     ) (
     Any (object 5 ∷ object 7 ∷ []) None ∷ Each (object 3 ∷ []) None ∷ Each (object 1 ∷ []) (Some Acting) ∷ Without (object 6 ∷ object 8 ∷ []) ∷ []
     ) ≡ record {
-      gone = object 6 ∷ object 8 ∷ [];
+      gone = placed 6 3 ∷ placed 8 3 ∷ [];
       layers =
-          record { layer = 3; object = Leave; motion = Some Still }
-          ∷ record { layer = 2; object = Put (object 3); motion = None }
-          ∷ record { layer = 2; object = Put (object 1); motion = Some Acting }
-          ∷ record { layer = 1; object = Clear; motion = None }
+          record { layer = layer_id 3; object = Leave; motion = Some Still }
+          ∷ record { layer = layer_id 2; object = Put (object 3); motion = None }
+          ∷ record { layer = layer_id 2; object = Put (object 1); motion = Some Acting }
+          ∷ record { layer = layer_id 1; object = Clear; motion = None }
           ∷ [];
     }
 all_written = refl
@@ -89,12 +92,20 @@ all_written = refl
 new_written : write_of base_names [] (Each (object 5 ∷ []) None ∷ Each (object 3 ∷ object 4 ∷ []) (Some (Going Up)) ∷ []) ≡ record {
   gone = [];
   layers =
-      record { layer = 3; object = Put (object 5); motion = Some Still }
-      ∷ record { layer = 2; object = Put (object 3); motion = Some (Going Up) }
-      ∷ record { layer = 1; object = Put (object 4); motion = Some (Going Up) }
+      record { layer = layer_id 3; object = Put (object 5); motion = Some Still }
+      ∷ record { layer = layer_id 2; object = Put (object 3); motion = Some (Going Up) }
+      ∷ record { layer = layer_id 1; object = Put (object 4); motion = Some (Going Up) }
       ∷ [];
 }
 new_written = refl
+
+-- an object that goes is looked for on its own layer alone, where the source takes it away wherever it stands: so a write is its
+-- source's on the cells of a game alone
+left_there : cell_written (write_of base_names [] (Without (object 3 ∷ []) ∷ [])) misplaced ≡ misplaced
+left_there = refl
+
+taken_from_there : rewritten_from [] [] (object 3 ∷ []) 0 misplaced ≡ Bare ∷ Bare ∷ Bare ∷ Bare ∷ []
+taken_from_there = refl
 
 -- readings ---------------------------------------------------------------------------------------------------------------
 
@@ -106,17 +117,17 @@ rules_of rule = flat_map (compiled_rules base_names) (filter_map rule_in (rules_
 abbrev masks_of : CompiledRule → List CellMask
 masks_of rule = flat_map (flat_map (map (λ (cell : CompiledCell). cell.mask))) rule.rows
 
-abbrev needs : List ObjectId → CellMask
+abbrev needs : List LayeredObject → CellMask
 needs objects = record { needed = objects; barred = []; one_of = []; motions = [] }
 
 -- AT, A or Target, is a fixed property: a rule for each member
 members_in_order : map masks_of (rules_of (codes "right [ AT | Crate ] -> [ | AT ]\n"))
-    ≡ (needs (object 5 ∷ []) ∷ needs (object 3 ∷ []) ∷ []) ∷ (needs (object 4 ∷ []) ∷ needs (object 3 ∷ []) ∷ []) ∷ []
+    ≡ (needs (placed 5 3 ∷ []) ∷ needs (placed 3 2 ∷ []) ∷ []) ∷ (needs (placed 4 1 ∷ []) ∷ needs (placed 3 2 ∷ []) ∷ []) ∷ []
 unfolding chars
 members_in_order = refl
 
 -- a reading that names a layer twice on one side of a cell is none: with B, AT is Target
-only_possible : map masks_of (rules_of (codes "right [ AT B ] -> [ ]\n")) ≡ (needs (object 4 ∷ object 6 ∷ []) ∷ []) ∷ []
+only_possible : map masks_of (rules_of (codes "right [ AT B ] -> [ ]\n")) ≡ (needs (placed 4 1 ∷ placed 6 3 ∷ []) ∷ []) ∷ []
 unfolding chars
 only_possible = refl
 
@@ -131,20 +142,20 @@ rule_on cell = record { direction = Right; rows = ((cell ∷ []) ∷ []) ∷ [];
 
 abbrev player_rule : CompiledRule
 player_rule = rule_on (record {
-  mask = needs (object 2 ∷ []);
-  write = record { gone = []; layers = record { layer = 2; object = Put (object 2); motion = Some (Going Right) } ∷ [] };
+  mask = needs (placed 2 2 ∷ []);
+  write = record { gone = []; layers = record { layer = layer_id 2; object = Put (object 2); motion = Some (Going Right) } ∷ [] };
 })
 
 abbrev clearing_rule : ℕ → CompiledRule
 clearing_rule number = rule_on (record {
-  mask = needs (object number ∷ []);
-  write = record { gone = []; layers = record { layer = 2; object = Clear; motion = None } ∷ [] };
+  mask = needs (placed number 2 ∷ []);
+  write = record { gone = []; layers = record { layer = layer_id 2; object = Clear; motion = None } ∷ [] };
 })
 
 abbrev a_rule : CompiledRule
 a_rule = rule_on (record {
-  mask = needs (object 5 ∷ []);
-  write = record { gone = []; layers = record { layer = 3; object = Put (object 6); motion = None } ∷ [] };
+  mask = needs (placed 5 3 ∷ []);
+  write = record { gone = []; layers = record { layer = layer_id 3; object = Put (object 6); motion = None } ∷ [] };
 })
 
 abbrev again_rule : CompiledRule

@@ -6,7 +6,9 @@ use Rattle.std.specs.Map.{lookup}
 use Rattle.std.proofs.lemmas.Bool.{eqb-true}
 use Rattle.std.proofs.lemmas.List.Elements.{All-nil, All-cons, All-head, All-tail, All-filter}
 use Rattle.ps_model.specs.declared.pieces.ObjectId.{ObjectId}
+use Rattle.ps_model.specs.declared.pieces.LayerId.{LayerId}
 use Rattle.ps_model.specs.declared.pieces.Motion.{Motion}
+use Rattle.ps_model.specs.declared.compiled.Claim.{Claim}
 use Rattle.ps_model.specs.declared.pieces.Slot.{Slot}
 use Rattle.ps_model.specs.declared.pieces.Slot.TheVariants.{Bare, Holds}
 use Rattle.ps_model.specs.names.Names.{Meaning, One, AllOf, AnyOf, Names, layer_of, is_among, object_count}
@@ -15,8 +17,8 @@ use Rattle.ps_model.specs.rules.SourceRules.{Item, Is, No, CellPair, SourceRule}
 use Rattle.ps_model.specs.meaning.Occurrences.{is_fixed, bound_name, bound_word}
 use Rattle.ps_model.specs.meaning.Readings.{Reading, readings}
 use Rattle.ps_model.specs.meaning.RuleMeanings.{CellMeaning}
-use Rattle.ps_model.specs.meaning.Wanted.{Wanted, Each, Any, Without, one_member, chosen_member, motion_of_word, wanted_name, wanted_right}
-use Rattle.ps_model.specs.meaning.Rewriting.{Claim, claims_of, loose_claim, slot_without, claim_on, claimed, rewritten_slot, rewritten_from, taken_away}
+use Rattle.ps_model.specs.meaning.Wanted.{Wanted, Each, Any, Without, denied, one_member, chosen_member, motion_of_word, wanted_name, wanted_right}
+use Rattle.ps_model.specs.meaning.Rewriting.{own_layer, object_claim, loose_claim, claims_of, slot_without, claim_on, claimed, rewritten_slot, rewritten_from}
 use Rattle.ps_model.specs.meaning.ReadingMeanings.{left_of_cell, right_of_cell, cell_meaning, is_possible, reading_meaning, meanings}
 use Rattle.ps_model.specs.board.GameGrids.{IsSlotOf, IsCellFrom, IsCellOf}
 use Rattle.ps_model.specs.meaning.GameRules.{IsItemOf, IsPairOf, IsRuleOf, IsChoiceOf, IsReadingOf}
@@ -68,32 +70,32 @@ wanted_right-game names rule cell reading (No meaning) chosen h = tt
 
 -- a claim that names an object names one of the game, on its own layer
 abbrev pub IsClaimOf : Names → Claim → Type 0
-IsClaimOf names claim = IfSome claim.object (λ object. (object.0 < object_count names) × (layer_of names object ≡ claim.layer))
+IsClaimOf names claim = IfSome claim.object (λ object. (object.0 < object_count names) × (layer_of names object ≡ (claim.layer).0))
 
 loose_claim-game : (names : Names) (motion : Option Motion) (objects : List ObjectId) → All (IsClaimOf names) (loose_claim names motion objects)
 loose_claim-game names motion [] = All-nil (IsClaimOf names)
 loose_claim-game names motion (first ∷ others) =
-    All-cons (IsClaimOf names) (record { layer = layer_of names first; object = None; motion = motion }) [] tt (All-nil (IsClaimOf names))
+    All-cons (IsClaimOf names) (record { layer = own_layer names first; object = None; motion = motion }) [] tt (All-nil (IsClaimOf names))
 
 claims_of-game : (names : Names) (wanted : Wanted) → IsWantedOf names wanted → All (IsClaimOf names) (claims_of names wanted)
 claims_of-game names (Each objects motion) h =
-    All-mapped (IsClaimOf names) (IsObjectOf names) (λ object. record { layer = layer_of names object; object = Some object; motion = motion }) objects (λ object p. (p, refl)) h
+    All-mapped (IsClaimOf names) (IsObjectOf names) (object_claim names motion) objects (λ object p. (p, refl)) h
 claims_of-game names (Any objects motion) h = loose_claim-game names motion objects
 claims_of-game names (Without objects) h = All-nil (IsClaimOf names)
 
 -- a claim on a layer, and of the game
 abbrev pub IsClaimOn : Names → ℕ → Claim → Type 0
-IsClaimOn names layer claim = (claim.layer ≡ layer) × IsClaimOf names claim
+IsClaimOn names layer claim = ((claim.layer).0 ≡ layer) × IsClaimOf names claim
 
-claim_is : (names : Names) (layer : ℕ) (claim : Claim) (same : Bool) (rest : Option Claim) → nat_eq claim.layer layer ≡ same → IsClaimOf names claim → IfSome rest (IsClaimOn names layer) →
+claim_is : (names : Names) (layer : ℕ) (claim : Claim) (same : Bool) (rest : Option Claim) → nat_eq (claim.layer).0 layer ≡ same → IsClaimOf names claim → IfSome rest (IsClaimOn names layer) →
     IfSome (cond same (Some claim) rest) (IsClaimOn names layer)
-claim_is names layer claim true rest e h others = (eqb-true claim.layer layer e, h)
+claim_is names layer claim true rest e h others = (eqb-true (claim.layer).0 layer e, h)
 claim_is names layer claim false rest e h others = others
 
 claim_on-game : (names : Names) (layer : ℕ) (claims : List Claim) → All (IsClaimOf names) claims → IfSome (claim_on layer claims) (IsClaimOn names layer)
 claim_on-game names layer [] all = tt
 claim_on-game names layer (claim ∷ others) all =
-    claim_is names layer claim (nat_eq claim.layer layer) (claim_on layer others) refl (All-head (IsClaimOf names) claim others all) (claim_on-game names layer others (All-tail (IsClaimOf names) claim others all))
+    claim_is names layer claim (nat_eq (claim.layer).0 layer) (claim_on layer others) refl (All-head (IsClaimOf names) claim others all) (claim_on-game names layer others (All-tail (IsClaimOf names) claim others all))
 
 -- slots ------------------------------------------------------------------------------------------------------------------
 
@@ -101,7 +103,7 @@ slot_without-game : (names : Names) (layer : ℕ) (gone : List ObjectId) (slot :
 slot_without-game names layer gone Bare h = tt
 slot_without-game names layer gone (Holds object motion) h = either_one (IsSlotOf names layer) (is_among gone object) Bare (Holds object motion) tt h
 
-claimed-game : (names : Names) (layer : ℕ) (on : ℕ) (object : Option ObjectId) (motion : Option Motion) (left : Option Claim) (slot : Slot) →
+claimed-game : (names : Names) (layer : ℕ) (on : LayerId) (object : Option ObjectId) (motion : Option Motion) (left : Option Claim) (slot : Slot) →
     IsClaimOn names layer (record { layer = on; object = object; motion = motion }) → IsSlotOf names layer slot → IsSlotOf names layer (claimed (record { layer = on; object = object; motion = motion }) left slot)
 claimed-game names layer on None motion left Bare h s = tt
 claimed-game names layer on None motion left (Holds held was) h s = s
@@ -139,7 +141,7 @@ cell_meaning-keeps names rule reading cell chosen h slots =
     let right : List Wanted = right_of_cell names rule reading cell in
     let wanted : All (IsWantedOf names) right =
     All-mapped (IsWantedOf names) (IsItemOf names) (wanted_right names rule cell reading) cell.right (λ item. wanted_right-game names rule cell reading item chosen) h.right in
-    rewritten-game names (flat_map (claims_of names) (left_of_cell names rule reading cell)) (flat_map (claims_of names) right) (flat_map taken_away right) slots
+    rewritten-game names (flat_map (claims_of names) (left_of_cell names rule reading cell)) (flat_map (claims_of names) right) (flat_map denied right) slots
     (All-flat_map (IsClaimOf names) (IsWantedOf names) (claims_of names) right (claims_of-game names) wanted)
 
 -- a reading of a game's rule

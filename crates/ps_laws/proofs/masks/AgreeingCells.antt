@@ -63,9 +63,9 @@ right_on_one_layer names rule cell reading (No meaning) = tt
 pub cell_by-agrees : (names : Names) (left right : List Wanted) (rewrites : Bool) → All (IsOnOneLayer names) left → KeepsCells names (meaning_by names left right) →
     AgreeOn names rewrites (meaning_of_cell (cell_by names left right)) (meaning_by names left right)
 cell_by-agrees names left right rewrites on keep = record {
-  fits = λ cell of_game. masks-fit names left on cell of_game;
-  writes = λ does cell of_game. writes-rewrite names left right cell;
-  keeps = λ does cell of_game. subst (IsCellOf names) (sym (writes-rewrite names left right cell)) (keep cell of_game);
+  fits = λ cell of_game. masks-fit names left on cell;
+  writes = λ does cell of_game. writes-rewrite names left right cell of_game;
+  keeps = λ does cell of_game. subst (IsCellOf names) (sym (writes-rewrite names left right cell of_game)) (keep cell of_game);
 }
 
 -- that of a game's cell

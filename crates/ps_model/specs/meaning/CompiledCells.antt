@@ -1,5 +1,5 @@
 -- The mask and the write of what a rule's cell asks for. What the left asks makes the mask; what both sides claim of layers makes
--- the write. Both mean what their sources mean on the cells of a game.
+-- the write. They mean what their sources mean: the mask on every cell at all, the write on the cells of a game.
 use Rattle.std.specs.Prelude.{nat_eq, Bool, not, Option, Some, None, option_map, List, [], ◌∷◌, ◌++◌, map, filter}
 use Rattle.std.specs.List.{flat_map, filter_map, list_any}
 use Rattle.ps_model.specs.declared.pieces.ObjectId.{ObjectId}

@@ -13,11 +13,11 @@ use Rattle.ps_model.specs.board.Grid.{object_in, motion_in, slot_of}
 use Rattle.ps_model.specs.names.Names.{Names, layer_of, is_among}
 use Rattle.ps_model.specs.meaning.Wanted.{Wanted, Each, Any, Without}
 
--- the layer of an object, as a layer
+-- the layer that an object lies on
 abbrev pub own_layer : Names → ObjectId → LayerId
 own_layer names object = record { 0 = layer_of names object }
 
--- the claim of an object
+-- what the name of an object claims: its layer, for the object, with the motion of its word
 abbrev pub object_claim : Names → Option Motion → ObjectId → Claim
 object_claim names motion object = record { layer = own_layer names object; object = Some object; motion = motion }
 
