@@ -46,7 +46,7 @@ pub fn begins_with(alloc: Global, source: &Source, line: u32, word: &str) -> Res
     requires there { line ≤ length (lines_of source.now) }
     ensures { IfOk result (λ told. told ≡ begins_with (folded word.now) (line_at source.now line)) }
 {
-    let words = words(alloc, source, line, Cut::Plain)?;
+    let words = words(alloc, source, line, Cut::Blanks)?;
     Ok(is_first(&words, word))
 }
 

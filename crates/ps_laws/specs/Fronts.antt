@@ -22,7 +22,7 @@ abbrev pub session_of : Script → List ℕ → Session
 session_of script bytes = session_after script (opening_step script).session (keys_of bytes)
 
 -- the front of all keys of the bytes
-abbrev pub whole_front : Script → List ℕ → List ℕ
+unfoldable pub whole_front : Script → List ℕ → List ℕ
 whole_front script bytes = front script bytes (length (keys_of bytes))
 
 -- laws -----------------------------------------------------------------------------------------------------------------

@@ -7,17 +7,17 @@ use Rattle.ps_model.specs.board.Attempts.{State, Result}
 use Rattle.ps_model.specs.board.Programs.{Progress, round, group, pass, looped}
 
 -- what is made one time after the other: a round of a group, or a pass of a loop's body
-abbrev pub Step : Type 0
-Step = State → Result
+abbrev pub Repeated : Type 0
+Repeated = State → Result
 
 -- the state that so many steps lead to, one after the other
-abbrev pub after : ℕ → Step → State → State
-after zero step state = state
-after (suc steps) step state = after steps step (step state).state
+abbrev pub reached_by : ℕ → Repeated → State → State
+reached_by zero step state = state
+reached_by (suc steps) step state = reached_by steps step (step state).state
 
 -- whether the step of that number changes something; the first has the number 1
-abbrev pub changes : ℕ → Step → State → Bool
-changes number step state = (step (after (number - 1) step state)).changed
+abbrev pub changes : ℕ → Repeated → State → Bool
+changes number step state = (step (reached_by (number - 1) step state)).changed
 
 -- the result is that of rounds which are made until one changes nothing, or until there are as many as the limit
 pub record Settles (rules : List RuleMeaning) (limit : ℕ) (state : State) (result : Result) : Type 0 where
@@ -26,7 +26,7 @@ pub record Settles (rules : List RuleMeaning) (limit : ℕ) (state : State) (res
   pub some_round : 1 ≤ rounds
   pub few_rounds : rounds ≤ limit
   -- the result's state is the one that they lead to
-  pub reached : result.state ≡ after rounds (round rules) state
+  pub reached : result.state ≡ reached_by rounds (round rules) state
   -- each round before the last changes something
   pub going_on : (number : ℕ) → 1 ≤ number → number < rounds → changes number (round rules) state ≡ true
   -- the last round is the limit's, or changes nothing
@@ -42,7 +42,7 @@ pub record Passes (body : List (List RuleMeaning)) (repeats : ℕ) (state : Stat
   pub some_pass : 1 ≤ passes
   pub few_passes : passes ≤ repeats + 1
   -- the state is the one that they lead to
-  pub reached : progress.state ≡ after passes (pass body) state
+  pub reached : progress.state ≡ reached_by passes (pass body) state
   -- each pass before the last changes something
   pub going_on : (number : ℕ) → 1 ≤ number → number < passes → changes number (pass body) state ≡ true
   -- the program stops exactly where the last pass changes something too, and then no repeat was left

@@ -11,8 +11,8 @@ use Rattle.ps_model.specs.declared.limits.TheConstants.{ENTRY_LIMIT}
 use Rattle.ps_model.specs.text.Lines.{Line, lines_of, is_blank_line}
 use Rattle.ps_model.specs.text.LineNumbers.{line_at, lines_between}
 use Rattle.ps_model.specs.names.Names.{Names}
-use Rattle.ps_model.specs.session.LevelLines.{Entry, EntryLines, MessageLine, LevelRows, is_message, is_row, entries_at, entry_lines, entry_of, entries_read}
-use Rattle.ps_model.specs.session.LevelFaults.{too_many, entry_faults, entries_faults, is_level, level_faults}
+use Rattle.ps_model.specs.session.LevelLines.{Entry, EntryLines, MessageLine, LevelRows, is_message, is_row, entries_at, entry_lines, entry_of_lines, entries_read}
+use Rattle.ps_model.specs.session.LevelFaults.{too_many, entry_faults, entries_faults, are_level_lines, level_faults}
 use Rattle.ps_levels.specs.EntriesShown.{is_level_entry, level_lines}
 use Rattle.ps_laws.proofs.common.LinesInOrder.{between-step, here-there, here-not}
 use Rattle.ps_laws.proofs.common.FirstFaults.{first-front}
@@ -74,11 +74,11 @@ past-level text line next end one less within there message blank rest =
     first-of-level text line end one less within there message blank ∙ ap (λ (entries : List EntryLines). level_lines text line end ∷ entries) rest
 
 -- an entry more
-pub entry-more : (names : Names) (before now : List Entry) (all rest : List EntryLines) (found : EntryLines) → all ≡ found ∷ rest → now ≡ before ++ entry_of names found ∷ [] →
-    now ++ map (entry_of names) rest ≡ before ++ map (entry_of names) all
+pub entry-more : (names : Names) (before now : List Entry) (all rest : List EntryLines) (found : EntryLines) → all ≡ found ∷ rest → now ≡ before ++ entry_of_lines names found ∷ [] →
+    now ++ map (entry_of_lines names) rest ≡ before ++ map (entry_of_lines names) all
 entry-more names before now all rest found split e =
-    ap (λ (es : List Entry). es ++ map (entry_of names) rest) e ∙ append_assoc before (entry_of names found ∷ []) (map (entry_of names) rest)
-    ∙ ap (λ (es : List EntryLines). before ++ map (entry_of names) es) (sym split)
+    ap (λ (es : List Entry). es ++ map (entry_of_lines names) rest) e ∙ append_assoc before (entry_of_lines names found ∷ []) (map (entry_of_lines names) rest)
+    ∙ ap (λ (es : List EntryLines). before ++ map (entry_of_lines names) es) (sym split)
 
 pub entries-counted : {A B : Type 0} (shows : A → B) (before now : List A) (one : B) → map shows now ≡ map shows before ++ one ∷ [] → length now ≡ suc (length before)
 entries-counted shows before now one e =
@@ -101,24 +101,24 @@ over-limit place number first p n =
     let over : nat_eq place ENTRY_LIMIT ≡ true = grind (arith, nat_tests) in
     rw (over, n) refl
 
-level_by : (names : Names) (entry : EntryLines) → is_level_entry (entry_of names entry) ≡ is_level entry
+level_by : (names : Names) (entry : EntryLines) → is_level_entry (entry_of_lines names entry) ≡ are_level_lines entry
 level_by names (MessageLine line) = refl
 level_by names (LevelRows first below) = refl
 
 -- a level is among the entries
-pub levels-among : (names : Names) (entries : List EntryLines) → list_any is_level_entry (map (entry_of names) entries) ≡ list_any is_level entries
+pub levels-among : (names : Names) (entries : List EntryLines) → list_any is_level_entry (map (entry_of_lines names) entries) ≡ list_any are_level_lines entries
 levels-among names [] = refl
 levels-among names (entry ∷ entries) = rw (level_by names entry, levels-among names entries) refl
 
 -- a text without faults up to its last entry, with a level
 pub levels-fine : (names : Names) (header : ℕ) (lines : List Line) (shown : List Entry) → entries_faults names 0 (entry_lines lines) ≡ [] → shown ≡ entries_read names lines → list_any is_level_entry shown ≡ true → level_faults names header lines ≡ []
 levels-fine names header lines shown e s h =
-    let found : list_any is_level (entry_lines lines) ≡ true = sym (levels-among names (entry_lines lines)) ∙ ap (list_any is_level_entry) (sym s) ∙ h in
-    ap (λ (faults : List Fault). faults ++ when (not (list_any is_level (entry_lines lines))) NoLevel header) e ∙ ap (λ (b : Bool). when (not b) NoLevel header) found
+    let found : list_any are_level_lines (entry_lines lines) ≡ true = sym (levels-among names (entry_lines lines)) ∙ ap (list_any is_level_entry) (sym s) ∙ h in
+    ap (λ (faults : List Fault). faults ++ when (not (list_any are_level_lines (entry_lines lines))) NoLevel header) e ∙ ap (λ (b : Bool). when (not b) NoLevel header) found
 
 -- and without one
 pub no-level : (names : Names) (header : ℕ) (lines : List Line) (shown : List Entry) → entries_faults names 0 (entry_lines lines) ≡ [] → shown ≡ entries_read names lines → list_any is_level_entry shown ≡ false →
     first_fault (level_faults names header lines) ≡ Some (record { kind = NoLevel; line = header })
 no-level names header lines shown e s h =
-    let none : list_any is_level (entry_lines lines) ≡ false = sym (levels-among names (entry_lines lines)) ∙ ap (list_any is_level_entry) (sym s) ∙ h in
-    ap (λ (faults : List Fault). first_fault (faults ++ when (not (list_any is_level (entry_lines lines))) NoLevel header)) e ∙ ap (λ (b : Bool). first_fault (when (not b) NoLevel header)) none
+    let none : list_any are_level_lines (entry_lines lines) ≡ false = sym (levels-among names (entry_lines lines)) ∙ ap (list_any is_level_entry) (sym s) ∙ h in
+    ap (λ (faults : List Fault). first_fault (faults ++ when (not (list_any are_level_lines (entry_lines lines))) NoLevel header)) e ∙ ap (λ (b : Bool). first_fault (when (not b) NoLevel header)) none

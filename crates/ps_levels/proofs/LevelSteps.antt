@@ -14,7 +14,7 @@ use Rattle.ps_model.specs.names.Names.{Names}
 use Rattle.ps_model.specs.session.LevelFaults.{is_too_large, row_faults, rows_faults, too_many}
 use Rattle.ps_model.specs.declared.pieces.ObjectId.{ObjectId}
 use Rattle.ps_model.specs.board.Levels.{grounded}
-use Rattle.ps_model.specs.session.LevelLines.{LevelEntry, LevelRows, characters_of, row_cells, in_columns, level_of, entry_of}
+use Rattle.ps_model.specs.session.LevelLines.{LevelEntry, LevelRows, characters_of, row_cells, in_columns, level_of, entry_of_lines}
 use Rattle.ps_model.specs.text.LineNumbers.{here}
 use Rattle.ps_levels.specs.RowFaults.{level_faults_by}
 use Rattle.ps_laws.proofs.common.LinesInOrder.{between-step, between-end, here-there}
@@ -94,7 +94,7 @@ faults-below names width place first below e p = behind-none (row_faults names w
 
 -- a level by its parts
 pub level-made : (names : Names) (width height : ℕ) (cells : List (List ObjectId)) (first : Line) (below : List Line) → width ≡ length (characters_of first) → height ≡ length (first ∷ below) →
-    cells ≡ grounded names (in_columns width (map (row_cells names width) (first ∷ below))) → LevelEntry (record { width = width; height = height; cells = cells }) ≡ entry_of names (LevelRows first below)
+    cells ≡ grounded names (in_columns width (map (row_cells names width) (first ∷ below))) → LevelEntry (record { width = width; height = height; cells = cells }) ≡ entry_of_lines names (LevelRows first below)
 level-made names width height cells first below w h c =
     ap (λ (n : ℕ). LevelEntry (record { width = width; height = n; cells = cells })) h ∙ ap (λ (cs : List (List ObjectId)). LevelEntry (record { width = width; height = length (first ∷ below); cells = cs })) c
     ∙ ap (λ (n : ℕ). LevelEntry (level_of names n (first ∷ below))) w

@@ -11,7 +11,7 @@ use Rattle.ps_model.specs.text.Lines.{Line}
 use Rattle.ps_model.specs.names.Names.{Names}
 use Rattle.ps_model.specs.names.NameBounds.{AreBounded}
 use Rattle.ps_model.specs.board.Levels.{grounded, ground, with_ground}
-use Rattle.ps_model.specs.session.LevelLines.{Entry, EntryLines, MessageLine, LevelRows, characters_of, row_cells, in_columns, entry_of, entry_lines, entries_read}
+use Rattle.ps_model.specs.session.LevelLines.{Entry, EntryLines, MessageLine, LevelRows, characters_of, row_cells, in_columns, entry_of_lines, entry_lines, entries_read}
 use Rattle.ps_model.specs.session.LevelFaults.{entry_faults, entries_faults}
 use Rattle.ps_levels.specs.declared.levels.Entry as code
 use Rattle.ps_levels.specs.EntriesShown.{entry_shown, entries_shown}
@@ -38,7 +38,7 @@ cells_counted names width rows =
     length-map (in_columns width read) (with_ground names (ground names (in_columns width read))) ∙ flat_length read (range_with_len 0 width) ∙ ap (λ (n : ℕ). n * length read) (length-range_with_len 0 width)
     ∙ ap (λ (n : ℕ). width * n) (length-map rows (row_cells names width))
 
-sized_entry : (names : Names) (place : ℕ) (entry : EntryLines) → AreBounded names → entry_faults names place entry ≡ [] → HasColumn (entry_of names entry) → IsSizedEntry names (entry_of names entry)
+sized_entry : (names : Names) (place : ℕ) (entry : EntryLines) → AreBounded names → entry_faults names place entry ≡ [] → HasColumn (entry_of_lines names entry) → IsSizedEntry names (entry_of_lines names entry)
 sized_entry names place (MessageLine line) facts e h = tt
 sized_entry names place (LevelRows first below) facts e h = record {
   some_column = h;
@@ -52,12 +52,12 @@ sized_entry names place (LevelRows first below) facts e h = record {
 behind : {X : Type 0} (P : X → Type 0) (x : X) (xs : List X) → All P (x ∷ xs) → All P xs
 behind P x xs all = λ i d h. all (suc i) d (omega arith)
 
-sized_entries : (names : Names) (place : ℕ) (entries : List EntryLines) → AreBounded names → entries_faults names place entries ≡ [] → All HasColumn (map (entry_of names) entries) → All (IsSizedEntry names) (map (entry_of names) entries)
+sized_entries : (names : Names) (place : ℕ) (entries : List EntryLines) → AreBounded names → entries_faults names place entries ≡ [] → All HasColumn (map (entry_of_lines names) entries) → All (IsSizedEntry names) (map (entry_of_lines names) entries)
 sized_entries names place [] facts e h = λ i d l. absurd (omega arith)
 sized_entries names place (entry ∷ entries) facts e h =
-    All-cons (IsSizedEntry names) (entry_of names entry) (map (entry_of names) entries)
-    (sized_entry names place entry facts (none-left (entry_faults names place entry) (entries_faults names (suc place) entries) e) (All-head HasColumn (entry_of names entry) (map (entry_of names) entries) h))
-    (sized_entries names (suc place) entries facts (none-right (entry_faults names place entry) (entries_faults names (suc place) entries) e) (behind HasColumn (entry_of names entry) (map (entry_of names) entries) h))
+    All-cons (IsSizedEntry names) (entry_of_lines names entry) (map (entry_of_lines names) entries)
+    (sized_entry names place entry facts (none-left (entry_faults names place entry) (entries_faults names (suc place) entries) e) (All-head HasColumn (entry_of_lines names entry) (map (entry_of_lines names) entries) h))
+    (sized_entries names (suc place) entries facts (none-right (entry_faults names place entry) (entries_faults names (suc place) entries) e) (behind HasColumn (entry_of_lines names entry) (map (entry_of_lines names) entries) h))
 
 -- levels of lines without faults of their entries, that each have a column
 pub sized-levels : (names : Names) (lines : List Line) → AreBounded names → entries_faults names 0 (entry_lines lines) ≡ [] → All HasColumn (entries_read names lines) → All (IsSizedEntry names) (entries_read names lines)

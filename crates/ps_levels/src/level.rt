@@ -4,7 +4,7 @@ ghost use Rattle.std.specs.Prelude.{◌≡◌, ◌≤◌, ◌<◌, ◌+◌, ◌�
 ghost use Rattle.ps_model.specs.declared.faults.Fault.{Fault as TheFault};
 ghost use Rattle.ps_model.specs.text.Faults.{first_fault};
 ghost use Rattle.ps_model.specs.session.LevelFaults.{entry_faults};
-ghost use Rattle.ps_model.specs.session.LevelLines.{LevelEntry, characters_of, row_cells, entry_of};
+ghost use Rattle.ps_model.specs.session.LevelLines.{LevelEntry, characters_of, row_cells, entry_of_lines};
 ghost use Rattle.ps_model.specs.text.LineNumbers.{line_at, lines_between};
 ghost use Rattle.ps_model.specs.text.Lines.{lines_of, is_blank_line};
 ghost use Rattle.ps_levels.specs.Cells.{rows_shown};
@@ -116,7 +116,7 @@ pub fn read_level(
     requires there { lines.end ≤ length (lines_of source.now) + 1 }
     requires row { (line_at source.now lines.start).is_there ≡ true }
     requires written { is_blank_line (line_at source.now lines.start) ≡ false }
-    ensures part { IfOk result (λ level. LevelEntry level ≡ entry_of names.now (rows_at source.now lines.start lines.end)) }
+    ensures part { IfOk result (λ level. LevelEntry level ≡ entry_of_lines names.now (rows_at source.now lines.start lines.end)) }
     ensures column { IfOk result (λ level. 1 ≤ level.width) }
     ensures fine { OnOk result (entry_faults names.now place (rows_at source.now lines.start lines.end) ≡ []) }
     ensures refused { IfErr result (λ e. (fault : TheFault) → e ≡ Refusal.Refused fault → first_fault (entry_faults names.now place (rows_at source.now lines.start lines.end)) ≡ Some fault) }

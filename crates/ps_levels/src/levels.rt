@@ -5,7 +5,7 @@ ghost use Rattle.std.specs.List.{list_any};
 ghost use Rattle.ps_model.specs.declared.faults.Fault.{Fault as TheFault};
 ghost use Rattle.ps_model.specs.text.Faults.{first_fault};
 ghost use Rattle.ps_model.specs.session.LevelFaults.{too_many, entry_faults, entries_faults, level_faults};
-ghost use Rattle.ps_model.specs.session.LevelLines.{MessageEntry, entries_at, entry_lines, entry_of, entries_read};
+ghost use Rattle.ps_model.specs.session.LevelLines.{MessageEntry, entries_at, entry_lines, entry_of_lines, entries_read};
 ghost use Rattle.ps_model.specs.text.LineNumbers.{line_at, lines_between};
 ghost use Rattle.ps_model.specs.text.Lines.{lines_of, is_blank_line, taken_bytes};
 ghost use Rattle.ps_model.specs.names.NameBounds.{AreBounded};
@@ -79,7 +79,7 @@ fn add_level(
     requires written { is_blank_line (line_at source.now lines.start) ≡ false }
     ensures behind { IfOk result (λ next. lines.start < next) }
     ensures within { IfOk result (λ next. next ≤ lines.end) }
-    ensures part { OnOk result (entries_shown entries.new.items ≡ entries_shown entries.old.items ++ entry_of names.now (level_lines source.now lines.start lines.end) ∷ []) }
+    ensures part { OnOk result (entries_shown entries.new.items ≡ entries_shown entries.old.items ++ entry_of_lines names.now (level_lines source.now lines.start lines.end) ∷ []) }
     ensures columns { All HasColumn (entries_shown entries.old.items) → OnOk result (All HasColumn (entries_shown entries.new.items)) }
     ensures fine { OnOk result (entry_faults names.now (length entries.old.items) (level_lines source.now lines.start lines.end) ≡ []) }
     ensures refused { IfErr result (λ e. (fault : TheFault) → e ≡ Refusal.Refused fault → first_fault (entry_faults names.now (length entries.old.items) (level_lines source.now lines.start lines.end)) ≡ Some fault) }

@@ -2,7 +2,7 @@
 
 ghost use Rattle.std.specs.Prelude.{◌≡◌, ◌≤◌, ◌+◌, [], true, false, ◌&&◌, not, length, map, IfOk, slice_index_or};
 ghost use Rattle.std.specs.List.{take_while};
-ghost use Rattle.ps_model.specs.declared.texts.Cut.TheVariants.{Plain};
+ghost use Rattle.ps_model.specs.declared.texts.Cut.TheVariants.{Blanks};
 ghost use Rattle.ps_model.specs.session.LevelLines.{is_message, is_row, entries_at};
 ghost use Rattle.ps_model.specs.text.LineNumbers.{line_at, lines_between};
 ghost use Rattle.ps_model.specs.text.Lines.{lines_of, folded};
@@ -29,7 +29,7 @@ pub fn is_message(alloc: Global, source: &Source, line: u32) -> Result<bool, Mem
     requires there { line ≤ length (lines_of source.now) }
     ensures { IfOk result (λ told. told ≡ is_message (line_at source.now line)) }
 {
-    let words = words(alloc, source, line, Cut::Plain)?;
+    let words = words(alloc, source, line, Cut::Blanks)?;
     Ok(same_name(first_word(&words), "message"))
 }
 

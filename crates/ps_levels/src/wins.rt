@@ -145,7 +145,7 @@ fn read_line(
     ensures fine { OnOk result (win_faults_of names.now (line_at source.now line) ≡ []) }
     ensures refused { IfErr result (λ e. (fault : TheFault) → e ≡ Refusal.Refused fault → first_fault (win_faults_of names.now (line_at source.now line)) ≡ Some fault) }
 {
-    let words = words(alloc, source, line, Cut::Plain)?;
+    let words = words(alloc, source, line, Cut::Blanks)?;
     let Some(words) = win_of_words(&words) else {
         if source.is_blank_line(line) {
             return Ok(None);

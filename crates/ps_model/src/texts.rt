@@ -25,8 +25,8 @@ pub enum Section {
 /// How a line is cut into words.
 #[derive(Clone, Copy, PartialEq, Eq, Debug)]
 pub enum Cut {
-    /// At blanks.
-    Plain,
+    /// At blanks alone.
+    Blanks,
     /// At blanks, with `=` a word of its own wherever it stands.
     Legend,
     /// At blanks and commas.

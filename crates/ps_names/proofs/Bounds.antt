@@ -11,7 +11,7 @@ use Rattle.ps_model.specs.names.Names.{Meaning, One, AllOf, AnyOf, Glyph, is_amo
 use Rattle.ps_model.specs.names.NameBounds.{IsBelow, AreBounded}
 use Rattle.ps_model.specs.text.WrittenLines.{WrittenLine}
 use Rattle.ps_model.specs.names.ObjectLines.{ObjectText, one_character}
-use Rattle.ps_model.specs.names.LayerLines.{Layer, objects_named, last_among, layers_found}
+use Rattle.ps_model.specs.names.LayerLines.{Layer, objects_of_layer, last_among, layers_found}
 use Rattle.ps_model.specs.names.NamesRead.{Declared, entry_of, entries_of, glyph_of, glyph_with, layer_numbers, names_of, sections_of}
 use Rattle.ps_names.specs.Wholes.{no_layers}
 use Rattle.ps_names.proofs.FactsOfNames.{Speaks, all-speak}
@@ -40,8 +40,8 @@ places-lower n number (objects ∷ lists) object h = one-place n number objects 
 -- the layers that are found are layers
 found-lower : (count : ℕ) (layers : List Layer) → All (LowerIf (length layers)) (layers_found count layers)
 found-lower count layers =
-    All-map (LowerIf (length layers)) (λ number. last_among (map objects_named layers) (record { 0 = number })) (range_with_len 0 count)
-    (λ k d less. last-lower (length layers) None _ tt (places-lower (length layers) 0 (map objects_named layers) _ (rw length-map (omega arith))))
+    All-map (LowerIf (length layers)) (λ number. last_among (map objects_of_layer layers) (record { 0 = number })) (range_with_len 0 count)
+    (λ k d less. last-lower (length layers) None _ tt (places-lower (length layers) 0 (map objects_of_layer layers) _ (rw length-map (omega arith))))
 
 each-lower : (n : ℕ) (objects : List ObjectText) (places : List (Option ℕ)) → length places ≡ length objects → no_layers objects places ≡ [] → All (LowerIf n) places → All (Lower n) (layer_numbers places)
 each-lower n objects [] long e h = All-nil (Lower n)
@@ -67,7 +67,7 @@ glyphs-below n (d ∷ declared) h =
 
 -- how many objects there are
 pub length-found : (count : ℕ) (layers : List Layer) → length (layers_found count layers) ≡ count
-length-found count layers = length-map-range_with_len (λ number. last_among (map objects_named layers) (record { 0 = number })) 0 count
+length-found count layers = length-map-range_with_len (λ number. last_among (map objects_of_layer layers) (record { 0 = number })) 0 count
 
 pub bounded : (objects : List ObjectText) (lines layer_lines : List WrittenLine) → length objects ≤ OBJECT_LIMIT
     → length (sections_of objects lines layer_lines).layers ≤ LAYER_LIMIT → no_layers objects (sections_of objects lines layer_lines).object_layers ≡ []

@@ -6,7 +6,7 @@ use Rattle.std.proofs.lemmas.List.{get_or-set_same, get_or-set_other, get_or-rep
 use Rattle.std.proofs.lemmas.Bool.Decides.{nat_tests}
 use Rattle.ps_model.specs.declared.texts.Joiner.{Joiner}
 use Rattle.ps_model.specs.declared.texts.Joiner.TheVariants.{Alone, And, Or}
-use Rattle.ps_model.specs.names.Meanings.{LegendName, Mention, OfObject, OfLine, meaning_by, meaning_behind}
+use Rattle.ps_model.specs.names.Meanings.{LegendName, Mention, OfObject, OfLine, meaning_by_joiner, meaning_behind}
 use Rattle.ps_names.specs.declared.ends.End.{End}
 use Rattle.ps_names.specs.declared.ends.End.TheVariants.{Unknown}
 use Rattle.ps_names.specs.MeaningSteps.{behind_synonym}
@@ -42,14 +42,14 @@ module _ (legend : List LegendName) where
   less-mention most less (Some mention) e = less mention e
 
   less-name : (most : ℕ) → ((mention : Mention) → meaning_behind legend (suc most) mention ≡ None → meaning_behind legend most mention ≡ None)
-      → (joiner : Joiner) (name : LegendName) → meaning_by (meaning_behind legend (suc most)) legend joiner name ≡ None → meaning_by (meaning_behind legend most) legend joiner name ≡ None
+      → (joiner : Joiner) (name : LegendName) → meaning_by_joiner (meaning_behind legend (suc most)) legend joiner name ≡ None → meaning_by_joiner (meaning_behind legend most) legend joiner name ≡ None
   less-name most less Alone name e = less-mention most less (slice_get name.mentions 0) e
   less-name most less And name e = cc
   less-name most less Or name e = cc
 
   less-line : (most : ℕ) → ((mention : Mention) → meaning_behind legend (suc most) mention ≡ None → meaning_behind legend most mention ≡ None)
-      → (name : Option LegendName) → option_and_then (λ name. meaning_by (meaning_behind legend (suc most)) legend name.joiner name) name ≡ None
-      → option_and_then (λ name. meaning_by (meaning_behind legend most) legend name.joiner name) name ≡ None
+      → (name : Option LegendName) → option_and_then (λ name. meaning_by_joiner (meaning_behind legend (suc most)) legend name.joiner name) name ≡ None
+      → option_and_then (λ name. meaning_by_joiner (meaning_behind legend most) legend name.joiner name) name ≡ None
   less-line most less None e = refl
   less-line most less (Some name) e = less-name most less name.joiner name e
 

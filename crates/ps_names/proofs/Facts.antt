@@ -9,7 +9,7 @@ use Rattle.ps_model.specs.declared.texts.Joiner.{Joiner}
 use Rattle.ps_model.specs.declared.texts.Joiner.TheVariants.{Alone, And, Or}
 use Rattle.ps_model.specs.names.Names.{Meaning}
 use Rattle.ps_model.specs.names.NameBounds.{IsBelow}
-use Rattle.ps_model.specs.names.Meanings.{LegendName, Mention, OfObject, OfLine, same_mention, mentions_of, mentions_of_name, with_mentioned, all_mentioned, object_of, objects_of, meaning_by, meaning_behind}
+use Rattle.ps_model.specs.names.Meanings.{LegendName, Mention, OfObject, OfLine, same_mention, mentions_of, mentions_of_name, with_mentioned, all_mentioned, object_of, objects_of, meaning_by_joiner, meaning_behind}
 
 abbrev pub IsObject : ℕ → ObjectId → Type 0
 IsObject n object = object.0 < n
@@ -80,13 +80,13 @@ alone-below n of_mention [] means h = tt
 alone-below n of_mention (mention ∷ mentions) means h = means mention (All-head (IsMention n) mention mentions h)
 
 by-below : (n : ℕ) (of_mention : Mention → Option Meaning) (legend : List LegendName) (joiner : Joiner) (name : LegendName) → Means n of_mention → All (IsName n) legend → IsName n name
-    → IsBelowIf n (meaning_by of_mention legend joiner name)
+    → IsBelowIf n (meaning_by_joiner of_mention legend joiner name)
 by-below n of_mention legend Alone name means names h = alone-below n of_mention name.mentions means h
 by-below n of_mention legend And name means names h = objects_of-below n legend name names h
 by-below n of_mention legend Or name means names h = objects_of-below n legend name names h
 
 named-below : (n : ℕ) (of_mention : Mention → Option Meaning) (legend : List LegendName) (place : ℕ) (name : Option LegendName) → slice_get legend place ≡ name → Means n of_mention → All (IsName n) legend
-    → IsBelowIf n (option_and_then (λ name. meaning_by of_mention legend name.joiner name) name)
+    → IsBelowIf n (option_and_then (λ name. meaning_by_joiner of_mention legend name.joiner name) name)
 named-below n of_mention legend place None e means names = tt
 named-below n of_mention legend place (Some name) e means names = by-below n of_mention legend name.joiner name means names (of-name n legend place (Some name) e names)
 

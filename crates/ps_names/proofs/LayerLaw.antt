@@ -7,7 +7,7 @@ use Rattle.std.proofs.lemmas.List.FromFn.{length-map-range_with_len, get_or-map-
 use Rattle.std.proofs.lemmas.Bool.Decides.{nat_tests}
 use Rattle.ps_model.specs.declared.pieces.ObjectId.{ObjectId}
 use Rattle.ps_model.specs.names.Names.{is_among}
-use Rattle.ps_model.specs.names.LayerLines.{last_among, Layer, objects_named, layers_found}
+use Rattle.ps_model.specs.names.LayerLines.{last_among, Layer, objects_of_layer, layers_found}
 use Rattle.ps_names.specs.LayersShown.{placed, placed_each}
 
 length-placed : (layer : ℕ) (places : List (Option ℕ)) (objects : List ObjectId) → length (placed layer places objects) ≡ length places
@@ -56,9 +56,9 @@ placed_each-at number places (objects ∷ lists) k d less =
     ∙ last-step number (get_or places k d) objects lists (the_object k) _ refl
 
 -- the layers of all objects
-pub layers-placed : (count : ℕ) (layers : List Layer) → placed_each 0 (replicate count None) (map objects_named layers) ≡ layers_found count layers
+pub layers-placed : (count : ℕ) (layers : List Layer) → placed_each 0 (replicate count None) (map objects_of_layer layers) ≡ layers_found count layers
 layers-placed count layers =
-    let lists : List (List ObjectId) = map objects_named layers in
+    let lists : List (List ObjectId) = map objects_of_layer layers in
     let layer : ℕ → Option ℕ = λ number. last_among lists (the_object number) in
     let long : length (placed_each 0 (replicate count None) lists) ≡ count = length-placed_each 0 (replicate count None) lists ∙ length-replicate count None in
     same_lists (placed_each 0 (replicate count None) lists) (map layer (range_with_len 0 count)) (long ∙ sym (length-map-range_with_len layer 0 count))

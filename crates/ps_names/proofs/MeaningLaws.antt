@@ -6,18 +6,18 @@ use Rattle.std.specs.Prelude.{option_and_then, slice_get}
 use Rattle.ps_model.specs.declared.texts.Joiner.{Joiner}
 use Rattle.ps_model.specs.declared.texts.Joiner.TheVariants.{Alone, And, Or}
 use Rattle.ps_model.specs.names.Names.{Meaning}
-use Rattle.ps_model.specs.names.Meanings.{LegendName, Mention, OfObject, OfLine, meaning_by, meaning_behind}
+use Rattle.ps_model.specs.names.Meanings.{LegendName, Mention, OfObject, OfLine, meaning_by_joiner, meaning_behind}
 use Rattle.ps_names.specs.MeaningSteps.{alone, behind_synonym, joined_meaning, joined_at, joined_meanings, meaning_at}
 
 by_joiner : (legend : List LegendName) (of_mention : Mention → Option Meaning) (joiner : Joiner) (name : LegendName) (next : Mention) → alone joiner name.mentions ≡ Some next
-    → meaning_by of_mention legend joiner name ≡ of_mention next
+    → meaning_by_joiner of_mention legend joiner name ≡ of_mention next
 by_joiner legend of_mention Alone name next e = rw e refl
 by_joiner legend of_mention And name next e = cc
 by_joiner legend of_mention Or name next e = cc
 
 by_name : (legend : List LegendName) (of_mention : Mention → Option Meaning) (name : Option LegendName) (next : Mention)
     → option_and_then (λ name. alone name.joiner name.mentions) name ≡ Some next
-    → option_and_then (λ name. meaning_by of_mention legend name.joiner name) name ≡ of_mention next
+    → option_and_then (λ name. meaning_by_joiner of_mention legend name.joiner name) name ≡ of_mention next
 by_name legend of_mention None next e = cc
 by_name legend of_mention (Some name) next e = by_joiner legend of_mention name.joiner name next e
 
@@ -28,7 +28,7 @@ synonym-step legend most (OfObject object) next e = cc
 synonym-step legend most (OfLine place) next e = by_name legend (meaning_behind legend most) (slice_get legend place) next e
 
 joined-none : (legend : List LegendName) (of_mention : Mention → Option Meaning) (joiner : Joiner) (name : LegendName) → alone joiner name.mentions ≡ None
-    → meaning_by of_mention legend joiner name ≡ joined_meaning legend joiner name
+    → meaning_by_joiner of_mention legend joiner name ≡ joined_meaning legend joiner name
 joined-none legend of_mention Alone name e = rw e refl
 joined-none legend of_mention And name e = refl
 joined-none legend of_mention Or name e = refl
@@ -44,7 +44,7 @@ pub no-synonym : (legend : List LegendName) (most place : ℕ) → behind_synony
 no-synonym legend most place none = got-joined (joined_at legend) legend place ∙ by (slice_get legend place) none
   where
     by : (name : Option LegendName) → option_and_then (λ name. alone name.joiner name.mentions) name ≡ None
-        → option_and_then (joined_at legend) name ≡ option_and_then (λ name. meaning_by (meaning_behind legend most) legend name.joiner name) name
+        → option_and_then (joined_at legend) name ≡ option_and_then (λ name. meaning_by_joiner (meaning_behind legend most) legend name.joiner name) name
     by None n = refl
     by (Some name) n = sym (joined-none legend (meaning_behind legend most) name.joiner name n)
 

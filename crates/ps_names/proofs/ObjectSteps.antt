@@ -4,7 +4,7 @@ use Rattle.std.specs.List.{prefix_len}
 use Rattle.std.proofs.Math.Seq.{drop-cons}
 use Rattle.ps_model.specs.text.LineNumbers.{line_at}
 use Rattle.ps_model.specs.names.ObjectLines.{ObjectText, is_sprite_row, lines_below, objects_below}
-use Rattle.ps_model.specs.text.Lines.{is_blank_line, plain_words}
+use Rattle.ps_model.specs.text.Lines.{is_blank_line, words_of_line}
 use Rattle.ps_names.specs.LinesThere.{lines_at}
 
 -- the rows of a sprite that has so many, where these lines are left
@@ -25,7 +25,7 @@ row-stop text lines rows k line d less e few is =
 
 -- an object more
 pub object-step : (text lines : List ℕ) (d : ℕ) (made added : List ObjectText) (words : List (List ℕ)) (line above below : ℕ) → 0 < length lines → line ≡ get_or lines 0 d → above ≡ 0
-    → is_blank_line (line_at text line) ≡ false → (line_at text line).number ≡ line → words ≡ plain_words (line_at text line) → below ≡ lines_below (lines_at text (drop 1 lines))
+    → is_blank_line (line_at text line) ≡ false → (line_at text line).number ≡ line → words ≡ words_of_line (line_at text line) → below ≡ lines_below (lines_at text (drop 1 lines))
     → added ≡ made ++ (record { line = line; words = words; below = below }) ∷ []
     → added ++ objects_below below (lines_at text (drop 1 lines)) ≡ made ++ objects_below above (lines_at text lines)
 object-step text lines d made added words line above below less e none blank number w b a =

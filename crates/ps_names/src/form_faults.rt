@@ -3,7 +3,7 @@
 ghost use Rattle.std.specs.Prelude.{◌≡◌, ◌≤◌, ◌++◌, ◌∷◌, [], Some, false, IfOk, OnOk, IfErr, length, map, option_map, option_to_list};
 ghost use Rattle.std.specs.List.{enumerate_from};
 ghost use Rattle.ps_model.specs.declared.faults.Fault.{Fault as TheFault};
-ghost use Rattle.ps_model.specs.names.DeclarationFaults.{are_declared_again, faults_of_form, form_faults};
+ghost use Rattle.ps_model.specs.names.DeclarationFaults.{are_declared_again, legend_form_faults, form_faults};
 ghost use Rattle.ps_model.specs.text.Faults.{first_fault};
 ghost use Rattle.ps_model.specs.names.LegendLines.{declared_by, declarations};
 ghost use Rattle.ps_model.specs.names.Meanings.{OfLine};
@@ -44,8 +44,8 @@ fn declare_line<'a>(
 ) -> Result<Declaration<'a>, Refusal>
     ensures part { IfOk result (λ declared. declared_by (line_shown line.now) ≡ Some (declaration_shown declared)) }
     ensures known { IfOk result (λ declared. known.new ≡ known.old ++ named_line (place, declaration_shown declared) ∷ []) }
-    ensures fine { OnOk result (faults_of_form (keys known.old) (line_shown line.now) ≡ []) }
-    ensures refused { IfErr result (λ e. (fault : TheFault) → e ≡ Refusal.Refused fault → first_fault (faults_of_form (keys known.old) (line_shown line.now)) ≡ Some fault) }
+    ensures fine { OnOk result (legend_form_faults (keys known.old) (line_shown line.now) ≡ []) }
+    ensures refused { IfErr result (λ e. (fault : TheFault) → e ≡ Refusal.Refused fault → first_fault (legend_form_faults (keys known.old) (line_shown line.now)) ≡ Some fault) }
 {
     let number = line.number;
     if declare_if(alloc, known, name_declared(line), Mention::Line(place))? {

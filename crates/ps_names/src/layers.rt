@@ -7,7 +7,7 @@ ghost use Rattle.std.specs.Str.{bytes_eq};
 ghost use Rattle.std.specs.Map.{lookup};
 ghost use Rattle.ps_model.specs.names.DeclarationFaults.{faults_of_layer, layer_faults};
 ghost use Rattle.ps_model.specs.text.Faults.{first_fault};
-ghost use Rattle.ps_model.specs.names.LayerLines.{layers_of_lines, objects_named, layers_found};
+ghost use Rattle.ps_model.specs.names.LayerLines.{layers_of_lines, objects_of_layer, layers_found};
 ghost use Rattle.ps_model.specs.declared.limits.TheConstants.{LAYER_LIMIT};
 ghost use Rattle.ps_model.specs.text.Lines.{folded};
 ghost use Rattle.ps_model.specs.names.Meanings.{is_aggregate};
@@ -188,7 +188,7 @@ fn place_meaning(places: &mut [Option<u32>], layer: u32, meaning: Option<&Meanin
 
 /// Puts on the layer of a number what its names stand for.
 fn place_layer(places: &mut [Option<u32>], number: u32, layer: &Layer<'_>)
-    ensures { places.new ≡ placed number places.old (objects_named (layer_shown layer.now)) }
+    ensures { places.new ≡ placed number places.old (objects_of_layer (layer_shown layer.now)) }
 {
     for meaning in &layer.named {
         place_meaning(places, number, *meaning);

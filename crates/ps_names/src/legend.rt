@@ -2,7 +2,7 @@
 
 ghost use Rattle.std.specs.Prelude.{◌≡◌, IfOk, option_map, map};
 ghost use Rattle.std.specs.List.{list_any};
-ghost use Rattle.ps_model.specs.names.LegendLines.{has_key_word, is_mixed, is_sign, joined_by, right_side, name_declared, declared_by};
+ghost use Rattle.ps_model.specs.names.LegendLines.{has_key_word, is_mixed, is_equals_sign, joined_by, right_side, name_declared, declared_by};
 ghost use Rattle.ps_text.specs.WordViews.{text_of};
 ghost use Rattle.ps_names.specs.LegendShown.{side_shown, declaration_shown};
 ghost use Rattle.ps_names.specs.LinesShown.{line_shown};
@@ -116,14 +116,14 @@ pub fn name_declared<'a>(line: &WrittenLine<'a>) -> Option<&'a str>
 
 /// Whether a word is `=`, the sign that parts a line's two sides.
 fn is_sign(word: &str) -> bool
-    ensures { result ≡ is_sign word.now }
+    ensures { result ≡ is_equals_sign word.now }
 {
     word == "="
 }
 
 /// Whether the sign is among words.
 fn has_sign(words: &[Word<'_>]) -> bool
-    ensures { result ≡ list_any is_sign (map text_of words.now) }
+    ensures { result ≡ list_any is_equals_sign (map text_of words.now) }
 {
     for word in words {
         if is_sign(word.text()) {

@@ -46,7 +46,7 @@ fn is_sprite_row(alloc: Global, source: &Source, line: u32) -> Result<bool, Memo
     requires there { line ≤ length (lines_of source.now) }
     ensures { IfOk result (λ row. row ≡ is_sprite_row (line_at source.now line)) }
 {
-    let words = words(alloc, source, line, Cut::Plain)?;
+    let words = words(alloc, source, line, Cut::Blanks)?;
     if words.len() != 1 {
         return Ok(false);
     }
@@ -108,7 +108,7 @@ fn over<'a>(
         return Ok(0);
     }
     let below = lines_below(alloc, source, &lines[1..])?;
-    let words = words(alloc, source, line, Cut::Plain)?;
+    let words = words(alloc, source, line, Cut::Blanks)?;
     made.push(ObjectText { line, words, below })?;
     Ok(below)
 }

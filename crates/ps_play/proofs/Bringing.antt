@@ -8,7 +8,7 @@ use Rattle.ps_model.specs.declared.play.Ending.{Ending}
 use Rattle.ps_model.specs.declared.play.Ending.TheVariants.{EndOfKeys}
 use Rattle.ps_model.specs.names.Names.{Names}
 use Rattle.ps_model.specs.board.Grid.{Grid}
-use Rattle.ps_model.specs.game.PlainOutput.{output, output_from, opening}
+use Rattle.ps_model.specs.game.PlainOutput.{plain_output, output_from, opening}
 use Rattle.ps_model.specs.game.Outputs.{Output, after_text, end_of_keys_line}
 use Rattle.ps_model.specs.game.PlainGames.{PlainGame, plain_game}
 use Rattle.ps_model.specs.board.Levels.{loaded}
@@ -104,7 +104,7 @@ answered text game (Some all) (Some before) new ending is (behind, grows, brings
   game,
   is,
   λ heard.
-      let whole : output game all ≡ record { written = opening game ++ behind; ending = ending } =
+      let whole : plain_output game all ≡ record { written = opening game ++ behind; ending = ending } =
       ap (after_text (opening game)) (ap (output_from game.names (loaded game.names game.level)) (keys_of-heard all heard) ∙ brings) in
       (grows ∙ ap (λ (out : Output). Some (before ++ out.written)) (sym whole), ap (λ (out : Output). out.ending) (sym whole)),
 )

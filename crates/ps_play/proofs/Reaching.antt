@@ -10,7 +10,7 @@ use Rattle.ps_model.specs.names.Names.{Names}
 use Rattle.ps_model.specs.board.Grid.{Grid}
 use Rattle.ps_model.specs.session.Frames.{frame}
 use Rattle.ps_model.specs.session.Keys.{key_of, leading_arrow, keys_behind, keys_of}
-use Rattle.ps_model.specs.game.PlainOutput.{turned}
+use Rattle.ps_model.specs.game.PlainOutput.{grid_after_input}
 use Rattle.ps_model.specs.game.Outputs.{Output, after_text}
 use Rattle.ps_play.specs.Runs.{keys_apart, is_not_yet, are_heard, StepsTo, Reaches, Outputs, Brings}
 
@@ -23,8 +23,8 @@ pub reached_then : (names : Names) (g : Grid) (keys : List Key) (text : List ℕ
     Reaches names g keys text mid → Outputs names mid more behind ending → Outputs names g (keys ++ more) (text ++ behind) ending
 reached_then names g [] text mid more behind ending reached outputs = rw (reached.0) (rw (← reached.1) outputs)
 reached_then names g (Move input ∷ keys) text mid more behind ending (rest, is, reached) outputs =
-    ap (after_text (frame names (turned names input g))) (reached_then names (turned names input g) keys rest mid more behind ending reached outputs)
-    ∙ out_with ending (sym (append_assoc (frame names (turned names input g)) rest behind) ∙ ap (λ (t : List ℕ). t ++ behind) (sym is))
+    ap (after_text (frame names (grid_after_input names input g))) (reached_then names (grid_after_input names input g) keys rest mid more behind ending reached outputs)
+    ∙ out_with ending (sym (append_assoc (frame names (grid_after_input names input g)) rest behind) ∙ ap (λ (t : List ℕ). t ++ behind) (sym is))
 reached_then names g (Undo ∷ keys) text mid more behind ending reached outputs = reached_then names g keys text mid more behind ending reached outputs
 reached_then names g (Restart ∷ keys) text mid more behind ending reached outputs = reached_then names g keys text mid more behind ending reached outputs
 reached_then names g (Quit ∷ keys) text mid more behind ending reached outputs = absurd reached
@@ -34,14 +34,14 @@ pub reached_twice : (names : Names) (g : Grid) (keys : List Key) (text : List �
     Reaches names g keys text mid → Reaches names mid more behind next → Reaches names g (keys ++ more) (text ++ behind) next
 reached_twice names g [] text mid more behind next first second = rw first.0 (rw (← first.1) second)
 reached_twice names g (Move input ∷ keys) text mid more behind next (rest, is, reached) second =
-    (rest ++ behind, ap (λ (t : List ℕ). t ++ behind) is ∙ append_assoc (frame names (turned names input g)) rest behind, reached_twice names (turned names input g) keys rest mid more behind next reached second)
+    (rest ++ behind, ap (λ (t : List ℕ). t ++ behind) is ∙ append_assoc (frame names (grid_after_input names input g)) rest behind, reached_twice names (grid_after_input names input g) keys rest mid more behind next reached second)
 reached_twice names g (Undo ∷ keys) text mid more behind next first second = reached_twice names g keys text mid more behind next first second
 reached_twice names g (Restart ∷ keys) text mid more behind next first second = reached_twice names g keys text mid more behind next first second
 reached_twice names g (Quit ∷ keys) text mid more behind next first second = absurd first
 
 -- a key without an ending
 step_reaches : (names : Names) (g : Grid) (key : Key) (next : Grid) (text : List ℕ) → StepsTo names g key next text None → Reaches names g (key ∷ []) text next
-step_reaches names g (Move input) next text steps = ([], steps.1 ∙ ap (frame names) steps.0 ∙ sym (append-nil (frame names (turned names input g))), (refl, steps.0))
+step_reaches names g (Move input) next text steps = ([], steps.1 ∙ ap (frame names) steps.0 ∙ sym (append-nil (frame names (grid_after_input names input g))), (refl, steps.0))
 step_reaches names g Undo next text steps = (steps.1, steps.0)
 step_reaches names g Restart next text steps = (steps.1, steps.0)
 step_reaches names g Quit next text steps = absurd (let e = steps.2 in cc)

@@ -10,7 +10,7 @@ use Rattle.ps_model.specs.board.Grid.{Grid}
 use Rattle.ps_model.specs.session.Frames.{frame}
 use Rattle.ps_model.specs.session.Keys.{key_of}
 use Rattle.ps_model.specs.game.PlainGames.{PlainGame, plain_game}
-use Rattle.ps_model.specs.game.PlainOutput.{turned, output_from, output}
+use Rattle.ps_model.specs.game.PlainOutput.{grid_after_input, output_from, plain_output}
 use Rattle.ps_model.specs.game.Outputs.{quit_line}
 use Rattle.ps_play.specs.declared.run.RunFault.{RunFault}
 
@@ -28,7 +28,7 @@ are_heard bytes = not (list_any is_not_yet bytes)
 
 -- a key takes the grid to the next, with a text and perhaps an ending
 abbrev pub StepsTo : Names → Grid → Key → Grid → List ℕ → Option Ending → Type 0
-StepsTo names g (Move input) next text ending = (next ≡ turned names input g) × (text ≡ frame names next) × (ending ≡ None)
+StepsTo names g (Move input) next text ending = (next ≡ grid_after_input names input g) × (text ≡ frame names next) × (ending ≡ None)
 StepsTo names g Undo next text ending = (next ≡ g) × (text ≡ []) × (ending ≡ None)
 StepsTo names g Restart next text ending = (next ≡ g) × (text ≡ []) × (ending ≡ None)
 StepsTo names g Quit next text ending = (next ≡ g) × (text ≡ quit_line) × (ending ≡ Some Quits)
@@ -36,7 +36,7 @@ StepsTo names g Quit next text ending = (next ≡ g) × (text ≡ quit_line) × 
 -- keys take the grid to the next without an ending, with a text
 abbrev pub Reaches : Names → Grid → List Key → List ℕ → Grid → Type 0
 Reaches names g [] text next = (text ≡ []) × (next ≡ g)
-Reaches names g (Move input ∷ keys) text next = (rest : List ℕ) × (text ≡ frame names (turned names input g) ++ rest) × Reaches names (turned names input g) keys rest next
+Reaches names g (Move input ∷ keys) text next = (rest : List ℕ) × (text ≡ frame names (grid_after_input names input g) ++ rest) × Reaches names (grid_after_input names input g) keys rest next
 Reaches names g (Undo ∷ keys) text next = Reaches names g keys text next
 Reaches names g (Restart ∷ keys) text next = Reaches names g keys text next
 Reaches names g (Quit ∷ keys) text next = ⊥
@@ -56,5 +56,5 @@ Brings names g keys next text (Some ending) = (more : List Key) → Outputs name
 -- that game on those bytes and nothing else, and the ending is the output's
 abbrev pub Answers : List ℕ → List ℕ → List ℕ → Option (List ℕ) → Result Ending RunFault → Type 0
 Answers text all before told (Ok ending) =
-    (game : PlainGame) × (plain_game text ≡ Some game) × (are_heard all ≡ true → (told ≡ Some (before ++ (output game all).written)) × (ending ≡ (output game all).ending))
+    (game : PlainGame) × (plain_game text ≡ Some game) × (are_heard all ≡ true → (told ≡ Some (before ++ (plain_output game all).written)) × (ending ≡ (plain_output game all).ending))
 Answers text all before told (Err fault) = Unit {0}

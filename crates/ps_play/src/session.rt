@@ -3,7 +3,7 @@
 ghost use Rattle.std.specs.Prelude.{◌≡◌, ◌++◌, OnOk, IfOk, List, ℕ};
 ghost use Rattle.ps_model.specs.board.Levels.{loaded};
 ghost use Rattle.ps_model.specs.session.Frames.{frame};
-ghost use Rattle.ps_model.specs.game.PlainOutput.{opening, turned};
+ghost use Rattle.ps_model.specs.game.PlainOutput.{opening, grid_after_input};
 ghost use Rattle.ps_play.specs.Playable.{IsPlayable};
 ghost use Rattle.ps_play.specs.Runs.{StepsTo};
 
@@ -75,7 +75,7 @@ impl<'g, B: Board> Session<'g, B> {
     /// Gives an input to every Player, moves the objects, and adds a frame.
     fn act(&mut self, input: Input, screen: &mut Screen) -> Result<(), Memory>
         ensures game { self.new.game.now ≡ self.old.game.now }
-        ensures moved { B.grid self.new.board ≡ turned self.old.game.now.names input (B.grid self.old.board) }
+        ensures moved { B.grid self.new.board ≡ grid_after_input self.old.game.now.names input (B.grid self.old.board) }
         ensures shown { OnOk result (screen.new ≡ screen.old ++ frame self.old.game.now.names (B.grid self.new.board)) }
     {
         let game = self.game;

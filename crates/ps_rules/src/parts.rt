@@ -2,7 +2,7 @@
 
 ghost use Rattle.std.specs.Prelude.{◌≡◌, IfOk, map};
 ghost use Rattle.std.specs.List.{slice_split};
-ghost use Rattle.ps_model.specs.rules.RuleTree.{cell_of, is_gap, row_of_cells};
+ghost use Rattle.ps_model.specs.rules.RuleTree.{pair_of, is_gap, row_of_cells};
 ghost use Rattle.ps_rules.specs.CellsShown.{words_shown, cells_shown, cell_rows_shown, cell_parts_shown};
 ghost use Rattle.ps_rules.specs.RulesShown.{cell_shown, part_shown, tree_row_shown, tree_rows_shown};
 
@@ -15,7 +15,7 @@ use std::alloc::{AllocError, Global};
 
 /// A cell by its words.
 fn cell_of(alloc: Global, cell: WrittenCell<'_, '_>) -> Result<CellPair, Memory>
-    ensures { IfOk result (λ made. cell_shown made ≡ cell_of (words_shown cell.entry)) }
+    ensures { IfOk result (λ made. cell_shown made ≡ pair_of (words_shown cell.entry)) }
 {
     let left = items_of(alloc, cell.left)?;
     let right = items_of(alloc, cell.right)?;
@@ -24,7 +24,7 @@ fn cell_of(alloc: Global, cell: WrittenCell<'_, '_>) -> Result<CellPair, Memory>
 
 /// The cells of a part of a row.
 fn part_of(alloc: Global, cells: &[WrittenCell<'_, '_>]) -> Result<List<CellPair>, Memory>
-    ensures { IfOk result (λ part. part_shown part ≡ map cell_of (cells_shown cells.now)) }
+    ensures { IfOk result (λ part. part_shown part ≡ map pair_of (cells_shown cells.now)) }
 {
     let mut made = Vec::new(alloc);
     for cell in cells {

@@ -1,7 +1,7 @@
 //! What stands on a side of a rule.
 
 ghost use Rattle.std.specs.Prelude.{◌≡◌};
-ghost use Rattle.ps_model.specs.rules.RuleShape.{has_kind, has_rows, at_end, words_behind, words_in_cells, before_end, cells_in};
+ghost use Rattle.ps_model.specs.rules.RuleShape.{has_kind, has_rows, at_end, words_behind, words_in_cells, before_end, cells_of_side};
 ghost use Rattle.ps_model.specs.rules.RuleShapeFaults.{are_there, misses_name, asks_for_name, is_name, has_wrong_cell};
 ghost use Rattle.std.specs.List.{list_any};
 ghost use Rattle.ps_rules.specs.Kinds.{is_kind, parts_shown};
@@ -150,7 +150,7 @@ fn some_misses_name(cells: &[&[Token<'_>]]) -> bool
 
 /// Whether in a cell of the side a movement word or `no` has no name right behind it.
 fn misses_name_in_cells(side: &WrittenSide<'_, '_>) -> bool
-    ensures { result ≡ list_any misses_name (cells_in (side_shown side.now)) }
+    ensures { result ≡ list_any misses_name (cells_of_side (side_shown side.now)) }
 {
     for row in side.rows.as_slice() {
         if some_misses_name(&row.cells) {

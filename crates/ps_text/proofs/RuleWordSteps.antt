@@ -6,7 +6,7 @@ use Rattle.std.proofs.lemmas.Bool.Decides.{nat_tests}
 use Rattle.std.proofs.lemmas.Grind.{common_steps}
 use Rattle.std.proofs.lemmas.List.{drop_all, drop-drop}
 use Rattle.ps_model.specs.text.Words.{is_blank, run_to}
-use Rattle.ps_model.specs.text.RuleWords.{rule_words_from, rule_words_in, words_behind_plus, own_length, begins_arrow, is_alone, is_bracket_or_bar, is_sign}
+use Rattle.ps_model.specs.text.RuleWords.{rule_words_from, rule_words_in, words_behind_plus, own_length, begins_arrow, is_own_word, is_bracket_or_bar, is_sign}
 use Rattle.ps_text.specs.Places.{rule_words_behind}
 
 -- no `->` at the last byte
@@ -65,7 +65,7 @@ pub rule_run_ends_at_blank : (line : List ℕ) (start at : ℕ) → at < length 
 rule_run_ends_at_blank line start at l h = rw (drop-cons line at 0 l, rule_words_from, h) refl
 
 -- what is a word by itself within a word is one also between words
-mark_between : (byte : ℕ) → is_alone true byte ≡ true → is_alone false byte ≡ true
+mark_between : (byte : ℕ) → is_own_word true byte ≡ true → is_own_word false byte ≡ true
 mark_between byte h = by_tests (is_bracket_or_bar byte) (is_sign byte) h
   where
     by_tests : (bracket sign : Bool) → (bracket || (sign && false)) ≡ true → (bracket || (sign && true)) ≡ true
@@ -74,7 +74,7 @@ mark_between byte h = by_tests (is_bracket_or_bar byte) (is_sign byte) h
     by_tests false false h = h
 
 own_between : (own byte : ℕ) (bytes : List ℕ) → own_length true (byte ∷ bytes) ≡ suc own → own_length false (byte ∷ bytes) ≡ suc own
-own_between own byte bytes h = by_tests (begins_arrow (byte ∷ bytes)) (is_alone true byte) (is_alone false byte) (mark_between byte) h
+own_between own byte bytes h = by_tests (begins_arrow (byte ∷ bytes)) (is_own_word true byte) (is_own_word false byte) (mark_between byte) h
   where
     by_tests : (arrow within between : Bool) → (within ≡ true → between ≡ true) → (if arrow then 2 else (if within then 1 else 0)) ≡ suc own → (if arrow then 2 else (if between then 1 else 0)) ≡ suc own
     by_tests true within between m h = h
@@ -147,6 +147,6 @@ pub first_other : (line : List ℕ) (start : ℕ) → start ≡ 0 + prefix_len i
 first_other line start e l h = starts_there line start e ∙ rw (drop-cons line start 0 l, h) refl
 
 -- marks are ASCII
-pub mark_is_ascii : (within : Bool) (byte : ℕ) → is_alone within byte ≡ true → byte < 128
+pub mark_is_ascii : (within : Bool) (byte : ℕ) → is_own_word within byte ≡ true → byte < 128
 mark_is_ascii true byte h = grind (arith, nat_tests)
 mark_is_ascii false byte h = grind (arith, nat_tests)

@@ -3,7 +3,7 @@ use Rattle.std.proofs.Common.{◌≡◌, ℕ, ◌+◌, ◌<◌, ◌==◌, ◌||�
 use Rattle.std.proofs.lemmas.Bool.Decides.{nat_tests}
 use Rattle.std.proofs.lemmas.List.{drop_all}
 use Rattle.ps_model.specs.declared.texts.Cut.{Cut}
-use Rattle.ps_model.specs.declared.texts.Cut.TheVariants.{Plain, Legend, Layers, Rule}
+use Rattle.ps_model.specs.declared.texts.Cut.TheVariants.{Blanks, Legend, Layers, Rule}
 use Rattle.ps_model.specs.text.Words.{is_blank, parts_words, stands_alone, words_from}
 
 -- a byte that parts words is read past
@@ -47,13 +47,13 @@ no_word cut line = let e : drop (length line) line ≡ [] = drop_all (length lin
 
 -- bytes that part words or are words are ASCII
 pub parting_is_ascii : (cut : Cut) (byte : ℕ) → parts_words cut byte ≡ true → byte < 128
-parting_is_ascii Plain byte h = grind (arith, nat_tests)
+parting_is_ascii Blanks byte h = grind (arith, nat_tests)
 parting_is_ascii Legend byte h = grind (arith, nat_tests)
 parting_is_ascii Layers byte h = grind (arith, nat_tests)
 parting_is_ascii Rule byte h = grind (arith, nat_tests)
 
 pub alone_is_ascii : (cut : Cut) (byte : ℕ) → stands_alone cut byte ≡ true → byte < 128
-alone_is_ascii Plain byte h = grind (arith, nat_tests)
+alone_is_ascii Blanks byte h = grind (arith, nat_tests)
 alone_is_ascii Legend byte h = grind (arith, nat_tests)
 alone_is_ascii Layers byte h = grind (arith, nat_tests)
 alone_is_ascii Rule byte h = grind (arith, nat_tests)
@@ -64,7 +64,7 @@ neither false b h = refl
 
 -- a byte that parts no words is no blank
 pub no_parting_no_blank : (cut : Cut) (byte : ℕ) → parts_words cut byte ≡ false → is_blank byte ≡ false
-no_parting_no_blank Plain byte h = h
+no_parting_no_blank Blanks byte h = h
 no_parting_no_blank Legend byte h = h
 no_parting_no_blank Layers byte h = neither (is_blank byte) (byte == 44) h
 no_parting_no_blank Rule byte h = h

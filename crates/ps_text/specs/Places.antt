@@ -2,7 +2,7 @@
 use Rattle.std.specs.Prelude.{ℕ, ◌≡◌, ◌+◌, ◌≤◌, ◌<◌, false, Option, Some, None, List, [], ◌∷◌, length, drop, slice_index}
 use Rattle.std.specs.Str.{IsCharBoundary}
 use Rattle.ps_model.specs.declared.texts.Cut.{Cut}
-use Rattle.ps_model.specs.declared.texts.Cut.TheVariants.{Plain, Legend, Layers, Rule}
+use Rattle.ps_model.specs.declared.texts.Cut.TheVariants.{Blanks, Legend, Layers, Rule}
 use Rattle.ps_model.specs.text.Words.{is_blank, words_from}
 use Rattle.ps_model.specs.text.RuleWords.{rule_words_from}
 use Rattle.ps_text.specs.declared.scan.Place.{Place}
@@ -23,7 +23,7 @@ rule_words_with line (Some place) = (place.start, place.end) ∷ rule_words_behi
 
 -- the words of a line under any cut from a place on that stands between words
 abbrev pub words_behind : Cut → List ℕ → ℕ → List (ℕ × ℕ)
-words_behind Plain line place = words_from Plain place None (drop place line)
+words_behind Blanks line place = words_from Blanks place None (drop place line)
 words_behind Legend line place = words_from Legend place None (drop place line)
 words_behind Layers line place = words_from Layers place None (drop place line)
 words_behind Rule line place = rule_words_behind line place

@@ -66,7 +66,7 @@ fn first_under(line: &[u8], cut: Cut) -> Option<Place>
     ensures place { IfSome result (IsWordPlace line.now 0) }
 {
     match cut {
-        Cut::Plain | Cut::Legend | Cut::Layers => next_word(line, cut, 0),
+        Cut::Blanks | Cut::Legend | Cut::Layers => next_word(line, cut, 0),
         Cut::Rule => first_rule_word(line),
     }
 }
@@ -79,7 +79,7 @@ fn next_under(line: &[u8], cut: Cut, from: usize) -> Option<Place>
     ensures place { IfSome result (IsWordPlace line.now from) }
 {
     match cut {
-        Cut::Plain | Cut::Legend | Cut::Layers => next_word(line, cut, from),
+        Cut::Blanks | Cut::Legend | Cut::Layers => next_word(line, cut, from),
         Cut::Rule => next_rule_word(line, from),
     }
 }

@@ -48,10 +48,10 @@ pub fn header_of_line(line: &[u8]) -> Option<Section>
     requires { IsUtf8 line.now }
     ensures { result ≡ header_of line.now }
 {
-    let Some(first) = next_word(line, Cut::Plain, 0) else {
+    let Some(first) = next_word(line, Cut::Blanks, 0) else {
         return None;
     };
-    let second = next_word(line, Cut::Plain, first.end);
+    let second = next_word(line, Cut::Blanks, first.end);
     if second.is_some() {
         return None;
     }

@@ -90,7 +90,7 @@ fn trimmed(raw: &str, region: Place) -> Place
     ensures place { IsTextPlace raw.now result }
 {
     let front = raw[..region.end].as_bytes();
-    let start = past_parting(front, Cut::Plain, region.start);
+    let start = past_parting(front, Cut::Blanks, region.start);
     let end = blank_end(front, start);
     Place { start, end }
 }

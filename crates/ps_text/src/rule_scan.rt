@@ -82,7 +82,7 @@ pub fn next_rule_word(line: &[u8], from: usize) -> Option<Place>
     ensures words { rule_words_behind line.now from ≡ rule_words_with line.now result }
     ensures place { IfSome result (IsWordPlace line.now from) }
 {
-    let start = past_parting(line, Cut::Plain, from);
+    let start = past_parting(line, Cut::Blanks, from);
     if start == line.len() {
         return None;
     }
@@ -101,7 +101,7 @@ pub fn first_rule_word(line: &[u8]) -> Option<Place>
     ensures words { rules.rule_words_in line.now ≡ rule_words_with line.now result }
     ensures place { IfSome result (IsWordPlace line.now 0) }
 {
-    let start = past_parting(line, Cut::Plain, 0);
+    let start = past_parting(line, Cut::Blanks, 0);
     if start == line.len() {
         return None;
     }

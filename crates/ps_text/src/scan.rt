@@ -27,7 +27,7 @@ pub fn parts(cut: Cut, byte: u8) -> bool
     ensures { result ≡ parts_words cut byte }
 {
     match cut {
-        Cut::Plain | Cut::Legend | Cut::Rule => is_blank_byte(byte),
+        Cut::Blanks | Cut::Legend | Cut::Rule => is_blank_byte(byte),
         Cut::Layers => is_blank_byte(byte) || byte == b',',
     }
 }
@@ -37,7 +37,7 @@ pub fn is_alone(cut: Cut, byte: u8) -> bool
     ensures { result ≡ stands_alone cut byte }
 {
     match cut {
-        Cut::Plain | Cut::Layers => false,
+        Cut::Blanks | Cut::Layers => false,
         Cut::Legend => byte == b'=',
         Cut::Rule => byte == b'[' || byte == b']' || byte == b'|',
     }

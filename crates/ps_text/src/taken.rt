@@ -40,7 +40,7 @@ fn title_end(plain: &[u8]) -> Option<usize>
     ensures place { result ≡ lines.end_of_first plain.now (codes "title" ∷ codes "author" ∷ codes "homepage" ∷ []) }
     ensures start { IfSome result (IsTextStart plain.now) }
 {
-    let Some(first) = next_word(plain, Cut::Plain, 0) else {
+    let Some(first) = next_word(plain, Cut::Blanks, 0) else {
         return None;
     };
     if !is_title_word(&plain[first.start..first.end]) {
@@ -55,7 +55,7 @@ fn message_end(plain: &[u8]) -> Option<usize>
     ensures place { result ≡ lines.end_of_first plain.now (codes "message" ∷ []) }
     ensures start { IfSome result (IsTextStart plain.now) }
 {
-    let Some(first) = next_word(plain, Cut::Plain, 0) else {
+    let Some(first) = next_word(plain, Cut::Blanks, 0) else {
         return None;
     };
     if !is_message_word(&plain[first.start..first.end]) {

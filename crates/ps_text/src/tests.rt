@@ -51,7 +51,7 @@ fn reads_words_of_lines(rt: HostRuntime) -> Result<(), Fail> {
     );
     expect_texts(
         &rt,
-        words(rt.alloc(), &source, 27, Cut::Plain)?.as_slice(),
+        words(rt.alloc(), &source, 27, Cut::Blanks)?.as_slice(),
         &["Player,", "Wall,", "Crate"],
     );
     expect_texts(
@@ -142,10 +142,10 @@ fn reads_past_comments(rt: HostRuntime) -> Result<(), Fail> {
     assert_eq!(rt; source.visible(8), "  h ");
     expect_texts(
         &rt,
-        words(rt.alloc(), &source, 1, Cut::Plain)?.as_slice(),
+        words(rt.alloc(), &source, 1, Cut::Blanks)?.as_slice(),
         &["a", "e)"],
     );
-    let late = words(rt.alloc(), &source, 7, Cut::Plain)?;
+    let late = words(rt.alloc(), &source, 7, Cut::Blanks)?;
     assert_eq!(rt;
         late.first().map(|word| word.span()),
         Some(Span {
@@ -223,7 +223,7 @@ fn reads_texts_of_any_length(rt: HostRuntime) -> Result<(), Fail> {
     let marks = Source::read(rt.alloc(), bytes_of(rt.alloc(), b'>', 1048576)?.as_slice())?;
     assert!(rt; marks.lines() == 1);
     assert_eq!(rt; words(rt.alloc(), &marks, 1, Cut::Rule)?.len(), 1048576);
-    assert_eq!(rt; words(rt.alloc(), &marks, 1, Cut::Plain)?.len(), 1);
+    assert_eq!(rt; words(rt.alloc(), &marks, 1, Cut::Blanks)?.len(), 1);
     let none = Source::read(rt.alloc(), b"")?;
     assert!(rt; none.lines() == 1);
     assert!(rt; none.is_there(1) && none.is_blank_line(1) && none.rest(1).is_none());

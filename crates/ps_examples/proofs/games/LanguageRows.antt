@@ -5,6 +5,8 @@ use Rattle.std.specs.Str.{chars, is_utf8}
 use Rattle.std.specs.Str.Lossy.{utf8_valid_len}
 use Rattle.std.specs.Fmt.{digits}
 use Rattle.std.proofs.Math.Utf8.{encode}
+use Rattle.ps_model.specs.board.Turns.{turn}
+use Rattle.ps_model.specs.game.Outputs.{opening_step}
 use Rattle.ps_model.specs.declared.faults.Fault.{Fault}
 use Rattle.ps_model.specs.declared.faults.FaultKind.TheVariants as kind
 use Rattle.ps_model.specs.declared.limits.TheConstants.{TEXT_LIMIT}
@@ -27,7 +29,7 @@ the_game = base_game (codes "[ > Player | Crate ] -> [ > Player | > Crate ]\n") 
 -- LANGUAGE.md: lines, levels and rules ---------------------------------------------------------------------------------------
 
 whole_game : written the_game (codes "d") ≡ Some (codes "= T\n# level 1\n#P*O#\n\n#.P@#\n\n* level 1 done\n* the end\n")
-unfolding chars digits is_utf8 utf8_valid_len encode group program_run all_start_turns all_key_turns
+unfolding chars digits is_utf8 utf8_valid_len encode group program_run all_start_turns all_key_turns turn opening_step
 whole_game = refl
 
 -- what this version plays
@@ -37,7 +39,7 @@ not_yet = refl
 
 comment_in_object : written (changed 14 1 (codes "(a little\n\nred fruit)\nred\n") (base_game [] [] (codes "P\n"))) []
     ≡ Some (codes "= T\n# level 1\nP\n\n* end of keys\n")
-unfolding chars digits is_utf8 utf8_valid_len encode group program_run all_start_turns all_key_turns
+unfolding chars digits is_utf8 utf8_valid_len encode group program_run all_start_turns all_key_turns turn opening_step
 comment_in_object = refl
 
 three_entries : option_map (λ found. length found.entries) (game (changed 34 1 (codes "message Push!\n#P*O\n###\n\n@P\n") the_game)) ≡ Some 3
@@ -46,7 +48,7 @@ three_entries = refl
 
 rows_of_entries : written (changed 34 1 (codes "message Push!\n#P*O\n###\n\n@P\n") the_game) (codes "xd")
     ≡ Some (codes "= T\n! Push!\n# level 1\n#P*O\n####\n\n#.P@\n####\n\n* level 1 done\n# level 2\n@P\n\n* end of keys\n")
-unfolding chars digits is_utf8 utf8_valid_len encode group program_run all_start_turns all_key_turns
+unfolding chars digits is_utf8 utf8_valid_len encode group program_run all_start_turns all_key_turns turn opening_step
 rows_of_entries = refl
 
 rule_line : refused (changed 30 1 (codes "late right [ Player | Crate ] [ no A ] -> [ Player | ] [ A ] again\n") the_game) ≡ None
@@ -55,146 +57,146 @@ rule_line = refl
 
 rule_without_blanks : written (changed 30 1 (codes "[>Player|Crate]->[>Player|>Crate]\n") the_game) (codes "d")
     ≡ Some (codes "= T\n# level 1\n#P*O#\n\n#.P@#\n\n* level 1 done\n* the end\n")
-unfolding chars digits is_utf8 utf8_valid_len encode group program_run all_start_turns all_key_turns
+unfolding chars digits is_utf8 utf8_valid_len encode group program_run all_start_turns all_key_turns turn opening_step
 rule_without_blanks = refl
 
 rule_on_row : written (base_game (codes "[ A ] -> [ B ]\n") [] (codes "A\n")) (codes "x") ≡ Some (codes "= T\n# level 1\nA\n\nB\n\n* end of keys\n")
-unfolding chars digits is_utf8 utf8_valid_len encode group program_run all_start_turns all_key_turns
+unfolding chars digits is_utf8 utf8_valid_len encode group program_run all_start_turns all_key_turns turn opening_step
 rule_on_row = refl
 
 pushed_back : written (base_game (codes "[ > Player | Crate ] -> [ < Player | Crate ]\n") [] (codes ".P*\n")) (codes "d")
     ≡ Some (codes "= T\n# level 1\n.P*\n\nP.*\n\n* end of keys\n")
-unfolding chars digits is_utf8 utf8_valid_len encode group program_run all_start_turns all_key_turns
+unfolding chars digits is_utf8 utf8_valid_len encode group program_run all_start_turns all_key_turns turn opening_step
 pushed_back = refl
 
 move_is_gone : written (base_game (codes "[ > Player | Crate ] -> [ Player | > Crate ]\n") [] (codes "P*.\n")) (codes "d")
     ≡ Some (codes "= T\n# level 1\nP*.\n\nP.*\n\n* end of keys\n")
-unfolding chars digits is_utf8 utf8_valid_len encode group program_run all_start_turns all_key_turns
+unfolding chars digits is_utf8 utf8_valid_len encode group program_run all_start_turns all_key_turns turn opening_step
 move_is_gone = refl
 
 smallest_gap : written (base_game (codes "right [ A | ... | B ] -> [ | ... | C ]\n") [] (codes "AB..B\n")) (codes "x")
     ≡ Some (codes "= T\n# level 1\nAB..B\n\n.C..B\n\n* end of keys\n")
-unfolding chars digits is_utf8 utf8_valid_len encode group program_run all_start_turns all_key_turns
+unfolding chars digits is_utf8 utf8_valid_len encode group program_run all_start_turns all_key_turns turn opening_step
 smallest_gap = refl
 
 wide_gap : written (base_game (codes "right [ A | ... | B ] -> [ | ... | C ]\n") [] (codes "A...B\n")) (codes "x")
     ≡ Some (codes "= T\n# level 1\nA...B\n\n....C\n\n* end of keys\n")
-unfolding chars digits is_utf8 utf8_valid_len encode group program_run all_start_turns all_key_turns
+unfolding chars digits is_utf8 utf8_valid_len encode group program_run all_start_turns all_key_turns turn opening_step
 wide_gap = refl
 
 combinations : written (base_game (codes "[ A ] [ A ] -> [ B ] [ C ]\n") [] (codes "AA\n")) (codes "x") ≡ Some (codes "= T\n# level 1\nAA\n\nCC\n\n* end of keys\n")
-unfolding chars digits is_utf8 utf8_valid_len encode group program_run all_start_turns all_key_turns
+unfolding chars digits is_utf8 utf8_valid_len encode group program_run all_start_turns all_key_turns turn opening_step
 combinations = refl
 
 places_of_rounds : written (base_game (codes "right [ A | B ] -> [ B | A ]\n") [] (codes "ABB\n")) (codes "x")
     ≡ Some (codes "= T\n# level 1\nABB\n\nBBA\n\n* end of keys\n")
-unfolding chars digits is_utf8 utf8_valid_len encode group program_run all_start_turns all_key_turns
+unfolding chars digits is_utf8 utf8_valid_len encode group program_run all_start_turns all_key_turns turn opening_step
 places_of_rounds = refl
 
 object_for_object : written (base_game (codes "[ A ] -> [ Crate ]\n") [] (codes "A\n")) (codes "x") ≡ Some (codes "= T\n# level 1\nA\n\n*\n\n* end of keys\n")
-unfolding chars digits is_utf8 utf8_valid_len encode group program_run all_start_turns all_key_turns
+unfolding chars digits is_utf8 utf8_valid_len encode group program_run all_start_turns all_key_turns turn opening_step
 object_for_object = refl
 
 empty_cell_fits : written (base_game (codes "right [ A | ] -> [ | A ]\n") [] (codes "A#\n")) (codes "x") ≡ Some (codes "= T\n# level 1\nA#\n\n.A\n\n* end of keys\n")
-unfolding chars digits is_utf8 utf8_valid_len encode group program_run all_start_turns all_key_turns
+unfolding chars digits is_utf8 utf8_valid_len encode group program_run all_start_turns all_key_turns turn opening_step
 empty_cell_fits = refl
 
 no_takes_away : written (base_game (codes "[ Crate ] -> [ no Target ]\n") [] (codes "@\n")) (codes "x") ≡ Some (codes "= T\n# level 1\n@\n\n.\n\n* end of keys\n")
-unfolding chars digits is_utf8 utf8_valid_len encode group program_run all_start_turns all_key_turns
+unfolding chars digits is_utf8 utf8_valid_len encode group program_run all_start_turns all_key_turns turn opening_step
 no_takes_away = refl
 
 split : written (base_game (codes "right [ AT | AT ] -> [ | ]\n") [] (codes "AOA\n")) (codes "x") ≡ Some (codes "= T\n# level 1\nAOA\n\n..A\n\n* end of keys\n")
-unfolding chars digits is_utf8 utf8_valid_len encode group program_run all_start_turns all_key_turns
+unfolding chars digits is_utf8 utf8_valid_len encode group program_run all_start_turns all_key_turns turn opening_step
 split = refl
 
 own_cell : written (base_game (codes "right [ AT | AT ] -> [ | AT ]\n") [] (codes "AO\n")) (codes "x") ≡ Some (codes "= T\n# level 1\nAO\n\n.O\n\n* end of keys\n")
-unfolding chars digits is_utf8 utf8_valid_len encode group program_run all_start_turns all_key_turns
+unfolding chars digits is_utf8 utf8_valid_len encode group program_run all_start_turns all_key_turns turn opening_step
 own_cell = refl
 
 only_occurrence : written (base_game (codes "right [ AT | Crate ] -> [ | Crate AT ]\n") [] (codes "O*\n")) (codes "x")
     ≡ Some (codes "= T\n# level 1\nO*\n\n.@\n\n* end of keys\n")
-unfolding chars digits is_utf8 utf8_valid_len encode group program_run all_start_turns all_key_turns
+unfolding chars digits is_utf8 utf8_valid_len encode group program_run all_start_turns all_key_turns turn opening_step
 only_occurrence = refl
 
 loose : written (changed 23 1 (codes "AC = A or C\n") (base_game (codes "[ > Player | AC ] -> [ > Player | > AC ]\n") [] (codes "PC.\n"))) (codes "d")
     ≡ Some (codes "= T\n# level 1\nPC.\n\n.PC\n\n* end of keys\n")
-unfolding chars digits is_utf8 utf8_valid_len encode group program_run all_start_turns all_key_turns
+unfolding chars digits is_utf8 utf8_valid_len encode group program_run all_start_turns all_key_turns turn opening_step
 loose = refl
 
 moving : written (base_game (codes "[ moving Player | Crate ] -> [ moving Player | moving Crate ]\n") [] (codes "P*.\n")) (codes "xd")
     ≡ Some (codes "= T\n# level 1\nP*.\n\nP*.\n\n.P*\n\n* end of keys\n")
-unfolding chars digits is_utf8 utf8_valid_len encode group program_run all_start_turns all_key_turns
+unfolding chars digits is_utf8 utf8_valid_len encode group program_run all_start_turns all_key_turns turn opening_step
 moving = refl
 
 handed_on : written (base_game (codes "[ > Player | Crate ] -> [ > Player | > Crate ]\n[ > Crate | Crate ] -> [ > Crate | > Crate ]\n") [] (codes "P***.\n")) (codes "d")
     ≡ Some (codes "= T\n# level 1\nP***.\n\n.P***\n\n* end of keys\n")
-unfolding chars digits is_utf8 utf8_valid_len encode group program_run all_start_turns all_key_turns
+unfolding chars digits is_utf8 utf8_valid_len encode group program_run all_start_turns all_key_turns turn opening_step
 handed_on = refl
 
 between_rounds : written (base_game (codes "right [ A | B ] -> [ B | A ]\n+ [ A ] -> [ C ]\n") [] (codes "ABB\n")) (codes "x")
     ≡ Some (codes "= T\n# level 1\nABB\n\nBCB\n\n* end of keys\n")
-unfolding chars digits is_utf8 utf8_valid_len encode group program_run all_start_turns all_key_turns
+unfolding chars digits is_utf8 utf8_valid_len encode group program_run all_start_turns all_key_turns turn opening_step
 between_rounds = refl
 
 group_ends : written (base_game (codes "[ A ] -> [ B ]\n+ [ B ] -> [ A ]\n[ A ] -> [ C ]\n") [] (codes "A\n")) (codes "x")
     ≡ Some (codes "= T\n# level 1\nA\n\nC\n\n* end of keys\n")
-unfolding chars digits is_utf8 utf8_valid_len encode group program_run all_start_turns all_key_turns
+unfolding chars digits is_utf8 utf8_valid_len encode group program_run all_start_turns all_key_turns turn opening_step
 group_ends = refl
 
 loop_ends : written (base_game (codes "startloop\n[ C ] -> [ A ]\n[ B ] -> [ C ]\n[ A ] -> [ B ]\nendloop\n[ B ] -> [ D ]\n") [] (codes "A\n")) (codes "x")
     ≡ Some (codes "= T\n# level 1\nA\n\nB\n\n* end of keys\n")
-unfolding chars digits is_utf8 utf8_valid_len encode group program_run all_start_turns all_key_turns
+unfolding chars digits is_utf8 utf8_valid_len encode group program_run all_start_turns all_key_turns turn opening_step
 loop_ends = refl
 
 late : written (base_game (codes "[ A ] -> [ right A ]\nlate [ A | Wall ] -> [ B | Wall ]\n") [] (codes "A.#\n")) (codes "x")
     ≡ Some (codes "= T\n# level 1\nA.#\n\n.B#\n\n* end of keys\n")
-unfolding chars digits is_utf8 utf8_valid_len encode group program_run all_start_turns all_key_turns
+unfolding chars digits is_utf8 utf8_valid_len encode group program_run all_start_turns all_key_turns turn opening_step
 late = refl
 
 cancel : written (base_game (codes "[ > Player | Wall ] -> cancel message Stop\n[ > Player | Wall ] -> win\n") [] (codes "P#\n")) (codes "d")
     ≡ Some (codes "= T\n# level 1\nP#\n\nP#\n\n! Stop\n* end of keys\n")
-unfolding chars digits is_utf8 utf8_valid_len encode group program_run all_start_turns all_key_turns
+unfolding chars digits is_utf8 utf8_valid_len encode group program_run all_start_turns all_key_turns turn opening_step
 cancel = refl
 
 least_enters : written (base_game (codes "[ A ] -> [ right A ]\n[ B ] -> [ left B ]\n[ C ] -> [ up C ]\n[ D ] -> [ down D ]\n") [] (codes "A.B\n")) (codes "x")
     ≡ Some (codes "= T\n# level 1\nA.B\n\n.AB\n\n* end of keys\n")
-unfolding chars digits is_utf8 utf8_valid_len encode group program_run all_start_turns all_key_turns
+unfolding chars digits is_utf8 utf8_valid_len encode group program_run all_start_turns all_key_turns turn opening_step
 least_enters = refl
 
 above_enters : written (base_game (codes "[ A ] -> [ right A ]\n[ B ] -> [ left B ]\n[ C ] -> [ up C ]\n[ D ] -> [ down D ]\n") [] (codes "...\nACB\n")) (codes "x")
     ≡ Some (codes "= T\n# level 1\n...\nACB\n\n.C.\nAB.\n\n* end of keys\n")
-unfolding chars digits is_utf8 utf8_valid_len encode group program_run all_start_turns all_key_turns
+unfolding chars digits is_utf8 utf8_valid_len encode group program_run all_start_turns all_key_turns turn opening_step
 above_enters = refl
 
 no_swap : written (base_game (codes "[ A ] -> [ right A ]\n[ B ] -> [ left B ]\n[ C ] -> [ up C ]\n[ D ] -> [ down D ]\n") [] (codes "AB\n")) (codes "x")
     ≡ Some (codes "= T\n# level 1\nAB\n\nAB\n\n* end of keys\n")
-unfolding chars digits is_utf8 utf8_valid_len encode group program_run all_start_turns all_key_turns
+unfolding chars digits is_utf8 utf8_valid_len encode group program_run all_start_turns all_key_turns turn opening_step
 no_swap = refl
 
 no_ring : written (base_game (codes "[ A ] -> [ right A ]\n[ B ] -> [ left B ]\n[ C ] -> [ up C ]\n[ D ] -> [ down D ]\n") [] (codes "AD\nCB\n")) (codes "x")
     ≡ Some (codes "= T\n# level 1\nAD\nCB\n\nAD\nCB\n\n* end of keys\n")
-unfolding chars digits is_utf8 utf8_valid_len encode group program_run all_start_turns all_key_turns
+unfolding chars digits is_utf8 utf8_valid_len encode group program_run all_start_turns all_key_turns turn opening_step
 no_ring = refl
 
 checkpoint : written (base_game (codes "[ action Player ] -> checkpoint\n") [] (codes "P...\n")) (codes "dxdrzzzrq")
     ≡ Some (codes "= T\n# level 1\nP...\n\n.P..\n\n.P..\n\n..P.\n\n.P..\n\n..P.\n\n.P..\n\nP...\n\n.P..\n\n* quit\n")
-unfolding chars digits is_utf8 utf8_valid_len encode group program_run all_start_turns all_key_turns
+unfolding chars digits is_utf8 utf8_valid_len encode group program_run all_start_turns all_key_turns turn opening_step
 checkpoint = refl
 
 again : written (base_game (codes "[ B ] -> [ C ] message Two\n[ action Player ] [ A ] -> [ Player ] [ B ] again\n") [] (codes "PA\n")) (codes "x")
     ≡ Some (codes "= T\n# level 1\nPA\n\nPB\n\nPC\n\n! Two\n* end of keys\n")
-unfolding chars digits is_utf8 utf8_valid_len encode group program_run all_start_turns all_key_turns
+unfolding chars digits is_utf8 utf8_valid_len encode group program_run all_start_turns all_key_turns turn opening_step
 again = refl
 
 again_without_change : written (base_game (codes "[ B ] -> message Hi\n[ action Player ] [ A ] -> [ Player ] [ B ] again\n") [] (codes "PA\n")) (codes "x")
     ≡ Some (codes "= T\n# level 1\nPA\n\nPB\n\n* end of keys\n")
-unfolding chars digits is_utf8 utf8_valid_len encode group program_run all_start_turns all_key_turns
+unfolding chars digits is_utf8 utf8_valid_len encode group program_run all_start_turns all_key_turns turn opening_step
 again_without_change = refl
 
 -- DECISIONS.md: texts and lines ----------------------------------------------------------------------------------------------
 
 empty_line_in_comment : written (base_game [] [] (codes "P\n(a\n\nb)\nP\n")) [] ≡ Some (codes "= T\n# level 1\nP\nP\n\n* end of keys\n")
-unfolding chars digits is_utf8 utf8_valid_len encode group program_run all_start_turns all_key_turns
+unfolding chars digits is_utf8 utf8_valid_len encode group program_run all_start_turns all_key_turns turn opening_step
 empty_line_in_comment = refl
 
 comment_in_row : refused (base_game [] [] (codes "P(x)P\n")) ≡ Some (record { kind = kind.UnknownGlyph; line = 32 })
@@ -202,23 +204,23 @@ unfolding chars is_utf8 utf8_valid_len encode
 comment_in_row = refl
 
 comment_behind_row : written (base_game [] [] (codes "P (x)\n")) [] ≡ Some (codes "= T\n# level 1\nP\n\n* end of keys\n")
-unfolding chars digits is_utf8 utf8_valid_len encode group program_run all_start_turns all_key_turns
+unfolding chars digits is_utf8 utf8_valid_len encode group program_run all_start_turns all_key_turns turn opening_step
 comment_behind_row = refl
 
 comment_before_row : written (base_game [] [] (codes "(xx)P\n")) [] ≡ Some (codes "= T\n# level 1\nP\n\n* end of keys\n")
-unfolding chars digits is_utf8 utf8_valid_len encode group program_run all_start_turns all_key_turns
+unfolding chars digits is_utf8 utf8_valid_len encode group program_run all_start_turns all_key_turns turn opening_step
 comment_before_row = refl
 
 comment_before_colours : written (changed 13 2 (codes "A\n(red)\nred\n") (base_game [] [] (codes "P\n"))) [] ≡ Some (codes "= T\n# level 1\nP\n\n* end of keys\n")
-unfolding chars digits is_utf8 utf8_valid_len encode group program_run all_start_turns all_key_turns
+unfolding chars digits is_utf8 utf8_valid_len encode group program_run all_start_turns all_key_turns turn opening_step
 comment_before_colours = refl
 
 divider_in_level : written (base_game [] [] (codes "P.\n===\nP.\n")) [] ≡ Some (codes "= T\n# level 1\nP.\nP.\n\n* end of keys\n")
-unfolding chars digits is_utf8 utf8_valid_len encode group program_run all_start_turns all_key_turns
+unfolding chars digits is_utf8 utf8_valid_len encode group program_run all_start_turns all_key_turns turn opening_step
 divider_in_level = refl
 
 divider_before_colours : written (changed 13 2 (codes "A\n== (x) =\nred\n") (base_game [] [] (codes "P\n"))) [] ≡ Some (codes "= T\n# level 1\nP\n\n* end of keys\n")
-unfolding chars digits is_utf8 utf8_valid_len encode group program_run all_start_turns all_key_turns
+unfolding chars digits is_utf8 utf8_valid_len encode group program_run all_start_turns all_key_turns turn opening_step
 divider_before_colours = refl
 
 blank_before_colours : refused (changed 14 1 (codes "\n") (base_game [] [] (codes "P\n"))) ≡ Some (record { kind = kind.BadObject; line = 13 })
@@ -234,25 +236,25 @@ unfolding chars is_utf8 utf8_valid_len encode
 header_as_colours = refl
 
 first_title : written (changed 1 1 (codes "title\ntitle X\n") (base_game [] [] (codes "P\n"))) [] ≡ Some (codes "= \n# level 1\nP\n\n* end of keys\n")
-unfolding chars digits is_utf8 utf8_valid_len encode group program_run all_start_turns all_key_turns
+unfolding chars digits is_utf8 utf8_valid_len encode group program_run all_start_turns all_key_turns turn opening_step
 first_title = refl
 
 title_before_comment : written (changed 1 1 (codes "title(x)\n") (base_game [] [] (codes "P\n"))) [] ≡ Some (codes "= \n# level 1\nP\n\n* end of keys\n")
-unfolding chars digits is_utf8 utf8_valid_len encode group program_run all_start_turns all_key_turns
+unfolding chars digits is_utf8 utf8_valid_len encode group program_run all_start_turns all_key_turns turn opening_step
 title_before_comment = refl
 
 title_behind_comment : written (changed 1 1 (codes "title (x) y\n") (base_game [] [] (codes "P\n"))) [] ≡ Some (codes "= \n# level 1\nP\n\n* end of keys\n")
-unfolding chars digits is_utf8 utf8_valid_len encode group program_run all_start_turns all_key_turns
+unfolding chars digits is_utf8 utf8_valid_len encode group program_run all_start_turns all_key_turns turn opening_step
 title_behind_comment = refl
 
 message_with_bracket : written (base_game (codes "[ A ] -> message(a) b\n") [] (codes "A\n")) (codes "x")
     ≡ Some (codes "= T\n# level 1\nA\n\nA\n\n! (a) b\n* end of keys\n")
-unfolding chars digits is_utf8 utf8_valid_len encode group program_run all_start_turns all_key_turns
+unfolding chars digits is_utf8 utf8_valid_len encode group program_run all_start_turns all_key_turns turn opening_step
 message_with_bracket = refl
 
 longer_words : written (changed 1 1 (codes "title T\nnoundos\nrealtime_intervals 1\n") (base_game [] [] (codes "P.\n"))) (codes "dz")
     ≡ Some (codes "= T\n# level 1\nP.\n\n.P\n\nP.\n\n* end of keys\n")
-unfolding chars digits is_utf8 utf8_valid_len encode group program_run all_start_turns all_key_turns
+unfolding chars digits is_utf8 utf8_valid_len encode group program_run all_start_turns all_key_turns turn opening_step
 longer_words = refl
 
 -- DECISIONS.md: names --------------------------------------------------------------------------------------------------------
@@ -278,7 +280,7 @@ unfolding chars is_utf8 utf8_valid_len encode
 first_on_the_circle = refl
 
 undeclared_where_written : refused (changed 22 2 (codes "E = F\nF = Traget\n") (base_game [] [] (codes "P\n"))) ≡ Some (record { kind = kind.UnknownName; line = 23 })
-unfolding chars digits is_utf8 utf8_valid_len encode group program_run all_start_turns all_key_turns
+unfolding chars digits is_utf8 utf8_valid_len encode group program_run all_start_turns all_key_turns turn opening_step
 undeclared_where_written = refl
 
 aggregate_by_synonym : refused (changed 22 2 (codes "E = @\n@ = Crate and Target\nAT = A or E\n") (base_game [] [] (codes "P\n"))) ≡ Some (record { kind = kind.AggregateInProperty; line = 24 })
@@ -303,7 +305,7 @@ aggregate_on_one_layer = refl
 
 last_layer_counts : written (changed 29 0 (codes "AT\n") (changed 22 1 (codes "@ = A and B\n") (base_game [] [] (codes "P\n")))) []
     ≡ Some (codes "= T\n# level 1\nP\n\n* end of keys\n")
-unfolding chars digits is_utf8 utf8_valid_len encode group program_run all_start_turns all_key_turns
+unfolding chars digits is_utf8 utf8_valid_len encode group program_run all_start_turns all_key_turns turn opening_step
 last_layer_counts = refl
 
 -- DECISIONS.md: rules, words and forms ---------------------------------------------------------------------------------------
@@ -314,7 +316,7 @@ second_plus = refl
 
 plus_as_object : written (changed 28 1 (codes "A B C +\n") (changed 19 1 (codes "+\n") (base_game (codes "[ A ] -> [ + ]\n") [] (codes "A\n")))) (codes "x")
     ≡ Some (codes "= T\n# level 1\nA\n\n+\n\n* end of keys\n")
-unfolding chars digits is_utf8 utf8_valid_len encode group program_run all_start_turns all_key_turns
+unfolding chars digits is_utf8 utf8_valid_len encode group program_run all_start_turns all_key_turns turn opening_step
 plus_as_object = refl
 
 signs_cut_off : refused (base_game (codes "[ >>A ] -> [ A ]\n") [] (codes "P\n")) ≡ Some (record { kind = kind.UnknownWord; line = 30 })
@@ -327,7 +329,7 @@ key_word_as_object = refl
 
 no_key_word : written (changed 28 1 (codes "A B C sfx11\n") (changed 19 1 (codes "sfx11 S\n") (base_game (codes "[ sfx11 ] -> [ A ]\n") [] (codes "S\n")))) (codes "x")
     ≡ Some (codes "= T\n# level 1\nS\n\nA\n\n* end of keys\n")
-unfolding chars digits is_utf8 utf8_valid_len encode group program_run all_start_turns all_key_turns
+unfolding chars digits is_utf8 utf8_valid_len encode group program_run all_start_turns all_key_turns turn opening_step
 no_key_word = refl
 
 message_in_brackets : refused (base_game (codes "[ A ] -> [ message ]\n") [] (codes "P\n")) ≡ Some (record { kind = kind.BadBracket; line = 30 })
@@ -362,20 +364,20 @@ word_without_name = refl
 
 order_of_directions : written (base_game (codes "down up down [ A | B ] -> [ | C ]\n") [] (codes "B\nA\nB\n")) (codes "x")
     ≡ Some (codes "= T\n# level 1\nB\nA\nB\n\nC\n.\nB\n\n* end of keys\n")
-unfolding chars digits is_utf8 utf8_valid_len encode group program_run all_start_turns all_key_turns
+unfolding chars digits is_utf8 utf8_valid_len encode group program_run all_start_turns all_key_turns turn opening_step
 order_of_directions = refl
 
 empty_cell : written (base_game (codes "right [ A | ] -> [ A | B ]\n") [] (codes "A#\n")) (codes "x") ≡ Some (codes "= T\n# level 1\nA#\n\nAB\n\n* end of keys\n")
-unfolding chars digits is_utf8 utf8_valid_len encode group program_run all_start_turns all_key_turns
+unfolding chars digits is_utf8 utf8_valid_len encode group program_run all_start_turns all_key_turns turn opening_step
 empty_cell = refl
 
 sound_alone : written (base_game (codes "[ A ] -> sfx0\n") [] (codes "A\n")) (codes "x") ≡ Some (codes "= T\n# level 1\nA\n\nA\n\n* end of keys\n")
-unfolding chars digits is_utf8 utf8_valid_len encode group program_run all_start_turns all_key_turns
+unfolding chars digits is_utf8 utf8_valid_len encode group program_run all_start_turns all_key_turns turn opening_step
 sound_alone = refl
 
 message_without_text : written (base_game (codes "[ A ] -> message\n") [] (codes "P.A\n")) (codes "dd")
     ≡ Some (codes "= T\n# level 1\nP.A\n\n.PA\n\n! \n* end of keys\n")
-unfolding chars digits is_utf8 utf8_valid_len encode group program_run all_start_turns all_key_turns
+unfolding chars digits is_utf8 utf8_valid_len encode group program_run all_start_turns all_key_turns turn opening_step
 message_without_text = refl
 
 synonym_twice : refused (base_game (codes "[ Crate * ] -> cancel\n") [] (codes "P\n")) ≡ Some (record { kind = kind.NameTwice; line = 30 })
@@ -383,7 +385,7 @@ unfolding chars is_utf8 utf8_valid_len encode
 synonym_twice = refl
 
 property_beside_member : written (base_game (codes "[ AT A ] -> cancel\n") [] (codes "P\n")) [] ≡ Some (codes "= T\n# level 1\nP\n\n* end of keys\n")
-unfolding chars digits is_utf8 utf8_valid_len encode group program_run all_start_turns all_key_turns
+unfolding chars digits is_utf8 utf8_valid_len encode group program_run all_start_turns all_key_turns turn opening_step
 property_beside_member = refl
 
 loose_property_beside_member : refused (changed 23 1 (codes "AC = A or C\n") (base_game (codes "[ AC A ] -> cancel\n") [] (codes "P\n"))) ≡ Some (record { kind = kind.Impossible; line = 30 })
@@ -398,17 +400,17 @@ stationary_is_late = refl
 
 turned_in_four_directions : written (base_game (codes "[ A ] -> [ ^ A ]\n") [] (codes ".\nA\n")) (codes "x")
     ≡ Some (codes "= T\n# level 1\n.\nA\n\nA\n.\n\n* end of keys\n")
-unfolding chars digits is_utf8 utf8_valid_len encode group program_run all_start_turns all_key_turns
+unfolding chars digits is_utf8 utf8_valid_len encode group program_run all_start_turns all_key_turns turn opening_step
 turned_in_four_directions = refl
 
 free_of_direction : written (base_game (codes "[ A ] [ B ] -> [ ] [ C ]\n") [] (codes "AB\nB.\n")) (codes "x")
     ≡ Some (codes "= T\n# level 1\nAB\nB.\n\n.B\nC.\n\n* end of keys\n")
-unfolding chars digits is_utf8 utf8_valid_len encode group program_run all_start_turns all_key_turns
+unfolding chars digits is_utf8 utf8_valid_len encode group program_run all_start_turns all_key_turns turn opening_step
 free_of_direction = refl
 
 axis_of_the_direction : written (base_game (codes "right [ A ] [ B ] -> [ ] [ C ]\n") [] (codes "AB\nB.\n")) (codes "x")
     ≡ Some (codes "= T\n# level 1\nAB\nB.\n\n.C\nB.\n\n* end of keys\n")
-unfolding chars digits is_utf8 utf8_valid_len encode group program_run all_start_turns all_key_turns
+unfolding chars digits is_utf8 utf8_valid_len encode group program_run all_start_turns all_key_turns turn opening_step
 axis_of_the_direction = refl
 
 choice_of_none : refused (base_game (codes "right [ AT | AT | Crate ] -> [ | | Crate AT ]\n") [] (codes "P\n")) ≡ Some (record { kind = kind.Unbound; line = 30 })
@@ -417,64 +419,64 @@ choice_of_none = refl
 
 bound_by_synonym : written (changed 22 1 (codes "TA = AT\n") (base_game (codes "right [ AT | AT ] -> [ | TA ]\n") [] (codes "AO\n"))) (codes "x")
     ≡ Some (codes "= T\n# level 1\nAO\n\n.O\n\n* end of keys\n")
-unfolding chars digits is_utf8 utf8_valid_len encode group program_run all_start_turns all_key_turns
+unfolding chars digits is_utf8 utf8_valid_len encode group program_run all_start_turns all_key_turns turn opening_step
 bound_by_synonym = refl
 
 words_as_written : refused (base_game (codes "right [ horizontal A ] -> [ parallel A ]\n") [] (codes "P\n")) ≡ Some (record { kind = kind.Unbound; line = 30 })
-unfolding chars digits is_utf8 utf8_valid_len encode group program_run all_start_turns all_key_turns
+unfolding chars digits is_utf8 utf8_valid_len encode group program_run all_start_turns all_key_turns turn opening_step
 words_as_written = refl
 
 one_object_twice : written (changed 22 1 (codes "TA = Target or A\n") (base_game (codes "[ AT TA ] -> [ ]\n") [] (codes "AO\n"))) (codes "x")
     ≡ Some (codes "= T\n# level 1\nAO\n\nAO\n\n* end of keys\n")
-unfolding chars digits is_utf8 utf8_valid_len encode group program_run all_start_turns all_key_turns
+unfolding chars digits is_utf8 utf8_valid_len encode group program_run all_start_turns all_key_turns turn opening_step
 one_object_twice = refl
 
 barred_and_named : written (base_game (codes "[ Player ] -> [ Player no Player ]\n") [] (codes "P.\n")) (codes "d")
     ≡ Some (codes "= T\n# level 1\nP.\n\nP.\n\n* end of keys\n")
-unfolding chars digits is_utf8 utf8_valid_len encode group program_run all_start_turns all_key_turns
+unfolding chars digits is_utf8 utf8_valid_len encode group program_run all_start_turns all_key_turns turn opening_step
 barred_and_named = refl
 
 named : written (base_game (codes "[ Player ] -> [ Player ]\n") [] (codes "P.\n")) (codes "d") ≡ Some (codes "= T\n# level 1\nP.\n\n.P\n\n* end of keys\n")
-unfolding chars digits is_utf8 utf8_valid_len encode group program_run all_start_turns all_key_turns
+unfolding chars digits is_utf8 utf8_valid_len encode group program_run all_start_turns all_key_turns turn opening_step
 named = refl
 
 move_of_the_layer : written (base_game (codes "[ Player ] -> [ Crate ]\n") [] (codes "P.\n")) (codes "d") ≡ Some (codes "= T\n# level 1\nP.\n\n.*\n\n* end of keys\n")
-unfolding chars digits is_utf8 utf8_valid_len encode group program_run all_start_turns all_key_turns
+unfolding chars digits is_utf8 utf8_valid_len encode group program_run all_start_turns all_key_turns turn opening_step
 move_of_the_layer = refl
 
 rows_meet : written (base_game (codes "[ A ] [ A ] -> [ B ] [ C ]\n") [] (codes "A\n")) (codes "x") ≡ Some (codes "= T\n# level 1\nA\n\nC\n\n* end of keys\n")
-unfolding chars digits is_utf8 utf8_valid_len encode group program_run all_start_turns all_key_turns
+unfolding chars digits is_utf8 utf8_valid_len encode group program_run all_start_turns all_key_turns turn opening_step
 rows_meet = refl
 
 leftmost_end : written (base_game (codes "left [ A | ... | B ] -> [ | ... | C ]\n") [] (codes "B.B.A\n")) (codes "x")
     ≡ Some (codes "= T\n# level 1\nB.B.A\n\nC.B..\n\n* end of keys\n")
-unfolding chars digits is_utf8 utf8_valid_len encode group program_run all_start_turns all_key_turns
+unfolding chars digits is_utf8 utf8_valid_len encode group program_run all_start_turns all_key_turns turn opening_step
 leftmost_end = refl
 
 loop_of_late_rules : written (base_game (codes "startloop\nlate [ A ] -> [ B ]\nendloop\n[ B ] -> [ C ]\n") [] (codes "A\n")) (codes "xx")
     ≡ Some (codes "= T\n# level 1\nA\n\nB\n\nC\n\n* end of keys\n")
-unfolding chars digits is_utf8 utf8_valid_len encode group program_run all_start_turns all_key_turns
+unfolding chars digits is_utf8 utf8_valid_len encode group program_run all_start_turns all_key_turns turn opening_step
 loop_of_late_rules = refl
 
 -- DECISIONS.md: movement, levels and frames ----------------------------------------------------------------------------------
 
 least_of_two : written (base_game (codes "[ A ] -> [ right A ]\n[ B ] -> [ left B ]\n") [] (codes "A.B\n")) (codes "x")
     ≡ Some (codes "= T\n# level 1\nA.B\n\n.AB\n\n* end of keys\n")
-unfolding chars digits is_utf8 utf8_valid_len encode group program_run all_start_turns all_key_turns
+unfolding chars digits is_utf8 utf8_valid_len encode group program_run all_start_turns all_key_turns turn opening_step
 least_of_two = refl
 
 least_above : written (base_game (codes "[ A ] -> [ right A ]\n[ B ] -> [ left B ]\n[ C ] -> [ up C ]\n") [] (codes "...\nACB\n")) (codes "x")
     ≡ Some (codes "= T\n# level 1\n...\nACB\n\n.C.\nAB.\n\n* end of keys\n")
-unfolding chars digits is_utf8 utf8_valid_len encode group program_run all_start_turns all_key_turns
+unfolding chars digits is_utf8 utf8_valid_len encode group program_run all_start_turns all_key_turns turn opening_step
 least_above = refl
 
 folded_row : written (base_game [] [] (codes "p..\n")) [] ≡ Some (codes "= T\n# level 1\nP..\n\n* end of keys\n")
-unfolding chars digits is_utf8 utf8_valid_len encode group program_run all_start_turns all_key_turns
+unfolding chars digits is_utf8 utf8_valid_len encode group program_run all_start_turns all_key_turns turn opening_step
 folded_row = refl
 
 any_ground : written (changed 28 1 (codes "A B C\n") (changed 25 1 (codes "Background D\n") (base_game [] [] (codes "PD\n")))) (codes "d")
     ≡ Some (codes "= T\n# level 1\nPD\n\nDP\n\n* end of keys\n")
-unfolding chars digits is_utf8 utf8_valid_len encode group program_run all_start_turns all_key_turns
+unfolding chars digits is_utf8 utf8_valid_len encode group program_run all_start_turns all_key_turns turn opening_step
 any_ground = refl
 
 unknown_before_wide : refused (base_game [] [] (replicate 64 46 ++ codes "?\n")) ≡ Some (record { kind = kind.UnknownGlyph; line = 32 })
@@ -486,50 +488,50 @@ unfolding chars is_utf8 utf8_valid_len encode
 too_wide = refl
 
 bare_cell : written (base_game (codes "[ Background ] -> [ ]\n") [] (codes ".P\n")) (codes "x") ≡ Some (codes "= T\n# level 1\n.P\n\n?P\n\n* end of keys\n")
-unfolding chars digits is_utf8 utf8_valid_len encode group program_run all_start_turns all_key_turns
+unfolding chars digits is_utf8 utf8_valid_len encode group program_run all_start_turns all_key_turns turn opening_step
 bare_cell = refl
 
 -- DECISIONS.md: turns and keys -----------------------------------------------------------------------------------------------
 
 held_before_cancel : written (with_option (codes "require_player_movement") (codes "[ > Player | Wall ] -> cancel message Stop\n") (codes "P#\n")) (codes "d")
     ≡ Some (codes "= T\n# level 1\nP#\n\nP#\n\n* end of keys\n")
-unfolding chars digits is_utf8 utf8_valid_len encode group program_run all_start_turns all_key_turns
+unfolding chars digits is_utf8 utf8_valid_len encode group program_run all_start_turns all_key_turns turn opening_step
 held_before_cancel = refl
 
 nobody_to_hold : written (with_option (codes "require_player_movement") (codes "[ A ] -> [ B ]\n") (codes ".A\n")) (codes "x")
     ≡ Some (codes "= T\n# level 1\n.A\n\n.B\n\n* end of keys\n")
-unfolding chars digits is_utf8 utf8_valid_len encode group program_run all_start_turns all_key_turns
+unfolding chars digits is_utf8 utf8_valid_len encode group program_run all_start_turns all_key_turns turn opening_step
 nobody_to_hold = refl
 
 restart_again : written (base_game (codes "[ B ] -> restart\n[ action Player ] [ A ] -> [ Player ] [ B ] again\n") [] (codes "PA\n")) (codes "xzz")
     ≡ Some (codes "= T\n# level 1\nPA\n\nPB\n\nPA\n\nPA\n\nPA\n\n* end of keys\n")
-unfolding chars digits is_utf8 utf8_valid_len encode group program_run all_start_turns all_key_turns
+unfolding chars digits is_utf8 utf8_valid_len encode group program_run all_start_turns all_key_turns turn opening_step
 restart_again = refl
 
 again_turns_of_a_restart : written (with_option (codes "run_rules_on_level_start") (codes "[ D ] -> restart\n[ B ] -> [ C ]\n[ A ] -> [ B ] again\n[ action Player ] [ C ] -> [ Player ] [ D ] again\n") (codes "PA\n")) (codes "x")
     ≡ Some (codes "= T\n# level 1\nPB\n\nPC\n\nPD\n\nPB\n\nPC\n\n* end of keys\n")
-unfolding chars digits is_utf8 utf8_valid_len encode group program_run all_start_turns all_key_turns
+unfolding chars digits is_utf8 utf8_valid_len encode group program_run all_start_turns all_key_turns turn opening_step
 again_turns_of_a_restart = refl
 
 wins_dropped : written (with_option (codes "run_rules_on_level_start") (codes "[ B ] -> [ C ] win\n[ A ] -> [ B ] again\n") (codes "A\n")) []
     ≡ Some (codes "= T\n# level 1\nB\n\nC\n\n* end of keys\n")
-unfolding chars digits is_utf8 utf8_valid_len encode group program_run all_start_turns all_key_turns
+unfolding chars digits is_utf8 utf8_valid_len encode group program_run all_start_turns all_key_turns turn opening_step
 wins_dropped = refl
 
 message_of_the_start : written (with_option (codes "run_rules_on_level_start") (codes "[ A ] -> [ B ] message Start\n[ action Player ] -> restart message Back\n") (codes "PA\n")) (codes "xx")
     ≡ Some (codes "= T\n# level 1\nPB\n\n! Start\nPB\n\n! Start\n* end of keys\n")
-unfolding chars digits is_utf8 utf8_valid_len encode group program_run all_start_turns all_key_turns
+unfolding chars digits is_utf8 utf8_valid_len encode group program_run all_start_turns all_key_turns turn opening_step
 message_of_the_start = refl
 
 win_before_again : written (base_game (codes "[ B ] -> [ C ]\n[ action Player ] [ A ] -> [ Player ] [ B ] win again\n") [] (codes "PA\n")) (codes "x")
     ≡ Some (codes "= T\n# level 1\nPA\n\nPB\n\n* level 1 done\n* the end\n")
-unfolding chars digits is_utf8 utf8_valid_len encode group program_run all_start_turns all_key_turns
+unfolding chars digits is_utf8 utf8_valid_len encode group program_run all_start_turns all_key_turns turn opening_step
 win_before_again = refl
 
 -- DECISIONS.md: to come ------------------------------------------------------------------------------------------------------
 
 no_rooms_yet : written (changed 1 1 (codes "title T\nflickscreen 3 x 1\n") (base_game [] [] (codes "P\n"))) [] ≡ Some (codes "= T\n# level 1\nP\n\n* end of keys\n")
-unfolding chars digits is_utf8 utf8_valid_len encode group program_run all_start_turns all_key_turns
+unfolding chars digits is_utf8 utf8_valid_len encode group program_run all_start_turns all_key_turns turn opening_step
 no_rooms_yet = refl
 
 -- LANGUAGE.md, faults: the text ----------------------------------------------------------------------------------------------

@@ -5,6 +5,8 @@ use Rattle.std.specs.Str.{chars, is_utf8}
 use Rattle.std.specs.Str.Lossy.{utf8_valid_len}
 use Rattle.std.specs.Fmt.{digits}
 use Rattle.std.proofs.Math.Utf8.{encode}
+use Rattle.ps_model.specs.board.Turns.{turn}
+use Rattle.ps_model.specs.game.Outputs.{opening_step}
 use Rattle.ps_model.specs.declared.play.Input.TheVariants.{Up, Right, Action}
 use Rattle.ps_model.specs.declared.play.Key.TheVariants.{Move, Undo, Restart, Quit}
 use Rattle.ps_model.specs.session.Keys.{keys_of}
@@ -12,13 +14,13 @@ use Rattle.ps_model.specs.board.Programs.{group, program_run}
 use Rattle.ps_model.specs.session.StartSteps.{all_start_turns}
 use Rattle.ps_model.specs.session.KeySteps.{all_key_turns}
 use Rattle.ps_model.specs.game.PlainGames.{plain_game}
-use Rattle.ps_model.specs.game.PlainOutput.{output}
+use Rattle.ps_model.specs.game.PlainOutput.{plain_output}
 use Rattle.ps_examples.proofs.games.BaseText.{base_text, base_head}
 use Rattle.ps_examples.proofs.games.WholeRuns.{written as written_whole}
 
 -- what a text writes on keys, if it is a plain game
 abbrev written : List ℕ → List ℕ → Option (List ℕ)
-written text keys = option_map (λ game. (output game keys).written) (plain_game text)
+written text keys = option_map (λ game. (plain_output game keys).written) (plain_game text)
 
 abbrev is_game : List ℕ → Bool
 is_game text = is_some (plain_game text)
@@ -74,11 +76,11 @@ two_grounds = refl
 
 -- the whole definition says the same of plain games
 same_walk : written_whole (base_text (codes "P..\n")) (codes "dddq") ≡ Some (codes "= T\n# level 1\nP..\n\n.P.\n\n..P\n\n..P\n\n* quit\n")
-unfolding chars digits is_utf8 utf8_valid_len encode group program_run all_start_turns all_key_turns
+unfolding chars digits is_utf8 utf8_valid_len encode group program_run all_start_turns all_key_turns turn opening_step
 same_walk = refl
 
 same_below : written_whole (base_text (codes "P@.\n.O*")) (codes "dsd") ≡ Some (codes "= T\n# level 1\nP@.\n.O*\n\nP@.\n.O*\n\n.@.\nPO*\n\n.@.\n.P*\n\n* end of keys\n")
-unfolding chars digits is_utf8 utf8_valid_len encode group program_run all_start_turns all_key_turns
+unfolding chars digits is_utf8 utf8_valid_len encode group program_run all_start_turns all_key_turns turn opening_step
 same_below = refl
 
 -- Background and Player may be properties: the first ground met fills, and every member of Player hears the key
@@ -90,7 +92,7 @@ unfolding chars digits is_utf8 utf8_valid_len encode
 players_move = refl
 
 same_players : written_whole many_players (codes "d") ≡ Some (codes "= \n# level 1\nabg\ngsa\n\ngab\ngsa\n\n* end of keys\n")
-unfolding chars digits is_utf8 utf8_valid_len encode group program_run all_start_turns all_key_turns
+unfolding chars digits is_utf8 utf8_valid_len encode group program_run all_start_turns all_key_turns turn opening_step
 same_players = refl
 
 -- texts that are no plain games, or have a fault; and some that are plain games

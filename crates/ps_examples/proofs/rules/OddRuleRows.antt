@@ -6,6 +6,8 @@ use Rattle.std.specs.Str.{chars, is_utf8}
 use Rattle.std.specs.Str.Lossy.{utf8_valid_len}
 use Rattle.std.specs.Fmt.{digits}
 use Rattle.std.proofs.Math.Utf8.{encode}
+use Rattle.ps_model.specs.board.Turns.{turn}
+use Rattle.ps_model.specs.game.Outputs.{opening_step}
 use Rattle.ps_model.specs.board.Programs.{group, program_run}
 use Rattle.ps_model.specs.session.StartSteps.{all_start_turns}
 use Rattle.ps_model.specs.session.KeySteps.{all_key_turns}
@@ -115,7 +117,7 @@ joined_rules = refl
 -- even number of rounds, and would end at B as three groups
 joined_behind_comment : written (base_game (codes "[ C ] -> [ A ] (x\n\n) + [ B ] -> [ C ]\n\n(y)+[ A ] -> [ B ]\n") [] (codes "A\n")) (codes "x")
     ≡ Some (codes "= T\n# level 1\nA\n\nC\n\n* end of keys\n")
-unfolding chars digits is_utf8 utf8_valid_len encode group program_run all_start_turns all_key_turns
+unfolding chars digits is_utf8 utf8_valid_len encode group program_run all_start_turns all_key_turns turn opening_step
 joined_behind_comment = refl
 
 -- messages -------------------------------------------------------------------------------------------------------------------
@@ -123,7 +125,7 @@ joined_behind_comment = refl
 -- the text of a message has whatever follows, up to the end of its line; commands before it count, and no comment goes on below it
 message_to_the_end : written (base_game (codes "[ A ] (message) -> [ B ] win Message(x -> y ]  \n+ [ B ] -> [ C ] (z\n)\n") [] (codes "PA\n")) (codes "xx")
     ≡ Some (codes "= T\n# level 1\nPA\n\nPC\n\n! (x -> y ]\n* level 1 done\n* the end\n")
-unfolding chars digits is_utf8 utf8_valid_len encode group program_run all_start_turns all_key_turns
+unfolding chars digits is_utf8 utf8_valid_len encode group program_run all_start_turns all_key_turns turn opening_step
 message_to_the_end = refl
 
 -- without an arrow before it, and on the left of the arrow, `message` is a key word where it can't stand, behind which a comment may begin

@@ -4,12 +4,12 @@ use Rattle.std.specs.Prelude.{codes, option_map, slice_range, replicate}
 use Rattle.std.specs.List.{filter_map}
 use Rattle.ps_model.specs.declared.texts.Section.{Section}
 use Rattle.ps_model.specs.declared.texts.Section.TheVariants.{Objects, Legend}
-use Rattle.ps_model.specs.text.Lines.{lines_of, plain_words}
+use Rattle.ps_model.specs.text.Lines.{lines_of, words_of_line}
 use Rattle.ps_model.specs.text.RuleWords.{rule_words_in}
 
 -- the words of each line
 abbrev words : List ℕ → List (List (List ℕ))
-words text = map plain_words (lines_of text)
+words text = map words_of_line (lines_of text)
 
 -- which lines are there
 abbrev there : List ℕ → List Bool

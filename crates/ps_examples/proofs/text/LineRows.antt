@@ -1,7 +1,7 @@
 -- Lines and words of texts, worked by hand.
 use Rattle.std.proofs.Common.{◌≡◌, [], ◌∷◌, map, length, refl, Some, None, true, false}
 use Rattle.std.specs.Prelude.{codes}
-use Rattle.ps_model.specs.declared.texts.Cut.TheVariants.{Plain, Legend, Layers}
+use Rattle.ps_model.specs.declared.texts.Cut.TheVariants.{Blanks, Legend, Layers}
 use Rattle.ps_model.specs.declared.texts.Section.TheVariants.{Prelude, Objects, Layers as LayersSection, Rules, Levels}
 use Rattle.ps_model.specs.text.Words.{word_texts}
 use Rattle.ps_model.specs.text.Lines.{raw_lines, lines_of}
@@ -29,7 +29,7 @@ layer_words = refl
 legend_words : word_texts Legend (codes "@=Crate and\tTarget\r") ≡ codes "@" ∷ codes "=" ∷ codes "Crate" ∷ codes "and" ∷ codes "Target" ∷ []
 legend_words = refl
 
-plain_words : word_texts Plain (codes " a=b  c,d ") ≡ codes "a=b" ∷ codes "c,d" ∷ []
+plain_words : word_texts Blanks (codes " a=b  c,d ") ≡ codes "a=b" ∷ codes "c,d" ∷ []
 plain_words = refl
 
 -- sections by the last header at or above a line, whatever the case of its letters

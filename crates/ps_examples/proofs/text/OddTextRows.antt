@@ -6,6 +6,8 @@ use Rattle.std.specs.Str.{chars, is_utf8}
 use Rattle.std.specs.Str.Lossy.{utf8_valid_len}
 use Rattle.std.specs.Fmt.{digits, decimal}
 use Rattle.std.proofs.Math.Utf8.{encode}
+use Rattle.ps_model.specs.board.Turns.{turn}
+use Rattle.ps_model.specs.game.Outputs.{opening_step}
 use Rattle.ps_model.specs.board.Programs.{group, program_run}
 use Rattle.ps_model.specs.session.StartSteps.{all_start_turns}
 use Rattle.ps_model.specs.session.KeySteps.{all_key_turns}
@@ -394,7 +396,7 @@ shared_layers = refl
 
 -- `=` may be a glyph, but a row of nothing else isn't there, so that it ends no level
 equal_sign : written (text_with_rows (codes "Rock =\nx\n") [] (codes "Rock\n") (codes "=P\n==\nP=\n")) [] ≡ Some (codes "= \n# level 1\n=P\nP=\n\n* end of keys\n")
-unfolding chars digits is_utf8 utf8_valid_len encode group program_run all_start_turns all_key_turns
+unfolding chars digits is_utf8 utf8_valid_len encode group program_run all_start_turns all_key_turns turn opening_step
 equal_sign = refl
 
 -- without an object of that name `=` shows nothing in a row
@@ -410,7 +412,7 @@ hard_blank = refl
 -- rows are counted in characters, and filled with one; a row's comment may end in the next
 wide_glyph : written (text_with_rows (codes "Rock " ++ (e_acute ++ codes "\nx\n")) [] (codes "Rock\n") (codes "P. (x\n y) " ++ (e_acute ++ codes "\n"))) []
     ≡ Some (codes "= \n# level 1\nP.\n" ++ (e_acute ++ (e_acute ++ codes "\n\n* end of keys\n")))
-unfolding chars digits is_utf8 utf8_valid_len encode group program_run all_start_turns all_key_turns
+unfolding chars digits is_utf8 utf8_valid_len encode group program_run all_start_turns all_key_turns turn opening_step
 wide_glyph = refl
 
 -- 64 characters of two bytes are a row within the limit, 65 aren't

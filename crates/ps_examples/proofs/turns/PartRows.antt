@@ -109,12 +109,12 @@ outcomes input rules rows = option_map (λ found. map (turn (script_of found) (S
 
 -- `cancel` takes the place of `restart`
 restart_and_cancel : outcomes Action (codes "[ action Player ] -> restart cancel\n") (codes "P\n") ≡ Some (Blocked None ∷ [])
-unfolding chars is_utf8 utf8_valid_len encode group program_run
+unfolding chars is_utf8 utf8_valid_len encode group program_run turn
 restart_and_cancel = refl
 
 -- `restart` takes the place of a win
 restart_and_win : outcomes Action (codes "[ action Player ] -> restart win\n") (codes "P\n") ≡ Some (Restarted None ∷ [])
-unfolding chars is_utf8 utf8_valid_len encode group program_run
+unfolding chars is_utf8 utf8_valid_len encode group program_run turn
 restart_and_win = refl
 
 -- a turn that changes nothing doesn't come again; its message and its win count
@@ -126,10 +126,10 @@ again_and_win : outcomes Action (codes "[ action Player ] -> again win message H
   win = true;
   again = false;
 }) ∷ [])
-unfolding chars is_utf8 utf8_valid_len encode group program_run
+unfolding chars is_utf8 utf8_valid_len encode group program_run turn
 again_and_win = refl
 
 -- a blocked turn keeps its rule's message
 cancel_with_message : outcomes Right (codes "[ > Player | Wall ] -> cancel message Stop\n") (codes "P#\n") ≡ Some (Blocked (Some (codes "Stop")) ∷ [])
-unfolding chars is_utf8 utf8_valid_len encode group program_run
+unfolding chars is_utf8 utf8_valid_len encode group program_run turn
 cancel_with_message = refl

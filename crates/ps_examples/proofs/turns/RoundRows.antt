@@ -5,6 +5,8 @@ use Rattle.std.specs.Str.{chars, is_utf8}
 use Rattle.std.specs.Str.Lossy.{utf8_valid_len}
 use Rattle.std.specs.Fmt.{digits}
 use Rattle.std.proofs.Math.Utf8.{encode}
+use Rattle.ps_model.specs.board.Turns.{turn}
+use Rattle.ps_model.specs.game.Outputs.{opening_step}
 use Rattle.ps_model.specs.board.Programs.{group, program_run}
 use Rattle.ps_model.specs.session.StartSteps.{all_start_turns}
 use Rattle.ps_model.specs.session.KeySteps.{all_key_turns}
@@ -14,48 +16,48 @@ use Rattle.ps_examples.proofs.games.WholeRuns.{written}
 -- a group that never settles ends after two hundred rounds, and the rules behind it run
 two_hundred_rounds : written (base_game (codes "[ A ] -> [ B ]\n+ [ B ] -> [ A ]\n[ A ] -> [ C ]\n") ([]) (codes "A\n")) (codes "x")
     ≡ Some (codes "= T\n# level 1\nA\n\nC\n\n* end of keys\n")
-unfolding chars digits is_utf8 utf8_valid_len encode group program_run all_start_turns all_key_turns
+unfolding chars digits is_utf8 utf8_valid_len encode group program_run all_start_turns all_key_turns turn opening_step
 two_hundred_rounds = refl
 
 an_even_number_of_rounds : written (base_game (codes "[ C ] -> [ A ]\n+ [ B ] -> [ C ]\n+ [ A ] -> [ B ]\n") ([]) (codes "A\n")) (codes "x")
     ≡ Some (codes "= T\n# level 1\nA\n\nC\n\n* end of keys\n")
-unfolding chars digits is_utf8 utf8_valid_len encode group program_run all_start_turns all_key_turns
+unfolding chars digits is_utf8 utf8_valid_len encode group program_run all_start_turns all_key_turns turn opening_step
 an_even_number_of_rounds = refl
 
 -- a loop that never settles makes a pass and two hundred repeats; what stands behind it isn't run
 a_pass_and_two_hundred_repeats : written (base_game (codes "startloop\n[ C ] -> [ A ]\n[ B ] -> [ C ]\n[ A ] -> [ B ]\nendloop\n") ([]) (codes "A\n")) (codes "x")
     ≡ Some (codes "= T\n# level 1\nA\n\nB\n\n* end of keys\n")
-unfolding chars digits is_utf8 utf8_valid_len encode group program_run all_start_turns all_key_turns
+unfolding chars digits is_utf8 utf8_valid_len encode group program_run all_start_turns all_key_turns turn opening_step
 a_pass_and_two_hundred_repeats = refl
 
 rest_behind_loop_not_run : written (base_game (codes "startloop\n[ C ] -> [ A ]\n[ B ] -> [ C ]\n[ A ] -> [ B ]\nendloop\n[ B ] -> [ D ]\n") ([]) (codes "A\n")) (codes "x")
     ≡ Some (codes "= T\n# level 1\nA\n\nB\n\n* end of keys\n")
-unfolding chars digits is_utf8 utf8_valid_len encode group program_run all_start_turns all_key_turns
+unfolding chars digits is_utf8 utf8_valid_len encode group program_run all_start_turns all_key_turns turn opening_step
 rest_behind_loop_not_run = refl
 
 -- an ellipsis stands for any gap; the order is by the leftmost end, then by the gap
 gaps_rightwards : written (base_game (codes "right [ A | ... | B ] -> [ | ... | C ]\n") ([]) (codes "AB..B\n")) (codes "x")
     ≡ Some (codes "= T\n# level 1\nAB..B\n\n.C..B\n\n* end of keys\n")
-unfolding chars digits is_utf8 utf8_valid_len encode group program_run all_start_turns all_key_turns
+unfolding chars digits is_utf8 utf8_valid_len encode group program_run all_start_turns all_key_turns turn opening_step
 gaps_rightwards = refl
 
 gaps_leftwards : written (base_game (codes "left [ A | ... | B ] -> [ | ... | C ]\n") ([]) (codes "B.B.A\n")) (codes "x")
     ≡ Some (codes "= T\n# level 1\nB.B.A\n\nC.B..\n\n* end of keys\n")
-unfolding chars digits is_utf8 utf8_valid_len encode group program_run all_start_turns all_key_turns
+unfolding chars digits is_utf8 utf8_valid_len encode group program_run all_start_turns all_key_turns turn opening_step
 gaps_leftwards = refl
 
 wide_gap : written (base_game (codes "right [ A | ... | B ] -> [ | ... | C ]\n") ([]) (codes "A...B\n")) (codes "x")
     ≡ Some (codes "= T\n# level 1\nA...B\n\n....C\n\n* end of keys\n")
-unfolding chars digits is_utf8 utf8_valid_len encode group program_run all_start_turns all_key_turns
+unfolding chars digits is_utf8 utf8_valid_len encode group program_run all_start_turns all_key_turns turn opening_step
 wide_gap = refl
 
 -- combinations are those of the start, and each is looked at again before it is applied
 combinations_looked_at_again : written (base_game (codes "[ A ] [ A ] -> [ B ] [ C ]\n") ([]) (codes "AA\n")) (codes "x")
     ≡ Some (codes "= T\n# level 1\nAA\n\nCC\n\n* end of keys\n")
-unfolding chars digits is_utf8 utf8_valid_len encode group program_run all_start_turns all_key_turns
+unfolding chars digits is_utf8 utf8_valid_len encode group program_run all_start_turns all_key_turns turn opening_step
 combinations_looked_at_again = refl
 
 places_not_looked_for_anew : written (base_game (codes "right [ A | B ] -> [ B | A ]\n+ [ A ] -> [ C ]\n") ([]) (codes "ABB\n")) (codes "x")
     ≡ Some (codes "= T\n# level 1\nABB\n\nBCB\n\n* end of keys\n")
-unfolding chars digits is_utf8 utf8_valid_len encode group program_run all_start_turns all_key_turns
+unfolding chars digits is_utf8 utf8_valid_len encode group program_run all_start_turns all_key_turns turn opening_step
 places_not_looked_for_anew = refl

@@ -4,7 +4,7 @@ use Rattle.ps_model.specs.declared.limits.TheConstants.{ROUND_LIMIT}
 use Rattle.ps_model.specs.meaning.RuleMeanings.{RuleMeaning}
 use Rattle.ps_model.specs.board.Attempts.{State, Result}
 use Rattle.ps_model.specs.board.Programs.{round, settled, group}
-use Rattle.ps_laws.specs.Settling.{after, changes, Settles}
+use Rattle.ps_laws.specs.Settling.{reached_by, changes, Settles}
 use Rattle.ps_laws.proofs.common.EitherWay.{either_way}
 use Rattle.ps_laws.proofs.common.Steps.{changes-next, changes-before_first, changes-before_last}
 
@@ -23,7 +23,7 @@ pub record SettlesBehind (before : Bool) (rules : List RuleMeaning) (limit : ℕ
   pub rounds : ℕ
   pub some_round : 1 ≤ rounds
   pub few_rounds : rounds ≤ limit
-  pub reached : result.state ≡ after rounds (round rules) state
+  pub reached : result.state ≡ reached_by rounds (round rules) state
   pub going_on : (number : ℕ) → 1 ≤ number → number < rounds → changes number (round rules) state ≡ true
   pub ended : (rounds ≡ limit) ⊎ (changes rounds (round rules) state ≡ false)
   pub tells : result.changed ≡ true → (before ≡ true) ⊎ SomeChange rules state rounds

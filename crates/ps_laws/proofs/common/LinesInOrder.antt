@@ -9,7 +9,7 @@ use Rattle.std.proofs.Math.Seq.{drop-cons}
 use Rattle.std.proofs.lemmas.List.Splits.{length-slice_split}
 use Rattle.ps_model.specs.declared.texts.Section.{Section}
 use Rattle.ps_model.specs.declared.texts.Section.TheVariants.{Prelude}
-use Rattle.ps_model.specs.declared.texts.Cut.TheVariants.{Plain}
+use Rattle.ps_model.specs.declared.texts.Cut.TheVariants.{Blanks}
 use Rattle.ps_model.specs.text.Lines.{Line, is_line_feed, mark_length, as_lines, raw_lines, headers, header_of, header_of_words, folded, without_comments, text_place, depth_below, lines_from, lines_of}
 use Rattle.ps_model.specs.text.LineNumbers.{no_line, line_at, lines_between, here}
 use Rattle.ps_model.specs.text.Sections.{rank}
@@ -59,7 +59,7 @@ in_order_from number start depth above (raw ∷ others) =
     let section : Section = unwrap_or (header_of plain) above in (
       refl,
       (
-        below_by above _ (header_of plain) (λ section e. later_words (word_texts Plain plain) section e) refl refl,
+        below_by above _ (header_of plain) (λ section e. later_words (word_texts Blanks plain) section e) refl refl,
         in_order_from (suc number) (start + length raw + 1) (depth_below section (text_place section plain) depth raw) section others,
       ),
     )

@@ -11,7 +11,7 @@ use Rattle.ps_model.specs.board.Places.{cells_in}
 use Rattle.ps_model.specs.board.Attempts.{State, Rewritten, with_cell, rewritten_cell, rewritten_along, all_fit, rewritten_rows, applied, combinations_on, attempt}
 use Rattle.ps_model.specs.board.Programs.{Section, Group, Loop, program_run}
 use Rattle.ps_model.specs.board.Movement.{slid}
-use Rattle.ps_model.specs.board.Turns.{Script, Outcome, Blocked, Restarted, Finished, prepared, moved, played, same_cells, is_held, done_with}
+use Rattle.ps_model.specs.board.Turns.{Script, Outcome, Blocked, Restarted, Finished, prepared, moved, played, same_cells, is_held, done_with, turn}
 use Rattle.ps_laws.specs.SameSides.{SameSides, HasSides, AttemptsKeepSides, RoundsKeepSides, SettlingKeepsSides, GroupsKeepSides, PassesKeepSides, LoopsKeepSides, SectionsKeepSides, RunsKeepSides, ProgramsKeepSides, SlidesKeepSides, RestKeepsSides, InputsKeepSides, TurnsKeepSides}
 use Rattle.ps_laws.proofs.common.Everywhere.{either_way, either_one, All-always}
 use Rattle.ps_laws.proofs.grids.KeptPrograms.{RuleKeeps, SectionKeeps, round-keeps, settled-keeps, group-keeps, pass-keeps, looped-keeps, section_run-keeps, sections_run-keeps, program_run-keeps}
@@ -130,6 +130,7 @@ played-sides script input g =
     (sides_twice g before.grid (slid before.grid) (program_run-kept g script.plain start (prepared-sides script.names input g)) (slid-sides before.grid))
 
 pub turn-sides : TurnsKeepSides
+unfolding turn
 turn-sides script input g =
     let last : State = played script input g in
     let done : Outcome = Finished (done_with script last (not (same_cells g.cells last.grid.cells))) in

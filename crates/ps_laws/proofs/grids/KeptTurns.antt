@@ -67,6 +67,7 @@ played-keeps script input g plain late h =
 -- a turn of a script
 pub turn-keeps : (script : Script) (input : Option Input) (g : Grid) → All (KeepsInSection script.names) script.plain → All (KeepsInSection script.names) script.late →
     IsGridOf script.names g → IsOutcomeOf script.names (turn script input g)
+unfolding turn
 turn-keeps script input g plain late h =
     let last : State = played script input g in
     let done : Outcome = Finished (done_with script last (not (same_cells g.cells last.grid.cells))) in

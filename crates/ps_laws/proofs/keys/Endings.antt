@@ -1,6 +1,6 @@
 -- How sessions end: behind the last entry, or as the player quits, and never for want of keys.
 use Rattle.std.proofs.Common.{◌≡◌, ◌≢◌, ℕ, suc, zero, Bool, true, false, Option, Some, None, List, [], ◌∷◌, ◌++◌, refl, sym, ◌∙◌, ap}
-use Rattle.std.specs.Prelude.{◌||◌, slice_get, reverse}
+use Rattle.std.specs.Prelude.{◌||◌, ◌-◌, length, slice_get}
 use Rattle.std.specs.Option.{option_or}
 use Rattle.ps_model.specs.declared.play.Ending.{Ending}
 use Rattle.ps_model.specs.declared.play.Ending.TheVariants.{TheEnd, Quit as Quits, EndOfKeys}
@@ -9,13 +9,12 @@ use Rattle.ps_model.specs.declared.play.Input.TheVariants.{Up, Down, Left, Right
 use Rattle.ps_model.specs.declared.play.Key.{Key}
 use Rattle.ps_model.specs.declared.play.Key.TheVariants.{Move, Undo, Restart, Quit}
 use Rattle.ps_model.specs.declared.limits.TheConstants.{AGAIN_LIMIT}
-use Rattle.ps_model.specs.board.Grid.{Grid}
 use Rattle.ps_model.specs.session.LevelLines.{Entry, MessageEntry, LevelEntry}
 use Rattle.ps_model.specs.session.Keys.{keys_of}
 use Rattle.ps_model.specs.board.Turns.{Script, Done, Outcome, Blocked, Restarted, Finished, turn}
 use Rattle.ps_model.specs.session.Sessions.{Play, Pending, Nothing, LevelDone, KeyAgain, StartAgain, Session, Playing, Waiting, AtMessage, Ended, Step, quietly, remembered, with_turn}
-use Rattle.ps_model.specs.session.StartSteps.{start_pending, start_told, start_counted, start_turns, all_start_turns, started, started_by, start_step, entered, enter, fresh, restarted}
-use Rattle.ps_model.specs.session.KeySteps.{key_pending, key_told, key_counted, key_turns, all_key_turns, turn_taken, undone, unless_ignored, key_in_level, input_taken, gone_on, key_at_level_message, key_at_entry, key_step}
+use Rattle.ps_model.specs.session.StartSteps.{start_pending, start_told, start_counted, start_turn_by, start_turns, all_start_turns, started, started_by, start_step, entered, enter, fresh, restarted}
+use Rattle.ps_model.specs.session.KeySteps.{key_pending, key_told, key_counted, key_turn_by, key_turns, all_key_turns, turn_taken, back_at, undone, unless_ignored, key_in_level, input_taken, gone_on, key_at_level_message, key_at_entry, key_step}
 use Rattle.ps_model.specs.game.Outputs.{Output, output, opening_step, ending_of, end_of_keys_line}
 use Rattle.ps_laws.specs.Fronts.{session_after, session_of, whole_front, EndsOtherwise, WrittenByEnding}
 use Rattle.ps_laws.proofs.keys.Fronts.{output_of_ended, output_of_unended}
@@ -52,17 +51,15 @@ of_start_counted : (script : Script) (play : Play) (done : Done) (left : ℕ) (t
 of_start_counted script play done left turns own false e = rw (e, start_counted) (in_play play)
 of_start_counted script play done left turns own true e = rw (e, start_counted) (of_start_told (with_turn play done) done.message done.again left turns own)
 
+of_start_turn : (script : Script) (play : Play) (left : ℕ) (turns : Play → Step) → ((p : Play) → IsOwn (turns p).session) → (outcome : Outcome) →
+    IsOwn (start_turn_by script play left turns outcome).session
+of_start_turn script play left turns own (Blocked message) = in_play play
+of_start_turn script play left turns own (Restarted message) = in_play play
+of_start_turn script play left turns own (Finished done) = of_start_counted script play done left turns own done.changed refl
+
 of_start_turns : (script : Script) (left : ℕ) (play : Play) → IsOwn (start_turns script left play).session
 of_start_turns script zero play = in_play play
-of_start_turns script (suc left) play = after_turn (turn script None play.board) (of_start_turns script left) where
-  after_turn : (outcome : Outcome) → ((p : Play) → IsOwn (start_turns script left p).session) → let step : Step = elim outcome [
-    | Blocked message ↦ quietly (Playing play)
-    | Restarted message ↦ quietly (Playing play)
-    | Finished done ↦ start_counted script play done left (start_turns script left)
-  ] in IsOwn step.session
-  after_turn (Blocked message) own = in_play play
-  after_turn (Restarted message) own = in_play play
-  after_turn (Finished done) own = of_start_counted script play done left (start_turns script left) own done.changed refl
+of_start_turns script (suc left) play = of_start_turn script play left (start_turns script left) (of_start_turns script left) (turn script None play.board)
 
 of_all_start_turns : (script : Script) (play : Play) → IsOwn (all_start_turns script play).session
 unfolding all_start_turns
@@ -105,17 +102,15 @@ of_key_counted : (script : Script) (play : Play) (done : Done) (left : ℕ) (tur
 of_key_counted script play done left turns own false e = rw (e, key_counted) (in_play play)
 of_key_counted script play done left turns own true e = rw (e, key_counted) (of_key_told script (with_turn play done) done left turns own done.message done.win done.again refl refl refl)
 
+of_key_turn : (script : Script) (play : Play) (left : ℕ) (turns : Play → Step) → ((p : Play) → IsOwn (turns p).session) → (outcome : Outcome) →
+    IsOwn (key_turn_by script play left turns outcome).session
+of_key_turn script play left turns own (Blocked message) = in_play play
+of_key_turn script play left turns own (Restarted message) = of_restarted script play message
+of_key_turn script play left turns own (Finished done) = of_key_counted script play done left turns own (done.changed || done.win) refl
+
 of_key_turns : (script : Script) (left : ℕ) (play : Play) → IsOwn (key_turns script left play).session
 of_key_turns script zero play = in_play play
-of_key_turns script (suc left) play = after_turn (turn script None play.board) (of_key_turns script left) where
-  after_turn : (outcome : Outcome) → ((p : Play) → IsOwn (key_turns script left p).session) → let step : Step = elim outcome [
-    | Blocked message ↦ quietly (Playing play)
-    | Restarted message ↦ restarted script play message
-    | Finished done ↦ key_counted script play done left (key_turns script left)
-  ] in IsOwn step.session
-  after_turn (Blocked message) own = in_play play
-  after_turn (Restarted message) own = of_restarted script play message
-  after_turn (Finished done) own = of_key_counted script play done left (key_turns script left) own (done.changed || done.win) refl
+of_key_turns script (suc left) play = of_key_turn script play left (key_turns script left) (of_key_turns script left) (turn script None play.board)
 
 of_all_key_turns : (script : Script) (play : Play) → IsOwn (all_key_turns script play).session
 unfolding all_key_turns
@@ -127,9 +122,8 @@ of_turn_taken script play (Blocked (Some text)) = in_wait play Nothing
 of_turn_taken script play (Restarted message) = of_restarted script (remembered play) message
 of_turn_taken script play (Finished done) = of_key_told script _ done AGAIN_LIMIT (all_key_turns script) (of_all_key_turns script) done.message done.win done.again refl refl refl
 
-of_undone : (script : Script) (play : Play) (boards : List Grid) → IsOwn (undone script play boards).session
-of_undone script play [] = in_play play
-of_undone script play (latest ∷ earlier) = λ e. absurd (cc)
+of_undone : (script : Script) (play : Play) → IsOwn (undone script play).session
+of_undone script play = in_play (back_at play (slice_get play.history (length play.history - 1)))
 
 of_unless_ignored : (ignored : Bool) (play : Play) (key : Play → Step) → ((p : Play) → IsOwn (key p).session) → IsOwn (unless_ignored ignored play key).session
 of_unless_ignored true play key own = in_play play
@@ -144,7 +138,7 @@ of_key_in_level script play (Move Down) = of_input_taken script play Down
 of_key_in_level script play (Move Left) = of_input_taken script play Left
 of_key_in_level script play (Move Right) = of_input_taken script play Right
 of_key_in_level script play (Move Action) = of_unless_ignored script.options.no_action play (λ here. input_taken script here Action) (λ here. of_input_taken script here Action)
-of_key_in_level script play Undo = of_unless_ignored script.options.no_undo play (λ here. undone script here (reverse here.history)) (λ here. of_undone script here (reverse here.history))
+of_key_in_level script play Undo = of_unless_ignored script.options.no_undo play (undone script) (of_undone script)
 of_key_in_level script play Restart = of_unless_ignored script.options.no_restart play (λ here. restarted script (remembered here) None) (λ here. of_restarted script (remembered here) None)
 of_key_in_level script play Quit = at_quit
 
@@ -177,6 +171,7 @@ of_keys script session [] own = own
 of_keys script session (key ∷ keys) own = of_keys script (key_step script session key).session keys (of_key_step script session key own)
 
 pub ends_otherwise : EndsOtherwise
+unfolding opening_step
 ends_otherwise script bytes = of_keys script (opening_step script).session (keys_of bytes) (of_enter script 0)
 
 -- what the ending tells

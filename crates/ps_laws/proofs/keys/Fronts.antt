@@ -80,6 +80,7 @@ from_start script start keys =
 
 -- the output is the front of all keys, and what comes behind it
 pub output-is : (script : Script) (bytes : List ℕ) → output script bytes ≡ after_text (whole_front script bytes) (closing (ending_of (session_of script bytes)))
+unfolding whole_front
 output-is script bytes = from_start script (opening_step script) (keys_of bytes)
 
 pub output_of_ended : OutputOfEnded
@@ -114,6 +115,7 @@ front_grows script bytes few many h = (
 
 -- the front of all keys, without a count
 pub whole_front-is : (script : Script) (bytes : List ℕ) → whole_front script bytes ≡ (opening_step script).text ++ texts_of_keys script (opening_step script).session (keys_of bytes)
+unfolding whole_front
 whole_front-is script bytes = ap (λ (l : List Key). (opening_step script).text ++ texts_of_keys script (opening_step script).session l) (take_all (keys_of bytes))
 
 pub front_of_output : FrontOfOutput

@@ -20,7 +20,7 @@ use Rattle.ps_model.specs.names.NameBounds.{IsBelow, AreBounded}
 use Rattle.ps_model.specs.text.WrittenLines.{WrittenLine}
 use Rattle.ps_model.specs.names.ObjectLines.{ObjectText, one_character}
 use Rattle.ps_model.specs.names.Meanings.{is_aggregate}
-use Rattle.ps_model.specs.names.LayerLines.{Layer, objects_named, last_among, layers_found}
+use Rattle.ps_model.specs.names.LayerLines.{Layer, objects_of_layer, last_among, layers_found}
 use Rattle.ps_model.specs.names.NamesRead.{Declared, NameSections, entry_of, entries_of, glyph_of, glyph_with, layer_numbers, names_of, sections_of, name_sections}
 use Rattle.ps_model.specs.names.DeclarationFaults.{are_declared_again, is_bad_object, faults_of_object, object_faults, faults_of_layer}
 use Rattle.ps_laws.specs.GamesOfTexts.{NamesReadAreBounded, GamesAreBounded}
@@ -87,8 +87,8 @@ places-under count number (objects ∷ lists) object h =
 -- the layers that are found are layers
 found-under : (count : ℕ) (layers : List Layer) → All (IsUnderIf (length layers)) (layers_found count layers)
 found-under count layers =
-    All-map (IsUnderIf (length layers)) (λ number. last_among (map objects_named layers) (record { 0 = number })) (range_with_len 0 count)
-    (λ k d less. last-under (length layers) None _ tt (places-under (length layers) 0 (map objects_named layers) _ (rw length-map (omega arith))))
+    All-map (IsUnderIf (length layers)) (λ number. last_among (map objects_of_layer layers) (record { 0 = number })) (range_with_len 0 count)
+    (λ k d less. last-under (length layers) None _ tt (places-under (length layers) 0 (map objects_of_layer layers) _ (rw length-map (omega arith))))
 
 each-under : (count : ℕ) (objects : List ObjectText) (places : List (Option ℕ)) → length places ≡ length objects →
     flat_map (λ each. when (is_none each.1) NoLayer each.0.line) (zip objects places) ≡ [] → All (IsUnderIf count) places → All (IsUnder count) (layer_numbers places)
@@ -101,7 +101,7 @@ each-under count (object ∷ objects) (Some place ∷ places) long e h =
 
 -- how many objects there are
 pub layers_found-counted : (count : ℕ) (layers : List Layer) → length (layer_numbers (layers_found count layers)) ≡ count
-layers_found-counted count layers = rw length-map (length-map-range_with_len (λ number. last_among (map objects_named layers) (record { 0 = number })) 0 count)
+layers_found-counted count layers = rw length-map (length-map-range_with_len (λ number. last_among (map objects_of_layer layers) (record { 0 = number })) 0 count)
 
 -- names ------------------------------------------------------------------------------------------------------------------
 
@@ -127,7 +127,7 @@ sections-bounded header objects lines layer_lines h =
     let count : ℕ = length objects in
     let places : List (Option ℕ) = layers_found count sections.layers in
     let long : length (layer_numbers places) ≡ count = layers_found-counted count sections.layers in
-    let found : length places ≡ count = length-map-range_with_len (λ number. last_among (map objects_named sections.layers) (record { 0 = number })) 0 count in
+    let found : length places ≡ count = length-map-range_with_len (λ number. last_among (map objects_of_layer sections.layers) (record { 0 = number })) 0 count in
     let few : 0 + count ≤ OBJECT_LIMIT = objects-few 0 [] objects h.objects (omega arith) in
     let few_layers : 0 + length sections.layers ≤ LAYER_LIMIT = layers-few 0 sections.layers h.layers (omega arith) in
     let speak : All (Speaks count) sections.declared = all_declared-below objects lines in

@@ -12,7 +12,7 @@ use Rattle.ps_model.specs.text.Sections.{section_lines, header_number, heading_f
 use Rattle.ps_model.specs.names.Names.{Names}
 use Rattle.ps_model.specs.names.NameFaults.{name_faults}
 use Rattle.ps_model.specs.rules.RuleFaults.{rule_faults}
-use Rattle.ps_model.specs.session.LevelLines.{EntryLines, MessageLine, LevelRows, characters_of, entry_of, entry_lines}
+use Rattle.ps_model.specs.session.LevelLines.{EntryLines, MessageLine, LevelRows, characters_of, entry_of_lines, entry_lines}
 use Rattle.ps_model.specs.session.LevelFaults.{is_too_large, row_faults, rows_faults, too_many, entry_faults, entries_faults, level_faults}
 use Rattle.ps_model.specs.session.GameLevels.{IsEntryWithinLimits}
 use Rattle.ps_model.specs.game.Games.{Game, game_read, line_faults}
@@ -39,7 +39,7 @@ rows-fit names width place (row ∷ rows) h e =
     let rest : suc place + length rows ≤ SIDE_LIMIT = rows-fit names width (suc place) rows less (none-behind here others e) in
     omega (arith, rest)
 
-entry-within : (names : Names) (place : ℕ) (entry : EntryLines) → entry_faults names place entry ≡ [] → IsEntryWithinLimits (entry_of names entry)
+entry-within : (names : Names) (place : ℕ) (entry : EntryLines) → entry_faults names place entry ≡ [] → IsEntryWithinLimits (entry_of_lines names entry)
 entry-within names place (MessageLine line) e = tt
 entry-within names place (LevelRows first below) e =
     let width : ℕ = length (characters_of first) in
@@ -53,12 +53,12 @@ entry-within names place (LevelRows first below) e =
       rows = omega (arith, fits);
     }
 
-entries-within : (names : Names) (place : ℕ) (entries : List EntryLines) → entries_faults names place entries ≡ [] → All IsEntryWithinLimits (map (entry_of names) entries)
+entries-within : (names : Names) (place : ℕ) (entries : List EntryLines) → entries_faults names place entries ≡ [] → All IsEntryWithinLimits (map (entry_of_lines names) entries)
 entries-within names place [] e = All-nil IsEntryWithinLimits
 entries-within names place (entry ∷ entries) e =
     let here : List Fault = entry_faults names place entry in
     let others : List Fault = entries_faults names (suc place) entries in
-    All-cons IsEntryWithinLimits (entry_of names entry) (map (entry_of names) entries) (entry-within names place entry (none-before here others e))
+    All-cons IsEntryWithinLimits (entry_of_lines names entry) (map (entry_of_lines names) entries) (entry-within names place entry (none-before here others e))
     (entries-within names (suc place) entries (none-behind here others e))
 
 levels-faultless : (lines : List Line) → line_faults lines ≡ [] → level_faults (game_read lines).names (header_number lines Levels) (section_lines lines Levels) ≡ []

@@ -20,7 +20,7 @@ use Rattle.ps_model.specs.text.Lines.{Line, folded}
 use Rattle.ps_model.specs.names.Names.{Meaning, One, AllOf, AnyOf, Names, layer_of, object_count, meaning_of, members_if, members_named}
 use Rattle.ps_model.specs.names.NameBounds.{IsBelow, AreBounded}
 use Rattle.ps_model.specs.board.Levels.{shown_objects, is_ground, ground, with_ground, grounded, cell_of}
-use Rattle.ps_model.specs.session.LevelLines.{EntryLines, MessageLine, LevelRows, characters_of, of_width, shown_in_level, row_cells, in_columns, entry_of, entry_lines}
+use Rattle.ps_model.specs.session.LevelLines.{EntryLines, MessageLine, LevelRows, characters_of, of_width, shown_in_level, row_cells, in_columns, entry_of_lines, entry_lines}
 use Rattle.ps_model.specs.board.GameGrids.{IsSlotOf, IsCellFrom, IsCellOf}
 use Rattle.ps_model.specs.session.GameLevels.{AreObjectsOf, IsEntryOf}
 use Rattle.ps_laws.specs.GamesOfTexts.{LoadedLevelsAreGrids, EntriesReadAreOfNames}
@@ -156,7 +156,7 @@ cells-counted names width rows =
     length-map (in_columns width read) (with_ground names (ground names (in_columns width read))) ∙ columns-counted read (range_with_len 0 width) ∙ ap (λ (n : ℕ). n * length read) (length-range_with_len 0 width)
     ∙ ap (λ (n : ℕ). width * n) (length-map rows (row_cells names width))
 
-entry_of-game : (names : Names) → AreBounded names → 0 < object_count names → (entry : EntryLines) → IsEntryOf names (entry_of names entry)
+entry_of-game : (names : Names) → AreBounded names → 0 < object_count names → (entry : EntryLines) → IsEntryOf names (entry_of_lines names entry)
 entry_of-game names bounded some (MessageLine line) = tt
 entry_of-game names bounded some (LevelRows first below) =
     let width : ℕ = length (characters_of first) in
@@ -169,4 +169,4 @@ entry_of-game names bounded some (LevelRows first below) =
 
 pub entries_read-game : EntriesReadAreOfNames
 entries_read-game names lines bounded some =
-    All-mapped (IsEntryOf names) (λ entry. ⊤) (entry_of names) (entry_lines lines) (λ entry h. entry_of-game names bounded some entry) (All-always (λ entry. ⊤) (entry_lines lines) (λ entry. tt))
+    All-mapped (IsEntryOf names) (λ entry. ⊤) (entry_of_lines names) (entry_lines lines) (λ entry h. entry_of-game names bounded some entry) (All-always (λ entry. ⊤) (entry_lines lines) (λ entry. tt))

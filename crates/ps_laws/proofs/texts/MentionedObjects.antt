@@ -15,7 +15,7 @@ use Rattle.ps_model.specs.names.NameBounds.{IsBelow}
 use Rattle.ps_model.specs.text.WrittenLines.{WrittenLine}
 use Rattle.ps_model.specs.names.ObjectLines.{ObjectText, object_names, names_of_object, name_of}
 use Rattle.ps_model.specs.names.LegendLines.{Declaration, declarations}
-use Rattle.ps_model.specs.names.Meanings.{LegendName, Mention, OfObject, OfLine, same_mention, mentions_of, mentions_of_name, with_mentioned, all_mentioned, object_of, objects_of, meaning_by, meaning_behind, legend_meanings, legend_name, legend_names, known_names, object_mention, line_mention}
+use Rattle.ps_model.specs.names.Meanings.{LegendName, Mention, OfObject, OfLine, same_mention, mentions_of, mentions_of_name, with_mentioned, all_mentioned, object_of, objects_of, meaning_by_joiner, meaning_behind, legend_meanings, legend_name, legend_names, known_names, object_mention, line_mention}
 use Rattle.ps_model.specs.names.NamesRead.{Declared, object_declared, legend_declared, all_declared}
 use Rattle.ps_laws.proofs.common.Everywhere.{either_way, All-always, All-mapped, All-filter_map, All-slice_get}
 
@@ -76,13 +76,13 @@ alone-below count of_mention [] means all = tt
 alone-below count of_mention (mention ∷ mentions) means all = means mention (All-head (IsMention count) mention mentions all)
 
 meaning_by-below : (count : ℕ) (of_mention : Mention → Option Meaning) (legend : List LegendName) (joiner : Joiner) (name : LegendName) → Means count of_mention → All (IsName count) legend → IsName count name →
-    IsBelowIf count (meaning_by of_mention legend joiner name)
+    IsBelowIf count (meaning_by_joiner of_mention legend joiner name)
 meaning_by-below count of_mention legend Alone name means names h = alone-below count of_mention name.mentions means h
 meaning_by-below count of_mention legend And name means names h = objects_of-below count legend name names h
 meaning_by-below count of_mention legend Or name means names h = objects_of-below count legend name names h
 
 named-below : (count : ℕ) (of_mention : Mention → Option Meaning) (legend : List LegendName) (place : ℕ) (name : Option LegendName) → slice_get legend place ≡ name → Means count of_mention →
-    All (IsName count) legend → IsBelowIf count (option_and_then (λ name. meaning_by of_mention legend name.joiner name) name)
+    All (IsName count) legend → IsBelowIf count (option_and_then (λ name. meaning_by_joiner of_mention legend name.joiner name) name)
 named-below count of_mention legend place None e means names = tt
 named-below count of_mention legend place (Some name) e means names = meaning_by-below count of_mention legend name.joiner name means names (of_name-below count legend place (Some name) e names)
 

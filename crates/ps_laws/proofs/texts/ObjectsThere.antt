@@ -18,7 +18,7 @@ use Rattle.ps_model.specs.text.Lines.{folded}
 use Rattle.ps_model.specs.text.WrittenLines.{WrittenLine}
 use Rattle.ps_model.specs.names.Names.{Meaning}
 use Rattle.ps_model.specs.names.ObjectLines.{ObjectText}
-use Rattle.ps_model.specs.names.LegendLines.{RightSide, Declaration, joined_by, side_by, right_side, name_declared, is_key_word, is_sign, declared_with, declared_by, declarations}
+use Rattle.ps_model.specs.names.LegendLines.{RightSide, Declaration, joined_by, side_by, right_side, name_declared, is_key_word, is_equals_sign, declared_with, declared_by, declarations}
 use Rattle.ps_model.specs.names.Meanings.{LegendName, Mention, OfObject, OfLine, line_mention, legend_name, legend_names, legend_meanings, mentions_of, mentions_of_name, all_mentioned, is_on_cycle, meaning_of_mention}
 use Rattle.ps_model.specs.names.NamesRead.{NameSections, all_declared, entries_of, layer_numbers, sections_of, name_sections}
 use Rattle.ps_model.specs.names.DeclarationFaults.{faults_of_legend_name}
@@ -71,7 +71,7 @@ name_given words = anything (name_declared words)
 
 declared_with-some : (number : ℕ) (name : List ℕ) (others : List (List ℕ)) → IfSome (declared_with number name others) Mentions
 declared_with-some number name others =
-    either_one (λ (found : Option Declaration). IfSome found Mentions) (is_sign name || list_any is_sign others) None (option_map (λ right. record { line = number; name = name; right = right }) (right_side others))
+    either_one (λ (found : Option Declaration). IfSome found Mentions) (is_equals_sign name || list_any is_equals_sign others) None (option_map (λ right. record { line = number; name = name; right = right }) (right_side others))
     tt (mapped-each HasMentions Mentions (right_side others) _ (right_side-some others) (λ right h. h))
 
 declared_by-some : (line : WrittenLine) → IfSome (declared_by line) Mentions

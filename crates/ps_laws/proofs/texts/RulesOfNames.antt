@@ -16,7 +16,7 @@ use Rattle.ps_model.specs.text.RuleWords.{rule_words_in}
 use Rattle.ps_model.specs.rules.RuleSymbols.{Symbol, Open, Without, Plus, Moves, StartsLoop, EndsLoop, Called, key_words, name_symbol, symbol_of, first_symbol, Token, token_by, tokens_at, tokens_of, is_left_out, tokens_kept}
 use Rattle.ps_model.specs.rules.RuleShape.{is_open, is_close, is_bar, is_arrow, cut_at, has_kind, WrittenRow, WrittenSide, RuleShape, row_of_parts, row_of, side_of_parts, side_of, shape_of_parts, shape_of, beside, paired_cells, paired_rows}
 use Rattle.ps_model.specs.rules.SourceRules.{Is, No}
-use Rattle.ps_model.specs.rules.RuleTree.{named_item, items_behind, is_gap, cell_of, row_of_cells, rows_of}
+use Rattle.ps_model.specs.rules.RuleTree.{named_item, items_behind, is_gap, pair_of, row_of_cells, rows_of}
 use Rattle.ps_model.specs.rules.RuleLines.{LineForm, StartForm, EndForm, RuleForm, NoForm, form_of_shape, form_of_words, form_of, line_of_form, lines_with_words}
 use Rattle.ps_model.specs.meaning.GameRules.{IsItemOf, IsPairOf, IsRuleOf, IsLineOf}
 use Rattle.ps_laws.specs.GamesOfTexts.{RulesReadAreOfNames}
@@ -159,13 +159,13 @@ items_behind-game names before (token ∷ tokens) all =
     All-append (IsItemOf names) (named_item before token.at token.symbol) (items_behind token.symbol tokens) (named_item-game names before token.at token.symbol (All-head (IsTokenOf names) token tokens all))
     (items_behind-game names token.symbol tokens (All-tail (IsTokenOf names) token tokens all))
 
-cell_of-game : (names : Names) (words : List Token × List Token) → Both (All (IsTokenOf names)) words → IsPairOf names (cell_of words)
+cell_of-game : (names : Names) (words : List Token × List Token) → Both (All (IsTokenOf names)) words → IsPairOf names (pair_of words)
 cell_of-game names words h = record { left = items_behind-game names Open words.0 h.0; right = items_behind-game names Open words.1 h.1 }
 
 row_of_cells-game : (names : Names) (cells : List (List Token × List Token)) → All (Both (All (IsTokenOf names))) cells → All (All (IsPairOf names)) (row_of_cells cells)
 row_of_cells-game names cells all =
-    All-mapped (All (IsPairOf names)) (All (Both (All (IsTokenOf names)))) (λ part. map cell_of part) (slice_split is_gap cells)
-    (λ part each. All-mapped (IsPairOf names) (Both (All (IsTokenOf names))) cell_of part (cell_of-game names) each)
+    All-mapped (All (IsPairOf names)) (All (Both (All (IsTokenOf names)))) (λ part. map pair_of part) (slice_split is_gap cells)
+    (λ part each. All-mapped (IsPairOf names) (Both (All (IsTokenOf names))) pair_of part (cell_of-game names) each)
     (All-slice_split (Both (All (IsTokenOf names))) is_gap cells all)
 
 rows_of-game : (names : Names) (shape : RuleShape) → IsShapeOf names shape → All (All (All (IsPairOf names))) (rows_of shape)

@@ -32,6 +32,7 @@ same_slot Bare (Holds object motion) = false
 same_slot (Holds object motion) Bare = false
 same_slot (Holds first motion) (Holds second other) = same_object first second && same_motion motion other
 
+-- two cells hold the same, layer by layer
 abbrev pub same_cell : List Slot → List Slot → Bool
 same_cell [] [] = true
 same_cell [] (slot ∷ slots) = false

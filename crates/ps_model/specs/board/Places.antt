@@ -9,17 +9,19 @@ use Rattle.ps_model.specs.declared.pieces.Slot.{Slot}
 use Rattle.ps_model.specs.board.Grid.{Grid, cell_count}
 use Rattle.ps_model.specs.meaning.RuleMeanings.{CellMeaning}
 
--- the cells from one on to the right edge, and to the lower edge
+-- the cells from one on to the right edge
 abbrev pub cells_rightwards : Grid → ℕ → List ℕ
 cells_rightwards g cell = map (λ steps. cell + steps * g.height) (range_with_len 0 (g.width - cell / g.height))
 
+-- the cells from one on to the lower edge
 abbrev pub cells_downwards : Grid → ℕ → List ℕ
 cells_downwards g cell = map (λ steps. cell + steps) (range_with_len 0 (g.height - cell % g.height))
 
--- all cells row by row from the top, and column by column from the left
+-- all cells, row by row from the top
 abbrev pub row_by_row : Grid → List ℕ
 row_by_row g = flat_map (λ row. map (λ column. column * g.height + row) (range_with_len 0 g.width)) (range_with_len 0 g.height)
 
+-- all cells, column by column from the left
 abbrev pub column_by_column : Grid → List ℕ
 column_by_column g = range_with_len 0 (cell_count g)
 

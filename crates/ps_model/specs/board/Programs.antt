@@ -1,5 +1,5 @@
 -- Rounds, groups, loops and programs. A round is the attempts of a group's rules in order. A group makes rounds until one changes
--- nothing, at most two hundred. A loop's body is passed once, and again while the last pass changed something. The repeats of all
+-- nothing, or until their limit. A loop's body is passed once, and again while the last pass changed something. The repeats of all
 -- loops of one run count together; where one more than their limit is due, the rest of the program isn't run.
 use Rattle.std.specs.Prelude.{ℕ, zero, suc, Bool, true, false, ◌||◌, List, [], ◌∷◌}
 use Rattle.ps_model.specs.declared.limits.TheConstants.{ROUND_LIMIT, REPEAT_LIMIT}

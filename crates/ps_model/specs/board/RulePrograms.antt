@@ -22,12 +22,13 @@ rule_in (Rule rule) = Some rule
 rule_in LoopStart = None
 rule_in LoopEnd = None
 
--- the line starts a loop; the line ends one
+-- the line starts a loop
 abbrev pub is_start : RuleLine → Bool
 is_start (Rule rule) = false
 is_start LoopStart = true
 is_start LoopEnd = false
 
+-- the line ends a loop
 abbrev pub is_end : RuleLine → Bool
 is_end (Rule rule) = false
 is_end LoopStart = false

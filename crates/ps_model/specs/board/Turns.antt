@@ -129,5 +129,5 @@ outcome_of script input g last =
     else Finished (done_with script last (not (same_cells g.cells last.grid.cells)))))
 
 -- a turn with an input, or without one
-abbrev pub turn : Script → Option Input → Grid → Outcome
+unfoldable pub turn : Script → Option Input → Grid → Outcome
 turn script input g = outcome_of script input g (played script input g)

@@ -10,7 +10,7 @@ use Rattle.ps_model.specs.declared.faults.Fault.{Fault}
 use Rattle.ps_model.specs.declared.faults.FaultKind.TheVariants.{BadWin, UnknownWinName}
 use Rattle.ps_model.specs.text.OptionSteps.{◌>>=◌}
 use Rattle.ps_model.specs.text.Faults.{when}
-use Rattle.ps_model.specs.text.Lines.{Line, folded, is_blank_line, plain_words}
+use Rattle.ps_model.specs.text.Lines.{Line, folded, is_blank_line, words_of_line}
 use Rattle.ps_model.specs.names.Names.{Meaning, Names, meaning_of}
 use Rattle.ps_model.specs.board.Wins.{Win}
 
@@ -38,7 +38,7 @@ win_of_words words = None
 
 -- the win condition that a line is, as it is written
 abbrev pub win_text : Line → Option WinText
-win_text line = win_of_words (plain_words line)
+win_text line = win_of_words (words_of_line line)
 
 -- what the name behind `on` stands for, if one is there and declared; without one, nothing is asked
 abbrev pub place_read : Names → Option (List ℕ) → Option (Option Meaning)

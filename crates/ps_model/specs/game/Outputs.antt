@@ -20,10 +20,11 @@ pub record Output : Type 0 where
 abbrev pub after_text : List ℕ → Output → Output
 after_text text rest = record { written = text ++ rest.written; ending = rest.ending }
 
--- the line of each ending that a key or the end of the keys brings
+-- the line that says that the player quit
 abbrev pub quit_line : List ℕ
 quit_line = codes "* quit\n"
 
+-- the line that says that the keys ended
 abbrev pub end_of_keys_line : List ℕ
 end_of_keys_line = codes "* end of keys\n"
 
@@ -35,7 +36,7 @@ ending_of (AtMessage entry) = None
 ending_of (Ended ending) = Some ending
 
 -- the start of a run: the title, and what the first entry writes
-abbrev pub opening_step : Script → Step
+unfoldable pub opening_step : Script → Step
 opening_step script = after (written_line (codes "= ") script.title) (enter script 0)
 
 -- what the keys bring in a session that has ended so, or hasn't

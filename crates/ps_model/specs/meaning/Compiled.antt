@@ -109,10 +109,11 @@ pub data CompiledSection : Type 0 where
   CompiledGroup : List CompiledRule → CompiledSection
   CompiledLoop : List (List CompiledRule) → CompiledSection
 
--- the meaning of a compiled cell, of a compiled rule and of a section
+-- the meaning of a compiled cell
 abbrev pub meaning_of_cell : CompiledCell → CellMeaning
 meaning_of_cell cell = record { fits = mask_fits cell.mask; rewritten = cell_written cell.write }
 
+-- the meaning of a compiled rule
 abbrev pub meaning_of_rule : CompiledRule → RuleMeaning
 meaning_of_rule rule = record {
   direction = rule.direction;
@@ -121,6 +122,7 @@ meaning_of_rule rule = record {
   commands = rule.commands;
 }
 
+-- the meaning of a section
 abbrev pub meaning_of_section : CompiledSection → Section
 meaning_of_section (CompiledGroup rules) = Group (map meaning_of_rule rules)
 meaning_of_section (CompiledLoop body) = Loop (map (map meaning_of_rule) body)

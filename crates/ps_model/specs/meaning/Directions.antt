@@ -21,10 +21,11 @@ left_of Down = Right
 left_of Left = Down
 left_of Right = Up
 
--- the two moves up and down, and the two left and right
+-- the two moves up and down
 abbrev pub vertical_moves : List Motion
 vertical_moves = Going Up ∷ Going Down ∷ []
 
+-- the two moves left and right
 abbrev pub horizontal_moves : List Motion
 horizontal_moves = Going Left ∷ Going Right ∷ []
 

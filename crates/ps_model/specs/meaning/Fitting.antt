@@ -11,13 +11,14 @@ use Rattle.ps_model.specs.declared.pieces.Slot.TheVariants.{Bare, Holds}
 use Rattle.ps_model.specs.names.Names.{Names, layer_of, same_object}
 use Rattle.ps_model.specs.meaning.Wanted.{Wanted, Each, Any, Without}
 
--- the place of a motion among the motions
+-- the place of a direction among the motions
 abbrev pub direction_number : Direction → ℕ
 direction_number direction.Up = 1
 direction_number direction.Down = 2
 direction_number direction.Left = 3
 direction_number direction.Right = 4
 
+-- the place of a motion among the motions
 abbrev pub motion_number : Motion → ℕ
 motion_number Still = 0
 motion_number (Going way) = direction_number way

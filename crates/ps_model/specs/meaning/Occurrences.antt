@@ -30,11 +30,12 @@ abbrev pub moves_so : MovementWord → Item → Bool
 moves_so word (Is number other meaning) = has_movement word other
 moves_so word (No meaning) = false
 
--- the numbers of occurrences
+-- the number of an item that is an occurrence
 abbrev pub number_of : Item → Option ℕ
 number_of (Is number word meaning) = Some number
 number_of (No meaning) = None
 
+-- the numbers of the occurrences among items
 abbrev pub numbers : List Item → List ℕ
 numbers items = filter_map number_of items
 

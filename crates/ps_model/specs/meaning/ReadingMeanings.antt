@@ -13,10 +13,11 @@ use Rattle.ps_model.specs.meaning.Rewriting.{claims_of, rewritten_from}
 use Rattle.ps_model.specs.declared.compiled.Claim.{Claim}
 use Rattle.ps_model.specs.meaning.Occurrences.{cells_of}
 
--- what the left of a cell asks under a reading, and what the right does
+-- what the left of a cell asks under a reading
 abbrev pub left_of_cell : Names → SourceRule → Reading → CellPair → List Wanted
 left_of_cell names rule reading cell = map (wanted_left names rule reading) cell.left
 
+-- what the right of a cell asks under a reading
 abbrev pub right_of_cell : Names → SourceRule → Reading → CellPair → List Wanted
 right_of_cell names rule reading cell = map (wanted_right names rule cell reading) cell.right
 

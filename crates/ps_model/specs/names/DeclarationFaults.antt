@@ -48,15 +48,15 @@ abbrev pub is_bad_line : WrittenLine → Bool
 is_bad_line line = is_none (declared_by line)
 
 -- the faults of a line's form, above which these names are declared; `and` and `or` in one line is NA3
-abbrev pub faults_of_form : List (List ℕ) → WrittenLine → List Fault
-faults_of_form before line =
+abbrev pub legend_form_faults : List (List ℕ) → WrittenLine → List Fault
+legend_form_faults before line =
     when (are_declared_again before (option_to_list (name_declared line.words))) Twice line.number
     ++ (when (is_mixed line) MixedAndOr line.number ++ when (is_bad_line line) BadLine line.number)
 
 -- the faults of the lines of LEGEND by their form
 abbrev pub form_faults : List (List ℕ) → List WrittenLine → List Fault
 form_faults before [] = []
-form_faults before (line ∷ others) = faults_of_form before line ++ form_faults (before ++ map folded (option_to_list (name_declared line.words))) others
+form_faults before (line ∷ others) = legend_form_faults before line ++ form_faults (before ++ map folded (option_to_list (name_declared line.words))) others
 
 -- the lines of LEGEND by what they name -----------------------------------------------------------------------------------
 

@@ -19,8 +19,8 @@ abbrev pub layers_of_lines : List (List ℕ × Meaning) → List WrittenLine →
 layers_of_lines entries lines = map (λ line. record { line = line.number; named = map (λ word. lookup (bytes_eq (folded word)) entries) line.words }) lines
 
 -- the objects that a layer names, themselves or by a property
-abbrev pub objects_named : Layer → List ObjectId
-objects_named layer = flat_map members_if layer.named
+abbrev pub objects_of_layer : Layer → List ObjectId
+objects_of_layer layer = flat_map members_if layer.named
 
 -- the numbers of the lists that have an object, lists numbered from 0
 abbrev pub places_among : List (List ObjectId) → ObjectId → List ℕ
@@ -32,4 +32,4 @@ last_among lists object = last_or None (places_among lists object)
 
 -- the layer of each of so many objects, if a layer names it
 abbrev pub layers_found : ℕ → List Layer → List (Option ℕ)
-layers_found count layers = let lists : List (List ObjectId) = map objects_named layers in map (λ number. last_among lists (record { 0 = number })) (range_with_len 0 count)
+layers_found count layers = let lists : List (List ObjectId) = map objects_of_layer layers in map (λ number. last_among lists (record { 0 = number })) (range_with_len 0 count)

@@ -49,13 +49,13 @@ name_declared (name ∷ []) = None
 name_declared (name ∷ second ∷ right) = if bytes_eq second (codes "=") then Some name else None
 
 -- the word is the sign that parts a line's two sides
-abbrev pub is_sign : List ℕ → Bool
-is_sign word = bytes_eq word (codes "=")
+abbrev pub is_equals_sign : List ℕ → Bool
+is_equals_sign word = bytes_eq word (codes "=")
 
 -- what a line with these two sides declares: no name of LEGEND is written as the sign is
 abbrev pub declared_with : ℕ → List ℕ → List (List ℕ) → Option Declaration
 declared_with number name others =
-    if is_sign name || list_any is_sign others then None else option_map (λ right. record { line = number; name = name; right = right }) (right_side others)
+    if is_equals_sign name || list_any is_equals_sign others then None else option_map (λ right. record { line = number; name = name; right = right }) (right_side others)
 
 -- what a line declares; a line of another form declares nothing
 abbrev pub declared_by : WrittenLine → Option Declaration

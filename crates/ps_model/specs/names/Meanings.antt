@@ -31,9 +31,11 @@ pub record LegendName : Type 0 where
 
 -- which names there are -------------------------------------------------------------------------------------------------
 
+-- a name of an object, its letters folded, mentions the object
 abbrev pub object_mention : List ℕ × ObjectId → List ℕ × Mention
 object_mention named = (folded named.0, OfObject named.1)
 
+-- a name of the legend, its letters folded, mentions its place among the declarations
 abbrev pub line_mention : ℕ × Declaration → List ℕ × Mention
 line_mention numbered = (folded numbered.1.name, OfLine numbered.0)
 
@@ -66,6 +68,7 @@ same_mention (OfLine first) (OfLine second) = nat_eq first second
 same_mention (OfObject first) (OfLine second) = false
 same_mention (OfLine first) (OfObject second) = false
 
+-- what a name of the legend mentions, if there is one
 abbrev pub mentions_of_name : Option LegendName → List Mention
 mentions_of_name None = []
 mentions_of_name (Some name) = name.mentions
@@ -100,6 +103,7 @@ is_on_cycle legend place name = list_any (same_mention (OfLine place)) (all_ment
 
 -- what they stand for ----------------------------------------------------------------------------------------------------
 
+-- the object that is mentioned, if it is one
 abbrev pub object_of : Mention → Option ObjectId
 object_of (OfObject object) = Some object
 object_of (OfLine place) = None
@@ -109,17 +113,17 @@ abbrev pub objects_of : List LegendName → LegendName → List ObjectId
 objects_of legend name = filter_map object_of (all_mentioned legend name.mentions)
 
 -- what a name of the legend stands for: a synonym for what its one mention does
-abbrev pub meaning_by : (Mention → Option Meaning) → List LegendName → Joiner → LegendName → Option Meaning
-meaning_by of_mention legend Alone name = option_and_then of_mention (slice_get name.mentions 0)
-meaning_by of_mention legend And name = Some (AllOf name.line (objects_of legend name))
-meaning_by of_mention legend Or name = Some (AnyOf name.line (objects_of legend name))
+abbrev pub meaning_by_joiner : (Mention → Option Meaning) → List LegendName → Joiner → LegendName → Option Meaning
+meaning_by_joiner of_mention legend Alone name = option_and_then of_mention (slice_get name.mentions 0)
+meaning_by_joiner of_mention legend And name = Some (AllOf name.line (objects_of legend name))
+meaning_by_joiner of_mention legend Or name = Some (AnyOf name.line (objects_of legend name))
 
 -- what a mention stands for, behind so many synonyms at most; nothing where synonyms stand for themselves
 abbrev pub meaning_behind : List LegendName → ℕ → Mention → Option Meaning
 meaning_behind legend most (OfObject object) = Some (One object)
 meaning_behind legend zero (OfLine place) = None
 meaning_behind legend (suc most) (OfLine place) =
-    option_and_then (λ name. meaning_by (meaning_behind legend most) legend name.joiner name) (slice_get legend place)
+    option_and_then (λ name. meaning_by_joiner (meaning_behind legend most) legend name.joiner name) (slice_get legend place)
 
 -- what each name of the legend stands for
 abbrev pub legend_meanings : List LegendName → List (Option Meaning)

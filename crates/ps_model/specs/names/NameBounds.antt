@@ -8,6 +8,7 @@ use Rattle.ps_model.specs.names.Names.{Meaning, Names, members, object_count}
 abbrev pub IsBelow : ℕ → Meaning → Type 0
 IsBelow count meaning = All (λ object. object.0 < count) (members meaning)
 
+-- the names keep to the limits, and speak of objects and layers of the game alone
 pub record AreBounded (names : Names) : Type 0 where
   pub few_objects : object_count names ≤ OBJECT_LIMIT
   pub few_layers : names.layer_count ≤ LAYER_LIMIT

@@ -71,6 +71,7 @@ shares_layer layers Alone meaning = false
 shares_layer layers And meaning = repeat (layers_among layers (members_if meaning))
 shares_layer layers Or meaning = false
 
+-- those lines, each with its fault
 abbrev pub shared_layer_faults : NameSections → List ℕ → List Fault
 shared_layer_faults sections layers =
     flat_map (λ each. when (shares_layer layers each.0.joiner each.1) SameLayerAggregate each.0.line) (zip sections.legend sections.meanings)
@@ -88,6 +89,7 @@ whole_faults header sections =
 abbrev pub folded_names : List ObjectText → List (List ℕ)
 folded_names objects = flat_map (λ object. map folded object.words) objects
 
+-- the faults of these sections, whose header OBJECTS has that number
 abbrev pub faults_of_sections : ℕ → NameSections → List Fault
 faults_of_sections header sections =
     object_faults 0 [] sections.objects

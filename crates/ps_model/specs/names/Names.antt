@@ -35,6 +35,7 @@ meaning_of names name = lookup (bytes_eq (folded name)) names.entries
 abbrev pub layer_of : Names → ObjectId → ℕ
 layer_of names object = slice_index_or names.layers object.0 0
 
+-- how many objects there are
 abbrev pub object_count : Names → ℕ
 object_count names = length names.layers
 

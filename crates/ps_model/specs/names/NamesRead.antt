@@ -48,6 +48,7 @@ all_declared objects legend meanings = map object_declared (object_names objects
 abbrev pub entry_of : Declared → List ℕ × Meaning
 entry_of declared = (folded declared.name, declared.meaning)
 
+-- all names with what they stand for
 abbrev pub entries_of : List Declared → List (List ℕ × Meaning)
 entries_of declared = map entry_of declared
 
@@ -83,6 +84,7 @@ glyph_with (Some character) (One object) = Some (record { character = character;
 glyph_with (Some character) (AllOf line objects) = Some (record { character = character; meaning = AllOf line objects })
 glyph_with (Some character) (AnyOf line objects) = None
 
+-- the glyph of a name, if it is one
 abbrev pub glyph_of : Declared → Option Glyph
 glyph_of declared = glyph_with (one_character declared.name) declared.meaning
 

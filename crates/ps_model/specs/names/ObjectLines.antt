@@ -5,7 +5,7 @@ use Rattle.std.specs.Prelude.{ℕ, zero, suc, ◌==◌, nat_le, Bool, true, fals
 use Rattle.std.specs.List.{list_all, prefix_len, enumerate_from}
 use Rattle.std.specs.Str.{chars}
 use Rattle.ps_model.specs.declared.pieces.ObjectId.{ObjectId}
-use Rattle.ps_model.specs.text.Lines.{Line, is_blank_line, plain_words}
+use Rattle.ps_model.specs.text.Lines.{Line, is_blank_line, words_of_line}
 
 -- an object as it is written
 pub record ObjectText : Type 0 where
@@ -28,7 +28,7 @@ is_sprite_word word = length word == 5 && list_all is_sprite_byte word
 
 -- a row of a sprite is a line of one such word
 abbrev pub is_sprite_row : Line → Bool
-is_sprite_row line = let words : List (List ℕ) = plain_words line in length words == 1 && list_all is_sprite_word words
+is_sprite_row line = let words : List (List ℕ) = words_of_line line in length words == 1 && list_all is_sprite_word words
 
 -- how many rows of a sprite stand on top of these lines, five at most
 abbrev pub sprite_rows : List Line → ℕ
@@ -49,7 +49,7 @@ objects_below zero (line ∷ others) = elim (is_blank_line line) [
   | true ↦ objects_below 0 others
   | false ↦
       let below : ℕ = lines_below others in
-      record { line = line.number; words = plain_words line; below = below } ∷ objects_below below others
+      record { line = line.number; words = words_of_line line; below = below } ∷ objects_below below others
 ]
 
 -- the objects of OBJECTS, in order of declaration

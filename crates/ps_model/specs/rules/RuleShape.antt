@@ -122,12 +122,12 @@ abbrev pub words_behind : WrittenSide → List Token
 words_behind side = flat_map (λ row. row.behind) side.rows
 
 -- the cells of a side, whatever their rows
-abbrev pub cells_in : WrittenSide → List (List Token)
-cells_in side = flat_map (λ row. row.cells) side.rows
+abbrev pub cells_of_side : WrittenSide → List (List Token)
+cells_of_side side = flat_map (λ row. row.cells) side.rows
 
 -- the words in a side's brackets, bars aside
 abbrev pub words_in_cells : WrittenSide → List Token
-words_in_cells side = flat_map (λ words. words) (cells_in side)
+words_in_cells side = flat_map (λ words. words) (cells_of_side side)
 
 -- each list beside the one at its place among others; beside an empty list, where there is none
 abbrev pub beside : {A : Type 0} → List (List A) → List (List A) → List (List A × List A)

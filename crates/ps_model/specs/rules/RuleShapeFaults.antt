@@ -4,7 +4,7 @@ use Rattle.std.specs.Prelude.{nat_eq, nat_lt, Bool, true, false, ◌&&◌, ◌||
 use Rattle.std.specs.List.{list_any}
 use Rattle.ps_model.specs.declared.limits.TheConstants.{ELLIPSIS_LIMIT}
 use Rattle.ps_model.specs.rules.RuleSymbols.{Symbol, Open, Ellipsis, Plus, Late, Without, Moves, Asks, Called, Token}
-use Rattle.ps_model.specs.rules.RuleShape.{has_kind, is_bar, is_ellipsis, is_late, has_rows, WrittenSide, RuleShape, words_behind, at_end, before_end, cells_in, words_in_cells, paired_rows, paired_cells}
+use Rattle.ps_model.specs.rules.RuleShape.{has_kind, is_bar, is_ellipsis, is_late, has_rows, WrittenSide, RuleShape, words_behind, at_end, before_end, cells_of_side, words_in_cells, paired_rows, paired_cells}
 use Rattle.ps_model.specs.rules.RuleTree.{is_direction_word}
 
 -- RU1 ----------------------------------------------------------------------------------------------------------------------
@@ -66,7 +66,7 @@ misses_name cell = misses_name_behind Open cell
 
 -- a side has a word in its brackets that can't stand there
 abbrev pub has_wrong_cell : WrittenSide → Bool
-has_wrong_cell side = has_kind (λ symbol. not (is_cell_word symbol)) (words_in_cells side) || list_any misses_name (cells_in side)
+has_wrong_cell side = has_kind (λ symbol. not (is_cell_word symbol)) (words_in_cells side) || list_any misses_name (cells_of_side side)
 
 -- RU2: a word that means nothing, or stands where it can't: before the rows something else than `+`, `late` and direction words;
 -- behind a row of the left anything; on the right anything before the last row, and something else than commands behind it

@@ -35,12 +35,12 @@ abbrev pub is_gap : List Token × List Token → Bool
 is_gap words = has_kind is_ellipsis words.0 && list_all (λ token. is_ellipsis token.symbol) (words.0 ++ words.1)
 
 -- a cell by its words on the left and on the right
-abbrev pub cell_of : List Token × List Token → CellPair
-cell_of words = record { left = items_of words.0; right = items_of words.1 }
+abbrev pub pair_of : List Token × List Token → CellPair
+pair_of words = record { left = items_of words.0; right = items_of words.1 }
 
 -- a row, parted by its ellipses
 abbrev pub row_of_cells : List (List Token × List Token) → List (List CellPair)
-row_of_cells cells = map (λ part. map cell_of part) (slice_split is_gap cells)
+row_of_cells cells = map (λ part. map pair_of part) (slice_split is_gap cells)
 
 -- the rows of a rule
 abbrev pub rows_of : RuleShape → List (List (List CellPair))

@@ -25,6 +25,7 @@ pub record Commands : Type 0 where
   pub win : Bool
   pub message : Option (List ℕ)
 
+-- a rule that asks nothing
 abbrev pub no_commands : Commands
 no_commands = record { cancel = false; restart = false; again = false; checkpoint = false; win = false; message = None }
 

@@ -50,11 +50,12 @@ key_behind Nothing byte = key_of byte
 key_behind Escape byte = key_of byte
 key_behind Bracket byte = key_unless_arrow (arrow_of byte) byte
 
--- what is held behind one more byte: each ESC begins an arrow anew; `[` goes on with one where ESC is held
+-- what is held behind a byte that isn't ESC: `[` goes on with an arrow where ESC is held
 abbrev pub held_unless_escape : Held → Bool → Held
 held_unless_escape Escape true = Bracket
 held_unless_escape other is_bracket = Nothing
 
+-- what is held behind one more byte: each ESC begins an arrow anew
 abbrev pub held_behind : Held → ℕ → Held
 held_behind kept byte = elim (byte == 27) [
   | true ↦ Escape

@@ -1,7 +1,7 @@
 -- What each key does. A direction or `x` makes a turn, with its frame, its message, and then the end of the level or again turns; `z`
 -- goes back to the latest board of the history, `r` restarts, `q` quits. While a message waits, `x` dismisses it, and all keys but `q`
 -- are ignored.
-use Rattle.std.specs.Prelude.{ℕ, zero, suc, Bool, true, false, ◌||◌, Option, Some, None, List, [], ◌∷◌, reverse, codes}
+use Rattle.std.specs.Prelude.{ℕ, zero, suc, Bool, true, false, ◌||◌, Option, Some, None, List, ◌-◌, length, take, slice_get, codes}
 use Rattle.ps_model.specs.declared.play.Ending.TheVariants.{Quit as Quits}
 use Rattle.ps_model.specs.declared.play.Input.{Input}
 use Rattle.ps_model.specs.declared.play.Input.TheVariants.{Up, Down, Left, Right, Action}
@@ -39,15 +39,17 @@ key_counted script play done left again_turns = elim (done.changed || done.win) 
   | true ↦ let next : Play = with_turn play done in after (shown script next) (key_told script next done left again_turns)
 ]
 
--- the again turns of a key, so many at most: turns without input. A blocked one doesn't count, nor does one that neither changed the
--- board nor won: one that doesn't count is as if not run, and ends them. A restart ends them too
+-- an again turn of a key by its outcome: a blocked one doesn't count, nor does one that neither changed the board nor won; one that
+-- doesn't count is as if not run, and ends the again turns. A restart ends them too
+abbrev pub key_turn_by : Script → Play → ℕ → (Play → Step) → Outcome → Step
+key_turn_by script play left again_turns (Blocked message) = quietly (Playing play)
+key_turn_by script play left again_turns (Restarted message) = restarted script play message
+key_turn_by script play left again_turns (Finished done) = key_counted script play done left again_turns
+
+-- the again turns of a key, so many at most: turns without input
 abbrev pub key_turns : Script → ℕ → Play → Step
 key_turns script zero play = quietly (Playing play)
-key_turns script (suc left) play = elim (turn script None play.board) [
-  | Blocked message ↦ quietly (Playing play)
-  | Restarted message ↦ restarted script play message
-  | Finished done ↦ key_counted script play done left (key_turns script left)
-]
+key_turns script (suc left) play = key_turn_by script play left (key_turns script left) (turn script None play.board)
 
 -- the again turns of a key, as many as there may be
 unfoldable pub all_key_turns : Script → Play → Step
@@ -63,16 +65,16 @@ abbrev pub remembered_if : Bool → Play → Play
 remembered_if true play = remembered play
 remembered_if false play = play
 
--- a done turn of a key: the new board, its frame, and what follows
+-- a done turn of a key, in a level whose history is already as it will be: the new board, its frame, and what follows
 abbrev pub key_done : Script → Play → Done → Step
 key_done script play done =
-    let next : Play = with_turn (remembered_if done.changed play) done in after (shown script next) (key_told script next done AGAIN_LIMIT (all_key_turns script))
+    let next : Play = with_turn play done in after (shown script next) (key_told script next done AGAIN_LIMIT (all_key_turns script))
 
 -- what comes of a key's own turn
 abbrev pub turn_taken : Script → Play → Outcome → Step
 turn_taken script play (Blocked message) = after (shown script play) (blocked play message)
 turn_taken script play (Restarted message) = restarted script (remembered play) message
-turn_taken script play (Finished done) = key_done script play done
+turn_taken script play (Finished done) = key_done script (remembered_if done.changed play) done
 
 -- keys -------------------------------------------------------------------------------------------------------------------
 
@@ -80,12 +82,14 @@ turn_taken script play (Finished done) = key_done script play done
 abbrev pub input_taken : Script → Play → Input → Step
 input_taken script play input = turn_taken script play (turn script (Some input) play.board)
 
--- the level with its latest board, where the history read backwards has one; a frame shows it
-abbrev pub undone : Script → Play → List Grid → Step
-undone script play [] = record { session = Playing play; text = shown script play }
-undone script play (latest ∷ earlier) =
-    let back : Play = record { entry = play.entry; board = latest; history = reverse earlier; target = play.target } in
-    record { session = Playing back; text = shown script back }
+-- the level back at the latest board of its history, which leaves the history; where there is none, as it is
+abbrev pub back_at : Play → Option Grid → Play
+back_at play None = play
+back_at play (Some latest) = record { entry = play.entry; board = latest; history = take (length play.history - 1) play.history; target = play.target }
+
+-- the level back at the latest board; a frame shows it, also where it is as it was
+abbrev pub undone : Script → Play → Step
+undone script play = let back : Play = back_at play (slice_get play.history (length play.history - 1)) in record { session = Playing back; text = shown script back }
 
 -- quitting ends the run
 abbrev pub quit : Step
@@ -103,7 +107,7 @@ key_in_level script play (Move Down) = input_taken script play Down
 key_in_level script play (Move Left) = input_taken script play Left
 key_in_level script play (Move Right) = input_taken script play Right
 key_in_level script play (Move Action) = unless_ignored script.options.no_action play (λ here. input_taken script here Action)
-key_in_level script play Undo = unless_ignored script.options.no_undo play (λ here. undone script here (reverse here.history))
+key_in_level script play Undo = unless_ignored script.options.no_undo play (λ here. undone script here)
 key_in_level script play Restart = unless_ignored script.options.no_restart play (λ here. restarted script (remembered here) None)
 key_in_level script play Quit = quit
 

@@ -59,12 +59,12 @@ entries_faults names place [] = []
 entries_faults names place (entry ∷ others) = entry_faults names place entry ++ entries_faults names (suc place) others
 
 -- the entry is a level
-abbrev pub is_level : EntryLines → Bool
-is_level (MessageLine line) = false
-is_level (LevelRows first below) = true
+abbrev pub are_level_lines : EntryLines → Bool
+are_level_lines (MessageLine line) = false
+are_level_lines (LevelRows first below) = true
 
 -- the faults of LEVELS, whose header has that number: line by line; then that there is no level, LV4, at the header
 abbrev pub level_faults : Names → ℕ → List Line → List Fault
 level_faults names header lines =
     let entries : List EntryLines = entry_lines lines in
-    entries_faults names 0 entries ++ when (not (list_any is_level entries)) NoLevel header
+    entries_faults names 0 entries ++ when (not (list_any are_level_lines entries)) NoLevel header

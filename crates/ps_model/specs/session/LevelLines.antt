@@ -79,10 +79,10 @@ level_of names width rows =
     record { width = width; height = length rows; cells = grounded names (in_columns width (map (row_cells names width) rows)) }
 
 -- the entry of its lines
-abbrev pub entry_of : Names → EntryLines → Entry
-entry_of names (MessageLine line) = MessageEntry (taken_bytes line)
-entry_of names (LevelRows first below) = LevelEntry (level_of names (length (characters_of first)) (first ∷ below))
+abbrev pub entry_of_lines : Names → EntryLines → Entry
+entry_of_lines names (MessageLine line) = MessageEntry (taken_bytes line)
+entry_of_lines names (LevelRows first below) = LevelEntry (level_of names (length (characters_of first)) (first ∷ below))
 
 -- the entries of LEVELS, from its lines that are there
 abbrev pub entries_read : Names → List Line → List Entry
-entries_read names lines = map (entry_of names) (entry_lines lines)
+entries_read names lines = map (entry_of_lines names) (entry_lines lines)

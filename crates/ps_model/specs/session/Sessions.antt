@@ -37,10 +37,11 @@ pub record Step : Type 0 where
   pub session : Session
   pub text : List ℕ
 
--- a step without a text, and a step behind a text
+-- a step without a text
 abbrev pub quietly : Session → Step
 quietly session = record { session = session; text = [] }
 
+-- a step behind a text
 abbrev pub after : List ℕ → Step → Step
 after text step = record { session = step.session; text = text ++ step.text }
 
@@ -63,10 +64,11 @@ is_level (LevelEntry level) = true
 abbrev pub level_number : Script → ℕ → ℕ
 level_number script entry = length (filter is_level (take (suc entry) script.entries))
 
--- the line that opens a level, and the line that closes it
+-- the line that opens a level
 abbrev pub level_line : Script → ℕ → List ℕ
 level_line script entry = written_line (codes "# level ") (decimal (level_number script entry))
 
+-- the line that closes a level
 abbrev pub done_line : Script → ℕ → List ℕ
 done_line script entry = written_line (codes "* level ") (decimal (level_number script entry) ++ codes " done")
 

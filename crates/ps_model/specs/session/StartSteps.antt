@@ -28,15 +28,17 @@ start_counted script play done left again_turns = elim done.changed [
   | true ↦ let next : Play = with_turn play done in after (shown script next) (start_told next done.message done.again left again_turns)
 ]
 
--- the again turns of a start, so many at most: turns without input. A blocked and a restarting one don't count, nor does one that left
--- the board as it was: one that doesn't count is as if not run, and ends them
+-- an again turn of a start by its outcome: a blocked and a restarting one don't count, nor does one that left the board as it was; one
+-- that doesn't count is as if not run, and ends the again turns
+abbrev pub start_turn_by : Script → Play → ℕ → (Play → Step) → Outcome → Step
+start_turn_by script play left again_turns (Blocked message) = quietly (Playing play)
+start_turn_by script play left again_turns (Restarted message) = quietly (Playing play)
+start_turn_by script play left again_turns (Finished done) = start_counted script play done left again_turns
+
+-- the again turns of a start, so many at most: turns without input
 abbrev pub start_turns : Script → ℕ → Play → Step
 start_turns script zero play = quietly (Playing play)
-start_turns script (suc left) play = elim (turn script None play.board) [
-  | Blocked message ↦ quietly (Playing play)
-  | Restarted message ↦ quietly (Playing play)
-  | Finished done ↦ start_counted script play done left (start_turns script left)
-]
+start_turns script (suc left) play = start_turn_by script play left (start_turns script left) (turn script None play.board)
 
 -- the again turns of a start, as many as there may be
 unfoldable pub all_start_turns : Script → Play → Step

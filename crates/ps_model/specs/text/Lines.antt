@@ -7,7 +7,7 @@ use Rattle.std.specs.Str.{bytes_eq, str_to_ascii_lowercase}
 use Rattle.std.specs.Map.{lookup}
 use Rattle.ps_model.specs.declared.texts.Section.{Section}
 use Rattle.ps_model.specs.declared.texts.Section.TheVariants.{Prelude, Objects, Legend, Sounds, Layers, Rules, Wins, Levels}
-use Rattle.ps_model.specs.declared.texts.Cut.TheVariants.{Plain}
+use Rattle.ps_model.specs.declared.texts.Cut.TheVariants.{Blanks}
 use Rattle.ps_model.specs.text.Words.{is_blank, word_texts, words_in}
 use Rattle.ps_model.specs.text.RuleWords.{rule_words_in}
 
@@ -73,7 +73,7 @@ header_of_words (word ∷ words) = elim words [ [] ↦ lookup (bytes_eq (folded 
 
 -- the section that a line begins, if it is a header
 abbrev pub header_of : List ℕ → Option Section
-header_of bytes = header_of_words (word_texts Plain bytes)
+header_of bytes = header_of_words (word_texts Blanks bytes)
 
 -- texts taken as they stand -----------------------------------------------------------------------------------------------
 
@@ -91,7 +91,7 @@ end_of_word word = option_map (λ places. places.1) word
 
 -- where the first word of a line ends, if it is one of these
 abbrev pub end_of_first : List ℕ → List (List ℕ) → Option ℕ
-end_of_first bytes names = end_of_word (find (is_word bytes names) (take 1 (words_in Plain bytes)))
+end_of_first bytes names = end_of_word (find (is_word bytes names) (take 1 (words_in Blanks bytes)))
 
 -- the words of a line of RULES behind its first `->`
 abbrev pub behind_arrow : List ℕ → List (ℕ × ℕ) → List (ℕ × ℕ)
@@ -101,10 +101,10 @@ behind_arrow bytes words = drop (suc (prefix_len (λ word. not (is_word bytes (c
 -- word of a line of the prelude; behind `message` as the first word of a line of LEVELS; behind the first `message` that stands
 -- behind the `->` of a line of RULES
 abbrev pub text_place : Section → List ℕ → Option ℕ
-text_place Prelude plain = end_of_first plain (codes "title" ∷ codes "author" ∷ codes "homepage" ∷ [])
-text_place Levels plain = end_of_first plain (codes "message" ∷ [])
-text_place Rules plain = end_of_word (find (is_word plain (codes "message" ∷ [])) (behind_arrow plain (rule_words_in plain)))
-text_place section plain = None
+text_place Prelude uncommented = end_of_first uncommented (codes "title" ∷ codes "author" ∷ codes "homepage" ∷ [])
+text_place Levels uncommented = end_of_first uncommented (codes "message" ∷ [])
+text_place Rules uncommented = end_of_word (find (is_word uncommented (codes "message" ∷ [])) (behind_arrow uncommented (rule_words_in uncommented)))
+text_place section uncommented = None
 
 -- how long that text is: in the prelude it ends where a comment begins; elsewhere it has all that follows, parentheses among it
 abbrev pub text_length : Section → List ℕ → ℕ
@@ -149,7 +149,7 @@ text_behind start place behind =
 
 -- a line whose comments are blanks, with blanks for a text of so many bytes too
 abbrev pub without_text : List ℕ → ℕ → ℕ → List ℕ
-without_text plain place size = take place plain ++ (replicate size 32 ++ drop (place + size) plain)
+without_text uncommented place size = take place uncommented ++ (replicate size 32 ++ drop (place + size) uncommented)
 
 -- the line is made of `=`, at least one, and blanks alone
 abbrev pub is_divider : List ℕ → Bool
@@ -161,16 +161,16 @@ are_blank bytes = list_all is_blank bytes
 
 -- a line that lies partly or wholly in a comment and has only blanks besides: its bytes, as they stand and without comments
 abbrev pub is_comment : ℕ → List ℕ → List ℕ → Bool
-is_comment depth raw plain = are_blank plain && (nat_lt 0 depth || list_any (λ byte. byte == 40) raw)
+is_comment depth raw uncommented = are_blank uncommented && (nat_lt 0 depth || list_any (λ byte. byte == 40) raw)
 
 -- a line of a comment and a line of `=` aren't there
 abbrev pub is_read : ℕ → List ℕ → List ℕ → Bool
-is_read depth raw plain = not (is_divider plain) && not (is_comment depth raw plain)
+is_read depth raw uncommented = not (is_divider uncommented) && not (is_comment depth raw uncommented)
 
 -- the bytes of a line without its comments, and without the text that is taken as it stands at a place
 abbrev pub bytes_left : List ℕ → Section → List ℕ → Option ℕ → List ℕ
-bytes_left raw section plain None = plain
-bytes_left raw section plain (Some place) = without_text plain place (text_length section (drop place raw))
+bytes_left raw section uncommented None = uncommented
+bytes_left raw section uncommented (Some place) = without_text uncommented place (text_length section (drop place raw))
 
 -- the text that is taken as it stands at a place
 abbrev pub text_taken : List ℕ → ℕ → Section → Option ℕ → Option Taken
@@ -181,18 +181,18 @@ text_taken raw start section (Some place) = let behind : List ℕ = drop place r
 abbrev pub lines_from : ℕ → ℕ → ℕ → Section → List (List ℕ) → List Line
 lines_from number start depth above [] = []
 lines_from number start depth above (raw ∷ others) =
-    let plain : List ℕ = without_comments depth raw in
-    let header : Option Section = header_of plain in
+    let uncommented : List ℕ = without_comments depth raw in
+    let header : Option Section = header_of uncommented in
     let section : Section = unwrap_or header above in
-    let place : Option ℕ = text_place section plain in
+    let place : Option ℕ = text_place section uncommented in
     record {
       number = number;
       start = start;
       section = section;
       is_header = is_some header;
-      bytes = bytes_left raw section plain place;
+      bytes = bytes_left raw section uncommented place;
       taken = text_taken raw start section place;
-      is_there = is_read depth raw plain;
+      is_there = is_read depth raw uncommented;
     } ∷ lines_from (suc number) (start + length raw + 1) (depth_below section place depth raw) section others
 
 -- the lines of a text, those among them that aren't there; a byte order mark at its start is read past
@@ -208,9 +208,9 @@ abbrev pub taken_bytes : Line → List ℕ
 taken_bytes line = unwrap_or (option_map (λ taken. taken.bytes) line.taken) []
 
 -- the words of a line, cut at blanks
-abbrev pub plain_words : Line → List (List ℕ)
-plain_words line = word_texts Plain line.bytes
+abbrev pub words_of_line : Line → List (List ℕ)
+words_of_line line = word_texts Blanks line.bytes
 
 -- the first word of a line, letters folded; of a blank line, a word without letters
 abbrev pub first_word : Line → List ℕ
-first_word line = folded (slice_index_or (plain_words line) 0 [])
+first_word line = folded (slice_index_or (words_of_line line) 0 [])

@@ -3,7 +3,7 @@
 use Rattle.std.specs.Prelude.{ℕ, zero, suc, ◌+◌, ◌-◌, ◌==◌, nat_lt, Bool, true, false, ◌||◌, ◌&&◌, not, if◌then◌else◌, Option, Some, None, is_some, unwrap_or, List, [], ◌∷◌, ◌++◌, drop}
 use Rattle.std.specs.List.{prefix_len}
 use Rattle.ps_model.specs.declared.texts.Cut.{Cut}
-use Rattle.ps_model.specs.declared.texts.Cut.TheVariants.{Plain, Legend, Layers, Rule}
+use Rattle.ps_model.specs.declared.texts.Cut.TheVariants.{Blanks, Legend, Layers, Rule}
 use Rattle.ps_model.specs.text.Words.{is_blank, run_to, words_in}
 
 -- `[`, `]` and `|` stand by themselves
@@ -21,13 +21,13 @@ begins_arrow (first ∷ []) = false
 begins_arrow (first ∷ second ∷ others) = first == 45 && second == 62
 
 -- a byte that is a word by itself, where a word is open before it or not
-abbrev pub is_alone : Bool → ℕ → Bool
-is_alone within byte = is_bracket_or_bar byte || (is_sign byte && not within)
+abbrev pub is_own_word : Bool → ℕ → Bool
+is_own_word within byte = is_bracket_or_bar byte || (is_sign byte && not within)
 
 -- how long a word is that stands by itself at the start of the bytes; 0 where none does
 abbrev pub own_length : Bool → List ℕ → ℕ
 own_length within [] = 0
-own_length within (byte ∷ bytes) = if begins_arrow (byte ∷ bytes) then 2 else (if is_alone within byte then 1 else 0)
+own_length within (byte ∷ bytes) = if begins_arrow (byte ∷ bytes) then 2 else (if is_own_word within byte then 1 else 0)
 
 -- the words, each from its first place to the place behind it, of the bytes from a place on, behind so many bytes that
 -- belong to the word before, where a run may be open
@@ -56,7 +56,7 @@ rule_words_in bytes = let blanks : ℕ = prefix_len is_blank bytes in words_behi
 
 -- the words of a line under any cut, by their places in it
 abbrev pub words_under : Cut → List ℕ → List (ℕ × ℕ)
-words_under Plain bytes = words_in Plain bytes
+words_under Blanks bytes = words_in Blanks bytes
 words_under Legend bytes = words_in Legend bytes
 words_under Layers bytes = words_in Layers bytes
 words_under Rule bytes = rule_words_in bytes

@@ -3,7 +3,7 @@
 -- RuleWords has them.
 use Rattle.std.specs.Prelude.{ℕ, suc, ◌==◌, Bool, true, false, ◌||◌, Option, Some, None, unwrap_or, List, [], ◌∷◌, ◌++◌, map, slice_range}
 use Rattle.ps_model.specs.declared.texts.Cut.{Cut}
-use Rattle.ps_model.specs.declared.texts.Cut.TheVariants.{Plain, Legend, Layers, Rule}
+use Rattle.ps_model.specs.declared.texts.Cut.TheVariants.{Blanks, Legend, Layers, Rule}
 
 -- blanks are space, tab and carriage return
 abbrev pub is_blank : ℕ → Bool
@@ -11,14 +11,14 @@ is_blank byte = byte == 32 || byte == 9 || byte == 13
 
 -- the byte parts words: a blank, and between the names of a layer also a comma
 abbrev pub parts_words : Cut → ℕ → Bool
-parts_words Plain byte = is_blank byte
+parts_words Blanks byte = is_blank byte
 parts_words Legend byte = is_blank byte
 parts_words Layers byte = is_blank byte || byte == 44
 parts_words Rule byte = is_blank byte
 
 -- the byte is a word by itself: the `=` of a legend line, and `[`, `]` and `|` of a rule
 abbrev pub stands_alone : Cut → ℕ → Bool
-stands_alone Plain byte = false
+stands_alone Blanks byte = false
 stands_alone Legend byte = byte == 61
 stands_alone Layers byte = false
 stands_alone Rule byte = byte == 91 || byte == 93 || byte == 124

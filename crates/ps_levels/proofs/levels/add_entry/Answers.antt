@@ -4,7 +4,7 @@ use Rattle.ps_model.specs.text.Faults.{first_fault}
 use Rattle.ps_model.specs.text.Lines.{is_blank_line}
 use Rattle.ps_model.specs.text.LineNumbers.{line_at, lines_between}
 use Rattle.ps_model.specs.session.LevelFaults.{entries_faults}
-use Rattle.ps_model.specs.session.LevelLines.{EntryLines, MessageLine, is_message, entry_of, entry_lines, entries_at}
+use Rattle.ps_model.specs.session.LevelLines.{EntryLines, MessageLine, is_message, entry_of_lines, entry_lines, entries_at}
 use Rattle.ps_model.specs.declared.refusal.Refusal.{Refusal}
 use Rattle.ps_model.specs.declared.refusal.Refusal.TheVariants.{Refused}
 use Rattle.ps_levels.specs.EntriesShown.{entry_shown, entries_shown, level_lines}
@@ -21,7 +21,7 @@ returns-then-not-is_there-clause-part c =
     let rest : List EntryLines = entry_lines (lines_between text (line + 1) end) in
     let there : (line_at text line).is_there ≡ false = search rules in
     let same : all ≡ rest = past-missing text line end c.requires.from_one c.requires.ordered c.requires.there there in
-    ap (λ (es : List EntryLines). entries_shown c.args.entries.now.items ++ map (entry_of names) es) (sym same)
+    ap (λ (es : List EntryLines). entries_shown c.args.entries.now.items ++ map (entry_of_lines names) es) (sym same)
 
 pub returns-then-not-is_there-clause-fine : goal.returns-then-not-is_there-clause-fine
 returns-then-not-is_there-clause-fine c =
@@ -76,7 +76,7 @@ returns-then-branch-clause-fine c =
     let message : is_message (line_at text line) ≡ true = search rules in
     let split = past-message text line end c.requires.from_one c.requires.ordered c.requires.there there message in
     fine-entry names (length c.args.entries.now.items) (length c.add_message.new.entries.items) all rest (MessageLine (line_at text line)) split
-    (entries-counted entry_shown c.args.entries.now.items c.add_message.new.entries.items (entry_of names (MessageLine (line_at text line))) c.in_ok-add_message.ensures.part) c.in_ok-add_message.ensures.fine
+    (entries-counted entry_shown c.args.entries.now.items c.add_message.new.entries.items (entry_of_lines names (MessageLine (line_at text line))) c.in_ok-add_message.ensures.part) c.in_ok-add_message.ensures.fine
 
 pub returns-then-is_blank_line-clause-part : goal.returns-then-is_blank_line-clause-part
 returns-then-is_blank_line-clause-part c =
@@ -90,7 +90,7 @@ returns-then-is_blank_line-clause-part c =
     let message : is_message (line_at text line) ≡ false = search rules in
     let blank : is_blank_line (line_at text line) ≡ true = search rules in
     let same : all ≡ rest = past-blank text line end c.requires.from_one c.requires.ordered c.requires.there there message blank in
-    ap (λ (es : List EntryLines). entries_shown c.args.entries.now.items ++ map (entry_of names) es) (sym same)
+    ap (λ (es : List EntryLines). entries_shown c.args.entries.now.items ++ map (entry_of_lines names) es) (sym same)
 
 pub returns-then-is_blank_line-clause-fine : goal.returns-then-is_blank_line-clause-fine
 returns-then-is_blank_line-clause-fine c =
@@ -149,4 +149,4 @@ returns-clause-fine c =
     let rest : List EntryLines = entry_lines (lines_between text c.in_ok-next.next end) in
     let split = past-level text line c.in_ok-next.next end c.requires.from_one c.requires.ordered c.requires.there there message blank c.in_ok-next.ensures.rest in
     fine-entry names (length c.args.entries.now.items) (length c.add_level.new.entries.items) all rest (level_lines text line end) split
-    (entries-counted entry_shown c.args.entries.now.items c.add_level.new.entries.items (entry_of names (level_lines text line end)) c.in_ok-next.ensures.part) c.in_ok-next.ensures.fine
+    (entries-counted entry_shown c.args.entries.now.items c.add_level.new.entries.items (entry_of_lines names (level_lines text line end)) c.in_ok-next.ensures.part) c.in_ok-next.ensures.fine

@@ -1,6 +1,6 @@
 use Rattle.std.proofs.Common.{◌≡◌, ◌∙◌, sym, ap, refl, rules, List, ℕ, Some, suc}
 use Rattle.ps_model.specs.declared.faults.Fault.{Fault as TheFault}
-use Rattle.ps_model.specs.names.DeclarationFaults.{faults_of_form, form_faults}
+use Rattle.ps_model.specs.names.DeclarationFaults.{legend_form_faults, form_faults}
 use Rattle.ps_model.specs.text.Faults.{first_fault}
 use Rattle.ps_model.specs.declared.refusal.Refusal.{Refusal}
 use Rattle.ps_model.specs.declared.refusal.Refusal.TheVariants.{Refused}
@@ -18,5 +18,5 @@ returns-in_err-declared-clause-refused c =
     let fault : Refusal = c.in_err-declared.field-0.0 in
     let told : (f : TheFault) → fault ≡ Refused f → first_fault (form_faults (keys c.args.known.now) (lines_shown c.args.lines.now)) ≡ Some f =
     λ f e. sym (ap first_fault c.loop-place.invariant.faults) ∙ ap (λ (xs : List WrittenLine). first_fault (form_faults before (lines_shown xs))) step
-    ∙ first-found (faults_of_form before (line_shown c.index-lines-place.result)) _ f (c.in_err-declared.ensures.refused f e) in
+    ∙ first-found (legend_form_faults before (line_shown c.index-lines-place.result)) _ f (c.in_err-declared.ensures.refused f e) in
     search (rules, told)

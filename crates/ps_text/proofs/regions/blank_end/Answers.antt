@@ -2,7 +2,7 @@ use Rattle.std.proofs.Common.{rules, ◌≡◌, ◌∙◌, ◌-◌, ◌<◌, tru
 use Rattle.std.specs.Prelude.{slice_range}
 use Rattle.std.proofs.lemmas.Str.{IsCharBoundary-before_ascii}
 use Rattle.ps_model.specs.text.Words.{is_blank}
-use Rattle.ps_model.specs.declared.texts.Cut.TheVariants.{Plain}
+use Rattle.ps_model.specs.declared.texts.Cut.TheVariants.{Blanks}
 use Rattle.ps_model.specs.text.Lines.{without_blank_end}
 use Rattle.ps_text.proofs.WordSteps.{parting_is_ascii}
 use Rattle.ps_text.proofs.BlankEnds.{one_blank_less, ends_here}
@@ -22,5 +22,5 @@ loop-end-preserved c =
     record {
       same = ap length (sym (one_blank_less c.args.line.now c.args.from c.loop-end.end c.loop-end-test.true c.loop-end.invariant.cuttable.0 blank)) ∙ c.loop-end.invariant.same;
       behind = omega arith;
-      cuttable = IsCharBoundary-before_ascii c.args.line.now (c.loop-end.end - 1) within (parting_is_ascii Plain _ blank);
+      cuttable = IsCharBoundary-before_ascii c.args.line.now (c.loop-end.end - 1) within (parting_is_ascii Blanks _ blank);
     }
