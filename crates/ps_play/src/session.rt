@@ -39,7 +39,8 @@ impl<'g, B: Board> Session<'g, B> {
     ) -> Result<Session<'g, B>, Memory>
         requires { IsPlayable game.now.names game.now.level }
         ensures game { IfOk result (λ session. session.game.now ≡ game.entry.now) }
-        ensures board { IfOk result (λ session. B.grid session.board ≡ loaded game.entry.now.names game.entry.now.level) }
+        ensures board { IfOk result (λ session.
+            B.grid session.board ≡ loaded game.entry.now.names game.entry.now.level) }
         ensures opened { OnOk result (screen.new ≡ screen.old ++ opening game.entry.now) }
     {
         let board: B = load(alloc, game.names, game.level)?;
