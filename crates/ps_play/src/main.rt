@@ -10,7 +10,6 @@ mod keys;
 mod loading;
 #[cfg(test)]
 mod loading_tests;
-mod meanings;
 mod not_yet;
 mod plain;
 mod run;
