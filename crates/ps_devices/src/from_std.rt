@@ -1,6 +1,7 @@
 //! The system's streams as devices.
 
-ghost use Rattle.std.specs.Prelude.{◌≡◌, ◌+◌, ◌≤◌, ◌<◌, None, true, false, length, take, drop, IfOk, OnOk, OnErr, IsErr};
+ghost use Rattle.std.specs.Prelude.{◌≡◌, ◌+◌, ◌≤◌, ◌<◌, None, true, false, length, take, drop, IfOk, OnOk};
+ghost use Rattle.std.specs.Prelude.{OnErr, IsErr};
 ghost use Rattle.std.specs.Io.KnownBytes.{Appends, Consumes, IsAtEnd, Keeps};
 ghost use Rattle.ps_devices.specs.Devices.{most_calls};
 
@@ -53,8 +54,10 @@ impl<T: Read + Drop> ByteReader for FromStd<T> {
         ensures counted { self.old.calls < most_calls → self.new.calls ≡ self.old.calls + 1 }
         ensures worn { most_calls ≤ self.old.calls → IsErr result }
         ensures held { most_calls ≤ self.old.calls → self.new.calls ≡ self.old.calls }
-        ensures through { IfOk result (λ count. Consumes (T.remaining self.old.stream) (T.remaining self.new.stream) (take count buffer.new)) }
-        ensures ended { IfOk result (λ count. count ≡ 0 → 0 < length buffer.old → IsAtEnd (T.remaining self.new.stream)) }
+        ensures through { IfOk result (λ count.
+            Consumes (T.remaining self.old.stream) (T.remaining self.new.stream) (take count buffer.new)) }
+        ensures ended { IfOk result (λ count. count ≡ 0 → 0 < length buffer.old
+            → IsAtEnd (T.remaining self.new.stream)) }
         ensures kept { OnErr result (Keeps (T.remaining self.old.stream) (T.remaining self.new.stream)) }
     {
         self.last = 0;
@@ -88,7 +91,8 @@ impl<T: Write + Drop> ByteWriter for FromStd<T> {
         ensures idle { OnOk result (length bytes.now ≡ 0 → self.new.failed ≡ self.old.failed) }
         ensures refused { IfOk result (λ count. count ≡ 0 → 0 < length bytes.now → self.new.failed ≡ true) }
         ensures told { OnErr result (self.new.failed ≡ true) }
-        ensures through { IfOk result (λ count. Appends (T.contents self.old.stream) (T.contents self.new.stream) (take count bytes.now)) }
+        ensures through { IfOk result (λ count.
+            Appends (T.contents self.old.stream) (T.contents self.new.stream) (take count bytes.now)) }
         ensures kept { OnErr result (Keeps (T.contents self.old.stream) (T.contents self.new.stream)) }
     {
         match write_piece(&mut self.stream, bytes) {
@@ -110,7 +114,8 @@ impl<T: Write + Drop> ByteWriter for FromStd<T> {
 /// buffer alone, so it has one of its own.
 fn read_piece<T: Read>(stream: &mut T, buffer: &mut [u8]) -> Result<usize, Failed>
     ensures count { IfOk result (λ count. count ≤ length buffer.old) }
-    ensures given { IfOk result (λ count. Consumes (T.remaining stream.old) (T.remaining stream.new) (take count buffer.new)) }
+    ensures given { IfOk result (λ count.
+        Consumes (T.remaining stream.old) (T.remaining stream.new) (take count buffer.new)) }
     ensures end { IfOk result (λ count. count ≡ 0 → 0 < length buffer.old → IsAtEnd (T.remaining stream.new)) }
     ensures stays { OnErr result (Keeps (T.remaining stream.old) (T.remaining stream.new)) }
     ensures rest { IfOk result (λ count. drop count buffer.new ≡ drop count buffer.old) }
@@ -126,7 +131,8 @@ fn read_piece<T: Read>(stream: &mut T, buffer: &mut [u8]) -> Result<usize, Faile
 /// One read. Whatever error the stream answers, an interruption among them, is a failure.
 fn read_through<T: Read>(stream: &mut T, piece: &mut [u8]) -> Result<usize, Failed>
     ensures count { IfOk result (λ count. count ≤ length piece.old) }
-    ensures given { IfOk result (λ count. Consumes (T.remaining stream.old) (T.remaining stream.new) (take count piece.new)) }
+    ensures given { IfOk result (λ count.
+        Consumes (T.remaining stream.old) (T.remaining stream.new) (take count piece.new)) }
     ensures end { IfOk result (λ count. count ≡ 0 → 0 < length piece.old → IsAtEnd (T.remaining stream.new)) }
     ensures stays { OnErr result (Keeps (T.remaining stream.old) (T.remaining stream.new)) }
 {
@@ -139,7 +145,8 @@ fn read_through<T: Read>(stream: &mut T, piece: &mut [u8]) -> Result<usize, Fail
 /// One write of a front of `bytes`. Whatever error the stream answers, an interruption among them, is a failure.
 fn write_piece<T: Write>(stream: &mut T, bytes: &[u8]) -> Result<usize, Failed>
     ensures count { IfOk result (λ count. count ≤ length bytes.now) }
-    ensures taken { IfOk result (λ count. Appends (T.contents stream.old) (T.contents stream.new) (take count bytes.now)) }
+    ensures taken { IfOk result (λ count.
+        Appends (T.contents stream.old) (T.contents stream.new) (take count bytes.now)) }
     ensures stays { OnErr result (Keeps (T.contents stream.old) (T.contents stream.new)) }
 {
     match stream.write(bytes) {

@@ -1,6 +1,7 @@
 //! Devices in memory: they tell their bytes, give and take them in pieces, and fail where they are told to.
 
-ghost use Rattle.std.specs.Prelude.{◌≡◌, ◌+◌, ◌<◌, ◌≤◌, Some, None, IfSome, [], true, false, vec_len, vec_capacity, length, take, drop, IfOk, OnOk, OnErr, IsOk, IsErr};
+ghost use Rattle.std.specs.Prelude.{◌≡◌, ◌+◌, ◌<◌, ◌≤◌, Some, None, IfSome, [], true, false, vec_len};
+ghost use Rattle.std.specs.Prelude.{vec_capacity, length, take, drop, IfOk, OnOk, OnErr, IsOk, IsErr};
 ghost use Rattle.ps_devices.specs.Devices.{Grows, Loses, IsSpent, most_calls};
 
 use super::from_std::copy_front;
@@ -39,7 +40,8 @@ impl<'a> MemoryReader<'a> {
         ensures given { result.place ≡ 0 }
         ensures piece { result.piece ≡ piece }
         ensures ends { fail_at ≡ None → result.fails ≡ false }
-        ensures edge { IfSome fail_at (λ edge. edge ≤ length bytes.entry.now → (result.fails ≡ true) × (result.stop ≡ edge)) }
+        ensures edge { IfSome fail_at (λ edge. edge ≤ length bytes.entry.now
+            → (result.fails ≡ true) × (result.stop ≡ edge)) }
         ensures beyond { IfSome fail_at (λ edge. length bytes.entry.now < edge → result.fails ≡ false) }
     {
         let (stop, fails) = match fail_at {
@@ -75,16 +77,19 @@ impl<'a> ByteReader for MemoryReader<'a> {
 
     ghost calls = { λ device. device.calls };
 
-    /// Gives as many bytes as are left up to where it stops, but no more than a piece and than `buffer` has room for; it fails
-    /// where it stops and was told to, and behind the `u64::MAX`th call.
+    /// Gives as many bytes as are left up to where it stops, but no more than a piece and than `buffer` has room for; it
+    /// fails where it stops and was told to, and behind the `u64::MAX`th call.
     fn read_some(&mut self, buffer: &mut [u8]) -> Result<usize, Failed>
         ensures count { IfOk result (λ count. count ≤ length buffer.old) }
-        ensures given { IfOk result (λ count. Loses (Some (drop self.old.place self.old.bytes.now)) (Some (drop self.new.place self.new.bytes.now)) (take count buffer.new)) }
+        ensures given { IfOk result (λ count. Loses (Some (drop self.old.place self.old.bytes.now))
+            (Some (drop self.new.place self.new.bytes.now)) (take count buffer.new)) }
         ensures rest { IfOk result (λ count. drop count buffer.new ≡ drop count buffer.old) }
-        ensures end { IfOk result (λ count. count ≡ 0 → 0 < length buffer.old → IsSpent (Some (drop self.new.place self.new.bytes.now))) }
+        ensures end { IfOk result (λ count. count ≡ 0 → 0 < length buffer.old
+            → IsSpent (Some (drop self.new.place self.new.bytes.now))) }
         ensures well { OnOk result (self.new.failed ≡ self.old.failed) }
         ensures told { OnErr result (self.new.failed ≡ true) }
-        ensures stays { OnErr result (Some (drop self.new.place self.new.bytes.now) ≡ Some (drop self.old.place self.old.bytes.now)) }
+        ensures stays { OnErr result
+            (Some (drop self.new.place self.new.bytes.now) ≡ Some (drop self.old.place self.old.bytes.now)) }
         ensures unread { OnErr result (buffer.new ≡ buffer.old) }
         ensures last_count { IfOk result (λ count. self.new.last ≡ count) }
         ensures last_none { OnErr result (self.new.last ≡ 0) }
@@ -170,7 +175,8 @@ impl ByteWriter for MemoryWriter {
     /// Takes as much as there is room for, but no more than a piece; it fails where it has no room left for some bytes.
     fn write_some(&mut self, bytes: &[u8]) -> Result<usize, Failed>
         ensures count { IfOk result (λ count. count ≤ length bytes.now) }
-        ensures taken { IfOk result (λ count. Grows (Some self.old.bytes.items) (Some self.new.bytes.items) (take count bytes.now)) }
+        ensures taken { IfOk result (λ count.
+            Grows (Some self.old.bytes.items) (Some self.new.bytes.items) (take count bytes.now)) }
         ensures well { IfOk result (λ count. 0 < count → self.new.failed ≡ self.old.failed) }
         ensures idle { OnOk result (length bytes.now ≡ 0 → self.new.failed ≡ self.old.failed) }
         ensures refused { IfOk result (λ count. count ≡ 0 → 0 < length bytes.now → self.new.failed ≡ true) }
@@ -181,7 +187,8 @@ impl ByteWriter for MemoryWriter {
         ensures few { IfOk result (λ count. count ≤ self.old.piece) }
         ensures full { vec_len self.old.bytes ≡ self.old.room → 0 < length bytes.now → IsErr result }
         ensures takes { vec_len self.old.bytes < self.old.room → IsOk result }
-        ensures some { vec_len self.old.bytes < self.old.room → 0 < self.old.piece → 0 < length bytes.now → IfOk result (λ count. 0 < count) }
+        ensures some { vec_len self.old.bytes < self.old.room → 0 < self.old.piece → 0 < length bytes.now
+            → IfOk result (λ count. 0 < count) }
         ensures nothing { length bytes.now ≡ 0 → IsOk result }
     {
         let left = self.room - self.bytes.len();

@@ -1,6 +1,7 @@
 //! What a run asks of its two devices.
 
-ghost use Rattle.std.specs.Prelude.{◌≡◌, ℕ, ◌+◌, ◌<◌, ◌≤◌, List, length, take, drop, true, Bool, Option, IfOk, OnOk, OnErr, IsErr};
+ghost use Rattle.std.specs.Prelude.{◌≡◌, ℕ, ◌+◌, ◌<◌, ◌≤◌, List, length, take, drop, true, Bool, Option};
+ghost use Rattle.std.specs.Prelude.{IfOk, OnOk, OnErr, IsErr};
 ghost use Rattle.ps_devices.specs.Devices.{Grows, Loses, IsSpent, most_calls};
 
 use thiserror::Error;
@@ -80,7 +81,8 @@ pub trait ByteWriter: Drop {
 pub fn write_whole<W: ByteWriter>(bytes: &[u8], writer: &mut W) -> Result<(), Failed>
     ensures taken { OnOk result (Grows (W.contents writer.old) (W.contents writer.new) bytes.now) }
     ensures well { OnOk result (W.has_failed writer.new ≡ W.has_failed writer.old) }
-    ensures front { OnErr result ((count : ℕ) × (count ≤ length bytes.now) × Grows (W.contents writer.old) (W.contents writer.new) (take count bytes.now)) }
+    ensures front { OnErr result ((count : ℕ) × (count ≤ length bytes.now)
+        × Grows (W.contents writer.old) (W.contents writer.new) (take count bytes.now)) }
     ensures told { OnErr result (W.has_failed writer.new ≡ true) }
 {
     let mut done = 0usize;

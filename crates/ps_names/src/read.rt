@@ -41,11 +41,15 @@ fn names_of_sections(
     let layers = layer_numbers(alloc, &layering.places)?;
     refuse(fault_of_whole(header, objects, &layering.places, &legend, &table, &layers))?;
     let glyphs = table.glyphs(alloc)?;
+    let players = table.objects_named(alloc, "player")?;
+    let backgrounds = table.objects_named(alloc, "background")?;
     Ok(Names {
         table,
         layers,
         layer_count: layering.count,
         glyphs,
+        players,
+        backgrounds,
     })
 }
 

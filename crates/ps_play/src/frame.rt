@@ -3,15 +3,16 @@
 //! A cell is shown by the first glyph that fits: one for exactly its objects; else one for exactly those but for the
 //! background layer's; else one for the object on its topmost occupied layer alone; else by `?`.
 
-ghost use Rattle.std.specs.Prelude.{◌≡◌, [], ◌∷◌, ◌++◌, ◌<◌, OnOk, IfOk, option_to_list, option_map, map, filter, find, not};
+ghost use Rattle.std.specs.Prelude.{◌≡◌, [], ◌∷◌, ◌++◌, ◌<◌, OnOk, IfOk, option_to_list, option_map, map};
+ghost use Rattle.std.specs.Prelude.{filter, find, not};
 ghost use Rattle.ps_model.specs.board.Grid.{IsGrid, cell_at, cell_count, slot_at};
 ghost use Rattle.std.specs.List.{list_all};
-ghost use Rattle.ps_model.specs.names.Names.{is_among, layer_of, members};
+ghost use Rattle.ps_model.specs.names.Names.{is_among, members};
 ghost use Rattle.ps_model.specs.board.Levels.{background_layer, is_ground};
 ghost use Rattle.ps_names.specs.GlyphsShown.{glyph_shown, glyphs_shown};
-ghost use Rattle.ps_model.specs.session.Frames.{objects_in, same_objects, topmost, glyph_of_objects, character_of, shown_character, frame_row, frame};
+ghost use Rattle.ps_model.specs.session.Frames.{objects_in, same_objects, topmost, glyph_of_objects};
+ghost use Rattle.ps_model.specs.session.Frames.{character_of, shown_character, frame_row, frame};
 
-use crate::meanings::{members, members_named};
 use crate::screen::Screen;
 use crate::turn::has_object;
 use ps_board::Board;
@@ -120,19 +121,8 @@ impl Room {
 fn ground_layer(names: &Names) -> LayerId
     ensures { result.0 ≡ background_layer names.now }
 {
-    let grounds = members_named(names, "background");
-    let first = grounds.first().copied().unwrap_or(ObjectId(0));
-    layer_for(names, first)
-}
-
-/// The layer of an object. One that isn't the game's, which no board of the game has, counts as of the lowest layer.
-fn layer_for(names: &Names, object: ObjectId) -> LayerId
-    ensures { result.0 ≡ layer_of names.now object }
-{
-    if names.object_count() <= object.0 {
-        return LayerId(0);
-    }
-    names.layer_of(object)
+    let first = names.backgrounds().first().copied().unwrap_or(ObjectId(0));
+    names.layer_of(first)
 }
 
 /// Gathers those of the objects that don't lie on the background layer, in place of what `above` held.
@@ -164,9 +154,10 @@ fn push_above(
     above: &mut Vec<ObjectId>,
 ) -> Result<(), Memory>
     requires { ground.0 ≡ background_layer names.now }
-    ensures { OnOk result (above.new.items ≡ above.old.items ++ filter (λ object. not (is_ground names.now object)) (object ∷ [])) }
+    ensures { OnOk result
+        (above.new.items ≡ above.old.items ++ filter (λ object. not (is_ground names.now object)) (object ∷ [])) }
 {
-    if layer_for(names, object).0 == ground.0 {
+    if names.layer_of(object).0 == ground.0 {
         return Ok(());
     }
     above.push(object)?;
@@ -185,10 +176,11 @@ fn topmost(objects: &[ObjectId]) -> &[ObjectId]
 
 /// The character of the first glyph that shows just these objects.
 fn glyph_for(glyphs: &[Glyph], objects: &[ObjectId]) -> Option<char>
-    ensures { result ≡ option_map (λ glyph. glyph.character) (find (λ glyph. same_objects (members glyph.meaning) objects.now) (glyphs_shown glyphs.now)) }
+    ensures { result ≡ option_map (λ glyph. glyph.character)
+        (find (λ glyph. same_objects (members glyph.meaning) objects.now) (glyphs_shown glyphs.now)) }
 {
     for glyph in glyphs {
-        if are_same(members(&glyph.meaning), objects) {
+        if are_same(glyph.meaning.members(), objects) {
             return Some(glyph.character);
         }
     }

@@ -21,7 +21,9 @@ fn fill_cell<B: Board>(board: &mut B, names: &Names, cell: u32, objects: &[Objec
     requires place { cell < cell_count (B.grid board.old) }
     requires layers { (B.grid board.old).layers ≡ names.now.layer_count }
     requires objects { All (λ object. object.0 < object_count names.now) objects.now }
-    ensures { B.grid board.new ≡ grid_with_cell (B.grid board.old) cell (fold (λ slots object. slice_set slots (layer_of names.now object) (Holds object Still)) (cell_at (B.grid board.old) cell) objects.now) }
+    ensures { B.grid board.new ≡ grid_with_cell (B.grid board.old) cell
+        (fold (λ slots object. slice_set slots (layer_of names.now object) (Holds object Still))
+        (cell_at (B.grid board.old) cell) objects.now) }
 {
     for object in objects {
         board.put(cell, names.layer_of(*object), Some(*object), Motion::Still);

@@ -8,8 +8,12 @@ use ps_model::{LayerId, ObjectId};
 use std::test::Fail;
 
 /// A game with five objects on three layers, up to the rows of its level.
-const HEAD: &str =
-    "title  A Small Game \nOBJECTS\nBackground .\ngreen\nWall #\nbrown\nPlayer P\nwhite\nCrate *\norange\nTarget O\nblue\nLEGEND\n@ = Crate and Target\nCOLLISIONLAYERS\nBackground\nTarget\nPlayer, Wall, Crate\nRULES\nWINCONDITIONS\nLEVELS\n";
+const HEAD: &str = "title  A Small Game \n\
+    OBJECTS\nBackground .\ngreen\nWall #\nbrown\nPlayer P\nwhite\nCrate *\norange\nTarget O\nblue\n\
+    LEGEND\n@ = Crate and Target\n\
+    COLLISIONLAYERS\nBackground\nTarget\nPlayer, Wall, Crate\n\
+    RULES\nWINCONDITIONS\n\
+    LEVELS\n";
 
 #[test]
 fn loads_cells(rt: HostRuntime) -> Result<(), Fail> {

@@ -88,8 +88,8 @@ fn first_of_sections(alloc: Global, source: &Source, sections: &Sections) -> Res
     Ok(first_behind_level(source, &sections.levels).unwrap_or(1))
 }
 
-/// The first line of a text that has something that this version doesn't play yet: an option, a rule, a win condition, a message, or a level
-/// behind the first. Line 1, if there is none. `Memory` if a growth was refused.
+/// The first line of a text that has something that this version doesn't play yet: an option, a rule, a win condition, a
+/// message, or a level behind the first. Line 1, if there is none. `Memory` if a growth was refused.
 pub fn first_unplayed(alloc: Global, text: &[u8]) -> Result<u32, Memory> {
     match first_unplayed_of(alloc, text) {
         Ok(line) => Ok(line),

@@ -64,10 +64,12 @@ fn only_level(entries: &[Entry]) -> Option<&Level>
     }
 }
 
-/// The game as one that this version plays, if it is one: without options, rules, win conditions and messages, and with one level.
+/// The game as one that this version plays, if it is one: without options, rules, win conditions and messages, and with
+/// one level.
 pub fn plain(game: &Game) -> Option<PlainGame<'_>>
     ensures plain { result ≡ plain_of game.now }
-    ensures playable { All (IsSizedEntry game.now.names) game.now.entries → IfSome result (λ plain. IsPlayable plain.names plain.level) }
+    ensures playable { All (IsSizedEntry game.now.names) game.now.entries
+        → IfSome result (λ plain. IsPlayable plain.names plain.level) }
 {
     if !is_plain(game) {
         return None;

@@ -1,6 +1,7 @@
 //! A run: a game's text and the keys in, the frames out.
 
-ghost use Rattle.std.specs.Prelude.{◌≡◌, ◌≢◌, ◌+◌, ◌≤◌, ◌++◌, ◌∷◌, ◌⊎◌, [], IfOk, IfErr, IfSome, OnOk, OnErr, IsSome, IsErrOf, List, ℕ, true};
+ghost use Rattle.std.specs.Prelude.{◌≡◌, ◌≢◌, ◌+◌, ◌≤◌, ◌++◌, ◌∷◌, ◌⊎◌, [], IfOk, IfErr, IfSome, OnOk, OnErr};
+ghost use Rattle.std.specs.Prelude.{IsSome, IsErrOf, List, ℕ, true};
 ghost use Rattle.ps_model.specs.declared.limits.TheConstants.{READ_LIMIT};
 ghost use Rattle.ps_model.specs.game.PlainGames.{plain_game};
 ghost use Rattle.ps_model.specs.board.Levels.{loaded};
@@ -63,18 +64,18 @@ impl From<Refusal> for RunFault {
     }
 }
 
-/// Plays the game whose text `game` is: reads keys from `reader` and writes frames to `writer`, until the game is
-/// won, the player quits or the keys end.
+/// Plays the game whose text `game` is: reads keys from `reader` and writes frames to `writer`, until the game has ended,
+/// the player quits or the keys end. A game ends behind its last entry of LEVELS, which may be a level that is done or a
+/// message that was dismissed.
 ///
-/// The opening is written before the first key is read, and the text of each key of a piece before the next piece
-/// is read. At most 4,096 bytes are asked for at a time.
+/// The opening is written before the first key is read, and the text of each key of a piece before the next piece is
+/// read. At most `CALL_LIMIT` bytes are asked for at a time.
 ///
 /// # Errors
 ///
-/// `Refused` with the first fault of the text where it has one, and with `NotYet` where it is a game that this version doesn't
-/// play: neither device is called then.
-/// `Memory` where a growth was refused, `Read` where the reader failed or had more than 16,777,216 pieces to give,
-/// `Write` where the writer failed or took nothing of some bytes.
+/// `Refused` with the first fault of the text where it has one, and with `NotYet` where it is a game that this version
+/// doesn't play: neither device is called then. `Memory` where a growth was refused, `Read` where the reader failed or
+/// had more than `READ_LIMIT` pieces to give, `Write` where the writer failed or took nothing of some bytes.
 pub fn run<R: ByteReader, W: ByteWriter>(
     alloc: Global,
     game: &[u8],
@@ -87,10 +88,12 @@ pub fn run<R: ByteReader, W: ByteWriter>(
     ensures unwritten { (fault : Fault) → result ≡ Err (RunFault.Refused fault) → writer.new ≡ writer.old }
     ensures calls { R.calls reader.new ≤ R.calls reader.old + READ_LIMIT }
     ensures reads { result ≢ Err RunFault.Read → R.has_failed reader.new ≡ R.has_failed reader.old }
-    ensures unheard { result ≡ Err RunFault.Read → (R.has_failed reader.new ≡ true) ⊎ (R.calls reader.new ≡ R.calls reader.old + READ_LIMIT) }
+    ensures unheard { result ≡ Err RunFault.Read
+        → (R.has_failed reader.new ≡ true) ⊎ (R.calls reader.new ≡ R.calls reader.old + READ_LIMIT) }
     ensures writes { result ≢ Err RunFault.Write → W.has_failed writer.new ≡ W.has_failed writer.old }
     ensures stopped { result ≡ Err RunFault.Write → W.has_failed writer.new ≡ true }
-    ensures answers { IfSome (R.remaining reader.old) (λ all. IfSome (W.contents writer.old) (λ before. Answers game.now all before (W.contents writer.new) result)) }
+    ensures answers { IfSome (R.remaining reader.old) (λ all.
+        IfSome (W.contents writer.old) (λ before. Answers game.now all before (W.contents writer.new) result)) }
 {
     let read = read_game(alloc, game)?;
     let Some(plain) = plain(&read) else {
@@ -120,7 +123,8 @@ fn play_game<R: ByteReader, W: ByteWriter>(
     requires { IsPlayable game.now.names game.now.level }
     ensures calls { R.calls reader.new ≤ R.calls reader.old + READ_LIMIT }
     ensures reads { result ≢ Err RunFault.Read → R.has_failed reader.new ≡ R.has_failed reader.old }
-    ensures unheard { result ≡ Err RunFault.Read → (R.has_failed reader.new ≡ true) ⊎ (R.calls reader.new ≡ R.calls reader.old + READ_LIMIT) }
+    ensures unheard { result ≡ Err RunFault.Read
+        → (R.has_failed reader.new ≡ true) ⊎ (R.calls reader.new ≡ R.calls reader.old + READ_LIMIT) }
     ensures writes { result ≢ Err RunFault.Write → W.has_failed writer.new ≡ W.has_failed writer.old }
     ensures stopped { result ≡ Err RunFault.Write → W.has_failed writer.new ≡ true }
     ensures well { IfErr result IsDeviceFault }
@@ -144,11 +148,13 @@ fn play<B: Board, R: ByteReader, W: ByteWriter>(
 ) -> Result<Ending, RunFault>
     ensures calls { R.calls reader.new ≤ R.calls reader.old + READ_LIMIT }
     ensures reads { result ≢ Err RunFault.Read → R.has_failed reader.new ≡ R.has_failed reader.old }
-    ensures unheard { result ≡ Err RunFault.Read → (R.has_failed reader.new ≡ true) ⊎ (R.calls reader.new ≡ R.calls reader.old + READ_LIMIT) }
+    ensures unheard { result ≡ Err RunFault.Read
+        → (R.has_failed reader.new ≡ true) ⊎ (R.calls reader.new ≡ R.calls reader.old + READ_LIMIT) }
     ensures writes { result ≢ Err RunFault.Write → W.has_failed writer.new ≡ W.has_failed writer.old }
     ensures stopped { result ≡ Err RunFault.Write → W.has_failed writer.new ≡ true }
     ensures well { IfErr result IsDeviceFault }
-    ensures brings { IfOk result (λ ending. IfSome (R.remaining reader.old) (λ all. (text : List ℕ) × Grows (W.contents writer.old) (W.contents writer.new) text
+    ensures brings { IfOk result (λ ending. IfSome (R.remaining reader.old) (λ all. (text : List ℕ)
+        × Grows (W.contents writer.old) (W.contents writer.new) text
         × Outputs session.old.game.now.names (B.grid session.old.board) (keys_apart all) text ending)) }
 {
     let mut buffer = [0u8; CALL_LIMIT];
@@ -180,7 +186,8 @@ fn play_piece<B: Board, W: ByteWriter>(
     ensures well { IfErr result IsWriterFault }
     ensures game { OnOk result (session.new.game.now ≡ session.old.game.now) }
     ensures brings { IfOk result (λ ending. (text : List ℕ) × Grows (W.contents writer.old) (W.contents writer.new) text
-        × Brings session.old.game.now.names (B.grid session.old.board) (keys_apart piece.now) (B.grid session.new.board) text ending) }
+        × Brings session.old.game.now.names (B.grid session.old.board) (keys_apart piece.now)
+        (B.grid session.new.board) text ending) }
 {
     for byte in piece {
         if let Some(ending) = play_byte(session, *byte, screen, writer)? {
@@ -202,7 +209,8 @@ fn play_byte<B: Board, W: ByteWriter>(
     ensures well { IfErr result IsWriterFault }
     ensures game { OnOk result (session.new.game.now ≡ session.old.game.now) }
     ensures brings { IfOk result (λ ending. (text : List ℕ) × Grows (W.contents writer.old) (W.contents writer.new) text
-        × Brings session.old.game.now.names (B.grid session.old.board) (keys_apart (byte ∷ [])) (B.grid session.new.board) text ending) }
+        × Brings session.old.game.now.names (B.grid session.old.board) (keys_apart (byte ∷ []))
+        (B.grid session.new.board) text ending) }
 {
     let Some(key) = read_key(byte) else {
         return Ok(None);

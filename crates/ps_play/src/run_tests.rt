@@ -9,26 +9,38 @@ use std::process::Abort;
 use std::test::Fail;
 
 /// The names of a game: nine objects on four layers, in 28 lines.
-const NAMES: &str =
-    "title T\nOBJECTS\nBackground .\ngreen\nWall #\nbrown\nPlayer P\nwhite\nCrate *\norange\nTarget O\nblue\nA\nred\nB\npink\nC\ngray\nD\nblack\nLEGEND\n@ = Crate and Target\nAT = A or Target\nCOLLISIONLAYERS\nBackground\nTarget\nPlayer, Wall, Crate\nA B C D\n";
+const NAMES: &str = "title T\n\
+    OBJECTS\nBackground .\ngreen\nWall #\nbrown\nPlayer P\nwhite\nCrate *\norange\nTarget O\nblue\nA\n\
+    red\nB\npink\nC\ngray\nD\nblack\n\
+    LEGEND\n@ = Crate and Target\nAT = A or Target\n\
+    COLLISIONLAYERS\nBackground\nTarget\nPlayer, Wall, Crate\nA B C D\n";
 
 /// What stands between the names and the rows of a level: no rules, no win conditions.
 const BELOW: &str = "RULES\nWINCONDITIONS\nLEVELS\n";
 
 /// A game whose Background is either of two objects, up to the rows of its level.
-const MEADOW: &str =
-    "title T\nOBJECTS\nGrass .\ngreen\nSand :\nyellow\nPlayer P\nwhite\nLEGEND\nBackground = Grass or Sand\nCOLLISIONLAYERS\nBackground\nPlayer\nLEVELS\n";
+const MEADOW: &str = "title T\n\
+    OBJECTS\nGrass .\ngreen\nSand :\nyellow\nPlayer P\nwhite\n\
+    LEGEND\nBackground = Grass or Sand\n\
+    COLLISIONLAYERS\nBackground\nPlayer\n\
+    LEVELS\n";
 
 /// A game whose Player is either of two objects, each on a layer of its own, up to the rows of its level.
-const PAIR: &str =
-    "title T\nOBJECTS\nBackground .\ngreen\nCart C\nwhite\nKite K\nred\nLEGEND\nPlayer = Cart or Kite\n@ = Cart and Kite\nCOLLISIONLAYERS\nBackground\nCart\nKite\nLEVELS\n";
+const PAIR: &str = "title T\n\
+    OBJECTS\nBackground .\ngreen\nCart C\nwhite\nKite K\nred\n\
+    LEGEND\nPlayer = Cart or Kite\n@ = Cart and Kite\n\
+    COLLISIONLAYERS\nBackground\nCart\nKite\n\
+    LEVELS\n";
 
 /// A game whose Player is both of two objects at once, which no game's is.
-const BOTH: &[u8] =
-    b"title T\nOBJECTS\nBackground .\ngreen\nCart C\nwhite\nKite K\nred\nLEGEND\nPlayer = Cart and Kite\nCOLLISIONLAYERS\nBackground\nCart\nKite\nLEVELS\nC";
+const BOTH: &[u8] = b"title T\n\
+    OBJECTS\nBackground .\ngreen\nCart C\nwhite\nKite K\nred\n\
+    LEGEND\nPlayer = Cart and Kite\n\
+    COLLISIONLAYERS\nBackground\nCart\nKite\n\
+    LEVELS\nC";
 
-/// Plays a text with keys, and looks that these frames and this last line are written behind the title and the number of
-/// the level.
+/// Plays a text with keys, and looks that these frames and this last line are written behind the title and the number
+/// of the level.
 fn expect_frames(
     rt: &impl Abort,
     alloc: Global,

@@ -9,7 +9,6 @@ ghost use Rattle.ps_play.specs.Runs.{StepsTo};
 
 use crate::frame::add_frame;
 use crate::loading::load;
-use crate::meanings::members_named;
 use crate::plain::PlainGame;
 use crate::screen::Screen;
 use crate::turn::{give_motion, motion_for};
@@ -39,7 +38,8 @@ impl<'g, B: Board> Session<'g, B> {
     ) -> Result<Session<'g, B>, Memory>
         requires { IsPlayable game.now.names game.now.level }
         ensures game { IfOk result (λ session. session.game.now ≡ game.entry.now) }
-        ensures board { IfOk result (λ session. B.grid session.board ≡ loaded game.entry.now.names game.entry.now.level) }
+        ensures board { IfOk result (λ session.
+            B.grid session.board ≡ loaded game.entry.now.names game.entry.now.level) }
         ensures opened { OnOk result (screen.new ≡ screen.old ++ opening game.entry.now) }
     {
         let board: B = load(alloc, game.names, game.level)?;
@@ -79,11 +79,7 @@ impl<'g, B: Board> Session<'g, B> {
         ensures shown { OnOk result (screen.new ≡ screen.old ++ frame self.old.game.now.names (B.grid self.new.board)) }
     {
         let game = self.game;
-        give_motion(
-            &mut self.board,
-            members_named(game.names, "player"),
-            motion_for(input),
-        );
+        give_motion(&mut self.board, game.names.players(), motion_for(input));
         let _ = slide(&mut self.board);
         add_frame(self.alloc, game.names, &self.board, screen)
     }

@@ -38,7 +38,8 @@ pub fn give_motion<B: Board>(board: &mut B, moved: &[ObjectId], motion: Motion)
 fn give_cell<B: Board>(board: &mut B, cell: u32, moved: &[ObjectId], motion: Motion)
     requires cell { cell < cell_count (B.grid board.old) }
     requires shape { IsGrid (B.grid board.old) }
-    ensures { B.grid board.new ≡ grid_with_cell (B.grid board.old) cell (map (slot_set_moving moved.now motion) (cell_at (B.grid board.old) cell)) }
+    ensures { B.grid board.new ≡ grid_with_cell (B.grid board.old) cell
+        (map (slot_set_moving moved.now motion) (cell_at (B.grid board.old) cell)) }
 {
     for layer in 0..board.layers() {
         give_slot(board, cell, LayerId(layer), moved, motion);
@@ -48,7 +49,8 @@ fn give_cell<B: Board>(board: &mut B, cell: u32, moved: &[ObjectId], motion: Mot
 /// Gives the motion to the object of a slot, if it is one of the objects.
 fn give_slot<B: Board>(board: &mut B, cell: u32, layer: LayerId, moved: &[ObjectId], motion: Motion)
     requires { IsPlace (B.grid board.old) cell layer.0 }
-    ensures { B.grid board.new ≡ with_slot (B.grid board.old) cell layer.0 (slot_set_moving moved.now motion (slot_at (B.grid board.old) cell layer.0)) }
+    ensures { B.grid board.new ≡ with_slot (B.grid board.old) cell layer.0
+        (slot_set_moving moved.now motion (slot_at (B.grid board.old) cell layer.0)) }
 {
     let Some(object) = board.object(cell, layer) else {
         return;

@@ -177,4 +177,8 @@ invariant_of-result c =
     ap (λ ls. no_layers objects (layers_found (length objects) ls)) (sym same) ∙ ap (no_layers objects) (sym (c.deref-3.ensures.value ∙ placed)) ∙ none in
     let long : c.in_ok-layering.layering.count ≡ length (sections_of objects lines layer_lines).layers =
     c.in_ok-layering.ensures.count ∙ ap (λ (t : List (Named × Option Meaning)). length (layers_of_lines (entries_with t) layer_lines)) table ∙ ap length same in
-    subst AreBounded (sym part) (bounded objects lines layer_lines (subst (λ (n : ℕ). n ≤ OBJECT_LIMIT) count c.in_ok-declared.ensures.few) (subst (λ (n : ℕ). n ≤ LAYER_LIMIT) long c.in_ok-layering.ensures.few) on)
+    record {
+      bounded = subst AreBounded (sym part) (bounded objects lines layer_lines (subst (λ (n : ℕ). n ≤ OBJECT_LIMIT) count c.in_ok-declared.ensures.few) (subst (λ (n : ℕ). n ≤ LAYER_LIMIT) long c.in_ok-layering.ensures.few) on);
+      players_kept = c.in_ok-players.ensures;
+      backgrounds_kept = c.in_ok-backgrounds.ensures;
+    }

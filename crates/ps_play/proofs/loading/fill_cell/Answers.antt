@@ -13,7 +13,7 @@ use Rattle.ps_play.proofs.PartLoaded.{put_in_cell}
 use Rattle.ps_play.proofs.loading.fill_cell.Goals as goal
 
 pub put-requires-clause-place : goal.put-requires-clause-place
-put-requires-clause-place g c = rw c.loop-object.invariant (c.requires.place, rw c.requires.layers c.layer_of.ensures.within)
+put-requires-clause-place g c = rw c.loop-object.invariant (c.requires.place, rw c.requires.layers (c.layer_of.ensures.within (c.requires.objects c.loop-object.object-index _ c.loop-object-test.true)))
 
 pub loop-object-preserved : goal.loop-object-preserved
 loop-object-preserved g c =

@@ -1,0 +1,194 @@
+//! What each fault is, in a sentence for those who write games.
+
+use ps_model::FaultKind;
+
+/// The sentence of each cause of refusal. docs/LANGUAGE.md has the same sentences; `tools/check_explanations` compares
+/// them.
+const EXPLANATIONS: [(FaultKind, &str); 45] = [
+    (FaultKind::NotUtf8, "The text isn't UTF-8."),
+    (
+        FaultKind::TooLong,
+        "The text has more than 1,048,576 bytes.",
+    ),
+    (
+        FaultKind::SectionOrder,
+        "A header stands a second time, or below that of a later section.",
+    ),
+    (
+        FaultKind::NoSection,
+        "OBJECTS, COLLISIONLAYERS or LEVELS isn't there.",
+    ),
+    (
+        FaultKind::Realtime,
+        "A line of the prelude begins with `realtime_interval`.",
+    ),
+    (
+        FaultKind::TooManyReadings,
+        "A rule has more than 4,096 readings, or the rules up to it have more than 65,536.",
+    ),
+    (
+        FaultKind::Impossible,
+        "No reading of the rule is possible: each has two names of one layer in a cell of one side.",
+    ),
+    (
+        FaultKind::BadObject,
+        "An object isn't written as a name line, a line of colours right below, and perhaps five sprite rows.",
+    ),
+    (
+        FaultKind::Twice,
+        "A name that there is already is declared, in OBJECTS or LEGEND.",
+    ),
+    (
+        FaultKind::MixedAndOr,
+        "A line of LEGEND has `and` as well as `or`.",
+    ),
+    (
+        FaultKind::UnknownName,
+        "A line of LEGEND or COLLISIONLAYERS names what nothing declares.",
+    ),
+    (
+        FaultKind::Cycle,
+        "A name of LEGEND stands for itself, by way of other names or at once.",
+    ),
+    (
+        FaultKind::AggregateInProperty,
+        "A line of LEGEND with `or` names an aggregate, a name for several objects at once.",
+    ),
+    (
+        FaultKind::PropertyInAggregate,
+        "A line of LEGEND with `and` names a property, a name for any of several objects.",
+    ),
+    (
+        FaultKind::AggregateInLayer,
+        "A line of COLLISIONLAYERS names an aggregate, a name for several objects at once.",
+    ),
+    (
+        FaultKind::NoLayer,
+        "No line of COLLISIONLAYERS gives the object a layer.",
+    ),
+    (FaultKind::NoBackground, "Nothing declares `Background`."),
+    (FaultKind::NoPlayer, "Nothing declares `Player`."),
+    (
+        FaultKind::BadBackground,
+        "`Background` is an aggregate, a name for several objects at once, or its members lie on several layers.",
+    ),
+    (
+        FaultKind::BadPlayer,
+        "`Player` is an aggregate, a name for several objects at once.",
+    ),
+    (
+        FaultKind::TooManyNames,
+        "There are more than 64 objects or 32 layers.",
+    ),
+    (
+        FaultKind::SameLayerAggregate,
+        "Two objects of an aggregate, a name for several objects at once, lie on one layer.",
+    ),
+    (
+        FaultKind::BadLine,
+        "A line of LEGEND has none of its three forms, or a line of COLLISIONLAYERS has no name, only commas.",
+    ),
+    (
+        FaultKind::BadBracket,
+        "Brackets, bars and arrow don't make a rule.",
+    ),
+    (
+        FaultKind::UnknownWord,
+        "A word is neither a name nor a key word, or a name or key word stands where it can't.",
+    ),
+    (
+        FaultKind::RowsDiffer,
+        "The right has rows, but not as many as the left, or with other numbers of cells.",
+    ),
+    (
+        FaultKind::NothingRight,
+        "The right has neither rows nor commands.",
+    ),
+    (
+        FaultKind::NameTwice,
+        "One side of a cell names an object or a property twice, `no` aside: by a synonym or in an aggregate too.",
+    ),
+    (
+        FaultKind::NoAggregate,
+        "`no` stands before an aggregate, a name for several objects at once.",
+    ),
+    (
+        FaultKind::Unbound,
+        "Nothing on the left decides which is meant by a property, or by a word of several moves, on the right.",
+    ),
+    (
+        FaultKind::LateMove,
+        "A movement word stands in the brackets of a `late` rule; `stationary` is one too.",
+    ),
+    (
+        FaultKind::PlusAlone,
+        "A rule begins with `+`, but no rule stands above it, or none since the last loop line.",
+    ),
+    (
+        FaultKind::PlusLate,
+        "A rule with `+` is late and the one before isn't, or the other way round.",
+    ),
+    (
+        FaultKind::Loop,
+        "A loop begins within a loop, ends without having begun, or has no end.",
+    ),
+    (
+        FaultKind::Ellipsis,
+        "`...` stands first, last or twice in a row, beside something in its cell, or where the other side has none.",
+    ),
+    (
+        FaultKind::NotInProfile,
+        "`random`, `randomdir` or `rigid` stands in the rule: words of PuzzleScript that are left out here.",
+    ),
+    (FaultKind::TooManyRules, "There are more than 1,024 rules."),
+    (
+        FaultKind::UnknownGlyph,
+        "A character of a row, within the width of its level, is no name of one character.",
+    ),
+    (
+        FaultKind::PropertyGlyph,
+        "A character of a row, within the width of its level, is a property: which of its objects is meant isn't said.",
+    ),
+    (
+        FaultKind::TooLarge,
+        "The first row of a level has more than 64 characters, or the level has more than 64 rows.",
+    ),
+    (
+        FaultKind::NoLevel,
+        "LEVELS has no level; messages are none.",
+    ),
+    (
+        FaultKind::TooManyEntries,
+        "There are more than 999 levels and messages.",
+    ),
+    (
+        FaultKind::BadWin,
+        "A line of WINCONDITIONS isn't a win condition.",
+    ),
+    (
+        FaultKind::UnknownWinName,
+        "A win condition names what nothing declares.",
+    ),
+    (
+        FaultKind::NotYet,
+        "The text is a game, but not one that this version plays yet.",
+    ),
+];
+
+/// What the fault of this code is, as `RU7`, in a sentence; nothing, where no fault has the code.
+pub fn explanation(code: &str) -> Option<&'static str> {
+    for (kind, sentence) in EXPLANATIONS {
+        if has_code(kind, code) {
+            return Some(sentence);
+        }
+    }
+    None
+}
+
+/// Whether a cause of refusal has this code: whether its words begin with the code and a blank.
+fn has_code(kind: FaultKind, code: &str) -> bool {
+    match kind.words().split_once(' ') {
+        Some((own, _name)) => own == code,
+        None => false,
+    }
+}
