@@ -89,7 +89,7 @@ pub fn without_blank_ends(line: &str) -> &str
     ensures { result.now ≡ without_blank_end (drop (prefix_len is_blank line.now) line.now) }
 {
     let bytes = line.as_bytes();
-    let start = past_parting(bytes, Cut::Plain, 0);
+    let start = past_parting(bytes, Cut::Blanks, 0);
     let end = blank_end(bytes, start);
     &line[start..end]
 }
