@@ -44,8 +44,8 @@ fn are_on_one_layer(names: &Names, objects: &[ObjectId]) -> bool
 }
 
 impl<'r> Occurrences<'r> {
-    /// Whether the rule keeps a property loose: its members lie on one layer, and each of its right occurrences stands in a cell
-    /// where the left has it too. What is no property isn't loose.
+    /// Whether the rule keeps a property loose: its members lie on one layer, and each of its right occurrences stands
+    /// in a cell where the left has it too. What is no property isn't loose.
     #[tactic(auto, using(crate::proofs::LooseProperties::loose))]
     pub fn is_loose(&self, names: &Names, meaning: &Meaning) -> bool
         ensures { result ≡ is_loose names.now self.now (meaning_shown meaning.now) }
@@ -56,8 +56,8 @@ impl<'r> Occurrences<'r> {
         are_on_one_layer(names, objects.as_slice()) && !self.is_unmatched(*line)
     }
 
-    /// Whether a property is fixed: each left occurrence is split into its members, since the rule doesn't keep it loose. What is no
-    /// property isn't fixed either.
+    /// Whether a property is fixed: each left occurrence is split into its members, since the rule doesn't keep it
+    /// loose. What is no property isn't fixed either.
     pub fn is_fixed(&self, names: &Names, meaning: &Meaning) -> bool
         ensures { result ≡ is_fixed names.now self.now (meaning_shown meaning.now) }
     {
