@@ -1,29 +1,28 @@
 -- One line of RULES more.
-use Rattle.std.proofs.Common.{◌≡◌, ℕ, ◌≤◌, true, false, List, ◌++◌, Some, length, refl, ap, ◌∙◌}
+use Rattle.std.proofs.Common.{◌≡◌, ℕ, true, false, List, ◌++◌, Some, refl, ap, ◌∙◌}
 use Rattle.ps_model.specs.declared.faults.Fault.{Fault}
-use Rattle.ps_model.specs.text.LineNumbers.{line_at}
-use Rattle.ps_model.specs.text.Lines.{Line, lines_of, is_blank_line}
+use Rattle.ps_model.specs.text.LineNumbers.{HasLine, here, line_at}
+use Rattle.ps_model.specs.text.Lines.{Line, is_blank_line}
 use Rattle.ps_model.specs.names.Names.{Names}
 use Rattle.ps_model.specs.rules.RuleFaults.{Above, above_next, faults_of_line, faults_below}
 use Rattle.ps_model.specs.rules.RuleLines.{lines_with_words}
 use Rattle.ps_model.specs.rules.RuleSymbols.{tokens_of}
 use Rattle.ps_rules.specs.FormsShown.{form_at}
-use Rattle.ps_model.specs.text.LineNumbers.{here}
 use Rattle.ps_rules.specs.RefusedLines.{IsRefused}
 use Rattle.ps_rules.proofs.RuleSteps.{first-some}
 use Rattle.ps_model.specs.text.Faults.{first_fault}
 use Rattle.ps_laws.proofs.common.LinesInOrder.{line_at-number}
 
-pub below-step : (text : List ℕ) (line : ℕ) (names : Names) (above : Above) (rest : List Line) → 1 ≤ line → line ≤ length (lines_of text)
+pub below-step : (text : List ℕ) (line : ℕ) (names : Names) (above : Above) (rest : List Line) → HasLine text line
     → (line_at text line).is_there ≡ true → is_blank_line (line_at text line) ≡ false
     → faults_below names above (lines_with_words (here text line ++ rest))
     ≡ faults_of_line above line (tokens_of names (line_at text line)) (form_at text line names) ++ faults_below names (above_next above line (form_at text line names)) (lines_with_words rest)
-below-step text line names above rest one within t b =
-    let number : (line_at text line).number ≡ line = line_at-number text line one within in
+below-step text line names above rest there t b =
+    let number : (line_at text line).number ≡ line = line_at-number text line there.0 there.1 in
     rw (t, b, number) refl
 
-pub refused-step : (text : List ℕ) (line : ℕ) (names : Names) (above : Above) (rest : List Line) (fault : Fault) → 1 ≤ line → line ≤ length (lines_of text)
+pub refused-step : (text : List ℕ) (line : ℕ) (names : Names) (above : Above) (rest : List Line) (fault : Fault) → HasLine text line
     → IsRefused text line names above fault → first_fault (faults_below names above (lines_with_words (here text line ++ rest))) ≡ Some fault
-refused-step text line names above rest fault one within own =
-    ap first_fault (below-step text line names above rest one within own.there own.written)
+refused-step text line names above rest fault there own =
+    ap first_fault (below-step text line names above rest there own.there own.written)
     ∙ first-some (faults_of_line above line (tokens_of names (line_at text line)) (form_at text line names)) _ fault own.told

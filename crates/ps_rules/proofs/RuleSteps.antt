@@ -21,9 +21,6 @@ pub none-of : (faults : List Fault) → first_fault faults ≡ None → faults �
 none-of [] e = refl
 none-of (f ∷ faults) e = cc
 
-first-behind : (faults others more : List Fault) → first_fault faults ≡ None → first_fault (faults ++ (others ++ more)) ≡ first_fault (others ++ more)
-first-behind faults others more e = first-none faults (others ++ more) e
-
 module _ (above : Above) (line : ℕ) (shape : RuleShape) (rule : SourceRule) where
   -- all of them are the three parts
   pub three-parts : faults_of_rule above line shape rule ≡ shape_faults line shape ++ (name_faults line rule ++ last_faults above line shape rule)

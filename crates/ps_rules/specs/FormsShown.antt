@@ -10,8 +10,10 @@ use Rattle.ps_model.specs.rules.RuleFaults.{Above, is_one_too_many}
 use Rattle.ps_model.specs.rules.RuleLines.{LineForm, StartForm, EndForm, form_of}
 use Rattle.ps_model.specs.rules.SourceRules.{RuleLine, Rule, LoopStart, LoopEnd}
 use Rattle.ps_rules.specs.AboveShown.{below_rule, below_start, below_end}
+use Rattle.ps_rules.specs.RulesShown.{line_shown}
 use Rattle.ps_rules.specs.declared.lines.LoopMark.{LoopMark}
 use Rattle.ps_rules.specs.declared.lines.LoopMark.TheVariants.{Start, End}
+use Rattle.ps_rules.specs.declared.tree.RuleLine as code
 
 -- the loop line of a word that stands alone
 abbrev pub mark_of : Symbol → Option LoopMark
@@ -33,6 +35,10 @@ form_of_mark End = EndForm
 -- what the line of a number is
 abbrev pub form_at : List ℕ → ℕ → Names → LineForm
 form_at text line names = form_of (line_at text line) (tokens_kept (tokens_of names (line_at text line)))
+
+-- a line that is made, as what a form gives that gives one
+abbrev pub line_made : code.RuleLine → Option RuleLine
+line_made made = Some (line_shown made)
 
 -- what stands below a line
 abbrev pub below_line : Above → ℕ → RuleLine → Above

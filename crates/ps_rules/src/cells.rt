@@ -48,7 +48,8 @@ fn paired_cells<'a, 'n>(
     left: &[&'a [Token<'n>]],
     right: &[&'a [Token<'n>]],
 ) -> Result<Vec<WrittenCell<'a, 'n>>, Memory>
-    ensures { IfOk result (λ cells. cells_shown cells.items ≡ paired_cells (parts_shown left.now, parts_shown right.now)) }
+    ensures { IfOk result (λ cells. cells_shown cells.items
+        ≡ paired_cells (parts_shown left.now, parts_shown right.now)) }
 {
     let mut cells = Vec::new(alloc);
     let mut others = right;
@@ -68,7 +69,8 @@ fn paired_row<'a, 'n>(
     left: &WrittenRow<'a, 'n>,
     right: &[WrittenRow<'a, 'n>],
 ) -> Result<Vec<WrittenCell<'a, 'n>>, Memory>
-    ensures { IfOk result (λ cells. cells_shown cells.items ≡ paired_cells ((row_shown left.now).cells, slice_index_or (cells_of_rows (rows_shown right.now)) 0 [])) }
+    ensures { IfOk result (λ cells. cells_shown cells.items
+        ≡ paired_cells ((row_shown left.now).cells, slice_index_or (cells_of_rows (rows_shown right.now)) 0 [])) }
 {
     if right.is_empty() {
         let cells = paired_cells(alloc, &left.cells, &[])?;
@@ -83,7 +85,8 @@ pub fn paired_rows<'a, 'n>(
     alloc: Global,
     shape: &RuleShape<'a, 'n>,
 ) -> Result<Vec<Vec<WrittenCell<'a, 'n>>>, Memory>
-    ensures { IfOk result (λ rows. cell_rows_shown rows.items ≡ map paired_cells (paired_rows (shape_shown shape.now))) }
+    ensures { IfOk result (λ rows. cell_rows_shown rows.items
+        ≡ map paired_cells (paired_rows (shape_shown shape.now))) }
 {
     let mut rows = Vec::new(alloc);
     let left = shape.left.rows.as_slice();

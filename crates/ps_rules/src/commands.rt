@@ -1,8 +1,8 @@
 //! The directions and the commands of a rule.
 
-ghost use Rattle.std.specs.Prelude.{◌≡◌, ◌++◌, ◌∷◌, [], IfOk, OnOk, List as Sequence, ℕ, Option, None, fold, filter, length, ◌≤◌, if◌then◌else◌};
-ghost use Rattle.ps_model.specs.text.LineNumbers.{line_at};
-ghost use Rattle.ps_model.specs.text.Lines.{lines_of};
+ghost use Rattle.std.specs.Prelude.{◌≡◌, ◌++◌, ◌∷◌, [], IfOk, OnOk, List as Sequence, ℕ, Option, None, fold, filter};
+ghost use Rattle.std.specs.Prelude.{if◌then◌else◌};
+ghost use Rattle.ps_model.specs.text.LineNumbers.{HasLine, line_at};
 ghost use Rattle.ps_model.specs.rules.RuleShape.{has_kind};
 ghost use Rattle.ps_model.specs.rules.RuleTree.{gives, directions_given, with_command, text_of, commands_of};
 ghost use Rattle.ps_model.specs.rules.SourceRules.{no_commands};
@@ -23,7 +23,9 @@ fn push_given(
     tokens: &[Token<'_>],
     direction: Direction,
 ) -> Result<(), Memory>
-    ensures { OnOk result (given.new.items ≡ given.old.items ++ filter (λ direction. has_kind (gives direction) (tokens_shown tokens.now)) (direction ∷ [])) }
+    ensures { OnOk result (given.new.items
+        ≡ given.old.items
+        ++ filter (λ direction. has_kind (gives direction) (tokens_shown tokens.now)) (direction ∷ [])) }
 {
     if !has_kind(Kind::Gives(direction), tokens) {
         return Ok(());
@@ -58,7 +60,8 @@ struct Asked {
 impl Asked {
     /// These commands, and the one that a word asks for, if it is a command.
     fn with(self, symbol: Symbol<'_>) -> Asked
-        ensures { (text : Option (Sequence ℕ)) → asked_shown text result ≡ with_command text (asked_shown text self) (symbol_shown symbol.entry) }
+        ensures { (text : Option (Sequence ℕ)) → asked_shown text result
+            ≡ with_command text (asked_shown text self) (symbol_shown symbol.entry) }
     {
         let Symbol::Asks(command) = symbol else {
             return self;
@@ -79,7 +82,8 @@ impl Asked {
 
 /// The commands that words ask for.
 fn asked_by(tokens: &[Token<'_>]) -> Asked
-    ensures { (text : Option (Sequence ℕ)) → asked_shown text result ≡ fold (λ commands token. with_command text commands token.symbol) no_commands (tokens_shown tokens.now) }
+    ensures { (text : Option (Sequence ℕ)) → asked_shown text result
+        ≡ fold (λ commands token. with_command text commands token.symbol) no_commands (tokens_shown tokens.now) }
 {
     let mut asked = Asked {
         cancel: false,
@@ -102,8 +106,7 @@ fn message_of(
     line: u32,
     asked: bool,
 ) -> Result<Option<Text>, Memory>
-    requires from_one { 1 ≤ line }
-    requires there { line ≤ length (lines_of source.now) }
+    requires { HasLine source.now line }
     ensures { IfOk result (λ message. message ≡ (if asked then text_of (line_at source.now line) else None)) }
 {
     if !asked {
@@ -123,9 +126,9 @@ pub fn commands_of(
     line: u32,
     tokens: &[Token<'_>],
 ) -> Result<Commands, Memory>
-    requires from_one { 1 ≤ line }
-    requires there { line ≤ length (lines_of source.now) }
-    ensures { IfOk result (λ commands. commands_shown commands ≡ commands_of (line_at source.now line) (tokens_shown tokens.now)) }
+    requires { HasLine source.now line }
+    ensures { IfOk result (λ commands. commands_shown commands
+        ≡ commands_of (line_at source.now line) (tokens_shown tokens.now)) }
 {
     let asked = asked_by(tokens);
     let message = message_of(alloc, source, line, asked.message)?;

@@ -3,7 +3,8 @@
 ghost use Rattle.std.specs.Prelude.{◌≡◌, ◌||◌, [], map, nat_lt, length, filter, slice_index_or};
 ghost use Rattle.std.specs.List.{list_any};
 ghost use Rattle.ps_model.specs.rules.RuleShape.{has_kind, is_ellipsis, paired_cells, paired_rows};
-ghost use Rattle.ps_model.specs.rules.RuleShapeFaults.{mixes_ellipsis, ends_in_ellipsis, has_many_ellipses, has_wrong_ellipsis, has_lone_ellipsis, has_bad_ellipsis};
+ghost use Rattle.ps_model.specs.rules.RuleShapeFaults.{mixes_ellipsis, ends_in_ellipsis, has_many_ellipses};
+ghost use Rattle.ps_model.specs.rules.RuleShapeFaults.{has_wrong_ellipsis, has_lone_ellipsis, has_bad_ellipsis};
 ghost use Rattle.ps_rules.specs.CellsShown.{words_shown, cells_shown, cell_rows_shown};
 ghost use Rattle.ps_rules.specs.Kinds.{parts_shown};
 ghost use Rattle.ps_rules.specs.ShapesShown.{side_shown, shape_shown};
@@ -96,8 +97,8 @@ fn rows_have_lone(rows: &[Vec<WrittenCell<'_, '_>>]) -> bool
     false
 }
 
-/// Whether an ellipsis of the rule can't stand where it does, or, where the right has rows, isn't at the same place on both
-/// sides. The rule's rows are given by their cells, too.
+/// Whether an ellipsis of the rule can't stand where it does, or, where the right has rows, isn't at the same place on
+/// both sides. The rule's rows are given by their cells, too.
 #[tactic(auto, using(crate::proofs::Words::any_map))]
 pub fn has_bad_ellipsis(shape: &RuleShape<'_, '_>, rows: &[Vec<WrittenCell<'_, '_>>]) -> bool
     requires { cell_rows_shown rows.now ≡ map paired_cells (paired_rows (shape_shown shape.now)) }

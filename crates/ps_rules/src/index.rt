@@ -6,10 +6,11 @@ ghost use Rattle.ps_model.specs.rules.SourceRules.{Item as TheItem};
 ghost use Rattle.ps_names.specs.Shown.{meaning_shown};
 ghost use Rattle.ps_rules.specs.RulesShown.{item_shown, items_shown, cell_shown, cell_list_shown};
 ghost use Rattle.ps_rules.specs.SoughtItems.{found_from};
-ghost use Rattle.ps_rules.specs.Tallies.{Key, Named, Moving, has_key, is_name_key, is_word_key, with_if, found_at, IsIndexOf};
+ghost use Rattle.ps_rules.specs.Tallies.{Key, Named, Moving, has_key, is_name_key, is_word_key, with_if, found_at};
+ghost use Rattle.ps_rules.specs.Tallies.{IsIndexOf};
 ghost use Rattle.ps_rules.specs.declared.sought.Found.TheVariants.{Nothing};
 
-use crate::sought::{Found, word_number};
+use crate::sought::Found;
 use crate::tally::Tally;
 use crate::tree::{CellPair, Item};
 use ps_model::{Memory, MovementWord};
@@ -25,7 +26,7 @@ pub struct Index {
     aggregates: Tally,
     /// By the legend lines of properties.
     properties: Tally,
-    /// By the numbers of the movement words.
+    /// By the movement words' places in their enum.
     words: Tally,
 }
 
@@ -58,13 +59,14 @@ impl Index {
     pub fn word(&self, word: MovementWord) -> Found
         ensures { result ≡ found_at self.now (Moving word) }
     {
-        self.words.get(word_number(word))
+        self.words.get(word as u32)
     }
 
     /// Adds an occurrence of a name.
     #[tactic(auto, using(crate::proofs::Tallies::object_added, crate::proofs::Tallies::aggregate_added, crate::proofs::Tallies::property_added))]
     fn add_name(&mut self, meaning: &Meaning, at: u32) -> Result<(), Memory>
-        ensures { OnOk result ((key : Key) → found_at self.new key ≡ with_if (is_name_key key (meaning_shown meaning.now)) (found_at self.old key) at) }
+        ensures { OnOk result ((key : Key) → found_at self.new key
+            ≡ with_if (is_name_key key (meaning_shown meaning.now)) (found_at self.old key) at) }
     {
         match meaning {
             Meaning::One(object) => {
@@ -85,19 +87,22 @@ impl Index {
     /// Adds an occurrence of a movement word, if there is one.
     #[tactic(auto, using(crate::proofs::Tallies::word_added, crate::proofs::Tallies::no_word_added))]
     fn add_word(&mut self, word: Option<MovementWord>, at: u32) -> Result<(), Memory>
-        ensures { OnOk result ((key : Key) → found_at self.new key ≡ with_if (is_word_key key word) (found_at self.old key) at) }
+        ensures { OnOk result ((key : Key) → found_at self.new key
+            ≡ with_if (is_word_key key word) (found_at self.old key) at) }
     {
         let Some(word) = word else {
             return Ok(());
         };
-        self.words.add(word_number(word), at)?;
+        self.words.add(word as u32, at)?;
         Ok(())
     }
 
     /// Adds an item, if it is an occurrence.
     #[tactic(auto, using(crate::proofs::Tallies::item_added, crate::proofs::Tallies::no_item_added))]
     fn add_item(&mut self, item: &Item) -> Result<(), Memory>
-        ensures { OnOk result ((key : Key) → (rest : Sequence TheItem) → found_from (found_at self.new key) (numbers (filter (has_key key) rest)) ≡ found_from (found_at self.old key) (numbers (filter (has_key key) (item_shown item.now ∷ rest)))) }
+        ensures { OnOk result ((key : Key) → (rest : Sequence TheItem)
+            → found_from (found_at self.new key) (numbers (filter (has_key key) rest))
+            ≡ found_from (found_at self.old key) (numbers (filter (has_key key) (item_shown item.now ∷ rest)))) }
     {
         let Item::Is { at, word, meaning } = item else {
             return Ok(());
@@ -109,7 +114,8 @@ impl Index {
 
     /// Adds items.
     fn add_items(&mut self, items: &[Item]) -> Result<(), Memory>
-        ensures { OnOk result ((key : Key) → found_at self.new key ≡ found_from (found_at self.old key) (numbers (filter (has_key key) (items_shown items.now)))) }
+        ensures { OnOk result ((key : Key) → found_at self.new key
+            ≡ found_from (found_at self.old key) (numbers (filter (has_key key) (items_shown items.now)))) }
     {
         for item in items {
             self.add_item(item)?;

@@ -40,7 +40,9 @@ fn push_named(
     before: Symbol<'_>,
     token: Token<'_>,
 ) -> Result<(), Memory>
-    ensures { OnOk result (items_shown items.new.items ≡ items_shown items.old.items ++ named_item (symbol_shown before.entry) token.entry.at (symbol_shown token.entry.symbol)) }
+    ensures { OnOk result (items_shown items.new.items
+        ≡ items_shown items.old.items
+        ++ named_item (symbol_shown before.entry) token.entry.at (symbol_shown token.entry.symbol)) }
 {
     let Symbol::Called(meaning) = token.symbol else {
         return Ok(());

@@ -3,7 +3,8 @@
 ghost use Rattle.std.specs.Prelude.{◌≡◌, IfOk, option_map};
 ghost use Rattle.std.specs.Str.{bytes_eq};
 ghost use Rattle.std.specs.Map.{lookup};
-ghost use Rattle.ps_model.specs.rules.RuleSymbols.{shape_words, movement_words, command_words, left_out_words, key_words, symbol_of, first_symbol};
+ghost use Rattle.ps_model.specs.rules.RuleSymbols.{shape_words, movement_words, command_words, left_out_words};
+ghost use Rattle.ps_model.specs.rules.RuleSymbols.{key_words, symbol_of, first_symbol};
 ghost use Rattle.ps_rules.specs.SymbolsShown.{symbol_shown};
 
 use crate::symbols::{Command, Symbol, name_symbol};
@@ -109,9 +110,9 @@ fn key_word<'n>(word: &str) -> Option<Symbol<'n>>
     left_out_word(word)
 }
 
-/// What a word is: a key word, whatever the case of its letters, or else a name. The name is looked up with its letters folded,
-/// since that finds it at once.
-#[tactic(auto, using(ps_model::proofs::Foldings::folded_again))]
+/// What a word is: a key word, whatever the case of its letters, or else a name. The name is looked up with its letters
+/// folded, since that finds it at once.
+#[tactic(auto, using(ps_laws::proofs::common::Foldings::folded_again))]
 pub fn symbol_of<'n>(alloc: Global, names: &'n Names, word: &str) -> Result<Symbol<'n>, Memory>
     ensures { IfOk result (λ symbol. symbol_shown symbol ≡ symbol_of names.entry.now word.now) }
 {

@@ -50,7 +50,8 @@ impl LineSet {
 
     /// Whether the line is one of the set already; from now on it is.
     pub fn see(&mut self, line: u32) -> Result<bool, Memory>
-        ensures { IfOk result (λ again. (rest : Sequence ℕ) → twice_behind self.old (line ∷ rest) ≡ (again || twice_behind self.new rest)) }
+        ensures { IfOk result (λ again. (rest : Sequence ℕ) → twice_behind self.old (line ∷ rest)
+            ≡ (again || twice_behind self.new rest)) }
     {
         if self.lines.contains(&line) {
             return Ok(true);

@@ -1,19 +1,17 @@
 //! A line of RULES read, or refused.
 
-ghost use Rattle.std.specs.Prelude.{◌≡◌, ◌≤◌, [], Some, IfOk, IfErr, OnOk, length};
-ghost use Rattle.ps_model.specs.declared.faults.Fault.{Fault as TheFault};
-ghost use Rattle.ps_model.specs.text.Faults.{first_fault};
-ghost use Rattle.ps_model.specs.text.LineNumbers.{line_at};
-ghost use Rattle.ps_model.specs.text.Lines.{lines_of};
+ghost use Rattle.std.specs.Prelude.{◌≡◌, IfOk};
+ghost use Rattle.ps_model.specs.text.LineNumbers.{HasLine, line_at};
+ghost use Rattle.ps_model.specs.text.Reads.{ReadsAs};
 ghost use Rattle.ps_model.specs.rules.RuleFaults.{faults_of_form, faults_of_line, above_next};
 ghost use Rattle.ps_model.specs.rules.RuleLines.{form_of, form_of_shape, line_of_form};
 ghost use Rattle.ps_model.specs.rules.RuleShape.{shape_of};
 ghost use Rattle.ps_model.specs.rules.RuleSymbols.{tokens_of, tokens_kept};
 ghost use Rattle.ps_rules.specs.AboveShown.{above_shown};
-ghost use Rattle.ps_rules.specs.FormsShown.{mark_of, loop_mark_of, form_of_mark, form_at, below_line, count_faults};
+ghost use Rattle.ps_rules.specs.FormsShown.{mark_of, loop_mark_of, form_of_mark, form_at, line_made, below_line};
+ghost use Rattle.ps_rules.specs.FormsShown.{count_faults};
 ghost use Rattle.ps_rules.specs.RulesShown.{line_shown};
 ghost use Rattle.ps_rules.specs.SymbolsShown.{symbol_shown, tokens_shown};
-ghost use Rattle.ps_model.specs.declared.refusal.Refusal.TheVariants.{Refused};
 
 use crate::above::Above;
 use crate::kinds::{Kind, has_kind};
@@ -57,9 +55,9 @@ fn loop_mark(tokens: &[Token<'_>]) -> Option<LoopMark>
 
 /// A loop line: `Refused` where a loop starts within a loop, or ends without its start.
 fn loop_line(mark: LoopMark, above: Above, line: u32) -> Result<RuleLine, Refusal>
-    ensures part { IfOk result (λ made. line_of_form (form_of_mark mark) ≡ Some (line_shown made)) }
-    ensures fine { OnOk result (faults_of_form (above_shown above) line (form_of_mark mark) ≡ []) }
-    ensures refused { IfErr result (λ e. (fault : TheFault) → e ≡ Refused fault → first_fault (faults_of_form (above_shown above) line (form_of_mark mark)) ≡ Some fault) }
+    ensures { ReadsAs line_made result
+        (line_of_form (form_of_mark mark))
+        (faults_of_form (above_shown above) line (form_of_mark mark)) }
 {
     let fault = Fault {
         kind: FaultKind::Loop,
@@ -89,11 +87,11 @@ fn rule_line(
     tokens: &[Token<'_>],
     above: Above,
 ) -> Result<RuleLine, Refusal>
-    requires from_one { 1 ≤ line }
-    requires there { line ≤ length (lines_of source.now) }
-    ensures part { IfOk result (λ made. line_of_form (form_of_shape (line_at source.now line) (shape_of (tokens_shown tokens.now))) ≡ Some (line_shown made)) }
-    ensures fine { OnOk result (faults_of_form (above_shown above) line (form_of_shape (line_at source.now line) (shape_of (tokens_shown tokens.now))) ≡ []) }
-    ensures refused { IfErr result (λ e. (fault : TheFault) → e ≡ Refused fault → first_fault (faults_of_form (above_shown above) line (form_of_shape (line_at source.now line) (shape_of (tokens_shown tokens.now)))) ≡ Some fault) }
+    requires { HasLine source.now line }
+    ensures { ReadsAs line_made result
+        (line_of_form (form_of_shape (line_at source.now line) (shape_of (tokens_shown tokens.now))))
+        (faults_of_form (above_shown above) line
+        (form_of_shape (line_at source.now line) (shape_of (tokens_shown tokens.now)))) }
 {
     let Some(shape) = shape_of(alloc, tokens)? else {
         return Err(Refusal::Refused(Fault {
@@ -114,11 +112,10 @@ fn line_of_words(
     tokens: &[Token<'_>],
     above: Above,
 ) -> Result<RuleLine, Refusal>
-    requires from_one { 1 ≤ line }
-    requires there { line ≤ length (lines_of source.now) }
-    ensures part { IfOk result (λ made. line_of_form (form_of (line_at source.now line) (tokens_shown tokens.now)) ≡ Some (line_shown made)) }
-    ensures fine { OnOk result (faults_of_form (above_shown above) line (form_of (line_at source.now line) (tokens_shown tokens.now)) ≡ []) }
-    ensures refused { IfErr result (λ e. (fault : TheFault) → e ≡ Refused fault → first_fault (faults_of_form (above_shown above) line (form_of (line_at source.now line) (tokens_shown tokens.now))) ≡ Some fault) }
+    requires { HasLine source.now line }
+    ensures { ReadsAs line_made result
+        (line_of_form (form_of (line_at source.now line) (tokens_shown tokens.now)))
+        (faults_of_form (above_shown above) line (form_of (line_at source.now line) (tokens_shown tokens.now))) }
 {
     if let Some(mark) = loop_mark(tokens) {
         let made = loop_line(mark, above, line)?;
@@ -130,9 +127,9 @@ fn line_of_words(
 
 /// What stands above the line below this one. `Refused` where this one is a rule over the limit.
 fn next_below(above: Above, line: u32, made: &RuleLine) -> Result<Above, Refusal>
-    ensures part { IfOk result (λ next. above_shown next ≡ below_line (above_shown above) line (line_shown made.now)) }
-    ensures fine { OnOk result (count_faults (above_shown above) line (line_shown made.now) ≡ []) }
-    ensures refused { IfErr result (λ e. (fault : TheFault) → e ≡ Refused fault → first_fault (count_faults (above_shown above) line (line_shown made.now)) ≡ Some fault) }
+    ensures { ReadsAs above_shown result
+        (below_line (above_shown above) line (line_shown made.now))
+        (count_faults (above_shown above) line (line_shown made.now)) }
 {
     match made {
         RuleLine::Rule(rule) => {
@@ -164,12 +161,13 @@ pub fn read_line(
     names: &Names,
     above: Above,
 ) -> Result<Read, Refusal>
-    requires from_one { 1 ≤ line }
-    requires there { line ≤ length (lines_of source.now) }
-    ensures part { IfOk result (λ read. line_of_form (form_at source.now line names.now) ≡ Some (line_shown read.line)) }
-    ensures above { IfOk result (λ read. above_shown read.above ≡ above_next (above_shown above) line (form_at source.now line names.now)) }
-    ensures fine { OnOk result (faults_of_line (above_shown above) line (tokens_of names.now (line_at source.now line)) (form_at source.now line names.now) ≡ []) }
-    ensures refused { IfErr result (λ e. (fault : TheFault) → e ≡ Refused fault → first_fault (faults_of_line (above_shown above) line (tokens_of names.now (line_at source.now line)) (form_at source.now line names.now)) ≡ Some fault) }
+    requires { HasLine source.now line }
+    ensures read { ReadsAs (λ read. line_made read.line) result
+        (line_of_form (form_at source.now line names.now))
+        (faults_of_line (above_shown above) line
+        (tokens_of names.now (line_at source.now line)) (form_at source.now line names.now)) }
+    ensures above { IfOk result (λ read. above_shown read.above
+        ≡ above_next (above_shown above) line (form_at source.now line names.now)) }
 {
     let tokens = tokens_of(alloc, source, line, names)?;
     let kept = tokens_kept(alloc, &tokens)?;

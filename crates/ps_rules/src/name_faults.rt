@@ -2,12 +2,13 @@
 
 ghost use Rattle.std.specs.Prelude.{◌≡◌, ◌||◌, ◌++◌, IfOk};
 ghost use Rattle.std.specs.List.{list_any};
-ghost use Rattle.ps_model.specs.meaning.Directions.{is_several};
 ghost use Rattle.ps_model.specs.meaning.Occurrences.{cells_of};
-ghost use Rattle.ps_model.specs.rules.RuleNameFaults.{has_name_twice, puts_no_before_aggregate, is_no_before_aggregate, has_unbound, is_unbound, is_name_unbound, is_word_unbound};
+ghost use Rattle.ps_model.specs.rules.RuleNameFaults.{has_name_twice, puts_no_before_aggregate, is_no_before_aggregate};
+ghost use Rattle.ps_model.specs.rules.RuleNameFaults.{has_unbound, is_unbound, is_name_unbound, is_word_unbound};
 ghost use Rattle.ps_names.specs.Shown.{meaning_shown};
 ghost use Rattle.ps_rules.specs.RulesShown.{item_shown, items_shown, cell_shown, cell_list_shown};
 
+use crate::movement_words::is_several;
 use crate::occurrences::Occurrences;
 use crate::tree::{CellPair, Item};
 use ps_model::MovementWord;
@@ -46,7 +47,8 @@ fn cell_no_before_aggregate(cell: &CellPair) -> bool
 
 /// Whether one of the cells has `no` before an aggregate.
 pub fn puts_no_before_aggregate(cells: &[&CellPair]) -> bool
-    ensures { result ≡ list_any (λ cell. list_any is_no_before_aggregate (cell.left ++ cell.right)) (cell_list_shown cells.now) }
+    ensures { result
+        ≡ list_any (λ cell. list_any is_no_before_aggregate (cell.left ++ cell.right)) (cell_list_shown cells.now) }
 {
     for cell in cells {
         if cell_no_before_aggregate(cell) {
@@ -54,21 +56,6 @@ pub fn puts_no_before_aggregate(cells: &[&CellPair]) -> bool
         }
     }
     false
-}
-
-/// Whether the word leaves a choice of several moves.
-pub fn is_several(word: MovementWord) -> bool
-    ensures { result ≡ is_several word }
-{
-    matches!(
-        word,
-        MovementWord::Parallel
-            | MovementWord::Perpendicular
-            | MovementWord::Moving
-            | MovementWord::Orthogonal
-            | MovementWord::Horizontal
-            | MovementWord::Vertical
-    )
 }
 
 /// Whether no left occurrence decides a name on the right of a cell, which is a property.
@@ -128,7 +115,8 @@ fn some_unbound(occurrences: &Occurrences<'_>, cell: &CellPair) -> bool
 
 /// Whether no left occurrence decides an item on the right of one of the cells.
 fn cells_unbound(occurrences: &Occurrences<'_>, cells: &[&CellPair]) -> bool
-    ensures { result ≡ list_any (λ cell. list_any (is_unbound occurrences.now cell) cell.right) (cell_list_shown cells.now) }
+    ensures { result
+        ≡ list_any (λ cell. list_any (is_unbound occurrences.now cell) cell.right) (cell_list_shown cells.now) }
 {
     for cell in cells {
         if some_unbound(occurrences, cell) {

@@ -1,10 +1,13 @@
-//! The occurrences of names in a rule's cells: which one of the left decides one of the right, and which properties are loose.
+//! The occurrences of names in a rule's cells: which one of the left decides one of the right, and which properties are
+//! loose.
 
 ghost use Rattle.std.specs.Prelude.{◌≡◌, List as Sequence, ℕ, IfOk, filter};
 ghost use Rattle.std.specs.List.{list_any, list_all};
 ghost use Rattle.ps_model.specs.meaning.Directions.{is_several};
 ghost use Rattle.ps_model.specs.names.Names.{layer_of};
-ghost use Rattle.ps_model.specs.meaning.Occurrences.{here_or_only, numbers, bound_name, bound_word, cells_of as cells_of_rule, are_on_one_layer, is_on_left_too, is_loose, names_it};
+ghost use Rattle.ps_model.specs.meaning.Occurrences.{here_or_only, numbers, bound_name, bound_word};
+ghost use Rattle.ps_model.specs.meaning.Occurrences.{cells_of as cells_of_rule, are_on_one_layer, is_on_left_too};
+ghost use Rattle.ps_model.specs.meaning.Occurrences.{is_loose, names_it};
 ghost use Rattle.ps_names.specs.Shown.{meaning_shown};
 ghost use Rattle.ps_rules.specs.RulesShown.{rule_shown, cell_shown, items_shown, cell_list_shown};
 ghost use Rattle.ps_rules.specs.declared.sought.Found.TheVariants.{Nothing};
@@ -45,7 +48,9 @@ impl<'r> Model for Occurrences<'r> {
 
     ghost view = { λ o. rule_shown o.rule.now };
 
-    ghost invariant = { λ o. (cell_list_shown o.cells.items ≡ cells_of (rule_shown o.rule.now)) × IsIndexOf o.left (cells_of (rule_shown o.rule.now)) × AreUnmatched o.unmatched (cells_of (rule_shown o.rule.now)) };
+    ghost invariant = { λ o. (cell_list_shown o.cells.items ≡ cells_of (rule_shown o.rule.now))
+        × IsIndexOf o.left (cells_of (rule_shown o.rule.now))
+        × AreUnmatched o.unmatched (cells_of (rule_shown o.rule.now)) };
 }
 
 impl Found {
@@ -64,7 +69,8 @@ impl Found {
 /// The number of the first item that is looked for here; where there is none, that of the only one found of all.
 #[tactic(auto, using(crate::proofs::Founds::here_of, crate::proofs::Founds::not_here))]
 fn here_or_only(here: Sought<'_>, items: &[Item], all: Found) -> Option<u32>
-    ensures { (numbers_of_all : Sequence ℕ) → all ≡ found_from Nothing numbers_of_all → result ≡ here_or_only (numbers (filter (is_sought here.entry) (items_shown items.now))) numbers_of_all }
+    ensures { (numbers_of_all : Sequence ℕ) → all ≡ found_from Nothing numbers_of_all → result
+        ≡ here_or_only (numbers (filter (is_sought here.entry) (items_shown items.now))) numbers_of_all }
 {
     let first = first_of(here, items);
     if first.is_some() {
@@ -89,6 +95,13 @@ impl<'r> Occurrences<'r> {
         })
     }
 
+    /// The rule.
+    pub fn rule(&self) -> &'r SourceRule
+        ensures { rule_shown result.now ≡ self.now }
+    {
+        self.rule
+    }
+
     /// The cells of the rule in written order.
     pub fn cells(&self) -> &[&'r CellPair]
         ensures { cell_list_shown result.now ≡ cells_of_rule self.now }
@@ -103,8 +116,8 @@ impl<'r> Occurrences<'r> {
         self.unmatched.has(line)
     }
 
-    /// The left occurrence that decides a property on the right of a cell, by its byte of the text: the one in the same cell with the
-    /// same name; without one, the only left occurrence of that property.
+    /// The left occurrence that decides a property on the right of a cell, by its byte of the text: the one in the same
+    /// cell with the same name; without one, the only left occurrence of that property.
     pub fn bound_name(&self, cell: &CellPair, meaning: &Meaning) -> Option<u32>
         ensures { result ≡ bound_name self.now (cell_shown cell.now) (meaning_shown meaning.now) }
     {
@@ -112,8 +125,9 @@ impl<'r> Occurrences<'r> {
         here_or_only(name, cell.left.as_slice(), self.left.name(meaning))
     }
 
-    /// The left occurrence that decides a word of several moves before a name on the right of a cell, by its byte of the text: the one in the same
-    /// cell with the same word and the same name; without one, the only left occurrence of that word, with whatever name.
+    /// The left occurrence that decides a word of several moves before a name on the right of a cell, by its byte of
+    /// the text: the one in the same cell with the same word and the same name; without one, the only left occurrence
+    /// of that word, with whatever name.
     pub fn bound_word(&self, cell: &CellPair, word: MovementWord, meaning: &Meaning) -> Option<u32>
         ensures { result ≡ bound_word self.now (cell_shown cell.now) word (meaning_shown meaning.now) }
     {

@@ -1,14 +1,13 @@
 //! Reading the rules of a game.
 
-ghost use Rattle.std.specs.Prelude.{◌≡◌, ◌≤◌, ◌+◌, ◌++◌, [], Some, List, IfOk, IfErr, OnOk, length};
+ghost use Rattle.std.specs.Prelude.{◌≡◌, ◌++◌, List, IfOk, IfErr, OnOk};
 ghost use Rattle.ps_model.specs.declared.faults.Fault.{Fault as TheFault};
-ghost use Rattle.ps_model.specs.text.Faults.{first_fault};
-ghost use Rattle.ps_model.specs.text.LineNumbers.{lines_between};
-ghost use Rattle.ps_model.specs.text.Lines.{Line, lines_of};
+ghost use Rattle.ps_model.specs.text.LineNumbers.{HasLine, HasLines, here, lines_between};
+ghost use Rattle.ps_model.specs.text.Lines.{Line};
+ghost use Rattle.ps_model.specs.text.Reads.{Reads};
 ghost use Rattle.ps_model.specs.rules.RuleFaults.{rule_faults, faults_below};
 ghost use Rattle.ps_model.specs.rules.RuleLines.{rules_read, lines_with_words};
 ghost use Rattle.ps_rules.specs.AboveShown.{above_shown};
-ghost use Rattle.ps_model.specs.text.LineNumbers.{here};
 ghost use Rattle.ps_rules.specs.RefusedLines.{IsRefused};
 ghost use Rattle.ps_rules.specs.RulesShown.{lines_shown};
 ghost use Rattle.ps_model.specs.declared.refusal.Refusal.TheVariants.{Refused};
@@ -31,11 +30,15 @@ fn over(
     above: Above,
     made: &mut Vec<RuleLine>,
 ) -> Result<Above, Refusal>
-    requires from_one { 1 ≤ line }
-    requires there { line ≤ length (lines_of source.now) }
-    ensures part { OnOk result ((rest : List Line) → lines_shown made.new.items ++ rules_read names.now rest ≡ lines_shown made.old.items ++ rules_read names.now (here source.now line ++ rest)) }
-    ensures fine { IfOk result (λ next. (rest : List Line) → faults_below names.now (above_shown next) (lines_with_words rest) ≡ faults_below names.now (above_shown above) (lines_with_words (here source.now line ++ rest))) }
-    ensures refused { IfErr result (λ e. (fault : TheFault) → e ≡ Refused fault → IsRefused source.now line names.now (above_shown above) fault) }
+    requires { HasLine source.now line }
+    ensures part { OnOk result ((rest : List Line)
+        → lines_shown made.new.items ++ rules_read names.now rest
+        ≡ lines_shown made.old.items ++ rules_read names.now (here source.now line ++ rest)) }
+    ensures fine { IfOk result (λ next. (rest : List Line)
+        → faults_below names.now (above_shown next) (lines_with_words rest)
+        ≡ faults_below names.now (above_shown above) (lines_with_words (here source.now line ++ rest))) }
+    ensures refused { IfErr result (λ e. (fault : TheFault)
+        → e ≡ Refused fault → IsRefused source.now line names.now (above_shown above) fault) }
 {
     if !source.is_there(line) {
         return Ok(above);
@@ -49,23 +52,21 @@ fn over(
     Ok(next)
 }
 
-/// Reads the rules of a game from its section RULES, given by the numbers of the lines right below its header up to the next
-/// header, counted from 1; an absent section by an empty range.
+/// Reads the rules of a game from its section RULES, given by the numbers of the lines right below its header up to the
+/// next header, counted from 1; an absent section by an empty range.
 ///
-/// `Refused` with the first fault of these lines, if they have one; a loop without its end is told at the line of its start, behind all
-/// others. `Memory` if a growth was refused.
+/// `Refused` with the first fault of these lines, if they have one; a loop without its end is told at the line of its
+/// start, behind all others. `Memory` if a growth was refused.
 pub fn read_rules(
     alloc: Global,
     source: &Source,
     lines: Range<u32>,
     names: &Names,
 ) -> Result<RuleText, Refusal>
-    requires from_one { 1 ≤ lines.start }
-    requires ordered { lines.start ≤ lines.end }
-    requires there { lines.end ≤ length (lines_of source.now) + 1 }
-    ensures part { IfOk result (λ text. text ≡ rules_read names.now (lines_between source.now lines.start lines.end)) }
-    ensures fine { OnOk result (rule_faults names.now (lines_between source.now lines.start lines.end) ≡ []) }
-    ensures refused { IfErr result (λ e. (fault : TheFault) → e ≡ Refusal.Refused fault → first_fault (rule_faults names.now (lines_between source.now lines.start lines.end)) ≡ Some fault) }
+    requires { HasLines source.now lines.start lines.end }
+    ensures { Reads result
+        (rules_read names.now (lines_between source.now lines.start lines.end))
+        (rule_faults names.now (lines_between source.now lines.start lines.end)) }
 {
     let mut made = Vec::new(alloc);
     let mut above = Above::nothing();

@@ -1,12 +1,10 @@
 //! A rule read, or refused.
 
-ghost use Rattle.std.specs.Prelude.{◌≡◌, ◌≤◌, ◌<◌, [], Some, None, IfOk, IfErr, OnOk, length, map, option_map, ℕ};
-ghost use Rattle.ps_model.specs.declared.faults.Fault.{Fault as TheFault};
+ghost use Rattle.std.specs.Prelude.{◌≡◌, IfOk, map, option_map, ℕ};
 ghost use Rattle.ps_model.specs.text.Faults.{first_fault};
-ghost use Rattle.ps_model.specs.text.LineNumbers.{line_at};
-ghost use Rattle.ps_model.specs.text.Lines.{lines_of};
+ghost use Rattle.ps_model.specs.text.LineNumbers.{HasLine, line_at};
+ghost use Rattle.ps_model.specs.text.Reads.{ReadsAs};
 ghost use Rattle.ps_model.specs.rules.RuleFaults.{faults_of_rule};
-ghost use Rattle.ps_model.specs.rules.RuleNameFaults.{has_name_twice, puts_no_before_aggregate, has_unbound};
 ghost use Rattle.ps_model.specs.rules.RuleShape.{paired_cells, paired_rows};
 ghost use Rattle.ps_model.specs.rules.RuleTree.{rule_of};
 ghost use Rattle.ps_rules.specs.AboveShown.{above_shown};
@@ -14,7 +12,6 @@ ghost use Rattle.ps_rules.specs.CellsShown.{cell_rows_shown};
 ghost use Rattle.ps_rules.specs.FaultsShown.{fault_at, shape_faults, name_faults, last_faults};
 ghost use Rattle.ps_rules.specs.RulesShown.{rule_shown};
 ghost use Rattle.ps_rules.specs.ShapesShown.{shape_shown};
-ghost use Rattle.ps_model.specs.declared.refusal.Refusal.TheVariants.{Refused};
 
 use crate::above::Above;
 use crate::cells::{WrittenCell, paired_rows};
@@ -56,7 +53,8 @@ fn fault_of_occurrences(
     alloc: Global,
     occurrences: &Occurrences<'_>,
 ) -> Result<Option<FaultKind>, Memory>
-    ensures { IfOk result (λ kind. (line : ℕ) → option_map (fault_at line) kind ≡ first_fault (name_faults line occurrences.now)) }
+    ensures { IfOk result (λ kind. (line : ℕ) → option_map (fault_at line) kind
+        ≡ first_fault (name_faults line occurrences.now)) }
 {
     let cells = occurrences.cells();
     if has_name_twice(alloc, cells)? {
@@ -73,7 +71,8 @@ fn fault_of_occurrences(
 
 /// The first fault of what a rule's cells name.
 fn name_fault(alloc: Global, rule: &SourceRule) -> Result<Option<FaultKind>, Memory>
-    ensures { IfOk result (λ kind. (line : ℕ) → option_map (fault_at line) kind ≡ first_fault (name_faults line (rule_shown rule.now))) }
+    ensures { IfOk result (λ kind. (line : ℕ) → option_map (fault_at line) kind
+        ≡ first_fault (name_faults line (rule_shown rule.now))) }
 {
     let occurrences = Occurrences::of(alloc, rule)?;
     let kind = fault_of_occurrences(alloc, &occurrences)?;
@@ -88,7 +87,8 @@ fn last_fault(
     above: Above,
 ) -> Option<FaultKind>
     requires paired { cell_rows_shown cells.now ≡ map paired_cells (paired_rows (shape_shown shape.now)) }
-    ensures { (line : ℕ) → option_map (fault_at line) result ≡ first_fault (last_faults (above_shown above) line (shape_shown shape.now) (rule_shown rule.now)) }
+    ensures { (line : ℕ) → option_map (fault_at line) result
+        ≡ first_fault (last_faults (above_shown above) line (shape_shown shape.now) (rule_shown rule.now)) }
 {
     if has_late_move(shape) {
         return Some(FaultKind::LateMove);
@@ -114,7 +114,8 @@ fn fault_of(
     above: Above,
 ) -> Result<Option<FaultKind>, Memory>
     requires paired { cell_rows_shown cells.now ≡ map paired_cells (paired_rows (shape_shown shape.now)) }
-    ensures { IfOk result (λ kind. (line : ℕ) → option_map (fault_at line) kind ≡ first_fault (faults_of_rule (above_shown above) line (shape_shown shape.now) (rule_shown rule.now))) }
+    ensures { IfOk result (λ kind. (line : ℕ) → option_map (fault_at line) kind
+        ≡ first_fault (faults_of_rule (above_shown above) line (shape_shown shape.now) (rule_shown rule.now))) }
 {
     let in_shape = shape_fault(shape);
     if in_shape.is_some() {
@@ -135,11 +136,11 @@ pub fn read_rule(
     shape: &RuleShape<'_, '_>,
     above: Above,
 ) -> Result<SourceRule, Refusal>
-    requires from_one { 1 ≤ line }
-    requires there { line ≤ length (lines_of source.now) }
-    ensures part { IfOk result (λ rule. rule_shown rule ≡ rule_of (line_at source.now line) (shape_shown shape.now)) }
-    ensures fine { OnOk result (faults_of_rule (above_shown above) line (shape_shown shape.now) (rule_of (line_at source.now line) (shape_shown shape.now)) ≡ []) }
-    ensures refused { IfErr result (λ e. (fault : TheFault) → e ≡ Refused fault → first_fault (faults_of_rule (above_shown above) line (shape_shown shape.now) (rule_of (line_at source.now line) (shape_shown shape.now))) ≡ Some fault) }
+    requires { HasLine source.now line }
+    ensures { ReadsAs rule_shown result
+        (rule_of (line_at source.now line) (shape_shown shape.now))
+        (faults_of_rule (above_shown above) line (shape_shown shape.now)
+        (rule_of (line_at source.now line) (shape_shown shape.now))) }
 {
     let cells = paired_rows(alloc, shape)?;
     let rule = rule_of(alloc, source, line, shape, &cells)?;

@@ -1,8 +1,7 @@
 //! The tree of a rule.
 
-ghost use Rattle.std.specs.Prelude.{◌≡◌, ◌≤◌, IfOk, length, map};
-ghost use Rattle.ps_model.specs.text.LineNumbers.{line_at};
-ghost use Rattle.ps_model.specs.text.Lines.{lines_of};
+ghost use Rattle.std.specs.Prelude.{◌≡◌, IfOk, map};
+ghost use Rattle.ps_model.specs.text.LineNumbers.{HasLine, line_at};
 ghost use Rattle.ps_model.specs.rules.RuleShape.{paired_cells, paired_rows};
 ghost use Rattle.ps_model.specs.rules.RuleTree.{rule_of};
 ghost use Rattle.ps_rules.specs.CellsShown.{cell_rows_shown};
@@ -28,8 +27,7 @@ pub fn rule_of(
     shape: &RuleShape<'_, '_>,
     cells: &[Vec<WrittenCell<'_, '_>>],
 ) -> Result<SourceRule, Memory>
-    requires from_one { 1 ≤ line }
-    requires there { line ≤ length (lines_of source.now) }
+    requires there { HasLine source.now line }
     requires paired { cell_rows_shown cells.now ≡ map paired_cells (paired_rows (shape_shown shape.now)) }
     ensures { IfOk result (λ rule. rule_shown rule ≡ rule_of (line_at source.now line) (shape_shown shape.now)) }
 {

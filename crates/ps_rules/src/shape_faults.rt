@@ -3,7 +3,9 @@
 ghost use Rattle.std.specs.Prelude.{◌≡◌, ◌++◌, [], length, slice_index_or};
 ghost use Rattle.std.specs.List.{list_any};
 ghost use Rattle.ps_model.specs.rules.RuleShape.{has_kind, is_bar, beside};
-ghost use Rattle.ps_model.specs.rules.RuleShapeFaults.{words_outside, has_bad_bracket, has_unknown_word, has_other_rows, has_nothing_right, has_late_move, lengths_differ};
+ghost use Rattle.ps_model.specs.rules.RuleShapeFaults.{words_outside, has_bad_bracket, has_unknown_word};
+ghost use Rattle.ps_model.specs.rules.RuleShapeFaults.{has_other_rows, has_nothing_right, has_late_move};
+ghost use Rattle.ps_model.specs.rules.RuleShapeFaults.{lengths_differ};
 ghost use Rattle.ps_rules.specs.CellsShown.{cells_of_rows};
 ghost use Rattle.ps_rules.specs.Kinds.{is_kind};
 ghost use Rattle.ps_rules.specs.ShapesShown.{rows_shown, shape_shown};
@@ -41,8 +43,9 @@ pub fn has_bad_bracket(shape: &RuleShape<'_, '_>) -> bool
     !has_rows(&shape.left) || has_bar_outside(shape) || has_outside(Kind::OfCell, shape)
 }
 
-/// Whether a word means nothing, or stands where it can't: before the rows something else than `+`, `late` and direction words;
-/// behind a row of the left anything; on the right anything before the last row, and something else than commands behind it.
+/// Whether a word means nothing, or stands where it can't: before the rows something else than `+`, `late` and
+/// direction words; behind a row of the left anything; on the right anything before the last row, and something else
+/// than commands behind it.
 pub fn has_unknown_word(shape: &RuleShape<'_, '_>) -> bool
     ensures { result ≡ has_unknown_word (shape_shown shape.now) }
 {
@@ -66,7 +69,9 @@ fn first_length(rows: &[WrittenRow<'_, '_>]) -> usize
 
 /// Whether a row of the left and that at its place on the right have different numbers of cells.
 fn some_lengths_differ(left: &[WrittenRow<'_, '_>], right: &[WrittenRow<'_, '_>]) -> bool
-    ensures { result ≡ list_any lengths_differ (beside (cells_of_rows (rows_shown left.now)) (cells_of_rows (rows_shown right.now))) }
+    ensures { result
+        ≡ list_any lengths_differ
+        (beside (cells_of_rows (rows_shown left.now)) (cells_of_rows (rows_shown right.now))) }
 {
     let mut others = right;
     for row in left {

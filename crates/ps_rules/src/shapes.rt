@@ -1,5 +1,5 @@
-//! The shape of a rule: `->` parts its line in a left and a right side, brackets part a side in rows and what stands outside them,
-//! and bars part a row in cells.
+//! The shape of a rule: `->` parts its line in a left and a right side, brackets part a side in rows and what stands
+//! outside them, and bars part a row in cells.
 
 ghost use Rattle.std.specs.Prelude.{◌≡◌, IfOk, option_map, map};
 ghost use Rattle.ps_model.specs.text.OptionSteps.{all_there};
@@ -57,7 +57,8 @@ fn rows_of<'a, 'n>(
     alloc: Global,
     parts: &[&'a [Token<'n>]],
 ) -> Result<Option<Vec<WrittenRow<'a, 'n>>>, Memory>
-    ensures { IfOk result (λ rows. option_map (λ made. rows_shown made.items) rows ≡ all_there (map row_of (parts_shown parts.now))) }
+    ensures { IfOk result (λ rows. option_map (λ made. rows_shown made.items) rows
+        ≡ all_there (map row_of (parts_shown parts.now))) }
 {
     let mut rows = Vec::new(alloc);
     for part in parts {

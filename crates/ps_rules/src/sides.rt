@@ -1,7 +1,8 @@
 //! What stands on a side of a rule.
 
 ghost use Rattle.std.specs.Prelude.{◌≡◌};
-ghost use Rattle.ps_model.specs.rules.RuleShape.{has_kind, has_rows, at_end, words_behind, words_in_cells, before_end, cells_of_side};
+ghost use Rattle.ps_model.specs.rules.RuleShape.{has_kind, has_rows, at_end, words_behind, words_in_cells, before_end};
+ghost use Rattle.ps_model.specs.rules.RuleShape.{cells_of_side};
 ghost use Rattle.ps_model.specs.rules.RuleShapeFaults.{are_there, misses_name, asks_for_name, is_name, has_wrong_cell};
 ghost use Rattle.std.specs.List.{list_any};
 ghost use Rattle.ps_rules.specs.Kinds.{is_kind, parts_shown};

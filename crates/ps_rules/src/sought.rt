@@ -1,93 +1,26 @@
 //! Looking for occurrences of names and of movement words.
 
 ghost use Rattle.std.specs.Prelude.{◌≡◌, ◌++◌, ◌∷◌, List as Sequence, ℕ, filter};
-ghost use Rattle.std.specs.List.{flat_map};
 ghost use Rattle.std.specs.Option.{option_to_list};
-ghost use Rattle.ps_model.specs.declared.pieces.ObjectId.{ObjectId as TheObject};
-ghost use Rattle.ps_model.specs.meaning.Directions.{same_word, word_number};
-ghost use Rattle.ps_model.specs.names.Names.{One, AllOf, AnyOf};
-ghost use Rattle.ps_model.specs.meaning.Occurrences.{same_meaning, names_it, moves_so, numbers, has_movement};
+ghost use Rattle.ps_model.specs.meaning.Occurrences.{same_meaning, numbers, has_movement};
 ghost use Rattle.ps_model.specs.rules.SourceRules.{Item as TheItem, Is};
 ghost use Rattle.ps_names.specs.Shown.{meaning_shown};
-ghost use Rattle.ps_rules.specs.RulesShown.{item_shown, items_shown, cell_shown, cell_list_shown};
-ghost use Rattle.ps_rules.specs.declared.sought.Found.TheVariants.{Nothing};
+ghost use Rattle.ps_rules.specs.RulesShown.{item_shown, items_shown};
 ghost use Rattle.ps_rules.specs.SoughtItems.{is_sought, found_with, first_number};
 
-use crate::tree::{CellPair, Item};
-use ps_model::{MovementWord, ObjectId};
+use crate::tree::Item;
+use ps_model::MovementWord;
 use ps_names::Meaning;
-
-/// Whether the meaning is that one object.
-fn is_object(object: ObjectId, meaning: &Meaning) -> bool
-    ensures { result ≡ same_meaning (One object) (meaning_shown meaning.now) }
-{
-    match meaning {
-        Meaning::One(other) => object.0 == other.0,
-        Meaning::All { .. } => false,
-        Meaning::Any { .. } => false,
-    }
-}
-
-/// Whether the meaning is the aggregate of that legend line.
-fn is_aggregate(line: u32, meaning: &Meaning) -> bool
-    ensures { (objects : Sequence TheObject) → result ≡ same_meaning (AllOf line objects) (meaning_shown meaning.now) }
-{
-    match meaning {
-        Meaning::One(_) => false,
-        Meaning::All {
-            line: other,
-            objects: _,
-        } => line == *other,
-        Meaning::Any { .. } => false,
-    }
-}
-
-/// Whether the meaning is the property of that legend line.
-fn is_property(line: u32, meaning: &Meaning) -> bool
-    ensures { (objects : Sequence TheObject) → result ≡ same_meaning (AnyOf line objects) (meaning_shown meaning.now) }
-{
-    match meaning {
-        Meaning::One(_) => false,
-        Meaning::All { .. } => false,
-        Meaning::Any {
-            line: other,
-            objects: _,
-        } => line == *other,
-    }
-}
 
 /// Whether two names are the same: they stand for the same object, or for the aggregate or property of one legend line.
 pub fn same_meaning(first: &Meaning, second: &Meaning) -> bool
     ensures { result ≡ same_meaning (meaning_shown first.now) (meaning_shown second.now) }
 {
-    match first {
-        Meaning::One(object) => is_object(*object, second),
-        Meaning::All { line, objects: _ } => is_aggregate(*line, second),
-        Meaning::Any { line, objects: _ } => is_property(*line, second),
-    }
-}
-
-/// The place of a movement word among them.
-pub fn word_number(word: MovementWord) -> u32
-    ensures { result ≡ word_number word }
-{
-    match word {
-        MovementWord::Forwards => 0,
-        MovementWord::Backwards => 1,
-        MovementWord::TurnedLeft => 2,
-        MovementWord::TurnedRight => 3,
-        MovementWord::Parallel => 4,
-        MovementWord::Perpendicular => 5,
-        MovementWord::Up => 6,
-        MovementWord::Down => 7,
-        MovementWord::Left => 8,
-        MovementWord::Right => 9,
-        MovementWord::Action => 10,
-        MovementWord::Stationary => 11,
-        MovementWord::Moving => 12,
-        MovementWord::Orthogonal => 13,
-        MovementWord::Horizontal => 14,
-        MovementWord::Vertical => 15,
+    match (first, second) {
+        (Meaning::One(first), Meaning::One(second)) => first == second,
+        (Meaning::All { line: first, .. }, Meaning::All { line: second, .. }) => first == second,
+        (Meaning::Any { line: first, .. }, Meaning::Any { line: second, .. }) => first == second,
+        _ => false,
     }
 }
 
@@ -95,10 +28,7 @@ pub fn word_number(word: MovementWord) -> u32
 fn has_movement(word: MovementWord, written: Option<MovementWord>) -> bool
     ensures { result ≡ has_movement word written }
 {
-    match written {
-        None => false,
-        Some(other) => word_number(word) == word_number(other),
-    }
+    written == Some(word)
 }
 
 /// What is looked for.
@@ -126,7 +56,8 @@ impl<'m> Sought<'m> {
 
     /// The number of an item, if it is one that is looked for.
     fn at(self, item: &Item) -> Option<u32>
-        ensures { (rest : Sequence TheItem) → numbers (filter (is_sought self.entry) (item_shown item.now ∷ rest)) ≡ option_to_list result ++ numbers (filter (is_sought self.entry) rest) }
+        ensures { (rest : Sequence TheItem) → numbers (filter (is_sought self.entry) (item_shown item.now ∷ rest))
+            ≡ option_to_list result ++ numbers (filter (is_sought self.entry) rest) }
     {
         let Item::Is { at, word, meaning } = item else {
             return None;

@@ -47,7 +47,8 @@ impl Tally {
     /// Adds an occurrence of a number, at a byte of the text.
     #[tactic(auto, using(crate::proofs::Tallies::added))]
     pub fn add(&mut self, number: u32, at: u32) -> Result<(), Memory>
-        ensures { OnOk result ((other : ℕ) → found_of self.new other ≡ with_if (nat_eq other number) (found_of self.old other) at) }
+        ensures { OnOk result ((other : ℕ) → found_of self.new other
+            ≡ with_if (nat_eq other number) (found_of self.old other) at) }
     {
         let found = self.get(number).with_one(at);
         self.found.insert(number, found)?;

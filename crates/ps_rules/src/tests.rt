@@ -46,7 +46,8 @@ fn rules_of(alloc: Global, rules: &str) -> Result<RuleText, Refusal> {
     read_rules(alloc, &source, 30..end, &names)
 }
 
-/// Whether each of the rules, of which each stands alone on a line of a game of its own, is refused for that cause at its line.
+/// Whether each of the rules, of which each stands alone on a line of a game of its own, is refused for that cause at
+/// its line.
 fn are_refused(alloc: Global, rules: &[&str], kind: FaultKind) -> bool {
     for rule in rules {
         if !is_refused(alloc, rule, kind, 30) {

@@ -1,8 +1,7 @@
 //! The words of a line of RULES, each with what it is.
 
-ghost use Rattle.std.specs.Prelude.{◌≡◌, ◌≤◌, ◌++◌, ◌∷◌, [], IfOk, OnOk, length};
-ghost use Rattle.ps_model.specs.text.LineNumbers.{line_at};
-ghost use Rattle.ps_model.specs.text.Lines.{lines_of};
+ghost use Rattle.std.specs.Prelude.{◌≡◌, ◌++◌, ◌∷◌, [], IfOk, OnOk};
+ghost use Rattle.ps_model.specs.text.LineNumbers.{HasLine, line_at};
 ghost use Rattle.ps_model.specs.rules.RuleSymbols.{symbol_of, first_symbol, tokens_of, tokens_kept};
 ghost use Rattle.ps_rules.specs.SymbolsShown.{token_shown, tokens_shown, token_of_word};
 
@@ -42,8 +41,7 @@ pub fn tokens_of<'n>(
     line: u32,
     names: &'n Names,
 ) -> Result<Vec<Token<'n>>, Memory>
-    requires from_one { 1 ≤ line }
-    requires there { line ≤ length (lines_of source.now) }
+    requires { HasLine source.now line }
     ensures { IfOk result (λ tokens. tokens_shown tokens.items ≡ tokens_of names.entry.now (line_at source.now line)) }
 {
     let words = words(alloc, source, line, Cut::Rule)?;
@@ -71,7 +69,8 @@ pub fn tokens_kept<'n>(alloc: Global, tokens: &[Token<'n>]) -> Result<Vec<Token<
 
 /// Keeps a word, if this profile doesn't leave it out.
 fn push_kept<'n>(kept: &mut Vec<Token<'n>>, token: Token<'n>) -> Result<(), Memory>
-    ensures { OnOk result (tokens_shown kept.new.items ≡ tokens_shown kept.old.items ++ tokens_kept (token_shown token.entry ∷ [])) }
+    ensures { OnOk result (tokens_shown kept.new.items
+        ≡ tokens_shown kept.old.items ++ tokens_kept (token_shown token.entry ∷ [])) }
 {
     if let Symbol::LeftOut = token.symbol {
         return Ok(());

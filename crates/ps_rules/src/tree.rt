@@ -61,7 +61,8 @@ pub struct SourceRule {
     pub late: bool,
     /// `+` puts it in the group of the rule before.
     pub joined: bool,
-    /// The directions that its direction words give, in the order up, down, left, right; none where it has no such word.
+    /// The directions that its direction words give, in the order up, down, left, right; none where it has no such
+    /// word.
     pub directions: List<Direction>,
     /// Its rows; a row is a list of parts, parted by its ellipses, and a part is a list of cells.
     pub rows: List<List<List<CellPair>>>,

@@ -12,7 +12,8 @@ use std::alloc::Global;
 
 /// Puts the cells of a part last.
 fn push_part<'r>(cells: &mut Vec<&'r CellPair>, part: &'r [CellPair]) -> Result<(), Memory>
-    ensures { OnOk result (cell_list_shown cells.new.items ≡ cell_list_shown cells.old.items ++ part_shown part.entry.now) }
+    ensures { OnOk result (cell_list_shown cells.new.items
+        ≡ cell_list_shown cells.old.items ++ part_shown part.entry.now) }
 {
     for cell in part {
         cells.push(cell)?;
@@ -22,7 +23,8 @@ fn push_part<'r>(cells: &mut Vec<&'r CellPair>, part: &'r [CellPair]) -> Result<
 
 /// Puts the cells of a row last.
 fn push_row<'r>(cells: &mut Vec<&'r CellPair>, row: &'r [List<CellPair>]) -> Result<(), Memory>
-    ensures { OnOk result (cell_list_shown cells.new.items ≡ cell_list_shown cells.old.items ++ flat_map (λ part. part) (tree_row_shown row.entry.now)) }
+    ensures { OnOk result (cell_list_shown cells.new.items
+        ≡ cell_list_shown cells.old.items ++ flat_map (λ part. part) (tree_row_shown row.entry.now)) }
 {
     for part in row {
         push_part(cells, part.as_slice())?;

@@ -16,7 +16,8 @@ use std::alloc::Global;
 
 /// Whether the number was seen; from now on it was.
 fn see(seen: &mut Vec<u32>, number: u32) -> Result<bool, Memory>
-    ensures { IfOk result (λ again. (rest : Sequence ℕ) → twice_behind seen.old.items (number ∷ rest) ≡ (again || twice_behind seen.new.items rest)) }
+    ensures { IfOk result (λ again. (rest : Sequence ℕ) → twice_behind seen.old.items (number ∷ rest)
+        ≡ (again || twice_behind seen.new.items rest)) }
 {
     if seen.contains(&number) {
         return Ok(true);
@@ -27,7 +28,9 @@ fn see(seen: &mut Vec<u32>, number: u32) -> Result<bool, Memory>
 
 /// Whether one of the objects was seen, or stands twice among them.
 fn see_objects(seen: &mut Vec<u32>, objects: &[ObjectId]) -> Result<bool, Memory>
-    ensures { IfOk result (λ again. (rest : Sequence ℕ) → twice_behind seen.old.items (object_numbers objects.now ++ rest) ≡ (again || twice_behind seen.new.items rest)) }
+    ensures { IfOk result (λ again. (rest : Sequence ℕ)
+        → twice_behind seen.old.items (object_numbers objects.now ++ rest)
+        ≡ (again || twice_behind seen.new.items rest)) }
 {
     for object in objects {
         if see(seen, object.0)? {
@@ -39,7 +42,9 @@ fn see_objects(seen: &mut Vec<u32>, objects: &[ObjectId]) -> Result<bool, Memory
 
 /// Whether an object that the item names was seen. A property names none, and neither does `no`.
 fn see_item(seen: &mut Vec<u32>, item: &Item) -> Result<bool, Memory>
-    ensures { IfOk result (λ again. (rest : Sequence ℕ) → twice_behind seen.old.items (object_numbers (objects_named (item_shown item.now)) ++ rest) ≡ (again || twice_behind seen.new.items rest)) }
+    ensures { IfOk result (λ again. (rest : Sequence ℕ)
+        → twice_behind seen.old.items (object_numbers (objects_named (item_shown item.now)) ++ rest)
+        ≡ (again || twice_behind seen.new.items rest)) }
 {
     let Item::Is {
         at: _,
@@ -62,9 +67,11 @@ fn see_item(seen: &mut Vec<u32>, item: &Item) -> Result<bool, Memory>
     }
 }
 
-/// Whether the items name one object twice. As a game has at most 64 objects, each is looked for among few.
+/// Whether the items name one object twice. As a game has few objects, `OBJECT_LIMIT` at most, each is looked for among
+/// few.
 fn object_twice(alloc: Global, items: &[Item]) -> Result<bool, Memory>
-    ensures { IfOk result (λ twice. twice ≡ twice_behind [] (object_numbers (flat_map objects_named (items_shown items.now)))) }
+    ensures { IfOk result (λ twice. twice
+        ≡ twice_behind [] (object_numbers (flat_map objects_named (items_shown items.now)))) }
 {
     let mut seen = Vec::new(alloc);
     for item in items {
@@ -77,7 +84,9 @@ fn object_twice(alloc: Global, items: &[Item]) -> Result<bool, Memory>
 
 /// Whether the property that the item names was seen, by its legend line.
 fn see_property(seen: &mut LineSet, item: &Item) -> Result<bool, Memory>
-    ensures { IfOk result (λ again. (rest : Sequence ℕ) → twice_behind seen.old (option_to_list (property_named (item_shown item.now)) ++ rest) ≡ (again || twice_behind seen.new rest)) }
+    ensures { IfOk result (λ again. (rest : Sequence ℕ)
+        → twice_behind seen.old (option_to_list (property_named (item_shown item.now)) ++ rest)
+        ≡ (again || twice_behind seen.new rest)) }
 {
     let Some(line) = property_named(item) else {
         return Ok(false);
@@ -113,7 +122,8 @@ fn name_twice(alloc: Global, items: &[Item]) -> Result<bool, Memory>
 
 /// Whether one side of the cell names one object, or one property, twice.
 fn cell_names_twice(alloc: Global, cell: &CellPair) -> Result<bool, Memory>
-    ensures { IfOk result (λ twice. twice ≡ (name_twice (cell_shown cell.now).left || name_twice (cell_shown cell.now).right)) }
+    ensures { IfOk result (λ twice. twice
+        ≡ (name_twice (cell_shown cell.now).left || name_twice (cell_shown cell.now).right)) }
 {
     if name_twice(alloc, cell.left.as_slice())? {
         return Ok(true);
@@ -124,7 +134,8 @@ fn cell_names_twice(alloc: Global, cell: &CellPair) -> Result<bool, Memory>
 
 /// Whether one side of one of the cells names one object, or one property, twice.
 pub fn has_name_twice(alloc: Global, cells: &[&CellPair]) -> Result<bool, Memory>
-    ensures { IfOk result (λ twice. twice ≡ list_any (λ cell. name_twice cell.left || name_twice cell.right) (cell_list_shown cells.now)) }
+    ensures { IfOk result (λ twice. twice
+        ≡ list_any (λ cell. name_twice cell.left || name_twice cell.right) (cell_list_shown cells.now)) }
 {
     for cell in cells {
         if cell_names_twice(alloc, cell)? {

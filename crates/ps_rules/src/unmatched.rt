@@ -66,7 +66,8 @@ fn line_besides(set: &LineSet, line: Option<u32>) -> Option<u32>
 
 /// Adds the lines of the properties that the items name, but for those of a set.
 fn add_besides(lines: &mut LineSet, set: &LineSet, items: &[Item]) -> Result<(), Memory>
-    ensures { OnOk result ((line : ℕ) → is_in lines.new line ≡ ((has_property (items_shown items.now) line && not (is_in set.now line)) || is_in lines.old line)) }
+    ensures { OnOk result ((line : ℕ) → is_in lines.new line
+        ≡ ((has_property (items_shown items.now) line && not (is_in set.now line)) || is_in lines.old line)) }
 {
     for item in items {
         add_line(lines, line_besides(set, property_named(item)))?;
@@ -76,7 +77,8 @@ fn add_besides(lines: &mut LineSet, set: &LineSet, items: &[Item]) -> Result<(),
 
 /// Adds the properties that are unmatched in a cell.
 fn add_cell(alloc: Global, lines: &mut LineSet, cell: &CellPair) -> Result<(), Memory>
-    ensures { OnOk result ((line : ℕ) → is_in lines.new line ≡ (is_unmatched line (cell_shown cell.now) || is_in lines.old line)) }
+    ensures { OnOk result ((line : ℕ) → is_in lines.new line
+        ≡ (is_unmatched line (cell_shown cell.now) || is_in lines.old line)) }
 {
     let left = properties_of(alloc, cell.left.as_slice())?;
     add_besides(lines, &left, cell.right.as_slice())?;

@@ -19,7 +19,7 @@ returns-in_err-read-clause-refused c =
     let written : is_blank_line (line_at text c.args.line) ≡ false = search rules in
     let fault : Refusal = c.in_err-read.field-0.0 in
     let told : (f : TheFault) → fault ≡ Refused f → IsRefused text c.args.line c.args.names.now (above_shown c.args.above) f =
-    λ f e. record { there = there; written = written; told = c.in_err-read.ensures.refused f e } in
+    λ f e. record { there = there; written = written; told = c.in_err-read.ensures.read.1.1 f e } in
     search (rules, told)
 
 pub returns-clause-fine : goal.returns-clause-fine
@@ -30,6 +30,6 @@ returns-clause-fine c = λ rest.
     let next : Above = above_next (above_shown c.args.above) c.args.line (form_at text c.args.line c.args.names.now) in
     ap (λ (a : Above). faults_below c.args.names.now a (lines_with_words rest)) c.in_ok-read.ensures.above
     ∙ sym (
-    below-step text c.args.line c.args.names.now (above_shown c.args.above) rest c.requires.from_one c.requires.there there written
-    ∙ ap (λ (fs : List TheFault). fs ++ faults_below c.args.names.now next (lines_with_words rest)) c.in_ok-read.ensures.fine
+    below-step text c.args.line c.args.names.now (above_shown c.args.above) rest c.requires there written
+    ∙ ap (λ (fs : List TheFault). fs ++ faults_below c.args.names.now next (lines_with_words rest)) c.in_ok-read.ensures.read.1.0
     )

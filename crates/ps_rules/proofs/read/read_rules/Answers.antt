@@ -13,8 +13,8 @@ use Rattle.ps_laws.proofs.common.LinesInOrder.{between-step}
 use Rattle.ps_rules.proofs.LineSteps.{refused-step}
 use Rattle.ps_rules.proofs.read.read_rules.Goals as goal
 
-pub returns-in_err-above-clause-refused : goal.returns-in_err-above-clause-refused
-returns-in_err-above-clause-refused c =
+pub returns-in_err-above : goal.returns-in_err-above
+returns-in_err-above c =
     let text : List ℕ = c.args.source.now in
     let end : ℕ = c.args.lines.end in
     let line : ℕ = c.loop-line.line in
@@ -25,7 +25,7 @@ returns-in_err-above-clause-refused c =
     let own = c.in_err-above.ensures.refused f e in
     ap first_fault (
     sym c.loop-line.invariant.1 ∙ ap (λ (xs : List Line). faults_below c.args.names.now (above_shown c.loop-line.above) (lines_with_words xs)) step
-    ) ∙ refused-step text line c.args.names.now (above_shown c.loop-line.above) (lines_between text (line + 1) end) f (omega arith) (omega arith) own in
+    ) ∙ refused-step text line c.args.names.now (above_shown c.loop-line.above) (lines_between text (line + 1) end) f (omega arith, omega arith) own in
     search (rules, told)
 
 pub loop-line-preserved : goal.loop-line-preserved
