@@ -1,9 +1,10 @@
 //! What any board can do.
 
-ghost use Rattle.std.specs.Prelude.{◌≡◌, ℕ, ◌+◌, ◌*◌, ◌<◌, ◌≤◌, IfOk, None};
+ghost use Rattle.std.specs.Prelude.{◌≡◌, ℕ, ◌+◌, ◌*◌, ◌<◌, ◌≤◌, IfOk, IfSome, List, None, Option};
 ghost use Rattle.ps_model.specs.board.Grid.{Grid, IsGrid, IsPlace, empty_grid, slot_at, object_in, motion_in, slot_of, with_slot, at_rest};
 ghost use Rattle.ps_model.specs.declared.limits.TheConstants.{LAYER_LIMIT, SIDE_LIMIT};
 ghost use Rattle.ps_model.specs.declared.pieces.Motion.TheVariants.{Still};
+ghost use Rattle.ps_board.specs.Rooms.{HasRoom, HaveRoom};
 
 use ps_model::{LayerId, Memory, Motion, ObjectId};
 use std::alloc::Global;
@@ -13,20 +14,35 @@ use std::alloc::Global;
 ///
 /// A board has from 1 to 64 columns, from 1 to 64 rows and from 1 to 32 layers, and keeps them. The room for all its
 /// objects is there from the start, so that only making a board takes memory.
+///
+/// A board may keep the layer of each object of its game, and then an object may be put on its own layer alone. What
+/// stands on a layer may be put on the same layer elsewhere.
 pub trait Board: Drop {
     /// What the board shows.
     ghost grid: { Self → Grid };
 
-    /// A board without objects, of so many columns, rows and layers. Without memory there is no board.
-    fn try_empty(alloc: Global, width: u32, height: u32, layers: u32) -> Result<Self, Memory>
+    /// The layer of each object, where objects may stand on no other one; nothing, where any object may stand on any layer.
+    ghost table: { Self → Option (List ℕ) };
+
+    /// A board without objects, of so many columns, rows and layers, for a game whose objects stand on the layers
+    /// `own_layers`, in the order of their numbers. Without memory there is no board.
+    fn try_empty(
+        alloc: Global,
+        width: u32,
+        height: u32,
+        layers: u32,
+        own_layers: &[LayerId],
+    ) -> Result<Self, Memory>
         requires width { (0 < width) × (width ≤ SIDE_LIMIT) }
         requires height { (0 < height) × (height ≤ SIDE_LIMIT) }
         requires layers { (0 < layers) × (layers ≤ LAYER_LIMIT) }
-        ensures { IfOk result (λ board. grid board ≡ empty_grid width height layers) };
+        ensures grid { IfOk result (λ board. grid board ≡ empty_grid width height layers) }
+        ensures room { IfOk result (λ board. HaveRoom (table board) own_layers.now) };
 
     /// Another board that shows the same. Without memory there is none, and this one stays as it is.
     fn try_copy(&self, alloc: Global) -> Result<Self, Memory>
-        ensures { IfOk result (λ board. grid board ≡ grid self.now) };
+        ensures grid { IfOk result (λ board. grid board ≡ grid self.now) }
+        ensures table { IfOk result (λ board. table board ≡ table self.now) };
 
     /// The number of columns, and the number of rows.
     fn size(&self) -> (u32, u32)
@@ -41,7 +57,8 @@ pub trait Board: Drop {
     /// The object on a layer of a cell, if one stands there.
     fn object(&self, cell: u32, layer: LayerId) -> Option<ObjectId>
         requires { IsPlace (grid self.now) cell layer.0 }
-        ensures { result ≡ object_in (slot_at (grid self.now) cell layer.0) };
+        ensures value { result ≡ object_in (slot_at (grid self.now) cell layer.0) }
+        ensures room { IfSome result (λ object. HasRoom (table self.now) object layer.0) };
 
     /// What the object on a layer of a cell is about to do; nothing, where none stands.
     fn motion(&self, cell: u32, layer: LayerId) -> Motion
@@ -52,16 +69,21 @@ pub trait Board: Drop {
     fn put(&mut self, cell: u32, layer: LayerId, object: Option<ObjectId>, motion: Motion)
         requires place { IsPlace (grid self.old) cell layer.0 }
         requires still { object ≡ None → motion ≡ Still }
-        ensures { grid self.new ≡ with_slot (grid self.old) cell layer.0 (slot_of object motion) };
+        requires room { IfSome object (λ put. HasRoom (table self.old) put layer.0) }
+        ensures grid { grid self.new ≡ with_slot (grid self.old) cell layer.0 (slot_of object motion) }
+        ensures table { table self.new ≡ table self.old };
 
     /// Brings every object to rest.
     fn clear_moves(&mut self)
-        ensures { grid self.new ≡ at_rest (grid self.old) };
+        ensures grid { grid self.new ≡ at_rest (grid self.old) }
+        ensures table { table self.new ≡ table self.old };
 
-    /// Makes another board of the same size and as many layers show what this one does.
+    /// Makes another board of the same size, with as many layers and the same room, show what this one does.
     fn copy_into(&self, other: &mut Self)
         requires width { (grid other.old).width ≡ (grid self.now).width }
         requires height { (grid other.old).height ≡ (grid self.now).height }
         requires layers { (grid other.old).layers ≡ (grid self.now).layers }
-        ensures { grid other.new ≡ grid self.now };
+        requires table { table other.old ≡ table self.now }
+        ensures grid { grid other.new ≡ grid self.now }
+        ensures table { table other.new ≡ table self.now };
 }

@@ -70,9 +70,23 @@ fn slot_with(object: Option<ObjectId>, motion: Motion) -> Slot
 }
 
 impl Board for ListBoard {
-    ghost grid = { λ b. record { width = b.width; height = b.height; layers = b.layers; cells = first_chunks b.layers (b.width * b.height) b.slots.items } };
+    ghost grid = { λ b. record {
+      width = b.width;
+      height = b.height;
+      layers = b.layers;
+      cells = first_chunks b.layers (b.width * b.height) b.slots.items;
+    } };
 
-    fn try_empty(alloc: Global, width: u32, height: u32, layers: u32) -> Result<ListBoard, Memory> {
+    ghost table = { λ _. None };
+
+    /// Any object may stand on any layer, so the objects' own layers aren't kept.
+    fn try_empty(
+        alloc: Global,
+        width: u32,
+        height: u32,
+        layers: u32,
+        _own_layers: &[LayerId],
+    ) -> Result<ListBoard, Memory> {
         let count = width * height * layers;
         let slots = Vec::from_elem(alloc, Slot::Bare, count as usize)?;
         Ok(ListBoard {
@@ -143,7 +157,7 @@ mod tests {
 
     #[test]
     fn an_empty_board_has_no_object(rt: HostRuntime) -> Result<(), Fail> {
-        let board = ListBoard::try_empty(rt.alloc(), 2, 1, 4)?;
+        let board = ListBoard::try_empty(rt.alloc(), 2, 1, 4, &[])?;
         assert_eq!(rt; board.size(), (2, 1));
         assert_eq!(rt; board.layers(), 4);
         for cell in 0..2u32 {
@@ -157,7 +171,7 @@ mod tests {
 
     #[test]
     fn put_sets_one_slot_and_no_other(rt: HostRuntime) -> Result<(), Fail> {
-        let mut board = ListBoard::try_empty(rt.alloc(), 2, 1, 4)?;
+        let mut board = ListBoard::try_empty(rt.alloc(), 2, 1, 4, &[])?;
         board.put(1, LayerId(2), Some(CRATE), PUSHED);
         for cell in 0..2u32 {
             for layer in 0..4u32 {
@@ -176,7 +190,7 @@ mod tests {
 
     #[test]
     fn a_copy_is_equal_and_apart(rt: HostRuntime) -> Result<(), Fail> {
-        let mut board = ListBoard::try_empty(rt.alloc(), 1, 2, 1)?;
+        let mut board = ListBoard::try_empty(rt.alloc(), 1, 2, 1, &[])?;
         board.put(1, LayerId(0), Some(CRATE), PUSHED);
         let copy = board.try_copy(rt.alloc())?;
         board.put(1, LayerId(0), None, Motion::Still);
@@ -190,8 +204,8 @@ mod tests {
 
     #[test]
     fn copies_into_another_and_rests(rt: HostRuntime) -> Result<(), Fail> {
-        let mut board = ListBoard::try_empty(rt.alloc(), 1, 2, 1)?;
-        let mut other = ListBoard::try_empty(rt.alloc(), 1, 2, 1)?;
+        let mut board = ListBoard::try_empty(rt.alloc(), 1, 2, 1, &[])?;
+        let mut other = ListBoard::try_empty(rt.alloc(), 1, 2, 1, &[])?;
         board.put(1, LayerId(0), Some(CRATE), PUSHED);
         board.copy_into(&mut other);
         board.clear_moves();

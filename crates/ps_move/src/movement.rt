@@ -9,6 +9,7 @@ ghost use Rattle.std.specs.Prelude.{◌≡◌, ℕ, ◌+◌, ◌*◌, ◌<◌, �
 ghost use Rattle.ps_model.specs.board.Grid.{IsGrid, IsPlace, at_rest, neighbour};
 ghost use Rattle.ps_model.specs.board.Movement.{slid};
 ghost use Rattle.ps_model.specs.board.WeakMovement.{IsWeaklySlid};
+ghost use Rattle.ps_model.specs.declared.limits.TheConstants.{LAYER_LIMIT, SIDE_LIMIT};
 ghost use Rattle.ps_move.specs.Visits.{way, visited, going_count};
 ghost use Rattle.ps_move.specs.Parts.{IsPart};
 
@@ -52,6 +53,7 @@ pub fn slide<B: Board>(board: &mut B) -> Slid
     ensures some_pass { 0 < result }
     ensures one_pass { result ≡ 1 → B.grid board.new ≡ at_rest (B.grid board.old) }
     ensures few_passes { result ≤ going_count (B.grid board.old) + 1 }
+    ensures table { B.table board.new ≡ B.table board.old }
 {
     let mut passes = 1;
     while pass(board) {
@@ -64,7 +66,8 @@ pub fn slide<B: Board>(board: &mut B) -> Slid
 /// Visits each cell in the order of the numbers, and tells whether any object went.
 fn pass<B: Board>(board: &mut B) -> bool
     ensures shape { IsGrid (B.grid board.old) }
-    ensures part { IsPart result (B.grid board.old) (B.grid board.new) (0, 0) ((B.grid board.old).width * (B.grid board.old).height, 0) }
+    ensures part { let old = B.grid board.old in IsPart result old (B.grid board.new) (0, 0) (old.width * old.height, 0) }
+    ensures table { B.table board.new ≡ B.table board.old }
 {
     let (width, height) = board.size();
     let mut went = false;
@@ -78,7 +81,8 @@ fn pass<B: Board>(board: &mut B) -> bool
 fn visit_cell<B: Board>(board: &mut B, cell: u32) -> bool
     requires shape { IsGrid (B.grid board.old) }
     requires cell { cell < (B.grid board.old).width * (B.grid board.old).height }
-    ensures { IsPart result (B.grid board.old) (B.grid board.new) (cell, 0) (cell + 1, 0) }
+    ensures part { IsPart result (B.grid board.old) (B.grid board.new) (cell, 0) (cell + 1, 0) }
+    ensures table { B.table board.new ≡ B.table board.old }
 {
     let mut went = false;
     for layer in 0..board.layers() {
@@ -92,6 +96,7 @@ fn visit<B: Board>(board: &mut B, cell: u32, layer: LayerId) -> bool
     requires { IsPlace (B.grid board.old) cell layer.0 }
     ensures grid { B.grid board.new ≡ visited (B.grid board.old) layer.0 cell }
     ensures went { result ≡ is_some (way (B.grid board.old) layer.0 cell) }
+    ensures table { B.table board.new ≡ B.table board.old }
 {
     let Some(to) = way(board, cell, layer) else {
         return false;
@@ -195,12 +200,12 @@ mod tests {
         after: &[&str],
         passes: u32,
     ) -> Result<(), Fail>
-        requires width { (0 < size.0) × (size.0 ≤ 64) }
-        requires height { (0 < size.1) × (size.1 ≤ 64) }
-        requires layers { (0 < size.2) × (size.2 ≤ 32) }
+        requires width { (0 < size.0) × (size.0 ≤ SIDE_LIMIT) }
+        requires height { (0 < size.1) × (size.1 ≤ SIDE_LIMIT) }
+        requires layers { (0 < size.2) × (size.2 ≤ LAYER_LIMIT) }
     {
         let (width, height, layers) = size;
-        let mut board = ListBoard::try_empty(alloc, width, height, layers)?;
+        let mut board = ListBoard::try_empty(alloc, width, height, layers, &[])?;
         for layer in 0..layers {
             for y in 0..height {
                 for x in 0..width {

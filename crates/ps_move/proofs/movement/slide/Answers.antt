@@ -14,6 +14,7 @@ loop-passes-init g c = record {
   first = λ e. refl;
   few = omega arith;
   room = going_count-bound (g.B.Board.grid c.args.board.now);
+  table = refl;
 }
 
 pub loop-passes-preserved : goal.loop-passes-preserved
@@ -32,6 +33,7 @@ loop-passes-preserved g c =
       first = λ e. absurd (omega (arith, inv.some));
       few = omega (arith, inv.few);
       room = λ s. inv.room c.pass.ensures.shape;
+      table = c.pass.ensures.table ∙ inv.table;
     }
 
 pub returns-clause-exact : goal.returns-clause-exact
@@ -44,7 +46,7 @@ returns-clause-exact g c =
     let all : old.width * old.height ≡ now.width * now.height = rw (part.width, part.height) refl in
     let order : IsInOrder start now false (old.width * old.height, 0) =
     subst (λ (b : Bool). IsInOrder start now b (old.width * old.height, 0)) c.loop-passes-test.false (part.order start false c.loop-passes.invariant.order) in
-    c.clear_moves.ensures ∙ rest_exact start now (old.width * old.height) shape all order
+    c.clear_moves.ensures.grid ∙ rest_exact start now (old.width * old.height) shape all order
 
 pub returns-clause-slid : goal.returns-clause-slid
 returns-clause-slid g c =

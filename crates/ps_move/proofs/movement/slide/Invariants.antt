@@ -13,6 +13,7 @@ invariant-loop-passes g l =
       first : l.passes ≡ 1 → g.B.Board.grid l.board ≡ g.B.Board.grid l.fn.board;
       few : l.passes + going_count (g.B.Board.grid l.board) ≤ going_count (g.B.Board.grid l.fn.board) + 1;
       room : IsGrid (g.B.Board.grid l.board) → going_count (g.B.Board.grid l.fn.board) ≤ SIDE_LIMIT * SIDE_LIMIT * LAYER_LIMIT;
+      table : g.B.Board.table l.board ≡ g.B.Board.table l.fn.board;
     }
 
 -- each pass but the last leaves fewer objects with a direction

@@ -10,8 +10,8 @@ use Rattle.ps_board.proofs.list_board.ListBoardBoard.clear_moves.Goals as goal
 pub loop-slot-preserved : goal.loop-slot-preserved
 loop-slot-preserved c = rw c.rested.ensures (map_over_more slot_at_rest _ _ _ _ c.loop-slot-test.true c.loop-slot.invariant (grind (arith, common_steps)))
 
-pub returns : goal.returns
-returns c =
+pub returns-clause-grid : goal.returns-clause-grid
+returns-clause-grid c =
     let board = c.args.self.now in
     let rested : List Slot = c.loop-slot.slot-items in
     let all : rested ≡ map slot_at_rest board.slots.items = grind (arith, common_steps) in

@@ -1,0 +1,14 @@
+//! The cells of a board against the masks and writes of compiled rules.
+//!
+//! [`Scan`] says what a board does for a rule: whether a cell fits a mask, and what a write makes of a cell, in terms of the
+//! grid that the board shows. [`ListBoard`](ps_board::ListBoard) answers slot by slot.
+#![tactic(auto)]
+
+mod fitting;
+mod list_scan;
+mod scan;
+mod slots;
+mod writing;
+
+pub use ps_board::{Board, ListBoard};
+pub use scan::Scan;

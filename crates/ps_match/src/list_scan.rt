@@ -1,0 +1,25 @@
+//! A list board, matched and rewritten slot by slot.
+
+use crate::fitting::fits_cell;
+use crate::scan::Scan;
+use crate::writing::write_cell;
+use ps_board::{Board, ListBoard};
+use ps_program::{CellMask, CellWrite};
+
+impl Scan for ListBoard {
+    fn fits(&self, mask: &CellMask, cell: u32) -> bool {
+        let (width, height) = self.size();
+        if width * height <= cell {
+            return false;
+        }
+        fits_cell(self, mask, cell)
+    }
+
+    fn write(&mut self, write: &CellWrite, cell: u32, changed: bool) -> bool {
+        let (width, height) = self.size();
+        if width * height <= cell {
+            return changed;
+        }
+        write_cell(self, write, cell, changed)
+    }
+}

@@ -1,0 +1,80 @@
+//! A cell of a board written, slot by slot.
+
+ghost use Rattle.std.specs.Prelude.{◌≡◌, ◌*◌, ◌<◌, ◌||◌, None, not, slice_set};
+ghost use Rattle.ps_model.specs.board.Grid.{Grid, IsGrid, IsPlace, cell_at, slot_at, with_slot};
+ghost use Rattle.ps_model.specs.board.Attempts.{same_cell, same_slot};
+ghost use Rattle.ps_model.specs.meaning.Compiled.{cell_written};
+ghost use Rattle.ps_program.specs.ProgramShown.{write_shown};
+ghost use Rattle.ps_match.specs.InRoom.{slot_after};
+
+use crate::slots::{same_slots, slot_after};
+use ps_board::Board;
+use ps_model::{LayerId, Motion, Slot};
+use ps_program::CellWrite;
+
+/// What stands on a layer of a cell.
+fn slot<B: Board>(board: &B, cell: u32, layer: LayerId) -> Slot
+    requires { IsPlace (B.grid board.now) cell layer.0 }
+    ensures { result ≡ slot_at (B.grid board.now) cell layer.0 }
+{
+    match board.object(cell, layer) {
+        None => Slot::Bare,
+        Some(object) => Slot::Holds {
+            object,
+            motion: board.motion(cell, layer),
+        },
+    }
+}
+
+/// Makes a slot what is given.
+fn put_slot<B: Board>(board: &mut B, cell: u32, layer: LayerId, slot: Slot)
+    requires free { B.table board.old ≡ None }
+    requires place { IsPlace (B.grid board.old) cell layer.0 }
+    ensures grid { B.grid board.new ≡ with_slot (B.grid board.old) cell layer.0 slot }
+    ensures table { B.table board.new ≡ B.table board.old }
+{
+    match slot {
+        Slot::Bare => board.put(cell, layer, None, Motion::Still),
+        Slot::Holds { object, motion } => board.put(cell, layer, Some(object), motion),
+    }
+}
+
+/// Writes a layer of a cell, and answers whether it changed, or something had `changed` before.
+fn write_slot<B: Board>(
+    board: &mut B,
+    write: &CellWrite,
+    cell: u32,
+    layer: LayerId,
+    changed: bool,
+) -> bool
+    requires free { B.table board.old ≡ None }
+    requires place { IsPlace (B.grid board.old) cell layer.0 }
+    ensures grid { let before = slot_at (B.grid board.old) cell layer.0 in
+        B.grid board.new ≡ with_slot (B.grid board.old) cell layer.0 (slot_after (write_shown write.now) layer.0 before) }
+    ensures changed { let before = slot_at (B.grid board.old) cell layer.0 in
+        result ≡ (changed || not (same_slot before (slot_after (write_shown write.now) layer.0 before))) }
+    ensures table { B.table board.new ≡ B.table board.old }
+{
+    let before = slot(board, cell, layer);
+    let after = slot_after(write, layer, before);
+    put_slot(board, cell, layer, after);
+    changed || !same_slots(before, after)
+}
+
+/// Writes a cell, and answers whether it changed, or something had `changed` before.
+pub fn write_cell<B: Board>(board: &mut B, write: &CellWrite, cell: u32, changed: bool) -> bool
+    requires free { B.table board.old ≡ None }
+    requires shape { IsGrid (B.grid board.old) }
+    requires cell { cell < (B.grid board.old).width * (B.grid board.old).height }
+    ensures grid { let g : Grid = B.grid board.old in
+        B.grid board.new ≡ record g { cells = slice_set g.cells cell (cell_written (write_shown write.now) (cell_at g cell)) } }
+    ensures changed { let before = cell_at (B.grid board.old) cell in
+        result ≡ (changed || not (same_cell before (cell_written (write_shown write.now) before))) }
+    ensures table { B.table board.new ≡ B.table board.old }
+{
+    let mut any = changed;
+    for layer in 0..board.layers() {
+        any = write_slot(board, write, cell, LayerId(layer), any);
+    }
+    any
+}
