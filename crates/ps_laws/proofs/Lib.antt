@@ -4,3 +4,4 @@ pub mod grids
 pub mod alike
 pub mod keys
 pub mod common
+pub mod sessions

@@ -12,3 +12,5 @@ pub mod Stages
 pub mod Steps
 pub mod Winners
 pub mod Zipped
+pub mod BoardPlaces
+pub mod Chains

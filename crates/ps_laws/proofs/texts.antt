@@ -10,3 +10,4 @@ pub mod ObjectsThere
 pub mod RulesOfNames
 pub mod GameLaws
 pub mod OneGame
+pub mod HeldFaults

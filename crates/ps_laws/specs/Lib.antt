@@ -12,3 +12,6 @@ pub mod CompilingCells
 pub mod CompilingRules
 pub mod TurningRound
 pub mod ReadingInPieces
+pub mod SessionSteps
+pub mod Sliding
+pub mod AgainTurns

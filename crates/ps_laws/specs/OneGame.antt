@@ -2,7 +2,9 @@
 use Rattle.std.specs.Prelude.{◌≡◌, ℕ, ◌⊎◌, Some, None, List, []}
 use Rattle.ps_model.specs.declared.faults.Fault.{Fault}
 use Rattle.ps_model.specs.text.Lines.{lines_of}
-use Rattle.ps_model.specs.game.Games.{Game, game_read, faults, game, IsFaultOf}
+use Rattle.ps_model.specs.game.Games.{Game, game_read, faults, game}
+use Rattle.ps_model.specs.game.HeldFaults.{hidden_faults, IsFaultOf}
+use Rattle.ps_model.specs.text.Faults.{first_fault}
 
 -- a text has at most one game
 abbrev pub AtMostOneGame : Type 0
@@ -23,3 +25,11 @@ GameIsFaultless = (text : List ℕ) (read : Game) → game text ≡ Some read �
 -- each text has a game or a fault
 abbrev pub GameOrFault : Type 0
 GameOrFault = (text : List ℕ) → ((read : Game) × (game text ≡ Some read)) ⊎ ((fault : Fault) × IsFaultOf text fault)
+
+-- the fault that is told is one that the text has
+abbrev pub FirstIsFault : Type 0
+FirstIsFault = (text : List ℕ) (fault : Fault) → first_fault (faults text) ≡ Some fault → IsFaultOf text fault
+
+-- what the list of faults leaves out stands behind one that it lists
+abbrev pub HiddenAreBehind : Type 0
+HiddenAreBehind = (text : List ℕ) → faults text ≡ [] → hidden_faults text ≡ []

@@ -4,7 +4,7 @@
 ghost use Rattle.ps_laws.specs.Stages.{MovesOneByOne, MembersOneByOne, MovesInTwoStages, MembersInTwoStages, ReadByStages, ReadOneInOther, ReadingsCounted};
 ghost use Rattle.ps_laws.specs.ReadingInPieces.{HeldAtEnd, HeldIsBegun, HeldIsSilent, KeysInPieces, ReadPieceByPiece, ReadByteByByte, OneByteMore};
 ghost use Rattle.ps_laws.specs.Fronts.{FrontGrows, FrontOfOutput, FrontInPieces, FrontOfMore, OutputOfEnded, OutputOfUnended, OutputOnceEnded, EndIsQuiet, EndStays, EndsOtherwise, WrittenByEnding};
-ghost use Rattle.ps_laws.specs.OneGame.{AtMostOneGame, FaultBarsGame, FaultlessIsGame, GameIsFaultless, GameOrFault};
+ghost use Rattle.ps_laws.specs.OneGame.{AtMostOneGame, FaultBarsGame, FaultlessIsGame, GameIsFaultless, GameOrFault, FirstIsFault, HiddenAreBehind};
 
 /// The readings of a rule can be made stage by stage, by directions, by moves and by members, each stage splitting all
 /// that is made so far by one occurrence after the other: they are the same, in the same order, and as many as are
@@ -63,4 +63,6 @@ pub fn one_game()
     ensures faultless { FaultlessIsGame }
     ensures of_game { GameIsFaultless }
     ensures either { GameOrFault }
+    ensures first { FirstIsFault }
+    ensures hidden { HiddenAreBehind }
 {}

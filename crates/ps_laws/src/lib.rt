@@ -4,13 +4,16 @@
 //! need of it stays public in `proofs/`.
 #![tactic(auto)]
 
+mod laws_of_boards;
 mod laws_of_compiling;
 mod laws_of_games;
 mod laws_of_grids;
 mod laws_of_rules;
 mod laws_of_runs;
+mod laws_of_sessions;
 mod laws_of_sides;
 
+pub use laws_of_boards::{chains_slide, places_lie_on_boards};
 pub use laws_of_compiling::{
     cells_compile, loose_properties_lie_on_one_layer, programs_compile, rules_compile,
 };
@@ -31,4 +34,5 @@ pub use laws_of_rules::{
 pub use laws_of_runs::{
     ends_of_output, fronts_of_output, held_bytes, keys_in_pieces, one_game, readings_by_stages,
 };
+pub use laws_of_sessions::{again_turns, session_steps, session_texts};
 pub use laws_of_sides::{rules_keep_sides, turns_keep_sides};

@@ -3,3 +3,4 @@ pub mod Outputs
 pub mod Headline
 pub mod PlainGames
 pub mod PlainOutput
+pub mod HeldFaults

@@ -10,6 +10,7 @@ use Rattle.ps_model.specs.meaning.Readings.{reading_count}
 use Rattle.ps_model.specs.board.RulePrograms.{rule_in}
 use Rattle.ps_model.specs.rules.RuleLines.{rules_read}
 use Rattle.ps_model.specs.rules.ReadingFaults.{reading_faults}
+use Rattle.ps_model.specs.game.HeldFaults.{hidden_in_readings}
 use Rattle.ps_examples.proofs.rules.RuleTexts.{base_names, with_name, lines_below, fault_at, ac}
 
 -- the fault that is told of the readings of rules
@@ -68,3 +69,8 @@ readings_first = refl
 
 second_impossible : told base_names (codes "[ A ] -> [ B ]\n[ Player Wall ] -> cancel\n[ A B ] -> cancel") ≡ fault_at 3 Impossible
 second_impossible = refl
+
+-- but an impossible one has its fault by itself, also beside one with too many readings
+impossible_too : hidden_in_readings base_names (filter_map rule_in (rules_read base_names (lines_below (codes "[ Player Wall ] -> cancel\n" ++ row_of 12 (codes "AT")))))
+    ≡ record { kind = Impossible; line = 2 } ∷ []
+impossible_too = refl

@@ -1,0 +1,2 @@
+pub mod AgainTurns
+pub mod SessionSteps
