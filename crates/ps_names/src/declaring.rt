@@ -64,10 +64,18 @@ pub fn read_legend<'a>(
     declarations: &[Declaration<'a>],
 ) -> Result<Legend<'a>, Refusal>
     requires few { length declarations.now ≤ 4294967295 }
-    ensures names { IfOk result (λ legend. legend_shown legend.names.items ≡ map (legend_name (mentions_of_names known.now)) (declarations_shown declarations.now)) }
-    ensures meanings { IfOk result (λ legend. meanings_shown legend.meanings.items ≡ legend_meanings (map (legend_name (mentions_of_names known.now)) (declarations_shown declarations.now))) }
-    ensures fine { OnOk result (naming_faults (map (legend_name (mentions_of_names known.now)) (declarations_shown declarations.now)) (legend_meanings (map (legend_name (mentions_of_names known.now)) (declarations_shown declarations.now))) ≡ []) }
-    ensures refused { IfErr result (λ e. (fault : TheFault) → e ≡ Refusal.Refused fault → first_fault (naming_faults (map (legend_name (mentions_of_names known.now)) (declarations_shown declarations.now)) (legend_meanings (map (legend_name (mentions_of_names known.now)) (declarations_shown declarations.now)))) ≡ Some fault) }
+    ensures names { IfOk result (λ legend. legend_shown legend.names.items
+        ≡ map (legend_name (mentions_of_names known.now)) (declarations_shown declarations.now)) }
+    ensures meanings { IfOk result (λ legend. meanings_shown legend.meanings.items
+        ≡ legend_meanings (map (legend_name (mentions_of_names known.now)) (declarations_shown declarations.now))) }
+    ensures fine { OnOk result (naming_faults
+        (map (legend_name (mentions_of_names known.now)) (declarations_shown declarations.now))
+        (legend_meanings (map (legend_name (mentions_of_names known.now)) (declarations_shown declarations.now)))
+        ≡ []) }
+    ensures refused { IfErr result (λ e. (fault : TheFault) → e ≡ Refusal.Refused fault →
+        first_fault (naming_faults (map (legend_name (mentions_of_names known.now))
+        (declarations_shown declarations.now)) (legend_meanings
+        (map (legend_name (mentions_of_names known.now)) (declarations_shown declarations.now)))) ≡ Some fault) }
 {
     let names = legend_names(alloc, known, declarations)?;
     let order = order_of(alloc, &names)?;

@@ -1,6 +1,7 @@
 //! Declaring what the lines of LEGEND do, and their faults of form.
 
-ghost use Rattle.std.specs.Prelude.{◌≡◌, ◌≤◌, ◌++◌, ◌∷◌, [], Some, false, IfOk, OnOk, length, map, option_map, option_to_list};
+ghost use Rattle.std.specs.Prelude.{◌≡◌, ◌≤◌, ◌++◌, ◌∷◌, [], Some, false, IfOk, OnOk, length, map, option_map};
+ghost use Rattle.std.specs.Prelude.{option_to_list};
 ghost use Rattle.std.specs.List.{enumerate_from};
 ghost use Rattle.ps_model.specs.names.DeclarationFaults.{are_declared_again, faults_of_form, form_faults};
 ghost use Rattle.ps_model.specs.text.Reads.{ReadsAs};
@@ -24,8 +25,11 @@ fn declare_if(
     name: Option<&str>,
     mention: Mention,
 ) -> Result<bool, Memory>
-    ensures again { IfOk result (λ again. again ≡ are_declared_again (keys known.old) (option_to_list (option_map (λ n. n.now) name.entry))) }
-    ensures new { IfOk result (λ again. again ≡ false → known.new ≡ known.old ++ map (named_as (mention_shown mention)) (option_to_list (option_map (λ n. n.now) name.entry))) }
+    ensures again { IfOk result (λ again. again
+        ≡ are_declared_again (keys known.old) (option_to_list (option_map (λ n. n.now) name.entry))) }
+    ensures new { IfOk result (λ again. again ≡ false →
+        known.new ≡ known.old ++ map (named_as (mention_shown mention))
+        (option_to_list (option_map (λ n. n.now) name.entry))) }
 {
     let Some(name) = name else {
         return Ok(false);
@@ -34,7 +38,8 @@ fn declare_if(
     Ok(again)
 }
 
-/// Declares what a legend line does, which has that place among those that declare. `Refused`: the line has a fault of form.
+/// Declares what a legend line does, which has that place among those that declare. `Refused`: the line has a fault of
+/// form.
 fn declare_line<'a>(
     alloc: Global,
     known: &mut Known,
@@ -44,7 +49,8 @@ fn declare_line<'a>(
     ensures reads { ReadsAs (λ declared. Some (declaration_shown declared)) result
         (declared_by (line_shown line.now))
         (faults_of_form (keys known.old) (line_shown line.now)) }
-    ensures known { IfOk result (λ declared. known.new ≡ known.old ++ named_line (place, declaration_shown declared) ∷ []) }
+    ensures known { IfOk result (λ declared. known.new
+        ≡ known.old ++ named_line (place, declaration_shown declared) ∷ []) }
 {
     let number = line.number;
     if declare_if(alloc, known, name_declared(line), Mention::Line(place))? {

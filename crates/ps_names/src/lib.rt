@@ -1,4 +1,5 @@
-//! The names of a game: what each stands for, on which collision layer each object lies, and which characters show what.
+//! The names of a game: what each stands for, on which collision layer each object lies, and which characters show
+//! what.
 #![tactic(auto)]
 
 mod declaring;

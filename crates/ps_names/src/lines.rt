@@ -22,7 +22,8 @@ pub struct WrittenLine<'a> {
 /// Puts the number of a line last, if the line is there.
 fn push_there(source: &Source, line: u32, made: &mut Vec<u32>) -> Result<(), Memory>
     requires { HasLine source.now line }
-    ensures lines { OnOk result (lines_at source.now made.new.items ≡ lines_at source.now made.old.items ++ here source.now line) }
+    ensures lines { OnOk result (lines_at source.now made.new.items
+        ≡ lines_at source.now made.old.items ++ here source.now line) }
     ensures there { OnOk result (All (HasLine source.now) made.old.items → All (HasLine source.now) made.new.items) }
     ensures one { OnOk result (length made.new.items ≤ length made.old.items + 1) }
 {
@@ -36,7 +37,8 @@ fn push_there(source: &Source, line: u32, made: &mut Vec<u32>) -> Result<(), Mem
 /// The numbers of those lines of a range that are there.
 pub fn lines_there(alloc: Global, source: &Source, lines: Range<u32>) -> Result<Vec<u32>, Memory>
     requires { HasLines source.now lines.start lines.end }
-    ensures lines { IfOk result (λ made. lines_at source.now made.items ≡ lines_between source.now lines.start lines.end) }
+    ensures lines { IfOk result (λ made. lines_at source.now made.items
+        ≡ lines_between source.now lines.start lines.end) }
     ensures there { IfOk result (λ made. All (HasLine source.now) made.items) }
     ensures few { IfOk result (λ made. length made.items ≤ 4294967295) }
 {
@@ -58,7 +60,8 @@ fn push_written<'a>(
     requires there { HasLine source.now line }
     requires plain { IsPlainCut cut }
     ensures one { OnOk result (length made.new.items ≤ length made.old.items + 1) }
-    ensures lines { OnOk result (lines_shown made.new.items ≡ lines_shown made.old.items ++ written_lines cut (line_at source.now line ∷ [])) }
+    ensures lines { OnOk result (lines_shown made.new.items
+        ≡ lines_shown made.old.items ++ written_lines cut (line_at source.now line ∷ [])) }
 {
     if source.is_blank_line(line) {
         return Ok(());

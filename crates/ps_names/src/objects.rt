@@ -2,7 +2,8 @@
 
 ghost use Rattle.std.specs.Prelude.{◌≡◌, ◌≤◌, ◌<◌, ◌++◌, ◌∷◌, [], IfOk, OnOk, length, All, drop};
 ghost use Rattle.ps_model.specs.text.LineNumbers.{HasLine, line_at};
-ghost use Rattle.ps_model.specs.names.ObjectLines.{is_sprite_byte, is_sprite_word, is_sprite_row, sprite_rows, lines_below, objects_below, object_texts};
+ghost use Rattle.ps_model.specs.names.ObjectLines.{is_sprite_byte, is_sprite_word, is_sprite_row, sprite_rows};
+ghost use Rattle.ps_model.specs.names.ObjectLines.{lines_below, objects_below, object_texts};
 ghost use Rattle.ps_names.specs.LinesShown.{objects_shown};
 ghost use Rattle.ps_names.specs.LinesThere.{lines_at};
 
@@ -20,8 +21,8 @@ pub struct ObjectText<'a> {
     pub line: u32,
     /// The words of its name line.
     pub words: Vec<Word<'a>>,
-    /// How many lines right below are its own: none where its colours are missing, one for them, and one for each sprite
-    /// row.
+    /// How many lines right below are its own: none where its colours are missing, one for them, and one for each
+    /// sprite row.
     pub below: u32,
 }
 
@@ -85,8 +86,8 @@ fn lines_below(alloc: Global, source: &Source, lines: &[u32]) -> Result<u32, Mem
     Ok(rows + 1)
 }
 
-/// Goes over the first of the lines, of which so many belong to the object above: keeps the object that it names. Tells how
-/// many of the lines behind it belong to the object above them.
+/// Goes over the first of the lines, of which so many belong to the object above: keeps the object that it names. Tells
+/// how many of the lines behind it belong to the object above them.
 fn over<'a>(
     alloc: Global,
     source: &'a Source,
@@ -96,7 +97,9 @@ fn over<'a>(
 ) -> Result<u32, Memory>
     requires there { All (HasLine source.now) lines.now }
     requires some { 0 < length lines.now }
-    ensures { IfOk result (λ next. objects_shown made.new.items ++ objects_below next (lines_at source.now (drop 1 lines.now)) ≡ objects_shown made.old.items ++ objects_below above (lines_at source.now lines.now)) }
+    ensures { IfOk result (λ next. objects_shown made.new.items
+        ++ objects_below next (lines_at source.now (drop 1 lines.now))
+        ≡ objects_shown made.old.items ++ objects_below above (lines_at source.now lines.now)) }
 {
     if above > 0 {
         return Ok(above - 1);

@@ -29,7 +29,8 @@ fn names_of_sections(
 ) -> Result<Names, Refusal>
     requires few { length legend_lines.now ≤ 4294967295 }
     ensures { Reads result
-        (names_of (sections_of (objects_shown objects.now) (lines_shown legend_lines.now) (lines_shown layer_lines.now)))
+        (names_of (sections_of (objects_shown objects.now) (lines_shown legend_lines.now)
+        (lines_shown layer_lines.now)))
         (faults_of_sections header
         (sections_of (objects_shown objects.now) (lines_shown legend_lines.now) (lines_shown layer_lines.now))) }
 {
@@ -52,8 +53,8 @@ fn names_of_sections(
     })
 }
 
-/// Reads the names of a game from its sections OBJECTS, LEGEND and COLLISIONLAYERS, each given by the numbers of the lines
-/// right below its header up to the next header, counted from 1; an absent LEGEND by an empty range.
+/// Reads the names of a game from its sections OBJECTS, LEGEND and COLLISIONLAYERS, each given by the numbers of the
+/// lines right below its header up to the next header, counted from 1; an absent LEGEND by an empty range.
 ///
 /// `Refused` with the first fault of these sections, if they have one. `Memory` if a growth was refused.
 pub fn read_names(

@@ -7,8 +7,8 @@ use Rattle.ps_model.specs.declared.refusal.Refusal.TheVariants.{Refused}
 use Rattle.ps_names.specs.declared.lines.WrittenLine.{WrittenLine}
 use Rattle.ps_names.specs.Known.{keys}
 use Rattle.ps_names.specs.LinesShown.{line_shown, lines_shown}
-use Rattle.ps_names.proofs.Elements.{element-first}
-use Rattle.ps_names.proofs.FirstFaults.{first-found}
+use Rattle.ps_names.proofs.common.Elements.{element-first}
+use Rattle.ps_names.proofs.common.FirstFaults.{first-found}
 use Rattle.ps_names.proofs.form_faults.declare_legend.Goals as goal
 
 pub returns-in_err-declared-clause-reads : goal.returns-in_err-declared-clause-reads

@@ -7,9 +7,9 @@ use Rattle.ps_names.specs.LinesThere.{lines_at}
 use Rattle.ps_model.specs.text.LineNumbers.{HasLine}
 use Rattle.ps_names.specs.LinesShown.{objects_shown}
 use Rattle.ps_model.specs.names.ObjectLines.{lines_below}
-use Rattle.ps_names.proofs.Elements.{rest-of}
+use Rattle.ps_names.proofs.common.Elements.{rest-of}
 use Rattle.ps_laws.proofs.common.LinesInOrder.{line_at-number}
-use Rattle.ps_names.proofs.ObjectSteps.{object-step}
+use Rattle.ps_names.proofs.written.ObjectSteps.{object-step}
 use Rattle.ps_names.proofs.objects.over.Goals as goal
 
 pub returns : goal.returns

@@ -21,9 +21,9 @@ use Rattle.ps_names.specs.MeaningSteps.{meaning_shown_if, meanings_shown}
 use Rattle.ps_names.specs.Sections.{legend_of, faults_of_whole}
 use Rattle.ps_names.specs.Tables.{with_meanings, entries_with}
 use Rattle.ps_names.specs.Wholes.{no_layers}
-use Rattle.ps_names.proofs.Bounds.{bounded, length-found}
-use Rattle.ps_names.proofs.FirstFaults.{first-found, no-first}
-use Rattle.ps_names.proofs.Reading.{meanings_here, table_here, layers_here, layers-same, faults-here, whole-here, names-made, length-meanings, told_here, front-empty}
+use Rattle.ps_names.proofs.bounds.Bounds.{bounded, length-found}
+use Rattle.ps_names.proofs.common.FirstFaults.{first-found, no-first}
+use Rattle.ps_names.proofs.wholes.Reading.{meanings_here, table_here, layers_here, layers-same, faults-here, whole-here, names-made, length-meanings, told_here, front-empty}
 use Rattle.ps_names.proofs.read.names_of_sections.Goals as goal
 
 pub returns-in_err-declared : goal.returns-in_err-declared

@@ -14,8 +14,8 @@ use Rattle.ps_names.specs.Known.{Named, keys, mentions_of_names, named_object}
 use Rattle.ps_names.specs.LegendShown.{declarations_shown, named_line}
 use Rattle.ps_names.specs.LinesShown.{objects_shown, lines_shown}
 use Rattle.ps_names.specs.Sections.{legend_of, declaring_faults}
-use Rattle.ps_names.proofs.FirstFaults.{first-found}
-use Rattle.ps_names.proofs.SectionLaws.{keys-objects, mentions-known}
+use Rattle.ps_names.proofs.common.FirstFaults.{first-found}
+use Rattle.ps_names.proofs.wholes.SectionLaws.{keys-objects, mentions-known}
 use Rattle.ps_names.proofs.sections.declare_names.Goals as goal
 
 -- the faults of form, by the names that the objects have
