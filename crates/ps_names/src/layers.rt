@@ -1,6 +1,7 @@
 //! COLLISIONLAYERS: which layer each object lies on.
 
-ghost use Rattle.std.specs.Prelude.{◌≡◌, ◌≤◌, ◌++◌, ◌∷◌, [], None, Some, IfOk, OnOk, option_map, map, length, slice_set, flat_map, replicate};
+ghost use Rattle.std.specs.Prelude.{◌≡◌, ◌≤◌, ◌++◌, ◌∷◌, [], None, Some, IfOk, OnOk, option_map, map, length};
+ghost use Rattle.std.specs.Prelude.{slice_set, flat_map, replicate};
 ghost use Rattle.std.specs.List.{list_any};
 ghost use Rattle.std.specs.Option.{is_none};
 ghost use Rattle.std.specs.Str.{bytes_eq};
@@ -41,7 +42,8 @@ fn find_written<'a>(
     table: &'a Table,
     name: &str,
 ) -> Result<Option<&'a Meaning>, Memory>
-    ensures { IfOk result (λ meaning. option_map (λ m. meaning_shown m.now) meaning ≡ lookup (bytes_eq (folded name.now)) (entries_with table.entry.now)) }
+    ensures { IfOk result (λ meaning. option_map (λ m. meaning_shown m.now) meaning
+        ≡ lookup (bytes_eq (folded name.now)) (entries_with table.entry.now)) }
 {
     let folded = name.to_ascii_lowercase(alloc)?;
     Ok(table.find(folded.as_str()))
@@ -53,7 +55,8 @@ fn named_by<'a>(
     table: &'a Table,
     words: &[Word<'_>],
 ) -> Result<Vec<Option<&'a Meaning>>, Memory>
-    ensures { IfOk result (λ named. map (λ m. option_map (λ m. meaning_shown m.now) m) named.items ≡ named_by table.entry.now (map text_of words.now)) }
+    ensures { IfOk result (λ named. map (λ m. option_map (λ m. meaning_shown m.now) m) named.items
+        ≡ named_by table.entry.now (map text_of words.now)) }
 {
     let mut named = Vec::new(alloc);
     for word in words {
@@ -82,7 +85,8 @@ pub fn layers_of_lines<'a>(
     table: &'a Table,
     lines: &[WrittenLine<'_>],
 ) -> Result<Vec<Layer<'a>>, Memory>
-    ensures { IfOk result (λ layers. layers_shown layers.items ≡ layers_of_lines (entries_with table.entry.now) (lines_shown lines.now)) }
+    ensures { IfOk result (λ layers. layers_shown layers.items
+        ≡ layers_of_lines (entries_with table.entry.now) (lines_shown lines.now)) }
 {
     let mut layers = Vec::new(alloc);
     for line in lines {

@@ -13,8 +13,8 @@ use crate::whole::layer_at;
 use ps_model::{LayerId, ObjectId};
 use std::marker::Model;
 
-/// The names of a game: what each stands for, the layer of each object, and the glyphs. Its objects are numbered from 0,
-/// and so are its layers.
+/// The names of a game: what each stands for, the layer of each object, and the glyphs. Its objects are numbered from
+/// 0, and so are its layers.
 #[derive(Drop)]
 pub struct Names {
     pub(crate) table: Table,
@@ -33,12 +33,13 @@ impl Model for Names {
 
     ghost view = { λ n. names_shown n.table n.layers.items n.layer_count n.glyphs.items };
 
-    ghost invariant = { λ n. AreKept (names_shown n.table n.layers.items n.layer_count n.glyphs.items) n.players.items n.backgrounds.items };
+    ghost invariant = { λ n. AreKept (names_shown n.table n.layers.items n.layer_count n.glyphs.items) n.players.items
+        n.backgrounds.items };
 }
 
 impl Names {
-    /// What a name stands for, if it is declared, whatever the case of its ASCII letters. Takes no memory. A name with a
-    /// capital letter is compared with each declared name, any other is looked up at once.
+    /// What a name stands for, if it is declared, whatever the case of its ASCII letters. Takes no memory. A name with
+    /// a capital letter is compared with each declared name, any other is looked up at once.
     pub fn meaning(&self, name: &str) -> Option<&Meaning>
         ensures meaning { option_map (λ m. meaning_shown m.now) result ≡ meaning_of self.now name.now }
         ensures below { IfSome result (λ m. IsBelow (object_count self.now) (meaning_shown m.now)) }
@@ -74,7 +75,7 @@ impl Names {
         LayerId(layer_at(&self.layers, object))
     }
 
-    /// How many objects the game has, at most 64.
+    /// How many objects the game has, at most `OBJECT_LIMIT`.
     pub fn object_count(&self) -> u32
         ensures count { result ≡ object_count self.now }
         ensures facts { AreBounded self.now }
@@ -82,7 +83,7 @@ impl Names {
         self.layers.len() as u32
     }
 
-    /// How many layers the game has, at most 32.
+    /// How many layers the game has, at most `LAYER_LIMIT`.
     pub fn layer_count(&self) -> u32
         ensures count { result ≡ self.now.layer_count }
         ensures facts { AreBounded self.now }

@@ -1,6 +1,7 @@
 //! The faults of the names as a whole.
 
-ghost use Rattle.std.specs.Prelude.{◌≡◌, ◌≤◌, ◌<◌, ◌++◌, not, None, Some, true, nat_eq, option_map, map, length, slice_index_or, codes};
+ghost use Rattle.std.specs.Prelude.{◌≡◌, ◌≤◌, ◌<◌, ◌++◌, not, None, Some, true, nat_eq, option_map, map, length};
+ghost use Rattle.std.specs.Prelude.{slice_index_or, codes};
 ghost use Rattle.std.specs.List.{list_any, list_all, flat_map};
 ghost use Rattle.std.specs.Str.{bytes_eq};
 ghost use Rattle.std.specs.Map.{lookup};
@@ -131,7 +132,10 @@ pub fn fault_of_background(
     legend: &[LegendName<'_>],
     table: &Table,
 ) -> Option<Fault>
-    ensures { result ≡ first_fault (faults_of_lines (is_bad_background layers.now (lookup (bytes_eq (codes "background")) (entries_with table.now))) FaultKind.BadBackground (lines_of_name (legend_shown legend.now) (codes "background"))) }
+    ensures { result ≡ first_fault (faults_of_lines
+        (is_bad_background layers.now (lookup (bytes_eq (codes "background"))
+        (entries_with table.now))) FaultKind.BadBackground
+        (lines_of_name (legend_shown legend.now) (codes "background"))) }
 {
     if !is_bad_background(layers, table.find("background")) {
         return None;
@@ -141,7 +145,9 @@ pub fn fault_of_background(
 
 /// The first fault of `Player`, if it is an aggregate.
 pub fn fault_of_player(legend: &[LegendName<'_>], table: &Table) -> Option<Fault>
-    ensures { result ≡ first_fault (faults_of_lines (is_aggregate (lookup (bytes_eq (codes "player")) (entries_with table.now))) FaultKind.BadPlayer (lines_of_name (legend_shown legend.now) (codes "player"))) }
+    ensures { result ≡ first_fault (faults_of_lines
+        (is_aggregate (lookup (bytes_eq (codes "player")) (entries_with table.now))) FaultKind.BadPlayer
+        (lines_of_name (legend_shown legend.now) (codes "player"))) }
 {
     if !is_aggregate(table.find("player")) {
         return None;

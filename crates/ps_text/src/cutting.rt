@@ -84,9 +84,9 @@ fn next_under(line: &[u8], cut: Cut, from: usize) -> Option<Place>
 }
 
 /// The words of a line, from 1 to `source.lines()`, in order: its longest runs of bytes without one that parts words,
-/// which are blanks and, under `Cut::Layers`, commas; under `Cut::Legend` each `=` is a word by itself, and `Cut::Rule` cuts as
-/// rules are cut. Comments part words, and so does a text that is taken as it stands.
-/// `Memory` if there is no room for their list.
+/// which are blanks and, under `Cut::Layers`, commas; under `Cut::Legend` each `=` is a word by itself, and `Cut::Rule`
+/// cuts as rules are cut. Comments part words, and so does a text that is taken as it stands. `Memory` if there is no
+/// room for their list.
 pub fn words<'a>(
     alloc: Global,
     source: &'a Source,
@@ -96,9 +96,11 @@ pub fn words<'a>(
     requires { HasLine source.now line }
     ensures texts { IfOk result (λ words. map text_of words.items ≡ texts_under cut (line_at source.now line).bytes) }
     ensures hold { IfOk result (λ words. All (λ text. 0 < length text) (map text_of words.items)) }
-    ensures spans { IfOk result (λ words. map span_of words.items ≡ map (span_at (line_at source.now line)) (words_under cut (line_at source.now line).bytes)) }
+    ensures spans { IfOk result (λ words. map span_of words.items
+        ≡ map (span_at (line_at source.now line)) (words_under cut (line_at source.now line).bytes)) }
     ensures slices { IfOk result (λ words. All (IsSliceOf source.now) words.items) }
-    ensures rising { IfOk result (λ words. AreRisingSpans (line_at source.now line).start (length source.now) (map span_of words.items)) }
+    ensures rising { IfOk result (λ words. AreRisingSpans (line_at source.now line).start (length source.now)
+        (map span_of words.items)) }
 {
     let row = source.row(line);
     let text = row.visible.as_str();

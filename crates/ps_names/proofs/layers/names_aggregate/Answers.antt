@@ -3,7 +3,7 @@ use Rattle.ps_model.specs.names.Meanings.{is_aggregate}
 use Rattle.std.proofs.lemmas.Iterator.{YieldsList-from_slice}
 use Rattle.std.proofs.lemmas.Iterator.Search.{any_from_yields_List}
 use Rattle.ps_names.specs.Shown.{meaning_shown}
-use Rattle.ps_names.proofs.MappedTests.{any-mapped}
+use Rattle.ps_names.proofs.common.MappedTests.{any-mapped}
 use Rattle.ps_names.proofs.layers.names_aggregate.Goals as goal
 
 pub returns : goal.returns

@@ -5,7 +5,7 @@ use Rattle.ps_model.specs.names.Meanings.{is_aggregate, meaning_of_mention}
 use Rattle.ps_names.specs.declared.mention.Mention.{Mention}
 use Rattle.ps_names.specs.Known.{mention_shown}
 use Rattle.ps_names.specs.MeaningSteps.{meanings_shown}
-use Rattle.ps_names.proofs.MappedTests.{any-mapped-twice}
+use Rattle.ps_names.proofs.common.MappedTests.{any-mapped-twice}
 use Rattle.ps_names.proofs.naming.some_aggregate.Goals as goal
 
 pub returns : goal.returns

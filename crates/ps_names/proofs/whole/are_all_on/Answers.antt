@@ -3,7 +3,7 @@ use Rattle.std.proofs.lemmas.Iterator.{YieldsList-from_slice}
 use Rattle.std.proofs.lemmas.Iterator.Search.{all_from_yields_List}
 use Rattle.std.specs.Prelude.{slice_index_or}
 use Rattle.ps_model.specs.declared.pieces.ObjectId.{ObjectId}
-use Rattle.ps_names.proofs.MappedTests.{all-mapped}
+use Rattle.ps_names.proofs.common.MappedTests.{all-mapped}
 use Rattle.ps_names.proofs.whole.are_all_on.Goals as goal
 
 pub returns : goal.returns

@@ -3,7 +3,7 @@ use Rattle.std.proofs.lemmas.Iterator.{YieldsList-from_slice}
 use Rattle.std.proofs.lemmas.Iterator.Search.{any_from_yields_List}
 use Rattle.std.specs.Prelude.{slice_index_or}
 use Rattle.ps_model.specs.declared.pieces.ObjectId.{ObjectId}
-use Rattle.ps_names.proofs.MappedTests.{any-mapped}
+use Rattle.ps_names.proofs.common.MappedTests.{any-mapped}
 use Rattle.ps_names.proofs.whole.is_some_on.Goals as goal
 
 pub returns : goal.returns

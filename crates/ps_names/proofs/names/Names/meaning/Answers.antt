@@ -1,5 +1,5 @@
 use Rattle.ps_names.specs.Shown.{meaning_shown}
-use Rattle.ps_names.proofs.MembersBelow.{found_below}
+use Rattle.ps_names.proofs.bounds.MembersBelow.{found_below}
 use Rattle.ps_names.proofs.names.Names.meaning.Goals as goal
 
 pub returns-clause-below : goal.returns-clause-below

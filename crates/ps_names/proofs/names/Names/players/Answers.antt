@@ -1,5 +1,5 @@
 use Rattle.std.proofs.Common.{codes}
-use Rattle.ps_names.proofs.MembersBelow.{kept_below}
+use Rattle.ps_names.proofs.bounds.MembersBelow.{kept_below}
 use Rattle.ps_names.proofs.names.Names.players.Goals as goal
 
 pub returns-clause-below : goal.returns-clause-below
