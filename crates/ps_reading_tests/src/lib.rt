@@ -4,3 +4,5 @@
 
 #[cfg(test)]
 mod names;
+#[cfg(test)]
+mod rules;

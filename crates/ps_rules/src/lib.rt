@@ -36,6 +36,3 @@ pub use occurrences::Occurrences;
 pub use ps_model::{Direction, Fault, FaultKind, MovementWord, Refusal};
 pub use read::read_rules;
 pub use tree::{CellPair, Commands, Item, RuleLine, RuleText, SourceRule};
-
-#[cfg(test)]
-mod tests;

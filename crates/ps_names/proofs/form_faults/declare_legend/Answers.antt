@@ -18,5 +18,5 @@ returns-in_err-declared-clause-reads c =
     let fault : Refusal = c.in_err-declared.field-0.0 in
     let told : (f : TheFault) → fault ≡ Refused f → first_fault (form_faults (keys c.args.known.now) (lines_shown c.args.lines.now)) ≡ Some f =
     λ f e. sym (ap first_fault c.loop-place.invariant.faults) ∙ ap (λ (xs : List WrittenLine). first_fault (form_faults before (lines_shown xs))) step
-    ∙ first-found (faults_of_form before (line_shown c.index-lines-place.result)) _ f (c.in_err-declared.ensures.reads.1.1 f e) in
+    ∙ first-found (legend_form_faults before (line_shown c.index-lines-place.result)) _ f (c.in_err-declared.ensures.reads.1.1 f e) in
     search (rules, told)

@@ -1,18 +1,22 @@
 //! Rules of a small game with nine objects on four layers, and rules that are refused.
 
-use crate::{
+use ps_model::Refusal;
+use ps_names::{Meaning, Names, ObjectId, read_names};
+use ps_rules::{
     CellPair, Direction, FaultKind, Item, MovementWord, Occurrences, RuleLine, RuleText,
     SourceRule, read_rules,
 };
-use ps_model::Refusal;
-use ps_names::{Meaning, Names, ObjectId, read_names};
 use ps_text::Source;
 use std::alloc::Global;
 use std::test::Fail;
 
 /// The sections OBJECTS, LEGEND and COLLISIONLAYERS stand below lines 2, 21 and 24, and RULES below line 29.
-const HEAD: &str =
-    "title T\nOBJECTS\nBackground .\ngreen\nWall #\nbrown\nPlayer P\nwhite\nCrate *\norange\nTarget O\nblue\nA\nred\nB\npink\nC\ngray\nD\nblack\nLEGEND\n@ = Crate and Target\nAT = A or Target\nCOLLISIONLAYERS\nBackground\nTarget\nPlayer, Wall, Crate\nA B C D\nRULES\n";
+const HEAD: &str = "title T\n\
+    OBJECTS\nBackground .\ngreen\nWall #\nbrown\nPlayer P\nwhite\nCrate *\norange\nTarget O\nblue\n\
+    A\nred\nB\npink\nC\ngray\nD\nblack\n\
+    LEGEND\n@ = Crate and Target\nAT = A or Target\n\
+    COLLISIONLAYERS\nBackground\nTarget\nPlayer, Wall, Crate\nA B C D\n\
+    RULES\n";
 
 /// The text of the game with these rules.
 fn source_of(alloc: Global, rules: &str) -> Result<Source, Refusal> {
