@@ -1,4 +1,5 @@
-//! The game of a whole text: its sections and its prelude, and, read from these, its names, rules, levels and win conditions.
+//! The game of a whole text: its sections and its prelude, and, read from these, its names, rules, levels and win
+//! conditions.
 #![tactic(auto)]
 
 mod apart;
