@@ -26,7 +26,8 @@ pub enum End {
 
 /// The end behind a synonym for what has that end.
 fn further(end: End) -> End
-    ensures { (legend : List model.LegendName) → (mention next : model.Mention) → behind_synonym legend mention ≡ Some next → IsEnd legend next end → IsEnd legend mention result }
+    ensures { (legend : List model.LegendName) → (mention next : model.Mention) →
+        behind_synonym legend mention ≡ Some next → IsEnd legend next end → IsEnd legend mention result }
 {
     match end {
         End::Unknown => End::Unknown,
@@ -111,8 +112,8 @@ fn set_end(ends: &mut Vec<End>, place: u32, end: End)
     ends[at] = end;
 }
 
-/// The ends behind the lines of the legend, by their places. Where the lines are looked at behind those that they mention, each
-/// takes one step, but one of those that stand for themselves.
+/// The ends behind the lines of the legend, by their places. Where the lines are looked at behind those that they
+/// mention, each takes one step, but one of those that stand for themselves.
 pub fn ends_of(alloc: Global, legend: &[LegendName<'_>], places: &[u32]) -> Result<Vec<End>, Memory>
     ensures { IfOk result (λ ends. AreEnds (legend_shown legend.now) ends.items) }
 {

@@ -18,7 +18,8 @@ pub struct Glyph {
 
 /// The glyph of a meaning under a character; a property has none.
 fn glyph_of(alloc: Global, character: char, meaning: &Meaning) -> Result<Option<Glyph>, AllocError>
-    ensures { IfOk result (λ glyph. option_map glyph_shown glyph ≡ glyph_with (Some character) (meaning_shown meaning.now)) }
+    ensures { IfOk result (λ glyph. option_map glyph_shown glyph
+        ≡ glyph_with (Some character) (meaning_shown meaning.now)) }
 {
     match meaning {
         Meaning::Any { .. } => Ok(None),
@@ -39,7 +40,8 @@ pub fn make_glyph(
     character: Option<char>,
     meaning: Option<&Meaning>,
 ) -> Result<Option<Glyph>, AllocError>
-    ensures { IfOk result (λ glyph. option_map glyph_shown glyph ≡ option_and_then (glyph_with character) (option_map (λ m. meaning_shown m.now) meaning.entry)) }
+    ensures { IfOk result (λ glyph. option_map glyph_shown glyph
+        ≡ option_and_then (glyph_with character) (option_map (λ m. meaning_shown m.now) meaning.entry)) }
 {
     let Some(meaning) = meaning else {
         return Ok(None);
@@ -53,7 +55,8 @@ pub fn make_glyph(
 
 /// Puts a glyph last, if there is one.
 pub fn push_glyph(made: &mut Vec<Glyph>, glyph: Option<Glyph>) -> Result<(), AllocError>
-    ensures { OnOk result (glyphs_shown made.new.items ≡ glyphs_shown made.old.items ++ option_to_list (option_map glyph_shown glyph)) }
+    ensures { OnOk result (glyphs_shown made.new.items
+        ≡ glyphs_shown made.old.items ++ option_to_list (option_map glyph_shown glyph)) }
 {
     let Some(glyph) = glyph else {
         return Ok(());

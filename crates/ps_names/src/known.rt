@@ -1,6 +1,7 @@
 //! The names that are known while the sections are read.
 
-ghost use Rattle.std.specs.Prelude.{◌≡◌, ◌++◌, ◌∷◌, [], true, false, IfOk, option_map, ◌<◌, length, map, slice_get, slice_index_or, ℕ};
+ghost use Rattle.std.specs.Prelude.{◌≡◌, ◌++◌, ◌∷◌, [], true, false, IfOk, option_map, ◌<◌, length, map, slice_get};
+ghost use Rattle.std.specs.Prelude.{slice_index_or, ℕ};
 ghost use Rattle.std.specs.Str.{bytes_eq};
 ghost use Rattle.std.specs.List.{list_any};
 ghost use Rattle.std.specs.Map.{lookup};
@@ -122,7 +123,8 @@ impl Known {
         mention: Mention,
     ) -> Result<bool, Memory>
         ensures again { IfOk result (λ again. again ≡ list_any (bytes_eq (folded written.now)) (keys self.old)) }
-        ensures new { IfOk result (λ again. again ≡ false → self.new ≡ self.old ++ named_as (mention_shown mention) written.now ∷ []) }
+        ensures new { IfOk result (λ again. again ≡ false →
+            self.new ≡ self.old ++ named_as (mention_shown mention) written.now ∷ []) }
         ensures stays { IfOk result (λ again. again ≡ true → self.new ≡ self.old) }
     {
         let name = written.to_ascii_lowercase(alloc)?;
@@ -142,7 +144,8 @@ impl Known {
         mention: Mention,
     ) -> Result<bool, Memory>
         ensures again { IfOk result (λ again. again ≡ are_declared_again (keys self.old) (map text_of words.now)) }
-        ensures new { IfOk result (λ again. again ≡ false → self.new ≡ self.old ++ map (named_as (mention_shown mention)) (map text_of words.now)) }
+        ensures new { IfOk result (λ again. again ≡ false →
+            self.new ≡ self.old ++ map (named_as (mention_shown mention)) (map text_of words.now)) }
     {
         for word in words {
             if self.declare(alloc, word.text(), mention)? {

@@ -1,6 +1,7 @@
 //! COLLISIONLAYERS: which layer each object lies on.
 
-ghost use Rattle.std.specs.Prelude.{◌≡◌, ◌≤◌, ◌++◌, ◌∷◌, [], None, Some, IfOk, OnOk, option_map, map, length, slice_set, flat_map, replicate};
+ghost use Rattle.std.specs.Prelude.{◌≡◌, ◌≤◌, ◌++◌, ◌∷◌, [], None, Some, IfOk, OnOk, option_map, map, length};
+ghost use Rattle.std.specs.Prelude.{slice_set, flat_map, replicate};
 ghost use Rattle.std.specs.List.{list_any};
 ghost use Rattle.std.specs.Option.{is_none};
 ghost use Rattle.std.specs.Str.{bytes_eq};
@@ -19,7 +20,7 @@ ghost use Rattle.ps_names.specs.Shown.{meaning_shown};
 ghost use Rattle.ps_names.specs.Tables.{entries_with};
 
 use crate::lines::WrittenLine;
-use crate::meaning::Meaning;
+use crate::meaning::{Meaning, members_of};
 use crate::naming::is_aggregate;
 use crate::table::Table;
 use ps_model::{Fault, FaultKind, LAYER_LIMIT, Memory, ObjectId};
@@ -41,7 +42,8 @@ fn find_written<'a>(
     table: &'a Table,
     name: &str,
 ) -> Result<Option<&'a Meaning>, Memory>
-    ensures { IfOk result (λ meaning. option_map (λ m. meaning_shown m.now) meaning ≡ lookup (bytes_eq (folded name.now)) (entries_with table.entry.now)) }
+    ensures { IfOk result (λ meaning. option_map (λ m. meaning_shown m.now) meaning
+        ≡ lookup (bytes_eq (folded name.now)) (entries_with table.entry.now)) }
 {
     let folded = name.to_ascii_lowercase(alloc)?;
     Ok(table.find(folded.as_str()))
@@ -53,7 +55,8 @@ fn named_by<'a>(
     table: &'a Table,
     words: &[Word<'_>],
 ) -> Result<Vec<Option<&'a Meaning>>, Memory>
-    ensures { IfOk result (λ named. map (λ m. option_map (λ m. meaning_shown m.now) m) named.items ≡ named_by table.entry.now (map text_of words.now)) }
+    ensures { IfOk result (λ named. map (λ m. option_map (λ m. meaning_shown m.now) m) named.items
+        ≡ named_by table.entry.now (map text_of words.now)) }
 {
     let mut named = Vec::new(alloc);
     for word in words {
@@ -82,7 +85,8 @@ pub fn layers_of_lines<'a>(
     table: &'a Table,
     lines: &[WrittenLine<'_>],
 ) -> Result<Vec<Layer<'a>>, Memory>
-    ensures { IfOk result (λ layers. layers_shown layers.items ≡ layers_of_lines (entries_with table.entry.now) (lines_shown lines.now)) }
+    ensures { IfOk result (λ layers. layers_shown layers.items
+        ≡ layers_of_lines (entries_with table.entry.now) (lines_shown lines.now)) }
 {
     let mut layers = Vec::new(alloc);
     for line in lines {
@@ -96,24 +100,14 @@ pub fn layers_of_lines<'a>(
 fn names_nothing(layer: &Layer<'_>) -> bool
     ensures { result ≡ list_any is_none (layer_shown layer.now).named }
 {
-    for meaning in &layer.named {
-        if meaning.is_none() {
-            return true;
-        }
-    }
-    false
+    layer.named.iter().any(|meaning| meaning.is_none())
 }
 
 /// Whether a name of the layer is that of an aggregate.
 fn names_aggregate(layer: &Layer<'_>) -> bool
     ensures { result ≡ list_any is_aggregate (layer_shown layer.now).named }
 {
-    for meaning in &layer.named {
-        if is_aggregate(*meaning) {
-            return true;
-        }
-    }
-    false
+    layer.named.iter().any(|meaning| is_aggregate(*meaning))
 }
 
 /// The first fault of the layer of a number.
@@ -178,12 +172,7 @@ fn place_each(places: &mut [Option<u32>], layer: u32, objects: &[ObjectId])
 fn place_meaning(places: &mut [Option<u32>], layer: u32, meaning: Option<&Meaning>)
     ensures { places.new ≡ placed layer places.old (members_if (option_map (λ m. meaning_shown m.now) meaning.entry)) }
 {
-    match meaning {
-        None => {}
-        Some(Meaning::One(object)) => place(places, layer, *object),
-        Some(Meaning::All { line: _, objects }) => place_each(places, layer, objects.as_slice()),
-        Some(Meaning::Any { line: _, objects }) => place_each(places, layer, objects.as_slice()),
-    }
+    place_each(places, layer, members_of(meaning));
 }
 
 /// Puts on the layer of a number what its names stand for.

@@ -2,7 +2,8 @@
 
 ghost use Rattle.std.specs.Prelude.{◌≡◌, IfOk, option_map, map};
 ghost use Rattle.std.specs.List.{list_any};
-ghost use Rattle.ps_model.specs.names.LegendLines.{has_key_word, is_mixed, is_sign, joined_by, right_side, name_declared, declared_by};
+ghost use Rattle.ps_model.specs.names.LegendLines.{has_key_word, is_mixed, is_sign, joined_by, right_side};
+ghost use Rattle.ps_model.specs.names.LegendLines.{name_declared, declared_by};
 ghost use Rattle.ps_text.specs.WordViews.{text_of};
 ghost use Rattle.ps_names.specs.LegendShown.{side_shown, declaration_shown};
 ghost use Rattle.ps_names.specs.LinesShown.{line_shown};
@@ -54,7 +55,8 @@ fn joined_by<'a>(
     words: &[Word<'a>],
     key: &str,
 ) -> Result<Option<Vec<&'a str>>, Memory>
-    ensures { IfOk result (λ names. option_map (λ ns. map (λ n. n.now) ns.items) names ≡ joined_by key.now (map text_of words.now)) }
+    ensures { IfOk result (λ names. option_map (λ ns. map (λ n. n.now) ns.items) names
+        ≡ joined_by key.now (map text_of words.now)) }
 {
     let mut names = Vec::new(alloc);
     let mut rest = words;
@@ -74,7 +76,8 @@ fn joined_by<'a>(
 
 /// A right side of these names, if there are these.
 fn side_of<'a>(joiner: Joiner, names: Option<Vec<&'a str>>) -> Option<RightSide<'a>>
-    ensures { option_map side_shown result ≡ option_map (λ ns. record { joiner = joiner; mentions = map (λ n. n.now) ns.items }) names.entry }
+    ensures { option_map side_shown result
+        ≡ option_map (λ ns. record { joiner = joiner; mentions = map (λ n. n.now) ns.items }) names.entry }
 {
     let names = names?;
     Some(RightSide { joiner, names })
@@ -133,7 +136,8 @@ fn has_sign(words: &[Word<'_>]) -> bool
     false
 }
 
-/// What a legend line declares; a line of another form declares nothing. No name is written as the sign is, so the line has it once.
+/// What a legend line declares; a line of another form declares nothing. No name is written as the sign is, so the line
+/// has it once.
 pub fn declared_by<'a>(
     alloc: Global,
     line: &WrittenLine<'a>,

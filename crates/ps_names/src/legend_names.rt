@@ -1,6 +1,7 @@
 //! The names of the legend, with what each mentions.
 
-ghost use Rattle.std.specs.Prelude.{◌≡◌, ◌++◌, IfOk, OnOk, map, length, filter_map, option_map, option_to_list, is_some};
+ghost use Rattle.std.specs.Prelude.{◌≡◌, ◌++◌, IfOk, OnOk, map, length, filter_map, option_map, option_to_list};
+ghost use Rattle.std.specs.Prelude.{is_some};
 ghost use Rattle.std.specs.List.{list_all};
 ghost use Rattle.std.specs.Str.{bytes_eq};
 ghost use Rattle.std.specs.Map.{lookup};
@@ -38,7 +39,8 @@ struct Mentions {
 
 /// Whose a name as it is written is.
 fn mention_named(alloc: Global, known: &Known, name: &str) -> Result<Option<Mention>, Memory>
-    ensures { IfOk result (λ mention. option_map mention_shown mention ≡ lookup (bytes_eq (folded name.now)) (mentions_of_names known.now)) }
+    ensures { IfOk result (λ mention. option_map mention_shown mention
+        ≡ lookup (bytes_eq (folded name.now)) (mentions_of_names known.now)) }
 {
     let folded = name.to_ascii_lowercase(alloc)?;
     Ok(known.get(folded.as_str()))
@@ -46,7 +48,8 @@ fn mention_named(alloc: Global, known: &Known, name: &str) -> Result<Option<Ment
 
 /// Puts a mention last, if there is one.
 fn push_mention(made: &mut Vec<Mention>, mention: Option<Mention>) -> Result<(), Memory>
-    ensures { OnOk result (mentions_shown made.new.items ≡ mentions_shown made.old.items ++ option_to_list (option_map mention_shown mention)) }
+    ensures { OnOk result (mentions_shown made.new.items
+        ≡ mentions_shown made.old.items ++ option_to_list (option_map mention_shown mention)) }
 {
     let Some(mention) = mention else {
         return Ok(());
@@ -57,8 +60,10 @@ fn push_mention(made: &mut Vec<Mention>, mention: Option<Mention>) -> Result<(),
 
 /// Whose the names are.
 fn mentions_named(alloc: Global, known: &Known, names: &[&str]) -> Result<Mentions, Memory>
-    ensures found { IfOk result (λ made. mentions_shown made.found.items ≡ filter_map (λ mention. mention) (found_among known.now (map (λ n. n.now) names.now))) }
-    ensures all { IfOk result (λ made. made.all_declared ≡ list_all is_some (found_among known.now (map (λ n. n.now) names.now))) }
+    ensures found { IfOk result (λ made. mentions_shown made.found.items
+        ≡ filter_map (λ mention. mention) (found_among known.now (map (λ n. n.now) names.now))) }
+    ensures all { IfOk result (λ made. made.all_declared
+        ≡ list_all is_some (found_among known.now (map (λ n. n.now) names.now))) }
 {
     let mut found = Vec::new(alloc);
     let mut all_declared = true;
@@ -79,7 +84,8 @@ fn legend_name<'a>(
     known: &Known,
     declared: &Declaration<'a>,
 ) -> Result<LegendName<'a>, Memory>
-    ensures { IfOk result (λ name. name_shown name ≡ legend_name (mentions_of_names known.now) (declaration_shown declared.now)) }
+    ensures { IfOk result (λ name. name_shown name
+        ≡ legend_name (mentions_of_names known.now) (declaration_shown declared.now)) }
 {
     let mentions = mentions_named(alloc, known, &declared.right.names)?;
     Ok(LegendName {
@@ -98,7 +104,8 @@ pub fn legend_names<'a>(
     declarations: &[Declaration<'a>],
 ) -> Result<Vec<LegendName<'a>>, Memory>
     ensures long { IfOk result (λ made. length made.items ≡ length declarations.now) }
-    ensures names { IfOk result (λ made. legend_shown made.items ≡ map (legend_name (mentions_of_names known.now)) (declarations_shown declarations.now)) }
+    ensures names { IfOk result (λ made. legend_shown made.items
+        ≡ map (legend_name (mentions_of_names known.now)) (declarations_shown declarations.now)) }
 {
     let mut made = Vec::new(alloc);
     for declared in declarations {

@@ -1,4 +1,5 @@
-//! The names of a game: what each stands for, on which collision layer each object lies, and which characters show what.
+//! The names of a game: what each stands for, on which collision layer each object lies, and which characters show
+//! what.
 #![tactic(auto)]
 
 mod declaring;
@@ -32,6 +33,3 @@ pub use meaning::Meaning;
 pub use names::Names;
 pub use ps_model::{Fault, FaultKind, LayerId, ObjectId, Refusal};
 pub use read::read_names;
-
-#[cfg(test)]
-mod tests;

@@ -1,10 +1,12 @@
 //! What the names of LEGEND stand for.
 
-ghost use Rattle.std.specs.Prelude.{◌≡◌, ◌≤◌, ◌<◌, ◌-◌, None, Some, [], IfOk, length, option_map, ℕ, suc, slice_get, true};
+ghost use Rattle.std.specs.Prelude.{◌≡◌, ◌≤◌, ◌<◌, ◌-◌, None, Some, [], IfOk, length, option_map, ℕ, suc, slice_get};
+ghost use Rattle.std.specs.Prelude.{true};
 ghost use Rattle.ps_model.specs.names.Meanings.{objects_of, OfLine, meaning_behind, legend_meanings};
 ghost use Rattle.ps_names.specs.Known.{mention_shown, mentions_shown};
 ghost use Rattle.ps_names.specs.LegendNames.{name_shown, legend_shown};
-ghost use Rattle.ps_names.specs.MeaningSteps.{meaning_shown_if, meanings_shown, alone, behind_synonym, joined_meaning, joined_meanings};
+ghost use Rattle.ps_names.specs.MeaningSteps.{meaning_shown_if, meanings_shown, alone, behind_synonym, joined_meaning};
+ghost use Rattle.ps_names.specs.MeaningSteps.{joined_meanings};
 ghost use Rattle.ps_names.specs.Ends.{IsEnd};
 ghost use Rattle.ps_names.specs.Flattened.{IsFlat};
 
@@ -77,7 +79,8 @@ fn joined_meaning(
     name: &LegendName<'_>,
 ) -> Result<Option<Meaning>, Memory>
     requires { flat ≡ true → IsFlat (legend_shown legend.now) levels.now lists.now }
-    ensures { IfOk result (λ meaning. meaning_shown_if meaning ≡ joined_meaning (legend_shown legend.now) name.now.joiner (name_shown name.now)) }
+    ensures { IfOk result (λ meaning. meaning_shown_if meaning
+        ≡ joined_meaning (legend_shown legend.now) name.now.joiner (name_shown name.now)) }
 {
     let line = name.line;
     match name.joiner {
@@ -121,7 +124,8 @@ fn meaning_of_mention(
 ) -> Result<Option<Meaning>, Memory>
     requires joined { meanings_shown joined.now ≡ joined_meanings (legend_shown legend.now) }
     requires none { behind_synonym (legend_shown legend.now) (mention_shown mention) ≡ None }
-    ensures { IfOk result (λ meaning. (most : ℕ) → meaning_shown_if meaning ≡ meaning_behind (legend_shown legend.now) (suc most) (mention_shown mention)) }
+    ensures { IfOk result (λ meaning. (most : ℕ) →
+        meaning_shown_if meaning ≡ meaning_behind (legend_shown legend.now) (suc most) (mention_shown mention)) }
 {
     let place = match mention {
         Mention::Object(object) => return Ok(Some(Meaning::One(object))),
@@ -141,8 +145,8 @@ fn object_alone(mention: Mention) -> Option<Meaning>
     }
 }
 
-/// What the name of a legend line stands for, by the line's place. It follows synonyms for as many lines as there are, so
-/// that it comes to an end where they stand for themselves.
+/// What the name of a legend line stands for, by the line's place. It follows synonyms for as many lines as there are,
+/// so that it comes to an end where they stand for themselves.
 fn meaning_behind(
     alloc: Global,
     legend: &[LegendName<'_>],
@@ -150,7 +154,8 @@ fn meaning_behind(
     place: u32,
 ) -> Result<Option<Meaning>, Memory>
     requires joined { meanings_shown joined.now ≡ joined_meanings (legend_shown legend.now) }
-    ensures { IfOk result (λ meaning. meaning_shown_if meaning ≡ meaning_behind (legend_shown legend.now) (length legend.now) (OfLine place)) }
+    ensures { IfOk result (λ meaning. meaning_shown_if meaning
+        ≡ meaning_behind (legend_shown legend.now) (length legend.now) (OfLine place)) }
 {
     let mut mention = Mention::Line(place);
     for _passed in 0..legend.len() {
@@ -173,7 +178,8 @@ fn meaning_by_end(
 ) -> Result<Option<Meaning>, Memory>
     requires joined { meanings_shown joined.now ≡ joined_meanings (legend_shown legend.now) }
     requires end { IsEnd (legend_shown legend.now) (OfLine place) end }
-    ensures { IfOk result (λ meaning. meaning_shown_if meaning ≡ meaning_behind (legend_shown legend.now) (length legend.now) (OfLine place)) }
+    ensures { IfOk result (λ meaning. meaning_shown_if meaning
+        ≡ meaning_behind (legend_shown legend.now) (length legend.now) (OfLine place)) }
 {
     match end {
         End::Unknown => {
@@ -192,8 +198,8 @@ fn meaning_by_end(
     }
 }
 
-/// What each name of the legend stands for, if it stands for anything. The places are those of the lines, in an order in which
-/// each stands behind those that it mentions; any others would only take longer.
+/// What each name of the legend stands for, if it stands for anything. The places are those of the lines, in an order
+/// in which each stands behind those that it mentions; any others would only take longer.
 pub fn legend_meanings(
     alloc: Global,
     legend: &[LegendName<'_>],

@@ -2,7 +2,8 @@
 
 ghost use Rattle.std.specs.Prelude.{◌≡◌, ◌≤◌, ◌<◌, None, IfOk, length, map, option_map, slice_index_or};
 ghost use Rattle.std.specs.List.{list_any};
-ghost use Rattle.ps_model.specs.names.DeclarationFaults.{puts_aggregate_in_property, puts_property_in_aggregate, naming_faults};
+ghost use Rattle.ps_model.specs.names.DeclarationFaults.{puts_aggregate_in_property, puts_property_in_aggregate};
+ghost use Rattle.ps_model.specs.names.DeclarationFaults.{naming_faults};
 ghost use Rattle.ps_model.specs.text.Faults.{first_fault};
 ghost use Rattle.ps_model.specs.names.Meanings.{is_aggregate, is_property, meaning_of_mention};
 ghost use Rattle.ps_names.specs.Known.{mention_shown, mentions_shown};
@@ -32,24 +33,14 @@ pub fn meaning_at(meanings: &[Option<Meaning>], place: usize) -> Option<&Meaning
 pub fn is_aggregate(meaning: Option<&Meaning>) -> bool
     ensures { result ≡ is_aggregate (option_map (λ m. meaning_shown m.now) meaning.entry) }
 {
-    match meaning {
-        None => false,
-        Some(Meaning::One(_)) => false,
-        Some(Meaning::All { .. }) => true,
-        Some(Meaning::Any { .. }) => false,
-    }
+    meaning.is_some_and(Meaning::is_aggregate)
 }
 
 /// Whether it is a property.
 pub fn is_property(meaning: Option<&Meaning>) -> bool
     ensures { result ≡ is_property (option_map (λ m. meaning_shown m.now) meaning.entry) }
 {
-    match meaning {
-        None => false,
-        Some(Meaning::One(_)) => false,
-        Some(Meaning::All { .. }) => false,
-        Some(Meaning::Any { .. }) => true,
-    }
+    meaning.is_some_and(Meaning::is_property)
 }
 
 /// Whether a mention is one of an aggregate.
@@ -74,31 +65,28 @@ fn mentions_property(meanings: &[Option<Meaning>], mention: Mention) -> bool
 
 /// Whether one of the mentions is one of an aggregate.
 fn some_aggregate(meanings: &[Option<Meaning>], mentions: &[Mention]) -> bool
-    ensures { result ≡ list_any is_aggregate (map (meaning_of_mention (meanings_shown meanings.now)) (mentions_shown mentions.now)) }
+    ensures { result ≡ list_any is_aggregate (map (meaning_of_mention (meanings_shown meanings.now))
+        (mentions_shown mentions.now)) }
 {
-    for mention in mentions {
-        if mentions_aggregate(meanings, *mention) {
-            return true;
-        }
-    }
-    false
+    mentions
+        .iter()
+        .any(|mention| mentions_aggregate(meanings, *mention))
 }
 
 /// Whether one of the mentions is one of a property.
 fn some_property(meanings: &[Option<Meaning>], mentions: &[Mention]) -> bool
-    ensures { result ≡ list_any is_property (map (meaning_of_mention (meanings_shown meanings.now)) (mentions_shown mentions.now)) }
+    ensures { result ≡ list_any is_property (map (meaning_of_mention (meanings_shown meanings.now))
+        (mentions_shown mentions.now)) }
 {
-    for mention in mentions {
-        if mentions_property(meanings, *mention) {
-            return true;
-        }
-    }
-    false
+    mentions
+        .iter()
+        .any(|mention| mentions_property(meanings, *mention))
 }
 
 /// Whether the name is a property that names an aggregate.
 fn puts_aggregate_in_property(meanings: &[Option<Meaning>], name: &LegendName<'_>) -> bool
-    ensures { result ≡ puts_aggregate_in_property name.now.joiner (map (meaning_of_mention (meanings_shown meanings.now)) (name_shown name.now).mentions) }
+    ensures { result ≡ puts_aggregate_in_property name.now.joiner
+        (map (meaning_of_mention (meanings_shown meanings.now)) (name_shown name.now).mentions) }
 {
     match name.joiner {
         Joiner::Alone => false,
@@ -109,7 +97,8 @@ fn puts_aggregate_in_property(meanings: &[Option<Meaning>], name: &LegendName<'_
 
 /// Whether the name is an aggregate that names a property.
 fn puts_property_in_aggregate(meanings: &[Option<Meaning>], name: &LegendName<'_>) -> bool
-    ensures { result ≡ puts_property_in_aggregate name.now.joiner (map (meaning_of_mention (meanings_shown meanings.now)) (name_shown name.now).mentions) }
+    ensures { result ≡ puts_property_in_aggregate name.now.joiner
+        (map (meaning_of_mention (meanings_shown meanings.now)) (name_shown name.now).mentions) }
 {
     match name.joiner {
         Joiner::Alone => false,
@@ -129,7 +118,9 @@ fn fault_of_name(
 ) -> Result<Option<Fault>, Memory>
     requires there { place < length legend.now }
     requires falls { Fall (legend_shown legend.now) levels.now }
-    ensures { IfOk result (λ fault. fault ≡ first_fault (faults_at (legend_shown legend.now) (meanings_shown meanings.now) (place, name_shown name.now))) }
+    ensures { IfOk result (λ fault. fault
+        ≡ first_fault (faults_at (legend_shown legend.now) (meanings_shown meanings.now)
+        (place, name_shown name.now))) }
 {
     let line = name.line;
     if !name.all_declared {
@@ -160,7 +151,8 @@ pub fn fault_of_naming(
 ) -> Result<Option<Fault>, Memory>
     requires few { length legend.now ≤ 4294967295 }
     requires falls { Fall (legend_shown legend.now) levels.now }
-    ensures { IfOk result (λ fault. fault ≡ first_fault (naming_faults (legend_shown legend.now) (meanings_shown meanings.now))) }
+    ensures { IfOk result (λ fault. fault
+        ≡ first_fault (naming_faults (legend_shown legend.now) (meanings_shown meanings.now))) }
 {
     for place in 0..legend.len() {
         let name = &legend[place];

@@ -50,8 +50,10 @@ fn fault_of_object(
     number: u32,
     object: &ObjectText<'_>,
 ) -> Result<Option<Fault>, Memory>
-    ensures fault { IfOk result (λ fault. fault ≡ first_fault (faults_of_object number (keys known.old) (object_shown object.now))) }
-    ensures known { IfOk result (λ fault. fault ≡ None → known.new ≡ known.old ++ map named_object (names_of_object (number, object_shown object.now))) }
+    ensures fault { IfOk result (λ fault. fault
+        ≡ first_fault (faults_of_object number (keys known.old) (object_shown object.now))) }
+    ensures known { IfOk result (λ fault. fault ≡ None →
+        known.new ≡ known.old ++ map named_object (names_of_object (number, object_shown object.now))) }
 {
     let line = object.line;
     if is_bad_object(object) {
@@ -75,8 +77,10 @@ pub fn fault_of_objects(
     known: &mut Known,
     objects: &[ObjectText<'_>],
 ) -> Result<Option<Fault>, Memory>
-    ensures fault { IfOk result (λ fault. fault ≡ first_fault (object_faults 0 (keys known.old) (objects_shown objects.now))) }
-    ensures known { IfOk result (λ fault. fault ≡ None → known.new ≡ known.old ++ map named_object (object_names (objects_shown objects.now))) }
+    ensures fault { IfOk result (λ fault. fault
+        ≡ first_fault (object_faults 0 (keys known.old) (objects_shown objects.now))) }
+    ensures known { IfOk result (λ fault. fault ≡ None →
+        known.new ≡ known.old ++ map named_object (object_names (objects_shown objects.now))) }
     ensures few { IfOk result (λ fault. fault ≡ None → length objects.now ≤ OBJECT_LIMIT) }
 {
     for number in 0..objects.len() {

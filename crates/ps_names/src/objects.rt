@@ -1,11 +1,11 @@
 //! OBJECTS: which objects there are, and by which names.
 
 ghost use Rattle.std.specs.Prelude.{◌≡◌, ◌≤◌, ◌<◌, ◌++◌, ◌∷◌, [], IfOk, OnOk, length, All, drop};
-ghost use Rattle.ps_model.specs.text.LineNumbers.{line_at};
-ghost use Rattle.ps_model.specs.text.Lines.{lines_of};
-ghost use Rattle.ps_model.specs.names.ObjectLines.{is_sprite_byte, is_sprite_word, is_sprite_row, sprite_rows, lines_below, objects_below, object_texts};
+ghost use Rattle.ps_model.specs.text.LineNumbers.{HasLine, line_at};
+ghost use Rattle.ps_model.specs.names.ObjectLines.{is_sprite_byte, is_sprite_word, is_sprite_row, sprite_rows};
+ghost use Rattle.ps_model.specs.names.ObjectLines.{lines_below, objects_below, object_texts};
 ghost use Rattle.ps_names.specs.LinesShown.{objects_shown};
-ghost use Rattle.ps_names.specs.LinesThere.{IsLine, lines_at};
+ghost use Rattle.ps_names.specs.LinesThere.{lines_at};
 
 use ps_model::Memory;
 use ps_text::{Cut, Source, Word, words};
@@ -21,8 +21,8 @@ pub struct ObjectText<'a> {
     pub line: u32,
     /// The words of its name line.
     pub words: Vec<Word<'a>>,
-    /// How many lines right below are its own: none where its colours are missing, one for them, and one for each sprite
-    /// row.
+    /// How many lines right below are its own: none where its colours are missing, one for them, and one for each
+    /// sprite row.
     pub below: u32,
 }
 
@@ -42,8 +42,7 @@ fn is_sprite_word(word: &str) -> bool
 
 /// Whether the line is a sprite row.
 fn is_sprite_row(alloc: Global, source: &Source, line: u32) -> Result<bool, Memory>
-    requires from_one { 1 ≤ line }
-    requires there { line ≤ length (lines_of source.now) }
+    requires { HasLine source.now line }
     ensures { IfOk result (λ row. row ≡ is_sprite_row (line_at source.now line)) }
 {
     let words = words(alloc, source, line, Cut::Plain)?;
@@ -55,7 +54,7 @@ fn is_sprite_row(alloc: Global, source: &Source, line: u32) -> Result<bool, Memo
 
 /// How many rows of a sprite stand on top of the lines, five at most.
 fn sprite_rows(alloc: Global, source: &Source, lines: &[u32]) -> Result<u32, Memory>
-    requires there { All (IsLine source.now) lines.now }
+    requires there { All (HasLine source.now) lines.now }
     ensures rows { IfOk result (λ rows. rows ≡ sprite_rows (lines_at source.now lines.now)) }
     ensures few { IfOk result (λ rows. rows ≤ 5) }
 {
@@ -74,7 +73,7 @@ fn sprite_rows(alloc: Global, source: &Source, lines: &[u32]) -> Result<u32, Mem
 
 /// How many of the lines below a name line belong to its object.
 fn lines_below(alloc: Global, source: &Source, lines: &[u32]) -> Result<u32, Memory>
-    requires there { All (IsLine source.now) lines.now }
+    requires there { All (HasLine source.now) lines.now }
     ensures { IfOk result (λ below. below ≡ lines_below (lines_at source.now lines.now)) }
 {
     if lines.is_empty() {
@@ -87,8 +86,8 @@ fn lines_below(alloc: Global, source: &Source, lines: &[u32]) -> Result<u32, Mem
     Ok(rows + 1)
 }
 
-/// Goes over the first of the lines, of which so many belong to the object above: keeps the object that it names. Tells how
-/// many of the lines behind it belong to the object above them.
+/// Goes over the first of the lines, of which so many belong to the object above: keeps the object that it names. Tells
+/// how many of the lines behind it belong to the object above them.
 fn over<'a>(
     alloc: Global,
     source: &'a Source,
@@ -96,9 +95,11 @@ fn over<'a>(
     above: u32,
     made: &mut Vec<ObjectText<'a>>,
 ) -> Result<u32, Memory>
-    requires there { All (IsLine source.now) lines.now }
+    requires there { All (HasLine source.now) lines.now }
     requires some { 0 < length lines.now }
-    ensures { IfOk result (λ next. objects_shown made.new.items ++ objects_below next (lines_at source.now (drop 1 lines.now)) ≡ objects_shown made.old.items ++ objects_below above (lines_at source.now lines.now)) }
+    ensures { IfOk result (λ next. objects_shown made.new.items
+        ++ objects_below next (lines_at source.now (drop 1 lines.now))
+        ≡ objects_shown made.old.items ++ objects_below above (lines_at source.now lines.now)) }
 {
     if above > 0 {
         return Ok(above - 1);
@@ -119,7 +120,7 @@ pub fn object_texts<'a>(
     source: &'a Source,
     lines: &[u32],
 ) -> Result<Vec<ObjectText<'a>>, Memory>
-    requires there { All (IsLine source.now) lines.now }
+    requires there { All (HasLine source.now) lines.now }
     ensures { IfOk result (λ objects. objects_shown objects.items ≡ object_texts (lines_at source.now lines.now)) }
 {
     let mut made = Vec::new(alloc);

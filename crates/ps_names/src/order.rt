@@ -1,7 +1,7 @@
 //! In which order the lines of the legend are looked at: each behind those that it mentions.
 //!
-//! It is Tarjan's search for the parts of a graph that are strongly connected. Nothing is promised of it but that the levels
-//! fall, which is tested; were they other levels, lines would be looked at one by one, which takes longer.
+//! It is Tarjan's search for the parts of a graph that are strongly connected. Nothing is promised of it but that the
+//! levels fall, which is tested; were they other levels, lines would be looked at one by one, which takes longer.
 
 ghost use Rattle.std.specs.Prelude.{◌≡◌, IfOk};
 ghost use Rattle.ps_names.specs.LegendNames.{legend_shown};
@@ -18,8 +18,8 @@ use std::alloc::Global;
 pub struct Order {
     /// The places of the lines, each behind those that it mentions, as far as it doesn't stand for itself.
     pub places: Vec<u32>,
-    /// The level of each line, by its place, from 1. No line mentions one of a higher level. Those of one level stand for
-    /// themselves through one another.
+    /// The level of each line, by its place, from 1. No line mentions one of a higher level. Those of one level stand
+    /// for themselves through one another.
     pub levels: Vec<u32>,
 }
 

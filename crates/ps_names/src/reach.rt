@@ -1,10 +1,12 @@
 //! What a name of the legend reaches: the objects and the legend lines that it mentions, itself or through other lines.
 
-ghost use Rattle.std.specs.Prelude.{◌≡◌, ◌≤◌, ◌<◌, ◌+◌, ◌++◌, ◌∷◌, [], IfOk, OnOk, map, length, reverse, slice_index_or, slice_set, replicate, false, true, ℕ};
+ghost use Rattle.std.specs.Prelude.{◌≡◌, ◌≤◌, ◌<◌, ◌+◌, ◌++◌, ◌∷◌, [], IfOk, OnOk, map, length, reverse};
+ghost use Rattle.std.specs.Prelude.{slice_index_or, slice_set, replicate, false, true, ℕ};
 ghost use Rattle.ps_model.specs.names.Names.{is_among};
 ghost use Rattle.ps_model.specs.names.Meanings.{mentions_of, mention_count, is_on_cycle, objects_of};
 ghost use Rattle.ps_names.specs.Known.{mention_shown, mentions_shown};
-ghost use Rattle.ps_names.specs.LegendNames.{name_shown, legend_shown, is_reached, with_reached, reached_from, reached_shown, waiting, reached_with};
+ghost use Rattle.ps_names.specs.LegendNames.{name_shown, legend_shown, is_reached, with_reached, reached_from};
+ghost use Rattle.ps_names.specs.LegendNames.{reached_shown, waiting, reached_with};
 ghost use Rattle.ps_names.specs.Levels.{Fall};
 
 use crate::legend_names::LegendName;
@@ -85,7 +87,7 @@ impl Reach {
         Ok(())
     }
 
-    /// Whether a mention was reached. As a game has at most 64 objects, each is looked for among few.
+    /// Whether a mention was reached. As a game has at most `OBJECT_LIMIT` objects, each is looked for among few.
     fn has(&self, mention: Mention) -> bool
         ensures { result ≡ is_reached (reached_shown self.now) (mention_shown mention) }
     {
@@ -97,7 +99,8 @@ impl Reach {
 
     /// Keeps that a mention was reached.
     fn put(&mut self, mention: Mention) -> Result<(), Memory>
-        ensures reached { OnOk result (reached_shown self.new ≡ with_reached (reached_shown self.old) (mention_shown mention)) }
+        ensures reached { OnOk result (reached_shown self.new
+            ≡ with_reached (reached_shown self.old) (mention_shown mention)) }
         ensures waits { waiting self.new ≡ waiting self.old }
     {
         match mention {
@@ -114,7 +117,8 @@ impl Reach {
 
     /// Looks at the next mention that waits.
     fn step(&mut self, legend: &[LegendName<'_>]) -> Result<(), Memory>
-        ensures { OnOk result ((rest : ℕ) → reached_with legend.now rest self.new ≡ reached_with legend.now (1 + rest) self.old) }
+        ensures { OnOk result ((rest : ℕ) →
+            reached_with legend.now rest self.new ≡ reached_with legend.now (1 + rest) self.old) }
     {
         let Some(mention) = self.waiting.pop() else {
             return Ok(());
@@ -129,7 +133,8 @@ impl Reach {
 
     /// Looks at so many mentions that wait, or at all of them if there are fewer.
     fn steps(&mut self, legend: &[LegendName<'_>], count: usize) -> Result<(), Memory>
-        ensures { OnOk result ((rest : ℕ) → reached_with legend.now rest self.new ≡ reached_with legend.now (count + rest) self.old) }
+        ensures { OnOk result ((rest : ℕ) →
+            reached_with legend.now rest self.new ≡ reached_with legend.now (count + rest) self.old) }
     {
         for _step in 0..count {
             self.step(legend)?;
@@ -140,7 +145,9 @@ impl Reach {
 
 /// What these mentions reach. Each line's mentions are looked at once, so it takes no longer than there are mentions.
 fn reach_of(alloc: Global, legend: &[LegendName<'_>], mentions: &[Mention]) -> Result<Reach, Memory>
-    ensures { IfOk result (λ reach. reached_shown reach ≡ reached_from (legend_shown legend.now) (length mentions.now + mention_count (legend_shown legend.now)) (record { objects = []; lines = replicate (length legend.now) false }) (mentions_shown mentions.now)) }
+    ensures { IfOk result (λ reach. reached_shown reach
+        ≡ reached_from (legend_shown legend.now) (length mentions.now + mention_count (legend_shown legend.now))
+        (record { objects = []; lines = replicate (length legend.now) false }) (mentions_shown mentions.now)) }
 {
     let mut reach = Reach::start(alloc, legend.len(), mentions)?;
     reach.steps(legend, mentions.len())?;
@@ -153,8 +160,8 @@ fn reach_of(alloc: Global, legend: &[LegendName<'_>], mentions: &[Mention]) -> R
     Ok(reach)
 }
 
-/// Whether the name of a place stands for itself through legend lines. Where it mentions only lines of lower levels it doesn't;
-/// any other is looked for among what it reaches.
+/// Whether the name of a place stands for itself through legend lines. Where it mentions only lines of lower levels it
+/// doesn't; any other is looked for among what it reaches.
 pub fn is_on_cycle(
     alloc: Global,
     legend: &[LegendName<'_>],

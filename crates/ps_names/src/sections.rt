@@ -50,12 +50,17 @@ pub fn declare_names<'a>(
     lines: &[WrittenLine<'a>],
 ) -> Result<Declared<'a>, Refusal>
     requires few { length lines.now ≤ 4294967295 }
-    ensures known { IfOk result (λ declared. declared.known ≡ known_of (objects_shown objects.now) (lines_shown lines.now)) }
-    ensures legend { IfOk result (λ declared. legend_shown declared.legend.names.items ≡ legend_of (objects_shown objects.now) (lines_shown lines.now)) }
-    ensures meanings { IfOk result (λ declared. meanings_shown declared.legend.meanings.items ≡ legend_meanings (legend_of (objects_shown objects.now) (lines_shown lines.now))) }
+    ensures known { IfOk result (λ declared. declared.known
+        ≡ known_of (objects_shown objects.now) (lines_shown lines.now)) }
+    ensures legend { IfOk result (λ declared. legend_shown declared.legend.names.items
+        ≡ legend_of (objects_shown objects.now) (lines_shown lines.now)) }
+    ensures meanings { IfOk result (λ declared. meanings_shown declared.legend.meanings.items
+        ≡ legend_meanings (legend_of (objects_shown objects.now) (lines_shown lines.now))) }
     ensures few { OnOk result (length objects.now ≤ OBJECT_LIMIT) }
-    ensures fine { OnOk result ((others : List TheFault) → declaring_faults (objects_shown objects.now) (lines_shown lines.now) others ≡ others) }
-    ensures refused { IfErr result (λ e. (fault : TheFault) → e ≡ Refusal.Refused fault → (others : List TheFault) → first_fault (declaring_faults (objects_shown objects.now) (lines_shown lines.now) others) ≡ Some fault) }
+    ensures fine { OnOk result ((others : List TheFault) →
+        declaring_faults (objects_shown objects.now) (lines_shown lines.now) others ≡ others) }
+    ensures refused { IfErr result (λ e. (fault : TheFault) → e ≡ Refusal.Refused fault → (others : List TheFault) →
+        first_fault (declaring_faults (objects_shown objects.now) (lines_shown lines.now) others) ≡ Some fault) }
 {
     let mut known = known_objects(alloc, objects)?;
     let declarations = declare_legend(alloc, &mut known, lines)?;
@@ -70,11 +75,14 @@ pub fn read_layers(
     objects: usize,
     lines: &[WrittenLine<'_>],
 ) -> Result<Layering, Refusal>
-    ensures places { IfOk result (λ made. made.places.items ≡ layers_found objects (layers_of_lines (entries_with table.now) (lines_shown lines.now))) }
-    ensures count { IfOk result (λ made. made.count ≡ length (layers_of_lines (entries_with table.now) (lines_shown lines.now))) }
+    ensures places { IfOk result (λ made. made.places.items
+        ≡ layers_found objects (layers_of_lines (entries_with table.now) (lines_shown lines.now))) }
+    ensures count { IfOk result (λ made. made.count
+        ≡ length (layers_of_lines (entries_with table.now) (lines_shown lines.now))) }
     ensures few { IfOk result (λ made. made.count ≤ LAYER_LIMIT) }
     ensures fine { OnOk result (layer_faults (layers_of_lines (entries_with table.now) (lines_shown lines.now)) ≡ []) }
-    ensures refused { IfErr result (λ e. (fault : TheFault) → e ≡ Refusal.Refused fault → first_fault (layer_faults (layers_of_lines (entries_with table.now) (lines_shown lines.now))) ≡ Some fault) }
+    ensures refused { IfErr result (λ e. (fault : TheFault) → e ≡ Refusal.Refused fault →
+        first_fault (layer_faults (layers_of_lines (entries_with table.now) (lines_shown lines.now))) ≡ Some fault) }
 {
     let layers = layers_of_lines(alloc, table, lines)?;
     refuse(fault_of_layers(&layers))?;
@@ -105,7 +113,9 @@ pub fn fault_of_whole(
 ) -> Option<Fault>
     requires places { length places.now ≡ length objects.now }
     requires meanings { length legend.now.meanings.items ≡ length legend.now.names.items }
-    ensures { result ≡ first_fault (faults_of_whole header (objects_shown objects.now) places.now (legend_shown legend.now.names.items) (meanings_shown legend.now.meanings.items) (entries_with table.now) layers.now) }
+    ensures { result ≡ first_fault (faults_of_whole header (objects_shown objects.now) places.now
+        (legend_shown legend.now.names.items) (meanings_shown legend.now.meanings.items)
+        (entries_with table.now) layers.now) }
 {
     let no_layer = fault_of_no_layer(objects, places);
     let missing = fault_of_missing(header, table);

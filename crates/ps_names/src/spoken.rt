@@ -12,7 +12,8 @@ use ps_model::{Memory, ObjectId};
 use ps_text::List;
 use std::alloc::Global;
 
-/// Puts an object behind those that are known, if it isn't one of them. These are few, as a game has at most 64.
+/// Puts an object behind those that are known, if it isn't one of them. These are few, as a game has at most
+/// `OBJECT_LIMIT`.
 fn merge_object(objects: &mut Vec<ObjectId>, object: ObjectId) -> Result<(), Memory>
     ensures { OnOk result (objects.new.items ≡ merged objects.old.items (object ∷ [])) }
 {
@@ -39,7 +40,8 @@ fn merge_mention(
     lists: &[List<ObjectId>],
     mention: Mention,
 ) -> Result<(), Memory>
-    ensures { OnOk result (objects.new.items ≡ merged objects.old.items (spoken (spoken_by lists.now) (mention_shown mention))) }
+    ensures { OnOk result (objects.new.items
+        ≡ merged objects.old.items (spoken (spoken_by lists.now) (mention_shown mention))) }
 {
     let place = match mention {
         Mention::Object(object) => return merge_object(objects, object),
@@ -57,7 +59,8 @@ pub fn objects_merged(
     lists: &[List<ObjectId>],
     mentions: &[Mention],
 ) -> Result<List<ObjectId>, Memory>
-    ensures { IfOk result (λ objects. objects ≡ merged [] (all_spoken (spoken_by lists.now) (mentions_shown mentions.now))) }
+    ensures { IfOk result (λ objects. objects
+        ≡ merged [] (all_spoken (spoken_by lists.now) (mentions_shown mentions.now))) }
 {
     let mut objects = Vec::new(alloc);
     for mention in mentions {
@@ -92,8 +95,8 @@ fn set_list(lists: &mut Vec<List<ObjectId>>, place: u32, list: List<ObjectId>) {
     lists[at] = list;
 }
 
-/// The objects that each line speaks of, by the line's place, where the lines are looked at in the order of these places.
-/// Nothing is promised of it: `is_flat` looks whether it holds.
+/// The objects that each line speaks of, by the line's place, where the lines are looked at in the order of these
+/// places. Nothing is promised of it: `is_flat` looks whether it holds.
 pub fn lists_spoken(
     alloc: Global,
     legend: &[LegendName<'_>],

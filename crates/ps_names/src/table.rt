@@ -6,6 +6,7 @@ ghost use Rattle.std.specs.Str.{bytes_eq};
 ghost use Rattle.std.specs.Map.{lookup};
 ghost use Rattle.ps_model.specs.text.Lines.{folded};
 ghost use Rattle.ps_model.specs.names.Meanings.{meaning_of_mention};
+ghost use Rattle.ps_model.specs.names.Names.{members_if};
 ghost use Rattle.ps_names.specs.Known.{mention_shown};
 ghost use Rattle.ps_names.specs.MeaningSteps.{meaning_shown_if, meanings_shown};
 ghost use Rattle.ps_names.specs.Shown.{meaning_shown};
@@ -15,10 +16,10 @@ ghost use Rattle.ps_names.specs.GlyphsShown.{glyph_shown, glyphs_shown};
 use crate::folding::{folds_to, is_folded};
 use crate::glyphs::{Glyph, make_glyph, push_glyph};
 use crate::known::Known;
-use crate::meaning::Meaning;
+use crate::meaning::{Meaning, members_of};
 use crate::mention::Mention;
 use crate::naming::meaning_at;
-use ps_model::Memory;
+use ps_model::{Memory, ObjectId};
 use std::alloc::Global;
 use std::marker::Model;
 
@@ -59,7 +60,8 @@ fn meaning_for(
     meanings: &[Option<Meaning>],
     mention: Mention,
 ) -> Result<Option<Meaning>, Memory>
-    ensures { IfOk result (λ meaning. meaning_shown_if meaning ≡ meaning_of_mention (meanings_shown meanings.now) (mention_shown mention)) }
+    ensures { IfOk result (λ meaning. meaning_shown_if meaning
+        ≡ meaning_of_mention (meanings_shown meanings.now) (mention_shown mention)) }
 {
     match mention {
         Mention::Object(object) => Ok(Some(Meaning::One(object))),
@@ -88,7 +90,9 @@ impl Table {
 
     /// What the name of a place stands for, if that name is the one given once its letters are folded.
     fn meaning_if(&self, name: &str, place: usize) -> Option<&Meaning>
-        ensures { lookup (bytes_eq (folded name.now)) (entries_with (drop place self.now)) ≡ option_or (option_map (λ m. meaning_shown m.now) result) (lookup (bytes_eq (folded name.now)) (entries_with (drop (place + 1) self.now))) }
+        ensures { lookup (bytes_eq (folded name.now)) (entries_with (drop place self.now))
+            ≡ option_or (option_map (λ m. meaning_shown m.now) result)
+            (lookup (bytes_eq (folded name.now)) (entries_with (drop (place + 1) self.now))) }
     {
         let Some(known) = self.known.at(place) else {
             return None;
@@ -99,10 +103,11 @@ impl Table {
         meaning_at(&self.meanings, place)
     }
 
-    /// A place before which no name is the one given once its letters are folded. A name that has no capital letter is looked
-    /// up at once.
+    /// A place before which no name is the one given once its letters are folded. A name that has no capital letter is
+    /// looked up at once.
     fn start_for(&self, name: &str) -> usize
-        ensures { lookup (bytes_eq (folded name.now)) (entries_with (drop result self.now)) ≡ lookup (bytes_eq (folded name.now)) (entries_with self.now) }
+        ensures { lookup (bytes_eq (folded name.now)) (entries_with (drop result self.now))
+            ≡ lookup (bytes_eq (folded name.now)) (entries_with self.now) }
     {
         if !is_folded(name) {
             return 0;
@@ -112,7 +117,8 @@ impl Table {
 
     /// What a name as it is written stands for. Takes no memory; a name with a capital letter is compared with each.
     pub fn find(&self, name: &str) -> Option<&Meaning>
-        ensures { option_map (λ m. meaning_shown m.now) result ≡ lookup (bytes_eq (folded name.now)) (entries_with self.now) }
+        ensures { option_map (λ m. meaning_shown m.now) result
+            ≡ lookup (bytes_eq (folded name.now)) (entries_with self.now) }
     {
         for place in self.start_for(name)..self.known.len() {
             let meaning = self.meaning_if(name, place);
@@ -123,9 +129,19 @@ impl Table {
         None
     }
 
+    /// The objects that a name as it is written speaks of; of a name that nothing declares, none.
+    pub fn objects_named(&self, alloc: Global, name: &str) -> Result<Vec<ObjectId>, Memory>
+        ensures { IfOk result (λ objects. objects.items
+            ≡ members_if (lookup (bytes_eq (folded name.now)) (entries_with self.now))) }
+    {
+        let objects = Vec::from_slice(alloc, members_of(self.find(name)))?;
+        Ok(objects)
+    }
+
     /// The glyph of the name of a place, if that is one.
     fn glyph_at(&self, alloc: Global, place: usize) -> Result<Option<Glyph>, Memory>
-        ensures { IfOk result (λ glyph. filter_map glyph_named (drop place self.now) ≡ option_to_list (option_map glyph_shown glyph) ++ filter_map glyph_named (drop (place + 1) self.now)) }
+        ensures { IfOk result (λ glyph. filter_map glyph_named (drop place self.now)
+            ≡ option_to_list (option_map glyph_shown glyph) ++ filter_map glyph_named (drop (place + 1) self.now)) }
     {
         let Some(known) = self.known.at(place) else {
             return Ok(None);

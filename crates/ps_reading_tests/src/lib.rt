@@ -4,3 +4,5 @@
 
 #[cfg(test)]
 mod game;
+#[cfg(test)]
+mod names;

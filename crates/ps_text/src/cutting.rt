@@ -3,8 +3,7 @@
 ghost use Rattle.std.specs.Prelude.{◌≡◌, ◌+◌, ◌≤◌, ◌<◌, length, map, slice_range, IfOk, IfSome, All};
 ghost use Rattle.std.specs.Str.{IsUtf8, IsCharBoundary};
 ghost use Rattle.ps_model.specs.declared.limits.TheConstants.{TEXT_LIMIT};
-ghost use Rattle.ps_model.specs.text.LineNumbers.{line_at};
-ghost use Rattle.ps_model.specs.text.Lines.{lines_of};
+ghost use Rattle.ps_model.specs.text.LineNumbers.{line_at, HasLine};
 ghost use Rattle.ps_model.specs.text.RuleWords.{words_under};
 ghost use Rattle.ps_text.specs.Places.{words_behind, words_found, IsWordPlace};
 ghost use Rattle.ps_text.specs.TakenPlaces.{IsTextPlace};
@@ -85,22 +84,23 @@ fn next_under(line: &[u8], cut: Cut, from: usize) -> Option<Place>
 }
 
 /// The words of a line, from 1 to `source.lines()`, in order: its longest runs of bytes without one that parts words,
-/// which are blanks and, under `Cut::Layers`, commas; under `Cut::Legend` each `=` is a word by itself, and `Cut::Rule` cuts as
-/// rules are cut. Comments part words, and so does a text that is taken as it stands.
-/// `Memory` if there is no room for their list.
+/// which are blanks and, under `Cut::Layers`, commas; under `Cut::Legend` each `=` is a word by itself, and `Cut::Rule`
+/// cuts as rules are cut. Comments part words, and so does a text that is taken as it stands. `Memory` if there is no
+/// room for their list.
 pub fn words<'a>(
     alloc: Global,
     source: &'a Source,
     line: u32,
     cut: Cut,
 ) -> Result<Vec<Word<'a>>, Memory>
-    requires from_one { 1 ≤ line }
-    requires there { line ≤ length (lines_of source.now) }
+    requires { HasLine source.now line }
     ensures texts { IfOk result (λ words. map text_of words.items ≡ texts_under cut (line_at source.now line).bytes) }
     ensures hold { IfOk result (λ words. All (λ text. 0 < length text) (map text_of words.items)) }
-    ensures spans { IfOk result (λ words. map span_of words.items ≡ map (span_at (line_at source.now line)) (words_under cut (line_at source.now line).bytes)) }
+    ensures spans { IfOk result (λ words. map span_of words.items
+        ≡ map (span_at (line_at source.now line)) (words_under cut (line_at source.now line).bytes)) }
     ensures slices { IfOk result (λ words. All (IsSliceOf source.now) words.items) }
-    ensures rising { IfOk result (λ words. AreRisingSpans (line_at source.now line).start (length source.now) (map span_of words.items)) }
+    ensures rising { IfOk result (λ words. AreRisingSpans (line_at source.now line).start (length source.now)
+        (map span_of words.items)) }
 {
     let row = source.row(line);
     let text = row.visible.as_str();

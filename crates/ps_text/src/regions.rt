@@ -1,10 +1,12 @@
 //! The text of a line that is taken as it stands, and the line without it.
 
-ghost use Rattle.std.specs.Prelude.{◌≡◌, ◌+◌, ◌-◌, ◌<◌, ◌≤◌, ◌==◌, ◌++◌, not, length, drop, take, replicate, option_map, string_bytes, slice_index, slice_range, IfSome, IfOk, OnOk};
+ghost use Rattle.std.specs.Prelude.{◌≡◌, ◌+◌, ◌-◌, ◌<◌, ◌≤◌, ◌==◌, ◌++◌, not, length, drop, take, replicate};
+ghost use Rattle.std.specs.Prelude.{option_map, string_bytes, slice_index, slice_range, IfSome, IfOk, OnOk};
 ghost use Rattle.std.specs.List.{prefix_len};
 ghost use Rattle.std.specs.Str.{IsUtf8, IsCharBoundary};
 ghost use Rattle.ps_model.specs.text.Words.{is_blank};
 ghost use Rattle.ps_model.specs.text.Lines as lines;
+ghost use Rattle.ps_model.specs.text.Lines.{without_blank_end};
 ghost use Rattle.ps_text.specs.PlainLines.{IsPlain};
 ghost use Rattle.ps_text.specs.TakenPlaces.{IsTextPlace, start_of, trimmed_of, bytes_without, IsTrimmed};
 
@@ -49,12 +51,13 @@ fn text_end(section: Section, raw: &[u8], from: usize) -> usize
     }
 }
 
-/// The place of the text that a line of that section takes as it stands, with the blanks at its ends. `plain` is the line with
-/// blanks for its comments.
+/// The place of the text that a line of that section takes as it stands, with the blanks at its ends. `plain` is the
+/// line with blanks for its comments.
 pub fn text_region(section: Section, raw: &str, plain: &str) -> Option<Place>
     requires { IsPlain raw.now plain.now }
     ensures start { option_map start_of result ≡ lines.text_place section plain.now }
-    ensures end { IfSome result (λ region. region.end ≡ region.start + lines.text_length section (drop region.start raw.now)) }
+    ensures end { IfSome result (λ region. region.end
+        ≡ region.start + lines.text_length section (drop region.start raw.now)) }
     ensures raw { IfSome result (IsTextPlace raw.now) }
     ensures plain { IfSome result (IsTextPlace plain.now) }
 {
@@ -65,10 +68,11 @@ pub fn text_region(section: Section, raw: &str, plain: &str) -> Option<Place>
     Some(Place { start, end })
 }
 
-/// Where what stands from `from` on ends, the blanks at the line's end left out.
-fn blank_end(line: &[u8], from: usize) -> usize
+/// Where what stands from `from` on ends, the blanks at the line's end left out. `from` is a place where the line may
+/// be cut; the answer is one too, from `from` to the line's end.
+pub fn blank_end(line: &[u8], from: usize) -> usize
     requires { IsCharBoundary line.now from }
-    ensures place { result ≡ from + length (lines.without_blank_end (drop from line.now)) }
+    ensures place { result ≡ from + length (without_blank_end (drop from line.now)) }
     ensures behind { from ≤ result }
     ensures cuttable { IsCharBoundary line.now result }
 {
@@ -82,11 +86,22 @@ fn blank_end(line: &[u8], from: usize) -> usize
     from
 }
 
+/// A line without the blanks at its ends.
+pub fn without_blank_ends(line: &str) -> &str
+    ensures { result.now ≡ without_blank_end (drop (prefix_len is_blank line.now) line.now) }
+{
+    let bytes = line.as_bytes();
+    let start = past_parting(bytes, Cut::Plain, 0);
+    let end = blank_end(bytes, start);
+    &line[start..end]
+}
+
 /// The text of a region of a line, without the blanks at its ends.
 fn trimmed(raw: &str, region: Place) -> Place
     requires { IsTextPlace raw.now region }
     ensures start { result.start ≡ region.start + prefix_len is_blank (slice_range raw.now region.start region.end) }
-    ensures bytes { slice_range raw.now result.start result.end ≡ trimmed_of (slice_range raw.now region.start region.end) }
+    ensures bytes { slice_range raw.now result.start result.end
+        ≡ trimmed_of (slice_range raw.now region.start region.end) }
     ensures place { IsTextPlace raw.now result }
 {
     let front = raw[..region.end].as_bytes();
@@ -120,7 +135,8 @@ fn push_blanks(text: &mut String, count: usize) -> Result<(), Memory>
 /// The line with blanks for a region.
 fn without_region(alloc: Global, plain: &str, region: Place) -> Result<String, Memory>
     requires { IsTextPlace plain.now region }
-    ensures { IfOk result (λ visible. string_bytes visible ≡ take region.start plain.now ++ (replicate (region.end - region.start) 32 ++ drop region.end plain.now)) }
+    ensures { IfOk result (λ visible. string_bytes visible
+        ≡ take region.start plain.now ++ (replicate (region.end - region.start) 32 ++ drop region.end plain.now)) }
 {
     let mut visible = String::from_str(alloc, &plain[..region.start])?;
     push_blanks(&mut visible, region.end - region.start)?;

@@ -1,6 +1,7 @@
 //! The table of a text's lines.
 
-ghost use Rattle.std.specs.Prelude.{◌≡◌, ◌+◌, ◌<◌, ◌≤◌, length, drop, take, fold, option_map, string_bytes, IfOk, IfSome, slice_index};
+ghost use Rattle.std.specs.Prelude.{◌≡◌, ◌+◌, ◌<◌, ◌≤◌, length, drop, take, fold, option_map, string_bytes, IfOk};
+ghost use Rattle.std.specs.Prelude.{IfSome, slice_index};
 ghost use Rattle.std.specs.List.{position_or_len};
 ghost use Rattle.std.specs.Str.{IsCharBoundary};
 ghost use Rattle.ps_model.specs.declared.limits.TheConstants.{TEXT_LIMIT};
@@ -17,7 +18,8 @@ use crate::scan::Place;
 use ps_model::{Memory, Section};
 use std::alloc::Global;
 
-/// A line: its number, from 1, the byte of the text at which it begins, the section that it stands in, and whether it is a header.
+/// A line: its number, from 1, the byte of the text at which it begins, the section that it stands in, and whether it
+/// is a header.
 #[derive(Drop, Debug)]
 pub struct Row {
     pub number: u32,
@@ -32,8 +34,8 @@ pub struct Row {
     pub taken: Option<Place>,
 }
 
-/// What a line finds above it: its number, the byte at which it begins, how many comments are open, and the section that the line
-/// above stands in.
+/// What a line finds above it: its number, the byte at which it begins, how many comments are open, and the section
+/// that the line above stands in.
 #[derive(Clone, Copy, Debug)]
 pub struct Above {
     pub number: u32,

@@ -1,6 +1,7 @@
 //! The scan of a line of RULES for its words.
 
-ghost use Rattle.std.specs.Prelude.{◌≡◌, ◌+◌, ◌<◌, ◌≤◌, ◌||◌, ◌&&◌, ◌==◌, true, false, not, ◌∷◌, length, drop, None, slice_index, IfSome};
+ghost use Rattle.std.specs.Prelude.{◌≡◌, ◌+◌, ◌<◌, ◌≤◌, ◌||◌, ◌&&◌, ◌==◌, true, false, not, ◌∷◌, length, drop, None};
+ghost use Rattle.std.specs.Prelude.{slice_index, IfSome};
 ghost use Rattle.std.specs.Str.{IsUtf8, IsCharBoundary};
 ghost use Rattle.ps_model.specs.text.Words.{is_blank};
 ghost use Rattle.ps_model.specs.text.RuleWords as rules;

@@ -67,7 +67,8 @@ fn run_end(line: &[u8], cut: Cut, start: usize) -> usize
     requires holds { start < length line.now }
     requires in_run { parts_words cut (slice_index line.now start) ≡ false }
     requires no_word { stands_alone cut (slice_index line.now start) ≡ false }
-    ensures words { words_from cut start None (drop start line.now) ≡ (start, result) ∷ words_from cut result None (drop result line.now) }
+    ensures words { words_from cut start None (drop start line.now)
+        ≡ (start, result) ∷ words_from cut result None (drop result line.now) }
     ensures behind { start < result }
     ensures cuttable { IsCharBoundary line.now result }
     ensures solid { IsSolid line.now start result }

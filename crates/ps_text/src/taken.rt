@@ -1,6 +1,7 @@
 //! Where a line has a text that is taken as it stands.
 
-ghost use Rattle.std.specs.Prelude.{◌≡◌, ◌+◌, ◌≤◌, ◌==◌, not, ◌∷◌, [], length, drop, take, codes, option_map, find, Some, None, IfSome, slice_range};
+ghost use Rattle.std.specs.Prelude.{◌≡◌, ◌+◌, ◌≤◌, ◌==◌, not, ◌∷◌, [], length, drop, take, codes, option_map, find};
+ghost use Rattle.std.specs.Prelude.{Some, None, IfSome, slice_range};
 ghost use Rattle.std.specs.List.{prefix_len, list_any};
 ghost use Rattle.std.specs.Str.{IsUtf8, IsCharBoundary, bytes_eq};
 ghost use Rattle.ps_model.specs.text.Lines as lines;
@@ -15,7 +16,8 @@ use ps_model::{Cut, Section};
 
 /// Whether the word begins a text in a line of the prelude.
 fn is_title_word(word: &[u8]) -> bool
-    ensures { result ≡ list_any (bytes_eq (lines.folded word.now)) (codes "title" ∷ codes "author" ∷ codes "homepage" ∷ []) }
+    ensures { result ≡ list_any (bytes_eq (lines.folded word.now))
+        (codes "title" ∷ codes "author" ∷ codes "homepage" ∷ []) }
 {
     is_word(word, b"title") || is_word(word, b"author") || is_word(word, b"homepage")
 }
@@ -84,7 +86,8 @@ fn arrow_end(plain: &[u8]) -> Option<usize>
 fn message_end_behind(plain: &[u8], from: usize) -> Option<usize>
     requires utf8 { IsUtf8 plain.now }
     requires cuttable { IsCharBoundary plain.now from }
-    ensures place { result ≡ lines.end_of_word (find (lines.is_word plain.now (codes "message" ∷ [])) (rule_words_behind plain.now from)) }
+    ensures place { result ≡ lines.end_of_word
+        (find (lines.is_word plain.now (codes "message" ∷ [])) (rule_words_behind plain.now from)) }
     ensures start { IfSome result (IsTextStart plain.now) }
 {
     let mut at = from;
@@ -100,7 +103,9 @@ fn message_end_behind(plain: &[u8], from: usize) -> Option<usize>
 /// Where a text begins in a line of RULES.
 fn command_end(plain: &[u8]) -> Option<usize>
     requires { IsUtf8 plain.now }
-    ensures place { result ≡ lines.end_of_word (find (lines.is_word plain.now (codes "message" ∷ [])) (lines.behind_arrow plain.now (rule_words_in plain.now))) }
+    ensures place { result ≡ lines.end_of_word
+        (find (lines.is_word plain.now (codes "message" ∷ []))
+        (lines.behind_arrow plain.now (rule_words_in plain.now))) }
     ensures start { IfSome result (IsTextStart plain.now) }
 {
     let Some(arrow) = arrow_end(plain) else {

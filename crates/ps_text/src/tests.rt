@@ -1,14 +1,45 @@
 //! Texts with values worked by hand.
 
 use crate::{Cut, Fault, FaultKind, List, Section, Source, Span, Text, Word, same_name, words};
-use ps_model::Refusal;
+use ps_model::{Refusal, TEXT_LIMIT};
 use std::alloc::{AllocError, Global};
 use std::process::Abort;
 use std::test::Fail;
 
 /// A small game: 32 lines, the sections of nine objects on four layers, and one level.
-const GAME: &str =
-    "title T\nOBJECTS\nBackground .\ngreen\nWall #\nbrown\nPlayer P\nwhite\nCrate *\norange\nTarget O\nblue\nA\nred\nB\npink\nC\ngray\nD\nblack\nLEGEND\n@ = Crate and Target\nAT = A or Target\nCOLLISIONLAYERS\nBackground\nTarget\nPlayer, Wall, Crate\nA B C D\nRULES\nWINCONDITIONS\nLEVELS\nP..\n";
+const GAME: &str = "title T
+OBJECTS
+Background .
+green
+Wall #
+brown
+Player P
+white
+Crate *
+orange
+Target O
+blue
+A
+red
+B
+pink
+C
+gray
+D
+black
+LEGEND
+@ = Crate and Target
+AT = A or Target
+COLLISIONLAYERS
+Background
+Target
+Player, Wall, Crate
+A B C D
+RULES
+WINCONDITIONS
+LEVELS
+P..
+";
 
 fn expect_texts(rt: &impl Abort, words: &[Word], wanted: &[&str]) {
     assert_eq!(rt; words.len(), wanted.len());
@@ -215,14 +246,23 @@ fn refuses_bytes(rt: HostRuntime) -> Result<(), Fail> {
 
 #[test]
 fn reads_texts_of_any_length(rt: HostRuntime) -> Result<(), Fail> {
-    let openings = Source::read(rt.alloc(), bytes_of(rt.alloc(), b'(', 1048576)?.as_slice())?;
+    let openings = Source::read(
+        rt.alloc(),
+        bytes_of(rt.alloc(), b'(', TEXT_LIMIT)?.as_slice(),
+    )?;
     assert!(rt; openings.lines() == 1);
     assert!(rt; !openings.is_there(1) && openings.is_blank_line(1));
-    let feeds = Source::read(rt.alloc(), bytes_of(rt.alloc(), b'\n', 1048576)?.as_slice())?;
-    assert_eq!(rt; feeds.lines(), 1048576);
-    let marks = Source::read(rt.alloc(), bytes_of(rt.alloc(), b'>', 1048576)?.as_slice())?;
+    let feeds = Source::read(
+        rt.alloc(),
+        bytes_of(rt.alloc(), b'\n', TEXT_LIMIT)?.as_slice(),
+    )?;
+    assert_eq!(rt; feeds.lines() as usize, TEXT_LIMIT);
+    let marks = Source::read(
+        rt.alloc(),
+        bytes_of(rt.alloc(), b'>', TEXT_LIMIT)?.as_slice(),
+    )?;
     assert!(rt; marks.lines() == 1);
-    assert_eq!(rt; words(rt.alloc(), &marks, 1, Cut::Rule)?.len(), 1048576);
+    assert_eq!(rt; words(rt.alloc(), &marks, 1, Cut::Rule)?.len(), TEXT_LIMIT);
     assert_eq!(rt; words(rt.alloc(), &marks, 1, Cut::Plain)?.len(), 1);
     let none = Source::read(rt.alloc(), b"")?;
     assert!(rt; none.lines() == 1);

@@ -31,7 +31,8 @@ impl Text {
         Ok(Text { string })
     }
 
-    /// A copy of a name with its ASCII letters in lower case, as names are compared. `Memory` if there is no room for it.
+    /// A copy of a name with its ASCII letters in lower case, as names are compared. `Memory` if there is no room for
+    /// it.
     pub fn folded(alloc: Global, name: &str) -> Result<Text, Memory>
         ensures { IfOk result (λ copy. copy ≡ folded name.now) }
     {

@@ -1,6 +1,6 @@
 use Rattle.std.proofs.Common.{rules}
 use Rattle.ps_names.specs.LegendNames.{legend_shown}
-use Rattle.ps_names.proofs.EndLaws.{ends-set}
+use Rattle.ps_names.proofs.standing.EndLaws.{ends-set}
 use Rattle.ps_names.proofs.ends.ends_of.Goals as goal
 
 pub loop-place-preserved : goal.loop-place-preserved

@@ -1,6 +1,6 @@
 use Rattle.ps_names.specs.Known.{mention_shown}
 use Rattle.ps_names.specs.Ends.{EndsAt}
-use Rattle.ps_names.proofs.EndLaws.{one-before}
+use Rattle.ps_names.proofs.standing.EndLaws.{one-before}
 use Rattle.ps_names.proofs.ends.further.Goals as goal
 
 pub returns-else-passed : goal.returns-else-passed

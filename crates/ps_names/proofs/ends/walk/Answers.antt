@@ -4,7 +4,7 @@ use Rattle.ps_names.specs.declared.mention.Mention.TheVariants.{Line}
 use Rattle.ps_names.specs.Known.{mention_shown}
 use Rattle.ps_names.specs.LegendNames.{legend_shown}
 use Rattle.ps_names.specs.MeaningSteps.{behind_synonym}
-use Rattle.ps_names.proofs.EndLaws.{one-behind, never-ends}
+use Rattle.ps_names.proofs.standing.EndLaws.{one-behind, never-ends}
 use Rattle.ps_names.proofs.ends.walk.Goals as goal
 
 pub returns-then-eq : goal.returns-then-eq

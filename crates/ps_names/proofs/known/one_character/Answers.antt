@@ -1,6 +1,6 @@
 use Rattle.std.proofs.Common.{◌≡◌, [], sym, ◌∙◌, arith, true≢false}
 use Rattle.std.proofs.lemmas.Grind.{common_steps}
-use Rattle.ps_names.proofs.Characters.{one_alone, more_than_one}
+use Rattle.ps_names.proofs.common.Characters.{one_alone, more_than_one}
 use Rattle.ps_names.proofs.known.one_character.Goals as goal
 
 pub returns-then-is_empty : goal.returns-then-is_empty

@@ -3,7 +3,7 @@ use Rattle.std.specs.Str.{bytes_eq}
 use Rattle.std.specs.Map.{lookup}
 use Rattle.ps_model.specs.text.Lines.{folded}
 use Rattle.ps_names.specs.Tables.{entries_with}
-use Rattle.ps_names.proofs.FoldedNames.{folded-again}
+use Rattle.ps_names.proofs.tables.FoldedNames.{folded-again}
 use Rattle.ps_names.proofs.layers.find_written.Goals as goal
 
 pub returns : goal.returns

@@ -2,8 +2,8 @@ use Rattle.std.proofs.Common.{◌≡◌, ◌∙◌, sym, ap, List, [], drop, map
 use Rattle.ps_model.specs.names.LayerLines.{objects_named}
 use Rattle.ps_names.specs.declared.layers.Layer.{Layer}
 use Rattle.ps_names.specs.LayersShown.{placed_each, layers_shown}
-use Rattle.ps_names.proofs.Elements.{past-end}
-use Rattle.ps_names.proofs.LayerLaw.{layers-placed}
+use Rattle.ps_names.proofs.common.Elements.{past-end}
+use Rattle.ps_names.proofs.wholes.LayerLaw.{layers-placed}
 use Rattle.ps_names.proofs.layers.layers_found.Goals as goal
 
 pub returns : goal.returns

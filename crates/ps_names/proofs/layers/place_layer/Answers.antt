@@ -3,8 +3,8 @@ use Rattle.std.specs.List.{flat_map}
 use Rattle.ps_model.specs.names.Names.{members_if}
 use Rattle.ps_names.specs.Shown.{meaning_shown}
 use Rattle.ps_names.specs.LayersShown.{placed}
-use Rattle.ps_names.proofs.Elements.{element-first}
-use Rattle.ps_names.proofs.LayerLaw.{placed-append}
+use Rattle.ps_names.proofs.common.Elements.{element-first}
+use Rattle.ps_names.proofs.wholes.LayerLaw.{placed-append}
 use Rattle.ps_names.proofs.layers.place_layer.Goals as goal
 
 pub loop-meaning-preserved : goal.loop-meaning-preserved

@@ -3,7 +3,7 @@ use Rattle.ps_model.specs.names.Meanings.{OfLine, mentions_of}
 use Rattle.ps_names.specs.Known.{mentions_shown}
 use Rattle.ps_names.specs.LegendNames.{legend_shown}
 use Rattle.ps_names.specs.Levels.{level, are_below}
-use Rattle.ps_names.proofs.LevelLaws.{one-more, mentions-at, all-fall}
+use Rattle.ps_names.proofs.mentions.LevelLaws.{one-more, mentions-at, all-fall}
 use Rattle.ps_names.proofs.levels.fall.Goals as goal
 
 pub loop-place-preserved : goal.loop-place-preserved

@@ -1,6 +1,6 @@
 use Rattle.std.proofs.Common.{◌+◌, ◌∙◌, arith}
 use Rattle.ps_names.specs.LinesShown.{lines_shown}
-use Rattle.ps_names.proofs.WrittenSteps.{written-step}
+use Rattle.ps_names.proofs.written.WrittenSteps.{written-step}
 use Rattle.ps_names.proofs.lines.written_lines.Goals as goal
 
 pub loop-line-preserved : goal.loop-line-preserved

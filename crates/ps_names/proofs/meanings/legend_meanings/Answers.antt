@@ -4,7 +4,7 @@ use Rattle.std.proofs.lemmas.List.{length-map, map-append}
 use Rattle.ps_model.specs.names.Meanings.{LegendName, OfLine, meaning_behind}
 use Rattle.ps_names.specs.LegendNames.{name_shown, legend_shown}
 use Rattle.ps_names.specs.MeaningSteps.{meaning_shown_if, meanings_shown, meaning_at}
-use Rattle.ps_names.proofs.MeaningLaws.{meanings-step}
+use Rattle.ps_names.proofs.standing.MeaningLaws.{meanings-step}
 use Rattle.ps_names.proofs.meanings.legend_meanings.Goals as goal
 
 pub loop-place-preserved : goal.loop-place-preserved

@@ -3,7 +3,7 @@ use Rattle.ps_model.specs.names.Meanings.{LegendName, meaning_behind}
 use Rattle.ps_names.specs.Known.{mention_shown}
 use Rattle.ps_names.specs.LegendNames.{legend_shown}
 use Rattle.ps_names.specs.MeaningSteps.{behind_synonym}
-use Rattle.ps_names.proofs.MeaningLaws.{synonym-step}
+use Rattle.ps_names.proofs.standing.MeaningLaws.{synonym-step}
 use Rattle.ps_names.proofs.meanings.meaning_behind.Goals as goal
 
 pub returns-in_default : goal.returns-in_default

@@ -3,7 +3,7 @@ use Rattle.ps_model.specs.names.Meanings.{LegendName, OfLine, meaning_behind}
 use Rattle.ps_names.specs.Known.{mention_shown}
 use Rattle.ps_names.specs.LegendNames.{legend_shown}
 use Rattle.ps_names.specs.MeaningSteps.{behind_synonym}
-use Rattle.ps_names.proofs.MeaningLaws.{no-synonym}
+use Rattle.ps_names.proofs.standing.MeaningLaws.{no-synonym}
 use Rattle.ps_names.proofs.meanings.meaning_of_mention.Goals as goal
 
 pub returns : goal.returns

@@ -2,7 +2,7 @@ use Rattle.std.proofs.Common.{rules, ◌∙◌, ap, sym, []}
 use Rattle.ps_names.specs.Known.{mentions_shown}
 use Rattle.ps_names.specs.LegendNames.{name_shown, legend_shown}
 use Rattle.ps_names.specs.Flattened.{merged, all_spoken, spoken_by, IsFlat}
-use Rattle.ps_names.proofs.FlattenLaws.{objects-flat}
+use Rattle.ps_names.proofs.mentions.FlattenLaws.{objects-flat}
 use Rattle.ps_names.proofs.meanings.objects_by.Goals as goal
 
 pub returns : goal.returns

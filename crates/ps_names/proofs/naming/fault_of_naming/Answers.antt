@@ -6,8 +6,8 @@ use Rattle.ps_model.specs.names.Meanings.{LegendName}
 use Rattle.ps_names.specs.declared.legend_names.LegendName as code
 use Rattle.ps_names.specs.LegendNames.{name_shown, legend_shown}
 use Rattle.ps_names.specs.MeaningSteps.{meanings_shown, faults_at}
-use Rattle.ps_names.proofs.Elements.{element-first}
-use Rattle.ps_names.proofs.FirstFaults.{first-here}
+use Rattle.ps_names.proofs.common.Elements.{element-first}
+use Rattle.ps_names.proofs.common.FirstFaults.{first-here}
 use Rattle.ps_names.proofs.naming.fault_of_naming.Goals as goal
 
 pub returns-then-is_some : goal.returns-then-is_some

@@ -4,8 +4,8 @@ use Rattle.ps_model.specs.text.Faults.{first_fault}
 use Rattle.ps_names.specs.Known.{keys}
 use Rattle.ps_names.specs.LinesShown.{object_shown, objects_shown}
 use Rattle.ps_names.specs.declared.objects.ObjectText.{ObjectText}
-use Rattle.ps_names.proofs.Elements.{element-first}
-use Rattle.ps_names.proofs.FirstFaults.{first-here}
+use Rattle.ps_names.proofs.common.Elements.{element-first}
+use Rattle.ps_names.proofs.common.FirstFaults.{first-here}
 use Rattle.ps_names.proofs.object_faults.fault_of_objects.Goals as goal
 
 pub returns-then-is_some-clause-fault : goal.returns-then-is_some-clause-fault

@@ -3,7 +3,7 @@ use Rattle.std.proofs.lemmas.List.{drop-drop}
 use Rattle.ps_model.specs.names.ObjectLines.{objects_below}
 use Rattle.ps_names.specs.LinesThere.{lines_at}
 use Rattle.ps_names.specs.LinesShown.{objects_shown}
-use Rattle.ps_names.proofs.Elements.{rest-of}
+use Rattle.ps_names.proofs.common.Elements.{rest-of}
 use Rattle.ps_names.proofs.objects.object_texts.Goals as goal
 
 pub loop-at-preserved : goal.loop-at-preserved

@@ -1,7 +1,7 @@
 use Rattle.std.proofs.Common.{◌≡◌, ◌<◌, ◌+◌, ◌∙◌, sym, refl, rules, arith, true, false, get_or}
 use Rattle.ps_model.specs.text.LineNumbers.{line_at}
 use Rattle.ps_model.specs.names.ObjectLines.{is_sprite_row}
-use Rattle.ps_names.proofs.ObjectSteps.{row-step, row-stop}
+use Rattle.ps_names.proofs.written.ObjectSteps.{row-step, row-stop}
 use Rattle.ps_names.proofs.objects.sprite_rows.Goals as goal
 
 pub returns-then-not-branch-clause-rows : goal.returns-then-not-branch-clause-rows

@@ -1,5 +1,5 @@
 use Rattle.ps_names.specs.LegendNames.{legend_shown}
-use Rattle.ps_names.proofs.LevelLaws.{flat-fall}
+use Rattle.ps_names.proofs.mentions.LevelLaws.{flat-fall}
 use Rattle.ps_names.proofs.order.fallen.Goals as goal
 
 pub returns : goal.returns

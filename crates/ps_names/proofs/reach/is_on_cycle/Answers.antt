@@ -5,9 +5,9 @@ use Rattle.ps_model.specs.names.Meanings.{LegendName, OfLine, all_mentioned, sam
 use Rattle.ps_names.specs.declared.mention.Mention.{Mention as Waits}
 use Rattle.ps_names.specs.Known.{mentions_shown}
 use Rattle.ps_names.specs.LegendNames.{Reached, name_shown, legend_shown, reached_shown}
-use Rattle.ps_names.proofs.ReachLaw.{all_reached, line-reached, reached-shown}
+use Rattle.ps_names.proofs.mentions.ReachLaw.{all_reached, line-reached, reached-shown}
 use Rattle.ps_names.specs.Levels.{are_below, level}
-use Rattle.ps_names.proofs.LevelLaws.{no-cycle}
+use Rattle.ps_names.proofs.mentions.LevelLaws.{no-cycle}
 use Rattle.ps_names.proofs.reach.is_on_cycle.Goals as goal
 
 pub returns : goal.returns

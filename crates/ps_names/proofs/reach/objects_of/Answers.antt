@@ -3,7 +3,7 @@ use Rattle.ps_model.specs.names.Meanings.{LegendName, all_mentioned, object_of}
 use Rattle.ps_names.specs.declared.mention.Mention.{Mention as Waits}
 use Rattle.ps_names.specs.Known.{mentions_shown}
 use Rattle.ps_names.specs.LegendNames.{Reached, legend_shown, reached_shown}
-use Rattle.ps_names.proofs.ReachLaw.{all_reached, objects-reached, reached-shown}
+use Rattle.ps_names.proofs.mentions.ReachLaw.{all_reached, objects-reached, reached-shown}
 use Rattle.ps_names.proofs.reach.objects_of.Goals as goal
 
 pub returns : goal.returns

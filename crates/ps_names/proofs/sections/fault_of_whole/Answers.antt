@@ -9,7 +9,7 @@ use Rattle.ps_names.specs.LinesShown.{objects_shown}
 use Rattle.ps_names.specs.MeaningSteps.{meanings_shown}
 use Rattle.ps_names.specs.Tables.{entries_with}
 use Rattle.ps_names.specs.Wholes.{no_layers, missing, faults_of_lines, lines_of_name, shared_layers}
-use Rattle.ps_names.proofs.SectionLaws.{first-of-five}
+use Rattle.ps_names.proofs.wholes.SectionLaws.{first-of-five}
 use Rattle.ps_names.proofs.sections.fault_of_whole.Goals as goal
 
 pub returns : goal.returns

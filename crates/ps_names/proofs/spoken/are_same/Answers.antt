@@ -1,5 +1,5 @@
 use Rattle.std.proofs.Common.{◌∙◌, sym}
-use Rattle.ps_names.proofs.MergedLaws.{equal-lists, same-one}
+use Rattle.ps_names.proofs.mentions.MergedLaws.{equal-lists, same-one}
 use Rattle.ps_names.proofs.spoken.are_same.Goals as goal
 
 pub returns : goal.returns

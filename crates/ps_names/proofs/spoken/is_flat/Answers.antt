@@ -3,8 +3,8 @@ use Rattle.ps_model.specs.names.Meanings.{OfLine, mentions_of}
 use Rattle.ps_names.specs.Known.{mentions_shown}
 use Rattle.ps_names.specs.LegendNames.{legend_shown}
 use Rattle.ps_names.specs.Flattened.{IsFlatAt}
-use Rattle.ps_names.proofs.LevelLaws.{one-more}
-use Rattle.ps_names.proofs.FlattenLaws.{flat-here, flat-past}
+use Rattle.ps_names.proofs.mentions.LevelLaws.{one-more}
+use Rattle.ps_names.proofs.mentions.FlattenLaws.{flat-here, flat-past}
 use Rattle.ps_names.proofs.spoken.is_flat.Goals as goal
 
 pub loop-place-preserved : goal.loop-place-preserved

@@ -1,5 +1,5 @@
 use Rattle.std.proofs.Common.{◌∙◌, refl}
-use Rattle.ps_names.proofs.FlattenLaws.{merge-step}
+use Rattle.ps_names.proofs.mentions.FlattenLaws.{merge-step}
 use Rattle.ps_names.proofs.spoken.objects_merged.Goals as goal
 
 pub loop-mention-preserved : goal.loop-mention-preserved

@@ -5,8 +5,8 @@ use Rattle.ps_model.specs.text.Lines.{folded}
 use Rattle.ps_names.specs.declared.legend_names.LegendName as code
 use Rattle.ps_names.specs.LegendNames.{legend_shown, name_shown}
 use Rattle.ps_names.specs.Wholes.{faults_of_lines, lines_of_name}
-use Rattle.ps_names.proofs.Elements.{element-first}
-use Rattle.ps_names.proofs.WholeSteps.{name-hit, name-miss}
+use Rattle.ps_names.proofs.common.Elements.{element-first}
+use Rattle.ps_names.proofs.wholes.WholeSteps.{name-hit, name-miss}
 use Rattle.ps_names.proofs.whole.fault_at_name.Goals as goal
 
 pub returns-then-folds_to : goal.returns-then-folds_to

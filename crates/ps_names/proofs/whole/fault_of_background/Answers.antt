@@ -7,7 +7,7 @@ use Rattle.ps_model.specs.names.NameFaults.{is_bad_background}
 use Rattle.ps_names.specs.LegendNames.{legend_shown}
 use Rattle.ps_names.specs.Tables.{entries_with}
 use Rattle.ps_names.specs.Wholes.{lines_of_name}
-use Rattle.ps_names.proofs.WholeSteps.{nothing-bad}
+use Rattle.ps_names.proofs.wholes.WholeSteps.{nothing-bad}
 use Rattle.ps_names.proofs.whole.fault_of_background.Goals as goal
 
 pub returns-then-not-is_bad_background : goal.returns-then-not-is_bad_background

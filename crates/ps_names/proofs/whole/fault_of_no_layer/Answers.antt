@@ -6,7 +6,7 @@ use Rattle.ps_model.specs.names.ObjectLines.{ObjectText}
 use Rattle.ps_model.specs.text.Faults.{first_fault}
 use Rattle.ps_names.specs.LinesShown.{objects_shown, object_shown}
 use Rattle.ps_names.specs.Wholes.{no_layers}
-use Rattle.ps_names.proofs.WholeSteps.{no-layer-step}
+use Rattle.ps_names.proofs.wholes.WholeSteps.{no-layer-step}
 use Rattle.ps_names.proofs.whole.fault_of_no_layer.Goals as goal
 
 pub loop-number-preserved : goal.loop-number-preserved

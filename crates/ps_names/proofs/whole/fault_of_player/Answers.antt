@@ -7,7 +7,7 @@ use Rattle.ps_model.specs.names.Meanings.{is_aggregate}
 use Rattle.ps_names.specs.LegendNames.{legend_shown}
 use Rattle.ps_names.specs.Tables.{entries_with}
 use Rattle.ps_names.specs.Wholes.{lines_of_name}
-use Rattle.ps_names.proofs.WholeSteps.{nothing-bad}
+use Rattle.ps_names.proofs.wholes.WholeSteps.{nothing-bad}
 use Rattle.ps_names.proofs.whole.fault_of_player.Goals as goal
 
 pub returns-then-not-is_aggregate : goal.returns-then-not-is_aggregate

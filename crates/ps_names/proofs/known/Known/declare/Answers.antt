@@ -5,7 +5,7 @@ use Rattle.std.specs.List.{list_any}
 use Rattle.std.specs.Map.{lookup}
 use Rattle.ps_model.specs.text.Lines.{folded}
 use Rattle.ps_names.specs.Known.{Named, keys}
-use Rattle.ps_names.proofs.KnownEntries.{is_some-lookup-shown, insert-named}
+use Rattle.ps_names.proofs.tables.KnownEntries.{is_some-lookup-shown, insert-named}
 use Rattle.ps_names.proofs.known.Known.declare.Goals as goal
 
 pub returns-then-contains_key-clause-again : goal.returns-then-contains_key-clause-again

@@ -2,7 +2,7 @@ use Rattle.std.proofs.Common.{◌∙◌, ap, option_map, List}
 use Rattle.std.specs.Str.{bytes_eq}
 use Rattle.std.specs.Map.{lookup}
 use Rattle.ps_names.specs.Known.{Named, mentions_of_names}
-use Rattle.ps_names.proofs.KnownEntries.{lookup-shown, entry_mention}
+use Rattle.ps_names.proofs.tables.KnownEntries.{lookup-shown, entry_mention}
 use Rattle.ps_names.proofs.known.Known.get.Goals as goal
 
 pub returns : goal.returns

@@ -4,7 +4,7 @@ use Rattle.std.specs.Str.{bytes_eq}
 use Rattle.std.specs.List.{list_any}
 use Rattle.std.proofs.lemmas.List.{length-map}
 use Rattle.ps_names.specs.Known.{Named, keys, named_shown}
-use Rattle.ps_names.proofs.KnownEntries.{before-shown, none-before, is_some-lookup-shown}
+use Rattle.ps_names.proofs.tables.KnownEntries.{before-shown, none-before, is_some-lookup-shown}
 use Rattle.ps_names.proofs.known.Known.place_or_len.Goals as goal
 
 pub returns : goal.returns

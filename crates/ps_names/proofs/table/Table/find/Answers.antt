@@ -8,7 +8,7 @@ use Rattle.ps_model.specs.text.Lines.{folded}
 use Rattle.ps_names.specs.Known.{Named}
 use Rattle.ps_names.specs.MeaningSteps.{meanings_shown}
 use Rattle.ps_names.specs.Tables.{entries_with}
-use Rattle.ps_names.proofs.TableSteps.{zip-left}
+use Rattle.ps_names.proofs.tables.TableSteps.{zip-left}
 use Rattle.ps_names.proofs.table.Table.find.Goals as goal
 
 pub returns : goal.returns

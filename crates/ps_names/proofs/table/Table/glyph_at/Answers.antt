@@ -7,7 +7,7 @@ use Rattle.ps_names.specs.declared.meaning.Meaning as code
 use Rattle.ps_names.specs.Known.{Named}
 use Rattle.ps_names.specs.MeaningSteps.{meanings_shown}
 use Rattle.ps_names.specs.Tables.{known_name_shown, glyph_named}
-use Rattle.ps_names.proofs.TableSteps.{no-glyph, glyph-here}
+use Rattle.ps_names.proofs.tables.TableSteps.{no-glyph, glyph-here}
 use Rattle.ps_names.proofs.table.Table.glyph_at.Goals as goal
 
 pub returns-in_default : goal.returns-in_default

@@ -8,7 +8,7 @@ use Rattle.ps_names.specs.Known.{Named}
 use Rattle.ps_names.specs.GlyphsShown.{glyphs_shown}
 use Rattle.ps_names.specs.MeaningSteps.{meanings_shown}
 use Rattle.ps_names.specs.Tables.{glyph_named}
-use Rattle.ps_names.proofs.TableSteps.{zip-left}
+use Rattle.ps_names.proofs.tables.TableSteps.{zip-left}
 use Rattle.ps_names.proofs.table.Table.glyphs.Goals as goal
 
 pub returns : goal.returns

@@ -11,7 +11,7 @@ use Rattle.ps_model.specs.text.Lines.{folded}
 use Rattle.ps_names.specs.Known.{Named}
 use Rattle.ps_names.specs.MeaningSteps.{meanings_shown}
 use Rattle.ps_names.specs.Tables.{known_name_shown, entries_with}
-use Rattle.ps_names.proofs.TableSteps.{table-end, zip-left, other-name, name-here}
+use Rattle.ps_names.proofs.tables.TableSteps.{table-end, zip-left, other-name, name-here}
 use Rattle.ps_names.proofs.table.Table.meaning_if.Goals as goal
 
 pub returns-in_default : goal.returns-in_default

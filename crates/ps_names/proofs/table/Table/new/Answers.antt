@@ -5,7 +5,7 @@ use Rattle.std.proofs.lemmas.List.{map-append}
 use Rattle.ps_model.specs.names.Names.{Meaning}
 use Rattle.ps_names.specs.MeaningSteps.{meaning_shown_if, meanings_shown}
 use Rattle.ps_names.specs.Tables.{known_name_shown, meaning_with}
-use Rattle.ps_names.proofs.TableSteps.{made-step, zip-map, done}
+use Rattle.ps_names.proofs.tables.TableSteps.{made-step, zip-map, done}
 use Rattle.ps_names.proofs.table.Table.new.Goals as goal
 
 pub loop-place-preserved : goal.loop-place-preserved

@@ -4,7 +4,7 @@ use Rattle.std.specs.Str.{bytes_eq}
 use Rattle.ps_model.specs.text.Lines.{folded}
 use Rattle.ps_names.specs.Known.{keys}
 use Rattle.ps_names.specs.MeaningSteps.{meanings_shown}
-use Rattle.ps_names.proofs.TableSteps.{names-before}
+use Rattle.ps_names.proofs.tables.TableSteps.{names-before}
 use Rattle.ps_names.proofs.table.Table.start_for.Goals as goal
 
 pub returns : goal.returns

@@ -16,7 +16,7 @@ use Rattle.ps_model.specs.names.LegendLines.{Declaration, declarations}
 use Rattle.ps_model.specs.names.Meanings.{LegendName, Mention, OfLine, legend_meanings, legend_name, known_names, object_mention, line_mention, meaning_behind}
 use Rattle.ps_model.specs.names.NamesRead.{Declared, object_declared, legend_declared, all_declared}
 use Rattle.ps_names.specs.Sections.{legend_of}
-use Rattle.ps_names.proofs.Facts.{IsObject, IsMention, IsName, IsBelowIf, behind-below}
+use Rattle.ps_names.proofs.bounds.Facts.{IsObject, IsMention, IsName, IsBelowIf, behind-below}
 
 -- a name of an object that is declared
 abbrev Named : ℕ → List ℕ × ObjectId → Type 0

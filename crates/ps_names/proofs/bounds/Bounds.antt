@@ -14,7 +14,7 @@ use Rattle.ps_model.specs.names.ObjectLines.{ObjectText, one_character}
 use Rattle.ps_model.specs.names.LayerLines.{Layer, objects_named, last_among, layers_found}
 use Rattle.ps_model.specs.names.NamesRead.{Declared, entry_of, entries_of, glyph_of, glyph_with, layer_numbers, names_of, sections_of}
 use Rattle.ps_names.specs.Wholes.{no_layers}
-use Rattle.ps_names.proofs.FactsOfNames.{Speaks, all-speak}
+use Rattle.ps_names.proofs.bounds.FactsOfNames.{Speaks, all-speak}
 
 abbrev Lower : ℕ → ℕ → Type 0
 Lower n k = k < n

@@ -6,7 +6,7 @@ use Rattle.std.proofs.lemmas.Bool.Decides.{nat_tests}
 use Rattle.ps_model.specs.declared.pieces.ObjectId.{ObjectId}
 use Rattle.ps_model.specs.names.Names.{is_among, same_object}
 use Rattle.ps_names.specs.Flattened.{merged}
-use Rattle.ps_names.proofs.LevelLaws.{first, second}
+use Rattle.ps_names.proofs.mentions.LevelLaws.{first, second}
 
 module _ (known : List ObjectId) (object : ObjectId) (others : List ObjectId) where
   pub merged-old : is_among known object ≡ true → merged known (object ∷ others) ≡ merged known others

@@ -1,7 +1,7 @@
 -- One name of the table more.
 use Rattle.std.proofs.Common.{◌≡◌, ℕ, zero, suc, ◌<◌, ◌≤◌, true, false, List, [], ◌∷◌, ◌++◌, length, drop, map, Option, None, Some, refl, ap, sym, ◌∙◌, arith, append_assoc}
 use Rattle.std.proofs.lemmas.List.{append-nil}
-use Rattle.ps_names.proofs.Elements.{drop-got, past-end}
+use Rattle.ps_names.proofs.common.Elements.{drop-got, past-end}
 use Rattle.std.specs.Prelude.{slice_get, slice_index_or, is_some, unwrap_or}
 use Rattle.std.specs.Option.{option_or}
 use Rattle.std.proofs.lemmas.Option.{unwrap_or-slice_get}

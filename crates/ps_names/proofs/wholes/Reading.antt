@@ -15,7 +15,7 @@ use Rattle.ps_model.specs.names.NameFaults.{faults_of_sections}
 use Rattle.ps_names.specs.Known.{Named}
 use Rattle.ps_names.specs.Tables.{entries_with, with_meanings, glyph_named}
 use Rattle.ps_names.specs.Sections.{known_of, legend_of, declaring_faults, faults_of_whole}
-use Rattle.ps_names.proofs.TableLaw.{entries-shown, glyphs-named}
+use Rattle.ps_names.proofs.tables.TableLaw.{entries-shown, glyphs-named}
 
 length-from : {A : Type 0} (number : ℕ) (xs : List A) → length (enumerate_from number xs) ≡ length xs
 length-from number [] = refl

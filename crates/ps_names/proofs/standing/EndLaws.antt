@@ -11,7 +11,7 @@ use Rattle.ps_names.specs.declared.ends.End.{End}
 use Rattle.ps_names.specs.declared.ends.End.TheVariants.{Unknown}
 use Rattle.ps_names.specs.MeaningSteps.{behind_synonym}
 use Rattle.ps_names.specs.Ends.{StandsBehind, StandsForNothing, IsEnd, AreEnds}
-use Rattle.ps_names.proofs.MeaningLaws.{synonym-step}
+use Rattle.ps_names.proofs.standing.MeaningLaws.{synonym-step}
 
 module _ (legend : List LegendName) where
   -- nothing is behind no synonym

@@ -11,7 +11,7 @@ use Rattle.ps_names.specs.declared.legend_names.LegendName as code
 use Rattle.ps_names.specs.Known.{mentions_shown}
 use Rattle.ps_names.specs.LegendNames.{name_shown, legend_shown}
 use Rattle.ps_names.specs.Levels.{level, is_below, are_below, Fall}
-use Rattle.ps_names.proofs.ReachLaw.{list-old, list-new}
+use Rattle.ps_names.proofs.mentions.ReachLaw.{list-old, list-new}
 
 pub both : (a b : Bool) → a ≡ true → b ≡ true → (a && b) ≡ true
 both true b e f = f

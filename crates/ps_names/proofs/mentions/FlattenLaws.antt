@@ -16,11 +16,11 @@ use Rattle.ps_names.specs.LegendNames.{legend_shown}
 use Rattle.std.proofs.lemmas.Option.{slice_get_past}
 use Rattle.ps_names.specs.declared.mention.Mention.{Mention as Waits}
 use Rattle.ps_names.specs.Known.{mention_shown, mentions_shown}
-use Rattle.ps_names.proofs.Elements.{element-first}
+use Rattle.ps_names.proofs.common.Elements.{element-first}
 use Rattle.ps_names.specs.Levels.{level, is_below, are_below}
-use Rattle.ps_names.proofs.LevelLaws.{first, second, raise-each, mentions-at}
-use Rattle.ps_names.proofs.ReachLaw.{list-old, list-new, any-more, or_one, or_true}
-use Rattle.ps_names.proofs.MergedLaws.{merged-old, merged-new, Within, among-left, among-right, among-cases, among-one, among-self, merged-within, absorbed, merged-append, merged-twice}
+use Rattle.ps_names.proofs.mentions.LevelLaws.{first, second, raise-each, mentions-at}
+use Rattle.ps_names.proofs.mentions.ReachLaw.{list-old, list-new, any-more, or_one, or_true}
+use Rattle.ps_names.proofs.mentions.MergedLaws.{merged-old, merged-new, Within, among-left, among-right, among-cases, among-one, among-self, merged-within, absorbed, merged-append, merged-twice}
 
 abbrev has : ℕ → List Mention → Bool
 has place listed = list_any (same_mention (OfLine place)) listed

@@ -1,0 +1,5 @@
+-- Lists of elements and of faults, and characters.
+pub mod Elements
+pub mod MappedTests
+pub mod FirstFaults
+pub mod Characters

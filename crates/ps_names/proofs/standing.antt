@@ -1,0 +1,3 @@
+-- What names stand for, behind synonyms.
+pub mod MeaningLaws
+pub mod EndLaws
