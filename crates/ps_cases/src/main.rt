@@ -1,10 +1,6 @@
-//! Reads small games and says of each that it is accepted, or which fault it has. The names of the games come on standard input, a
-//! line each; the text of NAME is the file NAME.game where the program runs.
-//!
-//! The games of `data/` are random ones (`play-*`, `fault-*`) and such with odd lines put in (`odd-*`), on which two programs that
-//! know nothing of this code agreed, and the examples of docs/LANGUAGE.md (`language-*`). Beside a game stand the fault that it has,
-//! or keys and what must be written when it is played with them. `tools/tests_from_games` takes in others, and writes the files `stdin`
-//! and `stdout`.
+//! Reads small games and says of each that it is accepted, or which fault it has. The names of the games come on standard
+//! input, a line each, as `odd/play-001`; the text of NAME is the file NAME.game, from where the program runs. What the
+//! games of `data/` are, and who says what each must do, stands in `data/README.md`.
 #![tactic(auto)]
 
 #[cfg(test)]

@@ -1,20 +1,19 @@
 //! Texts that are made here: those that are cut off, the longest ones, and long chains of names.
 
 use crate::verdict::{Verdict, judge};
-use ps_game::{Fault, FaultKind};
+use ps_model::{Fault, FaultKind, TEXT_LIMIT};
 use std::alloc::{AllocError, Global};
 use std::test::Fail;
 
 /// A small game, up to the names of its legend.
 const OBJECTS: &str =
-    "title T\nOBJECTS\nBackground .\ngreen\nWall #\nbrown\nPlayer P\nwhite\nCrate *\norange\nTarget O\nblue\nA\nred\nB\npink\nC\ngray\nD\nblack\nLEGEND\n";
+    "title T\nOBJECTS\nBackground .\ngreen\nWall #\nbrown\nPlayer P\nwhite\nCrate *\norange\n\
+    Target O\nblue\nA\nred\nB\npink\nC\ngray\nD\nblack\nLEGEND\n";
 
 /// Its layers, a rule that pushes, a win condition and a level of one row.
-const REST: &str =
-    "COLLISIONLAYERS\nBackground\nTarget\nPlayer, Wall, Crate\nA B C D\nRULES\n[ > Player | Crate ] -> [ > Player | > Crate ]\nWINCONDITIONS\nAll Target on Crate\nLEVELS\n#P*O#\n";
-
-/// How many bytes a text may have.
-const MOST_BYTES: usize = 1048576;
+const REST: &str = "COLLISIONLAYERS\nBackground\nTarget\nPlayer, Wall, Crate\nA B C D\nRULES\n\
+    [ > Player | Crate ] -> [ > Player | > Crate ]\nWINCONDITIONS\nAll Target on Crate\nLEVELS\n\
+    #P*O#\n";
 
 fn refused(kind: FaultKind, line: u32) -> Verdict {
     Verdict::Refused(Fault { kind, line })
@@ -52,7 +51,7 @@ fn reads_a_text_cut_behind_each_byte(rt: HostRuntime) -> Result<(), Fail> {
 
 #[test]
 fn refuses_a_text_by_its_length(rt: HostRuntime) -> Result<(), Fail> {
-    let mut text = Vec::from_elem(rt.alloc(), b'(', MOST_BYTES)?;
+    let mut text = Vec::from_elem(rt.alloc(), b'(', TEXT_LIMIT)?;
     assert_eq!(rt;
         judge(rt.alloc(), &text),
         Ok(refused(FaultKind::NoSection, 1))

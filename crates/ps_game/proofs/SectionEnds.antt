@@ -1,9 +1,11 @@
 -- Where sections end, a line further.
-use Rattle.std.proofs.Common.{◌≡◌, ℕ, suc, ◌+◌, ◌-◌, ◌<◌, ◌≤◌, ◌⊎◌, inl, inr, true, false, List, [], ◌∷◌, length, get_or, ap, ◌∙◌, arith}
+use Rattle.std.proofs.Common.{◌≡◌, ℕ, suc, ◌+◌, ◌-◌, ◌<◌, ◌≤◌, ◌⊎◌, inl, inr, true, false, List, [], ◌∷◌, length, get_or, refl, ap, ◌∙◌, arith}
 use Rattle.std.specs.Prelude.{nat_lt}
 use Rattle.std.specs.List.{prefix_len}
 use Rattle.std.proofs.lemmas.Bool.Decides.{nat_tests}
 use Rattle.std.proofs.lemmas.List.Sums.{prefix_len_passes, prefix_len_stops, prefix_len-le-length}
+use Rattle.ps_model.specs.declared.texts.Section.{Section}
+use Rattle.ps_model.specs.declared.texts.Section.TheVariants.{Prelude, Objects, Legend, Sounds, Layers, Rules, Wins, Levels}
 use Rattle.ps_model.specs.text.Lines.{Line, lines_of}
 use Rattle.ps_model.specs.text.LineNumbers.{no_line, line_at}
 use Rattle.ps_model.specs.text.Sections.{rank}
@@ -59,3 +61,21 @@ here_ends text line place one low h =
 
 pub boundary_within : (text : List ℕ) (place : ℕ) → boundary text place ≤ length (lines_of text) + 1
 boundary_within text place = omega (arith, prefix_len-le-length (stands_above place) (lines_of text))
+
+before_end : (section : Section) → nat_lt (rank section) (suc (rank Levels)) ≡ true
+before_end Prelude = refl
+before_end Objects = refl
+before_end Legend = refl
+before_end Sounds = refl
+before_end Layers = refl
+before_end Rules = refl
+before_end Wins = refl
+before_end Levels = refl
+
+all_before_end : (lines : List Line) → prefix_len (stands_above (suc (rank Levels))) lines ≡ length lines
+all_before_end [] = refl
+all_before_end (x ∷ xs) = rw (before_end x.section) (omega (arith, all_before_end xs))
+
+-- the last section ends behind the last line
+pub boundary_end : (text : List ℕ) → boundary text (suc (rank Levels)) ≡ length (lines_of text) + 1
+boundary_end text = omega (arith, all_before_end (lines_of text))

@@ -29,12 +29,12 @@ faults_left text e =
 
 -- the three sections that no game lacks
 pub record AreEnds (text : List ℕ) (objects legend layers rules levels end : ℕ) : Type 0 where
-  pub objects_begin : objects ≡ boundary text 1
-  pub objects_end : legend ≡ boundary text 2
-  pub layers_begin : layers ≡ boundary text 4
-  pub layers_end : rules ≡ boundary text 5
-  pub levels_begin : levels ≡ boundary text 7
-  pub levels_end : end ≡ boundary text 8
+  pub objects_begin : objects ≡ boundary text (rank Objects)
+  pub objects_end : legend ≡ boundary text (suc (rank Objects))
+  pub layers_begin : layers ≡ boundary text (rank Layers)
+  pub layers_end : rules ≡ boundary text (suc (rank Layers))
+  pub levels_begin : levels ≡ boundary text (rank Levels)
+  pub levels_end : end ≡ boundary text (suc (rank Levels))
 
 missing_is : (text : List ℕ) (objects legend layers rules levels end : ℕ) → headings_told 0 (lines_of text) ≡ None → AreEnds text objects legend layers rules levels end →
     is_without_section (header_lines (lines_of text)) ≡ not (nat_lt objects legend && (nat_lt layers rules && (nat_lt levels end && true)))
@@ -71,14 +71,14 @@ less_is a b h = grind (arith, nat_tests)
 
 pub is_prelude : (text : List ℕ) (end : ℕ) → headings_told 0 (lines_of text) ≡ None → end ≡ boundary text 1 → end ≤ length (lines_of text) + 1 → IsSection text Prelude 1 end
 is_prelude text end o e within = record {
-  stretch = record { from_one = omega arith; ordered = omega (arith, e); there = within };
+  stretch = (omega arith, (omega (arith, e), within));
   same = prelude_told text end o e;
 }
 
 pub is_section : (text : List ℕ) (section : Section) (header end start stop : ℕ) → 0 < rank section → headings_told 0 (lines_of text) ≡ None → header ≡ boundary text (rank section) → end ≡ boundary text (suc (rank section)) →
     start ≡ (if nat_lt header end then header + 1 else header) → stop ≡ end → start ≤ end → header ≤ start → end ≤ length (lines_of text) + 1 → IsSection text section start stop
 is_section text section header end start stop low o h e s t ordered behind within = record {
-  stretch = record { from_one = omega (arith, h); ordered = omega arith; there = omega arith };
+  stretch = (omega (arith, h), (omega arith, omega arith));
   same = rw t (section_told text section header end start low o h e s);
 }
 

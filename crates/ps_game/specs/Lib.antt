@@ -1,4 +1,5 @@
 pub mod Counted
+pub mod Finds
 pub mod Headings
 pub mod ItemWays
 pub mod Pairing

@@ -4,7 +4,7 @@ use Rattle.std.specs.List.{prefix_len}
 use Rattle.ps_model.specs.declared.texts.Section.{Section}
 use Rattle.ps_model.specs.declared.texts.Section.TheVariants.{Prelude, Objects, Legend, Layers, Rules, Wins, Levels}
 use Rattle.ps_model.specs.text.Lines.{Line, lines_of}
-use Rattle.ps_model.specs.text.LineNumbers.{lines_between}
+use Rattle.ps_model.specs.text.LineNumbers.{HasLines, lines_between}
 use Rattle.ps_model.specs.text.Sections.{rank, section_lines, header_number, heading_faults}
 use Rattle.ps_game.specs.declared.sections.Sections.{Sections}
 
@@ -16,15 +16,9 @@ stands_above place line = nat_lt (rank line.section) place
 abbrev pub boundary : List ℕ → ℕ → ℕ
 boundary text place = 1 + prefix_len (stands_above place) (lines_of text)
 
--- the numbers are of lines of the text
-pub record IsStretch (text : List ℕ) (start end : ℕ) : Type 0 where
-  pub from_one : 1 ≤ start
-  pub ordered : start ≤ end
-  pub there : end ≤ length (lines_of text) + 1
-
 -- the lines of a section are those of the stretch
 pub record IsSection (text : List ℕ) (section : Section) (start end : ℕ) : Type 0 where
-  pub stretch : IsStretch text start end
+  pub stretch : HasLines text start end
   pub same : section_lines (lines_of text) section ≡ lines_between text start end
 
 -- the headers are well, and each section is told

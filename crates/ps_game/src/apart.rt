@@ -35,8 +35,8 @@ fn some_claims(names: &Names, chosen: &[ObjectId], claims: &[Claim], layer: u32)
     false
 }
 
-/// Whether a side claims no layer twice. There are no more than 32 layers, so that of any 33 claims two are on one layer: it ends after at
-/// most 33 passes over the claims.
+/// Whether a side claims no layer twice. There are no more than 32 layers, so that of any 33 claims two are on one
+/// layer: it ends after at most 33 passes over the claims.
 fn is_side_apart(names: &Names, chosen: &[ObjectId], claims: &[Claim]) -> bool
     ensures { result ≡ is_side_apart names.now chosen.now claims.now }
 {

@@ -52,8 +52,8 @@ fn choice_count(fixed: &[Fixed<'_>]) -> Option<usize>
     Some(count)
 }
 
-/// Makes a list the choice of a number: its digits, of which each occurrence has one, as many values as the property has members.
-/// The first occurrence's changes slowest.
+/// Makes a list the choice of a number: its digits, of which each occurrence has one, as many values as the property
+/// has members. The first occurrence's changes slowest.
 fn choose(
     chosen: &mut Vec<ObjectId>,
     fixed: &[Fixed<'_>],
@@ -83,7 +83,8 @@ pub fn has_apart_choice(
     fixed: &[Fixed<'_>],
     sides: &[List<Claim>],
 ) -> Result<bool, Memory>
-    ensures { IfOk result (λ yes. ways (member_lists (all_fixed_shown fixed.now)) ≤ RULE_READINGS_LIMIT → yes ≡ has_apart_choice names.now (all_fixed_shown fixed.now) sides.now) }
+    ensures { IfOk result (λ yes. ways (member_lists (all_fixed_shown fixed.now)) ≤ RULE_READINGS_LIMIT
+        → yes ≡ has_apart_choice names.now (all_fixed_shown fixed.now) sides.now) }
 {
     let Some(count) = choice_count(fixed) else {
         return Ok(true);

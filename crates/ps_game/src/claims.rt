@@ -4,7 +4,8 @@ ghost use Rattle.std.specs.Prelude.{◌≡◌, ◌++◌, IfOk, OnOk, map};
 ghost use Rattle.std.specs.List.{flat_map};
 ghost use Rattle.ps_names.specs.Shown.{meaning_shown};
 ghost use Rattle.ps_rules.specs.RulesShown.{item_shown, items_shown, cell_shown, cell_list_shown};
-ghost use Rattle.ps_game.specs.Possible.{all_fixed_shown, chosen_claims, loose_claims, layer_claims, name_claims, left_claims, right_claims, cell_sides, sides_of_cells};
+ghost use Rattle.ps_game.specs.Possible.{all_fixed_shown, chosen_claims, loose_claims, layer_claims, name_claims};
+ghost use Rattle.ps_game.specs.Possible.{left_claims, right_claims, cell_sides, sides_of_cells};
 
 use crate::fixed::{Fixed, place_of};
 use crate::layers::layer_at;
@@ -71,7 +72,8 @@ fn push_name(
     bound: Option<u32>,
     meaning: &Meaning,
 ) -> Result<(), Memory>
-    ensures { OnOk result (claims.new.items ≡ claims.old.items ++ name_claims names.now occurrences.now (all_fixed_shown fixed.now) bound (meaning_shown meaning.now)) }
+    ensures { OnOk result (claims.new.items ≡ claims.old.items
+        ++ name_claims names.now occurrences.now (all_fixed_shown fixed.now) bound (meaning_shown meaning.now)) }
 {
     match meaning {
         Meaning::One(object) => {
@@ -96,7 +98,8 @@ fn push_left(
     fixed: &[Fixed<'_>],
     item: &Item,
 ) -> Result<(), Memory>
-    ensures { OnOk result (claims.new.items ≡ claims.old.items ++ left_claims names.now occurrences.now (all_fixed_shown fixed.now) (item_shown item.now)) }
+    ensures { OnOk result (claims.new.items ≡ claims.old.items
+        ++ left_claims names.now occurrences.now (all_fixed_shown fixed.now) (item_shown item.now)) }
 {
     match item {
         Item::Is {
@@ -117,7 +120,9 @@ fn push_right(
     cell: &CellPair,
     item: &Item,
 ) -> Result<(), Memory>
-    ensures { OnOk result (claims.new.items ≡ claims.old.items ++ right_claims names.now occurrences.now (all_fixed_shown fixed.now) (cell_shown cell.now) (item_shown item.now)) }
+    ensures { OnOk result (claims.new.items ≡ claims.old.items
+        ++ right_claims names.now occurrences.now (all_fixed_shown fixed.now) (cell_shown cell.now)
+        (item_shown item.now)) }
 {
     let Item::Is {
         at: _,
@@ -139,7 +144,8 @@ fn left_side(
     fixed: &[Fixed<'_>],
     cell: &CellPair,
 ) -> Result<List<Claim>, Memory>
-    ensures { IfOk result (λ claims. claims ≡ flat_map (left_claims names.now occurrences.now (all_fixed_shown fixed.now)) (cell_shown cell.now).left) }
+    ensures { IfOk result (λ claims. claims
+        ≡ flat_map (left_claims names.now occurrences.now (all_fixed_shown fixed.now)) (cell_shown cell.now).left) }
 {
     let mut claims = Vec::new(alloc);
     for item in cell.left.as_slice() {
@@ -156,7 +162,9 @@ fn right_side(
     fixed: &[Fixed<'_>],
     cell: &CellPair,
 ) -> Result<List<Claim>, Memory>
-    ensures { IfOk result (λ claims. claims ≡ flat_map (right_claims names.now occurrences.now (all_fixed_shown fixed.now) (cell_shown cell.now)) (cell_shown cell.now).right) }
+    ensures { IfOk result (λ claims. claims
+        ≡ flat_map (right_claims names.now occurrences.now (all_fixed_shown fixed.now) (cell_shown cell.now))
+        (cell_shown cell.now).right) }
 {
     let mut claims = Vec::new(alloc);
     for item in cell.right.as_slice() {
@@ -174,7 +182,8 @@ fn push_sides(
     fixed: &[Fixed<'_>],
     cell: &CellPair,
 ) -> Result<(), Memory>
-    ensures { OnOk result (sides.new.items ≡ sides.old.items ++ cell_sides names.now occurrences.now (all_fixed_shown fixed.now) (cell_shown cell.now)) }
+    ensures { OnOk result (sides.new.items ≡ sides.old.items
+        ++ cell_sides names.now occurrences.now (all_fixed_shown fixed.now) (cell_shown cell.now)) }
 {
     let left = left_side(alloc, names, occurrences, fixed, cell)?;
     let right = right_side(alloc, names, occurrences, fixed, cell)?;
@@ -191,7 +200,8 @@ pub fn sides_of(
     fixed: &[Fixed<'_>],
     cells: &[&CellPair],
 ) -> Result<Vec<List<Claim>>, Memory>
-    ensures { IfOk result (λ sides. sides.items ≡ sides_of_cells names.now occurrences.now (all_fixed_shown fixed.now) (cell_list_shown cells.now)) }
+    ensures { IfOk result (λ sides. sides.items
+        ≡ sides_of_cells names.now occurrences.now (all_fixed_shown fixed.now) (cell_list_shown cells.now)) }
 {
     let mut sides = Vec::new(alloc);
     for cell in cells {

@@ -26,14 +26,15 @@ fn reading_count(alloc: Global, names: &Names, rule: &SourceRule) -> Result<u32,
     Ok(times(directions, left_ways(names, &occurrences)))
 }
 
-/// The fault of the first rule with more than 4,096 readings, or with which the readings of the rules down to it are more than
-/// 65,536; readings that are impossible count too.
+/// The fault of the first rule with more than 4,096 readings, or with which the readings of the rules down to it are
+/// more than 65,536; readings that are impossible count too.
 pub fn first_too_many(
     alloc: Global,
     names: &Names,
     rules: &RuleText,
 ) -> Result<Option<Fault>, Memory>
-    ensures { IfOk result (λ fault. fault ≡ first_fault (too_many_readings names.now 0 (filter_map rule_in rules.now))) }
+    ensures { IfOk result (λ fault. fault
+        ≡ first_fault (too_many_readings names.now 0 (filter_map rule_in rules.now))) }
 {
     let mut before = 0;
     for line in rules.lines() {

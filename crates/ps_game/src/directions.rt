@@ -6,7 +6,8 @@ ghost use Rattle.ps_model.specs.meaning.Directions.{turns_with_rule};
 ghost use Rattle.ps_model.specs.meaning.Occurrences.{cells_of as cells_of_rule};
 ghost use Rattle.ps_model.specs.meaning.Readings.{item_turns, is_steady, is_one_cell, directions_of};
 ghost use Rattle.ps_game.specs.Counted.{counted};
-ghost use Rattle.ps_rules.specs.RulesShown.{item_shown, items_shown, cell_shown, cell_list_shown, tree_row_shown, tree_rows_shown, rule_shown};
+ghost use Rattle.ps_rules.specs.RulesShown.{item_shown, items_shown, cell_shown, cell_list_shown};
+ghost use Rattle.ps_rules.specs.RulesShown.{tree_row_shown, tree_rows_shown, rule_shown};
 
 use crate::counted::counted;
 use ps_rules::{CellPair, Item, MovementWord, SourceRule};
@@ -117,8 +118,9 @@ fn have_one_cell(rows: &[List<List<CellPair>>]) -> bool
     true
 }
 
-/// In how many directions a rule with these cells is used: in those that it names, or in all four, where it names none. With rows
-/// of one cell only, and without a word that turns with the rule, it means the same in each, and is used in one.
+/// In how many directions a rule with these cells is used: in those that it names, or in all four, where it names none.
+/// With rows of one cell only, and without a word that turns with the rule, it means the same in each, and is used in
+/// one.
 pub fn direction_count(rule: &SourceRule, cells: &[&CellPair]) -> u32
     requires { cell_list_shown cells.now ≡ cells_of_rule (rule_shown rule.now) }
     ensures { result ≡ counted (length (directions_of (rule_shown rule.now))) }

@@ -4,7 +4,8 @@ ghost use Rattle.std.specs.Prelude.{◌≡◌, ◌++◌, IfOk, OnOk};
 ghost use Rattle.std.specs.List.{filter_map};
 ghost use Rattle.std.specs.Option.{option_to_list};
 ghost use Rattle.ps_rules.specs.RulesShown.{item_shown, items_shown, cell_shown, cell_list_shown};
-ghost use Rattle.ps_game.specs.Possible.{fixed_shown, all_fixed_shown, fixed_item, fixed_items, fixed_if, place_of, left_of_cells};
+ghost use Rattle.ps_game.specs.Possible.{fixed_shown, all_fixed_shown, fixed_item, fixed_items};
+ghost use Rattle.ps_game.specs.Possible.{fixed_if, place_of, left_of_cells};
 
 use ps_model::{Memory, ObjectId};
 use ps_names::{Meaning, Names};
@@ -51,7 +52,8 @@ fn push_fixed<'r>(
     occurrences: &Occurrences<'r>,
     items: &'r [Item],
 ) -> Result<(), Memory>
-    ensures { OnOk result (all_fixed_shown fixed.new.items ≡ all_fixed_shown fixed.old.items ++ filter_map (fixed_item names.now occurrences.now) (items_shown items.entry.now)) }
+    ensures { OnOk result (all_fixed_shown fixed.new.items ≡ all_fixed_shown fixed.old.items
+        ++ filter_map (fixed_item names.now occurrences.now) (items_shown items.entry.now)) }
 {
     for item in items {
         if let Some(one) = fixed_item(names, occurrences, item) {
@@ -68,7 +70,8 @@ fn fixed_of_cells<'r>(
     occurrences: &Occurrences<'r>,
     cells: &[&'r CellPair],
 ) -> Result<Vec<Fixed<'r>>, Memory>
-    ensures { IfOk result (λ fixed. all_fixed_shown fixed.items ≡ filter_map (fixed_item names.now occurrences.now) (left_of_cells (cell_list_shown cells.now))) }
+    ensures { IfOk result (λ fixed. all_fixed_shown fixed.items
+        ≡ filter_map (fixed_item names.now occurrences.now) (left_of_cells (cell_list_shown cells.now))) }
 {
     let mut fixed = Vec::new(alloc);
     for cell in cells {
@@ -89,8 +92,8 @@ pub fn fixed_of<'r>(
     Ok(fixed)
 }
 
-/// The place of the occurrence at that byte of the text, if it is one of a fixed property. It looks at each in turn: in a rule with
-/// few readings no more than twelve have a choice.
+/// The place of the occurrence at that byte of the text, if it is one of a fixed property. It looks at each in turn: in
+/// a rule with few readings no more than twelve have a choice.
 pub fn place_of(fixed: &[Fixed<'_>], at: u32) -> Option<usize>
     ensures { result ≡ place_of at (all_fixed_shown fixed.now) }
 {

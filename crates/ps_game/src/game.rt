@@ -7,6 +7,7 @@ ghost use Rattle.ps_model.specs.game.Games.{game, faults, game_of_lines, line_fa
 ghost use Rattle.ps_model.specs.text.Lines.{lines_of};
 ghost use Rattle.ps_model.specs.rules.ReadingFaults.{reading_faults};
 ghost use Rattle.ps_levels.specs.Sized.{IsSizedEntry};
+ghost use Rattle.ps_game.specs.Finds.{Finds};
 ghost use Rattle.ps_game.specs.SectionPlaces.{AreSections};
 
 use crate::counts::first_too_many;
@@ -43,14 +44,22 @@ impl Model for Game {
 
     ghost Value = { Meant };
 
-    ghost view = { λ g. record { title = g.title; options = g.options; names = g.names; rules = g.rules; entries = entries_shown g.entries.items; wins = wins_shown g.wins.items } };
+    ghost view = { λ g. record {
+      title = g.title;
+      options = g.options;
+      names = g.names;
+      rules = g.rules;
+      entries = entries_shown g.entries.items;
+      wins = wins_shown g.wins.items;
+    } };
 }
 
-/// Whether the readings of the rules are neither too many nor, of some rule, all impossible. `Refused` with the first fault of
-/// the readings, if they have one.
+/// Whether the readings of the rules are neither too many nor, of some rule, all impossible. `Refused` with the first
+/// fault of the readings, if they have one.
 fn check_readings(alloc: Global, names: &Names, rules: &RuleText) -> Result<(), Refusal>
     ensures fine { OnOk result (reading_faults names.now rules.now ≡ []) }
-    ensures refused { IfErr result (λ e. (fault : TheFault) → e ≡ Refusal.Refused fault → first_fault (reading_faults names.now rules.now) ≡ Some fault) }
+    ensures refused { IfErr result (λ e. (fault : TheFault) → e ≡ Refusal.Refused fault
+        → first_fault (reading_faults names.now rules.now) ≡ Some fault) }
 {
     if let Some(fault) = first_too_many(alloc, names, rules)? {
         return Err(Refusal::Refused(fault));
@@ -64,8 +73,7 @@ fn check_readings(alloc: Global, names: &Names, rules: &RuleText) -> Result<(), 
 /// The game of a text whose sections are told: each part is read in its turn, so that the first fault is met first.
 fn game_of_sections(alloc: Global, source: &Source, sections: &Sections) -> Result<Game, Refusal>
     requires { AreSections source.now sections.now }
-    ensures game { IfOk result (λ read. game_of_lines (lines_of source.now) ≡ Some read) }
-    ensures refused { IfErr result (λ e. (fault : TheFault) → e ≡ Refusal.Refused fault → first_fault (line_faults (lines_of source.now)) ≡ Some fault) }
+    ensures read { Finds result (game_of_lines (lines_of source.now)) (line_faults (lines_of source.now)) }
     ensures sized { IfOk result (λ read. All (IsSizedEntry read.names) read.entries) }
 {
     let names = names_of(alloc, source, sections)?;
@@ -87,12 +95,11 @@ fn game_of_sections(alloc: Global, source: &Source, sections: &Sections) -> Resu
 
 /// Reads the game of a text.
 ///
-/// `Refused` with the first fault of the text, in the order of refusals: that it is too long or not UTF-8; of its headers and its
-/// prelude; of its names; of its rules; of its levels; of its win conditions; of the readings of its rules. `Memory` if a growth was
-/// refused.
+/// `Refused` with the first fault of the text, in the order of refusals: that it is too long or not UTF-8; of its
+/// headers and its prelude; of its names; of its rules; of its levels; of its win conditions; of the readings of its
+/// rules. `Memory` if a growth was refused.
 pub fn read_game(alloc: Global, text: &[u8]) -> Result<Game, Refusal>
-    ensures game { IfOk result (λ read. game text.now ≡ Some read) }
-    ensures refused { IfErr result (λ e. (fault : TheFault) → e ≡ Refusal.Refused fault → first_fault (faults text.now) ≡ Some fault) }
+    ensures read { Finds result (game text.now) (faults text.now) }
     ensures sized { IfOk result (λ read. All (IsSizedEntry read.names) read.entries) }
 {
     let source = Source::read(alloc, text)?;

@@ -1,9 +1,9 @@
 //! Headers in order, and a prelude that asks for nothing that this profile leaves out.
 
-ghost use Rattle.std.specs.Prelude.{◌≡◌, ◌≤◌, ◌&&◌, length, IfOk, slice_index_or, [], map, codes};
+ghost use Rattle.std.specs.Prelude.{◌≡◌, nat_lt, IfOk, slice_index_or, [], map};
 ghost use Rattle.std.specs.Str.{bytes_eq};
-ghost use Rattle.ps_model.specs.text.Lines.{Line, lines_of, folded};
-ghost use Rattle.ps_model.specs.text.LineNumbers.{line_at};
+ghost use Rattle.ps_model.specs.text.Lines.{lines_of, folded};
+ghost use Rattle.ps_model.specs.text.LineNumbers.{HasLine, line_at};
 ghost use Rattle.ps_model.specs.text.Sections.{rank, is_real_time};
 ghost use Rattle.ps_model.specs.text.Preludes.{begins_with};
 ghost use Rattle.ps_text.specs.WordViews.{text_of};
@@ -14,9 +14,8 @@ use ps_text::{Source, Word, same_name, words};
 use std::alloc::Global;
 
 /// The place of a section among the sections.
-pub fn rank(section: Section) -> u32
-    ensures rank { result ≡ rank section }
-    ensures few { result ≤ 7 }
+fn rank(section: Section) -> u32
+    ensures { result ≡ rank section }
 {
     match section {
         Section::Prelude => 0,
@@ -28,6 +27,13 @@ pub fn rank(section: Section) -> u32
         Section::Wins => 6,
         Section::Levels => 7,
     }
+}
+
+/// Whether a section comes before another.
+pub fn comes_before(section: Section, other: Section) -> bool
+    ensures { result ≡ nat_lt (rank section) (rank other) }
+{
+    rank(section) < rank(other)
 }
 
 /// Whether the first of a line's words is this one, in either case.
@@ -42,8 +48,7 @@ fn is_first(words: &[Word<'_>], word: &str) -> bool
 
 /// Whether the line begins with the word, in either case. A blank line begins with none.
 pub fn begins_with(alloc: Global, source: &Source, line: u32, word: &str) -> Result<bool, Memory>
-    requires from_one { 1 ≤ line }
-    requires there { line ≤ length (lines_of source.now) }
+    requires { HasLine source.now line }
     ensures { IfOk result (λ told. told ≡ begins_with (folded word.now) (line_at source.now line)) }
 {
     let words = words(alloc, source, line, Cut::Blanks)?;
@@ -52,23 +57,21 @@ pub fn begins_with(alloc: Global, source: &Source, line: u32, word: &str) -> Res
 
 /// Whether the line stands in the prelude and asks for real time.
 fn asks_for_real_time(alloc: Global, source: &Source, line: u32) -> Result<bool, Memory>
-    requires from_one { 1 ≤ line }
-    requires there { line ≤ length (lines_of source.now) }
+    requires { HasLine source.now line }
     ensures { IfOk result (λ told. told ≡ is_real_time (line_at source.now line)) }
 {
-    if rank(source.section(line)) != 0 {
+    if comes_before(Section::Prelude, source.section(line)) {
         return Ok(false);
     }
     begins_with(alloc, source, line, "realtime_interval")
 }
 
-/// Whether the line is a header of a section that comes no later than the one at the place `above`.
-fn is_late_header(source: &Source, line: u32, above: u32) -> bool
-    requires from_one { 1 ≤ line }
-    requires there { line ≤ length (lines_of source.now) }
-    ensures { result ≡ is_late_header above (line_at source.now line) }
+/// Whether the line is a header of a section that comes no later than the one above.
+fn is_late_header(source: &Source, line: u32, above: Section) -> bool
+    requires { HasLine source.now line }
+    ensures { result ≡ is_late_header (rank above) (line_at source.now line) }
 {
-    source.is_header(line) && rank(source.section(line)) <= above
+    source.is_header(line) && rank(source.section(line)) <= rank(above)
 }
 
 /// The fault of a line that is a late header, or asks for real time.
@@ -90,46 +93,44 @@ fn fault_of(late: bool, real: bool, line: u32) -> Option<Fault>
     None
 }
 
-/// The first fault of a line, below headers of which the last one's section has the place `above`.
+/// The first fault of a line, below headers of which the last one's section is the one above.
 fn heading_fault(
     alloc: Global,
     source: &Source,
     line: u32,
-    above: u32,
+    above: Section,
 ) -> Result<Option<Fault>, Memory>
-    requires from_one { 1 ≤ line }
-    requires there { line ≤ length (lines_of source.now) }
-    ensures { IfOk result (λ fault. fault ≡ heading_fault above (line_at source.now line)) }
+    requires { HasLine source.now line }
+    ensures { IfOk result (λ fault. fault ≡ heading_fault (rank above) (line_at source.now line)) }
 {
     let late = is_late_header(source, line, above);
     let real = asks_for_real_time(alloc, source, line)?;
     Ok(fault_of(late, real, line))
 }
 
-/// The place of the last section above the line below.
-fn place_below(source: &Source, line: u32, above: u32) -> u32
-    requires from_one { 1 ≤ line }
-    requires there { line ≤ length (lines_of source.now) }
-    ensures { result ≡ place_below above (line_at source.now line) }
+/// The last section above the line below.
+fn section_below(source: &Source, line: u32, above: Section) -> Section
+    requires { HasLine source.now line }
+    ensures { rank result ≡ place_below (rank above) (line_at source.now line) }
 {
     if source.is_header(line) {
-        return rank(source.section(line));
+        return source.section(line);
     }
     above
 }
 
-/// The first fault of headers and prelude, line by line: a header that repeats or follows a later section's, or a line of the
-/// prelude that asks for real time.
+/// The first fault of headers and prelude, line by line: a header that repeats or follows a later section's, or a line
+/// of the prelude that asks for real time.
 pub fn first_heading_fault(alloc: Global, source: &Source) -> Result<Option<Fault>, Memory>
     ensures { IfOk result (λ fault. fault ≡ headings_told 0 (lines_of source.now)) }
 {
-    let mut above = 0;
+    let mut above = Section::Prelude;
     for line in 1..source.lines() + 1 {
         let fault = heading_fault(alloc, source, line, above)?;
         if fault.is_some() {
             return Ok(fault);
         }
-        above = place_below(source, line, above);
+        above = section_below(source, line, above);
     }
     Ok(None)
 }

@@ -83,7 +83,8 @@ fn member_ways(names: &Names, occurrences: &Occurrences<'_>, item: &Item) -> u32
 
 /// In how many ways the item can be read.
 fn ways_of_item(names: &Names, occurrences: &Occurrences<'_>, item: &Item) -> u32
-    ensures { result ≡ counted (move_ways (item_shown item.now) * member_ways names.now occurrences.now (item_shown item.now)) }
+    ensures { result
+        ≡ counted (move_ways (item_shown item.now) * member_ways names.now occurrences.now (item_shown item.now)) }
 {
     times(move_ways(item), member_ways(names, occurrences, item))
 }

@@ -1,9 +1,8 @@
 //! The parts of a game, each read from its sections.
 
-ghost use Rattle.std.specs.Prelude.{◌≡◌, IfOk, IfErr, OnOk, Some, All, []};
-ghost use Rattle.ps_model.specs.declared.faults.Fault.{Fault as TheFault};
+ghost use Rattle.std.specs.Prelude.{IfOk, All};
 ghost use Rattle.ps_model.specs.declared.texts.Section.TheVariants.{Objects, Legend, Layers, Rules, Wins, Levels};
-ghost use Rattle.ps_model.specs.text.Faults.{first_fault};
+ghost use Rattle.ps_model.specs.text.Reads.{Reads, ReadsAs};
 ghost use Rattle.ps_model.specs.text.Lines.{lines_of};
 ghost use Rattle.ps_model.specs.text.Sections.{section_lines, header_number};
 ghost use Rattle.ps_model.specs.names.NamesRead.{names_read};
@@ -29,9 +28,11 @@ use std::alloc::Global;
 /// The names of a text.
 pub fn names_of(alloc: Global, source: &Source, sections: &Sections) -> Result<Names, Refusal>
     requires { AreSections source.now sections.now }
-    ensures part { IfOk result (λ names. names ≡ names_read (section_lines (lines_of source.now) Objects) (section_lines (lines_of source.now) Legend) (section_lines (lines_of source.now) Layers)) }
-    ensures fine { OnOk result (name_faults (header_number (lines_of source.now) Objects) (section_lines (lines_of source.now) Objects) (section_lines (lines_of source.now) Legend) (section_lines (lines_of source.now) Layers) ≡ []) }
-    ensures refused { IfErr result (λ e. (fault : TheFault) → e ≡ Refusal.Refused fault → first_fault (name_faults (header_number (lines_of source.now) Objects) (section_lines (lines_of source.now) Objects) (section_lines (lines_of source.now) Legend) (section_lines (lines_of source.now) Layers)) ≡ Some fault) }
+    ensures { Reads result
+        (names_read (section_lines (lines_of source.now) Objects) (section_lines (lines_of source.now) Legend)
+        (section_lines (lines_of source.now) Layers))
+        (name_faults (header_number (lines_of source.now) Objects) (section_lines (lines_of source.now) Objects)
+        (section_lines (lines_of source.now) Legend) (section_lines (lines_of source.now) Layers)) }
 {
     let objects = sections.objects.start..sections.objects.end;
     let legend = sections.legend.start..sections.legend.end;
@@ -47,9 +48,9 @@ pub fn rules_of(
     names: &Names,
 ) -> Result<RuleText, Refusal>
     requires { AreSections source.now sections.now }
-    ensures part { IfOk result (λ rules. rules ≡ rules_read names.now (section_lines (lines_of source.now) Rules)) }
-    ensures fine { OnOk result (rule_faults names.now (section_lines (lines_of source.now) Rules) ≡ []) }
-    ensures refused { IfErr result (λ e. (fault : TheFault) → e ≡ Refusal.Refused fault → first_fault (rule_faults names.now (section_lines (lines_of source.now) Rules)) ≡ Some fault) }
+    ensures { Reads result
+        (rules_read names.now (section_lines (lines_of source.now) Rules))
+        (rule_faults names.now (section_lines (lines_of source.now) Rules)) }
 {
     let lines = sections.rules.start..sections.rules.end;
     read_rules(alloc, source, lines, names)
@@ -63,9 +64,10 @@ pub fn entries_of(
     names: &Names,
 ) -> Result<Vec<Entry>, Refusal>
     requires { AreSections source.now sections.now }
-    ensures part { IfOk result (λ entries. entries_shown entries.items ≡ entries_read names.now (section_lines (lines_of source.now) Levels)) }
-    ensures fine { OnOk result (level_faults names.now (header_number (lines_of source.now) Levels) (section_lines (lines_of source.now) Levels) ≡ []) }
-    ensures refused { IfErr result (λ e. (fault : TheFault) → e ≡ Refusal.Refused fault → first_fault (level_faults names.now (header_number (lines_of source.now) Levels) (section_lines (lines_of source.now) Levels)) ≡ Some fault) }
+    ensures read { ReadsAs (λ entries. entries_shown entries.items) result
+        (entries_read names.now (section_lines (lines_of source.now) Levels))
+        (level_faults names.now (header_number (lines_of source.now) Levels)
+        (section_lines (lines_of source.now) Levels)) }
     ensures sized { IfOk result (λ entries. All (IsSizedEntry names.now) (entries_shown entries.items)) }
 {
     // The count of objects tells the prover that the names are bounded.
@@ -82,9 +84,9 @@ pub fn wins_of(
     names: &Names,
 ) -> Result<Vec<Win>, Refusal>
     requires { AreSections source.now sections.now }
-    ensures part { IfOk result (λ wins. wins_shown wins.items ≡ wins_read names.now (section_lines (lines_of source.now) Wins)) }
-    ensures fine { OnOk result (win_faults names.now (section_lines (lines_of source.now) Wins) ≡ []) }
-    ensures refused { IfErr result (λ e. (fault : TheFault) → e ≡ Refusal.Refused fault → first_fault (win_faults names.now (section_lines (lines_of source.now) Wins)) ≡ Some fault) }
+    ensures { ReadsAs (λ wins. wins_shown wins.items) result
+        (wins_read names.now (section_lines (lines_of source.now) Wins))
+        (win_faults names.now (section_lines (lines_of source.now) Wins)) }
 {
     let lines = sections.wins.start..sections.wins.end;
     read_wins(alloc, source, lines, names)

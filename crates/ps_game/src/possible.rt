@@ -19,10 +19,11 @@ use ps_names::Names;
 use ps_rules::{Occurrences, RuleLine, RuleText, SourceRule};
 use std::alloc::Global;
 
-/// Whether some reading of the rule is possible. Directions and moves make no difference to that, so that only the choices of
-/// members are tried; a rule with more of them than it may have readings isn't, and counts as possible.
+/// Whether some reading of the rule is possible. Directions and moves make no difference to that, so that only the
+/// choices of members are tried; a rule with more of them than it may have readings isn't, and counts as possible.
 fn has_possible(alloc: Global, names: &Names, rule: &SourceRule) -> Result<bool, Memory>
-    ensures { IfOk result (λ yes. reading_count names.now (rule_shown rule.now) ≤ RULE_READINGS_LIMIT → yes ≡ has_possible names.now (rule_shown rule.now)) }
+    ensures { IfOk result (λ yes. reading_count names.now (rule_shown rule.now) ≤ RULE_READINGS_LIMIT
+        → yes ≡ has_possible names.now (rule_shown rule.now)) }
 {
     let occurrences = Occurrences::of(alloc, rule)?;
     let fixed = fixed_of(alloc, names, &occurrences)?;
@@ -33,7 +34,8 @@ fn has_possible(alloc: Global, names: &Names, rule: &SourceRule) -> Result<bool,
 
 /// The fault of a line, if it is a rule without a possible reading.
 fn line_fault(alloc: Global, names: &Names, line: &RuleLine) -> Result<Option<Fault>, Memory>
-    ensures { IfOk result (λ fault. HasFewReadings names.now (line_shown line.now) → fault ≡ impossible_at names.now (line_shown line.now)) }
+    ensures { IfOk result (λ fault. HasFewReadings names.now (line_shown line.now)
+        → fault ≡ impossible_at names.now (line_shown line.now)) }
 {
     let RuleLine::Rule(rule) = line else {
         return Ok(None);
@@ -53,7 +55,8 @@ pub fn first_line_fault(
     names: &Names,
     lines: &[RuleLine],
 ) -> Result<Option<Fault>, Memory>
-    ensures { IfOk result (λ fault. HaveFewReadings names.now (lines_shown lines.now) → fault ≡ first_impossible_of names.now (lines_shown lines.now)) }
+    ensures { IfOk result (λ fault. HaveFewReadings names.now (lines_shown lines.now)
+        → fault ≡ first_impossible_of names.now (lines_shown lines.now)) }
 {
     for line in lines {
         let fault = line_fault(alloc, names, line)?;
@@ -64,7 +67,8 @@ pub fn first_line_fault(
     Ok(None)
 }
 
-/// The fault of the first rule of which every reading is impossible, as in some cell one side has two names of one layer.
+/// The fault of the first rule of which every reading is impossible, as in some cell one side has two names of one
+/// layer.
 pub fn first_impossible(
     alloc: Global,
     names: &Names,

@@ -1,11 +1,9 @@
 //! What stands above all sections: the title, and options.
 
-ghost use Rattle.std.specs.Prelude.{◌≡◌, ◌≤◌, ◌&&◌, length, IfOk, option_map, unwrap_or, []};
-ghost use Rattle.std.specs.List.{list_any};
-ghost use Rattle.ps_model.specs.text.Lines.{folded, lines_of, taken_bytes};
-ghost use Rattle.ps_model.specs.text.LineNumbers.{line_at, lines_between};
+ghost use Rattle.std.specs.Prelude.{◌≡◌, ◌&&◌, IfOk};
+ghost use Rattle.ps_model.specs.text.Lines.{folded, taken_bytes};
+ghost use Rattle.ps_model.specs.text.LineNumbers.{HasLine, HasLines, line_at, lines_between};
 ghost use Rattle.ps_model.specs.text.Preludes.{begins_with, is_set, options_of, title_of};
-ghost use Rattle.ps_game.specs.SectionPlaces.{IsStretch};
 
 use crate::headings::begins_with;
 use ps_model::{Memory, Options};
@@ -15,9 +13,9 @@ use std::ops::Range;
 
 /// Whether the line is there and begins with the word.
 fn is_set_by(alloc: Global, source: &Source, line: u32, word: &str) -> Result<bool, Memory>
-    requires from_one { 1 ≤ line }
-    requires there { line ≤ length (lines_of source.now) }
-    ensures { IfOk result (λ told. told ≡ ((line_at source.now line).is_there && begins_with (folded word.now) (line_at source.now line))) }
+    requires { HasLine source.now line }
+    ensures { IfOk result (λ told. told
+        ≡ ((line_at source.now line).is_there && begins_with (folded word.now) (line_at source.now line))) }
 {
     if !source.is_there(line) {
         return Ok(false);
@@ -27,8 +25,9 @@ fn is_set_by(alloc: Global, source: &Source, line: u32, word: &str) -> Result<bo
 
 /// Whether a line of the stretch begins with the word.
 fn is_set(alloc: Global, source: &Source, lines: &Range<u32>, word: &str) -> Result<bool, Memory>
-    requires stretch { IsStretch source.now lines.now.start lines.now.end }
-    ensures { IfOk result (λ told. told ≡ is_set (lines_between source.now lines.now.start lines.now.end) (folded word.now)) }
+    requires { HasLines source.now lines.now.start lines.now.end }
+    ensures { IfOk result (λ told. told
+        ≡ is_set (lines_between source.now lines.now.start lines.now.end) (folded word.now)) }
 {
     for line in lines.start..lines.end {
         if is_set_by(alloc, source, line, word)? {
@@ -40,8 +39,9 @@ fn is_set(alloc: Global, source: &Source, lines: &Range<u32>, word: &str) -> Res
 
 /// The options that the lines of the prelude set.
 pub fn read_options(alloc: Global, source: &Source, lines: &Range<u32>) -> Result<Options, Memory>
-    requires stretch { IsStretch source.now lines.now.start lines.now.end }
-    ensures { IfOk result (λ options. options ≡ options_of (lines_between source.now lines.now.start lines.now.end)) }
+    requires { HasLines source.now lines.now.start lines.now.end }
+    ensures { IfOk result (λ options.
+        options ≡ options_of (lines_between source.now lines.now.start lines.now.end)) }
 {
     Ok(Options {
         no_action: is_set(alloc, source, lines, "noaction")?,
@@ -54,8 +54,7 @@ pub fn read_options(alloc: Global, source: &Source, lines: &Range<u32>) -> Resul
 
 /// A copy of the text that the line takes as it stands; an empty one, if it takes none.
 fn text_taken(alloc: Global, source: &Source, line: u32) -> Result<Text, Memory>
-    requires from_one { 1 ≤ line }
-    requires there { line ≤ length (lines_of source.now) }
+    requires { HasLine source.now line }
     ensures { IfOk result (λ text. text ≡ taken_bytes (line_at source.now line)) }
 {
     let Some(word) = source.rest(line) else {
@@ -66,7 +65,7 @@ fn text_taken(alloc: Global, source: &Source, line: u32) -> Result<Text, Memory>
 
 /// The title: the text of the first line of the prelude that begins with `title`, or else an empty one.
 pub fn read_title(alloc: Global, source: &Source, lines: &Range<u32>) -> Result<Text, Memory>
-    requires stretch { IsStretch source.now lines.now.start lines.now.end }
+    requires { HasLines source.now lines.now.start lines.now.end }
     ensures { IfOk result (λ title. title ≡ title_of (lines_between source.now lines.now.start lines.now.end)) }
 {
     for line in lines.start..lines.end {

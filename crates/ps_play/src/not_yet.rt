@@ -2,7 +2,8 @@
 
 ghost use Rattle.std.specs.Prelude.{◌≡◌, ◌≤◌, length};
 ghost use Rattle.ps_model.specs.text.Lines.{lines_of};
-ghost use Rattle.ps_game.specs.SectionPlaces.{IsStretch, AreSections};
+ghost use Rattle.ps_model.specs.text.LineNumbers.{HasLines};
+ghost use Rattle.ps_game.specs.SectionPlaces.{AreSections};
 
 use crate::plain::are_unset;
 use ps_game::{Sections, read_options, read_sections};
@@ -21,7 +22,7 @@ fn is_written(source: &Source, line: u32) -> bool
 
 /// The first line of the stretch that sets an option.
 fn first_option(alloc: Global, source: &Source, lines: &Range<u32>) -> Result<Option<u32>, Memory>
-    requires { IsStretch source.now lines.now.start lines.now.end }
+    requires { HasLines source.now lines.now.start lines.now.end }
 {
     for line in lines.start..lines.end {
         let alone = line..line + 1;
@@ -35,7 +36,7 @@ fn first_option(alloc: Global, source: &Source, lines: &Range<u32>) -> Result<Op
 
 /// The first line of the stretch that is there and not blank.
 fn first_written(source: &Source, lines: &Range<u32>) -> Option<u32>
-    requires { IsStretch source.now lines.now.start lines.now.end }
+    requires { HasLines source.now lines.now.start lines.now.end }
 {
     for line in lines.start..lines.end {
         if is_written(source, line) {
@@ -55,7 +56,7 @@ fn is_message(source: &Source, line: u32) -> bool
 
 /// The first line of LEVELS that is a message or begins a second level.
 fn first_behind_level(source: &Source, lines: &Range<u32>) -> Option<u32>
-    requires { IsStretch source.now lines.now.start lines.now.end }
+    requires { HasLines source.now lines.now.start lines.now.end }
 {
     let mut has_begun = false;
     let mut has_ended = false;

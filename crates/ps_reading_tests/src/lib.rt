@@ -3,6 +3,8 @@
 #![tactic(auto)]
 
 #[cfg(test)]
+mod game;
+#[cfg(test)]
 mod names;
 #[cfg(test)]
 mod rules;

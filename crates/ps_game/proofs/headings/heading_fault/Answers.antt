@@ -1,6 +1,6 @@
 use Rattle.std.proofs.Common.{◌∙◌, sym, ap, ap₂, ℕ}
 use Rattle.ps_model.specs.text.LineNumbers.{line_at}
-use Rattle.ps_model.specs.text.Sections.{is_real_time}
+use Rattle.ps_model.specs.text.Sections.{rank, is_real_time}
 use Rattle.ps_laws.proofs.common.LinesInOrder.{line_at-number}
 use Rattle.ps_game.specs.Headings.{is_late_header, fault_by}
 use Rattle.ps_game.proofs.headings.heading_fault.Goals as goal
@@ -9,4 +9,4 @@ pub returns : goal.returns
 returns c =
     let line = line_at c.args.source.now c.args.line in
     c.fault_of.ensures ∙ ap₂ (λ late real. fault_by late real c.args.line) c.is_late_header-late.ensures c.in_ok-real.ensures
-    ∙ ap (λ (n : ℕ). fault_by (is_late_header c.args.above line) (is_real_time line) n) (sym (line_at-number c.args.source.now c.args.line c.requires.from_one c.requires.there))
+    ∙ ap (λ (n : ℕ). fault_by (is_late_header (rank c.args.above) line) (is_real_time line) n) (sym (line_at-number c.args.source.now c.args.line c.requires.0 c.requires.1))
