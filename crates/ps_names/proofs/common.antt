@@ -2,4 +2,6 @@
 pub mod Elements
 pub mod MappedTests
 pub mod FirstFaults
+pub mod Pairs
+pub mod Refused
 pub mod Characters

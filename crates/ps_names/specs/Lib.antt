@@ -11,6 +11,7 @@ pub mod LayersShown
 pub mod Wholes
 pub mod NamesShown
 pub mod Sections
+pub mod SectionsShown
 pub mod Levels
 pub mod Ends
 pub mod Flattened

@@ -1,5 +1,5 @@
 -- What the sections give, by the parts that the code keeps.
-use Rattle.std.specs.Prelude.{ℕ, List, [], ◌++◌, Option, map}
+use Rattle.std.specs.Prelude.{ℕ, List, [], ◌++◌, Option, map, length}
 use Rattle.std.specs.List.{enumerate_from}
 use Rattle.std.specs.Str.{bytes_eq}
 use Rattle.std.specs.Map.{lookup}
@@ -11,6 +11,7 @@ use Rattle.ps_model.specs.text.WrittenLines.{WrittenLine}
 use Rattle.ps_model.specs.names.ObjectLines.{ObjectText, object_names}
 use Rattle.ps_model.specs.names.LegendLines.{declarations}
 use Rattle.ps_model.specs.names.Meanings.{LegendName, legend_names, legend_meanings, is_aggregate}
+use Rattle.ps_model.specs.names.LayerLines.{Layer, layers_found}
 use Rattle.ps_model.specs.names.DeclarationFaults.{object_faults, form_faults, naming_faults}
 use Rattle.ps_model.specs.names.NameFaults.{folded_names, is_bad_background}
 use Rattle.ps_names.specs.Known.{Named, named_object}
@@ -25,10 +26,25 @@ known_of objects lines = map named_object (object_names objects) ++ map named_li
 abbrev pub legend_of : List ObjectText → List WrittenLine → List LegendName
 legend_of objects lines = legend_names (object_names objects) (declarations lines)
 
--- the faults of OBJECTS and LEGEND line by line, and others behind them
-abbrev pub declaring_faults : List ObjectText → List WrittenLine → List Fault → List Fault
-declaring_faults objects lines others =
-    object_faults 0 [] objects ++ (form_faults (folded_names objects) lines ++ (naming_faults (legend_of objects lines) (legend_meanings (legend_of objects lines)) ++ others))
+-- names of the legend, and what each stands for
+abbrev pub legend_with : List LegendName → List LegendName × List (Option Meaning)
+legend_with legend = (legend, legend_meanings legend)
+
+-- the faults of names of the legend by what they name
+abbrev pub legend_faults : List LegendName → List Fault
+legend_faults legend = naming_faults legend (legend_meanings legend)
+
+-- what objects and legend lines declare: the names, and those of the legend with what each stands for
+abbrev pub declared_of : List ObjectText → List WrittenLine → List Named × (List LegendName × List (Option Meaning))
+declared_of objects lines = (known_of objects lines, legend_with (legend_of objects lines))
+
+-- the faults of OBJECTS and LEGEND line by line
+abbrev pub declaring_faults : List ObjectText → List WrittenLine → List Fault
+declaring_faults objects lines = object_faults 0 [] objects ++ (form_faults (folded_names objects) lines ++ legend_faults (legend_of objects lines))
+
+-- the layer of each of so many objects, if one names it, and how many layers there are
+abbrev pub layering_of : ℕ → List Layer → List (Option ℕ) × ℕ
+layering_of count layers = (layers_found count layers, length layers)
 
 -- the faults of the whole
 abbrev pub faults_of_whole : ℕ → List ObjectText → List (Option ℕ) → List LegendName → List (Option Meaning) → List (List ℕ × Meaning) → List ℕ → List Fault

@@ -4,7 +4,7 @@ ghost use Rattle.std.specs.Prelude.{◌≡◌, ◌≤◌, ◌++◌, [], None, So
 ghost use Rattle.ps_model.specs.declared.faults.Fault.{Fault as TheFault};
 ghost use Rattle.ps_model.specs.names.DeclarationFaults.{object_faults, naming_faults};
 ghost use Rattle.ps_model.specs.text.Faults.{first_fault};
-ghost use Rattle.ps_model.specs.text.Reads.{Reads};
+ghost use Rattle.ps_model.specs.text.Reads.{Reads, ReadsAs};
 ghost use Rattle.ps_model.specs.declared.limits.TheConstants.{OBJECT_LIMIT};
 ghost use Rattle.ps_model.specs.names.Meanings.{legend_name, legend_meanings};
 ghost use Rattle.ps_model.specs.names.ObjectLines.{object_names};
@@ -13,6 +13,8 @@ ghost use Rattle.ps_names.specs.LegendNames.{legend_shown};
 ghost use Rattle.ps_names.specs.LegendShown.{declarations_shown};
 ghost use Rattle.ps_names.specs.LinesShown.{objects_shown};
 ghost use Rattle.ps_names.specs.MeaningSteps.{meanings_shown};
+ghost use Rattle.ps_names.specs.Sections.{legend_with, legend_faults};
+ghost use Rattle.ps_names.specs.SectionsShown.{legend_seen};
 
 use crate::known::Known;
 use crate::legend::Declaration;
@@ -64,18 +66,9 @@ pub fn read_legend<'a>(
     declarations: &[Declaration<'a>],
 ) -> Result<Legend<'a>, Refusal>
     requires few { length declarations.now ≤ 4294967295 }
-    ensures names { IfOk result (λ legend. legend_shown legend.names.items
-        ≡ map (legend_name (mentions_of_names known.now)) (declarations_shown declarations.now)) }
-    ensures meanings { IfOk result (λ legend. meanings_shown legend.meanings.items
-        ≡ legend_meanings (map (legend_name (mentions_of_names known.now)) (declarations_shown declarations.now))) }
-    ensures fine { OnOk result (naming_faults
-        (map (legend_name (mentions_of_names known.now)) (declarations_shown declarations.now))
-        (legend_meanings (map (legend_name (mentions_of_names known.now)) (declarations_shown declarations.now)))
-        ≡ []) }
-    ensures refused { IfErr result (λ e. (fault : TheFault) → e ≡ Refusal.Refused fault →
-        first_fault (naming_faults (map (legend_name (mentions_of_names known.now))
-        (declarations_shown declarations.now)) (legend_meanings
-        (map (legend_name (mentions_of_names known.now)) (declarations_shown declarations.now)))) ≡ Some fault) }
+    ensures { ReadsAs legend_seen result
+        (legend_with (map (legend_name (mentions_of_names known.now)) (declarations_shown declarations.now)))
+        (legend_faults (map (legend_name (mentions_of_names known.now)) (declarations_shown declarations.now))) }
 {
     let names = legend_names(alloc, known, declarations)?;
     let order = order_of(alloc, &names)?;

@@ -34,12 +34,7 @@ pub struct Declaration<'a> {
 fn has_key_word(line: &WrittenLine<'_>, key: &str) -> bool
     ensures { result ≡ has_key_word key.now (line_shown line.now) }
 {
-    for word in &line.words {
-        if folds_to(word.text(), key) {
-            return true;
-        }
-    }
-    false
+    line.words.iter().any(|word| folds_to(word.text(), key))
 }
 
 /// Whether both `and` and `or` stand in a line.
@@ -128,12 +123,7 @@ fn is_equals_sign(word: &str) -> bool
 fn has_sign(words: &[Word<'_>]) -> bool
     ensures { result ≡ list_any is_equals_sign (map text_of words.now) }
 {
-    for word in words {
-        if is_equals_sign(word.text()) {
-            return true;
-        }
-    }
-    false
+    words.iter().any(|word| is_equals_sign(word.text()))
 }
 
 /// What a legend line declares; a line of another form declares nothing. No name is written as the sign is, so the line

@@ -32,12 +32,9 @@ fn is_below(levels: &[u32], limit: u64, mention: Mention) -> bool
 pub fn are_below(levels: &[u32], limit: u64, mentions: &[Mention]) -> bool
     ensures { result ≡ are_below levels.now limit (mentions_shown mentions.now) }
 {
-    for mention in mentions {
-        if !is_below(levels, limit, *mention) {
-            return false;
-        }
-    }
-    true
+    mentions
+        .iter()
+        .all(|mention| is_below(levels, limit, *mention))
 }
 
 /// Whether no line mentions one of a higher level.

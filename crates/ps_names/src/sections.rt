@@ -1,17 +1,17 @@
 //! What the sections give, one behind the other.
 
 ghost use Rattle.std.specs.Prelude.{◌≡◌, ◌≤◌, ◌<◌, ◌++◌, [], Some, IfOk, OnOk, IfErr, length, map, List, unwrap_or};
-ghost use Rattle.ps_model.specs.declared.faults.Fault.{Fault as TheFault};
 ghost use Rattle.ps_model.specs.names.DeclarationFaults.{layer_faults};
 ghost use Rattle.ps_model.specs.text.Faults.{first_fault};
-ghost use Rattle.ps_model.specs.names.LayerLines.{layers_of_lines, layers_found};
+ghost use Rattle.ps_model.specs.names.LayerLines.{layers_of_lines};
 ghost use Rattle.ps_model.specs.declared.limits.TheConstants.{OBJECT_LIMIT, LAYER_LIMIT};
-ghost use Rattle.ps_model.specs.names.Meanings.{legend_meanings};
 ghost use Rattle.ps_model.specs.names.NamesRead.{layer_numbers};
 ghost use Rattle.ps_names.specs.LegendNames.{legend_shown};
 ghost use Rattle.ps_names.specs.LinesShown.{objects_shown, lines_shown};
 ghost use Rattle.ps_names.specs.MeaningSteps.{meanings_shown};
-ghost use Rattle.ps_names.specs.Sections.{known_of, legend_of, declaring_faults, faults_of_whole};
+ghost use Rattle.ps_names.specs.Sections.{declared_of, declaring_faults, layering_of, faults_of_whole};
+ghost use Rattle.ps_names.specs.SectionsShown.{declared_seen, layering_seen};
+ghost use Rattle.ps_model.specs.text.Reads.{ReadsAs};
 ghost use Rattle.ps_names.specs.Tables.{entries_with};
 
 use crate::declaring::{Legend, known_objects, read_legend, refuse};
@@ -50,17 +50,10 @@ pub fn declare_names<'a>(
     lines: &[WrittenLine<'a>],
 ) -> Result<Declared<'a>, Refusal>
     requires few { length lines.now ≤ 4294967295 }
-    ensures known { IfOk result (λ declared. declared.known
-        ≡ known_of (objects_shown objects.now) (lines_shown lines.now)) }
-    ensures legend { IfOk result (λ declared. legend_shown declared.legend.names.items
-        ≡ legend_of (objects_shown objects.now) (lines_shown lines.now)) }
-    ensures meanings { IfOk result (λ declared. meanings_shown declared.legend.meanings.items
-        ≡ legend_meanings (legend_of (objects_shown objects.now) (lines_shown lines.now))) }
+    ensures reads { ReadsAs declared_seen result
+        (declared_of (objects_shown objects.now) (lines_shown lines.now))
+        (declaring_faults (objects_shown objects.now) (lines_shown lines.now)) }
     ensures few { OnOk result (length objects.now ≤ OBJECT_LIMIT) }
-    ensures fine { OnOk result ((others : List TheFault) →
-        declaring_faults (objects_shown objects.now) (lines_shown lines.now) others ≡ others) }
-    ensures refused { IfErr result (λ e. (fault : TheFault) → e ≡ Refusal.Refused fault → (others : List TheFault) →
-        first_fault (declaring_faults (objects_shown objects.now) (lines_shown lines.now) others) ≡ Some fault) }
 {
     let mut known = known_objects(alloc, objects)?;
     let declarations = declare_legend(alloc, &mut known, lines)?;
@@ -75,14 +68,10 @@ pub fn read_layers(
     objects: usize,
     lines: &[WrittenLine<'_>],
 ) -> Result<Layering, Refusal>
-    ensures places { IfOk result (λ made. made.places.items
-        ≡ layers_found objects (layers_of_lines (entries_with table.now) (lines_shown lines.now))) }
-    ensures count { IfOk result (λ made. made.count
-        ≡ length (layers_of_lines (entries_with table.now) (lines_shown lines.now))) }
+    ensures reads { ReadsAs layering_seen result
+        (layering_of objects (layers_of_lines (entries_with table.now) (lines_shown lines.now)))
+        (layer_faults (layers_of_lines (entries_with table.now) (lines_shown lines.now))) }
     ensures few { IfOk result (λ made. made.count ≤ LAYER_LIMIT) }
-    ensures fine { OnOk result (layer_faults (layers_of_lines (entries_with table.now) (lines_shown lines.now)) ≡ []) }
-    ensures refused { IfErr result (λ e. (fault : TheFault) → e ≡ Refusal.Refused fault →
-        first_fault (layer_faults (layers_of_lines (entries_with table.now) (lines_shown lines.now))) ≡ Some fault) }
 {
     let layers = layers_of_lines(alloc, table, lines)?;
     refuse(fault_of_layers(&layers))?;

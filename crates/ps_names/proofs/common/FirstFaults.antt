@@ -26,3 +26,7 @@ none-first (x ∷ a) e = cc
 pub first-found : (a b : List Fault) (f : Fault) → first_fault a ≡ Some f → first_fault (a ++ b) ≡ Some f
 first-found [] b f e = cc
 first-found (x ∷ a) b f e = e
+
+-- behind a front without faults
+pub no-front : (a b : List Fault) → a ≡ [] → a ++ b ≡ b
+no-front a b e = rw e refl

@@ -1,5 +1,5 @@
 -- The names and the faults of sections, put together from their parts.
-use Rattle.std.proofs.Common.{suc, ◌+◌, ◌∷◌, filter_map, ◌≡◌, ℕ, List, [], ◌++◌, length, refl, sym, ap, ◌∙◌, Option}
+use Rattle.std.proofs.Common.{suc, ◌+◌, ◌∷◌, filter_map, ◌≡◌, ℕ, List, [], ◌++◌, length, refl, sym, ap, ◌∙◌, Option, append_assoc}
 use Rattle.std.specs.List.{enumerate_from}
 use Rattle.std.proofs.lemmas.List.{length-map}
 use Rattle.ps_model.specs.declared.faults.Fault.{Fault}
@@ -9,12 +9,12 @@ use Rattle.ps_model.specs.names.ObjectLines.{ObjectText, object_names}
 use Rattle.ps_model.specs.names.LegendLines.{declarations}
 use Rattle.ps_model.specs.names.Meanings.{LegendName, OfLine, legend_meanings, legend_name, known_names, meaning_behind}
 use Rattle.ps_model.specs.names.LayerLines.{Layer, layers_of_lines, layers_found}
-use Rattle.ps_model.specs.names.DeclarationFaults.{layer_faults}
+use Rattle.ps_model.specs.names.DeclarationFaults.{object_faults, form_faults, layer_faults}
 use Rattle.ps_model.specs.names.NamesRead.{sections_of, names_of, layer_numbers, entries_of, glyph_of}
-use Rattle.ps_model.specs.names.NameFaults.{faults_of_sections}
+use Rattle.ps_model.specs.names.NameFaults.{folded_names, faults_of_sections}
 use Rattle.ps_names.specs.Known.{Named}
 use Rattle.ps_names.specs.Tables.{entries_with, with_meanings, glyph_named}
-use Rattle.ps_names.specs.Sections.{known_of, legend_of, declaring_faults, faults_of_whole}
+use Rattle.ps_names.specs.Sections.{known_of, legend_of, legend_faults, declaring_faults, faults_of_whole}
 use Rattle.ps_names.proofs.tables.TableLaw.{entries-shown, glyphs-named}
 
 length-from : {A : Type 0} (number : ℕ) (xs : List A) → length (enumerate_from number xs) ≡ length xs
@@ -47,15 +47,22 @@ module _ (objects : List ObjectText) (lines layer_lines : List WrittenLine) wher
   pub glyphs-here : filter_map glyph_named table_here ≡ filter_map glyph_of (sections_of objects lines layer_lines).declared
   glyphs-here = glyphs-named objects lines meanings_here long
 
+  -- the faults of OBJECTS and LEGEND in front of others
+  declaring-front : (others : List Fault) → declaring_faults objects lines ++ others
+      ≡ object_faults 0 [] objects ++ (form_faults (folded_names objects) lines ++ (legend_faults (legend_of objects lines) ++ others))
+  declaring-front others =
+      append_assoc (object_faults 0 [] objects) (form_faults (folded_names objects) lines ++ legend_faults (legend_of objects lines)) others
+      ∙ ap (λ (faults : List Fault). object_faults 0 [] objects ++ faults) (append_assoc (form_faults (folded_names objects) lines) (legend_faults (legend_of objects lines)) others)
+
   -- the faults, by the parts that the code keeps
-  pub faults-here : (header : ℕ) → declaring_faults objects lines (layer_faults layers_here ++ faults_of_whole header objects (layers_found (length objects) layers_here) (legend_of objects lines) meanings_here
+  pub faults-here : (header : ℕ) → declaring_faults objects lines ++ (layer_faults layers_here ++ faults_of_whole header objects (layers_found (length objects) layers_here) (legend_of objects lines) meanings_here
       (entries_with table_here) (layer_numbers (layers_found (length objects) layers_here))) ≡ faults_of_sections header (sections_of objects lines layer_lines)
-  faults-here header = by _ _ (sym entries-here)
+  faults-here header = by _ _ (sym entries-here) ∙ declaring-front _
     where
       by : (told entries : List (List ℕ × Meaning)) → told ≡ entries
-          → declaring_faults objects lines (layer_faults (layers_of_lines entries layer_lines) ++ faults_of_whole header objects (layers_found (length objects) (layers_of_lines entries layer_lines)) (legend_of objects lines)
+          → declaring_faults objects lines ++ (layer_faults (layers_of_lines entries layer_lines) ++ faults_of_whole header objects (layers_found (length objects) (layers_of_lines entries layer_lines)) (legend_of objects lines)
           meanings_here entries (layer_numbers (layers_found (length objects) (layers_of_lines entries layer_lines))))
-          ≡ declaring_faults objects lines (layer_faults (layers_of_lines told layer_lines) ++ faults_of_whole header objects (layers_found (length objects) (layers_of_lines told layer_lines)) (legend_of objects lines)
+          ≡ declaring_faults objects lines ++ (layer_faults (layers_of_lines told layer_lines) ++ faults_of_whole header objects (layers_found (length objects) (layers_of_lines told layer_lines)) (legend_of objects lines)
           meanings_here told (layer_numbers (layers_found (length objects) (layers_of_lines told layer_lines))))
       by told entries e = rw e refl
 
