@@ -1,15 +1,15 @@
 //! The names of a game.
 
-ghost use Rattle.std.specs.Prelude.{◌≡◌, ◌<◌, length, option_map, IfSome, All};
+ghost use Rattle.std.specs.Prelude.{◌≡◌, ◌<◌, length, option_map, IfSome, All, slice_index_or};
 ghost use Rattle.ps_model.specs.names.Names.{meaning_of, layer_of, object_count, players, backgrounds};
 ghost use Rattle.ps_model.specs.names.NameBounds.{AreBounded, IsBelow};
 ghost use Rattle.ps_names.specs.GlyphsShown.{glyphs_shown};
+ghost use Rattle.ps_names.specs.NamesShown.{layer_numbers_shown};
 ghost use Rattle.ps_names.specs.Shown.{meaning_shown};
 
 use crate::glyphs::Glyph;
 use crate::meaning::Meaning;
 use crate::table::Table;
-use crate::whole::layer_at;
 use ps_model::{LayerId, ObjectId};
 use std::marker::Model;
 
@@ -18,7 +18,7 @@ use std::marker::Model;
 #[derive(Drop)]
 pub struct Names {
     pub(crate) table: Table,
-    pub(crate) layers: Vec<u32>,
+    pub(crate) own_layers: Vec<LayerId>,
     pub(crate) layer_count: u32,
     pub(crate) glyphs: Vec<Glyph>,
     pub(crate) players: Vec<ObjectId>,
@@ -27,14 +27,22 @@ pub struct Names {
 
 impl Model for Names {
     ghost use Rattle.ps_model.specs.names.Names.{Names as Meant};
-    ghost use Rattle.ps_names.specs.NamesShown.{names_shown, AreKept};
+    ghost use Rattle.ps_names.specs.NamesShown.{names_shown, layer_numbers_shown, AreKept};
 
     ghost Value = { Meant };
 
-    ghost view = { λ n. names_shown n.table n.layers.items n.layer_count n.glyphs.items };
+    ghost view = { λ n. names_shown n.table (layer_numbers_shown n.own_layers.items) n.layer_count n.glyphs.items };
 
-    ghost invariant = { λ n. AreKept (names_shown n.table n.layers.items n.layer_count n.glyphs.items) n.players.items
+    ghost invariant = { λ n. AreKept (names_shown n.table (layer_numbers_shown n.own_layers.items) n.layer_count n.glyphs.items) n.players.items
         n.backgrounds.items };
+}
+
+/// The layer of an object in a list by the objects' numbers; the layer 0 where the list has none.
+fn layer_in(own_layers: &[LayerId], object: ObjectId) -> LayerId
+    ensures { result.0 ≡ slice_index_or (layer_numbers_shown own_layers.now) object.0 0 }
+{
+    let own = own_layers.get(object.0 as usize);
+    own.copied().unwrap_or(LayerId(0))
 }
 
 impl Names {
@@ -72,7 +80,14 @@ impl Names {
         ensures within { object.0 < object_count self.now → result.0 < self.now.layer_count }
         ensures facts { AreBounded self.now }
     {
-        LayerId(layer_at(&self.layers, object))
+        layer_in(&self.own_layers, object)
+    }
+
+    /// The layer of each object, in the order of the objects' numbers.
+    pub fn own_layers(&self) -> &[LayerId]
+        ensures { layer_numbers_shown result.now ≡ self.now.layers }
+    {
+        self.own_layers.as_slice()
     }
 
     /// How many objects the game has, at most `OBJECT_LIMIT`.
@@ -80,7 +95,7 @@ impl Names {
         ensures count { result ≡ object_count self.now }
         ensures facts { AreBounded self.now }
     {
-        self.layers.len() as u32
+        self.own_layers.len() as u32
     }
 
     /// How many layers the game has, at most `LAYER_LIMIT`.

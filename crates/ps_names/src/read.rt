@@ -12,7 +12,7 @@ use crate::declaring::refuse;
 use crate::lines::{WrittenLine, lines_there, written_lines};
 use crate::names::Names;
 use crate::objects::{ObjectText, object_texts};
-use crate::sections::{declare_names, fault_of_whole, layer_numbers, read_layers};
+use crate::sections::{declare_names, fault_of_whole, layer_numbers, layers_of_numbers, read_layers};
 use crate::table::Table;
 use ps_model::Refusal;
 use ps_text::{Cut, Source};
@@ -41,11 +41,12 @@ fn names_of_sections(
     let layers = layer_numbers(alloc, &layering.places)?;
     refuse(fault_of_whole(header, objects, &layering.places, &legend, &table, &layers))?;
     let glyphs = table.glyphs(alloc)?;
+    let own_layers = layers_of_numbers(alloc, &layers)?;
     let players = table.objects_named(alloc, "player")?;
     let backgrounds = table.objects_named(alloc, "background")?;
     Ok(Names {
         table,
-        layers,
+        own_layers,
         layer_count: layering.count,
         glyphs,
         players,

@@ -9,6 +9,7 @@ ghost use Rattle.ps_model.specs.names.NamesRead.{layer_numbers};
 ghost use Rattle.ps_names.specs.LegendNames.{legend_shown};
 ghost use Rattle.ps_names.specs.LinesShown.{objects_shown, lines_shown};
 ghost use Rattle.ps_names.specs.MeaningSteps.{meanings_shown};
+ghost use Rattle.ps_names.specs.NamesShown.{layer_numbers_shown};
 ghost use Rattle.ps_names.specs.Sections.{declared_of, declaring_faults, layering_of, faults_of_whole};
 ghost use Rattle.ps_names.specs.SectionsShown.{declared_seen, layering_seen};
 ghost use Rattle.ps_model.specs.text.Reads.{ReadsAs};
@@ -25,7 +26,7 @@ use crate::whole::{
     fault_of_background, fault_of_missing, fault_of_no_layer, fault_of_player,
     fault_of_shared_layer,
 };
-use ps_model::{Fault, Memory, Refusal};
+use ps_model::{Fault, LayerId, Memory, Refusal};
 use std::alloc::Global;
 
 /// What OBJECTS and LEGEND declare.
@@ -78,6 +79,17 @@ pub fn read_layers(
     let places = layers_found(alloc, objects, &layers)?;
     let count = layers.len() as u32;
     Ok(Layering { places, count })
+}
+
+/// Layers by their numbers.
+pub fn layers_of_numbers(alloc: Global, numbers: &[u32]) -> Result<Vec<LayerId>, Memory>
+    ensures { IfOk result (λ layers. layer_numbers_shown layers.items ≡ numbers.now) }
+{
+    let mut layers = Vec::with_capacity(alloc, numbers.len())?;
+    for number in numbers {
+        layers.push(LayerId(*number))?;
+    }
+    Ok(layers)
 }
 
 /// The numbers of layers; 0 for an object that no layer names.

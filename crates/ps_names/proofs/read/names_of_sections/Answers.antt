@@ -15,6 +15,7 @@ use Rattle.ps_model.specs.declared.refusal.Refusal.{Refusal}
 use Rattle.ps_model.specs.declared.refusal.Refusal.TheVariants.{Refused}
 use Rattle.ps_names.specs.declared.meaning.Meaning as code
 use Rattle.ps_names.specs.Known.{Named}
+use Rattle.ps_names.specs.NamesShown.{layer_numbers_shown}
 use Rattle.ps_names.specs.LinesShown.{objects_shown, object_shown, lines_shown}
 use Rattle.ps_names.specs.LegendNames.{legend_shown, name_shown}
 use Rattle.ps_names.specs.MeaningSteps.{meaning_shown_if, meanings_shown}
@@ -121,11 +122,12 @@ returns c =
     first-part c.in_ok-layering.ensures.reads.0 ∙ ap (λ (t : List (Named × Option Meaning)). layers_found (length c.args.objects.now) (layers_of_lines (entries_with t) layer_lines)) table
     ∙ ap (λ (n : ℕ). layers_found n (layers_here objects lines layer_lines)) count in
     let layers : c.in_ok-layers.layers.items ≡ layer_numbers c.in_ok-layering.layering.places.items = c.in_ok-layers.ensures ∙ ap layer_numbers c.deref-2.ensures.value in
+    let own : layer_numbers_shown c.in_ok-own_layers.own_layers.items ≡ layer_numbers c.in_ok-layering.layering.places.items = c.in_ok-own_layers.ensures ∙ c.deref-5.ensures.value ∙ layers in
     let whole : faults_of_whole c.args.header objects c.deref-3.result.now (legend_shown c.in_ok-declared.declared.legend.names.items) (meanings_shown c.in_ok-declared.declared.legend.meanings.items)
     (entries_with c.in_ok-table.table) c.deref-4.result.now ≡ _ =
     whole-here objects lines layer_lines c.args.header c.deref-3.result.now _ _ _ c.deref-4.result.now (c.deref-4.ensures.value ∙ layers ∙ ap layer_numbers (sym c.deref-3.ensures.value))
     (c.deref-3.ensures.value ∙ placed) (first-part (second-part c.in_ok-declared.ensures.reads.0)) (second-part (second-part c.in_ok-declared.ensures.reads.0)) table in (
-      names-made objects lines layer_lines c.in_ok-table.table c.in_ok-layers.layers.items c.in_ok-layering.layering.count _ table (layers ∙ ap layer_numbers placed) (second-part c.in_ok-layering.ensures.reads.0 ∙ ap (λ (t : List (Named × Option Meaning)). length (layers_of_lines (entries_with t) layer_lines)) table) c.in_ok-glyphs.ensures,
+      names-made objects lines layer_lines c.in_ok-table.table (layer_numbers_shown c.in_ok-own_layers.own_layers.items) c.in_ok-layering.layering.count _ table (own ∙ ap layer_numbers placed) (second-part c.in_ok-layering.ensures.reads.0 ∙ ap (λ (t : List (Named × Option Meaning)). length (layers_of_lines (entries_with t) layer_lines)) table) c.in_ok-glyphs.ensures,
       (
         sym (faults-here objects lines layer_lines c.args.header) ∙ no-front (declaring_faults objects lines) _ c.in_ok-declared.ensures.reads.1.0 ∙ ap (λ (before : List TheFault). before ++ told_here objects lines layer_lines c.args.header) here ∙ sym whole ∙ no-first _ (sym c.in_ok-refuse.ensures.fine ∙ c.fault_of_whole.ensures),
         tt,
@@ -148,11 +150,12 @@ invariant_of-result c =
     first-part c.in_ok-layering.ensures.reads.0 ∙ ap (λ (t : List (Named × Option Meaning)). layers_found (length c.args.objects.now) (layers_of_lines (entries_with t) layer_lines)) table
     ∙ ap (λ (n : ℕ). layers_found n (layers_here objects lines layer_lines)) count in
     let layers : c.in_ok-layers.layers.items ≡ layer_numbers c.in_ok-layering.layering.places.items = c.in_ok-layers.ensures ∙ ap layer_numbers c.deref-2.ensures.value in
+    let own : layer_numbers_shown c.in_ok-own_layers.own_layers.items ≡ layer_numbers c.in_ok-layering.layering.places.items = c.in_ok-own_layers.ensures ∙ c.deref-5.ensures.value ∙ layers in
     let whole : faults_of_whole c.args.header objects c.deref-3.result.now (legend_shown c.in_ok-declared.declared.legend.names.items) (meanings_shown c.in_ok-declared.declared.legend.meanings.items)
     (entries_with c.in_ok-table.table) c.deref-4.result.now ≡ _ =
     whole-here objects lines layer_lines c.args.header c.deref-3.result.now _ _ _ c.deref-4.result.now (c.deref-4.ensures.value ∙ layers ∙ ap layer_numbers (sym c.deref-3.ensures.value))
     (c.deref-3.ensures.value ∙ placed) (first-part (second-part c.in_ok-declared.ensures.reads.0)) (second-part (second-part c.in_ok-declared.ensures.reads.0)) table in
-    let part = names-made objects lines layer_lines c.in_ok-table.table c.in_ok-layers.layers.items c.in_ok-layering.layering.count _ table (layers ∙ ap layer_numbers placed)
+    let part = names-made objects lines layer_lines c.in_ok-table.table (layer_numbers_shown c.in_ok-own_layers.own_layers.items) c.in_ok-layering.layering.count _ table (own ∙ ap layer_numbers placed)
     (second-part c.in_ok-layering.ensures.reads.0 ∙ ap (λ (t : List (Named × Option Meaning)). length (layers_of_lines (entries_with t) layer_lines)) table) c.in_ok-glyphs.ensures in
     let none = front-empty (no_layers objects c.deref-3.result.now) _ (no-first _ (sym c.in_ok-refuse.ensures.fine ∙ c.fault_of_whole.ensures)) in
     let same = layers-same objects lines layer_lines in
