@@ -1,6 +1,7 @@
--- Two lists of rules are alike on a game where their rounds come to the same from each grid of the game, and to a grid of the game.
--- They needn't be alike rule by rule, nor have as many rules: several may stand for one, some may be left out, and each may face
--- down or right. Whatever is made of rounds comes to the same then: groups, passes, loops, sections and programs.
+-- Two lists of rules are alike on a game where their rounds come to the same from each grid of the game, and to a grid
+-- of the game. They needn't be alike rule by rule, nor have as many rules: several may stand for one, some may be left
+-- out, and each may face down or right. Whatever is made of rounds comes to the same then: groups, passes, loops,
+-- sections and programs.
 use Rattle.std.specs.Prelude.{ℕ, List, ◌∷◌, ◌++◌, map, All}
 use Rattle.std.specs.List.{AllZip, flat_map}
 use Rattle.ps_model.specs.names.Names.{Names}
@@ -15,11 +16,13 @@ use Rattle.ps_laws.specs.IdleRules.{IsIdle}
 
 -- alike --------------------------------------------------------------------------------------------------------------------
 
--- two lists of rules are alike on a game: from each of its grids their rounds come to the same, and to a grid of the game
+-- two lists of rules are alike on a game: from each of its grids their rounds come to the same, and to a grid of the
+-- game
 abbrev pub Alike : Names → List RuleMeaning → List RuleMeaning → Type 0
 Alike names a b = (state : State) → IsGridOf names state.grid → EqualResults names (round a state) (round b state)
 
--- two sections are alike: both are groups whose rules are alike, or both are loops over groups that are alike one by one
+-- two sections are alike: both are groups whose rules are alike, or both are loops over groups that are alike one by
+-- one
 abbrev pub AlikeSection : Names → Section → Section → Type 0
 AlikeSection names (Group a) (Group b) = Alike names a b
 AlikeSection names (Group a) (Loop b) = ⊥

@@ -1,4 +1,5 @@
--- Compiled rules and programs mean what their sources mean, rule by rule and section by section; so both come to the same.
+-- Compiled rules and programs mean what their sources mean, rule by rule and section by section; so both come to the
+-- same.
 use Rattle.std.specs.Prelude.{Bool, List, map, All}
 use Rattle.std.specs.List.{AllZip}
 use Rattle.ps_model.specs.declared.rules.Part.{Part}

@@ -1,6 +1,7 @@
--- Rules whose cells fit alike and rewrite alike do alike: whatever they are part of, from one attempt to a whole program, comes
--- to the same grid and the same queue, and tells the same of whether something changed. So a compiled rule may stand for its
--- source. It is enough that the cells agree on the cells of a game, since rewriting keeps to these.
+-- Rules whose cells fit alike and rewrite alike do alike: whatever they are part of, from one attempt to a whole
+-- program, comes to the same grid and the same queue, and tells the same of whether something changed. So a compiled
+-- rule may stand for its source. It is enough that the cells agree on the cells of a game, since rewriting keeps to
+-- these.
 use Rattle.std.specs.Prelude.{◌≡◌, ℕ, Bool, true, List}
 use Rattle.std.specs.List.{AllZip}
 use Rattle.ps_model.specs.declared.pieces.Slot.{Slot}
@@ -12,15 +13,15 @@ use Rattle.ps_model.specs.board.Programs.{Section, Group, Loop, Progress, round,
 
 -- alike --------------------------------------------------------------------------------------------------------------------
 
--- two cells of rules agree on all cells of the game: they fit the same ones; and where their rules rewrite cells, they make the same
--- of each, whether it fits or not, and what they make of it is again a cell of the game
+-- two cells of rules agree on all cells of the game: they fit the same ones; and where their rules rewrite cells, they
+-- make the same of each, whether it fits or not, and what they make of it is again a cell of the game
 pub record AgreeOn (names : Names) (rewrites : Bool) (a b : CellMeaning) : Type 0 where
   pub fits : (cell : List Slot) → IsCellOf names cell → a.fits cell ≡ b.fits cell
   pub writes : rewrites ≡ true → (cell : List Slot) → IsCellOf names cell → a.rewritten cell ≡ b.rewritten cell
   pub keeps : rewrites ≡ true → (cell : List Slot) → IsCellOf names cell → IsCellOf names (a.rewritten cell)
 
--- two rules are alike: they have the same direction and the same commands, both rewrite cells or neither does, and cell by cell
--- of each part of each row they agree
+-- two rules are alike: they have the same direction and the same commands, both rewrite cells or neither does, and cell
+-- by cell of each part of each row they agree
 pub record SameRule (names : Names) (a b : RuleMeaning) : Type 0 where
   pub direction : a.direction ≡ b.direction
   pub rows : AllZip (AllZip (AllZip (AgreeOn names a.rewrites))) a.rows b.rows

@@ -1,5 +1,5 @@
--- What every game of a text is: its names are bounded, it has an object and a layer, its rules speak of its own objects alone, each of
--- its levels is loaded as a grid of the game, and each of its turns keeps such grids.
+-- What every game of a text is: its names are bounded, it has an object and a layer, its rules speak of its own objects
+-- alone, each of its levels is loaded as a grid of the game, and each of its turns keeps such grids.
 use Rattle.std.specs.Prelude.{◌≡◌, ℕ, ◌<◌, ◌≤◌, Option, Some, List, [], All, ⊤}
 use Rattle.ps_model.specs.declared.play.Input.{Input}
 use Rattle.ps_model.specs.text.Lines.{Line}

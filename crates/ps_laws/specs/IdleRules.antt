@@ -1,5 +1,5 @@
--- Rules that do nothing. A rule finds no place where one of its cells fits none of the board's; and one without commands, whose
--- cells leave all cells that they fit as they are, changes nothing and queues nothing.
+-- Rules that do nothing. A rule finds no place where one of its cells fits none of the board's; and one without
+-- commands, whose cells leave all cells that they fit as they are, changes nothing and queues nothing.
 use Rattle.std.specs.Prelude.{◌≡◌, true, false, List, All}
 use Rattle.std.specs.List.{Contains}
 use Rattle.ps_model.specs.declared.pieces.Slot.{Slot}

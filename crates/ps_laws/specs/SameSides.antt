@@ -1,5 +1,5 @@
--- What keeps the sides of a grid, whatever rules and grids there are: attempts, rounds, groups, passes, loops, sections, programs,
--- the movement, rest, inputs and turns. The number of layers is kept with them.
+-- What keeps the sides of a grid, whatever rules and grids there are: attempts, rounds, groups, passes, loops,
+-- sections, programs, the movement, rest, inputs and turns. The number of layers is kept with them.
 use Rattle.std.specs.Prelude.{◌≡◌, ℕ, Bool, Option, List, ⊤}
 use Rattle.ps_model.specs.declared.play.Input.{Input}
 use Rattle.ps_model.specs.names.Names.{Names}

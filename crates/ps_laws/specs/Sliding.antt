@@ -1,4 +1,5 @@
--- Chains of the movement, and places of rules: chains of any length count, and places are straight lines of cells of the board.
+-- Chains of the movement, and places of rules: chains of any length count, and places are straight lines of cells of
+-- the board.
 use Rattle.std.specs.Prelude.{◌≡◌, ◌<◌, ◌+◌, ◌*◌, ℕ, true, List, [], ◌∷◌, ◌++◌, All, length, map, reverse}
 use Rattle.std.specs.List.{range_with_len}
 use Rattle.ps_model.specs.declared.pieces.Direction.{Direction}

@@ -1,5 +1,6 @@
--- Choices made stage by stage: all that is made so far is split by one occurrence after the other. So a rule gives a rule for each
--- of its directions; each of these one for each choice of moves; and each of these one for each choice of members.
+-- Choices made stage by stage: all that is made so far is split by one occurrence after the other. So a rule gives a
+-- rule for each of its directions; each of these one for each choice of moves; and each of these one for each choice of
+-- members.
 use Rattle.std.specs.Prelude.{ℕ, Option, Some, None, List, [], ◌∷◌, ◌++◌, map, ◌≡◌, length}
 use Rattle.std.specs.List.{flat_map}
 use Rattle.ps_model.specs.declared.pieces.ObjectId.{ObjectId}

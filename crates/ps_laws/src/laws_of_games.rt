@@ -19,8 +19,8 @@ pub fn rules_are_of_games()
     ensures games { GameRulesAreOfNames }
 {}
 
-/// A level of a game is loaded as a grid of the game. The levels that are read, with names that are bounded and of which one is an
-/// object, are of the game; so are the levels of every game, whose sides are within the limits.
+/// A level of a game is loaded as a grid of the game. The levels that are read, with names that are bounded and of
+/// which one is an object, are of the game; so are the levels of every game, whose sides are within the limits.
 pub fn levels_are_of_games()
     ensures loaded { LoadedLevelsAreGrids }
     ensures read { EntriesReadAreOfNames }

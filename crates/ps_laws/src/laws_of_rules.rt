@@ -1,5 +1,5 @@
-//! Laws of rules: what rules that are alike have in common, what a rule turned round does, which rules do nothing, and when rounds
-//! and passes end.
+//! Laws of rules: what rules that are alike have in common, what a rule turned round does, which rules do nothing, and
+//! when rounds and passes end.
 //!
 //! Each function here is a law: it has no body, and its contract is proved.
 
@@ -21,14 +21,15 @@ pub fn equal_meanings()
     ensures programs { EqualPrograms }
 {}
 
-/// A group makes rounds until one changes nothing, or until their limit; a loop makes passes until one changes nothing, or until
-/// no repeat is left.
+/// A group makes rounds until one changes nothing, or until their limit; a loop makes passes until one changes nothing,
+/// or until no repeat is left.
 pub fn settling()
     ensures groups { GroupsSettle }
     ensures loops { LoopsPass }
 {}
 
-/// A rule turned round, its rows read from their other ends, does the same the opposite way. So each rule may face down or right.
+/// A rule turned round, its rows read from their other ends, does the same the opposite way. So each rule may face down
+/// or right.
 pub fn turning_round()
     ensures places { PlacesTurned }
     ensures turned { AttemptsTurned }
@@ -41,8 +42,8 @@ pub fn turning_round()
     ensures programs { ProgramsForwards }
 {}
 
-/// Which lists of rules have equal rounds: those that are alike rule by rule, and what is made of such lists. So several rules may
-/// stand for one, each may face down or right, and one that does nothing may be left out.
+/// Which lists of rules have equal rounds: those that are alike rule by rule, and what is made of such lists. So
+/// several rules may stand for one, each may face down or right, and one that does nothing may be left out.
 pub fn alike_rounds()
     ensures kept { KeptAreAlike }
     ensures same { SameAreAlike }
@@ -63,8 +64,8 @@ pub fn alike_programs()
     ensures programs { AlikePrograms }
 {}
 
-/// A rule does nothing where one of its cells fits none of the board's, and nothing at all where it has no commands and its cells
-/// leave what they fit as it is.
+/// A rule does nothing where one of its cells fits none of the board's, and nothing at all where it has no commands and
+/// its cells leave what they fit as it is.
 pub fn idle_rules()
     ensures nowhere { NowhereIsNothing }
     ensures none { FittingNoneIsIdle }

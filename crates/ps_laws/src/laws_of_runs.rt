@@ -1,5 +1,5 @@
-//! Laws over the definitions of readings, of keys and of runs. Each function does nothing: its contract is a law that the
-//! definitions keep.
+//! Laws over the definitions of readings, of keys and of runs. Each function does nothing: its contract is a law that
+//! the definitions keep.
 
 ghost use Rattle.ps_laws.specs.Stages.{MovesOneByOne, MembersOneByOne, MovesInTwoStages, MembersInTwoStages, ReadByStages, ReadOneInOther, ReadingsCounted};
 ghost use Rattle.ps_laws.specs.ReadingInPieces.{HeldAtEnd, HeldIsBegun, HeldIsSilent, KeysInPieces, ReadPieceByPiece, ReadByteByByte, OneByteMore};
@@ -19,8 +19,8 @@ pub fn readings_by_stages()
     ensures counted { ReadingsCounted }
 {}
 
-/// The bytes at the end of a piece that may begin an arrow are held. They are nothing, ESC, or ESC and `[`, and bring no
-/// key as yet.
+/// The bytes at the end of a piece that may begin an arrow are held. They are nothing, ESC, or ESC and `[`, and bring
+/// no key as yet.
 pub fn held_bytes()
     ensures at_end { HeldAtEnd }
     ensures begun { HeldIsBegun }

@@ -1,6 +1,7 @@
--- One attempt of a rule. Its places are those of the board as it is at the start, and so are their combinations: one place for
--- each row, the first row's changing fastest. Each combination in order is applied if every row still fits: all cells of all
--- rows are rewritten, row after row. A rule that has a combination queues its commands, whether it changed something or not.
+-- One attempt of a rule. Its places are those of the board as it is at the start, and so are their combinations: one
+-- place for each row, the first row's changing fastest. Each combination in order is applied if every row still fits:
+-- all cells of all rows are rewritten, row after row. A rule that has a combination queues its commands, whether it
+-- changed something or not.
 use Rattle.std.specs.Prelude.{ℕ, Bool, true, false, ◌&&◌, ◌||◌, not, if◌then◌else◌, Option, Some, None, List, [], ◌∷◌, map, fold, slice_get, slice_set}
 use Rattle.std.specs.Option.{option_or}
 use Rattle.std.specs.List.{flat_map}
@@ -98,8 +99,8 @@ both queue commands = record {
   message = option_or queue.message commands.message;
 }
 
--- the queue with the commands of a rule: behind `cancel` nothing enters, behind `restart` nothing but a rule with `cancel`; a rule
--- with `cancel` or `restart` empties the queue before its commands enter
+-- the queue with the commands of a rule: behind `cancel` nothing enters, behind `restart` nothing but a rule with
+-- `cancel`; a rule with `cancel` or `restart` empties the queue before its commands enter
 abbrev pub queued : Commands → Commands → Commands
 queued queue commands =
     if queue.cancel then queue

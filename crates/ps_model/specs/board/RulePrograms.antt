@@ -1,5 +1,5 @@
--- The two programs of a game's rules: the plain one, and the late one. Rules in their order make groups, a rule with `+` in that
--- of the rule before; the groups between `startloop` and `endloop` make a loop, which both programs have.
+-- The two programs of a game's rules: the plain one, and the late one. Rules in their order make groups, a rule with
+-- `+` in that of the rule before; the groups between `startloop` and `endloop` make a loop, which both programs have.
 use Rattle.std.specs.Prelude.{Bool, true, false, if◌then◌else◌, List, [], ◌∷◌, ◌++◌, map, filter}
 use Rattle.std.specs.List.{flat_map, filter_map, slice_split}
 use Rattle.std.specs.Prelude.{Option, Some, None, not}

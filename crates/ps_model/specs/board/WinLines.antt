@@ -1,5 +1,5 @@
--- The lines of WINCONDITIONS: `No X`, `Some X` or `Any X`, `All X`, and each of these with `on Y`. X and Y are names; a key word
--- may be one.
+-- The lines of WINCONDITIONS: `No X`, `Some X` or `Any X`, `All X`, and each of these with `on Y`. X and Y are names; a
+-- key word may be one.
 use Rattle.std.specs.Prelude.{ℕ, Bool, false, ◌&&◌, not, if◌then◌else◌, Option, Some, None, is_some, option_map, List, [], ◌∷◌, ◌++◌, codes}
 use Rattle.std.specs.List.{filter_map, flat_map}
 use Rattle.std.specs.Str.{bytes_eq}

@@ -1,5 +1,5 @@
--- The games that this version plays: no option is set, there are no rules and no win conditions, and there is one level and no
--- message. Of every other game it says that it isn't played yet.
+-- The games that this version plays: no option is set, there are no rules and no win conditions, and there is one level
+-- and no message. Of every other game it says that it isn't played yet.
 use Rattle.std.specs.Prelude.{ℕ, nat_eq, nat_lt, Bool, ◌&&◌, ◌||◌, not, Option, Some, None, List, [], ◌∷◌, length}
 use Rattle.ps_model.specs.text.OptionSteps.{◌>>=◌, only_if}
 use Rattle.ps_model.specs.declared.options.Options.{Options}

@@ -1,6 +1,6 @@
--- Compiled rules, as data: for each cell a mask, which tells the cells of the board that it fits, and a write, which tells what it
--- makes of them. A mask and a write mean the same two facts that a reading of a source rule means, so places, attempts, rounds and
--- programs are the same words for both.
+-- Compiled rules, as data: for each cell a mask, which tells the cells of the board that it fits, and a write, which
+-- tells what it makes of them. A mask and a write mean the same two facts that a reading of a source rule means, so
+-- places, attempts, rounds and programs are the same words for both.
 use Rattle.std.specs.Prelude.{ℕ, suc, nat_eq, Bool, false, ◌&&◌, not, Option, Some, None, List, [], ◌∷◌, map, find, slice_index_or, unwrap_or, if◌then◌else◌}
 use Rattle.std.specs.List.{list_all, list_any}
 use Rattle.ps_model.specs.declared.pieces.ObjectId.{ObjectId}

@@ -1,5 +1,6 @@
--- The compiled rules of a source rule, one for each possible reading, in their order; and the compiled programs of a game's rules,
--- made of these as the programs of the source are made of what its rules mean. They mean the same, rule by rule.
+-- The compiled rules of a source rule, one for each possible reading, in their order; and the compiled programs of a
+-- game's rules, made of these as the programs of the source are made of what its rules mean. They mean the same, rule
+-- by rule.
 use Rattle.std.specs.Prelude.{List, [], ◌∷◌, ◌++◌, map, filter}
 use Rattle.std.specs.List.{flat_map, filter_map, slice_split}
 use Rattle.ps_model.specs.declared.rules.Part.{Part}

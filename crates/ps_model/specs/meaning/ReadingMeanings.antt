@@ -1,5 +1,5 @@
--- What a rule means: its possible readings in their order. A reading is impossible where a cell of one side has two names of one
--- layer, `no` aside.
+-- What a rule means: its possible readings in their order. A reading is impossible where a cell of one side has two
+-- names of one layer, `no` aside.
 use Rattle.std.specs.Prelude.{nat_eq, Bool, true, ◌&&◌, not, List, [], ◌∷◌, map, filter}
 use Rattle.std.specs.List.{flat_map, list_all, list_any}
 use Rattle.ps_model.specs.declared.pieces.ObjectId.{ObjectId}

@@ -1,5 +1,6 @@
--- The faults of the lines of RULES in the order in which they are told: by line, and within one line by their codes. A `+` joins a
--- rule to the group of the rule before, of which it must be late as the other is; loops don't nest, and have a start and an end.
+-- The faults of the lines of RULES in the order in which they are told: by line, and within one line by their codes. A
+-- `+` joins a rule to the group of the rule before, of which it must be late as the other is; loops don't nest, and
+-- have a start and an end.
 use Rattle.std.specs.Prelude.{ℕ, suc, nat_le, Bool, true, ◌&&◌, not, if◌then◌else◌, false, Option, Some, None, is_some, List, [], ◌∷◌, ◌++◌}
 use Rattle.std.specs.Option.{is_none}
 use Rattle.ps_model.specs.declared.faults.Fault.{Fault}

@@ -1,4 +1,5 @@
--- The faults of a rule that lie in what its cells name: a name twice, `no` before an aggregate, and what is left open on the right.
+-- The faults of a rule that lie in what its cells name: a name twice, `no` before an aggregate, and what is left open
+-- on the right.
 use Rattle.std.specs.Prelude.{ℕ, nat_eq, Bool, true, false, ◌&&◌, ◌||◌, Option, Some, None, List, [], ◌∷◌, ◌++◌}
 use Rattle.std.specs.List.{list_any, flat_map, filter_map}
 use Rattle.std.specs.Option.{is_none}

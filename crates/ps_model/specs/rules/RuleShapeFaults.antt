@@ -1,5 +1,5 @@
--- The faults of a rule that lie in where its words stand: brackets, words out of place, rows of the right, movement words of a late
--- rule, ellipses.
+-- The faults of a rule that lie in where its words stand: brackets, words out of place, rows of the right, movement
+-- words of a late rule, ellipses.
 use Rattle.std.specs.Prelude.{nat_eq, nat_lt, Bool, true, false, ◌&&◌, ◌||◌, not, if◌then◌else◌, List, [], ◌∷◌, ◌++◌, length, filter, reverse, slice_index_or}
 use Rattle.std.specs.List.{list_any}
 use Rattle.ps_model.specs.declared.limits.TheConstants.{ELLIPSIS_LIMIT}
@@ -68,8 +68,9 @@ misses_name cell = misses_name_behind Open cell
 abbrev pub has_wrong_cell : WrittenSide → Bool
 has_wrong_cell side = has_kind (λ symbol. not (is_cell_word symbol)) (words_in_cells side) || list_any misses_name (cells_of_side side)
 
--- RU2: a word that means nothing, or stands where it can't: before the rows something else than `+`, `late` and direction words;
--- behind a row of the left anything; on the right anything before the last row, and something else than commands behind it
+-- RU2: a word that means nothing, or stands where it can't: before the rows something else than `+`, `late` and
+-- direction words; behind a row of the left anything; on the right anything before the last row, and something else
+-- than commands behind it
 abbrev pub has_unknown_word : RuleShape → Bool
 has_unknown_word shape =
     has_kind (λ symbol. not (is_rule_word symbol)) shape.left.ahead

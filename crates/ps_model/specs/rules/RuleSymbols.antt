@@ -1,5 +1,5 @@
--- What each word of a line of RULES is. Words are compared with their letters folded. Inside a rule a key word is meant also where
--- an object has that name; each other word is a name with what it stands for, or it means nothing.
+-- What each word of a line of RULES is. Words are compared with their letters folded. Inside a rule a key word is meant
+-- also where an object has that name; each other word is a name with what it stands for, or it means nothing.
 use Rattle.std.specs.Prelude.{ℕ, ◌+◌, Bool, true, false, not, if◌then◌else◌, Option, Some, None, unwrap_or, List, [], ◌∷◌, ◌++◌, map, filter, slice_range, codes}
 use Rattle.std.specs.Str.{bytes_eq}
 use Rattle.std.specs.Map.{lookup}
@@ -113,6 +113,7 @@ abbrev pub is_left_out : Symbol → Bool
 is_left_out LeftOut = true
 is_left_out other = false
 
--- the words of a line but for those that this profile leaves out: they are as if they weren't there, but for the refusal
+-- the words of a line but for those that this profile leaves out: they are as if they weren't there, but for the
+-- refusal
 abbrev pub tokens_kept : List Token → List Token
 tokens_kept tokens = filter (λ token. not (is_left_out token.symbol)) tokens

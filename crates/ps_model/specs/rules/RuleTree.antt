@@ -1,5 +1,5 @@
--- The tree of a rule: its cells with what they ask for on the left and what becomes of them on the right, its directions and its
--- commands.
+-- The tree of a rule: its cells with what they ask for on the left and what becomes of them on the right, its
+-- directions and its commands.
 use Rattle.std.specs.Prelude.{ℕ, Bool, true, false, ◌&&◌, Option, Some, None, option_map, List, [], ◌∷◌, ◌++◌, map, filter, fold}
 use Rattle.std.specs.List.{slice_split, list_all, list_any}
 use Rattle.ps_model.specs.declared.pieces.Direction.{Direction}

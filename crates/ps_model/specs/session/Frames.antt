@@ -33,8 +33,8 @@ first_of_three (Some glyph) second third = Some glyph
 first_of_three None (Some glyph) third = Some glyph
 first_of_three None None third = third
 
--- the glyph of a cell with these objects: one for exactly them; else one for exactly them but for those of the background
--- layer; else one for the object on the topmost occupied layer alone
+-- the glyph of a cell with these objects: one for exactly them; else one for exactly them but for those of the
+-- background layer; else one for the object on the topmost occupied layer alone
 abbrev pub glyph_of_objects : Names → List ObjectId → Option Glyph
 glyph_of_objects names objects =
     first_of_three (glyph_for names objects) (glyph_for names (filter (λ object. not (is_ground names object)) objects)) (glyph_for names (topmost objects))

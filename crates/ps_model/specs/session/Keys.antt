@@ -1,5 +1,5 @@
--- The keys of a stream of bytes: letters, and the arrow keys of a terminal, which are three bytes each. All other bytes mean
--- nothing.
+-- The keys of a stream of bytes: letters, and the arrow keys of a terminal, which are three bytes each. All other bytes
+-- mean nothing.
 use Rattle.std.specs.Prelude.{ℕ, zero, suc, ◌==◌, ◌&&◌, if◌then◌else◌, Option, Some, None, option_to_list, List, [], ◌∷◌, ◌++◌}
 use Rattle.ps_model.specs.declared.play.Input.TheVariants.{Up, Down, Left, Right, Action}
 use Rattle.ps_model.specs.declared.play.Key.{Key}

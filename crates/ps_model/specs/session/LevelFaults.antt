@@ -25,8 +25,8 @@ is_unknown_glyph names character = not (is_some (character_meaning names charact
 abbrev pub is_property_glyph : Names → ℕ → Bool
 is_property_glyph names character = is_property (character_meaning names character)
 
--- a level too large, LV3, at a row by its place in the level: at the first row where that is too long, and at the first row over
--- the limit
+-- a level too large, LV3, at a row by its place in the level: at the first row where that is too long, and at the first
+-- row over the limit
 abbrev pub is_too_large : ℕ → ℕ → Bool
 is_too_large width place = (nat_eq place 0 && nat_lt SIDE_LIMIT width) || nat_eq place SIDE_LIMIT
 

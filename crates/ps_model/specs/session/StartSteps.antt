@@ -1,5 +1,5 @@
--- The start of a level, at which its first frame is written, and of each restart. Where an option asks for it a turn without input
--- comes first. Then a message may wait, and again turns may follow. A win at the start is dropped.
+-- The start of a level, at which its first frame is written, and of each restart. Where an option asks for it a turn
+-- without input comes first. Then a message may wait, and again turns may follow. A win at the start is dropped.
 use Rattle.std.specs.Prelude.{ℕ, zero, suc, Bool, true, false, Option, Some, None, List, [], slice_get, codes}
 use Rattle.std.specs.Option.{option_or}
 use Rattle.ps_model.specs.declared.play.Ending.TheVariants.{TheEnd}
@@ -15,21 +15,23 @@ abbrev pub start_pending : Bool → ℕ → Pending
 start_pending false left = Nothing
 start_pending true left = StartAgain left
 
--- a start behind a frame: a message waits; without one the again turns come, so many at most, if the turn is to come again
+-- a start behind a frame: a message waits; without one the again turns come, so many at most, if the turn is to come
+-- again
 abbrev pub start_told : Play → Option (List ℕ) → Bool → ℕ → (Play → Step) → Step
 start_told play (Some text) again left again_turns = waiting play text (start_pending again left)
 start_told play None false left again_turns = quietly (Playing play)
 start_told play None true left again_turns = again_turns play
 
--- a turn of a start that changed the board, by the frame that shows it and what follows; one that didn't is as if not run
+-- a turn of a start that changed the board, by the frame that shows it and what follows; one that didn't is as if not
+-- run
 abbrev pub start_counted : Script → Play → Done → ℕ → (Play → Step) → Step
 start_counted script play done left again_turns = elim done.changed [
   | false ↦ quietly (Playing play)
   | true ↦ let next : Play = with_turn play done in after (shown script next) (start_told next done.message done.again left again_turns)
 ]
 
--- an again turn of a start by its outcome: a blocked and a restarting one don't count, nor does one that left the board as it was; one
--- that doesn't count is as if not run, and ends the again turns
+-- an again turn of a start by its outcome: a blocked and a restarting one don't count, nor does one that left the board
+-- as it was; one that doesn't count is as if not run, and ends the again turns
 abbrev pub start_turn_by : Script → Play → ℕ → (Play → Step) → Outcome → Step
 start_turn_by script play left again_turns (Blocked message) = quietly (Playing play)
 start_turn_by script play left again_turns (Restarted message) = quietly (Playing play)

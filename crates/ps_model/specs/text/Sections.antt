@@ -1,5 +1,6 @@
--- The sections of a text. What stands before the first header is the prelude; then OBJECTS, LEGEND, SOUNDS, COLLISIONLAYERS,
--- RULES, WINCONDITIONS and LEVELS stand in this order. OBJECTS, COLLISIONLAYERS and LEVELS must be there.
+-- The sections of a text. What stands before the first header is the prelude; then OBJECTS, LEGEND, SOUNDS,
+-- COLLISIONLAYERS, RULES, WINCONDITIONS and LEVELS stand in this order. OBJECTS, COLLISIONLAYERS and LEVELS must be
+-- there.
 use Rattle.std.specs.Prelude.{ℕ, nat_eq, nat_lt, nat_le, Bool, ◌&&◌, not, unwrap_or, option_map, List, [], ◌∷◌, ◌++◌, length, filter, find}
 use Rattle.std.specs.List.{list_any, list_all, flat_map}
 use Rattle.ps_model.specs.declared.texts.Section.{Section}
