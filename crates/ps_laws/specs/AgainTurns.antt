@@ -1,7 +1,8 @@
 -- Again turns, those of a key and those of the start of a level: the longest list of turns that count, of no more than
 -- so many, which a message cuts. Each has a frame; what comes behind the last one is said by that one, or by the turn
 -- that doesn't count.
-use Rattle.std.specs.Prelude.{◌≡◌, ℕ, zero, suc, ◌-◌, ◌≤◌, ◌⊎◌, Bool, true, false, ◌&&◌, ◌||◌, not, is_none, Option, Some, None, List, [], ◌∷◌, length, ⊤}
+use Rattle.std.specs.Prelude.{◌≡◌, ℕ, zero, suc, ◌-◌, ◌≤◌, ◌⊎◌, Bool, true, false, ◌&&◌, ◌||◌, not, is_none, Option}
+use Rattle.std.specs.Prelude.{Some, None, List, [], ◌∷◌, length, ⊤}
 use Rattle.ps_model.specs.declared.limits.TheConstants.{AGAIN_LIMIT}
 use Rattle.ps_model.specs.board.Grid.{Grid}
 use Rattle.ps_model.specs.board.Turns.{Script, Done, Outcome, Blocked, Restarted, Finished, turn}
@@ -44,7 +45,8 @@ pub record IsLongest (counts goes_on : Done → Bool) (script : Script) (limit :
 
 -- what turns bring, of which so many are left: each its frame and what is told behind it, and the last what comes where
 -- they stop
-abbrev pub turns_told : (Play → Done → ℕ → (Play → Step) → Step) → (ℕ → Play → Step) → Script → List Done → ℕ → Play → Step
+abbrev pub turns_told : (Play → Done → ℕ → (Play → Step) → Step) → (ℕ → Play → Step) → Script → List Done → ℕ → Play →
+    Step
 turns_told told stop script [] left play = stop left play
 turns_told told stop script (done ∷ others) left play =
     let next : Play = with_turn play done in after (shown script next) (told next done (left - 1) (turns_told told stop script others (left - 1)))

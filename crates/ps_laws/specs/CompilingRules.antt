@@ -30,7 +30,8 @@ ReadingsCompile =
 
 -- the compiled rules of a game's rule are like what it means, one by one
 abbrev pub RulesCompile : Type 0
-RulesCompile = (names : Names) (rule : SourceRule) → IsRuleOf names rule → AllZip (SameRule names) (map meaning_of_rule (compiled_rules names rule)) (meanings names rule)
+RulesCompile =
+    (names : Names) (rule : SourceRule) → IsRuleOf names rule → AllZip (SameRule names) (map meaning_of_rule (compiled_rules names rule)) (meanings names rule)
 
 -- the compiled program of a game's rules is like their program, section by section
 abbrev pub ProgramsCompile : Type 0

@@ -9,7 +9,8 @@ use Rattle.ps_model.specs.names.Names.{Names}
 use Rattle.ps_model.specs.board.GameGrids.{IsCellOf, IsGridOf}
 use Rattle.ps_model.specs.meaning.RuleMeanings.{CellMeaning, RuleMeaning}
 use Rattle.ps_model.specs.board.Attempts.{State, Result, attempt}
-use Rattle.ps_model.specs.board.Programs.{Section, Group, Loop, Progress, round, group, pass, looped, section_run, program_run}
+use Rattle.ps_model.specs.board.Programs.{Section, Group, Loop, Progress, round, group, pass, looped, section_run}
+use Rattle.ps_model.specs.board.Programs.{program_run}
 
 -- alike --------------------------------------------------------------------------------------------------------------------
 
@@ -65,30 +66,36 @@ EqualAttempts = (names : Names) (a b : RuleMeaning) → SameRule names a b → (
 
 -- the rounds of two groups that are alike are equal
 abbrev pub EqualRounds : Type 0
-EqualRounds = (names : Names) (a b : List RuleMeaning) → SameGroup names a b → (state : State) → IsGridOf names state.grid →
+EqualRounds =
+    (names : Names) (a b : List RuleMeaning) → SameGroup names a b → (state : State) → IsGridOf names state.grid →
     EqualResults names (round a state) (round b state)
 
 -- and so are the groups
 abbrev pub EqualGroups : Type 0
-EqualGroups = (names : Names) (a b : List RuleMeaning) → SameGroup names a b → (state : State) → IsGridOf names state.grid →
+EqualGroups =
+    (names : Names) (a b : List RuleMeaning) → SameGroup names a b → (state : State) → IsGridOf names state.grid →
     EqualResults names (group a state) (group b state)
 
 -- the passes of two loops that are alike are equal
 abbrev pub EqualPasses : Type 0
-EqualPasses = (names : Names) (a b : List (List RuleMeaning)) → AllZip (SameGroup names) a b → (state : State) → IsGridOf names state.grid →
+EqualPasses =
+    (names : Names) (a b : List (List RuleMeaning)) → AllZip (SameGroup names) a b → (state : State) → IsGridOf names state.grid →
     EqualResults names (pass a state) (pass b state)
 
 -- and so are the loops, with as many repeats left
 abbrev pub EqualLoops : Type 0
-EqualLoops = (names : Names) (a b : List (List RuleMeaning)) → AllZip (SameGroup names) a b → (repeats : ℕ) (state : State) → IsGridOf names state.grid →
+EqualLoops =
+    (names : Names) (a b : List (List RuleMeaning)) → AllZip (SameGroup names) a b → (repeats : ℕ) (state : State) → IsGridOf names state.grid →
     EqualProgress names (looped a repeats state) (looped b repeats state)
 
 -- two sections that are alike are equal
 abbrev pub EqualSections : Type 0
-EqualSections = (names : Names) (a b : Section) → SameSection names a b → (repeats : ℕ) (state : State) → IsGridOf names state.grid →
+EqualSections =
+    (names : Names) (a b : Section) → SameSection names a b → (repeats : ℕ) (state : State) → IsGridOf names state.grid →
     EqualProgress names (section_run a repeats state) (section_run b repeats state)
 
 -- and so are two programs that are alike section by section
 abbrev pub EqualPrograms : Type 0
-EqualPrograms = (names : Names) (a b : List Section) → AllZip (SameSection names) a b → (state : State) → IsGridOf names state.grid →
+EqualPrograms =
+    (names : Names) (a b : List Section) → AllZip (SameSection names) a b → (state : State) → IsGridOf names state.grid →
     EqualStates names (program_run a state) (program_run b state)

@@ -19,7 +19,8 @@ HeldIsSilent = (bytes : List ℕ) → (keys_of (held bytes) ≡ []) × (keys_of 
 
 -- the keys of two pieces are those of the first but for what is held of it, and then those of that and the second
 abbrev pub KeysInPieces : Type 0
-KeysInPieces = (first second : List ℕ) → keys_of (first ++ second) ≡ keys_of (before_held first) ++ keys_of (held first ++ second)
+KeysInPieces =
+    (first second : List ℕ) → keys_of (first ++ second) ≡ keys_of (before_held first) ++ keys_of (held first ++ second)
 
 -- a reader that has given the keys of what it read, and holds what is held of it, reads a piece behind that: it gives
 -- the keys of both but for what is held then, and has again given the keys of all that it read, and holds what is held

@@ -57,4 +57,5 @@ GroupsSettle = (rules : List RuleMeaning) (state : State) → Settles rules ROUN
 
 -- a loop makes its passes, however many repeats are left
 abbrev pub LoopsPass : Type 0
-LoopsPass = (body : List (List RuleMeaning)) (repeats : ℕ) (state : State) → Passes body repeats state (looped body repeats state)
+LoopsPass =
+    (body : List (List RuleMeaning)) (repeats : ℕ) (state : State) → Passes body repeats state (looped body repeats state)

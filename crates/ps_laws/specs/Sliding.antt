@@ -40,4 +40,5 @@ IsStraight g direction sizes place = (end : ℕ) × (gaps : List ℕ) × (place 
 
 -- the places of a row are straight lines, with gaps between its parts alone
 abbrev pub PlacesAreStraight : Type 0
-PlacesAreStraight = (g : Grid) (direction : Direction) (row : List (List CellMeaning)) → All (IsStraight g direction (map length row)) (places g direction row)
+PlacesAreStraight =
+    (g : Grid) (direction : Direction) (row : List (List CellMeaning)) → All (IsStraight g direction (map length row)) (places g direction row)

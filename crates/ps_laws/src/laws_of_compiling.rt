@@ -2,8 +2,10 @@
 //!
 //! Each function here is a law: it has no body, and its contract is proved.
 
-ghost use Rattle.ps_laws.specs.CompilingCells.{LeftsAreOnOneLayer, RightsAreOnOneLayer, MasksFit, WritesRewrite, CompiledCellsAgree};
-ghost use Rattle.ps_laws.specs.CompilingRules.{RuleCellsAgree, ReadingsCompile, RulesCompile, ProgramsCompile, CompiledProgramsRunAlike};
+ghost use Rattle.ps_laws.specs.CompilingCells.{LeftsAreOnOneLayer, RightsAreOnOneLayer, MasksFit, WritesRewrite};
+ghost use Rattle.ps_laws.specs.CompilingCells.{CompiledCellsAgree};
+ghost use Rattle.ps_laws.specs.CompilingRules.{RuleCellsAgree, ReadingsCompile, RulesCompile, ProgramsCompile};
+ghost use Rattle.ps_laws.specs.CompilingRules.{CompiledProgramsRunAlike};
 
 /// What an item asks of a loose property lies on one layer, on the left and on the right, under every reading.
 pub fn loose_properties_lie_on_one_layer()

@@ -1,5 +1,9 @@
 //! Laws of the definitions: what every game of a text is.
-ghost use Rattle.ps_laws.specs.GamesOfTexts.{NamesReadAreBounded, GamesAreBounded, NamesReadHaveObjects, GamesHaveObjects, RulesReadAreOfNames, GameRulesAreOfNames, LoadedLevelsAreGrids, EntriesReadAreOfNames, GameEntriesAreOfNames, GameLevelsAreGrids, GameLevelsAreWithinLimits, GridsOfGamesAreGrids, GameTurnsKeepAll};
+ghost use Rattle.ps_laws.specs.GamesOfTexts.{NamesReadAreBounded, GamesAreBounded, NamesReadHaveObjects};
+ghost use Rattle.ps_laws.specs.GamesOfTexts.{GamesHaveObjects, RulesReadAreOfNames, GameRulesAreOfNames};
+ghost use Rattle.ps_laws.specs.GamesOfTexts.{LoadedLevelsAreGrids, EntriesReadAreOfNames, GameEntriesAreOfNames};
+ghost use Rattle.ps_laws.specs.GamesOfTexts.{GameLevelsAreGrids, GameLevelsAreWithinLimits, GridsOfGamesAreGrids};
+ghost use Rattle.ps_laws.specs.GamesOfTexts.{GameTurnsKeepAll};
 
 /// Names of lines without faults are bounded, and so are the names of every game.
 pub fn names_are_bounded()

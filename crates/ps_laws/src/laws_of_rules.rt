@@ -3,12 +3,16 @@
 //!
 //! Each function here is a law: it has no body, and its contract is proved.
 
-ghost use Rattle.ps_laws.specs.AlikeRounds.{KeptAreAlike, SameAreAlike, AlikeBothWays, AlikeThroughAnother, AppendedAreAlike, JoinedAreAlike, ForwardsAreAlike, IdleIsLeftOut};
+ghost use Rattle.ps_laws.specs.AlikeRounds.{KeptAreAlike, SameAreAlike, AlikeBothWays, AlikeThroughAnother};
+ghost use Rattle.ps_laws.specs.AlikeRounds.{AppendedAreAlike, JoinedAreAlike, ForwardsAreAlike, IdleIsLeftOut};
 ghost use Rattle.ps_laws.specs.AlikeRounds.{AlikeGroups, AlikePasses, AlikeLoops, AlikeSections, AlikePrograms};
-ghost use Rattle.ps_laws.specs.EqualMeanings.{EqualAttempts, EqualRounds, EqualGroups, EqualPasses, EqualLoops, EqualSections, EqualPrograms};
+ghost use Rattle.ps_laws.specs.EqualMeanings.{EqualAttempts, EqualRounds, EqualGroups, EqualPasses, EqualLoops};
+ghost use Rattle.ps_laws.specs.EqualMeanings.{EqualSections, EqualPrograms};
 ghost use Rattle.ps_laws.specs.IdleRules.{NowhereIsNothing, FittingNoneIsIdle, LeavingAllIsIdle};
 ghost use Rattle.ps_laws.specs.Settling.{GroupsSettle, LoopsPass};
-ghost use Rattle.ps_laws.specs.TurningRound.{PlacesTurned, AttemptsTurned, AttemptsForwards, RoundsForwards, GroupsForwards, PassesForwards, LoopsForwards, SectionsForwards, ProgramsForwards};
+ghost use Rattle.ps_laws.specs.TurningRound.{PlacesTurned, AttemptsTurned, AttemptsForwards, RoundsForwards};
+ghost use Rattle.ps_laws.specs.TurningRound.{GroupsForwards, PassesForwards, LoopsForwards, SectionsForwards};
+ghost use Rattle.ps_laws.specs.TurningRound.{ProgramsForwards};
 
 /// Rules whose cells fit alike and rewrite alike come to the same, alone, in groups, in loops and in whole programs.
 pub fn equal_meanings()

@@ -2,9 +2,13 @@
 //!
 //! Each function here is a law: it has no body, and its contract is proved.
 
-ghost use Rattle.ps_laws.specs.AgainTurns.{KeyTurnsAreLongest, StartTurnsAreLongest, AllKeyTurnsAreLongest, AllStartTurnsAreLongest};
-ghost use Rattle.ps_laws.specs.SessionSteps.{TurnsAreOutcomes, KeyTurnsAreLimited, StartTurnsAreLimited, KeyTurnsGoByOutcome, StartTurnsGoByOutcome, DoneWithHistory};
-ghost use Rattle.ps_laws.specs.SessionSteps.{TextsJoin, EmptyTextAddsNothing, UndoTakesLatest, UndoOfNothing, OpeningsAreEntered, FrontsAreTexts, SilentBytesWriteNothing, KeysWriteTheirTexts};
+ghost use Rattle.ps_laws.specs.AgainTurns.{KeyTurnsAreLongest, StartTurnsAreLongest, AllKeyTurnsAreLongest};
+ghost use Rattle.ps_laws.specs.AgainTurns.{AllStartTurnsAreLongest};
+ghost use Rattle.ps_laws.specs.SessionSteps.{TurnsAreOutcomes, KeyTurnsAreLimited, StartTurnsAreLimited};
+ghost use Rattle.ps_laws.specs.SessionSteps.{KeyTurnsGoByOutcome, StartTurnsGoByOutcome, DoneWithHistory};
+ghost use Rattle.ps_laws.specs.SessionSteps.{TextsJoin, EmptyTextAddsNothing, UndoTakesLatest, UndoOfNothing};
+ghost use Rattle.ps_laws.specs.SessionSteps.{OpeningsAreEntered, FrontsAreTexts, SilentBytesWriteNothing};
+ghost use Rattle.ps_laws.specs.SessionSteps.{KeysWriteTheirTexts};
 
 /// The again turns of a key, and those of a start, are those of the longest list of turns that count, no more than
 /// their limit; a message cuts it.

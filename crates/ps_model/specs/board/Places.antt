@@ -2,7 +2,8 @@
 -- ellipsis, of which each fits. Horizontal directions are searched row by row from the top, each from the left;
 -- vertical ones column by column from the left, each from the top. A place is ordered by its end cell that is leftmost
 -- or topmost, then by the gap.
-use Rattle.std.specs.Prelude.{ℕ, suc, ◌+◌, ◌-◌, ◌*◌, ◌/◌, ◌%◌, nat_le, Bool, true, false, Option, Some, None, List, [], ◌∷◌, ◌++◌, length, map, filter, take, drop, reverse, slice_get}
+use Rattle.std.specs.Prelude.{ℕ, suc, ◌+◌, ◌-◌, ◌*◌, ◌/◌, ◌%◌, nat_le, Bool, true, false, Option, Some, None, List, []}
+use Rattle.std.specs.Prelude.{◌∷◌, ◌++◌, length, map, filter, take, drop, reverse, slice_get}
 use Rattle.std.specs.List.{flat_map, range_with_len}
 use Rattle.ps_model.specs.declared.pieces.Direction.{Direction}
 use Rattle.ps_model.specs.declared.pieces.Direction.TheVariants.{Up, Down, Left, Right}
@@ -63,7 +64,8 @@ abbrev pub fits_along : Grid → List CellMeaning → List ℕ → Bool
 fits_along g [] [] = true
 fits_along g [] (cell ∷ cells) = false
 fits_along g (meaning ∷ meanings) [] = false
-fits_along g (meaning ∷ meanings) (cell ∷ cells) = elim (fits_there meaning (slice_get g.cells cell)) [ true ↦ fits_along g meanings cells | false ↦ false ]
+fits_along g (meaning ∷ meanings) (cell ∷ cells) =
+    elim (fits_there meaning (slice_get g.cells cell)) [ true ↦ fits_along g meanings cells | false ↦ false ]
 
 -- the cells of a row in written order
 abbrev pub cells_in : List (List CellMeaning) → List CellMeaning

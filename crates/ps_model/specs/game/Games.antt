@@ -44,7 +44,8 @@ game_with lines names = record {
 
 -- what is read from the lines of a text, with faults or without
 abbrev pub game_read : List Line → Game
-game_read lines = game_with lines (names_read (section_lines lines Objects) (section_lines lines Legend) (section_lines lines Layers))
+game_read lines =
+    game_with lines (names_read (section_lines lines Objects) (section_lines lines Legend) (section_lines lines Layers))
 
 -- the faults of lines, of which this was read: headers and prelude; names; rules; levels; win conditions; then rules
 -- with too many readings, and rules of which every reading is impossible

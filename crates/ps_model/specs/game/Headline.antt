@@ -84,7 +84,8 @@ pub record CannotWriteRightly (script : Script) (told : Told) : Type 0 where
 
 -- what a run may answer
 abbrev pub Answers : List ℕ → Told → Answer → Type 0
-Answers text told (Ends ending) = (script : Script) × (script_of_text text ≡ Some script) × EndsAsMeant script told ending
+Answers text told (Ends ending) =
+    (script : Script) × (script_of_text text ≡ Some script) × EndsAsMeant script told ending
 Answers text told (Refuses fault) = RefusesRightly text told fault
 Answers text told WantsMemory = WantsMemoryRightly text told
 Answers text told CannotRead = (script : Script) × (script_of_text text ≡ Some script) × CannotReadRightly script told

@@ -58,7 +58,8 @@ here_or_only [] (first ∷ second ∷ others) = None
 -- the left occurrence that decides a property on the right of a cell: the one in the same cell with the same name;
 -- without one, the only left occurrence of that property
 abbrev pub bound_name : SourceRule → CellPair → Meaning → Option ℕ
-bound_name rule cell meaning = here_or_only (numbers (filter (names_it meaning) cell.left)) (numbers (filter (names_it meaning) (left_items rule)))
+bound_name rule cell meaning =
+    here_or_only (numbers (filter (names_it meaning) cell.left)) (numbers (filter (names_it meaning) (left_items rule)))
 
 -- the left occurrence that decides a word of several moves before a name on the right of a cell: the one in the same
 -- cell with the same word and the same name; without one, the only left occurrence of that word, with whatever name

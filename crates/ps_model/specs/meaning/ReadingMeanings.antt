@@ -31,7 +31,8 @@ meaning_by names left right =
 
 -- the meaning of a cell under a reading
 abbrev pub cell_meaning : Names → SourceRule → Reading → CellPair → CellMeaning
-cell_meaning names rule reading cell = meaning_by names (left_of_cell names rule reading cell) (right_of_cell names rule reading cell)
+cell_meaning names rule reading cell =
+    meaning_by names (left_of_cell names rule reading cell) (right_of_cell names rule reading cell)
 
 -- no two claims are on one layer
 abbrev pub are_apart : List Claim → Bool

@@ -42,7 +42,8 @@ chosen_member reading (Some number) = one_member (lookup (nat_eq number) reading
 
 -- the motion of a word: the chosen one, where the word leaves a choice
 abbrev pub motion_of_word : Reading → Option ℕ → MovementWord → Option Motion
-motion_of_word reading bound word = if is_several word then chosen_move reading bound else Some (slice_index_or (turned reading.direction word) 0 Still)
+motion_of_word reading bound word =
+    if is_several word then chosen_move reading bound else Some (slice_index_or (turned reading.direction word) 0 Still)
 
 -- what a name asks whose property, if it is a fixed one, has the choice of an occurrence
 abbrev pub wanted_name : Names → SourceRule → Reading → Option ℕ → Meaning → Option Motion → Wanted
@@ -61,7 +62,8 @@ wanted_left names rule reading (No meaning) = Without (members meaning)
 -- what the right puts there, by an item of a cell's right, or what it takes away with `no`: the choices are those of
 -- the left occurrences that the item is bound to
 abbrev pub wanted_right : Names → SourceRule → CellPair → Reading → Item → Wanted
-wanted_right names rule cell reading (Is number None meaning) = wanted_name names rule reading (bound_name rule cell meaning) meaning None
+wanted_right names rule cell reading (Is number None meaning) =
+    wanted_name names rule reading (bound_name rule cell meaning) meaning None
 wanted_right names rule cell reading (Is number (Some word) meaning) =
     wanted_name names rule reading (bound_name rule cell meaning) meaning (motion_of_word reading (bound_word rule cell word meaning) word)
 wanted_right names rule cell reading (No meaning) = Without (members meaning)

@@ -1,6 +1,7 @@
 -- The shape of a rule: `->` parts its line in a left and a right side, brackets part a side in rows and what stands
 -- outside them, and bars part a row in cells. Brackets that don't pair, or nest, make no shape.
-use Rattle.std.specs.Prelude.{Bool, true, false, not, Option, Some, None, List, [], ◌∷◌, ◌++◌, map, fold, drop, slice_index_or}
+use Rattle.std.specs.Prelude.{Bool, true, false, not, Option, Some, None, List, [], ◌∷◌, ◌++◌, map, fold, drop}
+use Rattle.std.specs.Prelude.{slice_index_or}
 use Rattle.std.specs.List.{slice_split, list_any, flat_map}
 use Rattle.ps_model.specs.text.OptionSteps.{◌>>=◌, only_if, all_there}
 use Rattle.ps_model.specs.rules.RuleSymbols.{Symbol, Open, Close, Bar, Arrow, Ellipsis, Plus, Late, Token}

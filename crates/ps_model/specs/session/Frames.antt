@@ -1,5 +1,6 @@
 -- What is written: lines, and frames, which show the board row by row from the top.
-use Rattle.std.specs.Prelude.{option_to_list, slice_get, length, ℕ, ◌+◌, ◌-◌, ◌*◌, Bool, ◌&&◌, not, Option, Some, None, List, ◌++◌, find, filter, codes, encode_utf8}
+use Rattle.std.specs.Prelude.{option_to_list, slice_get, length, ℕ, ◌+◌, ◌-◌, ◌*◌, Bool, ◌&&◌, not, Option, Some, None}
+use Rattle.std.specs.Prelude.{List, ◌++◌, find, filter, codes, encode_utf8}
 use Rattle.std.specs.List.{list_all, flat_map, filter_map, range_with_len}
 use Rattle.ps_model.specs.declared.pieces.ObjectId.{ObjectId}
 use Rattle.ps_model.specs.declared.pieces.Slot.{Slot}

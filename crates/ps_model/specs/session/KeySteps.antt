@@ -1,7 +1,8 @@
 -- What each key does. A direction or `x` makes a turn, with its frame, its message, and then the end of the level or
 -- again turns; `z` goes back to the latest board of the history, `r` restarts, `q` quits. While a message waits, `x`
 -- dismisses it, and all keys but `q` are ignored.
-use Rattle.std.specs.Prelude.{ℕ, zero, suc, Bool, true, false, ◌||◌, Option, Some, None, List, ◌-◌, length, take, slice_get, codes}
+use Rattle.std.specs.Prelude.{ℕ, zero, suc, Bool, true, false, ◌||◌, Option, Some, None, List, ◌-◌, length, take}
+use Rattle.std.specs.Prelude.{slice_get, codes}
 use Rattle.ps_model.specs.declared.play.Ending.TheVariants.{Quit as Quits}
 use Rattle.ps_model.specs.declared.play.Input.{Input}
 use Rattle.ps_model.specs.declared.play.Input.TheVariants.{Up, Down, Left, Right, Action}
@@ -10,7 +11,9 @@ use Rattle.ps_model.specs.declared.play.Key.TheVariants.{Move, Undo, Restart, Qu
 use Rattle.ps_model.specs.declared.limits.TheConstants.{AGAIN_LIMIT}
 use Rattle.ps_model.specs.board.Grid.{Grid}
 use Rattle.ps_model.specs.board.Turns.{Script, Done, Outcome, Blocked, Restarted, Finished, turn}
-use Rattle.ps_model.specs.session.Sessions.{Play, Pending, Nothing, LevelDone, KeyAgain, StartAgain, Session, Playing, Waiting, AtMessage, Ended, Step, quietly, after, waiting, shown, remembered, with_turn}
+use Rattle.ps_model.specs.session.Sessions.{Play, Pending, Nothing, LevelDone, KeyAgain, StartAgain, Session, Playing}
+use Rattle.ps_model.specs.session.Sessions.{Waiting, AtMessage, Ended, Step, quietly, after, waiting, shown, remembered}
+use Rattle.ps_model.specs.session.Sessions.{with_turn}
 use Rattle.ps_model.specs.session.StartSteps.{start_turns, enter, level_done, restarted}
 
 -- turns ------------------------------------------------------------------------------------------------------------------

@@ -1,7 +1,8 @@
 -- The entries of LEVELS. A line whose first word is `message` is a message. Other lines that aren't blank are rows, and
 -- rows right below one another make a level: a blank line or a message ends it. The first row says how wide the level
 -- is.
-use Rattle.std.specs.Prelude.{ℕ, ◌-◌, Bool, true, false, ◌&&◌, not, unwrap_or, List, [], ◌∷◌, ◌++◌, length, map, take, drop, replicate, slice_index_or, codes}
+use Rattle.std.specs.Prelude.{ℕ, ◌-◌, Bool, true, false, ◌&&◌, not, unwrap_or, List, [], ◌∷◌, ◌++◌, length, map, take}
+use Rattle.std.specs.Prelude.{drop, replicate, slice_index_or, codes}
 use Rattle.std.specs.List.{flat_map, range_with_len, prefix_len, take_while}
 use Rattle.std.specs.Str.{bytes_eq, chars}
 use Rattle.ps_model.specs.declared.pieces.ObjectId.{ObjectId}
@@ -82,7 +83,8 @@ level_of names width rows =
 -- the entry of its lines
 abbrev pub entry_of_lines : Names → EntryLines → Entry
 entry_of_lines names (MessageLine line) = MessageEntry (taken_bytes line)
-entry_of_lines names (LevelRows first below) = LevelEntry (level_of names (length (characters_of first)) (first ∷ below))
+entry_of_lines names (LevelRows first below) =
+    LevelEntry (level_of names (length (characters_of first)) (first ∷ below))
 
 -- the entries of LEVELS, from its lines that are there
 abbrev pub entries_read : Names → List Line → List Entry

@@ -1,7 +1,8 @@
 -- A session: where a player is in a game. Each key gives a new session and a text that is written. What a session is,
 -- and the lines and boards that its steps speak of, stand here; the start of a level and the keys have files of their
 -- own.
-use Rattle.std.specs.Prelude.{ℕ, suc, ◌-◌, Bool, true, false, if◌then◌else◌, List, [], ◌∷◌, ◌++◌, length, take, drop, filter, codes}
+use Rattle.std.specs.Prelude.{ℕ, suc, ◌-◌, Bool, true, false, if◌then◌else◌, List, [], ◌∷◌, ◌++◌, length, take, drop}
+use Rattle.std.specs.Prelude.{filter, codes}
 use Rattle.ps_model.specs.declared.play.Ending.{Ending}
 use Rattle.ps_model.specs.declared.limits.TheConstants.{HISTORY_LIMIT}
 use Rattle.std.specs.Fmt.{decimal}

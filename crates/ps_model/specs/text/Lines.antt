@@ -2,12 +2,15 @@
 -- ends at its `)`, comments nest, and what stands in one reads as blanks. Each line has the section that it stands in:
 -- the one of the last header at or above it, or the prelude. In three places the rest of a line is a text that is taken
 -- as it stands.
-use Rattle.std.specs.Prelude.{ℕ, suc, ◌+◌, ◌-◌, ◌==◌, nat_eq, nat_lt, Bool, ◌&&◌, ◌||◌, not, if◌then◌else◌, Option, Some, None, unwrap_or, is_some, option_map, List, [], ◌∷◌, ◌++◌, length, take, drop, reverse, replicate, fold, find, slice_index_or, slice_range, codes}
+use Rattle.std.specs.Prelude.{ℕ, suc, ◌+◌, ◌-◌, ◌==◌, nat_eq, nat_lt, Bool, ◌&&◌, ◌||◌, not, if◌then◌else◌, Option}
+use Rattle.std.specs.Prelude.{Some, None, unwrap_or, is_some, option_map, List, [], ◌∷◌, ◌++◌, length, take, drop}
+use Rattle.std.specs.Prelude.{reverse, replicate, fold, find, slice_index_or, slice_range, codes}
 use Rattle.std.specs.List.{slice_split, starts_with, prefix_len, list_all, list_any}
 use Rattle.std.specs.Str.{bytes_eq, str_to_ascii_lowercase}
 use Rattle.std.specs.Map.{lookup}
 use Rattle.ps_model.specs.declared.texts.Section.{Section}
-use Rattle.ps_model.specs.declared.texts.Section.TheVariants.{Prelude, Objects, Legend, Sounds, Layers, Rules, Wins, Levels}
+use Rattle.ps_model.specs.declared.texts.Section.TheVariants.{Prelude, Objects, Legend, Sounds, Layers, Rules, Wins}
+use Rattle.ps_model.specs.declared.texts.Section.TheVariants.{Levels}
 use Rattle.ps_model.specs.declared.texts.Cut.TheVariants.{Blanks}
 use Rattle.ps_model.specs.text.Words.{is_blank, word_texts, words_in}
 use Rattle.ps_model.specs.text.RuleWords.{rule_words_in}
@@ -58,7 +61,8 @@ in_comment depth byte = nat_lt 0 depth || byte == 40
 -- bytes before which so many comments are open, with a blank for each that stands in a comment
 abbrev pub without_comments : ℕ → List ℕ → List ℕ
 without_comments depth [] = []
-without_comments depth (byte ∷ bytes) = (if in_comment depth byte then 32 else byte) ∷ without_comments (depth_behind depth byte) bytes
+without_comments depth (byte ∷ bytes) =
+    (if in_comment depth byte then 32 else byte) ∷ without_comments (depth_behind depth byte) bytes
 
 -- headers ---------------------------------------------------------------------------------------------------------------
 
@@ -105,7 +109,8 @@ behind_arrow bytes words = drop (suc (prefix_len (λ word. not (is_word bytes (c
 abbrev pub text_place : Section → List ℕ → Option ℕ
 text_place Prelude uncommented = end_of_first uncommented (codes "title" ∷ codes "author" ∷ codes "homepage" ∷ [])
 text_place Levels uncommented = end_of_first uncommented (codes "message" ∷ [])
-text_place Rules uncommented = end_of_word (find (is_word uncommented (codes "message" ∷ [])) (behind_arrow uncommented (rule_words_in uncommented)))
+text_place Rules uncommented =
+    end_of_word (find (is_word uncommented (codes "message" ∷ [])) (behind_arrow uncommented (rule_words_in uncommented)))
 text_place section uncommented = None
 
 -- how long that text is: in the prelude it ends where a comment begins; elsewhere it has all that follows, parentheses
