@@ -23,7 +23,7 @@ fn is_arrow_at(line: &[u8], at: usize) -> bool
 
 /// Whether the byte is a word by itself, where a word is open before it or not.
 fn is_mark(byte: u8, within: bool) -> bool
-    ensures { result ≡ rules.is_alone within byte }
+    ensures { result ≡ rules.is_own_word within byte }
 {
     let is_sign = byte == b'>' || byte == b'<' || byte == b'^';
     byte == b'[' || byte == b']' || byte == b'|' || (is_sign && !within)
