@@ -14,3 +14,4 @@ pub mod Winners
 pub mod Zipped
 pub mod BoardPlaces
 pub mod Chains
+pub mod StraightPlaces

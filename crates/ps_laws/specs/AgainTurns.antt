@@ -1,6 +1,8 @@
--- Again turns, those of a key and those of the start of a level: the longest list of turns that count, of no more than so many,
--- which a message cuts. Each has a frame; what comes behind the last one is said by that one, or by the turn that doesn't count.
-use Rattle.std.specs.Prelude.{◌≡◌, ℕ, zero, suc, ◌-◌, ◌≤◌, ◌⊎◌, Bool, true, false, ◌&&◌, ◌||◌, not, is_none, Option, Some, None, List, [], ◌∷◌, length, ⊤}
+-- Again turns, those of a key and those of the start of a level: the longest list of turns that count, of no more than
+-- so many, which a message cuts. Each has a frame; what comes behind the last one is said by that one, or by the turn
+-- that doesn't count.
+use Rattle.std.specs.Prelude.{◌≡◌, ℕ, zero, suc, ◌-◌, ◌≤◌, ◌⊎◌, Bool, true, false, ◌&&◌, ◌||◌, not, is_none, Option}
+use Rattle.std.specs.Prelude.{Some, None, List, [], ◌∷◌, length, ⊤}
 use Rattle.ps_model.specs.declared.limits.TheConstants.{AGAIN_LIMIT}
 use Rattle.ps_model.specs.board.Grid.{Grid}
 use Rattle.ps_model.specs.board.Turns.{Script, Done, Outcome, Blocked, Restarted, Finished, turn}
@@ -26,7 +28,8 @@ counts_for_start done = done.changed
 abbrev pub goes_on_for_start : Done → Bool
 goes_on_for_start done = is_none done.message && done.again
 
--- turns without input from a board on, one after the other: all of them count, and behind each but the last another is due
+-- turns without input from a board on, one after the other: all of them count, and behind each but the last another is
+-- due
 abbrev pub Follow : (Done → Bool) → (Done → Bool) → Script → Grid → List Done → Type 0
 Follow counts goes_on script board [] = ⊤
 Follow counts goes_on script board (done ∷ others) =
@@ -40,8 +43,10 @@ pub record IsLongest (counts goes_on : Done → Bool) (script : Script) (limit :
 
 -- what they bring --------------------------------------------------------------------------------------------------------
 
--- what turns bring, of which so many are left: each its frame and what is told behind it, and the last what comes where they stop
-abbrev pub turns_told : (Play → Done → ℕ → (Play → Step) → Step) → (ℕ → Play → Step) → Script → List Done → ℕ → Play → Step
+-- what turns bring, of which so many are left: each its frame and what is told behind it, and the last what comes where
+-- they stop
+abbrev pub turns_told : (Play → Done → ℕ → (Play → Step) → Step) → (ℕ → Play → Step) → Script → List Done → ℕ → Play →
+    Step
 turns_told told stop script [] left play = stop left play
 turns_told told stop script (done ∷ others) left play =
     let next : Play = with_turn play done in after (shown script next) (told next done (left - 1) (turns_told told stop script others (left - 1)))

@@ -1,6 +1,7 @@
--- Two lists of rules are alike on a game where their rounds come to the same from each grid of the game, and to a grid of the game.
--- They needn't be alike rule by rule, nor have as many rules: several may stand for one, some may be left out, and each may face
--- down or right. Whatever is made of rounds comes to the same then: groups, passes, loops, sections and programs.
+-- Two lists of rules are alike on a game where their rounds come to the same from each grid of the game, and to a grid
+-- of the game. They needn't be alike rule by rule, nor have as many rules: several may stand for one, some may be left
+-- out, and each may face down or right. Whatever is made of rounds comes to the same then: groups, passes, loops,
+-- sections and programs.
 use Rattle.std.specs.Prelude.{ℕ, List, ◌∷◌, ◌++◌, map, All}
 use Rattle.std.specs.List.{AllZip, flat_map}
 use Rattle.ps_model.specs.names.Names.{Names}
@@ -15,11 +16,13 @@ use Rattle.ps_laws.specs.IdleRules.{IsIdle}
 
 -- alike --------------------------------------------------------------------------------------------------------------------
 
--- two lists of rules are alike on a game: from each of its grids their rounds come to the same, and to a grid of the game
+-- two lists of rules are alike on a game: from each of its grids their rounds come to the same, and to a grid of the
+-- game
 abbrev pub Alike : Names → List RuleMeaning → List RuleMeaning → Type 0
 Alike names a b = (state : State) → IsGridOf names state.grid → EqualResults names (round a state) (round b state)
 
--- two sections are alike: both are groups whose rules are alike, or both are loops over groups that are alike one by one
+-- two sections are alike: both are groups whose rules are alike, or both are loops over groups that are alike one by
+-- one
 abbrev pub AlikeSection : Names → Section → Section → Type 0
 AlikeSection names (Group a) (Group b) = Alike names a b
 AlikeSection names (Group a) (Loop b) = ⊥
@@ -46,7 +49,8 @@ AlikeThroughAnother = (names : Names) (a b c : List RuleMeaning) → Alike names
 
 -- lists that are alike stay so with lists behind them that are alike
 abbrev pub AppendedAreAlike : Type 0
-AppendedAreAlike = (names : Names) (a b c d : List RuleMeaning) → Alike names a b → Alike names c d → Alike names (a ++ c) (b ++ d)
+AppendedAreAlike =
+    (names : Names) (a b c d : List RuleMeaning) → Alike names a b → Alike names c d → Alike names (a ++ c) (b ++ d)
 
 -- so do lists of lists that are alike one by one, joined: whatever stands for each rule of a group stands for the group
 abbrev pub JoinedAreAlike : Type 0
@@ -58,7 +62,8 @@ ForwardsAreAlike = (names : Names) (a b : List RuleMeaning) → Alike names a b 
 
 -- and where a rule that does nothing stands before the first
 abbrev pub IdleIsLeftOut : Type 0
-IdleIsLeftOut = (names : Names) (rule : RuleMeaning) (a b : List RuleMeaning) → IsIdle names rule → Alike names a b → Alike names (rule ∷ a) b
+IdleIsLeftOut =
+    (names : Names) (rule : RuleMeaning) (a b : List RuleMeaning) → IsIdle names rule → Alike names a b → Alike names (rule ∷ a) b
 
 -- what is made of it ---------------------------------------------------------------------------------------------------------
 
@@ -69,20 +74,24 @@ AlikeGroups = (names : Names) (a b : List RuleMeaning) → Alike names a b → (
 
 -- the passes of groups that are alike one by one are equal
 abbrev pub AlikePasses : Type 0
-AlikePasses = (names : Names) (a b : List (List RuleMeaning)) → AllZip (Alike names) a b → (state : State) → IsGridOf names state.grid →
+AlikePasses =
+    (names : Names) (a b : List (List RuleMeaning)) → AllZip (Alike names) a b → (state : State) → IsGridOf names state.grid →
     EqualResults names (pass a state) (pass b state)
 
 -- and so are the loops over them, with as many repeats left
 abbrev pub AlikeLoops : Type 0
-AlikeLoops = (names : Names) (a b : List (List RuleMeaning)) → AllZip (Alike names) a b → (repeats : ℕ) (state : State) → IsGridOf names state.grid →
+AlikeLoops =
+    (names : Names) (a b : List (List RuleMeaning)) → AllZip (Alike names) a b → (repeats : ℕ) (state : State) → IsGridOf names state.grid →
     EqualProgress names (looped a repeats state) (looped b repeats state)
 
 -- two sections that are alike are equal
 abbrev pub AlikeSections : Type 0
-AlikeSections = (names : Names) (a b : Section) → AlikeSection names a b → (repeats : ℕ) (state : State) → IsGridOf names state.grid →
+AlikeSections =
+    (names : Names) (a b : Section) → AlikeSection names a b → (repeats : ℕ) (state : State) → IsGridOf names state.grid →
     EqualProgress names (section_run a repeats state) (section_run b repeats state)
 
 -- and so are two programs that are alike section by section
 abbrev pub AlikePrograms : Type 0
-AlikePrograms = (names : Names) (a b : List Section) → AllZip (AlikeSection names) a b → (state : State) → IsGridOf names state.grid →
+AlikePrograms =
+    (names : Names) (a b : List Section) → AllZip (AlikeSection names) a b → (state : State) → IsGridOf names state.grid →
     EqualStates names (program_run a state) (program_run b state)

@@ -24,7 +24,8 @@ IsOnOneLayer names (Without objects) = ⊤
 
 -- so they do in what an item of a rule asks, on the left and on the right, under every reading
 abbrev pub LeftsAreOnOneLayer : Type 0
-LeftsAreOnOneLayer = (names : Names) (rule : SourceRule) (reading : Reading) (item : Item) → IsOnOneLayer names (wanted_left names rule reading item)
+LeftsAreOnOneLayer =
+    (names : Names) (rule : SourceRule) (reading : Reading) (item : Item) → IsOnOneLayer names (wanted_left names rule reading item)
 
 abbrev pub RightsAreOnOneLayer : Type 0
 RightsAreOnOneLayer =

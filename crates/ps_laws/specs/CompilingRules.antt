@@ -1,4 +1,5 @@
--- Compiled rules and programs mean what their sources mean, rule by rule and section by section; so both come to the same.
+-- Compiled rules and programs mean what their sources mean, rule by rule and section by section; so both come to the
+-- same.
 use Rattle.std.specs.Prelude.{Bool, List, map, All}
 use Rattle.std.specs.List.{AllZip}
 use Rattle.ps_model.specs.declared.rules.Part.{Part}
@@ -29,7 +30,8 @@ ReadingsCompile =
 
 -- the compiled rules of a game's rule are like what it means, one by one
 abbrev pub RulesCompile : Type 0
-RulesCompile = (names : Names) (rule : SourceRule) → IsRuleOf names rule → AllZip (SameRule names) (map meaning_of_rule (compiled_rules names rule)) (meanings names rule)
+RulesCompile =
+    (names : Names) (rule : SourceRule) → IsRuleOf names rule → AllZip (SameRule names) (map meaning_of_rule (compiled_rules names rule)) (meanings names rule)
 
 -- the compiled program of a game's rules is like their program, section by section
 abbrev pub ProgramsCompile : Type 0

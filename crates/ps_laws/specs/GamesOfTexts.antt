@@ -1,5 +1,5 @@
--- What every game of a text is: its names are bounded, it has an object and a layer, its rules speak of its own objects alone, each of
--- its levels is loaded as a grid of the game, and each of its turns keeps such grids.
+-- What every game of a text is: its names are bounded, it has an object and a layer, its rules speak of its own objects
+-- alone, each of its levels is loaded as a grid of the game, and each of its turns keeps such grids.
 use Rattle.std.specs.Prelude.{◌≡◌, ℕ, ◌<◌, ◌≤◌, Option, Some, List, [], All, ⊤}
 use Rattle.ps_model.specs.declared.play.Input.{Input}
 use Rattle.ps_model.specs.text.Lines.{Line}
@@ -50,7 +50,8 @@ GamesHaveObjects = (text : List ℕ) (read : Game) → game text ≡ Some read �
 
 -- rules that are read, with names that are bounded, speak of objects of the game alone
 abbrev pub RulesReadAreOfNames : Type 0
-RulesReadAreOfNames = (names : Names) (lines : List Line) → AreBounded names → All (IsLineOf names) (rules_read names lines)
+RulesReadAreOfNames =
+    (names : Names) (lines : List Line) → AreBounded names → All (IsLineOf names) (rules_read names lines)
 
 -- so do the rules of a game
 abbrev pub GameRulesAreOfNames : Type 0
@@ -64,7 +65,8 @@ LoadedLevelsAreGrids = (names : Names) (level : Level) → IsLevelOf names level
 
 -- entries that are read, with names that are bounded and of which one is an object, are of the game
 abbrev pub EntriesReadAreOfNames : Type 0
-EntriesReadAreOfNames = (names : Names) (lines : List Line) → AreBounded names → 0 < object_count names → All (IsEntryOf names) (entries_read names lines)
+EntriesReadAreOfNames =
+    (names : Names) (lines : List Line) → AreBounded names → 0 < object_count names → All (IsEntryOf names) (entries_read names lines)
 
 -- so are the entries of a game
 abbrev pub GameEntriesAreOfNames : Type 0

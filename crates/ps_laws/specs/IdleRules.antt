@@ -1,5 +1,5 @@
--- Rules that do nothing. A rule finds no place where one of its cells fits none of the board's; and one without commands, whose
--- cells leave all cells that they fit as they are, changes nothing and queues nothing.
+-- Rules that do nothing. A rule finds no place where one of its cells fits none of the board's; and one without
+-- commands, whose cells leave all cells that they fit as they are, changes nothing and queues nothing.
 use Rattle.std.specs.Prelude.{◌≡◌, true, false, List, All}
 use Rattle.std.specs.List.{Contains}
 use Rattle.ps_model.specs.declared.pieces.Slot.{Slot}
@@ -33,18 +33,22 @@ FitsNone names meaning = (cell : List Slot) → IsCellOf names cell → meaning.
 
 -- it leaves all cells of a game that it fits as they are
 abbrev pub LeavesAll : Names → CellMeaning → Type 0
-LeavesAll names meaning = (cell : List Slot) → IsCellOf names cell → meaning.fits cell ≡ true → meaning.rewritten cell ≡ cell
+LeavesAll names meaning =
+    (cell : List Slot) → IsCellOf names cell → meaning.fits cell ≡ true → meaning.rewritten cell ≡ cell
 
 -- the laws -----------------------------------------------------------------------------------------------------------------
 
 -- where one cell of a rule fits no cell of the board, nothing is done by an attempt
 abbrev pub NowhereIsNothing : Type 0
-NowhereIsNothing = (rule : RuleMeaning) (meaning : CellMeaning) → IsCellIn rule meaning → (state : State) → FitsNowhere state.grid meaning → attempt rule state ≡ nothing_done state
+NowhereIsNothing =
+    (rule : RuleMeaning) (meaning : CellMeaning) → IsCellIn rule meaning → (state : State) → FitsNowhere state.grid meaning → attempt rule state ≡ nothing_done state
 
 -- a rule of which one cell fits no cell of the game does nothing on it
 abbrev pub FittingNoneIsIdle : Type 0
-FittingNoneIsIdle = (names : Names) (rule : RuleMeaning) (meaning : CellMeaning) → IsCellIn rule meaning → FitsNone names meaning → IsIdle names rule
+FittingNoneIsIdle =
+    (names : Names) (rule : RuleMeaning) (meaning : CellMeaning) → IsCellIn rule meaning → FitsNone names meaning → IsIdle names rule
 
 -- a rule without commands whose cells leave all that they fit as it is does nothing
 abbrev pub LeavingAllIsIdle : Type 0
-LeavingAllIsIdle = (names : Names) (rule : RuleMeaning) → rule.commands ≡ no_commands → All (All (All (LeavesAll names))) rule.rows → IsIdle names rule
+LeavingAllIsIdle =
+    (names : Names) (rule : RuleMeaning) → rule.commands ≡ no_commands → All (All (All (LeavesAll names))) rule.rows → IsIdle names rule

@@ -1,5 +1,5 @@
--- What keeps a grid one of its game: attempts, rounds, groups, passes, loops, sections and programs of rules whose cells keep the
--- cells of the game, as those of a game's own rules do; the movement, rest and inputs; and so each turn.
+-- What keeps a grid one of its game: attempts, rounds, groups, passes, loops, sections and programs of rules whose
+-- cells keep the cells of the game, as those of a game's own rules do; the movement, rest and inputs; and so each turn.
 use Rattle.std.specs.Prelude.{ℕ, Bool, Option, List, All, ⊤}
 use Rattle.ps_model.specs.declared.pieces.Slot.{Slot}
 use Rattle.ps_model.specs.declared.play.Input.{Input}
@@ -13,7 +13,8 @@ use Rattle.ps_model.specs.meaning.Readings.{Reading, readings}
 use Rattle.ps_model.specs.meaning.RuleMeanings.{CellMeaning, RuleMeaning}
 use Rattle.ps_model.specs.meaning.ReadingMeanings.{cell_meaning, meanings}
 use Rattle.ps_model.specs.board.Attempts.{State, attempt}
-use Rattle.ps_model.specs.board.Programs.{Section, Group, Loop, round, settled, group, pass, looped, section_run, sections_run, program_run}
+use Rattle.ps_model.specs.board.Programs.{Section, Group, Loop, round, settled, group, pass, looped, section_run}
+use Rattle.ps_model.specs.board.Programs.{sections_run, program_run}
 use Rattle.ps_model.specs.board.RulePrograms.{program_of}
 use Rattle.ps_model.specs.board.Movement.{slid}
 use Rattle.ps_model.specs.board.Inputs.{with_input}
@@ -43,11 +44,13 @@ IsOutcomeOf names (Finished done) = IsGridOf names done.board
 
 -- an attempt of a rule whose cells keep the cells of a game keeps each grid of the game
 abbrev pub AttemptsKeepGrids : Type 0
-AttemptsKeepGrids = (names : Names) (rule : RuleMeaning) (state : State) → Keeps names rule → IsGridOf names state.grid → IsGridOf names (attempt rule state).state.grid
+AttemptsKeepGrids =
+    (names : Names) (rule : RuleMeaning) (state : State) → Keeps names rule → IsGridOf names state.grid → IsGridOf names (attempt rule state).state.grid
 
 -- so does a round of such rules: their attempts in order
 abbrev pub RoundsKeepGrids : Type 0
-RoundsKeepGrids = (names : Names) (rules : List RuleMeaning) (state : State) → All (Keeps names) rules → IsGridOf names state.grid → IsGridOf names (round rules state).state.grid
+RoundsKeepGrids =
+    (names : Names) (rules : List RuleMeaning) (state : State) → All (Keeps names) rules → IsGridOf names state.grid → IsGridOf names (round rules state).state.grid
 
 -- so do rounds until one changes nothing, however many there may be
 abbrev pub SettlingKeepsGrids : Type 0
@@ -57,7 +60,8 @@ SettlingKeepsGrids =
 
 -- so does a group of such rules
 abbrev pub GroupsKeepGrids : Type 0
-GroupsKeepGrids = (names : Names) (rules : List RuleMeaning) (state : State) → All (Keeps names) rules → IsGridOf names state.grid → IsGridOf names (group rules state).state.grid
+GroupsKeepGrids =
+    (names : Names) (rules : List RuleMeaning) (state : State) → All (Keeps names) rules → IsGridOf names state.grid → IsGridOf names (group rules state).state.grid
 
 -- so does a pass of groups of such rules
 abbrev pub PassesKeepGrids : Type 0
@@ -97,7 +101,8 @@ RestKeepsGrids = (names : Names) (g : Grid) → IsGridOf names g → IsGridOf na
 
 -- so does an input
 abbrev pub InputsKeepGrids : Type 0
-InputsKeepGrids = (names : Names) (input : Input) (g : Grid) → IsGridOf names g → IsGridOf names (with_input names input g)
+InputsKeepGrids =
+    (names : Names) (input : Input) (g : Grid) → IsGridOf names g → IsGridOf names (with_input names input g)
 
 -- a turn of a script whose rules keep the cells of a game makes of each grid of the game one of the game
 abbrev pub TurnsKeepGrids : Type 0
@@ -109,10 +114,11 @@ TurnsKeepGrids =
 
 -- the readings of a rule whose objects are all of the game choose objects of the game
 abbrev pub ReadingsAreOfGames : Type 0
-ReadingsAreOfGames = (names : Names) (rule : SourceRule) → IsRuleOf names rule → All (IsReadingOf names) (readings names rule)
+ReadingsAreOfGames =
+    (names : Names) (rule : SourceRule) → IsRuleOf names rule → All (IsReadingOf names) (readings names rule)
 
--- a cell whose objects are all of the game keeps the cells of the game, under each reading that chooses objects of the game, be
--- it possible or not
+-- a cell whose objects are all of the game keeps the cells of the game, under each reading that chooses objects of the
+-- game, be it possible or not
 abbrev pub RuleCellsKeepCells : Type 0
 RuleCellsKeepCells =
     (names : Names) (rule : SourceRule) (reading : Reading) (cell : CellPair) → IsReadingOf names reading → IsPairOf names cell → KeepsCells names (cell_meaning names rule reading cell)
@@ -123,8 +129,10 @@ RulesKeepCells = (names : Names) (rule : SourceRule) → IsRuleOf names rule →
 
 -- so does each section of both programs of such rules
 abbrev pub RuleProgramsKeepCells : Type 0
-RuleProgramsKeepCells = (names : Names) (part : Part) (lines : List RuleLine) → All (IsLineOf names) lines → All (KeepsInSection names) (program_of names part lines)
+RuleProgramsKeepCells =
+    (names : Names) (part : Part) (lines : List RuleLine) → All (IsLineOf names) lines → All (KeepsInSection names) (program_of names part lines)
 
 -- a turn of a game whose rules are of its names makes of each grid of the game one of the game
 abbrev pub GameTurnsKeepGrids : Type 0
-GameTurnsKeepGrids = (game : Game) (input : Option Input) (g : Grid) → All (IsLineOf game.names) game.rules → IsGridOf game.names g → IsOutcomeOf game.names (turn (script_of game) input g)
+GameTurnsKeepGrids =
+    (game : Game) (input : Option Input) (g : Grid) → All (IsLineOf game.names) game.rules → IsGridOf game.names g → IsOutcomeOf game.names (turn (script_of game) input g)

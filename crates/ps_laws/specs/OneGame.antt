@@ -8,7 +8,8 @@ use Rattle.ps_model.specs.text.Faults.{first_fault}
 
 -- a text has at most one game
 abbrev pub AtMostOneGame : Type 0
-AtMostOneGame = (text : List ℕ) (first second : Game) → game text ≡ Some first → game text ≡ Some second → first ≡ second
+AtMostOneGame =
+    (text : List ℕ) (first second : Game) → game text ≡ Some first → game text ≡ Some second → first ≡ second
 
 -- a text with a fault has none
 abbrev pub FaultBarsGame : Type 0
@@ -20,7 +21,8 @@ FaultlessIsGame = (text : List ℕ) → faults text ≡ [] → game text ≡ Som
 
 -- a text that has a game has no fault, and the game is what is read from its lines
 abbrev pub GameIsFaultless : Type 0
-GameIsFaultless = (text : List ℕ) (read : Game) → game text ≡ Some read → (faults text ≡ []) × (read ≡ game_read (lines_of text))
+GameIsFaultless =
+    (text : List ℕ) (read : Game) → game text ≡ Some read → (faults text ≡ []) × (read ≡ game_read (lines_of text))
 
 -- each text has a game or a fault
 abbrev pub GameOrFault : Type 0

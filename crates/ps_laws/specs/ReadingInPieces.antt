@@ -1,4 +1,5 @@
--- Keys that come in pieces: a reader that holds the bytes of an arrow that has begun needs nothing else of the bytes before.
+-- Keys that come in pieces: a reader that holds the bytes of an arrow that has begun needs nothing else of the bytes
+-- before.
 use Rattle.std.specs.Prelude.{ℕ, option_to_list, List, [], ◌∷◌, ◌++◌, ◌≡◌}
 use Rattle.ps_model.specs.declared.held.Held.{Held}
 use Rattle.ps_model.specs.session.Keys.{keys_of}
@@ -18,10 +19,12 @@ HeldIsSilent = (bytes : List ℕ) → (keys_of (held bytes) ≡ []) × (keys_of 
 
 -- the keys of two pieces are those of the first but for what is held of it, and then those of that and the second
 abbrev pub KeysInPieces : Type 0
-KeysInPieces = (first second : List ℕ) → keys_of (first ++ second) ≡ keys_of (before_held first) ++ keys_of (held first ++ second)
+KeysInPieces =
+    (first second : List ℕ) → keys_of (first ++ second) ≡ keys_of (before_held first) ++ keys_of (held first ++ second)
 
--- a reader that has given the keys of what it read, and holds what is held of it, reads a piece behind that: it gives the keys of
--- both but for what is held then, and has again given the keys of all that it read, and holds what is held of it
+-- a reader that has given the keys of what it read, and holds what is held of it, reads a piece behind that: it gives
+-- the keys of both but for what is held then, and has again given the keys of all that it read, and holds what is held
+-- of it
 abbrev pub ReadPieceByPiece : Type 0
 ReadPieceByPiece = (read piece kept : List ℕ) → kept ≡ held read →
     (keys_of read ++ keys_of (before_held (kept ++ piece)) ≡ keys_of (read ++ piece)) × (held (kept ++ piece) ≡ held (read ++ piece))

@@ -1,12 +1,13 @@
--- What keeps the sides of a grid, whatever rules and grids there are: attempts, rounds, groups, passes, loops, sections, programs,
--- the movement, rest, inputs and turns. The number of layers is kept with them.
+-- What keeps the sides of a grid, whatever rules and grids there are: attempts, rounds, groups, passes, loops,
+-- sections, programs, the movement, rest, inputs and turns. The number of layers is kept with them.
 use Rattle.std.specs.Prelude.{◌≡◌, ℕ, Bool, Option, List, ⊤}
 use Rattle.ps_model.specs.declared.play.Input.{Input}
 use Rattle.ps_model.specs.names.Names.{Names}
 use Rattle.ps_model.specs.board.Grid.{Grid, at_rest}
 use Rattle.ps_model.specs.meaning.RuleMeanings.{RuleMeaning}
 use Rattle.ps_model.specs.board.Attempts.{State, attempt}
-use Rattle.ps_model.specs.board.Programs.{Section, round, settled, group, pass, looped, section_run, sections_run, program_run}
+use Rattle.ps_model.specs.board.Programs.{Section, round, settled, group, pass, looped, section_run, sections_run}
+use Rattle.ps_model.specs.board.Programs.{program_run}
 use Rattle.ps_model.specs.board.Movement.{slid}
 use Rattle.ps_model.specs.board.Inputs.{with_input}
 use Rattle.ps_model.specs.board.Turns.{Script, Outcome, Blocked, Restarted, Finished, turn}
@@ -33,7 +34,8 @@ RoundsKeepSides = (rules : List RuleMeaning) (state : State) → SameSides state
 
 -- so do rounds until one changes nothing, however many there may be
 abbrev pub SettlingKeepsSides : Type 0
-SettlingKeepsSides = (rules : List RuleMeaning) (rounds : ℕ) (changed : Bool) (state : State) → SameSides state.grid (settled rules rounds changed state).state.grid
+SettlingKeepsSides =
+    (rules : List RuleMeaning) (rounds : ℕ) (changed : Bool) (state : State) → SameSides state.grid (settled rules rounds changed state).state.grid
 
 -- so does a group
 abbrev pub GroupsKeepSides : Type 0
@@ -45,15 +47,18 @@ PassesKeepSides = (body : List (List RuleMeaning)) (state : State) → SameSides
 
 -- so does a loop over groups, with however many repeats left
 abbrev pub LoopsKeepSides : Type 0
-LoopsKeepSides = (body : List (List RuleMeaning)) (repeats : ℕ) (state : State) → SameSides state.grid (looped body repeats state).state.grid
+LoopsKeepSides =
+    (body : List (List RuleMeaning)) (repeats : ℕ) (state : State) → SameSides state.grid (looped body repeats state).state.grid
 
 -- so does a section
 abbrev pub SectionsKeepSides : Type 0
-SectionsKeepSides = (section : Section) (repeats : ℕ) (state : State) → SameSides state.grid (section_run section repeats state).state.grid
+SectionsKeepSides =
+    (section : Section) (repeats : ℕ) (state : State) → SameSides state.grid (section_run section repeats state).state.grid
 
 -- so do sections one after the other, with however many repeats left
 abbrev pub RunsKeepSides : Type 0
-RunsKeepSides = (sections : List Section) (repeats : ℕ) (state : State) → SameSides state.grid (sections_run sections repeats state).grid
+RunsKeepSides =
+    (sections : List Section) (repeats : ℕ) (state : State) → SameSides state.grid (sections_run sections repeats state).grid
 
 -- so does a run of a program
 abbrev pub ProgramsKeepSides : Type 0

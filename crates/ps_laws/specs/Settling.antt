@@ -1,5 +1,5 @@
--- When rounds and passes end. A group makes rounds until one changes nothing or until there are as many as their limit, and no
--- more; a loop makes passes until one changes nothing or until no repeat is left.
+-- When rounds and passes end. A group makes rounds until one changes nothing or until there are as many as their limit,
+-- and no more; a loop makes passes until one changes nothing or until no repeat is left.
 use Rattle.std.specs.Prelude.{◌≡◌, ℕ, zero, suc, ◌+◌, ◌-◌, ◌≤◌, ◌<◌, ◌⊎◌, ◌↔◌, Bool, true, false, List}
 use Rattle.ps_model.specs.declared.limits.TheConstants.{ROUND_LIMIT}
 use Rattle.ps_model.specs.meaning.RuleMeanings.{RuleMeaning}
@@ -34,8 +34,8 @@ pub record Settles (rules : List RuleMeaning) (limit : ℕ) (state : State) (res
   -- the result tells of a change exactly where one of the rounds changes something
   pub changed : (result.changed ≡ true) ↔ ((number : ℕ) × (1 ≤ number) × (number ≤ rounds) × (changes number (round rules) state ≡ true))
 
--- the progress is that of passes which are made until one changes nothing, or until none of so many repeats is left; each pass
--- but the first is a repeat
+-- the progress is that of passes which are made until one changes nothing, or until none of so many repeats is left;
+-- each pass but the first is a repeat
 pub record Passes (body : List (List RuleMeaning)) (repeats : ℕ) (state : State) (progress : Progress) : Type 0 where
   -- how many passes there are: one at least, and no more than one and the repeats
   pub passes : ℕ
@@ -57,4 +57,5 @@ GroupsSettle = (rules : List RuleMeaning) (state : State) → Settles rules ROUN
 
 -- a loop makes its passes, however many repeats are left
 abbrev pub LoopsPass : Type 0
-LoopsPass = (body : List (List RuleMeaning)) (repeats : ℕ) (state : State) → Passes body repeats state (looped body repeats state)
+LoopsPass =
+    (body : List (List RuleMeaning)) (repeats : ℕ) (state : State) → Passes body repeats state (looped body repeats state)

@@ -1,5 +1,6 @@
--- Choices made stage by stage: all that is made so far is split by one occurrence after the other. So a rule gives a rule for each
--- of its directions; each of these one for each choice of moves; and each of these one for each choice of members.
+-- Choices made stage by stage: all that is made so far is split by one occurrence after the other. So a rule gives a
+-- rule for each of its directions; each of these one for each choice of moves; and each of these one for each choice of
+-- members.
 use Rattle.std.specs.Prelude.{ℕ, Option, Some, None, List, [], ◌∷◌, ◌++◌, map, ◌≡◌, length}
 use Rattle.std.specs.List.{flat_map}
 use Rattle.ps_model.specs.declared.pieces.ObjectId.{ObjectId}
@@ -8,7 +9,8 @@ use Rattle.ps_model.specs.declared.pieces.Motion.{Motion}
 use Rattle.ps_model.specs.names.Names.{Names}
 use Rattle.ps_model.specs.rules.SourceRules.{Item, SourceRule}
 use Rattle.ps_model.specs.meaning.Occurrences.{left_items}
-use Rattle.ps_model.specs.meaning.Readings.{Reading, one_of_each, directions_of, move_choices, member_choices, all_move_choices, all_member_choices, readings, reading_count}
+use Rattle.ps_model.specs.meaning.Readings.{Reading, one_of_each, directions_of, move_choices, member_choices}
+use Rattle.ps_model.specs.meaning.Readings.{all_move_choices, all_member_choices, readings, reading_count}
 
 -- lists of choices -----------------------------------------------------------------------------------------------------
 
@@ -52,7 +54,8 @@ split_by_members names rule (item ∷ items) made =
 
 -- the readings of a rule, stage by stage
 abbrev pub staged_readings : Names → SourceRule → List Reading
-staged_readings names rule = split_by_members names rule (left_items rule) (split_by_moves (left_items rule) (map in_direction (directions_of rule)))
+staged_readings names rule =
+    split_by_members names rule (left_items rule) (split_by_moves (left_items rule) (map in_direction (directions_of rule)))
 
 -- the readings in one direction, one choice in the other: each choice of moves is split by all members
 abbrev pub nested_readings_in : Names → SourceRule → Direction → List Reading

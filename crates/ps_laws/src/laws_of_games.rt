@@ -1,5 +1,9 @@
 //! Laws of the definitions: what every game of a text is.
-ghost use Rattle.ps_laws.specs.GamesOfTexts.{NamesReadAreBounded, GamesAreBounded, NamesReadHaveObjects, GamesHaveObjects, RulesReadAreOfNames, GameRulesAreOfNames, LoadedLevelsAreGrids, EntriesReadAreOfNames, GameEntriesAreOfNames, GameLevelsAreGrids, GameLevelsAreWithinLimits, GridsOfGamesAreGrids, GameTurnsKeepAll};
+ghost use Rattle.ps_laws.specs.GamesOfTexts.{NamesReadAreBounded, GamesAreBounded, NamesReadHaveObjects};
+ghost use Rattle.ps_laws.specs.GamesOfTexts.{GamesHaveObjects, RulesReadAreOfNames, GameRulesAreOfNames};
+ghost use Rattle.ps_laws.specs.GamesOfTexts.{LoadedLevelsAreGrids, EntriesReadAreOfNames, GameEntriesAreOfNames};
+ghost use Rattle.ps_laws.specs.GamesOfTexts.{GameLevelsAreGrids, GameLevelsAreWithinLimits, GridsOfGamesAreGrids};
+ghost use Rattle.ps_laws.specs.GamesOfTexts.{GameTurnsKeepAll};
 
 /// Names of lines without faults are bounded, and so are the names of every game.
 pub fn names_are_bounded()
@@ -19,8 +23,8 @@ pub fn rules_are_of_games()
     ensures games { GameRulesAreOfNames }
 {}
 
-/// A level of a game is loaded as a grid of the game. The levels that are read, with names that are bounded and of which one is an
-/// object, are of the game; so are the levels of every game, whose sides are within the limits.
+/// A level of a game is loaded as a grid of the game. The levels that are read, with names that are bounded and of
+/// which one is an object, are of the game; so are the levels of every game, whose sides are within the limits.
 pub fn levels_are_of_games()
     ensures loaded { LoadedLevelsAreGrids }
     ensures read { EntriesReadAreOfNames }

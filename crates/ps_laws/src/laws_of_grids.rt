@@ -1,5 +1,9 @@
 //! Laws of the definitions: what keeps a grid one of its game, each of its objects on its own layer.
-ghost use Rattle.ps_laws.specs.KeptGrids.{AttemptsKeepGrids, RoundsKeepGrids, SettlingKeepsGrids, GroupsKeepGrids, PassesKeepGrids, LoopsKeepGrids, SectionsKeepGrids, RunsKeepGrids, ProgramsKeepGrids, SlidesKeepGrids, RestKeepsGrids, InputsKeepGrids, TurnsKeepGrids, ReadingsAreOfGames, RuleCellsKeepCells, RulesKeepCells, RuleProgramsKeepCells, GameTurnsKeepGrids};
+ghost use Rattle.ps_laws.specs.KeptGrids.{AttemptsKeepGrids, RoundsKeepGrids, SettlingKeepsGrids, GroupsKeepGrids};
+ghost use Rattle.ps_laws.specs.KeptGrids.{PassesKeepGrids, LoopsKeepGrids, SectionsKeepGrids, RunsKeepGrids};
+ghost use Rattle.ps_laws.specs.KeptGrids.{ProgramsKeepGrids, SlidesKeepGrids, RestKeepsGrids, InputsKeepGrids};
+ghost use Rattle.ps_laws.specs.KeptGrids.{TurnsKeepGrids, ReadingsAreOfGames, RuleCellsKeepCells, RulesKeepCells};
+ghost use Rattle.ps_laws.specs.KeptGrids.{RuleProgramsKeepCells, GameTurnsKeepGrids};
 
 /// An attempt of a rule whose cells keep the cells of a game keeps each grid of the game.
 pub fn attempts_keep_grids()
@@ -71,7 +75,8 @@ pub fn readings_are_of_games()
     ensures { ReadingsAreOfGames }
 {}
 
-/// A cell of a rule whose objects are all of a game keeps the cells of the game, under each reading that chooses objects of the game.
+/// A cell of a rule whose objects are all of a game keeps the cells of the game, under each reading that chooses
+/// objects of the game.
 pub fn rule_cells_keep_cells()
     ensures { RuleCellsKeepCells }
 {}

@@ -1,14 +1,18 @@
-//! Laws of rules: what rules that are alike have in common, what a rule turned round does, which rules do nothing, and when rounds
-//! and passes end.
+//! Laws of rules: what rules that are alike have in common, what a rule turned round does, which rules do nothing, and
+//! when rounds and passes end.
 //!
 //! Each function here is a law: it has no body, and its contract is proved.
 
-ghost use Rattle.ps_laws.specs.AlikeRounds.{KeptAreAlike, SameAreAlike, AlikeBothWays, AlikeThroughAnother, AppendedAreAlike, JoinedAreAlike, ForwardsAreAlike, IdleIsLeftOut};
+ghost use Rattle.ps_laws.specs.AlikeRounds.{KeptAreAlike, SameAreAlike, AlikeBothWays, AlikeThroughAnother};
+ghost use Rattle.ps_laws.specs.AlikeRounds.{AppendedAreAlike, JoinedAreAlike, ForwardsAreAlike, IdleIsLeftOut};
 ghost use Rattle.ps_laws.specs.AlikeRounds.{AlikeGroups, AlikePasses, AlikeLoops, AlikeSections, AlikePrograms};
-ghost use Rattle.ps_laws.specs.EqualMeanings.{EqualAttempts, EqualRounds, EqualGroups, EqualPasses, EqualLoops, EqualSections, EqualPrograms};
+ghost use Rattle.ps_laws.specs.EqualMeanings.{EqualAttempts, EqualRounds, EqualGroups, EqualPasses, EqualLoops};
+ghost use Rattle.ps_laws.specs.EqualMeanings.{EqualSections, EqualPrograms};
 ghost use Rattle.ps_laws.specs.IdleRules.{NowhereIsNothing, FittingNoneIsIdle, LeavingAllIsIdle};
 ghost use Rattle.ps_laws.specs.Settling.{GroupsSettle, LoopsPass};
-ghost use Rattle.ps_laws.specs.TurningRound.{PlacesTurned, AttemptsTurned, AttemptsForwards, RoundsForwards, GroupsForwards, PassesForwards, LoopsForwards, SectionsForwards, ProgramsForwards};
+ghost use Rattle.ps_laws.specs.TurningRound.{PlacesTurned, AttemptsTurned, AttemptsForwards, RoundsForwards};
+ghost use Rattle.ps_laws.specs.TurningRound.{GroupsForwards, PassesForwards, LoopsForwards, SectionsForwards};
+ghost use Rattle.ps_laws.specs.TurningRound.{ProgramsForwards};
 
 /// Rules whose cells fit alike and rewrite alike come to the same, alone, in groups, in loops and in whole programs.
 pub fn equal_meanings()
@@ -21,14 +25,15 @@ pub fn equal_meanings()
     ensures programs { EqualPrograms }
 {}
 
-/// A group makes rounds until one changes nothing, or until their limit; a loop makes passes until one changes nothing, or until
-/// no repeat is left.
+/// A group makes rounds until one changes nothing, or until their limit; a loop makes passes until one changes nothing,
+/// or until no repeat is left.
 pub fn settling()
     ensures groups { GroupsSettle }
     ensures loops { LoopsPass }
 {}
 
-/// A rule turned round, its rows read from their other ends, does the same the opposite way. So each rule may face down or right.
+/// A rule turned round, its rows read from their other ends, does the same the opposite way. So each rule may face down
+/// or right.
 pub fn turning_round()
     ensures places { PlacesTurned }
     ensures turned { AttemptsTurned }
@@ -41,8 +46,8 @@ pub fn turning_round()
     ensures programs { ProgramsForwards }
 {}
 
-/// Which lists of rules have equal rounds: those that are alike rule by rule, and what is made of such lists. So several rules may
-/// stand for one, each may face down or right, and one that does nothing may be left out.
+/// Which lists of rules have equal rounds: those that are alike rule by rule, and what is made of such lists. So
+/// several rules may stand for one, each may face down or right, and one that does nothing may be left out.
 pub fn alike_rounds()
     ensures kept { KeptAreAlike }
     ensures same { SameAreAlike }
@@ -63,8 +68,8 @@ pub fn alike_programs()
     ensures programs { AlikePrograms }
 {}
 
-/// A rule does nothing where one of its cells fits none of the board's, and nothing at all where it has no commands and its cells
-/// leave what they fit as it is.
+/// A rule does nothing where one of its cells fits none of the board's, and nothing at all where it has no commands and
+/// its cells leave what they fit as it is.
 pub fn idle_rules()
     ensures nowhere { NowhereIsNothing }
     ensures none { FittingNoneIsIdle }

@@ -1,10 +1,15 @@
-//! Laws over the definitions of readings, of keys and of runs. Each function does nothing: its contract is a law that the
-//! definitions keep.
+//! Laws over the definitions of readings, of keys and of runs. Each function does nothing: its contract is a law that
+//! the definitions keep.
 
-ghost use Rattle.ps_laws.specs.Stages.{MovesOneByOne, MembersOneByOne, MovesInTwoStages, MembersInTwoStages, ReadByStages, ReadOneInOther, ReadingsCounted};
-ghost use Rattle.ps_laws.specs.ReadingInPieces.{HeldAtEnd, HeldIsBegun, HeldIsSilent, KeysInPieces, ReadPieceByPiece, ReadByteByByte, OneByteMore};
-ghost use Rattle.ps_laws.specs.Fronts.{FrontGrows, FrontOfOutput, FrontInPieces, FrontOfMore, OutputOfEnded, OutputOfUnended, OutputOnceEnded, EndIsQuiet, EndStays, EndsOtherwise, WrittenByEnding};
-ghost use Rattle.ps_laws.specs.OneGame.{AtMostOneGame, FaultBarsGame, FaultlessIsGame, GameIsFaultless, GameOrFault, FirstIsFault, HiddenAreBehind};
+ghost use Rattle.ps_laws.specs.Stages.{MovesOneByOne, MembersOneByOne, MovesInTwoStages, MembersInTwoStages};
+ghost use Rattle.ps_laws.specs.Stages.{ReadByStages, ReadOneInOther, ReadingsCounted};
+ghost use Rattle.ps_laws.specs.ReadingInPieces.{HeldAtEnd, HeldIsBegun, HeldIsSilent, KeysInPieces, ReadPieceByPiece};
+ghost use Rattle.ps_laws.specs.ReadingInPieces.{ReadByteByByte, OneByteMore};
+ghost use Rattle.ps_laws.specs.Fronts.{FrontGrows, FrontOfOutput, FrontInPieces, FrontOfMore, OutputOfEnded};
+ghost use Rattle.ps_laws.specs.Fronts.{OutputOfUnended, OutputOnceEnded, EndIsQuiet, EndStays, EndsOtherwise};
+ghost use Rattle.ps_laws.specs.Fronts.{WrittenByEnding};
+ghost use Rattle.ps_laws.specs.OneGame.{AtMostOneGame, FaultBarsGame, FaultlessIsGame, GameIsFaultless, GameOrFault};
+ghost use Rattle.ps_laws.specs.OneGame.{FirstIsFault, HiddenAreBehind};
 
 /// The readings of a rule can be made stage by stage, by directions, by moves and by members, each stage splitting all
 /// that is made so far by one occurrence after the other: they are the same, in the same order, and as many as are
@@ -19,8 +24,8 @@ pub fn readings_by_stages()
     ensures counted { ReadingsCounted }
 {}
 
-/// The bytes at the end of a piece that may begin an arrow are held. They are nothing, ESC, or ESC and `[`, and bring no
-/// key as yet.
+/// The bytes at the end of a piece that may begin an arrow are held. They are nothing, ESC, or ESC and `[`, and bring
+/// no key as yet.
 pub fn held_bytes()
     ensures at_end { HeldAtEnd }
     ensures begun { HeldIsBegun }

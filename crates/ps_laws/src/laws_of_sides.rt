@@ -1,5 +1,8 @@
 //! Laws of the definitions: nothing that happens in a turn changes the sides of a grid, or how many layers it has.
-ghost use Rattle.ps_laws.specs.SameSides.{AttemptsKeepSides, RoundsKeepSides, SettlingKeepsSides, GroupsKeepSides, PassesKeepSides, LoopsKeepSides, SectionsKeepSides, RunsKeepSides, ProgramsKeepSides, SlidesKeepSides, RestKeepsSides, InputsKeepSides, TurnsKeepSides};
+ghost use Rattle.ps_laws.specs.SameSides.{AttemptsKeepSides, RoundsKeepSides, SettlingKeepsSides, GroupsKeepSides};
+ghost use Rattle.ps_laws.specs.SameSides.{PassesKeepSides, LoopsKeepSides, SectionsKeepSides, RunsKeepSides};
+ghost use Rattle.ps_laws.specs.SameSides.{ProgramsKeepSides, SlidesKeepSides, RestKeepsSides, InputsKeepSides};
+ghost use Rattle.ps_laws.specs.SameSides.{TurnsKeepSides};
 
 /// Attempts, rounds, groups, passes, loops, sections and programs keep the sides of each grid.
 pub fn rules_keep_sides()

@@ -1,7 +1,7 @@
 //! The laws of the definitions: what follows from what a text, a rule, a board and a run mean.
 //!
-//! Each law is the contract of a public function with an empty body; `specs/` states it. What proofs of the crates above
-//! need of it stays public in `proofs/`.
+//! Each law is the contract of a public function with an empty body; `specs/` states it. What proofs of the crates
+//! above need of it stays public in `proofs/`.
 #![tactic(auto)]
 
 mod laws_of_boards;

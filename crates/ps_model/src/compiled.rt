@@ -16,8 +16,8 @@ pub struct MotionTest {
     pub motion: Motion,
 }
 
-/// What a name of a rule says of a layer: which object stands there, where that is said, and which motion it has, where a
-/// movement word is written.
+/// What a name of a rule says of a layer: which object stands there, where that is said, and which motion it has, where
+/// a movement word is written.
 #[derive(Clone, Copy, PartialEq, Eq, Debug)]
 pub struct Claim {
     pub layer: LayerId,

@@ -9,7 +9,8 @@ pub struct Options {
     pub no_undo: bool,
     /// `norestart`: `r` is ignored.
     pub no_restart: bool,
-    /// `require_player_movement`: a turn by a key is taken back where there was a Player, and each cell that had one still has one.
+    /// `require_player_movement`: a turn by a key is taken back where there was a Player, and each cell that had one
+    /// still has one.
     pub require_player_movement: bool,
     /// `run_rules_on_level_start`: a level begins with a turn without a key.
     pub run_rules_on_level_start: bool,

@@ -1,6 +1,7 @@
 //! Words of rules and win conditions.
 
-/// A word before a name in a rule's brackets, which says how the object moves. The first six turn with the rule's direction.
+/// A word before a name in a rule's brackets, which says how the object moves. The first six turn with the rule's
+/// direction.
 #[derive(Clone, Copy, PartialEq, Eq, Debug)]
 pub enum MovementWord {
     /// `>`: in the rule's direction.

@@ -1,4 +1,5 @@
--- The text of a small game with nine objects on four layers, which most worked rows use; the rows of its one level follow.
+-- The text of a small game with nine objects on four layers, which most worked rows use; the rows of its one level
+-- follow.
 use Rattle.std.proofs.Common.{List, ℕ}
 use Rattle.std.specs.Prelude.{codes, ◌++◌, drop, []}
 

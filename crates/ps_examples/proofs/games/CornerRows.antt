@@ -1,5 +1,5 @@
--- Corners of the language, worked by hand: from the bytes of a text to the bytes that are written. Each row tells two meanings apart
--- that most games don't.
+-- Corners of the language, worked by hand: from the bytes of a text to the bytes that are written. Each row tells two
+-- meanings apart that most games don't.
 use Rattle.std.proofs.Common.{◌≡◌, List, ℕ, [], ◌++◌, refl, Some}
 use Rattle.std.specs.Prelude.{codes, take, drop}
 use Rattle.std.specs.List.{repeat}
@@ -223,7 +223,8 @@ one_repeat_more : written (base_game (codes "startloop\n[ D ] -> [ A ]\nendloop\
 unfolding chars digits is_utf8 utf8_valid_len encode group program_run all_start_turns all_key_turns turn opening_step
 one_repeat_more = refl
 
--- a cell that is changed and changed back has changed: where no repeat is left, what stands behind such a loop isn't run
+-- a cell that is changed and changed back has changed: where no repeat is left, what stands behind such a loop isn't
+-- run
 changed_back_counts : written (base_game (repeat 10 (codes "startloop\n[ C ] -> [ A ]\nright [ A | ] -> [ | C ]\nendloop\nstartloop\n[ C ] -> [ A ]\nleft [ A | ] -> [ | C ]\nendloop\n") ++ codes "startloop\n[ A ] [ A ] -> [ B ] [ A ]\nendloop\n[ A ] -> [ B ]\n") [] (codes "A.........\n")) (codes "x")
     ≡ Some (codes "= T\n# level 1\nA.........\n\nA.........\n\n* end of keys\n")
 unfolding chars digits is_utf8 utf8_valid_len encode group program_run all_start_turns all_key_turns turn opening_step

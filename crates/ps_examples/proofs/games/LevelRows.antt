@@ -1,4 +1,5 @@
--- Entries of LEVELS and their faults, worked by hand. The header stands in line 1, so the first line below it is line 2.
+-- Entries of LEVELS and their faults, worked by hand. The header stands in line 1, so the first line below it is line
+-- 2.
 use Rattle.std.proofs.Common.{◌≡◌, ℕ, List, [], ◌∷◌, ◌++◌, map, refl, Option, Some, None}
 use Rattle.std.specs.Prelude.{codes, replicate}
 use Rattle.std.specs.List.{flat_map, range_with_len}
@@ -49,8 +50,8 @@ level width height cells = LevelEntry (record { width = width; height = height; 
 
 -- cells ------------------------------------------------------------------------------------------------------------------
 
--- columns from the left, each from the top; a cell without background gets it behind its own objects; an aggregate shows all
--- its objects, a synonym its object
+-- columns from the left, each from the top; a cell without background gets it behind its own objects; an aggregate
+-- shows all its objects, a synonym its object
 cells_in_columns : entries (codes "P@\n.#\n") ≡ level 2 2 ((1 ∷ 0 ∷ []) ∷ (0 ∷ []) ∷ (2 ∷ 3 ∷ 0 ∷ []) ∷ (2 ∷ 0 ∷ []) ∷ []) ∷ []
 unfolding chars encode
 cells_in_columns = refl
@@ -139,8 +140,8 @@ comment_beside : entries (codes "P (x)\n(xx)P") ≡ two_players ∷ []
 unfolding chars encode
 comment_beside = refl
 
--- the text of a message is taken as it stands, but for the blanks at its ends; the word is known in any case of letters, and a
--- comment may stand before it; a message may be empty, and `(` right behind the word begins its text
+-- the text of a message is taken as it stands, but for the blanks at its ends; the word is known in any case of
+-- letters, and a comment may stand before it; a message may be empty, and `(` right behind the word begins its text
 messages : entries (codes "message Hello (World)\nMESSAGE  Two  words \n(x) Message (y\nmessage(a) b\nmessage")
     ≡ map MessageEntry (codes "Hello (World)" ∷ codes "Two  words" ∷ codes "(y" ∷ codes "(a) b" ∷ [] ∷ [])
 unfolding chars encode
@@ -198,7 +199,8 @@ unknown_first : first (codes "q?") ≡ at_line 2 UnknownGlyph
 unfolding chars encode
 unknown_first = refl
 
--- a first row of 64 characters is within the limit, one of 65 isn't; its characters come first; longer rows below aren't too large
+-- a first row of 64 characters is within the limit, one of 65 isn't; its characters come first; longer rows below
+-- aren't too large
 widest : first (replicate 64 46 ++ codes "\nP" ++ replicate 70 46) ≡ None
 unfolding chars encode
 widest = refl

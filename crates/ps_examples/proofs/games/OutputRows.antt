@@ -46,8 +46,8 @@ chain_stays : written (base_text (codes "PP#")) (codes "d") ≡ Some (codes "= T
 unfolding chars digits is_utf8 utf8_valid_len encode
 chain_stays = refl
 
--- nothing pushes without a rule; `x` writes a frame; what stands below a player is shown again when it has gone; the cell of
--- a crate on a target has a glyph of its own
+-- nothing pushes without a rule; `x` writes a frame; what stands below a player is shown again when it has gone; the
+-- cell of a crate on a target has a glyph of its own
 crate_stays : written (base_text (codes "P@.\n.O*")) (codes "dsd") ≡ Some (codes "= T\n# level 1\nP@.\n.O*\n\nP@.\n.O*\n\n.@.\nPO*\n\n.@.\n.P*\n\n* end of keys\n")
 unfolding chars digits is_utf8 utf8_valid_len encode
 crate_stays = refl

@@ -1,5 +1,6 @@
--- Texts with layers, good and bad, and what is wrong with the names as a whole, worked by hand. The lines of COLLISIONLAYERS are
--- those from line 13 on, or from line 15 on where there is a LEGEND of one line, from line 16 on where it has two.
+-- Texts with layers, good and bad, and what is wrong with the names as a whole, worked by hand. The lines of
+-- COLLISIONLAYERS are those from line 13 on, or from line 15 on where there is a LEGEND of one line, from line 16 on
+-- where it has two.
 use Rattle.std.proofs.Common.{◌≡◌, ℕ, List, [], ◌∷◌, ◌++◌, map, refl, Option, Some, None}
 use Rattle.std.specs.Prelude.{codes, flat_map}
 use Rattle.std.specs.List.{range_with_len}
@@ -60,8 +61,8 @@ glyphs_of_legend = refl
 
 -- layers --------------------------------------------------------------------------------------------------------------------
 
--- a property stands for its members, a synonym for its object; the last layer that names an object counts; blank lines are
--- read past; commas and blanks part names
+-- a property stands for its members, a synonym for its object; the last layer that names an object counts; blank lines
+-- are read past; commas and blanks part names
 layers : (names_of_text (with_both (codes "P = A or B\nS = c") (codes "Background,C\n\n, s,,Player p\n \nB"))).layers ≡ 0 ∷ 1 ∷ 1 ∷ 2 ∷ 1 ∷ []
 unfolding chars
 layers = refl
@@ -131,7 +132,8 @@ no_player = refl
 abbrev of_two : List ℕ → List ℕ → Option Fault
 of_two legend layers = first_name_fault (codes "OBJECTS\nA\nx\nB\nx\nLEGEND\n" ++ (legend ++ (codes "\nCOLLISIONLAYERS\n" ++ layers)))
 
--- Background and Player may be synonyms and properties; the members of Background lie on one layer, those of Player anywhere
+-- Background and Player may be synonyms and properties; the members of Background lie on one layer, those of Player
+-- anywhere
 synonyms : of_two (codes "Player = background\nBackground = A") (codes "A\nB") ≡ None
 unfolding chars
 synonyms = refl

@@ -22,7 +22,8 @@ meanings legend names = meanings_in (with_legend legend) names
 
 -- what names stand for ----------------------------------------------------------------------------------------------------
 
--- a synonym, an aggregate, a property; key words in any case of letters, blanks round `=` or none; a blank line and a comment
+-- a synonym, an aggregate, a property; key words in any case of letters, blanks round `=` or none; a blank line and a
+-- comment
 forms : meanings (codes "x=Player\n\nY = A AND b\n(no = line)\n Z =A oR B or C") (codes "X" ∷ codes "y" ∷ codes "z" ∷ [])
     ≡ Some (One (object 1)) ∷ Some (AllOf 15 (object 2 ∷ object 3 ∷ [])) ∷ Some (AnyOf 17 (object 2 ∷ object 3 ∷ object 4 ∷ [])) ∷ []
 unfolding chars

@@ -19,8 +19,8 @@ fault objects = first_name_fault (with_objects objects (codes "A B"))
 
 -- objects ---------------------------------------------------------------------------------------------------------------
 
--- an object without a sprite; one with a sprite, and right below it one that is named as a sprite row is; one whose colours
--- look like a sprite row; one below a blank line
+-- an object without a sprite; one with a sprite, and right below it one that is named as a sprite row is; one whose
+-- colours look like a sprite row; one below a blank line
 abbrev mixed_text : List ℕ
 mixed_text = with_objects (codes "A\nred\nB q\nx\n00000\n.1234\n56789\n00000\n.....\n00000\ny\nC\n00000\n\n \n12345\nz") (codes "A B\n00000, C 12345")
 

@@ -34,7 +34,8 @@ listed rules = rule_faults base_names (lines_below rules)
 abbrev left_out : List ℕ → List Fault
 left_out rules = flat_map (hidden_in_line base_names) (lines_below rules)
 
--- the right has a row more, whose cell names Crate twice and has `no` before an aggregate: its rows differ, and that is listed
+-- the right has a row more, whose cell names Crate twice and has `no` before an aggregate: its rows differ, and that is
+-- listed
 rows_listed : listed (codes "[ Crate ] -> [ Crate ] [ Crate Crate no @ ]\n") ≡ record { kind = RowsDiffer; line = 2 } ∷ []
 unfolding chars
 rows_listed = refl

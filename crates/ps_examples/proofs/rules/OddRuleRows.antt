@@ -29,8 +29,8 @@ told rules = refused (base_game (rules ++ codes "\n") [] (codes "P\n"))
 abbrev AllTold : Option Fault → List (List ℕ) → Type 0
 AllTold fault rules = map told rules ≡ map (λ rule. fault) rules
 
--- what is told of these lines of RULES, the first of which is line 30, below a legend of synonyms, properties and aggregates: A and
--- B lie on one layer, C and D on one each
+-- what is told of these lines of RULES, the first of which is line 30, below a legend of synonyms, properties and
+-- aggregates: A and B lie on one layer, C and D on one each
 abbrev told_with_legend : List ℕ → Option Fault
 told_with_legend rules =
     refused (codes "OBJECTS\nBackground .\nx\nPlayer P\nx\nA\nx\nB\nx\nC\nx\nD\nx\nLEGEND\nT = s\nS = Q\nQ = A or C\nR = A or C\nZ = G\nG = A and C\nH = C and D\nAA = A\nCOLLISIONLAYERS\nBackground\nPlayer\nA B\nC\nD\nRULES\n"
@@ -41,8 +41,8 @@ AllToldWithLegend fault rules = map told_with_legend rules ≡ map (λ rule. fau
 
 -- words ------------------------------------------------------------------------------------------------------------------
 
--- signs are cut off at the start of a word alone, `v` and key words of letters nowhere, and an ellipsis has three points and blanks
--- or bars beside it
+-- signs are cut off at the start of a word alone, `v` and key words of letters nowhere, and an ellipsis has three
+-- points and blanks or bars beside it
 glued_words : AllTold (at_line 30 kind.UnknownWord)
     (codes "[ vA ] -> [ A ]" ∷ codes "[ A> ] -> [ A ]" ∷ codes "[ A<B ] -> cancel" ∷ codes "[ A | ...B | C ] -> cancel" ∷ codes "[ A | .... | B ] -> cancel" ∷ codes "[ noA ] -> cancel"
     ∷ codes "[ A, B ] -> cancel" ∷ codes "lateup [ A ] -> cancel" ∷ codes "[ A ] -> cancel," ∷ codes "[ A ] -> again+" ∷ [])
@@ -79,7 +79,8 @@ first_of_several : map told
 unfolding chars is_utf8 encode utf8_valid_len
 first_of_several = refl
 
--- what stands on the right of an ellipsis, or beside it, is looked at as in other cells, and told before the ellipsis itself
+-- what stands on the right of an ellipsis, or beside it, is looked at as in other cells, and told before the ellipsis
+-- itself
 beside_ellipses : map told
     (codes "[ A | ... | B ] -> [ A | C C | B ]" ∷ codes "[ A | ... | B ] -> [ A | ... C C | B ]" ∷ codes "[ A | no @ | B ] -> [ A | ... | B ]" ∷ codes "[ A | ... | B ] -> [ A | ... AT | B ]"
     ∷ codes "late [ A | ... > C | B ] -> cancel" ∷ codes "[ A | ... AT | B ] -> [ A | ... AT | B ]" ∷ codes "[ A | ... | B ] -> [ A | ... | ... ]" ∷ [])
@@ -105,7 +106,8 @@ left_out_loops : map told (codes "rigid endloop" ∷ codes "startloop\nrandom st
 unfolding chars is_utf8 encode utf8_valid_len
 left_out_loops = refl
 
--- `+` joins the rule right before, which is late where it is; one that is cut off behind `random` isn't at the start of its line
+-- `+` joins the rule right before, which is late where it is; one that is cut off behind `random` isn't at the start of
+-- its line
 joined_rules : map told
     (codes "late [ A ] -> [ B ]\n+ late [ B ] -> [ A ]\n+ [ A ] -> [ B ]" ∷ codes "[ A ] -> [ B ]\nlate [ A ] -> [ B ]\n+ late [ B ] -> [ C ]\n[ A ] -> [ B ]\n+[ B ] -> [ A ]"
     ∷ codes "[ A ] -> [ B ]\nrandom + [ B ] -> [ A ]" ∷ codes "[ A ] -> [ B ]\n+\n[ A ] -> [ B ]" ∷ codes "[ A ] -> [ B ]\n+ + [ B ] -> [ A ]" ∷ codes "[ A ] -> [ B ]\nlate + late [ B ] -> [ A ]" ∷ [])
@@ -113,8 +115,8 @@ joined_rules : map told
 unfolding chars is_utf8 encode utf8_valid_len
 joined_rules = refl
 
--- a `+` behind a comment that begins above stands at the start of its line: the three rules are one group, which ends at C after an
--- even number of rounds, and would end at B as three groups
+-- a `+` behind a comment that begins above stands at the start of its line: the three rules are one group, which ends
+-- at C after an even number of rounds, and would end at B as three groups
 joined_behind_comment : written (base_game (codes "[ C ] -> [ A ] (x\n\n) + [ B ] -> [ C ]\n\n(y)+[ A ] -> [ B ]\n") [] (codes "A\n")) (codes "x")
     ≡ Some (codes "= T\n# level 1\nA\n\nC\n\n* end of keys\n")
 unfolding chars digits is_utf8 utf8_valid_len encode group program_run all_start_turns all_key_turns turn opening_step
@@ -122,13 +124,15 @@ joined_behind_comment = refl
 
 -- messages -------------------------------------------------------------------------------------------------------------------
 
--- the text of a message has whatever follows, up to the end of its line; commands before it count, and no comment goes on below it
+-- the text of a message has whatever follows, up to the end of its line; commands before it count, and no comment goes
+-- on below it
 message_to_the_end : written (base_game (codes "[ A ] (message) -> [ B ] win Message(x -> y ]  \n+ [ B ] -> [ C ] (z\n)\n") [] (codes "PA\n")) (codes "xx")
     ≡ Some (codes "= T\n# level 1\nPA\n\nPC\n\n! (x -> y ]\n* level 1 done\n* the end\n")
 unfolding chars digits is_utf8 utf8_valid_len encode group program_run all_start_turns all_key_turns turn opening_step
 message_to_the_end = refl
 
--- without an arrow before it, and on the left of the arrow, `message` is a key word where it can't stand, behind which a comment may begin
+-- without an arrow before it, and on the left of the arrow, `message` is a key word where it can't stand, behind which
+-- a comment may begin
 message_without_arrow : map told
     (codes "[ A ] -> message (\n[ Q ] -> cancel" ∷ codes "[ A ] message (\n[ Q ] ) -> cancel" ∷ codes "message ( [ A ] -> )[ A ] -> [ Q ]" ∷ codes "message [ A ] -> [ B ]" ∷ codes "[ A ] -> [ B ] messages x" ∷ [])
     ≡ at_line 31 kind.UnknownWord ∷ at_line 30 kind.BadBracket ∷ at_line 30 kind.UnknownWord ∷ at_line 30 kind.UnknownWord ∷ at_line 30 kind.UnknownWord ∷ []
@@ -143,7 +147,8 @@ twice_by_legend : AllToldWithLegend (at_line 30 kind.NameTwice)
 unfolding chars is_utf8 encode utf8_valid_len
 twice_by_legend = refl
 
--- two properties of the same objects aren't one; a property and one of its members, or an aggregate that has one, may be possible
+-- two properties of the same objects aren't one; a property and one of its members, or an aggregate that has one, may
+-- be possible
 once_by_legend : AllToldWithLegend None (codes "[ Q R ] -> cancel" ∷ codes "[ Q A ] -> cancel" ∷ codes "[ T no S ] -> cancel" ∷ codes "[ G | H ] -> [ H | G ]" ∷ codes "[ Q D no AA ] -> [ S no aa ]" ∷ [])
 unfolding chars is_utf8 encode utf8_valid_len
 once_by_legend = refl
@@ -153,8 +158,8 @@ no_before_synonym : AllToldWithLegend (at_line 30 kind.NoAggregate) (codes "[ no
 unfolding chars is_utf8 encode utf8_valid_len
 no_before_synonym = refl
 
--- what decides a property of the right may be another name of it; two occurrences of it in other cells decide nothing; a word is
--- decided in its own cell by the same object, whatever its name there
+-- what decides a property of the right may be another name of it; two occurrences of it in other cells decide nothing;
+-- a word is decided in its own cell by the same object, whatever its name there
 unbound_by_legend : AllToldWithLegend (at_line 30 kind.Unbound)
     (codes "[ Q ] -> [ R ]" ∷ codes "[ Q | T | ] -> [ | | S ]" ∷ codes "[ no Q ] -> [ T ]" ∷ codes "[ moving A | moving B ] -> [ | moving AA ]" ∷ codes "[ moving Q ] -> [ orthogonal Q ]"
     ∷ codes "[ parallel A ] -> [ horizontal A ]" ∷ codes "[ moving A | moving C ] -> [ A | moving Q ]" ∷ [])
@@ -193,8 +198,8 @@ one_rigid_rule_more = refl
 abbrev times : ℕ → List ℕ → List ℕ
 times count item = flat_map (λ each. each) (replicate count item)
 
--- twelve rows of one cell have 4,096 readings where no word turns with the rule; one that does makes it four times as many, or as
--- many as the rule has directions
+-- twelve rows of one cell have 4,096 readings where no word turns with the rule; one that does makes it four times as
+-- many, or as many as the rule has directions
 directions_counted : map told
     ((times 12 (codes "[ AT ] ") ++ codes "-> cancel") ∷ (codes "[ > AT ]" ++ (times 11 (codes "[ AT ] ") ++ codes "-> cancel")) ∷ (codes "down [ > AT ]" ++ (times 11 (codes "[ AT ] ") ++ codes "-> cancel"))
     ∷ (codes "up down [ v AT ]" ++ (times 11 (codes "[ AT ] ") ++ codes "-> cancel")) ∷ (codes "down [ AT | ]" ++ (times 11 (codes "[ AT ] ") ++ codes "-> cancel")) ∷ (codes "[ AT | ]" ++ (times 11 (codes "[ AT ] ") ++ codes "-> cancel")) ∷ [])
@@ -202,7 +207,8 @@ directions_counted : map told
 unfolding chars is_utf8 encode utf8_valid_len
 directions_counted = refl
 
--- four directions of 1,024 readings are within the limit; `parallel` has two choices in each; a `>` on the right turns the rule too
+-- four directions of 1,024 readings are within the limit; `parallel` has two choices in each; a `>` on the right turns
+-- the rule too
 choices_counted : map told
     ((codes "[ < AT ]" ++ (times 9 (codes "[ AT ] ") ++ codes "-> cancel")) ∷ (codes "[ parallel AT ]" ++ (times 8 (codes "[ AT ] ") ++ codes "-> cancel"))
     ∷ (codes "[ parallel AT ]" ++ (times 9 (codes "[ AT ] ") ++ codes "-> cancel")) ∷ (times 11 (codes "[ AT ] ") ++ (codes "[ A ] -> " ++ (times 11 (codes "[ ] ") ++ codes "[ > A ]"))) ∷ [])
@@ -210,8 +216,8 @@ choices_counted : map told
 unfolding chars is_utf8 encode utf8_valid_len
 choices_counted = refl
 
--- every reading is impossible: a layer is named twice in one cell of one side, by an aggregate, by each member of a property, or by
--- an object and a member that is the same
+-- every reading is impossible: a layer is named twice in one cell of one side, by an aggregate, by each member of a
+-- property, or by an object and a member that is the same
 impossible_rules : AllTold (at_line 30 kind.Impossible)
     (codes "[ @ Wall ] -> cancel" ∷ codes "[ AT B Target ] -> cancel" ∷ codes "[ A ] -> [ B C ]" ∷ codes "[ A no B C ] -> cancel" ∷ codes "late [ Player | | Wall Crate ] -> cancel" ∷ codes "[ AT ] -> [ AT B Target ]"
     ∷ codes "[ AT | ] -> [ B AT | Target AT ]" ∷ [])

@@ -25,7 +25,8 @@ counts names rules = map (reading_count names) (filter_map rule_in (rules_read n
 abbrev row_of : ℕ → List ℕ → List ℕ
 row_of more item = codes "right [ " ++ (item ++ (flat_map (λ cell. cell) (replicate more (codes " | " ++ item)) ++ codes " ] -> cancel\n"))
 
--- counting: directions, words of several moves and fixed properties multiply; loose properties, words of one move and `no` don't
+-- counting: directions, words of several moves and fixed properties multiply; loose properties, words of one move and
+-- `no` don't
 numbers : counts (with_name (codes "ac") ac) (codes "[ > A | B ] -> cancel\n[ A ] -> cancel\nup down [ A ] -> cancel\nhorizontal [ > A ] -> cancel\n[ moving A ] -> [ moving A ]\n[ parallel A ] -> cancel\n[ AT ] [ AT ] -> cancel\n[ AC no AT ] -> [ > AC ]\n[ AC | ] -> [ | AC ]")
     ≡ 4 ∷ 1 ∷ 1 ∷ 2 ∷ 5 ∷ 8 ∷ 4 ∷ 4 ∷ 8 ∷ []
 numbers = refl

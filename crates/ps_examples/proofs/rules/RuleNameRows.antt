@@ -7,8 +7,8 @@ use Rattle.ps_examples.proofs.rules.RuleTexts.{AllTold, told_with, fault_at, wit
 
 -- RU5 ----------------------------------------------------------------------------------------------------------------------
 
--- one side of a cell names one object or one property twice: by another name too, with a movement word or without, and an
--- aggregate by its objects
+-- one side of a cell names one object or one property twice: by another name too, with a movement word or without, and
+-- an aggregate by its objects
 twice : AllTold (fault_at 2 NameTwice)
     (codes "[ A A ] -> [ A ]" ∷ codes "[ A ] -> [ a B A ]" ∷ codes "[ Crate * ] -> cancel" ∷ codes "[ > A < A ] -> cancel" ∷ codes "[ B | | A B A ] -> cancel" ∷ codes "[ A B B ] -> cancel"
     ∷ codes "[ @ @ ] -> cancel" ∷ codes "[ @ Crate ] -> cancel" ∷ codes "[ Target @ ] -> cancel" ∷ codes "[ AT AT ] -> cancel" ∷ codes "[ AT ] -> [ AT > at ]"
@@ -18,7 +18,8 @@ twice = refl
 property_twice : told_with (with_name (codes "ta") at) (codes "[ AT TA ] -> cancel") ≡ fault_at 2 NameTwice
 property_twice = refl
 
--- two properties aren't one, even of the same objects; a property and one of its members aren't one name; `no` isn't counted
+-- two properties aren't one, even of the same objects; a property and one of its members aren't one name; `no` isn't
+-- counted
 not_twice : told_with (with_name (codes "ta") (AnyOf 92 (object 5 ∷ object 4 ∷ []))) (codes "[ AT TA ] -> cancel") ≡ None
 not_twice = refl
 
@@ -51,8 +52,8 @@ loose_property = refl
 bound_synonym : told_with (with_name (codes "ta") at) (codes "[ AT | AT ] -> [ | TA ]") ≡ None
 bound_synonym = refl
 
--- a word of several moves on the right that no left one decides: none is there, or two and none of them in the same cell before
--- the same name; words are compared as they are written
+-- a word of several moves on the right that no left one decides: none is there, or two and none of them in the same
+-- cell before the same name; words are compared as they are written
 unbound_word : AllTold (fault_at 2 Unbound)
     (codes "[ A ] -> [ moving A ]" ∷ codes "[ A ] -> [ horizontal A ]" ∷ codes "[ horizontal A ] -> [ parallel A ]" ∷ codes "[ moving A ] -> [ orthogonal A ]"
     ∷ codes "[ moving A | moving B ] -> [ moving B | ]" ∷ codes "[ moving A moving Crate ] -> [ moving Wall A ]" ∷ codes "[ moving A | moving B | ] -> [ | | moving A ]"

@@ -52,7 +52,8 @@ before_rows : AllTold (fault_at 2 UnknownWord)
     ∷ codes "message [ A ] -> [ B ]" ∷ codes "startloop [ A ] -> [ B ]" ∷ codes "++ [ A ] -> [ B ]" ∷ codes "late + [ A ] -> [ B ]" ∷ [])
 before_rows = refl
 
--- behind a row of the left, in brackets, and before a row of the right no other key word may stand; on the right commands come last
+-- behind a row of the left, in brackets, and before a row of the right no other key word may stand; on the right
+-- commands come last
 out_of_place : AllTold (fault_at 2 UnknownWord)
     (codes "[ A ] late -> [ B ]" ∷ codes "[ A ] cancel [ B ] -> cancel" ∷ codes "[ A ] message -> [ B ]" ∷ codes "[ A ] + [ B ] -> cancel"
     ∷ codes "[ late A ] -> [ B ]" ∷ codes "[ A cancel ] -> [ B ]" ∷ codes "[ message A ] -> [ B ]" ∷ codes "[ A ] -> [ endloop ]" ∷ codes "[ + A ] -> [ B ]"
@@ -109,7 +110,8 @@ ellipses = refl
 
 -- without fault ------------------------------------------------------------------------------------------------------------
 
--- words before the rows stand in any order, and again; an empty cell is a cell; sounds are commands; words touch brackets and signs
+-- words before the rows stand in any order, and again; an empty cell is a cell; sounds are commands; words touch
+-- brackets and signs
 good : AllTold None
     (codes "[ A ] -> [ B ]" ∷ codes "late up LATE up [ A ] -> [ B ]" ∷ codes "horizontal down late [ A | B ] -> [ B | A ]" ∷ codes "[] -> []" ∷ codes "[ | ] [] -> [ A | ] []"
     ∷ codes "[ A ] -> cancel" ∷ codes "[ A ] -> sfx0" ∷ codes "[ A ] -> [ ] cancel again SFX10 message Hi -> [" ∷ codes "[ A ] -> message" ∷ codes "[ A ] -> message(a) b"

@@ -1,5 +1,5 @@
--- Names and lines for the worked rows on rules: the names of the base text, written out, and the lines below a header RULES, the
--- first of which has the number 2.
+-- Names and lines for the worked rows on rules: the names of the base text, written out, and the lines below a header
+-- RULES, the first of which has the number 2.
 use Rattle.std.proofs.Common.{◌≡◌, ℕ, List, [], ◌∷◌, ◌++◌, map, refl, Option, Some}
 use Rattle.std.specs.Prelude.{codes}
 use Rattle.std.specs.Str.{chars}

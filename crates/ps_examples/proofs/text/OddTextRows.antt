@@ -51,8 +51,8 @@ object number = record { 0 = number }
 
 -- bytes ------------------------------------------------------------------------------------------------------------------
 
--- a byte of no whole character is told where it stands: too long a form, half of a pair, beyond the last character, a byte that
--- begins none
+-- a byte of no whole character is told where it stands: too long a form, half of a pair, beyond the last character, a
+-- byte that begins none
 no_characters : AllRefused (at_line 2 kind.NotUtf8)
     ((10 ∷ 192 ∷ 128 ∷ []) ∷ (10 ∷ 224 ∷ 159 ∷ 191 ∷ []) ∷ (10 ∷ 237 ∷ 160 ∷ 128 ∷ []) ∷ (10 ∷ 244 ∷ 144 ∷ 128 ∷ 128 ∷ []) ∷ (10 ∷ 245 ∷ 128 ∷ 128 ∷ 128 ∷ []) ∷ (10 ∷ 128 ∷ []) ∷ [])
 unfolding chars is_utf8 encode utf8_valid_len
@@ -63,7 +63,8 @@ cut_by_line_feed : refused (codes "a\n" ++ 226 ∷ 130 ∷ 10 ∷ 172 ∷ []) �
 unfolding chars is_utf8 encode utf8_valid_len
 cut_by_line_feed = refl
 
--- the last character of each length is one, as is the last before the halves of pairs; a byte order mark alone is an empty line
+-- the last character of each length is one, as is the last before the halves of pairs; a byte order mark alone is an
+-- empty line
 last_characters : AllRefused (at_line 1 kind.NoSection)
     ((0 ∷ []) ∷ (127 ∷ []) ∷ (223 ∷ 191 ∷ []) ∷ (237 ∷ 159 ∷ 191 ∷ []) ∷ (239 ∷ 191 ∷ 191 ∷ []) ∷ (244 ∷ 143 ∷ 191 ∷ 191 ∷ []) ∷ (239 ∷ 187 ∷ 191 ∷ []) ∷ [])
 unfolding chars is_utf8 encode utf8_valid_len
@@ -116,7 +117,8 @@ no_player : refused (codes "title T\n\nOBJECTS\nBackground\nx\nCOLLISIONLAYERS\n
 unfolding chars is_utf8 encode utf8_valid_len
 no_player = refl
 
--- a name of the legend may be a section's, but alone on a layer's line it is that section's header; with a comma it isn't
+-- a name of the legend may be a section's, but alone on a layer's line it is that section's header; with a comma it
+-- isn't
 name_of_a_section : map refused (with_three (codes "Objects = A\n") (codes "Objects\nB\nC\n") ∷ with_three (codes "Objects = A\n") (codes "Objects,\nB\nC\n") ∷ [])
     ≡ at_line 15 kind.SectionOrder ∷ None ∷ []
 unfolding chars is_utf8 encode utf8_valid_len
@@ -196,7 +198,8 @@ short_sprites : AllRefused (at_line 6 kind.BadObject)
 unfolding chars is_utf8 encode utf8_valid_len
 short_sprites = refl
 
--- what is no sprite row names the next object, which has no layer here: six characters, a sixth row, one below a blank line, a dash
+-- what is no sprite row names the next object, which has no layer here: six characters, a sixth row, one below a blank
+-- line, a dash
 sprite_or_name : map refused
     (text_with (codes "Rock\nx\n000000\nx\n") [] (codes "Rock\n") ∷ text_with (codes "Rock\nx\n00000\n11111\n22222\n33333\n44444\n55555\nx\n") [] (codes "Rock\n")
     ∷ text_with (codes "Rock\n12345\n\n00000\nx\n") [] (codes "Rock\n") ∷ text_with (codes "Rock\nx\n0000-\nx\n") [] (codes "Rock\n") ∷ [])
@@ -314,8 +317,8 @@ properties_in_aggregates : map refused
 unfolding chars is_utf8 encode utf8_valid_len
 properties_in_aggregates = refl
 
--- properties of properties and aggregates of aggregates name each object once, where it is first mentioned; a synonym of a
--- synonym of a property is that property, with its line
+-- properties of properties and aggregates of aggregates name each object once, where it is first mentioned; a synonym
+-- of a synonym of a property is that property, with its line
 flattened : option_map (λ read. map (meaning_of read.names) (codes "P" ∷ codes "Q" ∷ codes "S" ∷ codes "t" ∷ codes "R" ∷ codes "G" ∷ codes "H" ∷ codes "J" ∷ []))
     (game (text_with (codes "A\nx\nB\nx\nC\nx\n") (codes "S = T\nT = Q2\nQ2 = Q or B\n\nQ = C or A or c\nP2 = B or S or Q\nR = Player or P2 or A\nG = H and A\nH = C and B\nJ = H and G\n") (codes "A\nB\nC\n")))
     ≡ Some (Some (One (object 1)) ∷ Some (AnyOf 17 (object 4 ∷ object 2 ∷ [])) ∷ Some (AnyOf 15 (object 4 ∷ object 2 ∷ object 3 ∷ [])) ∷ Some (AnyOf 15 (object 4 ∷ object 2 ∷ object 3 ∷ []))
@@ -336,7 +339,8 @@ good_layers : AllRefused None (with_three [] (codes ",A,,B (x),\tc,\r\n") ∷ wi
 unfolding chars is_utf8 encode utf8_valid_len
 good_layers = refl
 
--- an aggregate on a layer, by a synonym too; a name that nothing declares is told first in one line, but not from a line below
+-- an aggregate on a layer, by a synonym too; a name that nothing declares is told first in one line, but not from a
+-- line below
 aggregates_on_layers : map refused
     (with_three (codes "G = A and B\nS = G\n") (codes "C S\n") ∷ with_three (codes "G = A and B\n") (codes "G Nope\n") ∷ with_three (codes "G = A and B\n") (codes "G\nNope\n") ∷ [])
     ≡ at_line 16 kind.AggregateInLayer ∷ at_line 15 kind.UnknownName ∷ at_line 15 kind.AggregateInLayer ∷ []
@@ -365,8 +369,8 @@ objects_without_layer = refl
 abbrev three_alone : List ℕ → List ℕ → List ℕ
 three_alone legend layers = codes "OBJECTS\nA\nx\nB\nx\nC\nx\nLEGEND\n" ++ (legend ++ (codes "COLLISIONLAYERS\n" ++ (layers ++ codes "LEVELS\nC\n")))
 
--- Background may be a synonym of a property whose members lie on one layer; else it is told at the line of the word Background,
--- as is an aggregate
+-- Background may be a synonym of a property whose members lie on one layer; else it is told at the line of the word
+-- Background, as is an aggregate
 backgrounds : map refused
     (three_alone (codes "Background = G\nG = A or B\nPlayer = C\n") (codes "A B\nC\n") ∷ three_alone (codes "G = A or B\nBackground = G\nPlayer = C\n") (codes "A\nB\nC\n")
     ∷ three_alone (codes "Background = G\nG = A and B\nPlayer = C\n") (codes "A\nB\nC\n") ∷ three_alone (codes "Player = C\nBackground = A or B or C\n") (codes "A B C\nC\n") ∷ [])
@@ -374,8 +378,8 @@ backgrounds : map refused
 unfolding chars is_utf8 encode utf8_valid_len
 backgrounds = refl
 
--- Player may be a property of several layers, but no aggregate; a bad Background below it is told first, and two objects of one
--- layer in an aggregate above it last
+-- Player may be a property of several layers, but no aggregate; a bad Background below it is told first, and two
+-- objects of one layer in an aggregate above it last
 players : map refused
     (three_alone (codes "Background = A\nPlayer = B or C\n") (codes "A\nB\nC\n") ∷ three_alone (codes "Background = A\nG = B and C\nPlayer = G\n") (codes "A\nB\nC\n")
     ∷ three_alone (codes "Player = G\nBackground = A or B\nG = B and C\n") (codes "A\nB\nC\n") ∷ three_alone (codes "G = B and C\nBackground = A\nPlayer = G\n") (codes "A\nB C\n") ∷ [])
@@ -383,8 +387,8 @@ players : map refused
 unfolding chars is_utf8 encode utf8_valid_len
 players = refl
 
--- two objects of an aggregate on one layer: the last line that names an object is its layer, one object twice is one, and a
--- synonym of the aggregate isn't told
+-- two objects of an aggregate on one layer: the last line that names an object is its layer, one object twice is one,
+-- and a synonym of the aggregate isn't told
 shared_layers : map refused
     (with_three (codes "S = G\nG = A and B\n") (codes "A\nB\nC A B\n") ∷ with_three (codes "G = A and B\n") (codes "A B\nC\nB\n") ∷ with_three (codes "H = G and C\nG = A and B\n") (codes "A B\nC\n")
     ∷ with_three (codes "G = A and a\nQ = A or B\n") (codes "A B\nC\n") ∷ with_three (codes "G = A and C\nH = G and B\n") (codes "A B\nC\n") ∷ [])
@@ -431,7 +435,8 @@ property_glyphs = refl
 
 -- the order of sections ------------------------------------------------------------------------------------------------------
 
--- rules are told before levels, these before win conditions, and these before rules that have too many or only impossible readings
+-- rules are told before levels, these before win conditions, and these before rules that have too many or only
+-- impossible readings
 sections_in_order : map refused
     (base_game (codes "[ Q ] -> cancel\n") (codes "No\n") (codes "?\n") ∷ base_game (codes "[ Player Wall ] -> cancel\n") (codes "No\n") (codes "?\n")
     ∷ base_game (codes "[ Player Wall ] -> cancel\n") (codes "No Q\n") (codes "P\n") ∷ base_game (codes "[ Player Wall ] -> cancel\n") [] (codes "P\n") ∷ [])

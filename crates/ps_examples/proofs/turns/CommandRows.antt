@@ -1,5 +1,5 @@
--- Commands, messages, undo, restart, options and several entries, worked by hand: from the bytes of a text to the bytes that are
--- written.
+-- Commands, messages, undo, restart, options and several entries, worked by hand: from the bytes of a text to the bytes
+-- that are written.
 use Rattle.std.proofs.Common.{◌≡◌, [], ◌∷◌, refl, Some}
 use Rattle.std.specs.Prelude.{codes}
 use Rattle.std.specs.Str.{chars, is_utf8}

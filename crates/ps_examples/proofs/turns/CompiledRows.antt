@@ -118,8 +118,8 @@ by_source = refl
 abbrev other_source : List RuleMeaning
 other_source = readings_of (with_name (codes "ac") ac) (codes "right [ AC | Crate no Target | | > Player | Wall ] -> [ > AC | | no Crate | Player | Wall ]\n")
 
--- its cells compiled: A or C is left and goes right; Crate is cleared away where no Target is; Crate goes, whatever stands there;
--- Player, who goes right, rests; and Wall keeps its motion
+-- its cells compiled: A or C is left and goes right; Crate is cleared away where no Target is; Crate goes, whatever
+-- stands there; Player, who goes right, rests; and Wall keeps its motion
 abbrev other_cells : List CompiledCell
 other_cells = record {
   mask = record { needed = []; barred = []; one_of = (placed 5 3 ∷ placed 7 3 ∷ []) ∷ []; motions = [] };
@@ -147,8 +147,8 @@ other_made_of_source : map (λ (rule : CompiledRule). rule.rows) (flat_map (comp
 unfolding chars
 other_made_of_source = refl
 
--- cells with nothing, Wall, Player or Crate, each beside nothing, A, B or C, on a Target and elsewhere; all that may move goes the
--- same way or rests
+-- cells with nothing, Wall, Player or Crate, each beside nothing, A, B or C, on a Target and elsewhere; all that may
+-- move goes the same way or rests
 abbrev cells_moving : Motion → List (List Slot)
 cells_moving motion = flat_map (λ target. flat_map (λ middle. map (λ top. Holds (object 0) Still ∷ target ∷ middle ∷ top ∷ [])
     (Bare ∷ Holds (object 5) motion ∷ Holds (object 6) motion ∷ Holds (object 7) motion ∷ []))

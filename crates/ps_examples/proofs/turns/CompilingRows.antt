@@ -71,8 +71,9 @@ either_layer_asked = refl
 
 -- writes -----------------------------------------------------------------------------------------------------------------
 
--- on a layer that both sides claim, the motion is kept where neither has a word; where the left alone has one, it rests. What the
--- right claims twice is written twice, and the first write counts; what the left alone claims is cleared
+-- on a layer that both sides claim, the motion is kept where neither has a word; where the left alone has one, it
+-- rests. What the right claims twice is written twice, and the first write counts; what the left alone claims is
+-- cleared
 all_written : write_of base_names (
     Each (object 2 ∷ []) None ∷ Any (object 5 ∷ object 7 ∷ []) (Some Acting) ∷ Each (object 4 ∷ []) None ∷ Without (object 8 ∷ []) ∷ []
     ) (
@@ -99,8 +100,8 @@ new_written : write_of base_names [] (Each (object 5 ∷ []) None ∷ Each (obje
 }
 new_written = refl
 
--- an object that goes is looked for on its own layer alone, where the source takes it away wherever it stands: so a write is its
--- source's on the cells of a game alone
+-- an object that goes is looked for on its own layer alone, where the source takes it away wherever it stands: so a
+-- write is its source's on the cells of a game alone
 left_there : cell_written (write_of base_names [] (Without (object 3 ∷ []) ∷ [])) misplaced ≡ misplaced
 left_there = refl
 

@@ -1,4 +1,5 @@
--- The parts of a turn one by one, worked by hand: the readings of rules, the places of rows, attempts, and what comes of turns.
+-- The parts of a turn one by one, worked by hand: the readings of rules, the places of rows, attempts, and what comes
+-- of turns.
 use Rattle.std.proofs.Common.{◌≡◌, ℕ, List, [], ◌∷◌, map, length, refl, Option, Some, None, true, false}
 use Rattle.std.specs.Prelude.{codes, option_map}
 use Rattle.std.specs.List.{flat_map, filter_map}

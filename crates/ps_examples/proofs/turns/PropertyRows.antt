@@ -1,4 +1,5 @@
--- Properties and movement words of several moves, worked by hand: from the bytes of a text to the bytes that are written.
+-- Properties and movement words of several moves, worked by hand: from the bytes of a text to the bytes that are
+-- written.
 use Rattle.std.proofs.Common.{◌≡◌, [], refl, Some}
 use Rattle.std.specs.Prelude.{codes}
 use Rattle.std.specs.Str.{chars, is_utf8}

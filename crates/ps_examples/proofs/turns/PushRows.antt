@@ -36,7 +36,8 @@ row_of_crates_pushed : written (base_game (codes "[ > Player | Crate ] -> [ > Pl
 unfolding chars digits is_utf8 utf8_valid_len encode group program_run all_start_turns all_key_turns turn opening_step
 row_of_crates_pushed = refl
 
--- who enters a cell that two want: the least where it is bare, the one above where it is left, nobody in a swap or a ring
+-- who enters a cell that two want: the least where it is bare, the one above where it is left, nobody in a swap or a
+-- ring
 least_contender_wins : written (base_game (codes "[ A ] -> [ right A ]\n[ B ] -> [ left B ]\n[ C ] -> [ up C ]\n[ D ] -> [ down D ]\n") ([]) (codes "A.B\n")) (codes "x")
     ≡ Some (codes "= T\n# level 1\nA.B\n\n.AB\n\n* end of keys\n")
 unfolding chars digits is_utf8 utf8_valid_len encode group program_run all_start_turns all_key_turns turn opening_step

@@ -70,7 +70,8 @@ attempt_downwards = refl
 faces_down : (forwards (rule_to Up (row ∷ []))).direction ≡ Down
 faces_down = refl
 
--- two rows: the first combination, in which they meet in a cell, takes the 3 from the others; what the second row made stands
+-- two rows: the first combination, in which they meet in a cell, takes the 3 from the others; what the second row made
+-- stands
 abbrev two_rows : List (List (List CellMeaning))
 two_rows = ((becomes 1 4 ∷ []) ∷ (becomes 3 6 ∷ []) ∷ []) ∷ ((becomes 1 5 ∷ []) ∷ []) ∷ []
 

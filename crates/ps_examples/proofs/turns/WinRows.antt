@@ -29,8 +29,8 @@ crate_and_target = AllOf 12 (object 2 ∷ object 3 ∷ [])
 abbrev player_or_target : Meaning
 player_or_target = AnyOf 13 (object 1 ∷ object 3 ∷ [])
 
--- the names of OBJECTS `Background .`, `Player P`, `Crate *`, `Target O`, `On`, and LEGEND `@ = Crate and Target`, `PT = Player or
--- Target`, `& = Player and Target`
+-- the names of OBJECTS `Background .`, `Player P`, `Crate *`, `Target O`, `On`, and LEGEND `@ = Crate and Target`, `PT
+-- = Player or Target`, `& = Player and Target`
 abbrev names : Names
 names = record {
   entries =

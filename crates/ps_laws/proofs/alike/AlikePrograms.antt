@@ -1,4 +1,5 @@
--- Groups, passes, loops, sections and programs of rules whose rounds are equal are equal, and keep the grid one of the game.
+-- Groups, passes, loops, sections and programs of rules whose rounds are equal are equal, and keep the grid one of the
+-- game.
 use Rattle.std.proofs.Common.{ℕ, zero, suc, Bool, true, false, List, [], ◌∷◌, refl, ◌∙◌, ap}
 use Rattle.std.specs.List.{AllZip}
 use Rattle.ps_model.specs.declared.limits.TheConstants.{ROUND_LIMIT, REPEAT_LIMIT}

@@ -1,4 +1,5 @@
--- Rounds, groups, passes, loops, sections and programs of rules that are alike are equal, and keep the grid one of the game.
+-- Rounds, groups, passes, loops, sections and programs of rules that are alike are equal, and keep the grid one of the
+-- game.
 use Rattle.std.proofs.Common.{ℕ, List, [], ◌∷◌, refl}
 use Rattle.std.specs.List.{AllZip}
 use Rattle.ps_model.specs.names.Names.{Names}

@@ -46,7 +46,8 @@ module _ (g : Grid) (layer : ℕ) where
   exact zero cell e = absurd (cc e)
   exact (suc links) cell e = least_links links cell (slides_within g layer links cell) e refl (exact links cell)
 
-  -- the cells of a chain: as many as links, all on the board, and no two the same, since each has fewer links than that before
+  -- the cells of a chain: as many as links, all on the board, and no two the same, since each has fewer links than that
+  -- before
   record IsChain (links : ℕ) (cells : List ℕ) : Type 0 where
     long : length cells ≡ links
     apart : IsDistinct eqb cells

@@ -1,5 +1,5 @@
--- What holds of the lines of each text: they are numbered from 1 on, and each stands in the section of the line above, but for
--- headers, which never begin the prelude.
+-- What holds of the lines of each text: they are numbered from 1 on, and each stands in the section of the line above,
+-- but for headers, which never begin the prelude.
 use Rattle.std.proofs.Common.{◌≡◌, ℕ, zero, suc, ◌+◌, ◌-◌, ◌<◌, ◌≤◌, Bool, true, false, cond, List, [], ◌∷◌, ◌++◌, length, drop, get_or, Option, None, Some, refl, sym, ap, ◌∙◌, arith}
 use Rattle.std.specs.Prelude.{⊤, if◌then◌else◌, unwrap_or, is_some}
 use Rattle.std.specs.List.{slice_split}

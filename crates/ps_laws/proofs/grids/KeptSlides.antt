@@ -1,4 +1,5 @@
--- The movement keeps the grids of a game: each slot of the grid after it is one of the same layer of the grid before, or bare.
+-- The movement keeps the grids of a game: each slot of the grid after it is one of the same layer of the grid before,
+-- or bare.
 use Rattle.std.proofs.Common.{◌≡◌, ℕ, zero, suc, ◌+◌, Bool, true, false, Option, Some, None, List, [], ◌∷◌, map, get_or, sym, ◌∙◌, arith}
 use mathlib.Core.Path.{subst}
 use Rattle.std.specs.Prelude.{All}

@@ -1,4 +1,5 @@
--- A write makes of each cell of a game what the claims of both sides make of it: there, an object that goes stands on its own layer.
+-- A write makes of each cell of a game what the claims of both sides make of it: there, an object that goes stands on
+-- its own layer.
 use Rattle.std.proofs.Common.{◌≡◌, ℕ, suc, Bool, true, false, cond, not, ◌&&◌, ◌||◌, nat_eq, slice_index_or, sym, Option, Some, None, unwrap_or, List, [], ◌∷◌, ◌++◌, refl, ◌∙◌, ap, ap₂, map, filter, flat_map}
 use Rattle.std.specs.List.{list_any}
 use Rattle.std.proofs.Math.Bool.{and-false}

@@ -11,7 +11,8 @@ use Rattle.ps_laws.specs.AgainTurns.{counts_for_key, goes_on_for_key, counts_for
 
 -- any again turns --------------------------------------------------------------------------------------------------------
 
--- again turns that stop where a turn doesn't count, and that tell behind each that does what the next ones bring, if they come
+-- again turns that stop where a turn doesn't count, and that tell behind each that does what the next ones bring, if
+-- they come
 record Repeat (counts goes_on : Done → Bool) (told : Play → Done → ℕ → (Play → Step) → Step) (stop : ℕ → Play → Step) (script : Script) (turns : ℕ → Play → Step) : Type 0 where
   none_left : (play : Play) → turns 0 play ≡ stop 0 play
   blocked : (left : ℕ) (play : Play) (message : Option (List ℕ)) → turn script None play.board ≡ Blocked message → turns (suc left) play ≡ stop (suc left) play

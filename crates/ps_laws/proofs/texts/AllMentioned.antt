@@ -1,5 +1,5 @@
--- What a list of all that is mentioned has: the mentions themselves, and with each legend line all that the line mentions. The steps
--- in which it is made are enough, since the mentions of a line are added once at most.
+-- What a list of all that is mentioned has: the mentions themselves, and with each legend line all that the line
+-- mentions. The steps in which it is made are enough, since the mentions of a line are added once at most.
 use Rattle.std.proofs.Common.{◌≡◌, ℕ, zero, suc, ◌+◌, ◌≤◌, ◌||◌, ◌⊎◌, inl, inr, Bool, true, false, cond, List, [], ◌∷◌, ◌++◌, length, refl, sym, ap, ◌∙◌, arith}
 use mathlib.Core.Path.{subst}
 use Rattle.std.specs.Prelude.{nat_eq, slice_get}

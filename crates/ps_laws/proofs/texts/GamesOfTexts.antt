@@ -1,5 +1,5 @@
--- The rules of every game speak of its own objects alone, each of its levels is loaded as a grid of the game, and each of its turns
--- keeps such grids and their sides.
+-- The rules of every game speak of its own objects alone, each of its levels is loaded as a grid of the game, and each
+-- of its turns keeps such grids and their sides.
 use Rattle.std.proofs.Common.{◌≡◌, List, [], length, sym, ◌∙◌, arith}
 use Rattle.std.specs.Prelude.{All}
 use Rattle.std.proofs.lemmas.List.Elements.{All-weaker}

@@ -1,5 +1,5 @@
--- The levels that are read have objects of the game alone and as many cells as their sides say, and so each is loaded as a grid of
--- the game.
+-- The levels that are read have objects of the game alone and as many cells as their sides say, and so each is loaded
+-- as a grid of the game.
 use Rattle.std.proofs.Common.{◌≡◌, ℕ, zero, suc, ◌+◌, ◌*◌, ◌<◌, Bool, true, false, cond, Option, Some, None, List, [], ◌∷◌, ◌++◌, length, map, get_or, fold, replicate, refl, ap, ◌∙◌, arith}
 use mathlib.Core.Path.{subst}
 use Rattle.std.specs.Prelude.{All, IfSome, ⊤, slice_set, slice_index_or, unwrap_or, find, encode_utf8, codes}

@@ -1,7 +1,9 @@
--- One attempt of a rule. Its places are those of the board as it is at the start, and so are their combinations: one place for
--- each row, the first row's changing fastest. Each combination in order is applied if every row still fits: all cells of all
--- rows are rewritten, row after row. A rule that has a combination queues its commands, whether it changed something or not.
-use Rattle.std.specs.Prelude.{ℕ, Bool, true, false, ◌&&◌, ◌||◌, not, if◌then◌else◌, Option, Some, None, List, [], ◌∷◌, map, fold, slice_get, slice_set}
+-- One attempt of a rule. Its places are those of the board as it is at the start, and so are their combinations: one
+-- place for each row, the first row's changing fastest. Each combination in order is applied if every row still fits:
+-- all cells of all rows are rewritten, row after row. A rule that has a combination queues its commands, whether it
+-- changed something or not.
+use Rattle.std.specs.Prelude.{ℕ, Bool, true, false, ◌&&◌, ◌||◌, not, if◌then◌else◌, Option, Some, None, List, [], ◌∷◌}
+use Rattle.std.specs.Prelude.{map, fold, slice_get, slice_set}
 use Rattle.std.specs.Option.{option_or}
 use Rattle.std.specs.List.{flat_map}
 use Rattle.ps_model.specs.declared.pieces.Slot.{Slot}
@@ -60,7 +62,8 @@ rewritten_cell r meaning number (Some cell) = with_cell r number cell (meaning.r
 abbrev pub rewritten_along : Rewritten → List CellMeaning → List ℕ → Rewritten
 rewritten_along r [] cells = r
 rewritten_along r (meaning ∷ meanings) [] = r
-rewritten_along r (meaning ∷ meanings) (cell ∷ cells) = rewritten_along (rewritten_cell r meaning cell (slice_get (r.grid).cells cell)) meanings cells
+rewritten_along r (meaning ∷ meanings) (cell ∷ cells) =
+    rewritten_along (rewritten_cell r meaning cell (slice_get (r.grid).cells cell)) meanings cells
 
 -- combinations -------------------------------------------------------------------------------------------------------------
 
@@ -73,7 +76,8 @@ combinations (places ∷ others) = flat_map (λ rest. map (λ place. place ∷ r
 abbrev pub all_fit : Grid → List (List (List CellMeaning)) → List (List ℕ) → Bool
 all_fit g [] places = true
 all_fit g (row ∷ rows) [] = false
-all_fit g (row ∷ rows) (place ∷ places) = elim (fits_along g (cells_in row) place) [ true ↦ all_fit g rows places | false ↦ false ]
+all_fit g (row ∷ rows) (place ∷ places) =
+    elim (fits_along g (cells_in row) place) [ true ↦ all_fit g rows places | false ↦ false ]
 
 -- all cells of all rows rewritten, row after row
 abbrev pub rewritten_rows : Rewritten → List (List (List CellMeaning)) → List (List ℕ) → Rewritten
@@ -83,7 +87,8 @@ rewritten_rows r (row ∷ rows) (place ∷ places) = rewritten_rows (rewritten_a
 
 -- a combination applied, if every row still fits
 abbrev pub applied : List (List (List CellMeaning)) → Rewritten → List (List ℕ) → Rewritten
-applied rows r combination = elim (all_fit r.grid rows combination) [ true ↦ rewritten_rows r rows combination | false ↦ r ]
+applied rows r combination =
+    elim (all_fit r.grid rows combination) [ true ↦ rewritten_rows r rows combination | false ↦ r ]
 
 -- commands -----------------------------------------------------------------------------------------------------------------
 
@@ -98,8 +103,8 @@ both queue commands = record {
   message = option_or queue.message commands.message;
 }
 
--- the queue with the commands of a rule: behind `cancel` nothing enters, behind `restart` nothing but a rule with `cancel`; a rule
--- with `cancel` or `restart` empties the queue before its commands enter
+-- the queue with the commands of a rule: behind `cancel` nothing enters, behind `restart` nothing but a rule with
+-- `cancel`; a rule with `cancel` or `restart` empties the queue before its commands enter
 abbrev pub queued : Commands → Commands → Commands
 queued queue commands =
     if queue.cancel then queue

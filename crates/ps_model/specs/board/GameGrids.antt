@@ -1,4 +1,5 @@
--- What a grid of a game is: it has the game's layers, and each object on it is one of the game's and stands on its own layer.
+-- What a grid of a game is: it has the game's layers, and each object on it is one of the game's and stands on its own
+-- layer.
 use Rattle.std.specs.Prelude.{ℕ, suc, ◌≡◌, ◌<◌, ◌*◌, List, [], ◌∷◌, All, length, ⊤}
 use Rattle.ps_model.specs.declared.pieces.Slot.{Slot}
 use Rattle.ps_model.specs.declared.pieces.Slot.TheVariants.{Bare, Holds}

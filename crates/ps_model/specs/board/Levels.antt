@@ -1,6 +1,7 @@
--- A level: for each cell, in columns from the left and each column from the top, the objects that its character shows; and
--- the grid that it is loaded as.
-use Rattle.std.specs.Prelude.{ℕ, nat_eq, Bool, if◌then◌else◌, Option, Some, None, unwrap_or, List, [], ◌∷◌, ◌++◌, map, find, fold, replicate, slice_set, slice_index_or}
+-- A level: for each cell, in columns from the left and each column from the top, the objects that its character shows;
+-- and the grid that it is loaded as.
+use Rattle.std.specs.Prelude.{ℕ, nat_eq, Bool, if◌then◌else◌, Option, Some, None, unwrap_or, List, [], ◌∷◌, ◌++◌, map}
+use Rattle.std.specs.Prelude.{find, fold, replicate, slice_set, slice_index_or, codes}
 use Rattle.std.specs.Prelude.{encode_utf8}
 use Rattle.std.specs.Char.{to_ascii_lowercase}
 use Rattle.std.specs.List.{list_any, flat_map}
@@ -28,7 +29,8 @@ shown_objects (Some (AnyOf line objects)) = None
 
 -- the objects that a character of a row shows: it is a name of one character, ASCII letters folded
 abbrev pub objects_shown : Names → ℕ → Option (List ObjectId)
-objects_shown names character = shown_objects (lookup (bytes_eq (encode_utf8 (to_ascii_lowercase character))) names.entries)
+objects_shown names character =
+    shown_objects (lookup (bytes_eq (encode_utf8 (to_ascii_lowercase character))) names.entries)
 
 -- the layer of the objects of Background
 abbrev pub background_layer : Names → ℕ

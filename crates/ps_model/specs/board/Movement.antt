@@ -57,8 +57,8 @@ slides_within g layer (suc links) cell = elim (target g layer cell) [
   ]
 ]
 
--- the object of a cell slides: some chain leads from it to a bare cell. No chain without a ring has more links than there
--- are cells
+-- the object of a cell slides: some chain leads from it to a bare cell. No chain without a ring has more links than
+-- there are cells
 abbrev pub slides : Grid → ℕ → ℕ → Bool
 slides g layer cell = slides_within g layer (cell_count g) cell
 
@@ -71,7 +71,8 @@ if_slides g layer (Some cell) = elim (slides g layer cell) [ true ↦ Some cell 
 abbrev pub entrant : Grid → ℕ → ℕ → Option ℕ
 entrant g layer cell = if_slides g layer (winner g layer cell)
 
--- a slot after the movement: the object that slid in; else nothing, where the own object slid away; else what stood there
+-- a slot after the movement: the object that slid in; else nothing, where the own object slid away; else what stood
+-- there
 abbrev pub slid_slot : Grid → ℕ → ℕ → Slot
 slid_slot g layer cell = elim (entrant g layer cell) [
   | Some from ↦ slot_at_rest (slot_at g from layer)

@@ -1,7 +1,9 @@
--- The places of a row of a rule on a grid: straight lists of cells in the rule's direction, with any gap at an ellipsis, of which
--- each fits. Horizontal directions are searched row by row from the top, each from the left; vertical ones column by column from
--- the left, each from the top. A place is ordered by its end cell that is leftmost or topmost, then by the gap.
-use Rattle.std.specs.Prelude.{ℕ, suc, ◌+◌, ◌-◌, ◌*◌, ◌/◌, ◌%◌, nat_le, Bool, true, false, Option, Some, None, List, [], ◌∷◌, ◌++◌, length, map, filter, take, drop, reverse, slice_get}
+-- The places of a row of a rule on a grid: straight lists of cells in the rule's direction, with any gap at an
+-- ellipsis, of which each fits. Horizontal directions are searched row by row from the top, each from the left;
+-- vertical ones column by column from the left, each from the top. A place is ordered by its end cell that is leftmost
+-- or topmost, then by the gap.
+use Rattle.std.specs.Prelude.{ℕ, suc, ◌+◌, ◌-◌, ◌*◌, ◌/◌, ◌%◌, nat_le, Bool, true, false, Option, Some, None, List, []}
+use Rattle.std.specs.Prelude.{◌∷◌, ◌++◌, length, map, filter, take, drop, reverse, slice_get}
 use Rattle.std.specs.List.{flat_map, range_with_len}
 use Rattle.ps_model.specs.declared.pieces.Direction.{Direction}
 use Rattle.ps_model.specs.declared.pieces.Direction.TheVariants.{Up, Down, Left, Right}
@@ -25,8 +27,8 @@ row_by_row g = flat_map (λ row. map (λ column. column * g.height + row) (range
 abbrev pub column_by_column : Grid → List ℕ
 column_by_column g = range_with_len 0 (cell_count g)
 
--- the ways in which parts of these lengths lie on a line of cells, the first part at its beginning and each other one behind any
--- gap; least gaps come first
+-- the ways in which parts of these lengths lie on a line of cells, the first part at its beginning and each other one
+-- behind any gap; least gaps come first
 abbrev pub ways_along : List ℕ → List ℕ → List (List ℕ)
 ways_along [] line = [] ∷ []
 ways_along (size ∷ sizes) line = elim (nat_le size (length line)) [
@@ -37,8 +39,8 @@ ways_along (size ∷ sizes) line = elim (nat_le size (length line)) [
   | false ↦ []
 ]
 
--- the lists of cells in a direction, for parts of these lengths, whose leftmost or topmost end is that cell. Those of a row that
--- goes left or up are those of the row turned round that goes right or down, read backwards
+-- the lists of cells in a direction, for parts of these lengths, whose leftmost or topmost end is that cell. Those of a
+-- row that goes left or up are those of the row turned round that goes right or down, read backwards
 abbrev pub stretches : Grid → Direction → List ℕ → ℕ → List (List ℕ)
 stretches g Up sizes end = map reverse (ways_along (reverse sizes) (cells_downwards g end))
 stretches g Down sizes end = ways_along sizes (cells_downwards g end)
@@ -62,7 +64,8 @@ abbrev pub fits_along : Grid → List CellMeaning → List ℕ → Bool
 fits_along g [] [] = true
 fits_along g [] (cell ∷ cells) = false
 fits_along g (meaning ∷ meanings) [] = false
-fits_along g (meaning ∷ meanings) (cell ∷ cells) = elim (fits_there meaning (slice_get g.cells cell)) [ true ↦ fits_along g meanings cells | false ↦ false ]
+fits_along g (meaning ∷ meanings) (cell ∷ cells) =
+    elim (fits_there meaning (slice_get g.cells cell)) [ true ↦ fits_along g meanings cells | false ↦ false ]
 
 -- the cells of a row in written order
 abbrev pub cells_in : List (List CellMeaning) → List CellMeaning

@@ -1,6 +1,7 @@
--- Rounds, groups, loops and programs. A round is the attempts of a group's rules in order. A group makes rounds until one changes
--- nothing, or until their limit. A loop's body is passed once, and again while the last pass changed something. The repeats of all
--- loops of one run count together; where one more than their limit is due, the rest of the program isn't run.
+-- Rounds, groups, loops and programs. A round is the attempts of a group's rules in order. A group makes rounds until
+-- one changes nothing, or until their limit. A loop's body is passed once, and again while the last pass changed
+-- something. The repeats of all loops of one run count together; where one more than their limit is due, the rest of
+-- the program isn't run.
 use Rattle.std.specs.Prelude.{ℕ, zero, suc, Bool, true, false, ◌||◌, List, [], ◌∷◌}
 use Rattle.ps_model.specs.declared.limits.TheConstants.{ROUND_LIMIT, REPEAT_LIMIT}
 use Rattle.ps_model.specs.meaning.RuleMeanings.{RuleMeaning}
@@ -36,7 +37,8 @@ abbrev pub pass : List (List RuleMeaning) → State → Result
 pass [] state = record { state = state; changed = false }
 pass (rules ∷ others) state = let first : Result = group rules state in after_change first.changed (pass others first.state)
 
--- a state that a program has come to, the repeats that are left for its loops, and whether one more was due than there were
+-- a state that a program has come to, the repeats that are left for its loops, and whether one more was due than there
+-- were
 pub record Progress : Type 0 where
   pub state : State
   pub repeats : ℕ

@@ -1,5 +1,5 @@
--- The two programs of a game's rules: the plain one, and the late one. Rules in their order make groups, a rule with `+` in that
--- of the rule before; the groups between `startloop` and `endloop` make a loop, which both programs have.
+-- The two programs of a game's rules: the plain one, and the late one. Rules in their order make groups, a rule with
+-- `+` in that of the rule before; the groups between `startloop` and `endloop` make a loop, which both programs have.
 use Rattle.std.specs.Prelude.{Bool, true, false, if◌then◌else◌, List, [], ◌∷◌, ◌++◌, map, filter}
 use Rattle.std.specs.List.{flat_map, filter_map, slice_split}
 use Rattle.std.specs.Prelude.{Option, Some, None, not}
@@ -51,7 +51,8 @@ groups_of (rule ∷ rules) = before_groups rule (groups_of rules)
 
 -- the groups of one part that lines make, by what their rules mean
 abbrev pub groups_in : Names → Part → List RuleLine → List (List RuleMeaning)
-groups_in names part lines = map (flat_map (meanings names)) (groups_of (filter (is_in_part part) (filter_map rule_in lines)))
+groups_in names part lines =
+    map (flat_map (meanings names)) (groups_of (filter (is_in_part part) (filter_map rule_in lines)))
 
 -- groups outside of loops
 abbrev pub groups_outside : Names → Part → List RuleLine → List Section
@@ -60,7 +61,8 @@ groups_outside names part lines = map Group (groups_in names part lines)
 -- the lines behind the start of a loop, cut at its end: the body is a loop, what follows is not
 abbrev pub loop_and_rest : Names → Part → List (List RuleLine) → List Section
 loop_and_rest names part [] = []
-loop_and_rest names part (body ∷ others) = Loop (groups_in names part body) ∷ flat_map (groups_outside names part) others
+loop_and_rest names part (body ∷ others) =
+    Loop (groups_in names part body) ∷ flat_map (groups_outside names part) others
 
 -- the lines cut at the starts of loops: those before the first, and those behind each
 abbrev pub sections_of_pieces : Names → Part → List (List RuleLine) → List Section

@@ -1,6 +1,7 @@
--- The lines of WINCONDITIONS: `No X`, `Some X` or `Any X`, `All X`, and each of these with `on Y`. X and Y are names; a key word
--- may be one.
-use Rattle.std.specs.Prelude.{ℕ, Bool, false, ◌&&◌, not, if◌then◌else◌, Option, Some, None, is_some, option_map, List, [], ◌∷◌, ◌++◌, codes}
+-- The lines of WINCONDITIONS: `No X`, `Some X` or `Any X`, `All X`, and each of these with `on Y`. X and Y are names; a
+-- key word may be one.
+use Rattle.std.specs.Prelude.{ℕ, Bool, false, ◌&&◌, not, if◌then◌else◌, Option, Some, None, is_some, option_map, List}
+use Rattle.std.specs.Prelude.{[], ◌∷◌, ◌++◌, codes}
 use Rattle.std.specs.List.{filter_map, flat_map}
 use Rattle.std.specs.Str.{bytes_eq}
 use Rattle.std.specs.Map.{lookup}
@@ -23,7 +24,8 @@ pub record WinText : Type 0 where
 
 -- the first words of win conditions
 abbrev pub quantifiers : List (List ℕ × Quantifier)
-quantifiers = (codes "no", asked.No) ∷ (codes "some", asked.Some) ∷ (codes "any", asked.Some) ∷ (codes "all", asked.All) ∷ []
+quantifiers =
+    (codes "no", asked.No) ∷ (codes "some", asked.Some) ∷ (codes "any", asked.Some) ∷ (codes "all", asked.All) ∷ []
 
 -- a win condition with that first word and these names, if the word is one of those
 abbrev pub win_with : List ℕ → List ℕ → Option (List ℕ) → Option WinText
@@ -33,7 +35,8 @@ win_with word subject place =
 -- the win condition that words are, if they have the form of one
 abbrev pub win_of_words : List (List ℕ) → Option WinText
 win_of_words (word ∷ subject ∷ []) = win_with word subject None
-win_of_words (word ∷ subject ∷ on ∷ place ∷ []) = if bytes_eq (folded on) (codes "on") then win_with word subject (Some place) else None
+win_of_words (word ∷ subject ∷ on ∷ place ∷ []) =
+    if bytes_eq (folded on) (codes "on") then win_with word subject (Some place) else None
 win_of_words words = None
 
 -- the win condition that a line is, as it is written
@@ -69,7 +72,9 @@ has_unknown_name names (Some text) = not (is_some (win_read names text))
 
 -- the faults of a line of WINCONDITIONS
 abbrev pub win_faults_of : Names → Line → List Fault
-win_faults_of names line = when (is_bad_win line) BadWin line.number ++ when (has_unknown_name names (win_text line)) UnknownWinName line.number
+win_faults_of names line =
+    when (is_bad_win line) BadWin line.number
+    ++ when (has_unknown_name names (win_text line)) UnknownWinName line.number
 
 -- the faults of WINCONDITIONS, line by line
 abbrev pub win_faults : Names → List Line → List Fault

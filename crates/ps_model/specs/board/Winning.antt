@@ -1,5 +1,5 @@
--- When a level is won by its win conditions: all of them hold of the grid. `All X on Y` holds where every cell with X has Y,
--- `Some X on Y` where some cell has both, `No X on Y` where none has. Without `on Y` every cell will do.
+-- When a level is won by its win conditions: all of them hold of the grid. `All X on Y` holds where every cell with X
+-- has Y, `Some X on Y` where some cell has both, `No X on Y` where none has. Without `on Y` every cell will do.
 use Rattle.std.specs.Prelude.{Bool, true, not, Option, Some, None, List, filter}
 use Rattle.std.specs.List.{list_any, list_all}
 use Rattle.ps_model.specs.declared.pieces.ObjectId.{ObjectId}
@@ -11,7 +11,8 @@ use Rattle.ps_model.specs.board.Grid.{Grid}
 use Rattle.ps_model.specs.session.Frames.{objects_in}
 use Rattle.ps_model.specs.board.Wins.{Win}
 
--- what a name stands for is among the objects of a cell: its object, all objects of an aggregate, some object of a property
+-- what a name stands for is among the objects of a cell: its object, all objects of an aggregate, some object of a
+-- property
 abbrev pub is_there_among : List ObjectId → Meaning → Bool
 is_there_among objects (One object) = is_among objects object
 is_there_among objects (AllOf line members) = list_all (is_among objects) members

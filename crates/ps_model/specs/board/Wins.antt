@@ -1,5 +1,5 @@
--- Win conditions: `No X`, `Some X` and `All X`, each alone or with `on Y`. A name that stands for an aggregate asks for all its
--- objects in the cell, a property for one of them.
+-- Win conditions: `No X`, `Some X` and `All X`, each alone or with `on Y`. A name that stands for an aggregate asks for
+-- all its objects in the cell, a property for one of them.
 use Rattle.std.specs.Prelude.{Option}
 use Rattle.ps_model.specs.declared.rules.Quantifier.{Quantifier}
 use Rattle.ps_model.specs.names.Names.{Meaning}

@@ -1,5 +1,5 @@
--- The game of a text, and the faults of a text. Each part is read from a text with faults too, as far as it goes. A text is a game
--- exactly where it has no fault; who refuses a text tells the first of its faults.
+-- The game of a text, and the faults of a text. Each part is read from a text with faults too, as far as it goes. A
+-- text is a game exactly where it has no fault; who refuses a text tells the first of its faults.
 use Rattle.std.specs.Prelude.{ℕ, Option, Some, None, List, [], ◌∷◌, ◌++◌}
 use Rattle.ps_model.specs.declared.texts.Section.TheVariants.{Prelude, Objects, Legend, Layers, Rules, Wins, Levels}
 use Rattle.ps_model.specs.declared.faults.Fault.{Fault}
@@ -44,10 +44,11 @@ game_with lines names = record {
 
 -- what is read from the lines of a text, with faults or without
 abbrev pub game_read : List Line → Game
-game_read lines = game_with lines (names_read (section_lines lines Objects) (section_lines lines Legend) (section_lines lines Layers))
+game_read lines =
+    game_with lines (names_read (section_lines lines Objects) (section_lines lines Legend) (section_lines lines Layers))
 
--- the faults of lines, of which this was read: headers and prelude; names; rules; levels; win conditions; then rules with too many
--- readings, and rules of which every reading is impossible
+-- the faults of lines, of which this was read: headers and prelude; names; rules; levels; win conditions; then rules
+-- with too many readings, and rules of which every reading is impossible
 abbrev pub faults_beside : Game → List Line → List Fault
 faults_beside read lines =
     heading_faults lines
@@ -60,8 +61,8 @@ faults_beside read lines =
 abbrev pub line_faults : List Line → List Fault
 line_faults lines = faults_beside (game_read lines) lines
 
--- the faults of a text, in the order in which they are told; of bytes that are no text that one alone. Who refuses a text tells the
--- first; which others a text has is said by itself
+-- the faults of a text, in the order in which they are told; of bytes that are no text that one alone. Who refuses a
+-- text tells the first; which others a text has is said by itself
 abbrev pub faults : List ℕ → List Fault
 faults text = elim (text_fault text) [ Some fault ↦ fault ∷ [] | None ↦ line_faults (lines_of text) ]
 

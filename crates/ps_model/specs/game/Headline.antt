@@ -1,6 +1,7 @@
--- What a run may answer, for every text and every stream of key bytes, in whatever pieces it comes: it refuses the text with the first
--- fault that the text has, or writes exactly the output of the text's game on the keys. Where memory is refused, keys can't be read or
--- the output can't be written, it stops and says so, and has written a front of it, as said below.
+-- What a run may answer, for every text and every stream of key bytes, in whatever pieces it comes: it refuses the text
+-- with the first fault that the text has, or writes exactly the output of the text's game on the keys. Where memory is
+-- refused, keys can't be read or the output can't be written, it stops and says so, and has written a front of it, as
+-- said below.
 use Rattle.std.specs.Prelude.{◌≡◌, ℕ, ◌-◌, ◌≤◌, Bool, true, ◌⊎◌, Option, Some, option_map, List, [], ◌++◌, length, take}
 use Rattle.ps_model.specs.declared.faults.Fault.{Fault}
 use Rattle.ps_model.specs.declared.play.Ending.{Ending}
@@ -15,7 +16,8 @@ use Rattle.ps_model.specs.game.Outputs.{output, front}
 abbrev pub script_of_text : List ℕ → Option Script
 script_of_text text = option_map script_of (game text)
 
--- what a run answers: how it ended; why the text is refused; or that it wants memory, can't read keys, or can't write the output
+-- what a run answers: how it ended; why the text is refused; or that it wants memory, can't read keys, or can't write
+-- the output
 pub data Answer : Type 0 where
   Ends : Ending → Answer
   Refuses : Fault → Answer
@@ -56,8 +58,8 @@ pub record RefusesRightly (text : List ℕ) (told : Told) (fault : Fault) : Type
   pub asked_nothing : told.calls ≡ 0
   pub wrote_nothing : told.wrote ≡ []
 
--- memory was refused in play: what was written is the opening and the texts of so many keys, whole, and not fewer than were read
--- before the last call
+-- memory was refused in play: what was written is the opening and the texts of so many keys, whole, and not fewer than
+-- were read before the last call
 pub record StopsForMemory (script : Script) (told : Told) : Type 0 where
   pub keys : ℕ
   pub enough : length (keys_of (read_before told)) ≤ keys
@@ -73,8 +75,8 @@ pub record CannotReadRightly (script : Script) (told : Told) : Type 0 where
   pub cause : (told.reader_failed ≡ true) ⊎ (told.calls ≡ READ_LIMIT)
   pub wrote : told.wrote ≡ front script told.read (length (keys_of told.read))
 
--- the output couldn't be written: the writer failed; what it took is a front of the output of the bytes read, and has the texts of
--- all keys that were read before the last call, if there was a call
+-- the output couldn't be written: the writer failed; what it took is a front of the output of the bytes read, and has
+-- the texts of all keys that were read before the last call, if there was a call
 pub record CannotWriteRightly (script : Script) (told : Told) : Type 0 where
   pub cause : told.writer_failed ≡ true
   pub wrote : IsFront told.wrote (output script told.read).written
@@ -82,7 +84,8 @@ pub record CannotWriteRightly (script : Script) (told : Told) : Type 0 where
 
 -- what a run may answer
 abbrev pub Answers : List ℕ → Told → Answer → Type 0
-Answers text told (Ends ending) = (script : Script) × (script_of_text text ≡ Some script) × EndsAsMeant script told ending
+Answers text told (Ends ending) =
+    (script : Script) × (script_of_text text ≡ Some script) × EndsAsMeant script told ending
 Answers text told (Refuses fault) = RefusesRightly text told fault
 Answers text told WantsMemory = WantsMemoryRightly text told
 Answers text told CannotRead = (script : Script) × (script_of_text text ≡ Some script) × CannotReadRightly script told

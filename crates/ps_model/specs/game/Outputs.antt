@@ -1,5 +1,5 @@
--- What a run writes: the title, what the first entry writes, and then a text for each key up to an ending. Where the keys end
--- before the game does, that is said too.
+-- What a run writes: the title, what the first entry writes, and then a text for each key up to an ending. Where the
+-- keys end before the game does, that is said too.
 use Rattle.std.specs.Prelude.{ℕ, Option, Some, None, List, [], ◌∷◌, ◌++◌, codes, take}
 use Rattle.ps_model.specs.declared.play.Ending.{Ending}
 use Rattle.ps_model.specs.declared.play.Ending.TheVariants.{EndOfKeys}

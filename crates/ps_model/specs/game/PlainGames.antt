@@ -1,5 +1,5 @@
--- The games that this version plays: no option is set, there are no rules and no win conditions, and there is one level and no
--- message. Of every other game it says that it isn't played yet.
+-- The games that this version plays: no option is set, there are no rules and no win conditions, and there is one level
+-- and no message. Of every other game it says that it isn't played yet.
 use Rattle.std.specs.Prelude.{ℕ, nat_eq, nat_lt, Bool, ◌&&◌, ◌||◌, not, Option, Some, None, List, [], ◌∷◌, length}
 use Rattle.ps_model.specs.text.OptionSteps.{◌>>=◌, only_if}
 use Rattle.ps_model.specs.declared.options.Options.{Options}
@@ -16,7 +16,8 @@ pub record PlainGame : Type 0 where
 
 -- no option is set
 abbrev pub are_unset : Options → Bool
-are_unset options = not (options.no_action || (options.no_undo || (options.no_restart || (options.require_player_movement || options.run_rules_on_level_start))))
+are_unset options =
+    not (options.no_action || (options.no_undo || (options.no_restart || (options.require_player_movement || options.run_rules_on_level_start))))
 
 -- the level of entries that are one level alone
 abbrev pub only_level : List Entry → Option Level
@@ -27,7 +28,9 @@ only_level (first ∷ second ∷ others) = None
 
 -- the game has an object, as every game has; no option is set, and there are no rules and no win conditions
 abbrev pub is_plain : Game → Bool
-is_plain read = nat_lt 0 (object_count read.names) && (are_unset read.options && (nat_eq (length read.rules) 0 && nat_eq (length read.wins) 0))
+is_plain read =
+    nat_lt 0 (object_count read.names)
+    && (are_unset read.options && (nat_eq (length read.rules) 0 && nat_eq (length read.wins) 0))
 
 -- the game as a plain one, if it is one
 abbrev pub plain_of : Game → Option PlainGame

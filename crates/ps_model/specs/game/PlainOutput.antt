@@ -28,8 +28,10 @@ output_from names g (Quit ∷ keys) = record { written = quit_line; ending = Qui
 
 -- the opening: the title, the number of the level, and its first frame
 abbrev pub opening : PlainGame → List ℕ
-opening game = written_line (codes "= ") game.title ++ (codes "# level 1\n" ++ frame game.names (loaded game.names game.level))
+opening game =
+    written_line (codes "= ") game.title ++ (codes "# level 1\n" ++ frame game.names (loaded game.names game.level))
 
 -- the output of a game on bytes
 abbrev pub plain_output : PlainGame → List ℕ → Output
-plain_output game bytes = after_text (opening game) (output_from game.names (loaded game.names game.level) (keys_of bytes))
+plain_output game bytes =
+    after_text (opening game) (output_from game.names (loaded game.names game.level) (keys_of bytes))

@@ -1,7 +1,8 @@
--- Compiled rules, as data: for each cell a mask, which tells the cells of the board that it fits, and a write, which tells what it
--- makes of them. A mask and a write mean the same two facts that a reading of a source rule means, so places, attempts, rounds and
--- programs are the same words for both.
-use Rattle.std.specs.Prelude.{ℕ, suc, nat_eq, Bool, false, ◌&&◌, not, Option, Some, None, List, [], ◌∷◌, map, find, slice_index_or, unwrap_or, if◌then◌else◌}
+-- Compiled rules, as data: for each cell a mask, which tells the cells of the board that it fits, and a write, which
+-- tells what it makes of them. A mask and a write mean the same two facts that a reading of a source rule means, so
+-- places, attempts, rounds and programs are the same words for both.
+use Rattle.std.specs.Prelude.{ℕ, suc, nat_eq, Bool, false, ◌&&◌, not, Option, Some, None, List, [], ◌∷◌, map, find}
+use Rattle.std.specs.Prelude.{slice_index_or, unwrap_or, if◌then◌else◌}
 use Rattle.std.specs.List.{list_all, list_any}
 use Rattle.ps_model.specs.declared.pieces.ObjectId.{ObjectId}
 use Rattle.ps_model.specs.declared.pieces.Direction.{Direction}
@@ -83,7 +84,8 @@ write_on layer writes = find (λ write. nat_eq (write.layer).0 layer) writes
 -- the slots of a cell written, from a layer on
 abbrev pub written_from : CellWrite → ℕ → List Slot → List Slot
 written_from write layer [] = []
-written_from write layer (slot ∷ slots) = slot_written (write_on layer write.layers) (slot_freed write.gone layer slot) ∷ written_from write (suc layer) slots
+written_from write layer (slot ∷ slots) =
+    slot_written (write_on layer write.layers) (slot_freed write.gone layer slot) ∷ written_from write (suc layer) slots
 
 -- a cell written
 abbrev pub cell_written : CellWrite → List Slot → List Slot

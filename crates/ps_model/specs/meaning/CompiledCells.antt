@@ -1,5 +1,6 @@
--- The mask and the write of what a rule's cell asks for. What the left asks makes the mask; what both sides claim of layers makes
--- the write. They mean what their sources mean: the mask on every cell at all, the write on the cells of a game.
+-- The mask and the write of what a rule's cell asks for. What the left asks makes the mask; what both sides claim of
+-- layers makes the write. They mean what their sources mean: the mask on every cell at all, the write on the cells of a
+-- game.
 use Rattle.std.specs.Prelude.{nat_eq, Bool, not, Option, Some, None, option_map, List, [], ◌∷◌, ◌++◌, map, filter}
 use Rattle.std.specs.List.{flat_map, filter_map, list_any}
 use Rattle.ps_model.specs.declared.pieces.ObjectId.{ObjectId}
@@ -49,8 +50,8 @@ mask_of names left = record {
 
 -- writes -----------------------------------------------------------------------------------------------------------------
 
--- the motion that a layer gets where the right names it without a word: it keeps its own, where the left names it without a word
--- too; else it rests
+-- the motion that a layer gets where the right names it without a word: it keeps its own, where the left names it
+-- without a word too; else it rests
 abbrev pub rest_or_kept : Option Claim → Option Motion
 rest_or_kept None = Some Still
 rest_or_kept (Some left) = elim left.motion [ None ↦ None | Some asked ↦ Some Still ]

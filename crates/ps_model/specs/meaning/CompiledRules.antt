@@ -1,5 +1,6 @@
--- The compiled rules of a source rule, one for each possible reading, in their order; and the compiled programs of a game's rules,
--- made of these as the programs of the source are made of what its rules mean. They mean the same, rule by rule.
+-- The compiled rules of a source rule, one for each possible reading, in their order; and the compiled programs of a
+-- game's rules, made of these as the programs of the source are made of what its rules mean. They mean the same, rule
+-- by rule.
 use Rattle.std.specs.Prelude.{List, [], ◌∷◌, ◌++◌, map, filter}
 use Rattle.std.specs.List.{flat_map, filter_map, slice_split}
 use Rattle.ps_model.specs.declared.rules.Part.{Part}
@@ -15,7 +16,8 @@ use Rattle.ps_model.specs.meaning.CompiledCells.{cell_by}
 
 -- the compiled cell of a rule's cell under a reading
 abbrev pub compiled_cell : Names → SourceRule → Reading → CellPair → CompiledCell
-compiled_cell names rule reading cell = cell_by names (left_of_cell names rule reading cell) (right_of_cell names rule reading cell)
+compiled_cell names rule reading cell =
+    cell_by names (left_of_cell names rule reading cell) (right_of_cell names rule reading cell)
 
 -- the compiled rule of a rule under a reading
 abbrev pub rule_by : Names → SourceRule → Reading → CompiledRule
@@ -34,7 +36,8 @@ compiled_rules names rule = map (rule_by names rule) (filter (is_possible names 
 
 -- the compiled groups of one part that lines make
 abbrev pub compiled_groups : Names → Part → List RuleLine → List (List CompiledRule)
-compiled_groups names part lines = map (flat_map (compiled_rules names)) (groups_of (filter (is_in_part part) (filter_map rule_in lines)))
+compiled_groups names part lines =
+    map (flat_map (compiled_rules names)) (groups_of (filter (is_in_part part) (filter_map rule_in lines)))
 
 -- those outside of loops
 abbrev pub compiled_outside : Names → Part → List RuleLine → List CompiledSection
@@ -43,7 +46,8 @@ compiled_outside names part lines = map CompiledGroup (compiled_groups names par
 -- the lines behind the start of a loop, cut at its end
 abbrev pub compiled_loop_and_rest : Names → Part → List (List RuleLine) → List CompiledSection
 compiled_loop_and_rest names part [] = []
-compiled_loop_and_rest names part (body ∷ others) = CompiledLoop (compiled_groups names part body) ∷ flat_map (compiled_outside names part) others
+compiled_loop_and_rest names part (body ∷ others) =
+    CompiledLoop (compiled_groups names part body) ∷ flat_map (compiled_outside names part) others
 
 -- the lines cut at the starts of loops
 abbrev pub compiled_pieces : Names → Part → List (List RuleLine) → List CompiledSection

@@ -1,5 +1,5 @@
--- The occurrences of names in a rule's cells, in written order; items with `no` are none. Which occurrence of the left decides
--- one of the right; and which properties a rule keeps loose.
+-- The occurrences of names in a rule's cells, in written order; items with `no` are none. Which occurrence of the left
+-- decides one of the right; and which properties a rule keeps loose.
 use Rattle.std.specs.Prelude.{ℕ, nat_eq, Bool, true, false, ◌&&◌, ◌||◌, not, Option, Some, None, List, [], ◌∷◌, filter}
 use Rattle.std.specs.List.{flat_map, filter_map, list_all, list_any}
 use Rattle.ps_model.specs.declared.pieces.ObjectId.{ObjectId}
@@ -8,7 +8,8 @@ use Rattle.ps_model.specs.meaning.Directions.{same_word}
 use Rattle.ps_model.specs.names.Names.{Meaning, One, AllOf, AnyOf, Names, layer_of, same_object}
 use Rattle.ps_model.specs.rules.SourceRules.{Item, Is, No, CellPair, SourceRule}
 
--- two names are the same where they stand for the same object, or for one aggregate or property: that of one legend line
+-- two names are the same where they stand for the same object, or for one aggregate or property: that of one legend
+-- line
 abbrev pub same_meaning : Meaning → Meaning → Bool
 same_meaning (One first) (One second) = same_object first second
 same_meaning (AllOf first _) (AllOf second _) = nat_eq first second
@@ -54,13 +55,14 @@ here_or_only [] [] = None
 here_or_only [] (only ∷ []) = Some only
 here_or_only [] (first ∷ second ∷ others) = None
 
--- the left occurrence that decides a property on the right of a cell: the one in the same cell with the same name; without
--- one, the only left occurrence of that property
+-- the left occurrence that decides a property on the right of a cell: the one in the same cell with the same name;
+-- without one, the only left occurrence of that property
 abbrev pub bound_name : SourceRule → CellPair → Meaning → Option ℕ
-bound_name rule cell meaning = here_or_only (numbers (filter (names_it meaning) cell.left)) (numbers (filter (names_it meaning) (left_items rule)))
+bound_name rule cell meaning =
+    here_or_only (numbers (filter (names_it meaning) cell.left)) (numbers (filter (names_it meaning) (left_items rule)))
 
--- the left occurrence that decides a word of several moves before a name on the right of a cell: the one in the same cell with
--- the same word and the same name; without one, the only left occurrence of that word, with whatever name
+-- the left occurrence that decides a word of several moves before a name on the right of a cell: the one in the same
+-- cell with the same word and the same name; without one, the only left occurrence of that word, with whatever name
 abbrev pub bound_word : SourceRule → CellPair → MovementWord → Meaning → Option ℕ
 bound_word rule cell word meaning =
     here_or_only (numbers (filter (λ item. names_it meaning item && moves_so word item) cell.left)) (numbers (filter (moves_so word) (left_items rule)))
@@ -74,8 +76,8 @@ are_on_one_layer names (first ∷ others) = list_all (λ object. nat_eq (layer_o
 abbrev pub is_on_left_too : SourceRule → Meaning → Bool
 is_on_left_too rule meaning = list_all (λ cell. not (list_any (names_it meaning) cell.right) || list_any (names_it meaning) cell.left) (cells_of rule)
 
--- a property is loose in a rule if its members lie on one layer and each of its right occurrences stands in a cell where the
--- left has it too
+-- a property is loose in a rule if its members lie on one layer and each of its right occurrences stands in a cell
+-- where the left has it too
 abbrev pub is_loose : Names → SourceRule → Meaning → Bool
 is_loose names rule (One object) = false
 is_loose names rule (AllOf line objects) = false

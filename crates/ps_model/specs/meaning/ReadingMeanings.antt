@@ -1,5 +1,5 @@
--- What a rule means: its possible readings in their order. A reading is impossible where a cell of one side has two names of one
--- layer, `no` aside.
+-- What a rule means: its possible readings in their order. A reading is impossible where a cell of one side has two
+-- names of one layer, `no` aside.
 use Rattle.std.specs.Prelude.{nat_eq, Bool, true, ◌&&◌, not, List, [], ◌∷◌, map, filter}
 use Rattle.std.specs.List.{flat_map, list_all, list_any}
 use Rattle.ps_model.specs.declared.pieces.ObjectId.{ObjectId}
@@ -31,7 +31,8 @@ meaning_by names left right =
 
 -- the meaning of a cell under a reading
 abbrev pub cell_meaning : Names → SourceRule → Reading → CellPair → CellMeaning
-cell_meaning names rule reading cell = meaning_by names (left_of_cell names rule reading cell) (right_of_cell names rule reading cell)
+cell_meaning names rule reading cell =
+    meaning_by names (left_of_cell names rule reading cell) (right_of_cell names rule reading cell)
 
 -- no two claims are on one layer
 abbrev pub are_apart : List Claim → Bool

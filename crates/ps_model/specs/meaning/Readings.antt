@@ -1,7 +1,8 @@
--- The readings of a rule: a direction, a choice for each left word of several moves, and a member for each left occurrence of a
--- fixed property. They are ordered by direction, then by the moves, then by the members; each of the last two as words of a
--- dictionary are, the first occurrence slowest.
-use Rattle.std.specs.Prelude.{ℕ, ◌*◌, nat_eq, Bool, false, ◌&&◌, not, if◌then◌else◌, Option, Some, None, List, [], ◌∷◌, length, map, take, fold, ◌+◌}
+-- The readings of a rule: a direction, a choice for each left word of several moves, and a member for each left
+-- occurrence of a fixed property. They are ordered by direction, then by the moves, then by the members; each of the
+-- last two as words of a dictionary are, the first occurrence slowest.
+use Rattle.std.specs.Prelude.{ℕ, ◌*◌, nat_eq, Bool, false, ◌&&◌, not, if◌then◌else◌, Option, Some, None, List, [], ◌∷◌}
+use Rattle.std.specs.Prelude.{length, map, take, fold, ◌+◌}
 use Rattle.std.specs.List.{flat_map, filter_map, list_all, list_any}
 use Rattle.ps_model.specs.declared.pieces.ObjectId.{ObjectId}
 use Rattle.ps_model.specs.declared.pieces.Direction.{Direction}

@@ -1,6 +1,6 @@
--- What a cell of a rule makes of a cell of the board. First the objects of the right's `no` go. Then, layer by layer: an object that
--- the right names stands there; under a loose property of the right the object stays; what only the left names goes; and all else
--- is as it was.
+-- What a cell of a rule makes of a cell of the board. First the objects of the right's `no` go. Then, layer by layer:
+-- an object that the right names stands there; under a loose property of the right the object stays; what only the left
+-- names goes; and all else is as it was.
 use Rattle.std.specs.Prelude.{ℕ, suc, nat_eq, if◌then◌else◌, Option, Some, None, unwrap_or, List, [], ◌∷◌, map, find}
 use Rattle.ps_model.specs.declared.pieces.ObjectId.{ObjectId}
 use Rattle.ps_model.specs.declared.pieces.LayerId.{LayerId}
@@ -41,14 +41,14 @@ slot_without gone (Holds object motion) = if is_among gone object then Bare else
 abbrev pub claim_on : ℕ → List Claim → Option Claim
 claim_on layer claims = find (λ claim. nat_eq (claim.layer).0 layer) claims
 
--- the motion that a layer keeps where the right names it without a word: its own, where the left names it without a word too;
--- none otherwise
+-- the motion that a layer keeps where the right names it without a word: its own, where the left names it without a
+-- word too; none otherwise
 abbrev pub kept_motion : Option Claim → Motion → Motion
 kept_motion None motion = Still
 kept_motion (Some left) motion = elim left.motion [ None ↦ motion | Some asked ↦ Still ]
 
--- the slot that a claim of the right makes of a slot: the named object, or the one that stands there; with the word's motion, or
--- the one that is kept
+-- the slot that a claim of the right makes of a slot: the named object, or the one that stands there; with the word's
+-- motion, or the one that is kept
 abbrev pub claimed : Claim → Option Claim → Slot → Slot
 claimed right left slot = elim right.object [
   | Some object ↦ Holds object (unwrap_or right.motion (kept_motion left (motion_in slot)))

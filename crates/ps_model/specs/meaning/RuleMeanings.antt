@@ -1,6 +1,6 @@
--- What a rule means of cells: a list of its possible readings, and for each cell of a reading two facts alone: which cells of
--- the board it fits, and what it makes of a cell. Places, attempts, rounds and programs see nothing else of a rule, whether it
--- comes from its source or is compiled.
+-- What a rule means of cells: a list of its possible readings, and for each cell of a reading two facts alone: which
+-- cells of the board it fits, and what it makes of a cell. Places, attempts, rounds and programs see nothing else of a
+-- rule, whether it comes from its source or is compiled.
 use Rattle.std.specs.Prelude.{Bool, List}
 use Rattle.ps_model.specs.declared.pieces.Direction.{Direction}
 use Rattle.ps_model.specs.declared.pieces.Slot.{Slot}

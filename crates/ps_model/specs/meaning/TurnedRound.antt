@@ -1,6 +1,7 @@
--- A rule turned round: each row is read from its other end, and the rule faces the opposite way. So what a rule does upwards or
--- leftwards, the rule turned round does downwards or rightwards: its places are the same lists of cells, backwards, and in the same
--- order; and its attempts come to the same on each grid, as do the rounds, groups, loops and programs of such rules.
+-- A rule turned round: each row is read from its other end, and the rule faces the opposite way. So what a rule does
+-- upwards or leftwards, the rule turned round does downwards or rightwards: its places are the same lists of cells,
+-- backwards, and in the same order; and its attempts come to the same on each grid, as do the rounds, groups, loops and
+-- programs of such rules.
 use Rattle.std.specs.Prelude.{List, map, reverse}
 use Rattle.ps_model.specs.declared.pieces.Direction.{Direction}
 use Rattle.ps_model.specs.declared.pieces.Direction.TheVariants.{Up, Down, Left, Right}

@@ -1,5 +1,5 @@
--- What an item of a rule asks of a cell of the board under a reading of the rule: words have their moves, and fixed properties
--- are one of their members.
+-- What an item of a rule asks of a cell of the board under a reading of the rule: words have their moves, and fixed
+-- properties are one of their members.
 use Rattle.std.specs.Prelude.{ℕ, nat_eq, if◌then◌else◌, Option, Some, None, List, [], ◌∷◌, slice_index_or}
 use Rattle.std.specs.Map.{lookup}
 use Rattle.ps_model.specs.declared.pieces.ObjectId.{ObjectId}
@@ -12,8 +12,8 @@ use Rattle.ps_model.specs.rules.SourceRules.{Item, Is, No, CellPair, SourceRule}
 use Rattle.ps_model.specs.meaning.Occurrences.{is_fixed, bound_name, bound_word}
 use Rattle.ps_model.specs.meaning.Readings.{Reading}
 
--- what an item asks of a cell under a reading: each of these objects; one of them, whichever; none of them. With a motion, the
--- objects have it; without one, they move or not
+-- what an item asks of a cell under a reading: each of these objects; one of them, whichever; none of them. With a
+-- motion, the objects have it; without one, they move or not
 pub data Wanted : Type 0 where
   Each : List ObjectId → Option Motion → Wanted
   Any : List ObjectId → Option Motion → Wanted
@@ -42,7 +42,8 @@ chosen_member reading (Some number) = one_member (lookup (nat_eq number) reading
 
 -- the motion of a word: the chosen one, where the word leaves a choice
 abbrev pub motion_of_word : Reading → Option ℕ → MovementWord → Option Motion
-motion_of_word reading bound word = if is_several word then chosen_move reading bound else Some (slice_index_or (turned reading.direction word) 0 Still)
+motion_of_word reading bound word =
+    if is_several word then chosen_move reading bound else Some (slice_index_or (turned reading.direction word) 0 Still)
 
 -- what a name asks whose property, if it is a fixed one, has the choice of an occurrence
 abbrev pub wanted_name : Names → SourceRule → Reading → Option ℕ → Meaning → Option Motion → Wanted
@@ -58,10 +59,11 @@ wanted_left names rule reading (Is number (Some word) meaning) =
     wanted_name names rule reading (Some number) meaning (motion_of_word reading (Some number) word)
 wanted_left names rule reading (No meaning) = Without (members meaning)
 
--- what the right puts there, by an item of a cell's right, or what it takes away with `no`: the choices are those of the left
--- occurrences that the item is bound to
+-- what the right puts there, by an item of a cell's right, or what it takes away with `no`: the choices are those of
+-- the left occurrences that the item is bound to
 abbrev pub wanted_right : Names → SourceRule → CellPair → Reading → Item → Wanted
-wanted_right names rule cell reading (Is number None meaning) = wanted_name names rule reading (bound_name rule cell meaning) meaning None
+wanted_right names rule cell reading (Is number None meaning) =
+    wanted_name names rule reading (bound_name rule cell meaning) meaning None
 wanted_right names rule cell reading (Is number (Some word) meaning) =
     wanted_name names rule reading (bound_name rule cell meaning) meaning (motion_of_word reading (bound_word rule cell word meaning) word)
 wanted_right names rule cell reading (No meaning) = Without (members meaning)

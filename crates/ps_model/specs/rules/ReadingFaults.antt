@@ -1,4 +1,5 @@
--- The faults of rules that lie in their readings: too many of them, of one rule or of all rules up to it; or none that is possible.
+-- The faults of rules that lie in their readings: too many of them, of one rule or of all rules up to it; or none that
+-- is possible.
 use Rattle.std.specs.Prelude.{ℕ, ◌+◌, nat_lt, ◌||◌, not, List, [], ◌∷◌, ◌++◌}
 use Rattle.std.specs.List.{filter_map, flat_map}
 use Rattle.ps_model.specs.declared.faults.Fault.{Fault}

@@ -1,9 +1,13 @@
--- The faults of the lines of RULES in the order in which they are told: by line, and within one line by their codes. A `+` joins a
--- rule to the group of the rule before, of which it must be late as the other is; loops don't nest, and have a start and an end.
-use Rattle.std.specs.Prelude.{ℕ, suc, nat_le, Bool, true, ◌&&◌, not, if◌then◌else◌, false, Option, Some, None, is_some, List, [], ◌∷◌, ◌++◌}
+-- The faults of the lines of RULES in the order in which they are told: by line, and within one line by their codes. A
+-- `+` joins a rule to the group of the rule before, of which it must be late as the other is; loops don't nest, and
+-- have a start and an end.
+use Rattle.std.specs.Prelude.{ℕ, suc, nat_le, Bool, true, ◌&&◌, not, if◌then◌else◌, false, Option, Some, None, is_some}
+use Rattle.std.specs.Prelude.{List, [], ◌∷◌, ◌++◌}
 use Rattle.std.specs.Option.{is_none}
 use Rattle.ps_model.specs.declared.faults.Fault.{Fault}
-use Rattle.ps_model.specs.declared.faults.FaultKind.TheVariants.{BadBracket, UnknownWord, RowsDiffer, NothingRight, NameTwice, NoAggregate, Unbound, LateMove, PlusAlone, PlusLate, Loop, Ellipsis, NotInProfile, TooManyRules}
+use Rattle.ps_model.specs.declared.faults.FaultKind.TheVariants.{BadBracket, UnknownWord, RowsDiffer, NothingRight}
+use Rattle.ps_model.specs.declared.faults.FaultKind.TheVariants.{NameTwice, NoAggregate, Unbound, LateMove, PlusAlone}
+use Rattle.ps_model.specs.declared.faults.FaultKind.TheVariants.{PlusLate, Loop, Ellipsis, NotInProfile, TooManyRules}
 use Rattle.ps_model.specs.declared.limits.TheConstants.{RULE_LIMIT}
 use Rattle.ps_model.specs.text.Lines.{Line}
 use Rattle.ps_model.specs.text.Faults.{when}
@@ -12,7 +16,8 @@ use Rattle.ps_model.specs.rules.SourceRules.{SourceRule}
 use Rattle.ps_model.specs.rules.RuleSymbols.{Token, tokens_of, tokens_kept, is_left_out}
 use Rattle.ps_model.specs.rules.RuleShape.{has_kind, RuleShape}
 use Rattle.ps_model.specs.rules.RuleLines.{LineForm, StartForm, EndForm, RuleForm, NoForm, form_of, lines_with_words}
-use Rattle.ps_model.specs.rules.RuleShapeFaults.{has_bad_bracket, has_unknown_word, has_other_rows, has_nothing_right, has_late_move, has_bad_ellipsis}
+use Rattle.ps_model.specs.rules.RuleShapeFaults.{has_bad_bracket, has_unknown_word, has_other_rows, has_nothing_right}
+use Rattle.ps_model.specs.rules.RuleShapeFaults.{has_late_move, has_bad_ellipsis}
 use Rattle.ps_model.specs.rules.RuleNameFaults.{has_name_twice, puts_no_before_aggregate, has_unbound}
 
 -- groups and loops ---------------------------------------------------------------------------------------------------------
@@ -104,7 +109,8 @@ faults_of_count above line NoForm = []
 
 -- the faults of a line, by its words and by what it is
 abbrev pub faults_of_line : Above → ℕ → List Token → LineForm → List Fault
-faults_of_line above line tokens form = faults_of_form above line form ++ (when (has_left_out tokens) NotInProfile line ++ faults_of_count above line form)
+faults_of_line above line tokens form =
+    faults_of_form above line form ++ (when (has_left_out tokens) NotInProfile line ++ faults_of_count above line form)
 
 -- the faults of lines that aren't blank, below what stands above; a loop that is left open comes last
 abbrev pub faults_below : Names → Above → List Line → List Fault

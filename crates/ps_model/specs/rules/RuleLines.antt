@@ -1,5 +1,5 @@
--- The lines of RULES: what each of them is, and the rules and loops that they give. `startloop` and `endloop` stand alone on their
--- lines; each other line is a rule.
+-- The lines of RULES: what each of them is, and the rules and loops that they give. `startloop` and `endloop` stand
+-- alone on their lines; each other line is a rule.
 use Rattle.std.specs.Prelude.{not, Option, Some, None, List, [], ◌∷◌, filter}
 use Rattle.std.specs.List.{filter_map}
 use Rattle.ps_model.specs.text.Lines.{Line, is_blank_line}

@@ -1,4 +1,5 @@
--- The faults of a rule that lie in what its cells name: a name twice, `no` before an aggregate, and what is left open on the right.
+-- The faults of a rule that lie in what its cells name: a name twice, `no` before an aggregate, and what is left open
+-- on the right.
 use Rattle.std.specs.Prelude.{ℕ, nat_eq, Bool, true, false, ◌&&◌, ◌||◌, Option, Some, None, List, [], ◌∷◌, ◌++◌}
 use Rattle.std.specs.List.{list_any, flat_map, filter_map}
 use Rattle.std.specs.Option.{is_none}
@@ -32,7 +33,8 @@ has_twice same (first ∷ others) = list_any (same first) others || has_twice sa
 
 -- two items without `no` name one object, or one property
 abbrev pub name_twice : List Item → Bool
-name_twice items = has_twice same_object (flat_map objects_named items) || has_twice nat_eq (filter_map property_named items)
+name_twice items =
+    has_twice same_object (flat_map objects_named items) || has_twice nat_eq (filter_map property_named items)
 
 -- RU5: one side of a cell names one object, or one property, twice
 abbrev pub has_name_twice : SourceRule → Bool
@@ -62,7 +64,8 @@ is_word_unbound rule cell (Some word) meaning = is_several word && is_none (boun
 
 -- no left occurrence decides an item on the right of a cell, or its movement word
 abbrev pub is_unbound : SourceRule → CellPair → Item → Bool
-is_unbound rule cell (Is number word meaning) = is_name_unbound rule cell meaning || is_word_unbound rule cell word meaning
+is_unbound rule cell (Is number word meaning) =
+    is_name_unbound rule cell meaning || is_word_unbound rule cell word meaning
 is_unbound rule cell (No meaning) = false
 
 -- RU7: a property or a word of several moves on the right that no left occurrence decides

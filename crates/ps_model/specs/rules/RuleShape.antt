@@ -1,6 +1,7 @@
--- The shape of a rule: `->` parts its line in a left and a right side, brackets part a side in rows and what stands outside
--- them, and bars part a row in cells. Brackets that don't pair, or nest, make no shape.
-use Rattle.std.specs.Prelude.{Bool, true, false, not, Option, Some, None, List, [], ◌∷◌, ◌++◌, map, fold, drop, slice_index_or}
+-- The shape of a rule: `->` parts its line in a left and a right side, brackets part a side in rows and what stands
+-- outside them, and bars part a row in cells. Brackets that don't pair, or nest, make no shape.
+use Rattle.std.specs.Prelude.{Bool, true, false, not, Option, Some, None, List, [], ◌∷◌, ◌++◌, map, fold, drop}
+use Rattle.std.specs.Prelude.{slice_index_or}
 use Rattle.std.specs.List.{slice_split, list_any, flat_map}
 use Rattle.ps_model.specs.text.OptionSteps.{◌>>=◌, only_if, all_there}
 use Rattle.ps_model.specs.rules.RuleSymbols.{Symbol, Open, Close, Bar, Arrow, Ellipsis, Plus, Late, Token}
@@ -138,6 +139,7 @@ beside (first ∷ lists) others = (first, slice_index_or others 0 []) ∷ beside
 abbrev pub paired_cells : List (List Token) × List (List Token) → List (List Token × List Token)
 paired_cells rows = beside rows.0 rows.1
 
--- the rows of a rule, each with its cells on the left and on the right; where the right has no rows, its cells are empty
+-- the rows of a rule, each with its cells on the left and on the right; where the right has no rows, its cells are
+-- empty
 abbrev pub paired_rows : RuleShape → List (List (List Token) × List (List Token))
 paired_rows shape = beside (map (λ row. row.cells) shape.left.rows) (map (λ row. row.cells) shape.right.rows)

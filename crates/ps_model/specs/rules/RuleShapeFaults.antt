@@ -1,10 +1,13 @@
--- The faults of a rule that lie in where its words stand: brackets, words out of place, rows of the right, movement words of a late
--- rule, ellipses.
-use Rattle.std.specs.Prelude.{nat_eq, nat_lt, Bool, true, false, ◌&&◌, ◌||◌, not, if◌then◌else◌, List, [], ◌∷◌, ◌++◌, length, filter, reverse, slice_index_or}
+-- The faults of a rule that lie in where its words stand: brackets, words out of place, rows of the right, movement
+-- words of a late rule, ellipses.
+use Rattle.std.specs.Prelude.{nat_eq, nat_lt, Bool, true, false, ◌&&◌, ◌||◌, not, if◌then◌else◌, List, [], ◌∷◌, ◌++◌}
+use Rattle.std.specs.Prelude.{length, filter, reverse, slice_index_or}
 use Rattle.std.specs.List.{list_any}
 use Rattle.ps_model.specs.declared.limits.TheConstants.{ELLIPSIS_LIMIT}
 use Rattle.ps_model.specs.rules.RuleSymbols.{Symbol, Open, Ellipsis, Plus, Late, Without, Moves, Asks, Called, Token}
-use Rattle.ps_model.specs.rules.RuleShape.{has_kind, is_bar, is_ellipsis, is_late, has_rows, WrittenSide, RuleShape, words_behind, at_end, before_end, cells_of_side, words_in_cells, paired_rows, paired_cells}
+use Rattle.ps_model.specs.rules.RuleShape.{has_kind, is_bar, is_ellipsis, is_late, has_rows, WrittenSide, RuleShape}
+use Rattle.ps_model.specs.rules.RuleShape.{words_behind, at_end, before_end, cells_of_side, words_in_cells, paired_rows}
+use Rattle.ps_model.specs.rules.RuleShape.{paired_cells}
 use Rattle.ps_model.specs.rules.RuleTree.{is_direction_word}
 
 -- RU1 ----------------------------------------------------------------------------------------------------------------------
@@ -58,7 +61,8 @@ is_name other = false
 -- among the words behind a word, and that word, a movement word or `no` has no name right behind it
 abbrev pub misses_name_behind : Symbol → List Token → Bool
 misses_name_behind before [] = asks_for_name before
-misses_name_behind before (token ∷ tokens) = (asks_for_name before && not (is_name token.symbol)) || misses_name_behind token.symbol tokens
+misses_name_behind before (token ∷ tokens) =
+    (asks_for_name before && not (is_name token.symbol)) || misses_name_behind token.symbol tokens
 
 -- in a cell, a movement word or `no` has no name right behind it
 abbrev pub misses_name : List Token → Bool
@@ -68,8 +72,9 @@ misses_name cell = misses_name_behind Open cell
 abbrev pub has_wrong_cell : WrittenSide → Bool
 has_wrong_cell side = has_kind (λ symbol. not (is_cell_word symbol)) (words_in_cells side) || list_any misses_name (cells_of_side side)
 
--- RU2: a word that means nothing, or stands where it can't: before the rows something else than `+`, `late` and direction words;
--- behind a row of the left anything; on the right anything before the last row, and something else than commands behind it
+-- RU2: a word that means nothing, or stands where it can't: before the rows something else than `+`, `late` and
+-- direction words; behind a row of the left anything; on the right anything before the last row, and something else
+-- than commands behind it
 abbrev pub has_unknown_word : RuleShape → Bool
 has_unknown_word shape =
     has_kind (λ symbol. not (is_rule_word symbol)) shape.left.ahead
@@ -102,7 +107,8 @@ is_movement other = false
 
 -- RU8: a movement word in the brackets of a `late` rule
 abbrev pub has_late_move : RuleShape → Bool
-has_late_move shape = has_kind is_late shape.left.ahead && has_kind is_movement (words_in_cells shape.left ++ words_in_cells shape.right)
+has_late_move shape =
+    has_kind is_late shape.left.ahead && has_kind is_movement (words_in_cells shape.left ++ words_in_cells shape.right)
 
 -- a cell has `...` with other items
 abbrev pub mixes_ellipsis : List Token → Bool
@@ -110,7 +116,8 @@ mixes_ellipsis cell = has_kind is_ellipsis cell && not (nat_eq (length cell) 1)
 
 -- a row's first or last cell has `...`
 abbrev pub ends_in_ellipsis : List (List Token) → Bool
-ends_in_ellipsis cells = has_kind is_ellipsis (slice_index_or cells 0 []) || has_kind is_ellipsis (slice_index_or (reverse cells) 0 [])
+ends_in_ellipsis cells =
+    has_kind is_ellipsis (slice_index_or cells 0 []) || has_kind is_ellipsis (slice_index_or (reverse cells) 0 [])
 
 -- a row has more cells with `...` than the limit
 abbrev pub has_many_ellipses : List (List Token) → Bool
@@ -123,7 +130,8 @@ has_wrong_ellipsis side =
 
 -- a cell has `...` on one side alone
 abbrev pub has_lone_ellipsis : List Token × List Token → Bool
-has_lone_ellipsis words = if has_kind is_ellipsis words.0 then not (has_kind is_ellipsis words.1) else has_kind is_ellipsis words.1
+has_lone_ellipsis words =
+    if has_kind is_ellipsis words.0 then not (has_kind is_ellipsis words.1) else has_kind is_ellipsis words.1
 
 -- RU12: an ellipsis where none can stand, or, where the right has rows, not at the same place on both sides
 abbrev pub has_bad_ellipsis : RuleShape → Bool

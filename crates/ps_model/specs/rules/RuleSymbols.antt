@@ -1,10 +1,14 @@
--- What each word of a line of RULES is. Words are compared with their letters folded. Inside a rule a key word is meant also where
--- an object has that name; each other word is a name with what it stands for, or it means nothing.
-use Rattle.std.specs.Prelude.{ℕ, ◌+◌, Bool, true, false, not, if◌then◌else◌, Option, Some, None, unwrap_or, List, [], ◌∷◌, ◌++◌, map, filter, slice_range, codes}
+-- What each word of a line of RULES is. Words are compared with their letters folded. Inside a rule a key word is meant
+-- also where an object has that name; each other word is a name with what it stands for, or it means nothing.
+use Rattle.std.specs.Prelude.{ℕ, ◌+◌, Bool, true, false, not, if◌then◌else◌, Option, Some, None, unwrap_or, List, []}
+use Rattle.std.specs.Prelude.{◌∷◌, ◌++◌, map, filter, slice_range, codes}
 use Rattle.std.specs.Str.{bytes_eq}
 use Rattle.std.specs.Map.{lookup}
 use Rattle.ps_model.specs.declared.rules.MovementWord.{MovementWord}
-use Rattle.ps_model.specs.declared.rules.MovementWord.TheVariants.{Forwards, Backwards, TurnedLeft, TurnedRight, Parallel, Perpendicular, Up, Down, Left, Right, Action, Stationary, Moving, Orthogonal, Horizontal, Vertical}
+use Rattle.ps_model.specs.declared.rules.MovementWord.TheVariants.{Forwards, Backwards, TurnedLeft, TurnedRight}
+use Rattle.ps_model.specs.declared.rules.MovementWord.TheVariants.{Parallel, Perpendicular, Up, Down, Left, Right}
+use Rattle.ps_model.specs.declared.rules.MovementWord.TheVariants.{Action, Stationary, Moving, Orthogonal, Horizontal}
+use Rattle.ps_model.specs.declared.rules.MovementWord.TheVariants.{Vertical}
 use Rattle.ps_model.specs.text.RuleWords.{rule_words_in}
 use Rattle.ps_model.specs.text.Lines.{Line, folded}
 use Rattle.ps_model.specs.names.Names.{Meaning, Names, meaning_of}
@@ -102,7 +106,8 @@ token_by symbol line word = record { at = line.start + word.0; symbol = symbol (
 -- the words of a line of RULES at these places
 abbrev pub tokens_at : Names → Line → List (ℕ × ℕ) → List Token
 tokens_at names line [] = []
-tokens_at names line (first ∷ words) = token_by (first_symbol names) line first ∷ map (token_by (symbol_of names) line) words
+tokens_at names line (first ∷ words) =
+    token_by (first_symbol names) line first ∷ map (token_by (symbol_of names) line) words
 
 -- the words of a line of RULES
 abbrev pub tokens_of : Names → Line → List Token
@@ -113,6 +118,7 @@ abbrev pub is_left_out : Symbol → Bool
 is_left_out LeftOut = true
 is_left_out other = false
 
--- the words of a line but for those that this profile leaves out: they are as if they weren't there, but for the refusal
+-- the words of a line but for those that this profile leaves out: they are as if they weren't there, but for the
+-- refusal
 abbrev pub tokens_kept : List Token → List Token
 tokens_kept tokens = filter (λ token. not (is_left_out token.symbol)) tokens

@@ -1,14 +1,17 @@
--- The tree of a rule: its cells with what they ask for on the left and what becomes of them on the right, its directions and its
--- commands.
-use Rattle.std.specs.Prelude.{ℕ, Bool, true, false, ◌&&◌, Option, Some, None, option_map, List, [], ◌∷◌, ◌++◌, map, filter, fold}
+-- The tree of a rule: its cells with what they ask for on the left and what becomes of them on the right, its
+-- directions and its commands.
+use Rattle.std.specs.Prelude.{ℕ, Bool, true, false, ◌&&◌, Option, Some, None, option_map, List, [], ◌∷◌, ◌++◌, map}
+use Rattle.std.specs.Prelude.{filter, fold}
 use Rattle.std.specs.List.{slice_split, list_all, list_any}
 use Rattle.ps_model.specs.declared.pieces.Direction.{Direction}
 use Rattle.ps_model.specs.declared.pieces.Direction.TheVariants.{Up, Down, Left, Right}
 use Rattle.ps_model.specs.declared.rules.MovementWord.TheVariants as word
 use Rattle.ps_model.specs.text.Lines.{Line}
 use Rattle.ps_model.specs.rules.SourceRules.{Item, Is, No, CellPair, Commands, no_commands, SourceRule}
-use Rattle.ps_model.specs.rules.RuleSymbols.{Symbol, Open, Without, Moves, Asks, Called, Cancel, Restart, Again, Checkpoint, Win, Message, Token}
-use Rattle.ps_model.specs.rules.RuleShape.{has_kind, is_ellipsis, is_late, is_plus, has_rows, RuleShape, at_end, paired_rows, paired_cells}
+use Rattle.ps_model.specs.rules.RuleSymbols.{Symbol, Open, Without, Moves, Asks, Called, Cancel, Restart, Again}
+use Rattle.ps_model.specs.rules.RuleSymbols.{Checkpoint, Win, Message, Token}
+use Rattle.ps_model.specs.rules.RuleShape.{has_kind, is_ellipsis, is_late, is_plus, has_rows, RuleShape, at_end}
+use Rattle.ps_model.specs.rules.RuleShape.{paired_rows, paired_cells}
 
 -- items --------------------------------------------------------------------------------------------------------------------
 

@@ -1,12 +1,12 @@
--- The rules of a game as they are written, as trees. A rule has rows of cells, each cell what stands in it on the left and on
--- the right of the arrow; and commands.
+-- The rules of a game as they are written, as trees. A rule has rows of cells, each cell what stands in it on the left
+-- and on the right of the arrow; and commands.
 use Rattle.std.specs.Prelude.{ℕ, Bool, false, Option, None, List}
 use Rattle.ps_model.specs.declared.pieces.Direction.{Direction}
 use Rattle.ps_model.specs.declared.rules.MovementWord.{MovementWord}
 use Rattle.ps_model.specs.names.Names.{Meaning}
 
--- an item of a cell: a name, with a movement word or without one; or `no` and a name. The number of a name is the byte of the
--- text at which its word stands: it tells the occurrences of one name apart
+-- an item of a cell: a name, with a movement word or without one; or `no` and a name. The number of a name is the byte
+-- of the text at which its word stands: it tells the occurrences of one name apart
 pub data Item : Type 0 where
   Is : ℕ → Option MovementWord → Meaning → Item
   No : Meaning → Item

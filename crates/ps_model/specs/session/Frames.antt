@@ -1,5 +1,6 @@
 -- What is written: lines, and frames, which show the board row by row from the top.
-use Rattle.std.specs.Prelude.{option_to_list, slice_get, length, ℕ, ◌+◌, ◌-◌, ◌*◌, Bool, ◌&&◌, not, Option, Some, None, List, ◌++◌, find, filter, codes, encode_utf8}
+use Rattle.std.specs.Prelude.{option_to_list, slice_get, length, ℕ, ◌+◌, ◌-◌, ◌*◌, Bool, ◌&&◌, not, Option, Some, None}
+use Rattle.std.specs.Prelude.{List, ◌++◌, find, filter, codes, encode_utf8}
 use Rattle.std.specs.List.{list_all, flat_map, filter_map, range_with_len}
 use Rattle.ps_model.specs.declared.pieces.ObjectId.{ObjectId}
 use Rattle.ps_model.specs.declared.pieces.Slot.{Slot}
@@ -33,8 +34,8 @@ first_of_three (Some glyph) second third = Some glyph
 first_of_three None (Some glyph) third = Some glyph
 first_of_three None None third = third
 
--- the glyph of a cell with these objects: one for exactly them; else one for exactly them but for those of the background
--- layer; else one for the object on the topmost occupied layer alone
+-- the glyph of a cell with these objects: one for exactly them; else one for exactly them but for those of the
+-- background layer; else one for the object on the topmost occupied layer alone
 abbrev pub glyph_of_objects : Names → List ObjectId → Option Glyph
 glyph_of_objects names objects =
     first_of_three (glyph_for names objects) (glyph_for names (filter (λ object. not (is_ground names object)) objects)) (glyph_for names (topmost objects))

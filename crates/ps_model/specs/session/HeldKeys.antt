@@ -1,5 +1,5 @@
--- Keys that come in pieces. The bytes at the end of a piece that may begin an arrow are held, and the next piece is read behind
--- them. A reader that holds them needs nothing else of the bytes before.
+-- Keys that come in pieces. The bytes at the end of a piece that may begin an arrow are held, and the next piece is
+-- read behind them. A reader that holds them needs nothing else of the bytes before.
 use Rattle.std.specs.Prelude.{ℕ, ◌==◌, ◌&&◌, Bool, true, false, Option, Some, None, List, [], ◌∷◌}
 use Rattle.ps_model.specs.declared.held.Held.{Held}
 use Rattle.ps_model.specs.declared.held.Held.TheVariants.{Nothing, Escape, Bracket}

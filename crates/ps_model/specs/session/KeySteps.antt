@@ -1,7 +1,8 @@
--- What each key does. A direction or `x` makes a turn, with its frame, its message, and then the end of the level or again turns; `z`
--- goes back to the latest board of the history, `r` restarts, `q` quits. While a message waits, `x` dismisses it, and all keys but `q`
--- are ignored.
-use Rattle.std.specs.Prelude.{ℕ, zero, suc, Bool, true, false, ◌||◌, Option, Some, None, List, ◌-◌, length, take, slice_get, codes}
+-- What each key does. A direction or `x` makes a turn, with its frame, its message, and then the end of the level or
+-- again turns; `z` goes back to the latest board of the history, `r` restarts, `q` quits. While a message waits, `x`
+-- dismisses it, and all keys but `q` are ignored.
+use Rattle.std.specs.Prelude.{ℕ, zero, suc, Bool, true, false, ◌||◌, Option, Some, None, List, ◌-◌, length, take}
+use Rattle.std.specs.Prelude.{slice_get, codes}
 use Rattle.ps_model.specs.declared.play.Ending.TheVariants.{Quit as Quits}
 use Rattle.ps_model.specs.declared.play.Input.{Input}
 use Rattle.ps_model.specs.declared.play.Input.TheVariants.{Up, Down, Left, Right, Action}
@@ -10,7 +11,9 @@ use Rattle.ps_model.specs.declared.play.Key.TheVariants.{Move, Undo, Restart, Qu
 use Rattle.ps_model.specs.declared.limits.TheConstants.{AGAIN_LIMIT}
 use Rattle.ps_model.specs.board.Grid.{Grid}
 use Rattle.ps_model.specs.board.Turns.{Script, Done, Outcome, Blocked, Restarted, Finished, turn}
-use Rattle.ps_model.specs.session.Sessions.{Play, Pending, Nothing, LevelDone, KeyAgain, StartAgain, Session, Playing, Waiting, AtMessage, Ended, Step, quietly, after, waiting, shown, remembered, with_turn}
+use Rattle.ps_model.specs.session.Sessions.{Play, Pending, Nothing, LevelDone, KeyAgain, StartAgain, Session, Playing}
+use Rattle.ps_model.specs.session.Sessions.{Waiting, AtMessage, Ended, Step, quietly, after, waiting, shown, remembered}
+use Rattle.ps_model.specs.session.Sessions.{with_turn}
 use Rattle.ps_model.specs.session.StartSteps.{start_turns, enter, level_done, restarted}
 
 -- turns ------------------------------------------------------------------------------------------------------------------
@@ -21,8 +24,8 @@ key_pending true again left = LevelDone
 key_pending false true left = KeyAgain left
 key_pending false false left = Nothing
 
--- a turn of a key behind its frame: a message waits; without one the level ends on a win; otherwise the again turns come, so many
--- at most, if the turn is to come again
+-- a turn of a key behind its frame: a message waits; without one the level ends on a win; otherwise the again turns
+-- come, so many at most, if the turn is to come again
 abbrev pub key_told : Script → Play → Done → ℕ → (Play → Step) → Step
 key_told script next done left again_turns = elim done.message [
   | Some text ↦ waiting next text (key_pending done.win done.again left)
@@ -32,15 +35,16 @@ key_told script next done left again_turns = elim done.message [
   ]
 ]
 
--- an again turn that changed the board or won, by the frame that shows it and what follows; one that didn't is as if not run
+-- an again turn that changed the board or won, by the frame that shows it and what follows; one that didn't is as if
+-- not run
 abbrev pub key_counted : Script → Play → Done → ℕ → (Play → Step) → Step
 key_counted script play done left again_turns = elim (done.changed || done.win) [
   | false ↦ quietly (Playing play)
   | true ↦ let next : Play = with_turn play done in after (shown script next) (key_told script next done left again_turns)
 ]
 
--- an again turn of a key by its outcome: a blocked one doesn't count, nor does one that neither changed the board nor won; one that
--- doesn't count is as if not run, and ends the again turns. A restart ends them too
+-- an again turn of a key by its outcome: a blocked one doesn't count, nor does one that neither changed the board nor
+-- won; one that doesn't count is as if not run, and ends the again turns. A restart ends them too
 abbrev pub key_turn_by : Script → Play → ℕ → (Play → Step) → Outcome → Step
 key_turn_by script play left again_turns (Blocked message) = quietly (Playing play)
 key_turn_by script play left again_turns (Restarted message) = restarted script play message

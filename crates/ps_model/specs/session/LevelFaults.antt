@@ -1,11 +1,13 @@
 -- Faults of LEVELS: characters that may not stand in a row, too large levels, too many entries, and no level at all.
-use Rattle.std.specs.Prelude.{encode_utf8, ℕ, suc, nat_eq, nat_lt, Bool, true, false, ◌&&◌, ◌||◌, not, Option, is_some, List, [], ◌∷◌, ◌++◌, length, take}
+use Rattle.std.specs.Prelude.{encode_utf8, ℕ, suc, nat_eq, nat_lt, Bool, true, false, ◌&&◌, ◌||◌, not, Option, is_some}
+use Rattle.std.specs.Prelude.{List, [], ◌∷◌, ◌++◌, length, take}
 use Rattle.std.specs.Char.{to_ascii_lowercase}
 use Rattle.std.specs.List.{list_any}
 use Rattle.std.specs.Str.{bytes_eq}
 use Rattle.std.specs.Map.{lookup}
 use Rattle.ps_model.specs.declared.faults.Fault.{Fault}
-use Rattle.ps_model.specs.declared.faults.FaultKind.TheVariants.{UnknownGlyph, PropertyGlyph, TooLarge, NoLevel, TooManyEntries}
+use Rattle.ps_model.specs.declared.faults.FaultKind.TheVariants.{UnknownGlyph, PropertyGlyph, TooLarge, NoLevel}
+use Rattle.ps_model.specs.declared.faults.FaultKind.TheVariants.{TooManyEntries}
 use Rattle.ps_model.specs.declared.limits.TheConstants.{SIDE_LIMIT, ENTRY_LIMIT}
 use Rattle.ps_model.specs.text.Faults.{when}
 use Rattle.ps_model.specs.text.Lines.{Line}
@@ -25,8 +27,8 @@ is_unknown_glyph names character = not (is_some (character_meaning names charact
 abbrev pub is_property_glyph : Names → ℕ → Bool
 is_property_glyph names character = is_property (character_meaning names character)
 
--- a level too large, LV3, at a row by its place in the level: at the first row where that is too long, and at the first row over
--- the limit
+-- a level too large, LV3, at a row by its place in the level: at the first row where that is too long, and at the first
+-- row over the limit
 abbrev pub is_too_large : ℕ → ℕ → Bool
 is_too_large width place = (nat_eq place 0 && nat_lt SIDE_LIMIT width) || nat_eq place SIDE_LIMIT
 
@@ -40,7 +42,8 @@ row_faults names width place row =
 -- the faults of rows in a level of that width, the first of them at that place
 abbrev pub rows_faults : Names → ℕ → ℕ → List Line → List Fault
 rows_faults names width place [] = []
-rows_faults names width place (row ∷ below) = row_faults names width place row ++ rows_faults names width (suc place) below
+rows_faults names width place (row ∷ below) =
+    row_faults names width place row ++ rows_faults names width (suc place) below
 
 -- too many entries, LV5: the first over the limit, by its place among the entries, at its first line
 abbrev pub too_many : ℕ → Line → List Fault

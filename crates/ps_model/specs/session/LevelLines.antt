@@ -1,6 +1,8 @@
--- The entries of LEVELS. A line whose first word is `message` is a message. Other lines that aren't blank are rows, and rows right
--- below one another make a level: a blank line or a message ends it. The first row says how wide the level is.
-use Rattle.std.specs.Prelude.{ℕ, ◌-◌, Bool, true, false, ◌&&◌, not, unwrap_or, List, [], ◌∷◌, ◌++◌, length, map, take, drop, replicate, slice_index_or, codes}
+-- The entries of LEVELS. A line whose first word is `message` is a message. Other lines that aren't blank are rows, and
+-- rows right below one another make a level: a blank line or a message ends it. The first row says how wide the level
+-- is.
+use Rattle.std.specs.Prelude.{ℕ, ◌-◌, Bool, true, false, ◌&&◌, not, unwrap_or, List, [], ◌∷◌, ◌++◌, length, map, take}
+use Rattle.std.specs.Prelude.{drop, replicate, slice_index_or, codes}
 use Rattle.std.specs.List.{flat_map, range_with_len, prefix_len, take_while}
 use Rattle.std.specs.Str.{bytes_eq, chars}
 use Rattle.ps_model.specs.declared.pieces.ObjectId.{ObjectId}
@@ -29,8 +31,8 @@ is_message line = bytes_eq (first_word line) (codes "message")
 abbrev pub is_row : Line → Bool
 is_row line = not (is_blank_line line) && not (is_message line)
 
--- the entry that begins at a line, if one does, with these lines below it: a message; or a level, at a row that has no row
--- right above it
+-- the entry that begins at a line, if one does, with these lines below it: a message; or a level, at a row that has no
+-- row right above it
 abbrev pub entry_at : Bool → Line → List Line → List EntryLines
 entry_at is_below_row line below = elim (is_message line) [
   | true ↦ MessageLine line ∷ []
@@ -56,8 +58,8 @@ characters_of row = chars (without_blank_end (drop (prefix_len is_blank row.byte
 abbrev pub last_character : List ℕ → ℕ
 last_character characters = slice_index_or characters (length characters - 1) 0
 
--- the characters of a row in a level of that width: a shorter row is filled with its own last character, and those past the
--- width are ignored
+-- the characters of a row in a level of that width: a shorter row is filled with its own last character, and those past
+-- the width are ignored
 abbrev pub of_width : ℕ → List ℕ → List ℕ
 of_width width characters = take width (characters ++ replicate (width - length characters) (last_character characters))
 
@@ -81,7 +83,8 @@ level_of names width rows =
 -- the entry of its lines
 abbrev pub entry_of_lines : Names → EntryLines → Entry
 entry_of_lines names (MessageLine line) = MessageEntry (taken_bytes line)
-entry_of_lines names (LevelRows first below) = LevelEntry (level_of names (length (characters_of first)) (first ∷ below))
+entry_of_lines names (LevelRows first below) =
+    LevelEntry (level_of names (length (characters_of first)) (first ∷ below))
 
 -- the entries of LEVELS, from its lines that are there
 abbrev pub entries_read : Names → List Line → List Entry

@@ -1,6 +1,8 @@
--- A session: where a player is in a game. Each key gives a new session and a text that is written. What a session is, and the lines
--- and boards that its steps speak of, stand here; the start of a level and the keys have files of their own.
-use Rattle.std.specs.Prelude.{ℕ, suc, ◌-◌, Bool, true, false, if◌then◌else◌, List, [], ◌∷◌, ◌++◌, length, take, drop, filter, codes}
+-- A session: where a player is in a game. Each key gives a new session and a text that is written. What a session is,
+-- and the lines and boards that its steps speak of, stand here; the start of a level and the keys have files of their
+-- own.
+use Rattle.std.specs.Prelude.{ℕ, suc, ◌-◌, Bool, true, false, if◌then◌else◌, List, [], ◌∷◌, ◌++◌, length, take, drop}
+use Rattle.std.specs.Prelude.{filter, codes}
 use Rattle.ps_model.specs.declared.play.Ending.{Ending}
 use Rattle.ps_model.specs.declared.limits.TheConstants.{HISTORY_LIMIT}
 use Rattle.std.specs.Fmt.{decimal}
@@ -9,23 +11,24 @@ use Rattle.ps_model.specs.session.LevelLines.{Entry, MessageEntry, LevelEntry}
 use Rattle.ps_model.specs.session.Frames.{written_line, frame}
 use Rattle.ps_model.specs.board.Turns.{Script, Done}
 
--- a level that is played: its place among the entries; its board; the boards that undo goes back to, the latest last; and the
--- board that a restart goes back to
+-- a level that is played: its place among the entries; its board; the boards that undo goes back to, the latest last;
+-- and the board that a restart goes back to
 pub record Play : Type 0 where
   pub entry : ℕ
   pub board : Grid
   pub history : List Grid
   pub target : Grid
 
--- what a level's message goes on with once it is dismissed: nothing; the end of the level; or so many more again turns, those of a
--- key or those of the start of a level
+-- what a level's message goes on with once it is dismissed: nothing; the end of the level; or so many more again turns,
+-- those of a key or those of the start of a level
 pub data Pending : Type 0 where
   Nothing : Pending
   LevelDone : Pending
   KeyAgain : ℕ → Pending
   StartAgain : ℕ → Pending
 
--- a session: in a level; in a level whose message waits; at a message entry, by its place among the entries; or at the end
+-- a session: in a level; in a level whose message waits; at a message entry, by its place among the entries; or at the
+-- end
 pub data Session : Type 0 where
   Playing : Play → Session
   Waiting : Play → Pending → Session

@@ -1,5 +1,5 @@
--- The start of a level, at which its first frame is written, and of each restart. Where an option asks for it a turn without input
--- comes first. Then a message may wait, and again turns may follow. A win at the start is dropped.
+-- The start of a level, at which its first frame is written, and of each restart. Where an option asks for it a turn
+-- without input comes first. Then a message may wait, and again turns may follow. A win at the start is dropped.
 use Rattle.std.specs.Prelude.{ℕ, zero, suc, Bool, true, false, Option, Some, None, List, [], slice_get, codes}
 use Rattle.std.specs.Option.{option_or}
 use Rattle.ps_model.specs.declared.play.Ending.TheVariants.{TheEnd}
@@ -8,28 +8,32 @@ use Rattle.ps_model.specs.board.Grid.{Grid}
 use Rattle.ps_model.specs.board.Levels.{Level, loaded}
 use Rattle.ps_model.specs.session.LevelLines.{Entry, MessageEntry, LevelEntry}
 use Rattle.ps_model.specs.board.Turns.{Script, Done, Outcome, Blocked, Restarted, Finished, turn}
-use Rattle.ps_model.specs.session.Sessions.{Play, Pending, Nothing, StartAgain, Playing, AtMessage, Ended, Step, quietly, after, waiting, message_line, shown, level_line, done_line, with_board, with_turn}
+use Rattle.ps_model.specs.session.Sessions.{Play, Pending, Nothing, StartAgain, Playing, AtMessage, Ended, Step}
+use Rattle.ps_model.specs.session.Sessions.{quietly, after, waiting, message_line, shown, level_line, done_line}
+use Rattle.ps_model.specs.session.Sessions.{with_board, with_turn}
 
 -- what the turn of a start leaves to come: its again turns, if it is to come again
 abbrev pub start_pending : Bool → ℕ → Pending
 start_pending false left = Nothing
 start_pending true left = StartAgain left
 
--- a start behind a frame: a message waits; without one the again turns come, so many at most, if the turn is to come again
+-- a start behind a frame: a message waits; without one the again turns come, so many at most, if the turn is to come
+-- again
 abbrev pub start_told : Play → Option (List ℕ) → Bool → ℕ → (Play → Step) → Step
 start_told play (Some text) again left again_turns = waiting play text (start_pending again left)
 start_told play None false left again_turns = quietly (Playing play)
 start_told play None true left again_turns = again_turns play
 
--- a turn of a start that changed the board, by the frame that shows it and what follows; one that didn't is as if not run
+-- a turn of a start that changed the board, by the frame that shows it and what follows; one that didn't is as if not
+-- run
 abbrev pub start_counted : Script → Play → Done → ℕ → (Play → Step) → Step
 start_counted script play done left again_turns = elim done.changed [
   | false ↦ quietly (Playing play)
   | true ↦ let next : Play = with_turn play done in after (shown script next) (start_told next done.message done.again left again_turns)
 ]
 
--- an again turn of a start by its outcome: a blocked and a restarting one don't count, nor does one that left the board as it was; one
--- that doesn't count is as if not run, and ends the again turns
+-- an again turn of a start by its outcome: a blocked and a restarting one don't count, nor does one that left the board
+-- as it was; one that doesn't count is as if not run, and ends the again turns
 abbrev pub start_turn_by : Script → Play → ℕ → (Play → Step) → Outcome → Step
 start_turn_by script play left again_turns (Blocked message) = quietly (Playing play)
 start_turn_by script play left again_turns (Restarted message) = quietly (Playing play)
@@ -38,7 +42,8 @@ start_turn_by script play left again_turns (Finished done) = start_counted scrip
 -- the again turns of a start, so many at most: turns without input
 abbrev pub start_turns : Script → ℕ → Play → Step
 start_turns script zero play = quietly (Playing play)
-start_turns script (suc left) play = start_turn_by script play left (start_turns script left) (turn script None play.board)
+start_turns script (suc left) play =
+    start_turn_by script play left (start_turns script left) (turn script None play.board)
 
 -- the again turns of a start, as many as there may be
 unfoldable pub all_start_turns : Script → Play → Step
@@ -46,13 +51,15 @@ all_start_turns script play = start_turns script AGAIN_LIMIT play
 
 -- a level from its first frame on, with a message or without one, and with again turns or without
 abbrev pub started : Script → Play → Option (List ℕ) → Bool → Step
-started script play message again = after (shown script play) (start_told play message again AGAIN_LIMIT (all_start_turns script))
+started script play message again =
+    after (shown script play) (start_told play message again AGAIN_LIMIT (all_start_turns script))
 
 -- the start by its own turn: a blocked or restarting one leaves the board; its message comes before one from before
 abbrev pub started_by : Script → Play → Option (List ℕ) → Outcome → Step
 started_by script play message (Blocked own) = started script play (option_or own message) false
 started_by script play message (Restarted own) = started script play (option_or own message) false
-started_by script play message (Finished done) = started script (with_turn play done) (option_or done.message message) done.again
+started_by script play message (Finished done) =
+    started script (with_turn play done) (option_or done.message message) done.again
 
 -- the start step, with a message from before or without one
 abbrev pub start_step : Script → Play → Option (List ℕ) → Step
@@ -69,7 +76,8 @@ fresh script entry level = let board : Grid = loaded script.names level in recor
 abbrev pub entered : Script → ℕ → Option Entry → Step
 entered script entry None = record { session = Ended TheEnd; text = codes "* the end\n" }
 entered script entry (Some (MessageEntry text)) = record { session = AtMessage entry; text = message_line text }
-entered script entry (Some (LevelEntry level)) = after (level_line script entry) (start_step script (fresh script entry level) None)
+entered script entry (Some (LevelEntry level)) =
+    after (level_line script entry) (start_step script (fresh script entry level) None)
 
 -- the entry at a place begins
 abbrev pub enter : Script → ℕ → Step

@@ -1,5 +1,6 @@
 -- The lines of a text by their numbers, which count from 1.
-use Rattle.std.specs.Prelude.{ℕ, ◌+◌, ◌-◌, ◌≤◌, length, false, None, List, [], ◌∷◌, if◌then◌else◌, filter, take, drop, slice_index_or}
+use Rattle.std.specs.Prelude.{ℕ, ◌+◌, ◌-◌, ◌≤◌, length, false, None, List, [], ◌∷◌, if◌then◌else◌, filter, take, drop}
+use Rattle.std.specs.Prelude.{slice_index_or}
 use Rattle.ps_model.specs.declared.texts.Section.TheVariants.{Prelude}
 use Rattle.ps_model.specs.text.Lines.{Line, lines_of}
 

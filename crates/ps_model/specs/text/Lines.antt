@@ -1,12 +1,16 @@
--- The lines of a text. A line ends at a line feed; a last line feed begins no further line. A comment begins at `(` and ends at
--- its `)`, comments nest, and what stands in one reads as blanks. Each line has the section that it stands in: the one of the
--- last header at or above it, or the prelude. In three places the rest of a line is a text that is taken as it stands.
-use Rattle.std.specs.Prelude.{ℕ, suc, ◌+◌, ◌-◌, ◌==◌, nat_eq, nat_lt, Bool, ◌&&◌, ◌||◌, not, if◌then◌else◌, Option, Some, None, unwrap_or, is_some, option_map, List, [], ◌∷◌, ◌++◌, length, take, drop, reverse, replicate, fold, find, slice_index_or, slice_range, codes}
+-- The lines of a text. A line ends at a line feed; a last line feed begins no further line. A comment begins at `(` and
+-- ends at its `)`, comments nest, and what stands in one reads as blanks. Each line has the section that it stands in:
+-- the one of the last header at or above it, or the prelude. In three places the rest of a line is a text that is taken
+-- as it stands.
+use Rattle.std.specs.Prelude.{ℕ, suc, ◌+◌, ◌-◌, ◌==◌, nat_eq, nat_lt, Bool, ◌&&◌, ◌||◌, not, if◌then◌else◌, Option}
+use Rattle.std.specs.Prelude.{Some, None, unwrap_or, is_some, option_map, List, [], ◌∷◌, ◌++◌, length, take, drop}
+use Rattle.std.specs.Prelude.{reverse, replicate, fold, find, slice_index_or, slice_range, codes}
 use Rattle.std.specs.List.{slice_split, starts_with, prefix_len, list_all, list_any}
 use Rattle.std.specs.Str.{bytes_eq, str_to_ascii_lowercase}
 use Rattle.std.specs.Map.{lookup}
 use Rattle.ps_model.specs.declared.texts.Section.{Section}
-use Rattle.ps_model.specs.declared.texts.Section.TheVariants.{Prelude, Objects, Legend, Sounds, Layers, Rules, Wins, Levels}
+use Rattle.ps_model.specs.declared.texts.Section.TheVariants.{Prelude, Objects, Legend, Sounds, Layers, Rules, Wins}
+use Rattle.ps_model.specs.declared.texts.Section.TheVariants.{Levels}
 use Rattle.ps_model.specs.declared.texts.Cut.TheVariants.{Blanks}
 use Rattle.ps_model.specs.text.Words.{is_blank, word_texts, words_in}
 use Rattle.ps_model.specs.text.RuleWords.{rule_words_in}
@@ -45,7 +49,8 @@ raw_lines bytes = as_lines (slice_split is_line_feed bytes)
 
 -- comments --------------------------------------------------------------------------------------------------------------
 
--- how many comments are open behind a byte, where so many are before it; a `)` outside a comment is an ordinary character
+-- how many comments are open behind a byte, where so many are before it; a `)` outside a comment is an ordinary
+-- character
 abbrev pub depth_behind : ℕ → ℕ → ℕ
 depth_behind depth byte = if byte == 40 then suc depth else (if byte == 41 then depth - 1 else depth)
 
@@ -56,7 +61,8 @@ in_comment depth byte = nat_lt 0 depth || byte == 40
 -- bytes before which so many comments are open, with a blank for each that stands in a comment
 abbrev pub without_comments : ℕ → List ℕ → List ℕ
 without_comments depth [] = []
-without_comments depth (byte ∷ bytes) = (if in_comment depth byte then 32 else byte) ∷ without_comments (depth_behind depth byte) bytes
+without_comments depth (byte ∷ bytes) =
+    (if in_comment depth byte then 32 else byte) ∷ without_comments (depth_behind depth byte) bytes
 
 -- headers ---------------------------------------------------------------------------------------------------------------
 
@@ -97,16 +103,18 @@ end_of_first bytes names = end_of_word (find (is_word bytes names) (take 1 (word
 abbrev pub behind_arrow : List ℕ → List (ℕ × ℕ) → List (ℕ × ℕ)
 behind_arrow bytes words = drop (suc (prefix_len (λ word. not (is_word bytes (codes "->" ∷ []) word)) words)) words
 
--- where a text that is taken as it stands begins in a line whose comments are blanks: behind `title`, `author` or `homepage` as the first
--- word of a line of the prelude; behind `message` as the first word of a line of LEVELS; behind the first `message` that stands
--- behind the `->` of a line of RULES
+-- where a text that is taken as it stands begins in a line whose comments are blanks: behind `title`, `author` or
+-- `homepage` as the first word of a line of the prelude; behind `message` as the first word of a line of LEVELS; behind
+-- the first `message` that stands behind the `->` of a line of RULES
 abbrev pub text_place : Section → List ℕ → Option ℕ
 text_place Prelude uncommented = end_of_first uncommented (codes "title" ∷ codes "author" ∷ codes "homepage" ∷ [])
 text_place Levels uncommented = end_of_first uncommented (codes "message" ∷ [])
-text_place Rules uncommented = end_of_word (find (is_word uncommented (codes "message" ∷ [])) (behind_arrow uncommented (rule_words_in uncommented)))
+text_place Rules uncommented =
+    end_of_word (find (is_word uncommented (codes "message" ∷ [])) (behind_arrow uncommented (rule_words_in uncommented)))
 text_place section uncommented = None
 
--- how long that text is: in the prelude it ends where a comment begins; elsewhere it has all that follows, parentheses among it
+-- how long that text is: in the prelude it ends where a comment begins; elsewhere it has all that follows, parentheses
+-- among it
 abbrev pub text_length : Section → List ℕ → ℕ
 text_length Prelude behind = prefix_len (λ byte. not (byte == 40)) behind
 text_length section behind = length behind
@@ -119,7 +127,8 @@ depth_below section None depth raw = fold depth_behind depth raw
 
 -- lines -----------------------------------------------------------------------------------------------------------------
 
--- a text taken as it stands: the byte of the whole text at which it begins; and its bytes, without the blanks at both ends
+-- a text taken as it stands: the byte of the whole text at which it begins; and its bytes, without the blanks at both
+-- ends
 pub record Taken : Type 0 where
   pub start : ℕ
   pub bytes : List ℕ
@@ -159,7 +168,8 @@ is_divider bytes = list_all (λ byte. is_blank byte || byte == 61) bytes && list
 abbrev pub are_blank : List ℕ → Bool
 are_blank bytes = list_all is_blank bytes
 
--- a line that lies partly or wholly in a comment and has only blanks besides: its bytes, as they stand and without comments
+-- a line that lies partly or wholly in a comment and has only blanks besides: its bytes, as they stand and without
+-- comments
 abbrev pub is_comment : ℕ → List ℕ → List ℕ → Bool
 is_comment depth raw uncommented = are_blank uncommented && (nat_lt 0 depth || list_any (λ byte. byte == 40) raw)
 
@@ -177,7 +187,8 @@ abbrev pub text_taken : List ℕ → ℕ → Section → Option ℕ → Option T
 text_taken raw start section None = None
 text_taken raw start section (Some place) = let behind : List ℕ = drop place raw in Some (text_behind start place (take (text_length section behind) behind))
 
--- the lines, from a number and a byte of the text on, the first below a line of that section and with so many comments open
+-- the lines, from a number and a byte of the text on, the first below a line of that section and with so many comments
+-- open
 abbrev pub lines_from : ℕ → ℕ → ℕ → Section → List (List ℕ) → List Line
 lines_from number start depth above [] = []
 lines_from number start depth above (raw ∷ others) =

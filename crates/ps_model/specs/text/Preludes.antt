@@ -1,5 +1,5 @@
--- What the prelude of a game says: its title, and which options are set. A line of the prelude is known by its first word;
--- what no line here names is read past.
+-- What the prelude of a game says: its title, and which options are set. A line of the prelude is known by its first
+-- word; what no line here names is read past.
 use Rattle.std.specs.Prelude.{ℕ, Bool, unwrap_or, option_map, List, [], find, codes}
 use Rattle.std.specs.List.{list_any}
 use Rattle.std.specs.Str.{bytes_eq}
@@ -24,7 +24,8 @@ options_of prelude = record {
   run_rules_on_level_start = is_set prelude (codes "run_rules_on_level_start");
 }
 
--- the title: the text of the first line of the prelude that begins with `title`, empty or not; without such a line it is empty
+-- the title: the text of the first line of the prelude that begins with `title`, empty or not; without such a line it
+-- is empty
 abbrev pub title_of : List Line → List ℕ
 title_of prelude = unwrap_or (option_map taken_bytes (find (begins_with (codes "title")) prelude)) []
 

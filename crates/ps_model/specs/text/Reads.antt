@@ -1,4 +1,5 @@
--- What reading a part of a text answers: its value, where it has no fault, or its first fault; or that memory was refused.
+-- What reading a part of a text answers: its value, where it has no fault, or its first fault; or that memory was
+-- refused.
 use Rattle.std.specs.Prelude.{◌≡◌, List, [], Some, Result, IfOk, OnOk, IfErr}
 use Rattle.ps_model.specs.declared.faults.Fault.{Fault}
 use Rattle.ps_model.specs.declared.refusal.Refusal.{Refusal}

@@ -3,7 +3,17 @@ use Rattle.std.specs.Prelude.{ℕ, List, ◌++◌, codes}
 use Rattle.std.specs.Fmt.{decimal}
 use Rattle.ps_model.specs.declared.faults.Fault.{Fault}
 use Rattle.ps_model.specs.declared.faults.FaultKind.{FaultKind}
-use Rattle.ps_model.specs.declared.faults.FaultKind.TheVariants.{NotUtf8, TooLong, SectionOrder, NoSection, Realtime, TooManyReadings, Impossible, BadObject, Twice, MixedAndOr, UnknownName, Cycle, AggregateInProperty, PropertyInAggregate, AggregateInLayer, NoLayer, NoBackground, NoPlayer, BadBackground, BadPlayer, TooManyNames, SameLayerAggregate, BadLine, BadBracket, UnknownWord, RowsDiffer, NothingRight, NameTwice, NoAggregate, Unbound, LateMove, PlusAlone, PlusLate, Loop, Ellipsis, NotInProfile, TooManyRules, UnknownGlyph, PropertyGlyph, TooLarge, NoLevel, TooManyEntries, BadWin, UnknownWinName, NotYet}
+use Rattle.ps_model.specs.declared.faults.FaultKind.TheVariants.{NotUtf8, TooLong, SectionOrder, NoSection, Realtime}
+use Rattle.ps_model.specs.declared.faults.FaultKind.TheVariants.{TooManyReadings, Impossible, BadObject, Twice}
+use Rattle.ps_model.specs.declared.faults.FaultKind.TheVariants.{MixedAndOr, UnknownName, Cycle, AggregateInProperty}
+use Rattle.ps_model.specs.declared.faults.FaultKind.TheVariants.{PropertyInAggregate, AggregateInLayer, NoLayer}
+use Rattle.ps_model.specs.declared.faults.FaultKind.TheVariants.{NoBackground, NoPlayer, BadBackground, BadPlayer}
+use Rattle.ps_model.specs.declared.faults.FaultKind.TheVariants.{TooManyNames, SameLayerAggregate, BadLine, BadBracket}
+use Rattle.ps_model.specs.declared.faults.FaultKind.TheVariants.{UnknownWord, RowsDiffer, NothingRight, NameTwice}
+use Rattle.ps_model.specs.declared.faults.FaultKind.TheVariants.{NoAggregate, Unbound, LateMove, PlusAlone, PlusLate}
+use Rattle.ps_model.specs.declared.faults.FaultKind.TheVariants.{Loop, Ellipsis, NotInProfile, TooManyRules}
+use Rattle.ps_model.specs.declared.faults.FaultKind.TheVariants.{UnknownGlyph, PropertyGlyph, TooLarge, NoLevel}
+use Rattle.ps_model.specs.declared.faults.FaultKind.TheVariants.{TooManyEntries, BadWin, UnknownWinName, NotYet}
 
 -- the code of a cause, a blank and its name
 abbrev pub words_of : FaultKind → List ℕ

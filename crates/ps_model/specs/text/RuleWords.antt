@@ -1,6 +1,7 @@
--- The words of a line of RULES. Words are cut at blanks; `[`, `]`, `|` and `->` are words wherever they stand; `>`, `<` and `^`
--- are cut off at the start of a word, again and again; one `+` is cut off at the start of the line.
-use Rattle.std.specs.Prelude.{ℕ, zero, suc, ◌+◌, ◌-◌, ◌==◌, nat_lt, Bool, true, false, ◌||◌, ◌&&◌, not, if◌then◌else◌, Option, Some, None, is_some, unwrap_or, List, [], ◌∷◌, ◌++◌, drop}
+-- The words of a line of RULES. Words are cut at blanks; `[`, `]`, `|` and `->` are words wherever they stand; `>`, `<`
+-- and `^` are cut off at the start of a word, again and again; one `+` is cut off at the start of the line.
+use Rattle.std.specs.Prelude.{ℕ, zero, suc, ◌+◌, ◌-◌, ◌==◌, nat_lt, Bool, true, false, ◌||◌, ◌&&◌, not, if◌then◌else◌}
+use Rattle.std.specs.Prelude.{Option, Some, None, is_some, unwrap_or, List, [], ◌∷◌, ◌++◌, drop}
 use Rattle.std.specs.List.{prefix_len}
 use Rattle.ps_model.specs.declared.texts.Cut.{Cut}
 use Rattle.ps_model.specs.declared.texts.Cut.TheVariants.{Blanks, Legend, Layers, Rule}

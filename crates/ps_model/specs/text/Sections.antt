@@ -1,9 +1,12 @@
--- The sections of a text. What stands before the first header is the prelude; then OBJECTS, LEGEND, SOUNDS, COLLISIONLAYERS,
--- RULES, WINCONDITIONS and LEVELS stand in this order. OBJECTS, COLLISIONLAYERS and LEVELS must be there.
-use Rattle.std.specs.Prelude.{ℕ, nat_eq, nat_lt, nat_le, Bool, ◌&&◌, not, unwrap_or, option_map, List, [], ◌∷◌, ◌++◌, length, filter, find}
+-- The sections of a text. What stands before the first header is the prelude; then OBJECTS, LEGEND, SOUNDS,
+-- COLLISIONLAYERS, RULES, WINCONDITIONS and LEVELS stand in this order. OBJECTS, COLLISIONLAYERS and LEVELS must be
+-- there.
+use Rattle.std.specs.Prelude.{ℕ, nat_eq, nat_lt, nat_le, Bool, ◌&&◌, not, unwrap_or, option_map, List, [], ◌∷◌, ◌++◌}
+use Rattle.std.specs.Prelude.{length, filter, find}
 use Rattle.std.specs.List.{list_any, list_all, flat_map}
 use Rattle.ps_model.specs.declared.texts.Section.{Section}
-use Rattle.ps_model.specs.declared.texts.Section.TheVariants.{Prelude, Objects, Legend, Sounds, Layers, Rules, Wins, Levels}
+use Rattle.ps_model.specs.declared.texts.Section.TheVariants.{Prelude, Objects, Legend, Sounds, Layers, Rules, Wins}
+use Rattle.ps_model.specs.declared.texts.Section.TheVariants.{Levels}
 use Rattle.ps_model.specs.declared.faults.Fault.{Fault}
 use Rattle.ps_model.specs.declared.faults.FaultKind.TheVariants.{SectionOrder, NoSection, Realtime}
 use Rattle.ps_model.specs.text.Lines.{Line}

@@ -1,7 +1,8 @@
 -- The words of a line: its longest runs of bytes without a byte that parts words. Some bytes are words by themselves
--- wherever they stand. All of these bytes are ASCII, so no character is ever cut. The words of a rule ask for more than one byte:
--- RuleWords has them.
-use Rattle.std.specs.Prelude.{ℕ, suc, ◌==◌, Bool, true, false, ◌||◌, Option, Some, None, unwrap_or, List, [], ◌∷◌, ◌++◌, map, slice_range}
+-- wherever they stand. All of these bytes are ASCII, so no character is ever cut. The words of a rule ask for more than
+-- one byte: RuleWords has them.
+use Rattle.std.specs.Prelude.{ℕ, suc, ◌==◌, Bool, true, false, ◌||◌, Option, Some, None, unwrap_or, List, [], ◌∷◌, ◌++◌}
+use Rattle.std.specs.Prelude.{map, slice_range}
 use Rattle.ps_model.specs.declared.texts.Cut.{Cut}
 use Rattle.ps_model.specs.declared.texts.Cut.TheVariants.{Blanks, Legend, Layers, Rule}
 
