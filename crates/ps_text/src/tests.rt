@@ -41,6 +41,20 @@ LEVELS
 P..
 ";
 
+/// Lines of which texts are taken as they stand, and lines that only look alike.
+const TAKEN: &str = "title (x) y
+Author\tÉ (z) w
+title(x
+) homepage b
+RULES
+message [ a ] -> message(a) b (
+[] -> (message) sfx0 Message  [ c ] -> message d\x20
+LEVELS
+message
+message (((\x20
+messages e
+";
+
 fn expect_texts(rt: &impl Abort, words: &[Word], wanted: &[&str]) {
     assert_eq!(rt; words.len(), wanted.len());
     for (word, text) in words.iter().zip(wanted) {
@@ -196,10 +210,7 @@ fn reads_past_comments(rt: HostRuntime) -> Result<(), Fail> {
 
 #[test]
 fn takes_texts_as_they_stand(rt: HostRuntime) -> Result<(), Fail> {
-    let source = Source::read(
-        rt.alloc(),
-        "title (x) y\nAuthor\tÉ (z) w\ntitle(x\n) homepage b\nRULES\nmessage [ a ] -> message(a) b (\n[] -> (message) sfx0 Message  [ c ] -> message d \nLEVELS\nmessage\nmessage ((( \nmessages e\n".as_bytes(),
-    )?;
+    let source = Source::read(rt.alloc(), TAKEN.as_bytes())?;
     assert!(rt; source.lines() == 11);
     let texts = [
         (1, Some("")),

@@ -68,8 +68,7 @@ returns-clause-reads c =
     let legend = legend-as objects lines c.in_ok-known.known c.declare_legend.new.known (declarations_shown c.deref.result.now) c.in_ok-known.ensures.reads.0 c.in_ok-declarations.ensures.known
     (ap declarations_shown c.deref.ensures.value ∙ c.in_ok-declarations.ensures.reads.0) in
     let naming : legend_faults (legend_of objects lines) ≡ [] = ap legend_faults (sym legend) ∙ c.in_ok-legend.ensures.1.0 in
-    let known = c.in_ok-declarations.ensures.known ∙ ap (λ (names : List Named). names ++ map named_line (enumerate_from 0 (declarations lines))) c.in_ok-known.ensures.reads.0 in
-    (
+    let known = c.in_ok-declarations.ensures.known ∙ ap (λ (names : List Named). names ++ map named_line (enumerate_from 0 (declarations lines))) c.in_ok-known.ensures.reads.0 in (
       same-pair _ (declared_of objects lines) known (c.in_ok-legend.ensures.0 ∙ ap legend_with legend),
       (
         rw (c.in_ok-known.ensures.reads.1.0, none, naming) refl,
