@@ -1,5 +1,7 @@
 pub mod ObjectSteps
 pub mod Elements
+pub mod MembersBelow
+pub mod MappedTests
 pub mod WrittenSteps
 pub mod Characters
 pub mod KnownEntries

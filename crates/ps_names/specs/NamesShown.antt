@@ -1,6 +1,8 @@
 -- The names as the code keeps them as those of the definitions.
-use Rattle.std.specs.Prelude.{ℕ, List, Option}
+use Rattle.std.specs.Prelude.{◌≡◌, ℕ, List, Option}
+use Rattle.ps_model.specs.declared.pieces.ObjectId.{ObjectId}
 use Rattle.ps_model.specs.names.Names as model
+use Rattle.ps_model.specs.names.NameBounds.{AreBounded}
 use Rattle.ps_names.specs.declared.glyphs.Glyph.{Glyph}
 use Rattle.ps_names.specs.GlyphsShown.{glyphs_shown}
 use Rattle.ps_names.specs.Known.{Named}
@@ -8,3 +10,9 @@ use Rattle.ps_names.specs.Tables.{entries_with}
 
 abbrev pub names_shown : List (Named × Option model.Meaning) → List ℕ → ℕ → List Glyph → model.Names
 names_shown table layers layer_count glyphs = record { entries = entries_with table; layers = layers; layer_count = layer_count; glyphs = glyphs_shown glyphs }
+
+-- what holds of names as the code keeps them, with the objects of Player and of Background beside them
+pub record AreKept (names : model.Names) (players backgrounds : List ObjectId) : Type 0 where
+  pub bounded : AreBounded names
+  pub players_kept : players ≡ model.players names
+  pub backgrounds_kept : backgrounds ≡ model.backgrounds names

@@ -4,6 +4,7 @@ ghost use Rattle.std.specs.Prelude.{◌≡◌, ◌≤◌, ◌++◌, [], None, So
 ghost use Rattle.ps_model.specs.declared.faults.Fault.{Fault as TheFault};
 ghost use Rattle.ps_model.specs.names.DeclarationFaults.{object_faults, naming_faults};
 ghost use Rattle.ps_model.specs.text.Faults.{first_fault};
+ghost use Rattle.ps_model.specs.text.Reads.{Reads};
 ghost use Rattle.ps_model.specs.declared.limits.TheConstants.{OBJECT_LIMIT};
 ghost use Rattle.ps_model.specs.names.Meanings.{legend_name, legend_meanings};
 ghost use Rattle.ps_model.specs.names.ObjectLines.{object_names};
@@ -45,10 +46,10 @@ pub fn refuse(fault: Option<Fault>) -> Result<(), Refusal>
 
 /// Declares the names of the objects. `Refused`: the lines of OBJECTS have a fault.
 pub fn known_objects(alloc: Global, objects: &[ObjectText<'_>]) -> Result<Known, Refusal>
-    ensures part { IfOk result (λ known. known ≡ map named_object (object_names (objects_shown objects.now))) }
+    ensures reads { Reads result
+        (map named_object (object_names (objects_shown objects.now)))
+        (object_faults 0 [] (objects_shown objects.now)) }
     ensures few { OnOk result (length objects.now ≤ OBJECT_LIMIT) }
-    ensures fine { OnOk result (object_faults 0 [] (objects_shown objects.now) ≡ []) }
-    ensures refused { IfErr result (λ e. (fault : TheFault) → e ≡ Refusal.Refused fault → first_fault (object_faults 0 [] (objects_shown objects.now)) ≡ Some fault) }
 {
     let mut known = Known::new(alloc);
     let fault = fault_of_objects(alloc, &mut known, objects)?;

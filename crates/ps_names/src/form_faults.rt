@@ -1,10 +1,9 @@
 //! Declaring what the lines of LEGEND do, and their faults of form.
 
-ghost use Rattle.std.specs.Prelude.{◌≡◌, ◌≤◌, ◌++◌, ◌∷◌, [], Some, false, IfOk, OnOk, IfErr, length, map, option_map, option_to_list};
+ghost use Rattle.std.specs.Prelude.{◌≡◌, ◌≤◌, ◌++◌, ◌∷◌, [], Some, false, IfOk, OnOk, length, map, option_map, option_to_list};
 ghost use Rattle.std.specs.List.{enumerate_from};
-ghost use Rattle.ps_model.specs.declared.faults.Fault.{Fault as TheFault};
 ghost use Rattle.ps_model.specs.names.DeclarationFaults.{are_declared_again, faults_of_form, form_faults};
-ghost use Rattle.ps_model.specs.text.Faults.{first_fault};
+ghost use Rattle.ps_model.specs.text.Reads.{ReadsAs};
 ghost use Rattle.ps_model.specs.names.LegendLines.{declared_by, declarations};
 ghost use Rattle.ps_model.specs.names.Meanings.{OfLine};
 ghost use Rattle.ps_names.specs.Known.{keys, named_as, mention_shown};
@@ -42,10 +41,10 @@ fn declare_line<'a>(
     line: &WrittenLine<'a>,
     place: u32,
 ) -> Result<Declaration<'a>, Refusal>
-    ensures part { IfOk result (λ declared. declared_by (line_shown line.now) ≡ Some (declaration_shown declared)) }
+    ensures reads { ReadsAs (λ declared. Some (declaration_shown declared)) result
+        (declared_by (line_shown line.now))
+        (faults_of_form (keys known.old) (line_shown line.now)) }
     ensures known { IfOk result (λ declared. known.new ≡ known.old ++ named_line (place, declaration_shown declared) ∷ []) }
-    ensures fine { OnOk result (faults_of_form (keys known.old) (line_shown line.now) ≡ []) }
-    ensures refused { IfErr result (λ e. (fault : TheFault) → e ≡ Refusal.Refused fault → first_fault (faults_of_form (keys known.old) (line_shown line.now)) ≡ Some fault) }
 {
     let number = line.number;
     if declare_if(alloc, known, name_declared(line), Mention::Line(place))? {
@@ -71,10 +70,11 @@ pub fn declare_legend<'a>(
 ) -> Result<Vec<Declaration<'a>>, Refusal>
     requires few { length lines.now ≤ 4294967295 }
     ensures long { IfOk result (λ made. length made.items ≡ length lines.now) }
-    ensures part { IfOk result (λ made. declarations_shown made.items ≡ declarations (lines_shown lines.now)) }
-    ensures known { OnOk result (known.new ≡ known.old ++ map named_line (enumerate_from 0 (declarations (lines_shown lines.now)))) }
-    ensures fine { OnOk result (form_faults (keys known.old) (lines_shown lines.now) ≡ []) }
-    ensures refused { IfErr result (λ e. (fault : TheFault) → e ≡ Refusal.Refused fault → first_fault (form_faults (keys known.old) (lines_shown lines.now)) ≡ Some fault) }
+    ensures reads { ReadsAs (λ made. declarations_shown made.items) result
+        (declarations (lines_shown lines.now))
+        (form_faults (keys known.old) (lines_shown lines.now)) }
+    ensures known { OnOk result (known.new ≡ known.old
+        ++ map named_line (enumerate_from 0 (declarations (lines_shown lines.now)))) }
 {
     let mut made = Vec::new(alloc);
     for place in 0..lines.len() {

@@ -19,7 +19,7 @@ ghost use Rattle.ps_names.specs.Shown.{meaning_shown};
 ghost use Rattle.ps_names.specs.Tables.{entries_with};
 
 use crate::lines::WrittenLine;
-use crate::meaning::Meaning;
+use crate::meaning::{Meaning, members_of};
 use crate::naming::is_aggregate;
 use crate::table::Table;
 use ps_model::{Fault, FaultKind, LAYER_LIMIT, Memory, ObjectId};
@@ -96,24 +96,14 @@ pub fn layers_of_lines<'a>(
 fn names_nothing(layer: &Layer<'_>) -> bool
     ensures { result ≡ list_any is_none (layer_shown layer.now).named }
 {
-    for meaning in &layer.named {
-        if meaning.is_none() {
-            return true;
-        }
-    }
-    false
+    layer.named.iter().any(|meaning| meaning.is_none())
 }
 
 /// Whether a name of the layer is that of an aggregate.
 fn names_aggregate(layer: &Layer<'_>) -> bool
     ensures { result ≡ list_any is_aggregate (layer_shown layer.now).named }
 {
-    for meaning in &layer.named {
-        if is_aggregate(*meaning) {
-            return true;
-        }
-    }
-    false
+    layer.named.iter().any(|meaning| is_aggregate(*meaning))
 }
 
 /// The first fault of the layer of a number.
@@ -178,12 +168,7 @@ fn place_each(places: &mut [Option<u32>], layer: u32, objects: &[ObjectId])
 fn place_meaning(places: &mut [Option<u32>], layer: u32, meaning: Option<&Meaning>)
     ensures { places.new ≡ placed layer places.old (members_if (option_map (λ m. meaning_shown m.now) meaning.entry)) }
 {
-    match meaning {
-        None => {}
-        Some(Meaning::One(object)) => place(places, layer, *object),
-        Some(Meaning::All { line: _, objects }) => place_each(places, layer, objects.as_slice()),
-        Some(Meaning::Any { line: _, objects }) => place_each(places, layer, objects.as_slice()),
-    }
+    place_each(places, layer, members_of(meaning));
 }
 
 /// Puts on the layer of a number what its names stand for.

@@ -32,6 +32,3 @@ pub use meaning::Meaning;
 pub use names::Names;
 pub use ps_model::{Fault, FaultKind, LayerId, ObjectId, Refusal};
 pub use read::read_names;
-
-#[cfg(test)]
-mod tests;

@@ -1,12 +1,10 @@
 //! The lines of a section.
 
 ghost use Rattle.std.specs.Prelude.{◌≡◌, ◌≤◌, ◌+◌, ◌++◌, ◌∷◌, [], IfOk, OnOk, length, All};
-ghost use Rattle.ps_model.specs.text.LineNumbers.{line_at, lines_between};
-ghost use Rattle.ps_model.specs.text.Lines.{lines_of};
+ghost use Rattle.ps_model.specs.text.LineNumbers.{HasLine, HasLines, here, line_at, lines_between};
 ghost use Rattle.ps_model.specs.text.WrittenLines.{written_lines};
 ghost use Rattle.ps_names.specs.LinesShown.{IsPlainCut, lines_shown};
-ghost use Rattle.ps_names.specs.LinesThere.{IsLine, lines_at};
-ghost use Rattle.ps_model.specs.text.LineNumbers.{here};
+ghost use Rattle.ps_names.specs.LinesThere.{lines_at};
 
 use ps_model::Memory;
 use ps_text::{Cut, Source, Word, words};
@@ -23,10 +21,9 @@ pub struct WrittenLine<'a> {
 
 /// Puts the number of a line last, if the line is there.
 fn push_there(source: &Source, line: u32, made: &mut Vec<u32>) -> Result<(), Memory>
-    requires from_one { 1 ≤ line }
-    requires there { line ≤ length (lines_of source.now) }
+    requires { HasLine source.now line }
     ensures lines { OnOk result (lines_at source.now made.new.items ≡ lines_at source.now made.old.items ++ here source.now line) }
-    ensures there { OnOk result (All (IsLine source.now) made.old.items → All (IsLine source.now) made.new.items) }
+    ensures there { OnOk result (All (HasLine source.now) made.old.items → All (HasLine source.now) made.new.items) }
     ensures one { OnOk result (length made.new.items ≤ length made.old.items + 1) }
 {
     if !source.is_there(line) {
@@ -38,11 +35,9 @@ fn push_there(source: &Source, line: u32, made: &mut Vec<u32>) -> Result<(), Mem
 
 /// The numbers of those lines of a range that are there.
 pub fn lines_there(alloc: Global, source: &Source, lines: Range<u32>) -> Result<Vec<u32>, Memory>
-    requires from_one { 1 ≤ lines.start }
-    requires ordered { lines.start ≤ lines.end }
-    requires there { lines.end ≤ length (lines_of source.now) + 1 }
+    requires { HasLines source.now lines.start lines.end }
     ensures lines { IfOk result (λ made. lines_at source.now made.items ≡ lines_between source.now lines.start lines.end) }
-    ensures there { IfOk result (λ made. All (IsLine source.now) made.items) }
+    ensures there { IfOk result (λ made. All (HasLine source.now) made.items) }
     ensures few { IfOk result (λ made. length made.items ≤ 4294967295) }
 {
     let mut made = Vec::new(alloc);
@@ -60,8 +55,7 @@ fn push_written<'a>(
     cut: Cut,
     made: &mut Vec<WrittenLine<'a>>,
 ) -> Result<(), Memory>
-    requires from_one { 1 ≤ line }
-    requires there { line ≤ length (lines_of source.now) }
+    requires there { HasLine source.now line }
     requires plain { IsPlainCut cut }
     ensures one { OnOk result (length made.new.items ≤ length made.old.items + 1) }
     ensures lines { OnOk result (lines_shown made.new.items ≡ lines_shown made.old.items ++ written_lines cut (line_at source.now line ∷ [])) }
@@ -84,7 +78,7 @@ pub fn written_lines<'a>(
     lines: &[u32],
     cut: Cut,
 ) -> Result<Vec<WrittenLine<'a>>, Memory>
-    requires there { All (IsLine source.now) lines.now }
+    requires there { All (HasLine source.now) lines.now }
     requires plain { IsPlainCut cut }
     ensures few { IfOk result (λ made. length made.items ≤ length lines.now) }
     ensures lines { IfOk result (λ made. lines_shown made.items ≡ written_lines cut (lines_at source.now lines.now)) }

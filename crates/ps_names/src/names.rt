@@ -1,14 +1,15 @@
 //! The names of a game.
 
-ghost use Rattle.std.specs.Prelude.{◌≡◌, ◌<◌, length, option_map};
-ghost use Rattle.ps_model.specs.names.Names.{meaning_of, layer_of, object_count};
-ghost use Rattle.ps_model.specs.names.NameBounds.{AreBounded};
+ghost use Rattle.std.specs.Prelude.{◌≡◌, ◌<◌, length, option_map, IfSome, All};
+ghost use Rattle.ps_model.specs.names.Names.{meaning_of, layer_of, object_count, players, backgrounds};
+ghost use Rattle.ps_model.specs.names.NameBounds.{AreBounded, IsBelow};
 ghost use Rattle.ps_names.specs.GlyphsShown.{glyphs_shown};
 ghost use Rattle.ps_names.specs.Shown.{meaning_shown};
 
 use crate::glyphs::Glyph;
 use crate::meaning::Meaning;
 use crate::table::Table;
+use crate::whole::layer_at;
 use ps_model::{LayerId, ObjectId};
 use std::marker::Model;
 
@@ -20,18 +21,19 @@ pub struct Names {
     pub(crate) layers: Vec<u32>,
     pub(crate) layer_count: u32,
     pub(crate) glyphs: Vec<Glyph>,
+    pub(crate) players: Vec<ObjectId>,
+    pub(crate) backgrounds: Vec<ObjectId>,
 }
 
 impl Model for Names {
     ghost use Rattle.ps_model.specs.names.Names.{Names as Meant};
-    ghost use Rattle.ps_model.specs.names.NameBounds.{AreBounded};
-    ghost use Rattle.ps_names.specs.NamesShown.{names_shown};
+    ghost use Rattle.ps_names.specs.NamesShown.{names_shown, AreKept};
 
     ghost Value = { Meant };
 
     ghost view = { λ n. names_shown n.table n.layers.items n.layer_count n.glyphs.items };
 
-    ghost invariant = { λ n. AreBounded (names_shown n.table n.layers.items n.layer_count n.glyphs.items) };
+    ghost invariant = { λ n. AreKept (names_shown n.table n.layers.items n.layer_count n.glyphs.items) n.players.items n.backgrounds.items };
 }
 
 impl Names {
@@ -39,19 +41,37 @@ impl Names {
     /// capital letter is compared with each declared name, any other is looked up at once.
     pub fn meaning(&self, name: &str) -> Option<&Meaning>
         ensures meaning { option_map (λ m. meaning_shown m.now) result ≡ meaning_of self.now name.now }
+        ensures below { IfSome result (λ m. IsBelow (object_count self.now) (meaning_shown m.now)) }
         ensures facts { AreBounded self.now }
     {
         self.table.find(name)
     }
 
-    /// The layer of an object, which is one of the game's, below `object_count()`. The layer is below `layer_count()`.
-    pub fn layer_of(&self, object: ObjectId) -> LayerId
-        requires { object.0 < object_count self.now }
-        ensures layer { result.0 ≡ layer_of self.now object }
-        ensures within { result.0 < self.now.layer_count }
+    /// The objects of `Player`, each below `object_count()`, in their order of declaration or of mention.
+    pub fn players(&self) -> &[ObjectId]
+        ensures objects { result.now ≡ players self.now }
+        ensures below { All (λ object. object.0 < object_count self.now) result.now }
         ensures facts { AreBounded self.now }
     {
-        LayerId(self.layers[object.0 as usize])
+        self.players.as_slice()
+    }
+
+    /// The objects of `Background`, each below `object_count()`, in their order of declaration or of mention.
+    pub fn backgrounds(&self) -> &[ObjectId]
+        ensures objects { result.now ≡ backgrounds self.now }
+        ensures below { All (λ object. object.0 < object_count self.now) result.now }
+        ensures facts { AreBounded self.now }
+    {
+        self.backgrounds.as_slice()
+    }
+
+    /// The layer of an object, below `layer_count()`. Of a number that no object of the game has, the layer 0.
+    pub fn layer_of(&self, object: ObjectId) -> LayerId
+        ensures layer { result.0 ≡ layer_of self.now object }
+        ensures within { object.0 < object_count self.now → result.0 < self.now.layer_count }
+        ensures facts { AreBounded self.now }
+    {
+        LayerId(layer_at(&self.layers, object))
     }
 
     /// How many objects the game has, at most 64.

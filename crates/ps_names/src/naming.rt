@@ -32,24 +32,14 @@ pub fn meaning_at(meanings: &[Option<Meaning>], place: usize) -> Option<&Meaning
 pub fn is_aggregate(meaning: Option<&Meaning>) -> bool
     ensures { result ≡ is_aggregate (option_map (λ m. meaning_shown m.now) meaning.entry) }
 {
-    match meaning {
-        None => false,
-        Some(Meaning::One(_)) => false,
-        Some(Meaning::All { .. }) => true,
-        Some(Meaning::Any { .. }) => false,
-    }
+    meaning.is_some_and(Meaning::is_aggregate)
 }
 
 /// Whether it is a property.
 pub fn is_property(meaning: Option<&Meaning>) -> bool
     ensures { result ≡ is_property (option_map (λ m. meaning_shown m.now) meaning.entry) }
 {
-    match meaning {
-        None => false,
-        Some(Meaning::One(_)) => false,
-        Some(Meaning::All { .. }) => false,
-        Some(Meaning::Any { .. }) => true,
-    }
+    meaning.is_some_and(Meaning::is_property)
 }
 
 /// Whether a mention is one of an aggregate.
@@ -76,24 +66,18 @@ fn mentions_property(meanings: &[Option<Meaning>], mention: Mention) -> bool
 fn some_aggregate(meanings: &[Option<Meaning>], mentions: &[Mention]) -> bool
     ensures { result ≡ list_any is_aggregate (map (meaning_of_mention (meanings_shown meanings.now)) (mentions_shown mentions.now)) }
 {
-    for mention in mentions {
-        if mentions_aggregate(meanings, *mention) {
-            return true;
-        }
-    }
-    false
+    mentions
+        .iter()
+        .any(|mention| mentions_aggregate(meanings, *mention))
 }
 
 /// Whether one of the mentions is one of a property.
 fn some_property(meanings: &[Option<Meaning>], mentions: &[Mention]) -> bool
     ensures { result ≡ list_any is_property (map (meaning_of_mention (meanings_shown meanings.now)) (mentions_shown mentions.now)) }
 {
-    for mention in mentions {
-        if mentions_property(meanings, *mention) {
-            return true;
-        }
-    }
-    false
+    mentions
+        .iter()
+        .any(|mention| mentions_property(meanings, *mention))
 }
 
 /// Whether the name is a property that names an aggregate.

@@ -1,11 +1,10 @@
 //! OBJECTS: which objects there are, and by which names.
 
 ghost use Rattle.std.specs.Prelude.{◌≡◌, ◌≤◌, ◌<◌, ◌++◌, ◌∷◌, [], IfOk, OnOk, length, All, drop};
-ghost use Rattle.ps_model.specs.text.LineNumbers.{line_at};
-ghost use Rattle.ps_model.specs.text.Lines.{lines_of};
+ghost use Rattle.ps_model.specs.text.LineNumbers.{HasLine, line_at};
 ghost use Rattle.ps_model.specs.names.ObjectLines.{is_sprite_byte, is_sprite_word, is_sprite_row, sprite_rows, lines_below, objects_below, object_texts};
 ghost use Rattle.ps_names.specs.LinesShown.{objects_shown};
-ghost use Rattle.ps_names.specs.LinesThere.{IsLine, lines_at};
+ghost use Rattle.ps_names.specs.LinesThere.{lines_at};
 
 use ps_model::Memory;
 use ps_text::{Cut, Source, Word, words};
@@ -42,8 +41,7 @@ fn is_sprite_word(word: &str) -> bool
 
 /// Whether the line is a sprite row.
 fn is_sprite_row(alloc: Global, source: &Source, line: u32) -> Result<bool, Memory>
-    requires from_one { 1 ≤ line }
-    requires there { line ≤ length (lines_of source.now) }
+    requires { HasLine source.now line }
     ensures { IfOk result (λ row. row ≡ is_sprite_row (line_at source.now line)) }
 {
     let words = words(alloc, source, line, Cut::Plain)?;
@@ -55,7 +53,7 @@ fn is_sprite_row(alloc: Global, source: &Source, line: u32) -> Result<bool, Memo
 
 /// How many rows of a sprite stand on top of the lines, five at most.
 fn sprite_rows(alloc: Global, source: &Source, lines: &[u32]) -> Result<u32, Memory>
-    requires there { All (IsLine source.now) lines.now }
+    requires there { All (HasLine source.now) lines.now }
     ensures rows { IfOk result (λ rows. rows ≡ sprite_rows (lines_at source.now lines.now)) }
     ensures few { IfOk result (λ rows. rows ≤ 5) }
 {
@@ -74,7 +72,7 @@ fn sprite_rows(alloc: Global, source: &Source, lines: &[u32]) -> Result<u32, Mem
 
 /// How many of the lines below a name line belong to its object.
 fn lines_below(alloc: Global, source: &Source, lines: &[u32]) -> Result<u32, Memory>
-    requires there { All (IsLine source.now) lines.now }
+    requires there { All (HasLine source.now) lines.now }
     ensures { IfOk result (λ below. below ≡ lines_below (lines_at source.now lines.now)) }
 {
     if lines.is_empty() {
@@ -96,7 +94,7 @@ fn over<'a>(
     above: u32,
     made: &mut Vec<ObjectText<'a>>,
 ) -> Result<u32, Memory>
-    requires there { All (IsLine source.now) lines.now }
+    requires there { All (HasLine source.now) lines.now }
     requires some { 0 < length lines.now }
     ensures { IfOk result (λ next. objects_shown made.new.items ++ objects_below next (lines_at source.now (drop 1 lines.now)) ≡ objects_shown made.old.items ++ objects_below above (lines_at source.now lines.now)) }
 {
@@ -119,7 +117,7 @@ pub fn object_texts<'a>(
     source: &'a Source,
     lines: &[u32],
 ) -> Result<Vec<ObjectText<'a>>, Memory>
-    requires there { All (IsLine source.now) lines.now }
+    requires there { All (HasLine source.now) lines.now }
     ensures { IfOk result (λ objects. objects_shown objects.items ≡ object_texts (lines_at source.now lines.now)) }
 {
     let mut made = Vec::new(alloc);

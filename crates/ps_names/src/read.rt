@@ -1,10 +1,8 @@
 //! Reading the names of a game.
 
-ghost use Rattle.std.specs.Prelude.{◌≡◌, ◌≤◌, ◌+◌, ◌-◌, IfOk, OnOk, IfErr, length, Some, []};
-ghost use Rattle.ps_model.specs.declared.faults.Fault.{Fault as TheFault};
-ghost use Rattle.ps_model.specs.text.Faults.{first_fault};
-ghost use Rattle.ps_model.specs.text.LineNumbers.{lines_between};
-ghost use Rattle.ps_model.specs.text.Lines.{lines_of};
+ghost use Rattle.std.specs.Prelude.{◌≤◌, ◌-◌, IfOk, length};
+ghost use Rattle.ps_model.specs.text.LineNumbers.{HasLines, lines_between};
+ghost use Rattle.ps_model.specs.text.Reads.{Reads};
 ghost use Rattle.ps_model.specs.names.NameBounds.{AreBounded};
 ghost use Rattle.ps_model.specs.names.NameFaults.{name_faults, faults_of_sections};
 ghost use Rattle.ps_model.specs.names.NamesRead.{names_read, names_of, sections_of};
@@ -30,9 +28,10 @@ fn names_of_sections(
     layer_lines: &[WrittenLine<'_>],
 ) -> Result<Names, Refusal>
     requires few { length legend_lines.now ≤ 4294967295 }
-    ensures part { IfOk result (λ names. names ≡ names_of (sections_of (objects_shown objects.now) (lines_shown legend_lines.now) (lines_shown layer_lines.now))) }
-    ensures fine { OnOk result (faults_of_sections header (sections_of (objects_shown objects.now) (lines_shown legend_lines.now) (lines_shown layer_lines.now)) ≡ []) }
-    ensures refused { IfErr result (λ e. (fault : TheFault) → e ≡ Refusal.Refused fault → first_fault (faults_of_sections header (sections_of (objects_shown objects.now) (lines_shown legend_lines.now) (lines_shown layer_lines.now))) ≡ Some fault) }
+    ensures { Reads result
+        (names_of (sections_of (objects_shown objects.now) (lines_shown legend_lines.now) (lines_shown layer_lines.now)))
+        (faults_of_sections header
+        (sections_of (objects_shown objects.now) (lines_shown legend_lines.now) (lines_shown layer_lines.now))) }
 {
     let declared = declare_names(alloc, objects, legend_lines)?;
     let legend = declared.legend;
@@ -41,11 +40,15 @@ fn names_of_sections(
     let layers = layer_numbers(alloc, &layering.places)?;
     refuse(fault_of_whole(header, objects, &layering.places, &legend, &table, &layers))?;
     let glyphs = table.glyphs(alloc)?;
+    let players = table.objects_named(alloc, "player")?;
+    let backgrounds = table.objects_named(alloc, "background")?;
     Ok(Names {
         table,
         layers,
         layer_count: layering.count,
         glyphs,
+        players,
+        backgrounds,
     })
 }
 
@@ -60,18 +63,16 @@ pub fn read_names(
     legend: Range<u32>,
     layers: Range<u32>,
 ) -> Result<Names, Refusal>
-    requires objects_from_one { 1 ≤ objects.start }
-    requires objects_ordered { objects.start ≤ objects.end }
-    requires objects_there { objects.end ≤ length (lines_of source.now) + 1 }
-    requires legend_from_one { 1 ≤ legend.start }
-    requires legend_ordered { legend.start ≤ legend.end }
-    requires legend_there { legend.end ≤ length (lines_of source.now) + 1 }
-    requires layers_from_one { 1 ≤ layers.start }
-    requires layers_ordered { layers.start ≤ layers.end }
-    requires layers_there { layers.end ≤ length (lines_of source.now) + 1 }
-    ensures part { IfOk result (λ names. names ≡ names_read (lines_between source.now objects.start objects.end) (lines_between source.now legend.start legend.end) (lines_between source.now layers.start layers.end)) }
-    ensures fine { OnOk result (name_faults (objects.start - 1) (lines_between source.now objects.start objects.end) (lines_between source.now legend.start legend.end) (lines_between source.now layers.start layers.end) ≡ []) }
-    ensures refused { IfErr result (λ e. (fault : TheFault) → e ≡ Refusal.Refused fault → first_fault (name_faults (objects.start - 1) (lines_between source.now objects.start objects.end) (lines_between source.now legend.start legend.end) (lines_between source.now layers.start layers.end)) ≡ Some fault) }
+    requires objects { HasLines source.now objects.start objects.end }
+    requires legend { HasLines source.now legend.start legend.end }
+    requires layers { HasLines source.now layers.start layers.end }
+    ensures reads { Reads result
+        (names_read (lines_between source.now objects.start objects.end)
+        (lines_between source.now legend.start legend.end)
+        (lines_between source.now layers.start layers.end))
+        (name_faults (objects.start - 1) (lines_between source.now objects.start objects.end)
+        (lines_between source.now legend.start legend.end)
+        (lines_between source.now layers.start layers.end)) }
     ensures facts { IfOk result (λ names. AreBounded names) }
 {
     let header = objects.start - 1;

@@ -6,6 +6,7 @@ ghost use Rattle.std.specs.Str.{bytes_eq};
 ghost use Rattle.std.specs.Map.{lookup};
 ghost use Rattle.ps_model.specs.text.Lines.{folded};
 ghost use Rattle.ps_model.specs.names.Meanings.{meaning_of_mention};
+ghost use Rattle.ps_model.specs.names.Names.{members_if};
 ghost use Rattle.ps_names.specs.Known.{mention_shown};
 ghost use Rattle.ps_names.specs.MeaningSteps.{meaning_shown_if, meanings_shown};
 ghost use Rattle.ps_names.specs.Shown.{meaning_shown};
@@ -15,10 +16,10 @@ ghost use Rattle.ps_names.specs.GlyphsShown.{glyph_shown, glyphs_shown};
 use crate::folding::{folds_to, is_folded};
 use crate::glyphs::{Glyph, make_glyph, push_glyph};
 use crate::known::Known;
-use crate::meaning::Meaning;
+use crate::meaning::{Meaning, members_of};
 use crate::mention::Mention;
 use crate::naming::meaning_at;
-use ps_model::Memory;
+use ps_model::{Memory, ObjectId};
 use std::alloc::Global;
 use std::marker::Model;
 
@@ -121,6 +122,14 @@ impl Table {
             }
         }
         None
+    }
+
+    /// The objects that a name as it is written speaks of; of a name that nothing declares, none.
+    pub fn objects_named(&self, alloc: Global, name: &str) -> Result<Vec<ObjectId>, Memory>
+        ensures { IfOk result (λ objects. objects.items ≡ members_if (lookup (bytes_eq (folded name.now)) (entries_with self.now))) }
+    {
+        let objects = Vec::from_slice(alloc, members_of(self.find(name)))?;
+        Ok(objects)
     }
 
     /// The glyph of the name of a place, if that is one.

@@ -17,7 +17,7 @@ ghost use Rattle.ps_names.specs.Wholes.{no_layers, lines_of_name, faults_of_line
 
 use crate::folding::folds_to;
 use crate::legend_names::LegendName;
-use crate::meaning::Meaning;
+use crate::meaning::{Meaning, members_of};
 use crate::naming::is_aggregate;
 use crate::objects::ObjectText;
 use crate::table::Table;
@@ -66,39 +66,32 @@ fn fault_at_name(legend: &[LegendName<'_>], name: &str, kind: FaultKind) -> Opti
     None
 }
 
-/// The layer of an object.
-fn layer_at(layers: &[u32], object: ObjectId) -> u32
+/// The layer of an object; 0 for a number that no object has.
+pub fn layer_at(layers: &[u32], object: ObjectId) -> u32
     ensures { result ≡ slice_index_or layers.now object.0 0 }
 {
-    let at = object.0 as usize;
-    if at >= layers.len() {
-        return 0;
+    match layers.get(object.0 as usize) {
+        Some(layer) => *layer,
+        None => 0,
     }
-    layers[at]
 }
 
 /// Whether all of the objects lie on that layer.
 fn are_all_on(layers: &[u32], layer: u32, objects: &[ObjectId]) -> bool
     ensures { result ≡ list_all (nat_eq layer) (layers_among layers.now objects.now) }
 {
-    for object in objects {
-        if layer_at(layers, *object) != layer {
-            return false;
-        }
-    }
-    true
+    objects
+        .iter()
+        .all(|object| layer_at(layers, *object) == layer)
 }
 
 /// Whether one of the objects lies on that layer.
 fn is_some_on(layers: &[u32], layer: u32, objects: &[ObjectId]) -> bool
     ensures { result ≡ list_any (nat_eq layer) (layers_among layers.now objects.now) }
 {
-    for object in objects {
-        if layer_at(layers, *object) == layer {
-            return true;
-        }
-    }
-    false
+    objects
+        .iter()
+        .any(|object| layer_at(layers, *object) == layer)
 }
 
 /// Whether the objects lie on several layers.
@@ -129,12 +122,7 @@ fn repeat(layers: &[u32], objects: &[ObjectId]) -> bool
 fn is_bad_background(layers: &[u32], meaning: Option<&Meaning>) -> bool
     ensures { result ≡ is_bad_background layers.now (option_map (λ m. meaning_shown m.now) meaning.entry) }
 {
-    match meaning {
-        None => false,
-        Some(Meaning::One(_)) => false,
-        Some(Meaning::All { .. }) => true,
-        Some(Meaning::Any { line: _, objects }) => differ(layers, objects.as_slice()),
-    }
+    is_aggregate(meaning) || differ(layers, members_of(meaning))
 }
 
 /// The first fault of `Background`, if it is a bad one.
@@ -167,20 +155,8 @@ fn shares_layer(layers: &[u32], joiner: Joiner, meaning: &Option<Meaning>) -> bo
 {
     match joiner {
         Joiner::Alone => false,
-        Joiner::And => repeats(layers, meaning),
+        Joiner::And => repeat(layers, members_of(meaning.as_ref())),
         Joiner::Or => false,
-    }
-}
-
-/// Whether two objects of a meaning lie on one layer.
-fn repeats(layers: &[u32], meaning: &Option<Meaning>) -> bool
-    ensures { result ≡ repeat (layers_among layers.now (members_if (option_map meaning_shown meaning.now))) }
-{
-    match meaning {
-        None => false,
-        Some(Meaning::One(_)) => false,
-        Some(Meaning::All { line: _, objects }) => repeat(layers, objects.as_slice()),
-        Some(Meaning::Any { line: _, objects }) => repeat(layers, objects.as_slice()),
     }
 }
 

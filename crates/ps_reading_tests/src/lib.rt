@@ -1,6 +1,8 @@
-//! Tests of the calls that read the sections of a game, in a crate of their own: a crate with tests is proved twice, and
-//! those that read are long to prove.
+//! Tests of what reads a text, by its public calls. They stand above the crates that they test, since a crate with tests
+//! is proved twice.
 #![tactic(auto)]
 
+#[cfg(test)]
+mod names;
 #[cfg(test)]
 mod rules;

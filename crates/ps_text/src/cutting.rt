@@ -3,8 +3,7 @@
 ghost use Rattle.std.specs.Prelude.{◌≡◌, ◌+◌, ◌≤◌, ◌<◌, length, map, slice_range, IfOk, IfSome, All};
 ghost use Rattle.std.specs.Str.{IsUtf8, IsCharBoundary};
 ghost use Rattle.ps_model.specs.declared.limits.TheConstants.{TEXT_LIMIT};
-ghost use Rattle.ps_model.specs.text.LineNumbers.{line_at};
-ghost use Rattle.ps_model.specs.text.Lines.{lines_of};
+ghost use Rattle.ps_model.specs.text.LineNumbers.{line_at, HasLine};
 ghost use Rattle.ps_model.specs.text.RuleWords.{words_under};
 ghost use Rattle.ps_text.specs.Places.{words_behind, words_found, IsWordPlace};
 ghost use Rattle.ps_text.specs.TakenPlaces.{IsTextPlace};
@@ -94,8 +93,7 @@ pub fn words<'a>(
     line: u32,
     cut: Cut,
 ) -> Result<Vec<Word<'a>>, Memory>
-    requires from_one { 1 ≤ line }
-    requires there { line ≤ length (lines_of source.now) }
+    requires { HasLine source.now line }
     ensures texts { IfOk result (λ words. map text_of words.items ≡ texts_under cut (line_at source.now line).bytes) }
     ensures hold { IfOk result (λ words. All (λ text. 0 < length text) (map text_of words.items)) }
     ensures spans { IfOk result (λ words. map span_of words.items ≡ map (span_at (line_at source.now line)) (words_under cut (line_at source.now line).bytes)) }

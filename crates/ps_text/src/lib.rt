@@ -22,6 +22,7 @@ pub use cutting::{Word, words};
 pub use lists::List;
 pub use naming::same_name;
 pub use ps_model::{Cut, Fault, FaultKind, Memory, Refusal, Section, Span};
+pub use regions::{blank_end, without_blank_ends};
 pub use sources::Source;
 pub use texts::Text;
 

@@ -5,6 +5,7 @@ ghost use Rattle.std.specs.List.{prefix_len};
 ghost use Rattle.std.specs.Str.{IsUtf8, IsCharBoundary};
 ghost use Rattle.ps_model.specs.text.Words.{is_blank};
 ghost use Rattle.ps_model.specs.text.Lines as lines;
+ghost use Rattle.ps_model.specs.text.Lines.{without_blank_end};
 ghost use Rattle.ps_text.specs.PlainLines.{IsPlain};
 ghost use Rattle.ps_text.specs.TakenPlaces.{IsTextPlace, start_of, trimmed_of, bytes_without, IsTrimmed};
 
@@ -65,10 +66,11 @@ pub fn text_region(section: Section, raw: &str, plain: &str) -> Option<Place>
     Some(Place { start, end })
 }
 
-/// Where what stands from `from` on ends, the blanks at the line's end left out.
-fn blank_end(line: &[u8], from: usize) -> usize
+/// Where what stands from `from` on ends, the blanks at the line's end left out. `from` is a place where the line may be cut; the
+/// answer is one too, from `from` to the line's end.
+pub fn blank_end(line: &[u8], from: usize) -> usize
     requires { IsCharBoundary line.now from }
-    ensures place { result ≡ from + length (lines.without_blank_end (drop from line.now)) }
+    ensures place { result ≡ from + length (without_blank_end (drop from line.now)) }
     ensures behind { from ≤ result }
     ensures cuttable { IsCharBoundary line.now result }
 {
@@ -80,6 +82,16 @@ fn blank_end(line: &[u8], from: usize) -> usize
         end -= 1;
     }
     from
+}
+
+/// A line without the blanks at its ends.
+pub fn without_blank_ends(line: &str) -> &str
+    ensures { result.now ≡ without_blank_end (drop (prefix_len is_blank line.now) line.now) }
+{
+    let bytes = line.as_bytes();
+    let start = past_parting(bytes, Cut::Plain, 0);
+    let end = blank_end(bytes, start);
+    &line[start..end]
 }
 
 /// The text of a region of a line, without the blanks at its ends.

@@ -4,7 +4,7 @@ ghost use Rattle.std.specs.Prelude.{◌≡◌, ◌+◌, ◌≤◌, length, optio
 ghost use Rattle.std.specs.Str.{IsUtf8};
 ghost use Rattle.ps_model.specs.declared.faults.Fault.{Fault as TheFault};
 ghost use Rattle.ps_model.specs.declared.limits.TheConstants.{TEXT_LIMIT};
-ghost use Rattle.ps_model.specs.text.LineNumbers.{line_at};
+ghost use Rattle.ps_model.specs.text.LineNumbers.{line_at, HasLine};
 ghost use Rattle.ps_model.specs.text.Lines.{lines_of, is_blank_line};
 ghost use Rattle.ps_model.specs.text.TextFaults.{text_fault, line_of_place};
 ghost use Rattle.ps_text.specs.Rows.{shown, IsRow};
@@ -70,7 +70,7 @@ fn checked(bytes: &[u8]) -> Result<&str, Fault>
 impl Source {
     /// Reads a text: keeps its bytes, and makes the table of its lines, in time linear in the text.
     ///
-    /// `Refused` with `TooLong` at line 1 if there are more than 1,048,576 bytes; else with `NotUtf8` if they aren't UTF-8,
+    /// `Refused` with `TooLong` at line 1 if there are more than `TEXT_LIMIT` bytes; else with `NotUtf8` if they aren't UTF-8,
     /// at the line of the first byte that belongs to no whole character; lines are counted from 1, by line feeds.
     /// `Memory` if there is no room for two copies of the text and the table.
     pub fn read(alloc: Global, bytes: &[u8]) -> Result<Source, Refusal>
@@ -89,8 +89,7 @@ impl Source {
 
     /// The row of a line.
     pub(crate) fn row(&self, line: u32) -> &Row
-        requires from_one { 1 ≤ line }
-        requires there { line ≤ length (lines_of self.now) }
+        requires { HasLine self.now line }
         ensures line { shown self.now result.now ≡ line_at self.now line }
         ensures row { IsRow self.now result.now }
         ensures short { length self.now ≤ TEXT_LIMIT }
@@ -110,8 +109,7 @@ impl Source {
     /// Whether the line, from 1 to `lines()`, is there: a line that lies in a comment and has only blanks besides is read past, and
     /// so is a line made of `=` and blanks alone.
     pub fn is_there(&self, line: u32) -> bool
-        requires from_one { 1 ≤ line }
-        requires there { line ≤ length (lines_of self.now) }
+        requires { HasLine self.now line }
         ensures { result ≡ (line_at self.now line).is_there }
     {
         self.row(line).is_there
@@ -119,8 +117,7 @@ impl Source {
 
     /// Whether the line, from 1 to `lines()`, has no word.
     pub fn is_blank_line(&self, line: u32) -> bool
-        requires from_one { 1 ≤ line }
-        requires there { line ≤ length (lines_of self.now) }
+        requires { HasLine self.now line }
         ensures { result ≡ is_blank_line (line_at self.now line) }
     {
         is_blank_text(self.visible(line).as_bytes())
@@ -128,8 +125,7 @@ impl Source {
 
     /// The section that the line, from 1 to `lines()`, stands in: that of the last header at or above it, or else the prelude.
     pub fn section(&self, line: u32) -> Section
-        requires from_one { 1 ≤ line }
-        requires there { line ≤ length (lines_of self.now) }
+        requires { HasLine self.now line }
         ensures { result ≡ (line_at self.now line).section }
     {
         self.row(line).section
@@ -137,8 +133,7 @@ impl Source {
 
     /// Whether the line, from 1 to `lines()`, is a header: one word, and that the name of a section in either case.
     pub fn is_header(&self, line: u32) -> bool
-        requires from_one { 1 ≤ line }
-        requires there { line ≤ length (lines_of self.now) }
+        requires { HasLine self.now line }
         ensures { result ≡ (line_at self.now line).is_header }
     {
         self.row(line).is_header
@@ -149,8 +144,7 @@ impl Source {
     /// `message` as the first word of a line of LEVELS; and behind the first `message` behind the `->` of a line of RULES. It may
     /// be empty.
     pub fn rest(&self, line: u32) -> Option<Word<'_>>
-        requires from_one { 1 ≤ line }
-        requires there { line ≤ length (lines_of self.now) }
+        requires { HasLine self.now line }
         ensures taken { option_map taken_of result ≡ (line_at self.now line).taken }
         ensures line { IfSome result (λ word. word.span.line ≡ line) }
         ensures text { IfSome result (IsSliceOf self.now) }
@@ -167,8 +161,7 @@ impl Source {
 
     /// The bytes of the line, from 1 to `lines()`, with blanks in place of comments and of a text that is taken as it stands.
     pub fn visible(&self, line: u32) -> &str
-        requires from_one { 1 ≤ line }
-        requires there { line ≤ length (lines_of self.now) }
+        requires { HasLine self.now line }
         ensures { result.now ≡ (line_at self.now line).bytes }
     {
         self.row(line).visible.as_str()

@@ -7,8 +7,39 @@ use std::process::Abort;
 use std::test::Fail;
 
 /// A small game: 32 lines, the sections of nine objects on four layers, and one level.
-const GAME: &str =
-    "title T\nOBJECTS\nBackground .\ngreen\nWall #\nbrown\nPlayer P\nwhite\nCrate *\norange\nTarget O\nblue\nA\nred\nB\npink\nC\ngray\nD\nblack\nLEGEND\n@ = Crate and Target\nAT = A or Target\nCOLLISIONLAYERS\nBackground\nTarget\nPlayer, Wall, Crate\nA B C D\nRULES\nWINCONDITIONS\nLEVELS\nP..\n";
+const GAME: &str = "title T
+OBJECTS
+Background .
+green
+Wall #
+brown
+Player P
+white
+Crate *
+orange
+Target O
+blue
+A
+red
+B
+pink
+C
+gray
+D
+black
+LEGEND
+@ = Crate and Target
+AT = A or Target
+COLLISIONLAYERS
+Background
+Target
+Player, Wall, Crate
+A B C D
+RULES
+WINCONDITIONS
+LEVELS
+P..
+";
 
 fn expect_texts(rt: &impl Abort, words: &[Word], wanted: &[&str]) {
     assert_eq!(rt; words.len(), wanted.len());

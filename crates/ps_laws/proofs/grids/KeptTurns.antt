@@ -8,9 +8,9 @@ use Rattle.ps_model.specs.declared.pieces.Slot.{Slot}
 use Rattle.ps_model.specs.declared.pieces.Slot.TheVariants.{Bare, Holds}
 use Rattle.ps_model.specs.declared.play.Input.{Input}
 use Rattle.ps_model.specs.declared.rules.Part.TheVariants.{Plain, Late}
-use Rattle.ps_model.specs.names.Names.{Names}
+use Rattle.ps_model.specs.names.Names.{Names, players}
 use Rattle.ps_model.specs.board.Grid.{Grid, slot_at_rest, at_rest}
-use Rattle.ps_model.specs.board.Inputs.{slot_with_motion, players, motion_of, with_input}
+use Rattle.ps_model.specs.board.Inputs.{slot_with_motion, motion_of, with_input}
 use Rattle.ps_model.specs.rules.SourceRules.{no_commands}
 use Rattle.ps_model.specs.board.Attempts.{State}
 use Rattle.ps_model.specs.board.Programs.{program_run}

@@ -1,5 +1,5 @@
 -- What an input does before the rules of a turn: all motions are none, and then every object of Player gets the key's motion.
-use Rattle.std.specs.Prelude.{if◌then◌else◌, List, map, codes}
+use Rattle.std.specs.Prelude.{if◌then◌else◌, List, map}
 use Rattle.ps_model.specs.declared.pieces.Direction.TheVariants.{Up as Upwards, Down as Downwards, Left as Leftwards, Right as Rightwards}
 use Rattle.ps_model.specs.declared.pieces.Motion.{Motion}
 use Rattle.ps_model.specs.declared.pieces.Motion.TheVariants.{Still, Going, Acting}
@@ -8,7 +8,7 @@ use Rattle.ps_model.specs.declared.pieces.Slot.{Slot}
 use Rattle.ps_model.specs.declared.pieces.Slot.TheVariants.{Bare, Holds}
 use Rattle.ps_model.specs.declared.play.Input.{Input}
 use Rattle.ps_model.specs.declared.play.Input.TheVariants.{Up, Down, Left, Right, Action}
-use Rattle.ps_model.specs.names.Names.{Names, is_among, members_named}
+use Rattle.ps_model.specs.names.Names.{Names, is_among, players}
 use Rattle.ps_model.specs.board.Grid.{Grid}
 
 -- the motion that an input gives
@@ -18,10 +18,6 @@ motion_of Down = Going Downwards
 motion_of Left = Going Leftwards
 motion_of Right = Going Rightwards
 motion_of Action = Acting
-
--- the objects of Player
-abbrev pub players : Names → List ObjectId
-players names = members_named names (codes "player")
 
 -- a slot whose object, if it is one of these, has the motion, and else is at rest
 abbrev pub slot_with_motion : List ObjectId → Motion → Slot → Slot

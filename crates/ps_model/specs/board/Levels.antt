@@ -1,6 +1,6 @@
 -- A level: for each cell, in columns from the left and each column from the top, the objects that its character shows; and
 -- the grid that it is loaded as.
-use Rattle.std.specs.Prelude.{ℕ, nat_eq, Bool, if◌then◌else◌, Option, Some, None, unwrap_or, List, [], ◌∷◌, ◌++◌, map, find, fold, replicate, slice_set, slice_index_or, codes}
+use Rattle.std.specs.Prelude.{ℕ, nat_eq, Bool, if◌then◌else◌, Option, Some, None, unwrap_or, List, [], ◌∷◌, ◌++◌, map, find, fold, replicate, slice_set, slice_index_or}
 use Rattle.std.specs.Prelude.{encode_utf8}
 use Rattle.std.specs.Char.{to_ascii_lowercase}
 use Rattle.std.specs.List.{list_any, flat_map}
@@ -10,7 +10,7 @@ use Rattle.ps_model.specs.declared.pieces.ObjectId.{ObjectId}
 use Rattle.ps_model.specs.declared.pieces.Motion.TheVariants.{Still}
 use Rattle.ps_model.specs.declared.pieces.Slot.{Slot}
 use Rattle.ps_model.specs.declared.pieces.Slot.TheVariants.{Bare, Holds}
-use Rattle.ps_model.specs.names.Names.{Meaning, One, AllOf, AnyOf, Names, layer_of, members_named}
+use Rattle.ps_model.specs.names.Names.{Meaning, One, AllOf, AnyOf, Names, layer_of, backgrounds}
 use Rattle.ps_model.specs.board.Grid.{Grid}
 
 -- a level: its sides, and the objects of each cell
@@ -32,7 +32,7 @@ objects_shown names character = shown_objects (lookup (bytes_eq (encode_utf8 (to
 
 -- the layer of the objects of Background
 abbrev pub background_layer : Names → ℕ
-background_layer names = layer_of names (slice_index_or (members_named names (codes "background")) 0 (record { 0 = 0 }))
+background_layer names = layer_of names (slice_index_or (backgrounds names) 0 (record { 0 = 0 }))
 
 -- the object lies on the layer of Background
 abbrev pub is_ground : Names → ObjectId → Bool
@@ -41,7 +41,7 @@ is_ground names object = nat_eq (layer_of names object) (background_layer names)
 -- the object for cells without one on the background layer: the first such object met in the level, else Background
 abbrev pub ground : Names → List (List ObjectId) → ObjectId
 ground names cells =
-    unwrap_or (find (is_ground names) (flat_map (λ objects. objects) cells)) (slice_index_or (members_named names (codes "background")) 0 (record { 0 = 0 }))
+    unwrap_or (find (is_ground names) (flat_map (λ objects. objects) cells)) (slice_index_or (backgrounds names) 0 (record { 0 = 0 }))
 
 -- a cell's objects, with one on the background layer
 abbrev pub with_ground : Names → ObjectId → List ObjectId → List ObjectId

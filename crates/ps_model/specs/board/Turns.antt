@@ -5,11 +5,11 @@ use Rattle.std.specs.List.{list_all, list_any, range_with_len}
 use Rattle.ps_model.specs.declared.pieces.Slot.{Slot}
 use Rattle.ps_model.specs.declared.play.Input.{Input}
 use Rattle.ps_model.specs.declared.rules.Part.TheVariants.{Plain, Late}
-use Rattle.ps_model.specs.names.Names.{Names, is_among}
+use Rattle.ps_model.specs.names.Names.{Names, is_among, players}
 use Rattle.ps_model.specs.board.Grid.{Grid, at_rest, cell_at, cell_count}
 use Rattle.ps_model.specs.board.Movement.{slid}
 use Rattle.ps_model.specs.session.Frames.{objects_in}
-use Rattle.ps_model.specs.board.Inputs.{players, with_input}
+use Rattle.ps_model.specs.board.Inputs.{with_input}
 use Rattle.ps_model.specs.rules.SourceRules.{Commands, no_commands}
 use Rattle.ps_model.specs.board.Attempts.{State, same_cell}
 use Rattle.ps_model.specs.board.Programs.{Section, program_run}

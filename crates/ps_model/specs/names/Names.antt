@@ -1,5 +1,5 @@
 -- Names: what each name of a game stands for, on which layer each object lies, and which characters show what in a level.
-use Rattle.std.specs.Prelude.{ℕ, nat_eq, Bool, Option, Some, None, List, [], ◌∷◌, length, slice_index_or}
+use Rattle.std.specs.Prelude.{ℕ, nat_eq, Bool, Option, Some, None, List, [], ◌∷◌, length, slice_index_or, codes}
 use Rattle.std.specs.List.{list_any}
 use Rattle.std.specs.Str.{bytes_eq}
 use Rattle.std.specs.Map.{lookup}
@@ -60,3 +60,11 @@ members_if (Some meaning) = members meaning
 -- the objects that a name speaks of; of no name, none
 abbrev pub members_named : Names → List ℕ → List ObjectId
 members_named names name = members_if (meaning_of names name)
+
+-- the objects of Player
+abbrev pub players : Names → List ObjectId
+players names = members_named names (codes "player")
+
+-- the objects of Background
+abbrev pub backgrounds : Names → List ObjectId
+backgrounds names = members_named names (codes "background")

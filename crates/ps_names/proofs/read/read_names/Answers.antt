@@ -18,8 +18,8 @@ same-sections : (objects objects' : List ObjectText) (legend legend' layers laye
     → sections_of objects legend layers ≡ sections_of objects' legend' layers'
 same-sections objects objects' legend legend' layers layers' o l y = rw (o, l, y) refl
 
-pub returns-in_err-names-clause-refused : goal.returns-in_err-names-clause-refused
-returns-in_err-names-clause-refused c =
+pub returns-in_err-names-clause-reads : goal.returns-in_err-names-clause-reads
+returns-in_err-names-clause-reads c =
     let text : List ℕ = c.args.source.now in
     let objects : objects_shown c.deref-4.result.now ≡ object_texts (lines_between text c.args.objects.start c.args.objects.end) =
     ap objects_shown c.deref-4.ensures.value ∙ c.in_ok-objects.ensures ∙ ap (λ (ns : List ℕ). object_texts (lines_at text ns)) c.deref.ensures.value ∙ ap object_texts c.in_ok-object_lines.ensures.lines in
@@ -33,11 +33,11 @@ returns-in_err-names-clause-refused c =
     let fault : Refusal = c.in_err-names.field-0.0 in
     let told : (f : TheFault) → fault ≡ Refused f → first_fault (name_faults (c.args.objects.start - 1) (lines_between text c.args.objects.start c.args.objects.end)
     (lines_between text c.args.legend.start c.args.legend.end) (lines_between text c.args.layers.start c.args.layers.end)) ≡ Some f =
-    λ f e. ap (λ (s : NameSections). first_fault (faults_of_sections (c.args.objects.start - 1) s)) (sym same) ∙ c.in_err-names.ensures.refused f e in
+    λ f e. ap (λ (s : NameSections). first_fault (faults_of_sections (c.args.objects.start - 1) s)) (sym same) ∙ c.in_err-names.ensures.1.1 f e in
     search (rules, told)
 
-pub returns-clause-part : goal.returns-clause-part
-returns-clause-part c =
+pub returns-clause-reads : goal.returns-clause-reads
+returns-clause-reads c =
     let text : List ℕ = c.args.source.now in
     let objects : objects_shown c.deref-4.result.now ≡ object_texts (lines_between text c.args.objects.start c.args.objects.end) =
     ap objects_shown c.deref-4.ensures.value ∙ c.in_ok-objects.ensures ∙ ap (λ (ns : List ℕ). object_texts (lines_at text ns)) c.deref.ensures.value ∙ ap object_texts c.in_ok-object_lines.ensures.lines in
@@ -47,19 +47,10 @@ returns-clause-part c =
     let layers : lines_shown c.deref-6.result.now ≡ written_lines Layers (lines_between text c.args.layers.start c.args.layers.end) =
     ap lines_shown c.deref-6.ensures.value ∙ c.in_ok-layers-2.ensures.lines ∙ ap (λ (ns : List ℕ). written_lines Layers (lines_at text ns)) c.deref-3.ensures.value
     ∙ ap (written_lines Layers) c.in_ok-layers.ensures.lines in
-    let same = same-sections _ _ _ _ _ _ objects legend layers in
-    c.in_ok-names.ensures.part ∙ ap names_of same
-
-pub returns-clause-fine : goal.returns-clause-fine
-returns-clause-fine c =
-    let text : List ℕ = c.args.source.now in
-    let objects : objects_shown c.deref-4.result.now ≡ object_texts (lines_between text c.args.objects.start c.args.objects.end) =
-    ap objects_shown c.deref-4.ensures.value ∙ c.in_ok-objects.ensures ∙ ap (λ (ns : List ℕ). object_texts (lines_at text ns)) c.deref.ensures.value ∙ ap object_texts c.in_ok-object_lines.ensures.lines in
-    let legend : lines_shown c.deref-5.result.now ≡ written_lines Legend (lines_between text c.args.legend.start c.args.legend.end) =
-    ap lines_shown c.deref-5.ensures.value ∙ c.in_ok-legend-2.ensures.lines ∙ ap (λ (ns : List ℕ). written_lines Legend (lines_at text ns)) c.deref-2.ensures.value
-    ∙ ap (written_lines Legend) c.in_ok-legend.ensures.lines in
-    let layers : lines_shown c.deref-6.result.now ≡ written_lines Layers (lines_between text c.args.layers.start c.args.layers.end) =
-    ap lines_shown c.deref-6.ensures.value ∙ c.in_ok-layers-2.ensures.lines ∙ ap (λ (ns : List ℕ). written_lines Layers (lines_at text ns)) c.deref-3.ensures.value
-    ∙ ap (written_lines Layers) c.in_ok-layers.ensures.lines in
-    let same = same-sections _ _ _ _ _ _ objects legend layers in
-    ap (faults_of_sections (c.args.objects.start - 1)) (sym same) ∙ c.in_ok-names.ensures.fine
+    let same = same-sections _ _ _ _ _ _ objects legend layers in (
+      c.in_ok-names.ensures.0 ∙ ap names_of same,
+      (
+        ap (faults_of_sections (c.args.objects.start - 1)) (sym same) ∙ c.in_ok-names.ensures.1.0,
+        tt,
+      ),
+    )

@@ -31,23 +31,23 @@ pub returns-in_err-declarations-clause-refused : goal.returns-in_err-declaration
 returns-in_err-declarations-clause-refused c =
     let objects : List ObjectText = objects_shown c.args.objects.now in
     let lines : List WrittenLine = lines_shown c.args.lines.now in
-    let forms = forms-of objects lines c.in_ok-known.known c.in_ok-known.ensures.part in
+    let forms = forms-of objects lines c.in_ok-known.known c.in_ok-known.ensures.reads.0 in
     let fault : Refusal = c.in_err-declarations.field-0.0 in
     let told : (f : TheFault) → fault ≡ Refused f → (others : List TheFault) → first_fault (declaring_faults objects lines others) ≡ Some f =
-    λ f e others. rw (c.in_ok-known.ensures.fine) (first-found (form_faults (folded_names objects) lines) _ f (ap first_fault forms ∙ c.in_err-declarations.ensures.refused f e)) in
+    λ f e others. rw (c.in_ok-known.ensures.reads.1.0) (first-found (form_faults (folded_names objects) lines) _ f (ap first_fault forms ∙ c.in_err-declarations.ensures.reads.1.1 f e)) in
     search (rules, told)
 
 pub returns-in_err-legend-clause-refused : goal.returns-in_err-legend-clause-refused
 returns-in_err-legend-clause-refused c =
     let objects : List ObjectText = objects_shown c.args.objects.now in
     let lines : List WrittenLine = lines_shown c.args.lines.now in
-    let forms = forms-of objects lines c.in_ok-known.known c.in_ok-known.ensures.part in
-    let none : form_faults (folded_names objects) lines ≡ [] = forms ∙ c.in_ok-declarations.ensures.fine in
-    let legend = legend-as objects lines c.in_ok-known.known c.declare_legend.new.known (declarations_shown c.deref.result.now) c.in_ok-known.ensures.part c.in_ok-declarations.ensures.known
-    (ap declarations_shown c.deref.ensures.value ∙ c.in_ok-declarations.ensures.part) in
+    let forms = forms-of objects lines c.in_ok-known.known c.in_ok-known.ensures.reads.0 in
+    let none : form_faults (folded_names objects) lines ≡ [] = forms ∙ c.in_ok-declarations.ensures.reads.1.0 in
+    let legend = legend-as objects lines c.in_ok-known.known c.declare_legend.new.known (declarations_shown c.deref.result.now) c.in_ok-known.ensures.reads.0 c.in_ok-declarations.ensures.known
+    (ap declarations_shown c.deref.ensures.value ∙ c.in_ok-declarations.ensures.reads.0) in
     let fault : Refusal = c.in_err-legend.field-0.0 in
     let told : (f : TheFault) → fault ≡ Refused f → (others : List TheFault) → first_fault (declaring_faults objects lines others) ≡ Some f =
-    λ f e others. rw (c.in_ok-known.ensures.fine, none) (
+    λ f e others. rw (c.in_ok-known.ensures.reads.1.0, none) (
     first-found (naming_faults (legend_of objects lines) (legend_meanings (legend_of objects lines))) others f
     (ap (λ (names : List LegendName). first_fault (naming_faults names (legend_meanings names))) (sym legend) ∙ c.in_err-legend.ensures.refused f e)
     ) in
@@ -56,22 +56,22 @@ returns-in_err-legend-clause-refused c =
 pub returns-clause-legend : goal.returns-clause-legend
 returns-clause-legend c =
     c.in_ok-legend.ensures.names
-    ∙ legend-as (objects_shown c.args.objects.now) (lines_shown c.args.lines.now) c.in_ok-known.known c.declare_legend.new.known (declarations_shown c.deref.result.now) c.in_ok-known.ensures.part
-    c.in_ok-declarations.ensures.known (ap declarations_shown c.deref.ensures.value ∙ c.in_ok-declarations.ensures.part)
+    ∙ legend-as (objects_shown c.args.objects.now) (lines_shown c.args.lines.now) c.in_ok-known.known c.declare_legend.new.known (declarations_shown c.deref.result.now) c.in_ok-known.ensures.reads.0
+    c.in_ok-declarations.ensures.known (ap declarations_shown c.deref.ensures.value ∙ c.in_ok-declarations.ensures.reads.0)
 
 pub returns-clause-meanings : goal.returns-clause-meanings
 returns-clause-meanings c =
     c.in_ok-legend.ensures.meanings
     ∙ ap legend_meanings (legend-as (objects_shown c.args.objects.now) (lines_shown c.args.lines.now) c.in_ok-known.known c.declare_legend.new.known (declarations_shown c.deref.result.now)
-    c.in_ok-known.ensures.part c.in_ok-declarations.ensures.known (ap declarations_shown c.deref.ensures.value ∙ c.in_ok-declarations.ensures.part))
+    c.in_ok-known.ensures.reads.0 c.in_ok-declarations.ensures.known (ap declarations_shown c.deref.ensures.value ∙ c.in_ok-declarations.ensures.reads.0))
 
 pub returns-clause-fine : goal.returns-clause-fine
 returns-clause-fine c = λ others.
     let objects : List ObjectText = objects_shown c.args.objects.now in
     let lines : List WrittenLine = lines_shown c.args.lines.now in
-    let none : form_faults (folded_names objects) lines ≡ [] = forms-of objects lines c.in_ok-known.known c.in_ok-known.ensures.part ∙ c.in_ok-declarations.ensures.fine in
-    let legend = legend-as objects lines c.in_ok-known.known c.declare_legend.new.known (declarations_shown c.deref.result.now) c.in_ok-known.ensures.part c.in_ok-declarations.ensures.known
-    (ap declarations_shown c.deref.ensures.value ∙ c.in_ok-declarations.ensures.part) in
+    let none : form_faults (folded_names objects) lines ≡ [] = forms-of objects lines c.in_ok-known.known c.in_ok-known.ensures.reads.0 ∙ c.in_ok-declarations.ensures.reads.1.0 in
+    let legend = legend-as objects lines c.in_ok-known.known c.declare_legend.new.known (declarations_shown c.deref.result.now) c.in_ok-known.ensures.reads.0 c.in_ok-declarations.ensures.known
+    (ap declarations_shown c.deref.ensures.value ∙ c.in_ok-declarations.ensures.reads.0) in
     let naming : naming_faults (legend_of objects lines) (legend_meanings (legend_of objects lines)) ≡ [] =
     ap (λ (names : List LegendName). naming_faults names (legend_meanings names)) (sym legend) ∙ c.in_ok-legend.ensures.fine in
-    rw (c.in_ok-known.ensures.fine, none, naming) refl
+    rw (c.in_ok-known.ensures.reads.1.0, none, naming) refl

@@ -8,7 +8,7 @@ use Rattle.ps_text.proofs.Numbers.{number_of_line}
 use Rattle.ps_text.proofs.sources.Source.rest.Goals as goal
 
 pub returns-clause-line : goal.returns-clause-line
-returns-clause-line c = c.word_at.ensures.line ∙ ap (λ (line : Line). line.number) c.row-row.ensures.line ∙ number_of_line c.args.self.now c.args.line c.requires.from_one c.requires.there
+returns-clause-line c = c.word_at.ensures.line ∙ ap (λ (line : Line). line.number) c.row-row.ensures.line ∙ number_of_line c.args.self.now c.args.line c.requires.0 c.requires.1
 
 pub returns-clause-text : goal.returns-clause-text
 returns-clause-text c =

@@ -1,14 +1,41 @@
 //! Names of a game of nine objects on four layers, what legends say, and texts that are refused, each with its line.
 
-use crate::{FaultKind, Glyph, Meaning, Names, ObjectId, read_names};
-use ps_model::Refusal;
-use ps_text::{List, Source};
+use ps_model::{FaultKind, ObjectId, Refusal};
+use ps_names::{Glyph, Meaning, Names, read_names};
+use ps_text::Source;
 use std::alloc::Global;
 use std::ops::Range;
 
 /// The sections OBJECTS, LEGEND and COLLISIONLAYERS stand below lines 2, 21 and 24.
-const GAME: &str =
-    "title T\nOBJECTS\nBackground .\ngreen\nWall #\nbrown\nPlayer P\nwhite\nCrate *\norange\nTarget O\nblue\nA\nred\nB\npink\nC\ngray\nD\nblack\nLEGEND\n@ = Crate and Target\nAT = A or Target\nCOLLISIONLAYERS\nBackground\nTarget\nPlayer, Wall, Crate\nA B C D\n";
+const GAME: &str = "title T
+OBJECTS
+Background .
+green
+Wall #
+brown
+Player P
+white
+Crate *
+orange
+Target O
+blue
+A
+red
+B
+pink
+C
+gray
+D
+black
+LEGEND
+@ = Crate and Target
+AT = A or Target
+COLLISIONLAYERS
+Background
+Target
+Player, Wall, Crate
+A B C D
+";
 
 /// Five objects, in eleven lines with their header.
 const FIVE: &str = "OBJECTS\nBackground\nx\nPlayer\nx\nA\nx\nB #\nx\nC\nx\n";
@@ -95,10 +122,9 @@ fn is_refused(read: Option<Result<Names, Refusal>>, kind: FaultKind, line: u32) 
 }
 
 /// Whether the objects have these numbers.
-fn numbers(objects: &List<ObjectId>, wanted: &[u32]) -> bool {
-    objects.as_slice().len() == wanted.len()
+fn numbers(objects: &[ObjectId], wanted: &[u32]) -> bool {
+    objects.len() == wanted.len()
         && objects
-            .as_slice()
             .iter()
             .zip(wanted)
             .all(|(object, number)| object.0 == *number)
@@ -107,7 +133,8 @@ fn numbers(objects: &List<ObjectId>, wanted: &[u32]) -> bool {
 /// Whether the name stands for any of these objects, as that line declares.
 fn is_any(names: &Names, name: &str, number: u32, wanted: &[u32]) -> bool {
     match names.meaning(name) {
-        Some(Meaning::Any { line, objects }) => *line == number && numbers(objects, wanted),
+        Some(Meaning::Any { line, objects }) => *line == number
+            && numbers(objects.as_slice(), wanted),
         _ => false,
     }
 }
@@ -139,13 +166,36 @@ fn reads_the_names_of_a_game(rt: HostRuntime) {
     };
     assert!(rt;
         match copy {
-            Meaning::All { line, objects } => line == 22 && numbers(&objects, &[3, 4]),
+            Meaning::All { line, objects } => line == 22 && numbers(objects.as_slice(), &[3, 4]),
             _ => false,
         }
     );
     assert!(rt; names.meaning("x").is_none());
-    assert!(rt; names.object_count() > 1 && names.layer_of(ObjectId(1)).0 == 2);
+    assert_eq!(rt; names.layer_of(ObjectId(1)).0, 2);
+    assert_eq!(rt; names.layer_of(ObjectId(9)).0, 0);
+    assert!(rt; numbers(names.players(), &[2]));
+    assert!(rt; numbers(names.backgrounds(), &[0]));
     assert!(rt; characters(names.glyphs(), ".#P*OABCD@"));
+}
+
+#[test]
+fn tells_what_meanings_speak_of(rt: HostRuntime) {
+    let Some(Ok(names)) = read(rt.alloc(), GAME, 3..21, 22..24, 25..29) else {
+        panic!(rt; "the names aren't read");
+    };
+    let (Some(object), Some(aggregate), Some(property)) = (
+        names.meaning("#"),
+        names.meaning("@"),
+        names.meaning("at"),
+    ) else {
+        panic!(rt; "a name isn't declared");
+    };
+    assert!(rt; numbers(object.members(), &[1]));
+    assert!(rt; !object.is_aggregate() && !object.is_property());
+    assert!(rt; numbers(aggregate.members(), &[3, 4]));
+    assert!(rt; aggregate.is_aggregate() && !aggregate.is_property());
+    assert!(rt; numbers(property.members(), &[5, 4]));
+    assert!(rt; property.is_property() && !property.is_aggregate());
 }
 
 #[test]
@@ -182,7 +232,7 @@ fn an_object_lies_on_the_last_layer_that_names_it(rt: HostRuntime) {
     let Some(Ok(names)) = read_text(rt.alloc(), text.as_str()) else {
         panic!(rt; "the names aren't read");
     };
-    assert!(rt; names.object_count() > 2 && names.layer_of(ObjectId(2)).0 == 2);
+    assert_eq!(rt; names.layer_of(ObjectId(2)).0, 2);
 }
 
 #[test]
@@ -486,7 +536,7 @@ fn reads_thirty_two_layers_and_no_more(rt: HostRuntime) {
         panic!(rt; "the names aren't read");
     };
     assert_eq!(rt; names.layer_count(), 32);
-    assert!(rt; names.object_count() > 4 && names.layer_of(ObjectId(4)).0 == 31);
+    assert_eq!(rt; names.layer_of(ObjectId(4)).0, 31);
     let Some(text) = further_layers(rt.alloc(), 28) else {
         panic!(rt; "no room");
     };
