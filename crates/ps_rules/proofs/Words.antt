@@ -17,9 +17,9 @@ pub any-flat_map : {A B : Type 0} (p : B → Bool) (f : A → List B) (xs : List
 any-flat_map p f [] = refl
 any-flat_map p f (x ∷ xs) = list_any-append p (f x) (flat_map f xs) ∙ ap (λ b. list_any p (f x) || b) (any-flat_map p f xs)
 
-pub any-in-cells : (kind : Symbol → Bool) (side : WrittenSide) → list_any (λ row. list_any (has_kind kind) row.cells) side.rows ≡ has_kind kind (words_in_cells side)
-any-in-cells kind side =
-    sym (any-flat_map (has_kind kind) (λ row. row.cells) side.rows) ∙ sym (any-flat_map (λ token. kind token.symbol) (λ words. words) (cells_of_side side))
+pub any_in_cells : (kind : Symbol → Bool) (side : WrittenSide) → list_any (λ row. list_any (has_kind kind) row.cells) side.rows ≡ has_kind kind (words_in_cells side)
+any_in_cells kind side =
+    sym (any-flat_map (has_kind kind) (λ row. row.cells) side.rows) ∙ sym (any-flat_map (λ token. kind token.symbol) (λ words. words) (cells_in side))
 
 pub has_kind_append : (kind : Symbol → Bool) (xs ys : List Token) → has_kind kind (xs ++ ys) ≡ (has_kind kind xs || has_kind kind ys)
 has_kind_append kind xs ys = list_any-append (λ token. kind token.symbol) xs ys

@@ -15,6 +15,7 @@ use crate::kinds::{Kind, has_kind};
 use crate::shapes::{RuleShape, WrittenSide};
 use crate::sides::has_rows;
 use crate::symbols::Token;
+use ps_model::ELLIPSIS_LIMIT;
 
 /// Whether one of the cells has an ellipsis with other items.
 fn some_mixes(cells: &[&[Token<'_>]]) -> bool
@@ -38,17 +39,17 @@ fn ends_in_ellipsis(cells: &[&[Token<'_>]]) -> bool
     has_kind(Kind::Ellipsis, cells[0]) || has_kind(Kind::Ellipsis, cells[cells.len() - 1])
 }
 
-/// Whether more cells have an ellipsis than may: one.
+/// Whether more cells have an ellipsis than may: `ELLIPSIS_LIMIT`.
 fn has_many(cells: &[&[Token<'_>]]) -> bool
     ensures { result ≡ has_many_ellipses (parts_shown cells.now) }
 {
-    let mut found = false;
+    let mut found = 0;
     for cell in cells {
         if has_kind(Kind::Ellipsis, cell) {
-            if found {
+            if found == ELLIPSIS_LIMIT {
                 return true;
             }
-            found = true;
+            found += 1;
         }
     }
     false

@@ -1,36 +1,22 @@
 //! Which properties a rule keeps loose.
 
-ghost use Rattle.std.specs.Prelude.{◌≡◌};
+ghost use Rattle.std.specs.Prelude.{◌≡◌, nat_eq};
 ghost use Rattle.std.specs.List.{list_all};
 ghost use Rattle.ps_model.specs.names.Names.{layer_of};
 ghost use Rattle.ps_model.specs.meaning.Occurrences.{are_on_one_layer, is_loose, is_fixed};
-ghost use Rattle.std.specs.Prelude.{nat_eq};
 ghost use Rattle.ps_names.specs.Shown.{meaning_shown};
 
 use crate::occurrences::Occurrences;
-use ps_model::ObjectId;
+use ps_model::{LayerId, ObjectId};
 use ps_names::{Meaning, Names};
 
-/// The layer of an object, by its number.
-fn layer_at(names: &Names, object: ObjectId) -> u32
-    ensures { result ≡ layer_of names.now object }
-{
-    if object.0 >= names.object_count() {
-        return 0;
-    }
-    names.layer_of(object).0
-}
-
 /// Whether each of the objects lies on that layer.
-fn are_on_layer(names: &Names, objects: &[ObjectId], layer: u32) -> bool
-    ensures { result ≡ list_all (λ object. nat_eq (layer_of names.now object) layer) objects.now }
+fn are_on_layer(names: &Names, objects: &[ObjectId], layer: LayerId) -> bool
+    ensures { result ≡ list_all (λ object. nat_eq (layer_of names.now object) layer.0) objects.now }
 {
-    for object in objects {
-        if layer_at(names, *object) != layer {
-            return false;
-        }
-    }
-    true
+    objects
+        .iter()
+        .all(|object| names.layer_of(*object).0 == layer.0)
 }
 
 /// Whether the objects lie on one layer.
@@ -40,7 +26,7 @@ fn are_on_one_layer(names: &Names, objects: &[ObjectId]) -> bool
     let Some((first, others)) = objects.split_first() else {
         return true;
     };
-    are_on_layer(names, others, layer_at(names, *first))
+    are_on_layer(names, others, names.layer_of(*first))
 }
 
 impl<'r> Occurrences<'r> {

@@ -113,22 +113,14 @@ fn some_unbound(occurrences: &Occurrences<'_>, cell: &CellPair) -> bool
     false
 }
 
-/// Whether no left occurrence decides an item on the right of one of the cells.
-fn cells_unbound(occurrences: &Occurrences<'_>, cells: &[&CellPair]) -> bool
-    ensures { result
-        ≡ list_any (λ cell. list_any (is_unbound occurrences.now cell) cell.right) (cell_list_shown cells.now) }
+/// Whether no left occurrence decides a property, or a word of several moves, on the right of one of the rule's cells.
+pub fn has_unbound(occurrences: &Occurrences<'_>) -> bool
+    ensures { result ≡ has_unbound occurrences.now }
 {
-    for cell in cells {
+    for cell in occurrences.cells() {
         if some_unbound(occurrences, cell) {
             return true;
         }
     }
     false
-}
-
-/// Whether no left occurrence decides a property, or a word of several moves, on the right of one of the rule's cells.
-pub fn has_unbound(occurrences: &Occurrences<'_>) -> bool
-    ensures { result ≡ has_unbound occurrences.now }
-{
-    cells_unbound(occurrences, occurrences.cells())
 }

@@ -10,7 +10,7 @@ ghost use Rattle.ps_rules.specs.ShapesShown.{side_shown, rows_shown};
 ghost use Rattle.ps_rules.specs.SymbolsShown.{symbol_shown, tokens_shown};
 
 use crate::kinds::{Kind, has_kind};
-use crate::shapes::{WrittenRow, WrittenSide};
+use crate::shapes::WrittenSide;
 use crate::symbols::{Symbol, Token};
 
 /// Whether the side has rows.
@@ -90,23 +90,16 @@ fn some_has_kind(kind: Kind, cells: &[&[Token<'_>]]) -> bool
     false
 }
 
-/// Whether a cell of one of the rows has a word of that kind.
-fn rows_have_kind(kind: Kind, rows: &[WrittenRow<'_, '_>]) -> bool
-    ensures { result ≡ list_any (λ row. list_any (has_kind (is_kind kind)) row.cells) (rows_shown rows.now) }
+/// Whether a cell has a word of that kind.
+pub fn has_in_cells(kind: Kind, side: &WrittenSide<'_, '_>) -> bool
+    ensures { result ≡ has_kind (is_kind kind) (words_in_cells (side_shown side.now)) }
 {
-    for row in rows {
+    for row in side.rows.as_slice() {
         if some_has_kind(kind, &row.cells) {
             return true;
         }
     }
     false
-}
-
-/// Whether a cell has a word of that kind.
-pub fn has_in_cells(kind: Kind, side: &WrittenSide<'_, '_>) -> bool
-    ensures { result ≡ has_kind (is_kind kind) (words_in_cells (side_shown side.now)) }
-{
-    rows_have_kind(kind, &side.rows)
 }
 
 /// Whether the word asks for a name: a movement word or `no`.
