@@ -19,7 +19,7 @@ any-flat_map p f (x ∷ xs) = list_any-append p (f x) (flat_map f xs) ∙ ap (λ
 
 pub any_in_cells : (kind : Symbol → Bool) (side : WrittenSide) → list_any (λ row. list_any (has_kind kind) row.cells) side.rows ≡ has_kind kind (words_in_cells side)
 any_in_cells kind side =
-    sym (any-flat_map (has_kind kind) (λ row. row.cells) side.rows) ∙ sym (any-flat_map (λ token. kind token.symbol) (λ words. words) (cells_in side))
+    sym (any-flat_map (has_kind kind) (λ row. row.cells) side.rows) ∙ sym (any-flat_map (λ token. kind token.symbol) (λ words. words) (cells_of_side side))
 
 pub has_kind_append : (kind : Symbol → Bool) (xs ys : List Token) → has_kind kind (xs ++ ys) ≡ (has_kind kind xs || has_kind kind ys)
 has_kind_append kind xs ys = list_any-append (λ token. kind token.symbol) xs ys
