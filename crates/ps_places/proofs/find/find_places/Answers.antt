@@ -1,0 +1,23 @@
+use Rattle.std.proofs.Common.{◌≡◌, ◌∙◌, ◌≤◌, ◌<◌, ◌++◌, Option, List, [], ℕ, None, length, map, take, sum, refl, sym, ap, arith, rules}
+use Rattle.std.proofs.lemmas.Grind.{common_steps}
+use Rattle.ps_model.specs.board.Grid.{Grid}
+use Rattle.ps_model.specs.board.Places.{places}
+use Rattle.ps_program.specs.declared.cells.CompiledCell.{CompiledCell}
+use Rattle.ps_places.specs.Stretches.{cells_of}
+use Rattle.ps_places.specs.RowCells.{all_cells}
+use Rattle.ps_places.specs.RowMeanings.{parts_meaning, part_sizes}
+use Rattle.ps_places.proofs.Closed.{places-past, all_cells-size}
+use Rattle.ps_places.proofs.find.find_places.Goals as goal
+
+pub search-requires-clause-size : goal.search-requires-clause-size
+search-requires-clause-size g c = sym c.in-Some.ensures.some.size
+
+pub search-requires-clause-whole : goal.search-requires-clause-whole
+search-requires-clause-whole g c = all_cells-size c.first_parts-parts.result.now c.first_parts-parts.ensures.few ∙ sym c.in-Some.ensures.some.size
+
+pub returns-in_default : goal.returns-in_default
+returns-in_default g c =
+    let same : c.first_parts-parts.result.now ≡ take 2 c.args.row.now = c.first_parts-parts.ensures.parts ∙ ap (take 2) c.as_slice.ensures in
+    ap (λ (parts : List (List CompiledCell)). places (g.B.Board.grid c.args.board.now) c.args.direction (parts_meaning (g.B.Board.table c.args.board.now) parts)) (sym same)
+    ∙ places-past (g.B.Board.grid c.args.board.now) (g.B.Board.table c.args.board.now) c.args.direction c.first_parts-parts.result.now c.in_default.ensures.grid c.first_parts-parts.ensures.few
+    (c.in_default.ensures.none refl)

@@ -1,0 +1,15 @@
+use Rattle.std.proofs.Common.{ℕ, ◌≡◌, ◌∙◌, ◌-◌, ◌%◌, map, ap}
+use Rattle.ps_places.specs.Stretches.{cells_of, gap_count}
+use Rattle.ps_places.specs.RowMeanings.{part_sizes, places_at, vertical_at}
+use Rattle.ps_places.proofs.Gathering.{one_more_list}
+use Rattle.ps_places.proofs.search.search_columns.Goals as goal
+
+pub loop-end-preserved : goal.loop-end-preserved
+loop-end-preserved g c =
+    let grid = g.B.Board.grid c.args.board.now in
+    let table = g.B.Board.table c.args.board.now in
+    let end : ℕ = c.loop-end.end in
+    one_more_list (vertical_at grid table c.args.parts.now c.args.shape) (map (cells_of c.args.shape) c.args.found.now.items) (map (cells_of c.args.shape) c.loop-end.found.items)
+    (map (cells_of c.args.shape) c.search_end.new.found.items) (places_at grid table c.args.parts.now c.args.shape end c.gaps-count.result) end c.loop-end.invariant c.in_ok-search_end.ensures
+    (ap (places_at grid table c.args.parts.now c.args.shape end)
+    (c.gaps-count.ensures.value ∙ ap (λ (h : ℕ). gap_count (part_sizes c.args.parts.now) (h - end % h)) c.size-width.ensures.height))

@@ -1,0 +1,4 @@
+pub mod Stretches
+pub mod RowMeanings
+pub mod Found
+pub mod RowCells

@@ -1,0 +1,15 @@
+//! Where the rows of compiled rules lie on a board.
+#![tactic(auto)]
+
+mod along;
+mod find;
+mod row_cells;
+mod row_places;
+mod search;
+mod shape;
+mod shape_cells;
+
+pub use along::{fits_place, rewrite_place};
+pub use find::find_places;
+pub use row_places::RowPlaces;
+pub use shape::{Place, Shape};
