@@ -1,5 +1,6 @@
 mod Bringing
 mod Objects
+mod OwnRooms
 mod Painting
 mod PartLoaded
 mod PlainGames

@@ -7,7 +7,7 @@ ghost use Rattle.ps_model.specs.board.Grid.{IsGrid, cell_at, cell_count};
 ghost use Rattle.ps_model.specs.names.Names.{layer_of, object_count};
 ghost use Rattle.ps_model.specs.board.Levels.{loaded};
 ghost use Rattle.ps_play.specs.Inputs.{grid_with_cell};
-ghost use Rattle.ps_play.specs.Playable.{IsPlayable};
+ghost use Rattle.ps_play.specs.Playable.{IsPlayable, HaveOwnRoom};
 
 use ps_board::Board;
 use ps_levels::Level;
@@ -21,9 +21,11 @@ fn fill_cell<B: Board>(board: &mut B, names: &Names, cell: u32, objects: &[Objec
     requires place { cell < cell_count (B.grid board.old) }
     requires layers { (B.grid board.old).layers ≡ names.now.layer_count }
     requires objects { All (λ object. object.0 < object_count names.now) objects.now }
-    ensures { B.grid board.new ≡ grid_with_cell (B.grid board.old) cell
+    requires room { HaveOwnRoom (B.table board.old) names.now }
+    ensures filled { B.grid board.new ≡ grid_with_cell (B.grid board.old) cell
         (fold (λ slots object. slice_set slots (layer_of names.now object) (Holds object Still))
         (cell_at (B.grid board.old) cell) objects.now) }
+    ensures table { B.table board.new ≡ B.table board.old }
 {
     for object in objects {
         board.put(cell, names.layer_of(*object), Some(*object), Motion::Still);
@@ -35,7 +37,13 @@ pub fn load<B: Board>(alloc: Global, names: &Names, level: &Level) -> Result<B, 
     requires { IsPlayable names.now level.now }
     ensures { IfOk result (λ board. B.grid board ≡ loaded names.now level.now) }
 {
-    let mut board = B::try_empty(alloc, level.width(), level.height(), names.layer_count())?;
+    let mut board = B::try_empty(
+        alloc,
+        level.width(),
+        level.height(),
+        names.layer_count(),
+        names.own_layers(),
+    )?;
     let cells = level.cells();
     for cell in 0..cells.len() {
         fill_cell(&mut board, names, cell as u32, cells[cell].as_slice());
