@@ -5,7 +5,6 @@ ghost use Rattle.std.specs.List.{list_any};
 ghost use Rattle.ps_game.specs.Possible.{claim_layer, is_side_apart, are_sides_apart};
 
 use crate::claims::Claim;
-use crate::layers::layer_at;
 use ps_model::ObjectId;
 use ps_names::Names;
 use ps_text::List;
@@ -17,7 +16,7 @@ fn claimed_layer(names: &Names, chosen: &[ObjectId], claim: Claim) -> u32
     match claim {
         Claim::Layer(layer) => layer,
         Claim::Chosen(place) => match chosen.get(place) {
-            Some(object) => layer_at(names, *object),
+            Some(object) => names.layer_of(*object).0,
             None => 0,
         },
     }

@@ -8,7 +8,6 @@ ghost use Rattle.ps_game.specs.Possible.{all_fixed_shown, chosen_claims, loose_c
 ghost use Rattle.ps_game.specs.Possible.{left_claims, right_claims, cell_sides, sides_of_cells};
 
 use crate::fixed::{Fixed, place_of};
-use crate::layers::layer_at;
 use ps_model::{Memory, ObjectId};
 use ps_names::{Meaning, Names};
 use ps_rules::{CellPair, Item, Occurrences};
@@ -29,7 +28,7 @@ fn push_layers(claims: &mut Vec<Claim>, names: &Names, objects: &[ObjectId]) -> 
     ensures { OnOk result (claims.new.items ≡ claims.old.items ++ layer_claims names.now objects.now) }
 {
     for object in objects {
-        claims.push(Claim::Layer(layer_at(names, *object)))?;
+        claims.push(Claim::Layer(names.layer_of(*object).0))?;
     }
     Ok(())
 }
@@ -41,7 +40,7 @@ fn push_loose(claims: &mut Vec<Claim>, names: &Names, objects: &[ObjectId]) -> R
     let Some((first, _)) = objects.split_first() else {
         return Ok(());
     };
-    claims.push(Claim::Layer(layer_at(names, *first)))?;
+    claims.push(Claim::Layer(names.layer_of(*first).0))?;
     Ok(())
 }
 
@@ -77,7 +76,7 @@ fn push_name(
 {
     match meaning {
         Meaning::One(object) => {
-            claims.push(Claim::Layer(layer_at(names, *object)))?;
+            claims.push(Claim::Layer(names.layer_of(*object).0))?;
             Ok(())
         }
         Meaning::All { line: _, objects } => push_layers(claims, names, objects.as_slice()),

@@ -12,7 +12,6 @@ mod fixed;
 mod game;
 mod headings;
 mod item_ways;
-mod layers;
 mod parts;
 mod possible;
 mod prelude;

@@ -8,12 +8,13 @@ use Rattle.std.proofs.lemmas.Grind.{common_steps}
 use Rattle.std.proofs.lemmas.List.Elements.{All-cons, All-map, All-append, All-head}
 use Rattle.std.proofs.lemmas.Map.Entries.{All-lookup}
 use Rattle.ps_model.specs.declared.pieces.ObjectId.{ObjectId}
-use Rattle.ps_model.specs.text.Lines.{Line, folded}
-use Rattle.ps_model.specs.names.Names.{Names, Meaning, One, AllOf, AnyOf, object_count, meaning_of, members_if, members_named}
+use Rattle.ps_model.specs.text.Lines.{Line}
+use Rattle.ps_model.specs.names.Names.{Names, Meaning, One, AllOf, AnyOf, object_count, backgrounds}
 use Rattle.ps_model.specs.names.NameBounds.{AreBounded, IsBelow}
 use Rattle.ps_model.specs.board.Levels.{is_ground, ground, with_ground, grounded}
 use Rattle.ps_model.specs.session.LevelFaults.{character_meaning}
 use Rattle.ps_model.specs.session.LevelLines.{characters_of, of_width, shown_in_level, row_cells, in_columns}
+use Rattle.ps_names.proofs.bounds.MembersBelow.{members_named_below}
 use Rattle.ps_levels.specs.Cells.{objects_of}
 use Rattle.ps_levels.specs.Sized.{AreBelow}
 
@@ -73,21 +74,15 @@ first_below : (count : ℕ) (objects : List ObjectId) (d : ObjectId) → AreBelo
 first_below count [] d all p = p
 first_below count (x ∷ xs) d all p = All-head (λ o. o.0 < count) x xs all
 
-members_below : (count : ℕ) (found : Option Meaning) → IfSome found (IsBelow count) → AreBelow count (members_if found)
-members_below count None b = none-below count
-members_below count (Some meaning) b = b
-
 abbrev zeroth : ObjectId
 zeroth = record { 0 = 0 }
 
-background_below : (names : Names) → AreBounded names → 1 ≤ object_count names → (slice_index_or (members_named names (codes "background")) 0 zeroth).0 < object_count names
-background_below names facts some =
-    first_below (object_count names) (members_named names (codes "background")) zeroth
-    (members_below (object_count names) (meaning_of names (codes "background")) (All-lookup (IsBelow (object_count names)) (bytes_eq (folded (codes "background"))) names.entries facts.names_below)) some
+background_below : (names : Names) → AreBounded names → 1 ≤ object_count names → (slice_index_or (backgrounds names) 0 zeroth).0 < object_count names
+background_below names facts some = first_below (object_count names) (backgrounds names) zeroth (members_named_below names facts (codes "background")) some
 
 ground_below : (names : Names) (cells : List (List ObjectId)) → AreBounded names → 1 ≤ object_count names → All (AreBelow (object_count names)) cells → (ground names cells).0 < object_count names
 ground_below names cells facts some all =
-    found_below (object_count names) (is_ground names) (flat_map (λ objects. objects) cells) (slice_index_or (members_named names (codes "background")) 0 zeroth)
+    found_below (object_count names) (is_ground names) (flat_map (λ objects. objects) cells) (slice_index_or (backgrounds names) 0 zeroth)
     (flat_below (object_count names) cells all) (background_below names facts some)
 
 with_by : (count : ℕ) (objects : List ObjectId) (filler : ObjectId) (test : Bool) → AreBelow count objects → filler.0 < count → AreBelow count (if test then objects else objects ++ filler ∷ [])

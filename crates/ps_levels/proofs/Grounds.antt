@@ -1,6 +1,6 @@
 -- The ground of a level.
 use Rattle.std.proofs.Common.{◌≡◌, ℕ, ◌+◌, ◌<◌, Bool, true, false, cond, ◌||◌, List, [], ◌∷◌, ◌++◌, length, Option, None, Some, refl, sym, ap, ◌∙◌, arith}
-use Rattle.std.specs.Prelude.{find, is_some, if◌then◌else◌, codes}
+use Rattle.std.specs.Prelude.{find, is_some, if◌then◌else◌}
 use Rattle.std.specs.List.{list_any}
 use Rattle.std.proofs.Common.{suc, get_or, drop}
 use Rattle.std.specs.Prelude.{unwrap_or, slice_index_or}
@@ -12,7 +12,7 @@ use Rattle.std.specs.Prelude.{nat_eq}
 use Rattle.std.proofs.Math.Seq.{drop-cons, take-suc}
 use Rattle.std.proofs.lemmas.Grind.{common_steps}
 use Rattle.std.proofs.lemmas.List.{map-append}
-use Rattle.ps_model.specs.names.Names.{layer_of, members_named}
+use Rattle.ps_model.specs.names.Names.{layer_of, backgrounds}
 use Rattle.ps_model.specs.board.Levels.{ground, grounded}
 use Rattle.std.proofs.lemmas.List.Folds.{find-append}
 use Rattle.ps_levels.specs.Cells.{cells_shown}
@@ -66,7 +66,7 @@ grown g cells i d made next item h m n e =
 taken : (cells : List (Bor (List ObjectId))) (n : ℕ) → length cells ≤ n → take n cells ≡ cells
 taken cells n h = grind (arith, common_steps)
 
-filler_is : (names : Names) (cells : List (List ObjectId)) (background filler : ObjectId) (layer : ℕ) → background ≡ slice_index_or (members_named names (codes "background")) 0 (let o : ObjectId = record { 0 = 0 } in o) → layer ≡ layer_of names background →
+filler_is : (names : Names) (cells : List (List ObjectId)) (background filler : ObjectId) (layer : ℕ) → background ≡ slice_index_or (backgrounds names) 0 (let o : ObjectId = record { 0 = 0 } in o) → layer ≡ layer_of names background →
     filler ≡ unwrap_or (find (λ object. nat_eq (layer_of names object) layer) (flat_map (λ objects. objects) cells)) background → filler ≡ ground names cells
 filler_is names cells background filler layer b l f =
     f ∙ ap (λ (n : ℕ). unwrap_or (find (λ object. nat_eq (layer_of names object) n) (flat_map (λ objects. objects) cells)) background) (l ∙ ap (layer_of names) b)
@@ -74,7 +74,7 @@ filler_is names cells background filler layer b l f =
 
 -- all cells
 pub grounds : (names : Names) (cells : List (Bor (List ObjectId))) (n : ℕ) (made : List (List ObjectId)) (background filler : ObjectId) (layer : ℕ) → length cells ≤ n →
-    background ≡ slice_index_or (members_named names (codes "background")) 0 (let o : ObjectId = record { 0 = 0 } in o) → layer ≡ layer_of names background →
+    background ≡ slice_index_or (backgrounds names) 0 (let o : ObjectId = record { 0 = 0 } in o) → layer ≡ layer_of names background →
     filler ≡ unwrap_or (find (λ object. nat_eq (layer_of names object) layer) (flat_map (λ objects. objects) (cells_shown cells))) background →
     made ≡ map (with_ground names filler) (cells_shown (take n cells)) → made ≡ grounded names (cells_shown cells)
 grounds names cells n made background filler layer h b l f m =

@@ -1,6 +1,4 @@
 mod WinSteps
-mod BetweenBlanks
-mod BlankEnds
 mod Letters
 mod Grounds
 mod ColumnSteps

@@ -50,14 +50,12 @@ pub fn has_unknown(meanings: &[Option<&Meaning>]) -> bool
     false
 }
 
-/// Whether the meaning is a property.
+/// Whether there is a meaning, and it is a property.
 fn is_property(meaning: Option<&Meaning>) -> bool
     ensures { result ≡ is_property (meaning_seen meaning.entry) }
 {
     match meaning {
-        Some(Meaning::One(_)) => false,
-        Some(Meaning::All { .. }) => false,
-        Some(Meaning::Any { .. }) => true,
+        Some(meaning) => meaning.is_property(),
         None => false,
     }
 }
@@ -79,10 +77,8 @@ fn objects_of<'a>(meaning: Option<&'a Meaning>) -> &'a [ObjectId]
     ensures { result.now ≡ objects_of (meaning_seen meaning.entry) }
 {
     match meaning {
-        Some(Meaning::One(object)) => slice::from_ref(object),
-        Some(Meaning::All { objects, .. }) => objects.as_slice(),
-        Some(Meaning::Any { .. }) => &[],
-        None => &[],
+        Some(Meaning::Any { .. }) | None => &[],
+        Some(meaning) => meaning.members(),
     }
 }
 

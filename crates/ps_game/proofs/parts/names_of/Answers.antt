@@ -1,10 +1,4 @@
 use Rattle.ps_game.proofs.parts.names_of.Goals as goal
 
 pub returns : goal.returns
-returns c = (
-  rw (c.requires.objects.same, c.requires.legend.same, c.requires.layers.same) c.read_names.ensures.part,
-  (
-    rw (c.requires.objects.same, c.requires.legend.same, c.requires.layers.same, c.requires.objects_header) c.read_names.ensures.fine,
-    rw (c.requires.objects.same, c.requires.legend.same, c.requires.layers.same, c.requires.objects_header) c.read_names.ensures.refused,
-  ),
-)
+returns c = rw (c.requires.objects.same, c.requires.legend.same, c.requires.layers.same, c.requires.objects_header) c.read_names.ensures.reads

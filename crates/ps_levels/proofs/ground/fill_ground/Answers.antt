@@ -15,5 +15,5 @@ loop-objects-preserved c =
 
 pub returns : goal.returns
 returns c =
-    c.from_vec.ensures ∙ grounds c.args.names.now c.args.cells.now c.loop-objects.objects-index c.loop-objects.made.items c.background-background.result c.first_on-filler.result c.layer_of-layer.result (omega arith)
-    c.background-background.ensures c.layer_of-layer.ensures c.first_on-filler.ensures c.loop-objects.invariant
+    c.from_vec.ensures ∙ grounds c.args.names.now c.args.cells.now c.loop-objects.objects-index c.loop-objects.made.items c.background-background.result c.first_on-filler.result c.layer_of-layer.result.0 (omega arith)
+    c.background-background.ensures c.layer_of-layer.ensures.layer c.first_on-filler.ensures c.loop-objects.invariant
