@@ -1,0 +1,5 @@
+mod Layers
+mod Met
+mod Sweeps
+mod Stayed
+mod SameBoards
