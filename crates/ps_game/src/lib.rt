@@ -21,12 +21,3 @@ pub use game::{Game, read_game};
 pub use prelude::{read_options, read_title};
 pub use ps_model::{Fault, FaultKind, Options, Refusal};
 pub use sections::{Sections, read_sections};
-
-#[cfg(test)]
-mod counts_tests;
-#[cfg(test)]
-mod game_tests;
-#[cfg(test)]
-mod possible_tests;
-#[cfg(test)]
-mod tests;

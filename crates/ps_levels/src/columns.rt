@@ -23,7 +23,8 @@ fn add_column<'a>(
     column: usize,
     cells: &mut Vec<&'a [ObjectId]>,
 ) -> Result<(), Memory>
-    ensures { OnOk result (cells_shown cells.new.items ≡ cells_shown cells.old.items ++ map (λ row. slice_index_or row column []) (rows_shown rows.now)) }
+    ensures { OnOk result (cells_shown cells.new.items
+        ≡ cells_shown cells.old.items ++ map (λ row. slice_index_or row column []) (rows_shown rows.now)) }
 {
     for row in rows {
         cells.push(cell(row, column))?;

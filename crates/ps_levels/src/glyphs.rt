@@ -28,7 +28,8 @@ pub fn meanings<'a>(
     names: &'a Names,
     characters: &[char],
 ) -> Result<Vec<Option<&'a Meaning>>, Memory>
-    ensures { IfOk result (λ found. meanings_shown found.items ≡ map (character_meaning names.now) characters.now) }
+    ensures { IfOk result (λ found.
+        meanings_shown found.items ≡ map (character_meaning names.now) characters.now) }
 {
     let mut found = Vec::new(alloc);
     for character in characters {

@@ -62,7 +62,8 @@ fn object_on(names: &Names, layer: u32, objects: &[ObjectId]) -> Option<ObjectId
 
 /// The first object of the cells that lies on a layer, or else the one given.
 fn first_on(names: &Names, layer: u32, cells: &[&[ObjectId]], other: ObjectId) -> ObjectId
-    ensures { result ≡ unwrap_or (find (λ object. nat_eq (layer_of names.now object) layer) (flat_map (λ objects. objects) (cells_shown cells.now))) other }
+    ensures { result ≡ unwrap_or (find (λ object. nat_eq (layer_of names.now object) layer)
+        (flat_map (λ objects. objects) (cells_shown cells.now))) other }
 {
     for objects in cells {
         if let Some(object) = object_on(names, layer, objects) {
@@ -91,8 +92,8 @@ fn filled(
     Ok(List::from_vec(items))
 }
 
-/// The cells of a level from what their characters show: a cell without an object on the layer of Background gets the first
-/// such object that the level shows, or else the first of Background.
+/// The cells of a level from what their characters show: a cell without an object on the layer of Background gets the
+/// first such object that the level shows, or else the first of Background.
 pub fn fill_ground(
     alloc: Global,
     names: &Names,

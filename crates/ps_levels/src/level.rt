@@ -1,14 +1,13 @@
 //! A level.
 
-ghost use Rattle.std.specs.Prelude.{◌≡◌, ◌≤◌, ◌<◌, ◌+◌, ◌∷◌, [], true, false, length, map, IfOk, OnOk, IfErr, Some};
-ghost use Rattle.ps_model.specs.declared.faults.Fault.{Fault as TheFault};
-ghost use Rattle.ps_model.specs.text.Faults.{first_fault};
+ghost use Rattle.std.specs.Prelude.{◌≡◌, ◌≤◌, ◌+◌, ◌∷◌, false, length, map, IfOk};
 ghost use Rattle.ps_model.specs.session.LevelFaults.{entry_faults};
 ghost use Rattle.ps_model.specs.session.LevelLines.{LevelEntry, characters_of, row_cells, entry_of};
-ghost use Rattle.ps_model.specs.text.LineNumbers.{line_at, lines_between};
-ghost use Rattle.ps_model.specs.text.Lines.{lines_of, is_blank_line};
+ghost use Rattle.ps_model.specs.text.Reads.{ReadsAs};
+ghost use Rattle.ps_model.specs.text.LineNumbers.{HasLine, line_at, lines_between};
+ghost use Rattle.ps_model.specs.text.Lines.{is_blank_line};
 ghost use Rattle.ps_levels.specs.Cells.{rows_shown};
-ghost use Rattle.ps_levels.specs.LevelRowsAt.{rows_at};
+ghost use Rattle.ps_levels.specs.LevelRowsAt.{HasFirstRow, rows_at};
 ghost use Rattle.ps_levels.specs.RowFaults.{level_faults_by};
 
 use crate::columns::in_columns;
@@ -22,7 +21,8 @@ use std::alloc::Global;
 use std::marker::Model;
 use std::ops::Range;
 
-/// A level: its sides, each from 1 to 64, and the objects of each cell, in columns from the left and each column from the top.
+/// A level: its sides, each from 1 to 64, and the objects of each cell, in columns from the left and each column from
+/// the top.
 #[derive(Drop, Debug)]
 pub struct Level {
     width: u32,
@@ -71,13 +71,12 @@ fn read_rows<'a>(
     width: usize,
     place: usize,
 ) -> Result<Vec<Vec<&'a [ObjectId]>>, Refusal>
-    requires from_one { 1 ≤ lines.start }
-    requires ordered { lines.start < lines.end }
-    requires there { lines.end ≤ length (lines_of source.now) + 1 }
-    requires row { (line_at source.now lines.start).is_there ≡ true }
-    ensures part { IfOk result (λ rows. rows_shown rows.items ≡ map (row_cells names.now width) (line_at source.now lines.start ∷ lines_between source.now (lines.start + 1) lines.end)) }
-    ensures fine { OnOk result (level_faults_by names.now width place (line_at source.now lines.start) (lines_between source.now (lines.start + 1) lines.end) ≡ []) }
-    ensures refused { IfErr result (λ e. (fault : TheFault) → e ≡ Refusal.Refused fault → first_fault (level_faults_by names.now width place (line_at source.now lines.start) (lines_between source.now (lines.start + 1) lines.end)) ≡ Some fault) }
+    requires { HasFirstRow source.now lines.start lines.end }
+    ensures { ReadsAs (λ rows. rows_shown rows.items) result
+        (map (row_cells names.now width)
+        (line_at source.now lines.start ∷ lines_between source.now (lines.start + 1) lines.end))
+        (level_faults_by names.now width place (line_at source.now lines.start)
+        (lines_between source.now (lines.start + 1) lines.end)) }
 {
     let first = lines.start;
     let below = first + 1;
@@ -93,8 +92,7 @@ fn read_rows<'a>(
 
 /// How many columns a level has by its first row.
 fn width_of(alloc: Global, source: &Source, line: u32) -> Result<usize, Memory>
-    requires from_one { 1 ≤ line }
-    requires there { line ≤ length (lines_of source.now) }
+    requires { HasLine source.now line }
     ensures value { IfOk result (λ width. width ≡ length (characters_of (line_at source.now line))) }
     ensures some { is_blank_line (line_at source.now line) ≡ false → IfOk result (λ width. 1 ≤ width) }
 {
@@ -102,8 +100,8 @@ fn width_of(alloc: Global, source: &Source, line: u32) -> Result<usize, Memory>
     Ok(characters.len())
 }
 
-/// Reads the level of the lines from its first row to before what ends it, which all are rows or aren't there. The level has
-/// that place among the entries.
+/// Reads the level of the lines from its first row to before what ends it, which all are rows or aren't there. The
+/// level has that place among the entries.
 pub fn read_level(
     alloc: Global,
     source: &Source,
@@ -111,15 +109,12 @@ pub fn read_level(
     lines: Range<u32>,
     place: usize,
 ) -> Result<Level, Refusal>
-    requires from_one { 1 ≤ lines.start }
-    requires ordered { lines.start < lines.end }
-    requires there { lines.end ≤ length (lines_of source.now) + 1 }
-    requires row { (line_at source.now lines.start).is_there ≡ true }
+    requires row { HasFirstRow source.now lines.start lines.end }
     requires written { is_blank_line (line_at source.now lines.start) ≡ false }
-    ensures part { IfOk result (λ level. LevelEntry level ≡ entry_of names.now (rows_at source.now lines.start lines.end)) }
+    ensures read { ReadsAs LevelEntry result
+        (entry_of names.now (rows_at source.now lines.start lines.end))
+        (entry_faults names.now place (rows_at source.now lines.start lines.end)) }
     ensures column { IfOk result (λ level. 1 ≤ level.width) }
-    ensures fine { OnOk result (entry_faults names.now place (rows_at source.now lines.start lines.end) ≡ []) }
-    ensures refused { IfErr result (λ e. (fault : TheFault) → e ≡ Refusal.Refused fault → first_fault (entry_faults names.now place (rows_at source.now lines.start lines.end)) ≡ Some fault) }
 {
     let width = width_of(alloc, source, lines.start)?;
     let rows = read_rows(alloc, source, names, lines, width, place)?;

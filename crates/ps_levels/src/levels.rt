@@ -1,15 +1,18 @@
 //! LEVELS: the levels and messages of a game.
 
-ghost use Rattle.std.specs.Prelude.{◌≡◌, ◌≤◌, ◌<◌, ◌+◌, ◌-◌, ◌++◌, ◌∷◌, [], true, false, length, map, All, IfOk, OnOk, IfErr, Some};
+ghost use Rattle.std.specs.Prelude.{◌≡◌, ◌≤◌, ◌<◌, ◌+◌, ◌-◌, ◌++◌, ◌∷◌, [], true, false};
+ghost use Rattle.std.specs.Prelude.{length, All, IfOk, OnOk, IfErr, Some};
 ghost use Rattle.std.specs.List.{list_any};
 ghost use Rattle.ps_model.specs.declared.faults.Fault.{Fault as TheFault};
 ghost use Rattle.ps_model.specs.text.Faults.{first_fault};
 ghost use Rattle.ps_model.specs.session.LevelFaults.{too_many, entry_faults, entries_faults, level_faults};
 ghost use Rattle.ps_model.specs.session.LevelLines.{MessageEntry, entries_at, entry_lines, entry_of, entries_read};
-ghost use Rattle.ps_model.specs.text.LineNumbers.{line_at, lines_between};
-ghost use Rattle.ps_model.specs.text.Lines.{lines_of, is_blank_line, taken_bytes};
+ghost use Rattle.ps_model.specs.text.LineNumbers.{HasLine, HasLines, line_at, lines_between};
+ghost use Rattle.ps_model.specs.text.Lines.{is_blank_line, taken_bytes};
+ghost use Rattle.ps_model.specs.text.Reads.{ReadsAs};
 ghost use Rattle.ps_model.specs.names.NameBounds.{AreBounded};
 ghost use Rattle.ps_levels.specs.EntriesShown.{entries_shown, is_level_entry, level_lines};
+ghost use Rattle.ps_levels.specs.LevelRowsAt.{HasFirstLine, HasFirstRow};
 ghost use Rattle.ps_levels.specs.Sized.{HasColumn, IsSizedEntry};
 
 use crate::level::{Level, read_level};
@@ -30,8 +33,7 @@ pub enum Entry {
 
 /// The text of a message.
 fn message_text(source: &Source, line: u32) -> &str
-    requires from_one { 1 ≤ line }
-    requires there { line ≤ length (lines_of source.now) }
+    requires { HasLine source.now line }
     ensures { result.now ≡ taken_bytes (line_at source.now line) }
 {
     let Some(text) = source.rest(line) else {
@@ -47,12 +49,12 @@ fn add_message(
     line: u32,
     entries: &mut Vec<Entry>,
 ) -> Result<(), Refusal>
-    requires from_one { 1 ≤ line }
-    requires there { line ≤ length (lines_of source.now) }
-    ensures part { OnOk result (entries_shown entries.new.items ≡ entries_shown entries.old.items ++ MessageEntry (taken_bytes (line_at source.now line)) ∷ []) }
-    ensures columns { All HasColumn (entries_shown entries.old.items) → OnOk result (All HasColumn (entries_shown entries.new.items)) }
-    ensures fine { OnOk result (too_many (length entries.old.items) (line_at source.now line) ≡ []) }
-    ensures refused { IfErr result (λ e. (fault : TheFault) → e ≡ Refusal.Refused fault → first_fault (too_many (length entries.old.items) (line_at source.now line)) ≡ Some fault) }
+    requires { HasLine source.now line }
+    ensures read { ReadsAs (λ _. entries_shown entries.new.items) result
+        (entries_shown entries.old.items ++ MessageEntry (taken_bytes (line_at source.now line)) ∷ [])
+        (too_many (length entries.old.items) (line_at source.now line)) }
+    ensures columns { All HasColumn (entries_shown entries.old.items)
+        → OnOk result (All HasColumn (entries_shown entries.new.items)) }
 {
     if entries.len() == ENTRY_LIMIT as usize {
         let kind = FaultKind::TooManyEntries;
@@ -63,8 +65,8 @@ fn add_message(
     Ok(())
 }
 
-/// Reads a level that begins at the first of the lines, and adds it to the entries above it: the line that ends it, or else
-/// the end of the lines.
+/// Reads a level that begins at the first of the lines, and adds it to the entries above it: the line that ends it, or
+/// else the end of the lines.
 fn add_level(
     alloc: Global,
     source: &Source,
@@ -72,18 +74,18 @@ fn add_level(
     lines: Range<u32>,
     entries: &mut Vec<Entry>,
 ) -> Result<u32, Refusal>
-    requires from_one { 1 ≤ lines.start }
-    requires ordered { lines.start < lines.end }
-    requires there { lines.end ≤ length (lines_of source.now) + 1 }
-    requires row { (line_at source.now lines.start).is_there ≡ true }
+    requires row { HasFirstRow source.now lines.start lines.end }
     requires written { is_blank_line (line_at source.now lines.start) ≡ false }
+    ensures read { ReadsAs (λ _. entries_shown entries.new.items) result
+        (entries_shown entries.old.items
+        ++ entry_of names.now (level_lines source.now lines.start lines.end) ∷ [])
+        (entry_faults names.now (length entries.old.items) (level_lines source.now lines.start lines.end)) }
+    ensures columns { All HasColumn (entries_shown entries.old.items)
+        → OnOk result (All HasColumn (entries_shown entries.new.items)) }
     ensures behind { IfOk result (λ next. lines.start < next) }
     ensures within { IfOk result (λ next. next ≤ lines.end) }
-    ensures part { OnOk result (entries_shown entries.new.items ≡ entries_shown entries.old.items ++ entry_of names.now (level_lines source.now lines.start lines.end) ∷ []) }
-    ensures columns { All HasColumn (entries_shown entries.old.items) → OnOk result (All HasColumn (entries_shown entries.new.items)) }
-    ensures fine { OnOk result (entry_faults names.now (length entries.old.items) (level_lines source.now lines.start lines.end) ≡ []) }
-    ensures refused { IfErr result (λ e. (fault : TheFault) → e ≡ Refusal.Refused fault → first_fault (entry_faults names.now (length entries.old.items) (level_lines source.now lines.start lines.end)) ≡ Some fault) }
-    ensures rest { IfOk result (λ next. entries_at true (lines_between source.now (lines.start + 1) lines.end) ≡ entry_lines (lines_between source.now next lines.end)) }
+    ensures rest { IfOk result (λ next. entries_at true (lines_between source.now (lines.start + 1) lines.end)
+        ≡ entry_lines (lines_between source.now next lines.end)) }
 {
     let end = level_end(alloc, source, lines.start + 1..lines.end)?;
     let level = read_level(alloc, source, names, lines.start..end, entries.len())?;
@@ -91,8 +93,8 @@ fn add_level(
     Ok(end)
 }
 
-/// Reads the first of the lines, and all of its level if it begins one, and adds what it is to the entries above it: the line to
-/// go on with.
+/// Reads the first of the lines, and all of its level if it begins one, and adds what it is to the entries above it:
+/// the line to go on with.
 fn add_entry(
     alloc: Global,
     source: &Source,
@@ -100,15 +102,22 @@ fn add_entry(
     lines: Range<u32>,
     entries: &mut Vec<Entry>,
 ) -> Result<u32, Refusal>
-    requires from_one { 1 ≤ lines.start }
-    requires ordered { lines.start < lines.end }
-    requires there { lines.end ≤ length (lines_of source.now) + 1 }
+    requires { HasFirstLine source.now lines.start lines.end }
     ensures behind { IfOk result (λ next. lines.start < next) }
     ensures within { IfOk result (λ next. next ≤ lines.end) }
-    ensures part { IfOk result (λ next. entries_shown entries.new.items ++ entries_read names.now (lines_between source.now next lines.end) ≡ entries_shown entries.old.items ++ entries_read names.now (lines_between source.now lines.start lines.end)) }
-    ensures columns { All HasColumn (entries_shown entries.old.items) → OnOk result (All HasColumn (entries_shown entries.new.items)) }
-    ensures fine { IfOk result (λ next. entries_faults names.now (length entries.new.items) (entry_lines (lines_between source.now next lines.end)) ≡ entries_faults names.now (length entries.old.items) (entry_lines (lines_between source.now lines.start lines.end))) }
-    ensures refused { IfErr result (λ e. (fault : TheFault) → e ≡ Refusal.Refused fault → first_fault (entries_faults names.now (length entries.old.items) (entry_lines (lines_between source.now lines.start lines.end))) ≡ Some fault) }
+    ensures part { IfOk result (λ next. entries_shown entries.new.items
+        ++ entries_read names.now (lines_between source.now next lines.end)
+        ≡ entries_shown entries.old.items
+        ++ entries_read names.now (lines_between source.now lines.start lines.end)) }
+    ensures columns { All HasColumn (entries_shown entries.old.items)
+        → OnOk result (All HasColumn (entries_shown entries.new.items)) }
+    ensures fine { IfOk result (λ next. entries_faults names.now (length entries.new.items)
+        (entry_lines (lines_between source.now next lines.end))
+        ≡ entries_faults names.now (length entries.old.items)
+        (entry_lines (lines_between source.now lines.start lines.end))) }
+    ensures refused { IfErr result (λ e. (fault : TheFault) → e ≡ Refusal.Refused fault
+        → first_fault (entries_faults names.now (length entries.old.items)
+        (entry_lines (lines_between source.now lines.start lines.end))) ≡ Some fault) }
 {
     let line = lines.start;
     if !source.is_there(line) {
@@ -137,26 +146,26 @@ fn has_level(entries: &[Entry]) -> bool
     false
 }
 
-/// Reads LEVELS, given by the numbers of the lines right below its header up to the next header, counted from 1. The entries are
-/// in the order of their lines. Takes time linear in these lines.
+/// Reads LEVELS, given by the numbers of the lines right below its header up to the next header, counted from 1. The
+/// entries are in the order of their lines. Takes time linear in these lines.
 ///
-/// `Refused` with the first fault of the lines, if they have one, line by line: `UnknownGlyph` (LV1) at a row with a character that
-/// is no name, up to the level's width; `PropertyGlyph` (LV2) at one with a property; `TooLarge` (LV3) at the first row of a level
-/// that is over 64 columns wide, or at its 65th row; `TooManyEntries` (LV5) at the 1,000th entry; and `NoLevel` (LV4), at the
-/// header right above the lines, if there is no level. `Memory` if a growth was refused.
+/// `Refused` with the first fault of the lines, if they have one, line by line: `UnknownGlyph` (LV1) at a row with a
+/// character that is no name, up to the level's width; `PropertyGlyph` (LV2) at one with a property; `TooLarge` (LV3)
+/// at the first row of a level that is over 64 columns wide, or at its 65th row; `TooManyEntries` (LV5) at the 1,000th
+/// entry; and `NoLevel` (LV4), at the header right above the lines, if there is no level. `Memory` if a growth was
+/// refused.
 pub fn read_levels(
     alloc: Global,
     source: &Source,
     lines: Range<u32>,
     names: &Names,
 ) -> Result<Vec<Entry>, Refusal>
-    requires from_one { 1 ≤ lines.start }
-    requires ordered { lines.start ≤ lines.end }
-    requires there { lines.end ≤ length (lines_of source.now) + 1 }
-    ensures part { IfOk result (λ entries. entries_shown entries.items ≡ entries_read names.now (lines_between source.now lines.start lines.end)) }
-    ensures sized { AreBounded names.now → IfOk result (λ entries. All (IsSizedEntry names.now) (entries_shown entries.items)) }
-    ensures fine { OnOk result (level_faults names.now (lines.start - 1) (lines_between source.now lines.start lines.end) ≡ []) }
-    ensures refused { IfErr result (λ e. (fault : TheFault) → e ≡ Refusal.Refused fault → first_fault (level_faults names.now (lines.start - 1) (lines_between source.now lines.start lines.end)) ≡ Some fault) }
+    requires { HasLines source.now lines.start lines.end }
+    ensures read { ReadsAs (λ entries. entries_shown entries.items) result
+        (entries_read names.now (lines_between source.now lines.start lines.end))
+        (level_faults names.now (lines.start - 1) (lines_between source.now lines.start lines.end)) }
+    ensures sized { AreBounded names.now
+        → IfOk result (λ entries. All (IsSizedEntry names.now) (entries_shown entries.items)) }
 {
     let header = lines.start - 1;
     let mut entries = Vec::new(alloc);

@@ -4,8 +4,8 @@ ghost use Rattle.std.specs.Prelude.{◌≡◌, ◌+◌, ◌≤◌, ◌<◌, fals
 ghost use Rattle.std.specs.List.{prefix_len};
 ghost use Rattle.std.specs.Str.{IsUtf8, IsCharBoundary, chars};
 ghost use Rattle.ps_model.specs.session.LevelLines.{characters_of};
-ghost use Rattle.ps_model.specs.text.LineNumbers.{line_at};
-ghost use Rattle.ps_model.specs.text.Lines.{lines_of, is_blank_line, without_blank_end};
+ghost use Rattle.ps_model.specs.text.LineNumbers.{HasLine, line_at};
+ghost use Rattle.ps_model.specs.text.Lines.{is_blank_line, without_blank_end};
 ghost use Rattle.ps_model.specs.text.Words.{is_blank};
 
 use ps_model::Memory;
@@ -69,10 +69,10 @@ fn characters_in(alloc: Global, text: &str) -> Result<Vec<char>, AllocError>
 
 /// The characters of a row, without the blanks at its ends. The line's number is from 1 to `source.lines()`.
 pub fn characters_of(alloc: Global, source: &Source, line: u32) -> Result<Vec<char>, Memory>
-    requires from_one { 1 ≤ line }
-    requires there { line ≤ length (lines_of source.now) }
+    requires { HasLine source.now line }
     ensures value { IfOk result (λ characters. characters.items ≡ characters_of (line_at source.now line)) }
-    ensures some { is_blank_line (line_at source.now line) ≡ false → IfOk result (λ characters. 0 < length characters.items) }
+    ensures some { is_blank_line (line_at source.now line) ≡ false
+        → IfOk result (λ characters. 0 < length characters.items) }
 {
     let text = without_blank_ends(source.visible(line));
     let characters = characters_in(alloc, text)?;

@@ -1,14 +1,12 @@
 //! The rows of a level.
 
-ghost use Rattle.std.specs.Prelude.{◌≡◌, ◌≤◌, ◌+◌, ◌++◌, [], length, map, take, IfOk, OnOk, IfErr, Some, nat_eq};
-ghost use Rattle.ps_model.specs.declared.faults.Fault.{Fault as TheFault};
+ghost use Rattle.std.specs.Prelude.{◌≡◌, ◌++◌, length, map, take, OnOk};
 ghost use Rattle.ps_model.specs.text.Faults.{first_fault};
+ghost use Rattle.ps_model.specs.text.Reads.{ReadsAs};
 ghost use Rattle.ps_model.specs.session.LevelFaults.{is_too_large, row_faults, rows_faults};
 ghost use Rattle.ps_model.specs.session.LevelLines.{characters_of, last_character, of_width, row_cells};
-ghost use Rattle.ps_model.specs.text.LineNumbers.{line_at, lines_between};
-ghost use Rattle.ps_model.specs.text.Lines.{lines_of};
+ghost use Rattle.ps_model.specs.text.LineNumbers.{HasLine, HasLines, here, line_at, lines_between};
 ghost use Rattle.ps_levels.specs.Cells.{cells_shown, meanings_shown, rows_shown};
-ghost use Rattle.ps_model.specs.text.LineNumbers.{here};
 ghost use Rattle.ps_levels.specs.RowFaults.{faults_of_meanings};
 
 use crate::glyphs::{cells_of, has_property, has_unknown, meanings};
@@ -39,8 +37,8 @@ fn fill(characters: &mut Vec<char>, width: usize) -> Result<(), Memory>
     Ok(())
 }
 
-/// Whether the level is too large at a row, by the row's place in it: at the first row where that is too long, and at the
-/// first row over the limit.
+/// Whether the level is too large at a row, by the row's place in it: at the first row where that is too long, and at
+/// the first row over the limit.
 fn is_too_large(width: usize, place: usize) -> bool
     ensures { result ≡ is_too_large width place }
 {
@@ -95,11 +93,10 @@ fn read_row<'a>(
     width: usize,
     place: usize,
 ) -> Result<Vec<&'a [ObjectId]>, Refusal>
-    requires from_one { 1 ≤ line }
-    requires there { line ≤ length (lines_of source.now) }
-    ensures part { IfOk result (λ cells. cells_shown cells.items ≡ row_cells names.now width (line_at source.now line)) }
-    ensures fine { OnOk result (row_faults names.now width place (line_at source.now line) ≡ []) }
-    ensures refused { IfErr result (λ e. (fault : TheFault) → e ≡ Refusal.Refused fault → first_fault (row_faults names.now width place (line_at source.now line)) ≡ Some fault) }
+    requires { HasLine source.now line }
+    ensures { ReadsAs (λ cells. cells_shown cells.items) result
+        (row_cells names.now width (line_at source.now line))
+        (row_faults names.now width place (line_at source.now line)) }
 {
     let mut characters = characters_of(alloc, source, line)?;
     let written = written(&characters, width);
@@ -121,11 +118,10 @@ fn add_row<'a>(
     width: usize,
     rows: &mut Vec<Vec<&'a [ObjectId]>>,
 ) -> Result<(), Refusal>
-    requires from_one { 1 ≤ line }
-    requires there { line ≤ length (lines_of source.now) }
-    ensures part { OnOk result (rows_shown rows.new.items ≡ rows_shown rows.old.items ++ map (row_cells names.now width) (here source.now line)) }
-    ensures fine { OnOk result (rows_faults names.now width (length rows.old.items) (here source.now line) ≡ []) }
-    ensures refused { IfErr result (λ e. (fault : TheFault) → e ≡ Refusal.Refused fault → first_fault (rows_faults names.now width (length rows.old.items) (here source.now line)) ≡ Some fault) }
+    requires { HasLine source.now line }
+    ensures { ReadsAs (λ _. rows_shown rows.new.items) result
+        (rows_shown rows.old.items ++ map (row_cells names.now width) (here source.now line))
+        (rows_faults names.now width (length rows.old.items) (here source.now line)) }
 {
     if !source.is_there(line) {
         return Ok(());
@@ -144,12 +140,12 @@ pub fn add_rows<'a>(
     width: usize,
     rows: &mut Vec<Vec<&'a [ObjectId]>>,
 ) -> Result<(), Refusal>
-    requires from_one { 1 ≤ lines.start }
-    requires ordered { lines.start ≤ lines.end }
-    requires there { lines.end ≤ length (lines_of source.now) + 1 }
-    ensures part { OnOk result (rows_shown rows.new.items ≡ rows_shown rows.old.items ++ map (row_cells names.now width) (lines_between source.now lines.start lines.end)) }
-    ensures fine { OnOk result (rows_faults names.now width (length rows.old.items) (lines_between source.now lines.start lines.end) ≡ []) }
-    ensures refused { IfErr result (λ e. (fault : TheFault) → e ≡ Refusal.Refused fault → first_fault (rows_faults names.now width (length rows.old.items) (lines_between source.now lines.start lines.end)) ≡ Some fault) }
+    requires { HasLines source.now lines.start lines.end }
+    ensures { ReadsAs (λ _. rows_shown rows.new.items) result
+        (rows_shown rows.old.items
+        ++ map (row_cells names.now width) (lines_between source.now lines.start lines.end))
+        (rows_faults names.now width (length rows.old.items)
+        (lines_between source.now lines.start lines.end)) }
 {
     for line in lines.start..lines.end {
         add_row(alloc, source, names, line, width, rows)?;

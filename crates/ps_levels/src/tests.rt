@@ -19,7 +19,9 @@ struct Head {
 
 /// Nine objects on four layers; the section that is read stands below line 29.
 const ABOVE_LEVELS: Head = Head {
-    text: "title T\nOBJECTS\nBackground .\ngreen\nWall #\nbrown\nPlayer P\nwhite\nCrate *\norange\nTarget O\nblue\nA\nred\nB\npink\nC\ngray\nD\nblack\nLEGEND\n@ = Crate and Target\nAT = A or Target\nCOLLISIONLAYERS\nBackground\nTarget\nPlayer, Wall, Crate\nA B C D\nLEVELS\n",
+    text: "title T\nOBJECTS\nBackground .\ngreen\nWall #\nbrown\nPlayer P\nwhite\nCrate *\norange\n\
+        Target O\nblue\nA\nred\nB\npink\nC\ngray\nD\nblack\nLEGEND\n@ = Crate and Target\n\
+        AT = A or Target\nCOLLISIONLAYERS\nBackground\nTarget\nPlayer, Wall, Crate\nA B C D\nLEVELS\n",
     legend: 21,
     layers: 24,
     below: 30,
@@ -27,7 +29,10 @@ const ABOVE_LEVELS: Head = Head {
 
 /// The same objects, with their win conditions to come.
 const ABOVE_WINS: Head = Head {
-    text: "title T\nOBJECTS\nBackground .\ngreen\nWall #\nbrown\nPlayer P\nwhite\nCrate *\norange\nTarget O\nblue\nA\nred\nB\npink\nC\ngray\nD\nblack\nLEGEND\n@ = Crate and Target\nAT = A or Target\nCOLLISIONLAYERS\nBackground\nTarget\nPlayer, Wall, Crate\nA B C D\nWINCONDITIONS\n",
+    text: "title T\nOBJECTS\nBackground .\ngreen\nWall #\nbrown\nPlayer P\nwhite\nCrate *\norange\n\
+        Target O\nblue\nA\nred\nB\npink\nC\ngray\nD\nblack\nLEGEND\n@ = Crate and Target\n\
+        AT = A or Target\nCOLLISIONLAYERS\nBackground\nTarget\nPlayer, Wall, Crate\nA B C D\n\
+        WINCONDITIONS\n",
     legend: 21,
     layers: 24,
     below: 30,
@@ -35,7 +40,8 @@ const ABOVE_WINS: Head = Head {
 
 /// Two grounds, of which Background is a property: objects 0 and 1 on the lower layer, and the player, object 2, above.
 const TWO_GROUNDS: Head = Head {
-    text: "title T\nOBJECTS\nGrass G\ngreen\nSand S\nyellow\nPlayer P\nwhite\nLEGEND\nBackground = Grass or Sand\nQ = Sand or Grass\nCOLLISIONLAYERS\nBackground\nPlayer\nLEVELS\n",
+    text: "title T\nOBJECTS\nGrass G\ngreen\nSand S\nyellow\nPlayer P\nwhite\nLEGEND\n\
+        Background = Grass or Sand\nQ = Sand or Grass\nCOLLISIONLAYERS\nBackground\nPlayer\nLEVELS\n",
     legend: 9,
     layers: 12,
     below: 16,

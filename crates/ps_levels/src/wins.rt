@@ -1,17 +1,16 @@
 //! WINCONDITIONS: when a level is won.
 
-ghost use Rattle.std.specs.Prelude.{◌≡◌, ◌≤◌, ◌+◌, ◌++◌, List, [], length, map, option_map, IfOk, OnOk, IfErr, Some, None};
+ghost use Rattle.std.specs.Prelude.{◌≡◌, ◌++◌, map, option_map, IfOk};
 ghost use Rattle.std.specs.Map.{lookup};
 ghost use Rattle.std.specs.Str.{bytes_eq};
-ghost use Rattle.ps_model.specs.declared.faults.Fault.{Fault as TheFault};
-ghost use Rattle.ps_model.specs.text.Faults.{first_fault};
-ghost use Rattle.ps_model.specs.text.LineNumbers.{line_at, lines_between};
-ghost use Rattle.ps_model.specs.text.Lines.{Line, folded, lines_of};
+ghost use Rattle.ps_model.specs.text.Reads.{ReadsAs};
+ghost use Rattle.ps_model.specs.text.LineNumbers.{HasLine, HasLines, here, line_at, lines_between};
+ghost use Rattle.ps_model.specs.text.Lines.{folded};
 ghost use Rattle.ps_model.specs.names.Names.{meaning_of};
-ghost use Rattle.ps_model.specs.board.WinLines.{quantifiers, win_with, win_of_words, place_read, win_read, wins_read, win_faults_of, win_faults};
+ghost use Rattle.ps_model.specs.board.WinLines.{quantifiers, win_with, win_of_words, place_read, win_read};
+ghost use Rattle.ps_model.specs.board.WinLines.{wins_read, win_faults_of, win_faults};
 ghost use Rattle.ps_names.specs.Shown.{meaning_shown};
 ghost use Rattle.ps_text.specs.WordViews.{text_of};
-ghost use Rattle.ps_model.specs.text.LineNumbers.{here};
 ghost use Rattle.ps_levels.specs.WinsShown.{words_shown, win_shown, wins_shown, win_of_line};
 
 use ps_model::{Cut, Fault, FaultKind, Memory, Quantifier, Refusal};
@@ -59,7 +58,8 @@ fn quantifier(word: &str) -> Option<Quantifier>
 
 /// The win condition with that first word and these names, if the word is one that begins it.
 fn win_with<'a>(word: &str, subject: &'a str, place: Option<&'a str>) -> Option<WinWords<'a>>
-    ensures { option_map words_shown result ≡ win_with word.now subject.now (option_map (λ name. name.now) place.entry) }
+    ensures { option_map words_shown result
+        ≡ win_with word.now subject.now (option_map (λ name. name.now) place.entry) }
 {
     let quantifier = quantifier(word)?;
     Some(WinWords {
@@ -86,7 +86,7 @@ fn win_of_words<'a>(words: &[Word<'a>]) -> Option<WinWords<'a>>
 }
 
 /// What a name stands for, if it is declared. It is looked up with its letters folded, since that finds it at once.
-#[tactic(auto, using(ps_model::proofs::Foldings::folded_again))]
+#[tactic(auto, using(ps_laws::proofs::common::Foldings::folded_again))]
 fn meaning_of_name(alloc: Global, names: &Names, name: &str) -> Result<Option<Meaning>, Memory>
     ensures { IfOk result (λ meaning. option_map meaning_shown meaning ≡ meaning_of names.now name.now) }
 {
@@ -104,7 +104,8 @@ fn read_place(
     names: &Names,
     place: Option<&str>,
 ) -> Result<Option<Option<Meaning>>, Memory>
-    ensures { IfOk result (λ read. option_map (λ found. option_map meaning_shown found) read ≡ place_read names.now (option_map (λ name. name.now) place.entry)) }
+    ensures { IfOk result (λ read. option_map (λ found. option_map meaning_shown found) read
+        ≡ place_read names.now (option_map (λ name. name.now) place.entry)) }
 {
     let Some(name) = place else {
         return Ok(Some(None));
@@ -139,11 +140,9 @@ fn read_line(
     line: u32,
     names: &Names,
 ) -> Result<Option<Win>, Refusal>
-    requires from_one { 1 ≤ line }
-    requires there { line ≤ length (lines_of source.now) }
-    ensures part { IfOk result (λ win. option_map win_shown win ≡ win_of_line names.now (line_at source.now line)) }
-    ensures fine { OnOk result (win_faults_of names.now (line_at source.now line) ≡ []) }
-    ensures refused { IfErr result (λ e. (fault : TheFault) → e ≡ Refusal.Refused fault → first_fault (win_faults_of names.now (line_at source.now line)) ≡ Some fault) }
+    requires { HasLine source.now line }
+    ensures { ReadsAs (option_map win_shown) result
+        (win_of_line names.now (line_at source.now line)) (win_faults_of names.now (line_at source.now line)) }
 {
     let words = words(alloc, source, line, Cut::Plain)?;
     let Some(words) = win_of_words(&words) else {
@@ -168,11 +167,10 @@ fn add_line(
     names: &Names,
     wins: &mut Vec<Win>,
 ) -> Result<(), Refusal>
-    requires from_one { 1 ≤ line }
-    requires there { line ≤ length (lines_of source.now) }
-    ensures part { OnOk result (wins_shown wins.new.items ≡ wins_shown wins.old.items ++ wins_read names.now (here source.now line)) }
-    ensures fine { OnOk result (win_faults names.now (here source.now line) ≡ []) }
-    ensures refused { IfErr result (λ e. (fault : TheFault) → e ≡ Refusal.Refused fault → first_fault (win_faults names.now (here source.now line)) ≡ Some fault) }
+    requires { HasLine source.now line }
+    ensures { ReadsAs (λ _. wins_shown wins.new.items) result
+        (wins_shown wins.old.items ++ wins_read names.now (here source.now line))
+        (win_faults names.now (here source.now line)) }
 {
     if !source.is_there(line) {
         return Ok(());
@@ -184,23 +182,22 @@ fn add_line(
     Ok(())
 }
 
-/// Reads WINCONDITIONS, given by the numbers of the lines right below its header up to the next header, counted from 1; an
-/// absent section by an empty range. The conditions are in the order of their lines. Takes time linear in these lines.
+/// Reads WINCONDITIONS, given by the numbers of the lines right below its header up to the next header, counted from 1;
+/// an absent section by an empty range. The conditions are in the order of their lines. Takes time linear in these
+/// lines.
 ///
-/// `Refused` with the first fault of the lines, if they have one: `BadWin` (WN1) for a line that is neither blank nor a win
-/// condition, `UnknownWinName` (WN2) for a name that isn't declared. `Memory` if a growth was refused.
+/// `Refused` with the first fault of the lines, if they have one: `BadWin` (WN1) for a line that is neither blank nor a
+/// win condition, `UnknownWinName` (WN2) for a name that isn't declared. `Memory` if a growth was refused.
 pub fn read_wins(
     alloc: Global,
     source: &Source,
     lines: Range<u32>,
     names: &Names,
 ) -> Result<Vec<Win>, Refusal>
-    requires from_one { 1 ≤ lines.start }
-    requires ordered { lines.start ≤ lines.end }
-    requires there { lines.end ≤ length (lines_of source.now) + 1 }
-    ensures part { IfOk result (λ wins. wins_shown wins.items ≡ wins_read names.now (lines_between source.now lines.start lines.end)) }
-    ensures fine { OnOk result (win_faults names.now (lines_between source.now lines.start lines.end) ≡ []) }
-    ensures refused { IfErr result (λ e. (fault : TheFault) → e ≡ Refusal.Refused fault → first_fault (win_faults names.now (lines_between source.now lines.start lines.end)) ≡ Some fault) }
+    requires { HasLines source.now lines.start lines.end }
+    ensures { ReadsAs (λ wins. wins_shown wins.items) result
+        (wins_read names.now (lines_between source.now lines.start lines.end))
+        (win_faults names.now (lines_between source.now lines.start lines.end)) }
 {
     let mut wins = Vec::new(alloc);
     for line in lines.start..lines.end {

@@ -1,4 +1,4 @@
-use Rattle.std.proofs.Common.{◌≡◌, ◌≤◌, ◌∙◌, ◌+◌, ◌∷◌, suc, ap, sym, List, length, arith}
+use Rattle.std.proofs.Common.{rules, ◌≡◌, ◌≤◌, ◌∙◌, ◌+◌, ◌∷◌, suc, ap, sym, List, length, arith}
 use Rattle.std.specs.Prelude.{Vec}
 use Rattle.std.specs.Global.{Global}
 use Rattle.std.specs.Borrow.{Bor}
@@ -22,13 +22,13 @@ overflow_cast-result-2 c =
     let names = c.args.names.now in
     let first : Line = line_at text c.args.lines.start in
     let below : List Line = lines_between text (c.args.lines.start + 1) c.args.lines.end in
-    let low : suc (length below) ≤ SIDE_LIMIT = level-low names c.in_ok-width.width c.args.place first below c.in_ok-rows.ensures.fine in
+    let low : suc (length below) ≤ SIDE_LIMIT = level-low names c.in_ok-width.width c.args.place first below c.in_ok-rows.ensures.1.0 in
     let rows : length c.in_ok-rows.rows.items ≡ length (first ∷ below) =
-    sym (length-map c.in_ok-rows.rows.items (λ (row : Row). cells_shown row.items)) ∙ ap length c.in_ok-rows.ensures.part ∙ length-map (first ∷ below) (row_cells names c.in_ok-width.width) in
+    sym (length-map c.in_ok-rows.rows.items (λ (row : Row). cells_shown row.items)) ∙ ap length c.in_ok-rows.ensures.0 ∙ length-map (first ∷ below) (row_cells names c.in_ok-width.width) in
     omega (arith, low, rows, c.in_ok-rows.rows.ok.0, c.len.ensures)
 
-pub returns-clause-part : goal.returns-clause-part
-returns-clause-part c =
+pub returns-clause-read : goal.returns-clause-read
+returns-clause-read c =
     let text = c.args.source.now in
     let names = c.args.names.now in
     let first : Line = line_at text c.args.lines.start in
@@ -36,9 +36,9 @@ returns-clause-part c =
     let w = c.in_ok-width.width in
     let shown = rows_shown c.in_ok-rows.rows.items in
     let rows : length c.in_ok-rows.rows.items ≡ length (first ∷ below) =
-    sym (length-map c.in_ok-rows.rows.items (λ (row : Row). cells_shown row.items)) ∙ ap length c.in_ok-rows.ensures.part ∙ length-map (first ∷ below) (row_cells names w) in
+    sym (length-map c.in_ok-rows.rows.items (λ (row : Row). cells_shown row.items)) ∙ ap length c.in_ok-rows.ensures.0 ∙ length-map (first ∷ below) (row_cells names w) in
     let height : c.len.result ≡ length (first ∷ below) = omega (arith, rows, c.in_ok-rows.rows.ok.0, c.len.ensures) in
     let cells : cells_shown c.in_ok-cells.cells.items ≡ in_columns w shown = c.in_ok-cells.ensures ∙ ap (λ (rs : List Row). in_columns w (rows_shown rs)) c.deref.ensures.value in
     let filled : c.in_ok-cells-2.cells ≡ grounded names (in_columns w shown) =
     c.in_ok-cells-2.ensures ∙ ap (λ (cs : List (Bor (List ObjectId))). grounded names (cells_shown cs)) c.deref-2.ensures.value ∙ ap (grounded names) cells in
-    level-made names w c.len.result c.in_ok-cells-2.cells first below c.in_ok-width.ensures.value height (filled ∙ ap (λ (rs : List (List (List ObjectId))). grounded names (in_columns w rs)) c.in_ok-rows.ensures.part)
+    (level-made names w c.len.result c.in_ok-cells-2.cells first below c.in_ok-width.ensures.value height (filled ∙ ap (λ (rs : List (List (List ObjectId))). grounded names (in_columns w rs)) c.in_ok-rows.ensures.0), search rules)

@@ -48,7 +48,7 @@ returns-in_err-add_message-clause-refused c =
     let split = past-message text line end c.requires.from_one c.requires.ordered c.requires.there there message in
     let fault : Refusal = c.in_err-add_message.field-0.0 in
     let told : (f : TheFault) → fault ≡ Refused f → first_fault (entries_faults names (length c.args.entries.now.items) all) ≡ Some f =
-    λ f e. fault-of-entry names (length c.args.entries.now.items) all rest (MessageLine (line_at text line)) f split (c.in_err-add_message.ensures.refused f e) in
+    λ f e. fault-of-entry names (length c.args.entries.now.items) all rest (MessageLine (line_at text line)) f split (c.in_err-add_message.ensures.read.1.1 f e) in
     search (rules, told)
 
 pub returns-then-branch-clause-part : goal.returns-then-branch-clause-part
@@ -62,7 +62,7 @@ returns-then-branch-clause-part c =
     let there : (line_at text line).is_there ≡ true = search rules in
     let message : is_message (line_at text line) ≡ true = search rules in
     let split = past-message text line end c.requires.from_one c.requires.ordered c.requires.there there message in
-    entry-more names (entries_shown c.args.entries.now.items) (entries_shown c.add_message.new.entries.items) all rest (MessageLine (line_at text line)) split c.in_ok-add_message.ensures.part
+    entry-more names (entries_shown c.args.entries.now.items) (entries_shown c.add_message.new.entries.items) all rest (MessageLine (line_at text line)) split c.in_ok-add_message.ensures.read.0
 
 pub returns-then-branch-clause-fine : goal.returns-then-branch-clause-fine
 returns-then-branch-clause-fine c =
@@ -76,7 +76,7 @@ returns-then-branch-clause-fine c =
     let message : is_message (line_at text line) ≡ true = search rules in
     let split = past-message text line end c.requires.from_one c.requires.ordered c.requires.there there message in
     fine-entry names (length c.args.entries.now.items) (length c.add_message.new.entries.items) all rest (MessageLine (line_at text line)) split
-    (entries-counted entry_shown c.args.entries.now.items c.add_message.new.entries.items (entry_of names (MessageLine (line_at text line))) c.in_ok-add_message.ensures.part) c.in_ok-add_message.ensures.fine
+    (entries-counted entry_shown c.args.entries.now.items c.add_message.new.entries.items (entry_of names (MessageLine (line_at text line))) c.in_ok-add_message.ensures.read.0) c.in_ok-add_message.ensures.read.1.0
 
 pub returns-then-is_blank_line-clause-part : goal.returns-then-is_blank_line-clause-part
 returns-then-is_blank_line-clause-part c =
@@ -119,7 +119,7 @@ returns-in_err-next-clause-refused c =
     let fault : Refusal = c.in_err-next.field-0.0 in
     let split = first-of-level text line end c.requires.from_one c.requires.ordered c.requires.there there message blank in
     let told : (f : TheFault) → fault ≡ Refused f → first_fault (entries_faults names (length c.args.entries.now.items) all) ≡ Some f =
-    λ f e. fault-of-entry names (length c.args.entries.now.items) all (entries_at true (lines_between text (line + 1) end)) (level_lines text line end) f split (c.in_err-next.ensures.refused f e) in
+    λ f e. fault-of-entry names (length c.args.entries.now.items) all (entries_at true (lines_between text (line + 1) end)) (level_lines text line end) f split (c.in_err-next.ensures.read.1.1 f e) in
     search (rules, told)
 
 pub returns-clause-part : goal.returns-clause-part
@@ -134,7 +134,7 @@ returns-clause-part c =
     let blank : is_blank_line (line_at text line) ≡ false = search rules in
     let rest : List EntryLines = entry_lines (lines_between text c.in_ok-next.next end) in
     let split = past-level text line c.in_ok-next.next end c.requires.from_one c.requires.ordered c.requires.there there message blank c.in_ok-next.ensures.rest in
-    entry-more names (entries_shown c.args.entries.now.items) (entries_shown c.add_level.new.entries.items) all rest (level_lines text line end) split c.in_ok-next.ensures.part
+    entry-more names (entries_shown c.args.entries.now.items) (entries_shown c.add_level.new.entries.items) all rest (level_lines text line end) split c.in_ok-next.ensures.read.0
 
 pub returns-clause-fine : goal.returns-clause-fine
 returns-clause-fine c =
@@ -149,4 +149,4 @@ returns-clause-fine c =
     let rest : List EntryLines = entry_lines (lines_between text c.in_ok-next.next end) in
     let split = past-level text line c.in_ok-next.next end c.requires.from_one c.requires.ordered c.requires.there there message blank c.in_ok-next.ensures.rest in
     fine-entry names (length c.args.entries.now.items) (length c.add_level.new.entries.items) all rest (level_lines text line end) split
-    (entries-counted entry_shown c.args.entries.now.items c.add_level.new.entries.items (entry_of names (level_lines text line end)) c.in_ok-next.ensures.part) c.in_ok-next.ensures.fine
+    (entries-counted entry_shown c.args.entries.now.items c.add_level.new.entries.items (entry_of names (level_lines text line end)) c.in_ok-next.ensures.read.0) c.in_ok-next.ensures.read.1.0

@@ -9,12 +9,12 @@ use Rattle.ps_model.specs.text.LineNumbers.{here}
 use Rattle.ps_laws.proofs.common.FirstFaults.{faults-here}
 use Rattle.ps_levels.proofs.wins.add_line.Goals as goal
 
-pub returns-in_err-win-clause-refused : goal.returns-in_err-win-clause-refused
-returns-in_err-win-clause-refused c =
+pub returns-in_err-win : goal.returns-in_err-win
+returns-in_err-win c =
     let text = c.args.source.now in
     let names = c.args.names.now in
     let there : (line_at text c.args.line).is_there ≡ true = search rules in
     let fault : Refusal = c.in_err-win.field-0.0 in
     let told : (f : TheFault) → fault ≡ Refused f → first_fault (win_faults names (here text c.args.line)) ≡ Some f =
-    λ f e. ap first_fault (faults-here (win_faults_of names) text c.args.line there) ∙ c.in_err-win.ensures.refused f e in
+    λ f e. ap first_fault (faults-here (win_faults_of names) text c.args.line there) ∙ c.in_err-win.ensures.1.1 f e in
     search (rules, told)

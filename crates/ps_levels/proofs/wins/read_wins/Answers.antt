@@ -12,8 +12,8 @@ use Rattle.ps_laws.proofs.common.FirstFaults.{first-of-lines, none-of-lines}
 use Rattle.ps_levels.proofs.WinSteps.{wins-more}
 use Rattle.ps_levels.proofs.wins.read_wins.Goals as goal
 
-pub returns-in_err-add_line-clause-refused : goal.returns-in_err-add_line-clause-refused
-returns-in_err-add_line-clause-refused c =
+pub returns-in_err-add_line : goal.returns-in_err-add_line
+returns-in_err-add_line c =
     let text = c.args.source.now in
     let names = c.args.names.now in
     let line = c.loop-line.line in
@@ -21,7 +21,7 @@ returns-in_err-add_line-clause-refused c =
     let fault : Refusal = c.in_err-add_line.field-0.0 in
     let told : (f : TheFault) → fault ≡ Refused f → first_fault (win_faults names (lines_between text c.args.lines.start c.args.lines.end)) ≡ Some f =
     λ f e. ap first_fault (sym c.loop-line.invariant.fine)
-    ∙ first-of-lines (win_faults_of names) (lines_between text line c.args.lines.end) (here text line) (lines_between text (line + 1) c.args.lines.end) f step (c.in_err-add_line.ensures.refused f e) in
+    ∙ first-of-lines (win_faults_of names) (lines_between text line c.args.lines.end) (here text line) (lines_between text (line + 1) c.args.lines.end) f step (c.in_err-add_line.ensures.1.1 f e) in
     search (rules, told)
 
 pub loop-line-preserved : goal.loop-line-preserved
@@ -32,9 +32,9 @@ loop-line-preserved c =
     let step = between-step text line (line + 1) c.args.lines.end (omega arith) (omega arith) (omega arith) refl in
     record {
       part =
-          wins-more names (wins_shown c.loop-line.wins.items) (wins_shown c.add_line.new.wins.items) (lines_between text line c.args.lines.end) (here text line) (lines_between text (line + 1) c.args.lines.end) step c.in_ok-add_line.ensures.part
+          wins-more names (wins_shown c.loop-line.wins.items) (wins_shown c.add_line.new.wins.items) (lines_between text line c.args.lines.end) (here text line) (lines_between text (line + 1) c.args.lines.end) step c.in_ok-add_line.ensures.0
           ∙ c.loop-line.invariant.part;
       fine =
-          none-of-lines (win_faults_of names) (lines_between text line c.args.lines.end) (here text line) (lines_between text (line + 1) c.args.lines.end) step c.in_ok-add_line.ensures.fine
+          none-of-lines (win_faults_of names) (lines_between text line c.args.lines.end) (here text line) (lines_between text (line + 1) c.args.lines.end) step c.in_ok-add_line.ensures.1.0
           ∙ c.loop-line.invariant.fine;
     }

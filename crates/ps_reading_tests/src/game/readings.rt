@@ -1,17 +1,14 @@
 //! Rules with as many readings as they may have, and with one cell or one rule more.
 
-use crate::counts::first_too_many;
-use crate::{Fault, FaultKind, read_sections};
-use ps_model::Refusal;
-use ps_names::read_names;
-use ps_rules::read_rules;
-use ps_text::Source;
+use ps_game::{Game, read_game};
+use ps_model::{Fault, FaultKind, Refusal};
 use std::alloc::Global;
 use std::test::Fail;
 
 /// The members of `AB` lie on two layers, so that it is never loose; those of `AC` lie on one. RULES stands on line 20.
 const HEAD: &str =
-    "title T\nOBJECTS\nBackground\ngreen\nPlayer\nwhite\nA\nred\nB\nblue\nC\ngray\nLEGEND\nAB = A or B\nAC = A or C\nCOLLISIONLAYERS\nBackground\nPlayer, A, C\nB\nRULES\n";
+    "title T\nOBJECTS\nBackground\ngreen\nPlayer P\nwhite\nA\nred\nB\nblue\nC\ngray\nLEGEND\n\
+    AB = A or B\nAC = A or C\nCOLLISIONLAYERS\nBackground\nPlayer, A, C\nB\nRULES\n";
 
 /// A rule that looks for a row of as many cells, each with these words.
 #[derive(Clone, Copy)]
@@ -45,42 +42,23 @@ fn push_rule(rules: &mut String, row: Row<'_>) -> Result<(), Refusal> {
     Ok(())
 }
 
-/// The text of the game with these rules.
-fn source_of(alloc: Global, rules: &str) -> Result<Source, Refusal> {
+/// Reads the game with these rules, of which the first stands on line 21.
+fn read(alloc: Global, rules: &str) -> Result<Game, Refusal> {
     let mut text = String::from_str(alloc, HEAD)?;
     text.push_str(rules)?;
     text.push_str("LEVELS\nP\n")?;
-    Source::read(alloc, text.as_bytes())
+    read_game(alloc, text.as_bytes())
 }
 
-/// The fault that the readings of these rules have, of which the first stands on line 21.
-fn fault_of(alloc: Global, rules: &str) -> Result<Option<Fault>, Refusal> {
-    let source = source_of(alloc, rules)?;
-    let sections = read_sections(alloc, &source)?;
-    let names = read_names(
-        alloc,
-        &source,
-        sections.objects,
-        sections.legend,
-        sections.layers,
-    )?;
-    let rules = read_rules(alloc, &source, sections.rules, &names)?;
-    let fault = first_too_many(alloc, &names, &rules)?;
-    Ok(fault)
-}
-
-/// Whether the rules are read, and none has too many readings.
+/// Whether the game with these rules is read: none has too many readings.
 fn is_accepted(alloc: Global, rules: &str) -> bool {
-    fault_of(alloc, rules) == Ok(None)
+    read(alloc, rules).is_ok()
 }
 
 /// Whether the first rule with too many readings stands on that line.
 fn is_refused(alloc: Global, rules: &str, line: u32) -> bool {
-    fault_of(alloc, rules)
-        == Ok(Some(Fault {
-            kind: FaultKind::TooManyReadings,
-            line,
-        }))
+    let kind = FaultKind::TooManyReadings;
+    read(alloc, rules).err() == Some(Refusal::Refused(Fault { kind, line }))
 }
 
 /// Whether each of the rows may be looked for, in a game with that rule alone.

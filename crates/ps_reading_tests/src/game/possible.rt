@@ -1,64 +1,32 @@
 //! Rules of a small game with six objects on three layers, and which of them have no possible reading.
 
-use crate::possible::first_line_fault;
-use crate::read_sections;
-use ps_model::{Fault, FaultKind, Memory};
-use ps_names::read_names;
-use ps_rules::read_rules;
-use ps_text::Source;
+use ps_game::{Game, read_game};
+use ps_model::{Fault, FaultKind, Refusal};
 use std::alloc::Global;
 
 /// RULES stands at line 24: the first rule is at line 25.
 const HEAD: &str =
-    "title T\nOBJECTS\nBackground\ngreen\nPlayer\nwhite\nWall\nbrown\nCrate\norange\nGem\nblue\nRing\ngold\nLEGEND\nMixed = Crate or Gem\nSolid = Wall or Crate\nTreasure = Gem or Ring\nStack = Gem and Crate\nCOLLISIONLAYERS\nBackground\nPlayer, Wall, Crate\nGem, Ring\nRULES\n";
+    "title T\nOBJECTS\nBackground\ngreen\nPlayer P\nwhite\nWall\nbrown\nCrate\norange\nGem\nblue\n\
+    Ring\ngold\nLEGEND\nMixed = Crate or Gem\nSolid = Wall or Crate\nTreasure = Gem or Ring\n\
+    Stack = Gem and Crate\nCOLLISIONLAYERS\nBackground\nPlayer, Wall, Crate\nGem, Ring\nRULES\n";
 
-/// The fault of the first of the rules without a possible reading.
-fn told(alloc: Global, rules: &str) -> Result<Option<Fault>, Memory> {
+/// Reads the game with these rules.
+fn read(alloc: Global, rules: &str) -> Result<Game, Refusal> {
     let mut text = String::from_str(alloc, HEAD)?;
     text.push_str(rules)?;
-    text.push_str("\nLEVELS\n")?;
-    let Ok(source) = Source::read(alloc, text.as_bytes()) else {
-        return Err(Memory);
-    };
-    let Ok(sections) = read_sections(alloc, &source) else {
-        return Err(Memory);
-    };
-    let Ok(names) = read_names(
-        alloc,
-        &source,
-        sections.objects.start..sections.objects.end,
-        sections.legend.start..sections.legend.end,
-        sections.layers.start..sections.layers.end,
-    ) else {
-        return Err(Memory);
-    };
-    let Ok(rules) = read_rules(
-        alloc,
-        &source,
-        sections.rules.start..sections.rules.end,
-        &names,
-    ) else {
-        return Err(Memory);
-    };
-    first_line_fault(alloc, &names, rules.lines())
+    text.push_str("\nLEVELS\nP\n")?;
+    read_game(alloc, text.as_bytes())
 }
 
 /// Whether of the rules that at this line is the first without a possible reading.
 fn is_refused(alloc: Global, rules: &str, line: u32) -> bool {
-    match told(alloc, rules) {
-        Ok(Some(fault)) => fault.kind == FaultKind::Impossible && fault.line == line,
-        Ok(None) => false,
-        Err(Memory) => false,
-    }
+    let kind = FaultKind::Impossible;
+    read(alloc, rules).err() == Some(Refusal::Refused(Fault { kind, line }))
 }
 
-/// Whether each of the rules has a possible reading.
+/// Whether the game with these rules is read: each has a possible reading.
 fn is_read(alloc: Global, rules: &str) -> bool {
-    match told(alloc, rules) {
-        Ok(Some(_)) => false,
-        Ok(None) => true,
-        Err(Memory) => false,
-    }
+    read(alloc, rules).is_ok()
 }
 
 #[test]
@@ -131,7 +99,8 @@ fn tells_the_first_rule(rt: HostRuntime) {
     assert!(rt;
         is_refused(
             alloc,
-            "[ > Player ] -> [ > Player ]\n\nstartloop\n[ moving Player Wall ] -> [ Player ]\nendloop\n[ Gem Ring ] -> [ ]",
+            "[ > Player ] -> [ > Player ]\n\nstartloop\n[ moving Player Wall ] -> [ Player ]\nendloop\n\
+            [ Gem Ring ] -> [ ]",
             28
         )
     );

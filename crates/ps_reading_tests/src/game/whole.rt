@@ -1,15 +1,17 @@
 //! Whole texts: the faults that they have, worked by hand, and what is read of texts without one.
 
-use crate::{Fault, FaultKind, Game, Options, read_game};
+use ps_game::{Game, read_game};
 use ps_levels::Entry;
-use ps_model::Refusal;
+use ps_model::{Fault, FaultKind, Options, Refusal};
 use std::alloc::Global;
 use std::process::Abort;
 use std::test::Fail;
 
 /// A game with nine objects on four layers, up to its rules: 28 lines.
 const HEAD: &str =
-    "title T\nOBJECTS\nBackground .\ngreen\nWall #\nbrown\nPlayer P\nwhite\nCrate *\norange\nTarget O\nblue\nA\nred\nB\npink\nC\ngray\nD\nblack\nLEGEND\n@ = Crate and Target\nAT = A or Target\nCOLLISIONLAYERS\nBackground\nTarget\nPlayer, Wall, Crate\nA B C D\n";
+    "title T\nOBJECTS\nBackground .\ngreen\nWall #\nbrown\nPlayer P\nwhite\nCrate *\norange\n\
+    Target O\nblue\nA\nred\nB\npink\nC\ngray\nD\nblack\nLEGEND\n@ = Crate and Target\n\
+    AT = A or Target\nCOLLISIONLAYERS\nBackground\nTarget\nPlayer, Wall, Crate\nA B C D\n";
 
 /// The game with these rules from line 30 on, these win conditions below them and this end of LEVELS.
 fn read(alloc: Global, rules: &str, wins: &str, levels: &str) -> Result<Game, Refusal> {

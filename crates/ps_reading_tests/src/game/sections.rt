@@ -1,7 +1,7 @@
-//! Texts with values worked by hand.
+//! Sections and preludes of texts, with values worked by hand.
 
-use crate::{Fault, FaultKind, Options, Sections, read_options, read_sections, read_title};
-use ps_model::Refusal;
+use ps_game::{Sections, read_options, read_sections, read_title};
+use ps_model::{Fault, FaultKind, Options, Refusal};
 use ps_text::Source;
 use std::alloc::Global;
 use std::process::Abort;
@@ -9,7 +9,9 @@ use std::test::Fail;
 
 /// A small game: its sections begin at lines 5, 9, 11, 14, 15 and 17.
 const GAME: &str =
-    "title A Tale (of two)\nNOUNDO now\n(norestart)\nrequire_player_movement\nOBJECTS\nBackground\ngreen\nPlayer\nLEGEND\nP = Player\nCOLLISIONLAYERS\nBackground\nPlayer\nRULES\nWINCONDITIONS\nSome Player\nLEVELS\nP\n";
+    "title A Tale (of two)\nNOUNDO now\n(norestart)\nrequire_player_movement\nOBJECTS\nBackground\n\
+    green\nPlayer\nLEGEND\nP = Player\nCOLLISIONLAYERS\nBackground\nPlayer\nRULES\nWINCONDITIONS\n\
+    Some Player\nLEVELS\nP\n";
 
 fn read(alloc: Global, text: &str) -> Result<Sections, Refusal> {
     let source = Source::read(alloc, text.as_bytes())?;

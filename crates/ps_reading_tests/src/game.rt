@@ -1,0 +1,6 @@
+//! Tests of the reading of whole games.
+
+mod possible;
+mod readings;
+mod sections;
+mod whole;
