@@ -1,5 +1,3 @@
-mod Layers
-mod Met
-mod Sweeps
-mod Stayed
 mod SameBoards
+mod Stayed
+mod Sweeps

@@ -1,6 +1,6 @@
 //! Whether Player has moved.
 
-ghost use Rattle.std.specs.Prelude.{◌≡◌, ◌<◌, ◌&&◌, not};
+ghost use Rattle.std.specs.Prelude.{◌≡◌, ◌<◌, ◌&&◌, ◌||◌, not};
 ghost use Rattle.ps_model.specs.board.Grid.{IsGrid, cell_at, cell_count};
 ghost use Rattle.ps_model.specs.board.Turns.{has_player, player_cells, stayed};
 ghost use Rattle.ps_turn.specs.States.{HaveSameSides};
@@ -29,6 +29,15 @@ fn is_left<B: Board>(game: &TurnGame<'_>, before: &B, after: &B, cell: u32) -> b
     has_player(game, before, cell) && !has_player(game, after, cell)
 }
 
+/// Whether a Player was found, or stands in a cell.
+fn found<B: Board>(game: &TurnGame<'_>, board: &B, cell: u32, some: bool) -> bool
+    requires cell { cell < cell_count (B.grid board.now) }
+    requires shape { IsGrid (B.grid board.now) }
+    ensures { result ≡ (some || has_player game.now.names (cell_at (B.grid board.now) cell)) }
+{
+    some || has_player(game, board, cell)
+}
+
 /// Whether there was a Player, and each cell that had one still has one.
 pub fn stayed<B: Board>(game: &TurnGame<'_>, before: &B, after: &B) -> bool
     requires { HaveSameSides (B.grid after.now) (B.grid before.now) }
@@ -41,7 +50,7 @@ pub fn stayed<B: Board>(game: &TurnGame<'_>, before: &B, after: &B) -> bool
         if is_left(game, before, after, cell) {
             return false;
         }
-        some = some || has_player(game, before, cell);
+        some = found(game, before, cell, some);
     }
     some
 }

@@ -33,7 +33,7 @@ pub struct TurnGame<'g> {
 
 impl<'g> Model for TurnGame<'g> {
     ghost use Rattle.std.specs.Prelude.{◌≡◌};
-    ghost use Rattle.ps_model.specs.board.Inputs.{players};
+    ghost use Rattle.ps_model.specs.board.Inputs.{players as player_objects};
     ghost use Rattle.ps_levels.specs.WinsShown.{wins_shown};
     ghost use Rattle.ps_turn.specs.States.{TurnParts};
 
@@ -41,7 +41,7 @@ impl<'g> Model for TurnGame<'g> {
 
     ghost view = { λ g. record { names = g.names.now; options = g.options; wins = wins_shown g.wins.now } };
 
-    ghost invariant = { λ g. g.players.now ≡ players g.names.now };
+    ghost invariant = { λ g. g.players.now ≡ player_objects g.names.now };
 }
 
 impl<'g> TurnGame<'g> {
