@@ -1,1 +1,3 @@
 mod PartLoaded
+mod StartTurns
+mod Texts

@@ -4,7 +4,9 @@ use Rattle.ps_model.specs.board.Grid.{Grid}
 use Rattle.ps_model.specs.board.Turns.{Script}
 use Rattle.ps_model.specs.session.Sessions as model
 use Rattle.ps_model.specs.session.Sessions.{Play, Step, after, quietly}
-use Rattle.ps_model.specs.session.StartSteps.{level_done}
+use Rattle.ps_model.specs.session.StartSteps.{level_done, start_told}
+use Rattle.ps_model.specs.session.Frames.{frame}
+use Rattle.ps_model.specs.names.Names.{Names}
 use Rattle.ps_turn.specs.declared.outcomes.Turned.{Turned}
 use Rattle.ps_turn.specs.declared.outcomes.Turned.TheVariants.{Blocked, Restarted, Done}
 use Rattle.ps_turn.specs.declared.outcomes.DoneTurn.{DoneTurn}
@@ -56,3 +58,10 @@ abbrev pub key_told_step : Script → KeyTold → Play → List ℕ → (Play �
 key_told_step script (key.Stops pending) play text again_turns = came (stands pending play) text
 key_told_step script key.GoesOn play text again_turns = after text (again_turns play)
 key_told_step script key.Won play text again_turns = after text (level_done script play)
+
+-- the start behind a done turn, of which this level came: a frame and what follows, if the turn changed the board
+abbrev pub start_shown : Names → Play → DoneTurn → ℕ → (Play → Step) → Step
+start_shown names play done left again_turns = elim done.changed [
+  | false ↦ quietly (model.Playing play)
+  | true ↦ after (frame names play.board) (start_told play done.message done.again left again_turns)
+]

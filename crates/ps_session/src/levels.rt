@@ -196,11 +196,11 @@ impl<B: Board> PlayedLevel<B> {
             self.board.copy_into(&mut self.spare);
             return Ok(turned);
         }
-        if done.checkpoint {
-            self.target = self.spare.try_copy(alloc)?;
-        }
         mem::swap(&mut self.board, &mut self.spare);
         self.board.copy_into(&mut self.spare);
+        if done.checkpoint {
+            self.target = self.board.try_copy(alloc)?;
+        }
         Ok(turned)
     }
 }

@@ -34,7 +34,7 @@ impl<'g> Model for Stage<'g> {
 impl<'g> Stage<'g> {
     /// A game without a text.
     pub fn new(alloc: Global, game: SessionGame<'g>) -> Stage<'g>
-        ensures game { result.game ≡ game }
+        ensures game { result.game ≡ game.entry }
         ensures text { result.text ≡ [] }
     {
         let picture = Picture::new(alloc, game.names());

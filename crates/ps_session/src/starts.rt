@@ -5,7 +5,7 @@ ghost use Rattle.ps_model.specs.board.Grid.{Grid};
 ghost use Rattle.ps_model.specs.session.Sessions.{Play, Step, after, shown};
 ghost use Rattle.ps_model.specs.session.StartSteps.{start_pending, start_told, start_turns, all_start_turns, started, start_step};
 ghost use Rattle.ps_session.specs.Standings.{script_of, play_of};
-ghost use Rattle.ps_session.specs.StepsShown.{told_step, came, stands, pending_shown};
+ghost use Rattle.ps_session.specs.StepsShown.{told_step, start_shown, came, stands, pending_shown};
 
 use crate::levels::{Counting, PlayedLevel};
 use crate::places::{Pending, Told};
@@ -13,7 +13,7 @@ use crate::stage::Stage;
 use ps_board::Board;
 use ps_model::{AGAIN_LIMIT, Memory};
 use ps_text::Text;
-use ps_turn::{Programs, Rules, Turned};
+use ps_turn::{DoneTurn, Programs, Rules, Turned};
 
 /// What the turn of a start leaves to come behind its message.
 fn start_pending(again: bool, left: u32) -> Pending
@@ -41,5 +41,75 @@ impl<'g> Stage<'g> {
             return Ok(Told::GoesOn);
         }
         Ok(Told::Stops(None))
+    }
+
+    /// Shows the board behind a done turn of a start, if the turn changed it, and tells what comes behind the frame.
+    fn tell_start_turn<B: Board>(
+        &mut self,
+        level: &PlayedLevel<B>,
+        done: &DoneTurn,
+        left: u32,
+    ) -> Result<Told, Memory>
+        ensures game { self.new.game ≡ self.old.game }
+        ensures told { IfOk result (λ told. (history : List Grid) (turns : Play → Step)
+            → after self.old.text (start_shown self.old.game.names (play_of history level.now) done.now left turns) ≡ told_step told (play_of history level.now) self.new.text turns) }
+    {
+        if !done.changed {
+            return Ok(Told::Stops(None));
+        }
+        self.show(level.board())?;
+        self.tell_start(&done.message, done.again, left)
+    }
+
+    /// One again turn of a start: one that leaves the board as it was is as if not run, and ends them.
+    fn start_turn<B: Board, R: Rules<B>>(
+        &mut self,
+        rules: &mut Programs<R>,
+        level: &mut PlayedLevel<B>,
+        left: u32,
+    ) -> Result<Told, Memory>
+        ensures game { self.new.game ≡ self.old.game }
+        ensures plain { R.meant rules.new.plain ≡ R.meant rules.old.plain }
+        ensures late { R.meant rules.new.late ≡ R.meant rules.old.late }
+        ensures told { IfOk result (λ told. (history : List Grid)
+            → after self.old.text (start_turns (script_of self.old.game (R.meant rules.old.plain) (R.meant rules.old.late)) (suc left) (play_of history level.old))
+            ≡ told_step told (play_of history level.new) self.new.text (start_turns (script_of self.old.game (R.meant rules.old.plain) (R.meant rules.old.late)) left)) }
+    {
+        let turned = level.take_turn(
+            self.alloc,
+            self.game.turns(),
+            rules,
+            None,
+            Counting::IfChanged,
+        )?;
+        match turned {
+            Turned::Blocked(_) => Ok(Told::Stops(None)),
+            Turned::Restarted(_) => Ok(Told::Stops(None)),
+            Turned::Done(done) => self.tell_start_turn(level, &done, left),
+        }
+    }
+
+    /// The again turns of a start, so many at most.
+    pub(crate) fn start_turns<B: Board, R: Rules<B>>(
+        &mut self,
+        rules: &mut Programs<R>,
+        level: &mut PlayedLevel<B>,
+        most: u32,
+    ) -> Result<Option<Pending>, Memory>
+        ensures game { self.new.game ≡ self.old.game }
+        ensures plain { R.meant rules.new.plain ≡ R.meant rules.old.plain }
+        ensures late { R.meant rules.new.late ≡ R.meant rules.old.late }
+        ensures came { IfOk result (λ pending. (history : List Grid)
+            → after self.old.text (start_turns (script_of self.old.game (R.meant rules.old.plain) (R.meant rules.old.late)) most (play_of history level.old))
+            ≡ came (stands pending (play_of history level.new)) self.new.text) }
+    {
+        let mut left = most;
+        while left > 0 {
+            left -= 1;
+            if let Told::Stops(pending) = self.start_turn(rules, level, left)? {
+                return Ok(pending);
+            }
+        }
+        Ok(None)
     }
 }
