@@ -117,7 +117,7 @@ impl Screen {
     /// # Errors
     ///
     /// `Memory`, and the bytes are as before.
-    pub fn add_level(&mut self, alloc: Global, number: u32) -> Result<(), Memory>
+    pub fn add_level(&mut self, alloc: Global, number: usize) -> Result<(), Memory>
         ensures added { OnOk result (self.new ≡ self.old ++ written_line (codes "# level ") (decimal number)) }
         ensures kept { OnErr result (self.new ≡ self.old) }
     {
@@ -130,7 +130,7 @@ impl Screen {
     /// # Errors
     ///
     /// `Memory`, and the bytes are as before.
-    pub fn add_level_done(&mut self, alloc: Global, number: u32) -> Result<(), Memory>
+    pub fn add_level_done(&mut self, alloc: Global, number: usize) -> Result<(), Memory>
         ensures added { OnOk result (self.new ≡ self.old ++ written_line (codes "* level ") (decimal number ++ codes " done")) }
         ensures kept { OnErr result (self.new ≡ self.old) }
     {

@@ -1,66 +1,37 @@
--- An again turn of a start, by its outcome.
-use Rattle.std.proofs.Common.{◌≡◌, ◌∙◌, ℕ, suc, Bool, true, false, Option, None, List, refl, sym, ap}
-use Rattle.ps_model.specs.board.Grid.{Grid}
+-- The again turns of a start, one after the other.
+use Rattle.std.proofs.Common.{◌≡◌, ◌∙◌, ℕ, suc, List, refl, sym, ap}
+use Rattle.ps_model.specs.declared.limits.TheConstants.{AGAIN_LIMIT}
 use Rattle.ps_model.specs.board.Programs.{Section}
-use Rattle.ps_model.specs.board.Turns as model
-use Rattle.ps_model.specs.board.Turns.{Script, Outcome, turn}
-use Rattle.ps_model.specs.session.Sessions.{Play, Step, Playing, quietly, after}
-use Rattle.ps_model.specs.session.StartSteps.{start_turns, start_counted}
-use Rattle.ps_turn.specs.States.{script_with, outcome_shown, done_shown}
-use Rattle.ps_turn.specs.declared.outcomes.Turned.{Turned}
-use Rattle.ps_turn.specs.declared.outcomes.Turned.TheVariants.{Blocked, Restarted, Done}
-use Rattle.ps_turn.specs.declared.outcomes.DoneTurn.{DoneTurn}
-use Rattle.ps_session.specs.declared.levels.Counting.TheVariants.{IfChanged}
-use Rattle.ps_session.specs.Standings.{SessionParts, Standing, script_of, turn_parts, play_of}
-use Rattle.ps_session.specs.StepsShown.{start_shown, taken, came}
-use Rattle.ps_session.proofs.Texts.{after_quietly}
+use Rattle.ps_model.specs.board.Turns.{Script}
+use Rattle.ps_model.specs.session.Sessions.{Play, Step, after}
+use Rattle.ps_model.specs.session.StartSteps.{start_turns, all_start_turns}
+use Rattle.ps_session.specs.Standings.{SessionParts, script_of}
 
--- an again turn of a start with that outcome
-abbrev pub start_by : Script → ℕ → Play → Outcome → Step
-start_by script left play (model.Blocked message) = quietly (Playing play)
-start_by script left play (model.Restarted message) = quietly (Playing play)
-start_by script left play (model.Finished done) = start_counted script play done left (start_turns script left)
+-- the same game with the same programs
+same_script : (first parts : SessionParts) (plain late those others : List Section) → parts ≡ first → those ≡ plain → others ≡ late → script_of parts those others ≡ script_of first plain late
+same_script first parts plain late those others a b c = rw (a, b, c) refl
 
-by_outcome : (script : Script) (left : ℕ) (play : Play) (outcome : Outcome) → elim outcome [
-  | model.Blocked message ↦ quietly (Playing play)
-  | model.Restarted message ↦ quietly (Playing play)
-  | model.Finished done ↦ start_counted script play done left (start_turns script left)
-] ≡ start_by script left play outcome
-by_outcome script left play (model.Blocked message) = refl
-by_outcome script left play (model.Restarted message) = refl
-by_outcome script left play (model.Finished done) = refl
+joined : (script other : Script) (start text : List ℕ) (most left next : ℕ) (play level : Play) (step : (Play → Step) → Step) → other ≡ script → left ≡ suc next →
+    after start (start_turns script most play) ≡ after text (start_turns script left level) →
+    after text (start_turns other (suc next) level) ≡ step (start_turns other next) →
+    after start (start_turns script most play) ≡ step (start_turns script next)
+joined script other start text most left next play level step same count rest one =
+    rest
+    ∙ ap (λ (n : ℕ). after text (start_turns script n level)) count
+    ∙ ap (λ (s : Script). after text (start_turns s (suc next) level)) (sym same)
+    ∙ one
+    ∙ ap (λ (s : Script). step (start_turns s next)) same
 
--- the outcome is that of the code's turn
-pub start_of : (parts : SessionParts) (plain late : List Section) (left : ℕ) (history : List Grid) (level : Standing) (turned : Turned) (g : Grid) →
-    outcome_shown turned g ≡ turn (script_with (turn_parts parts) plain late) None level.board →
-    start_turns (script_of parts plain late) (suc left) (play_of history level) ≡ start_by (script_of parts plain late) left (play_of history level) (outcome_shown turned g)
-start_of parts plain late left history level turned g is =
-    by_outcome (script_of parts plain late) left (play_of history level) (turn (script_of parts plain late) None level.board)
-    ∙ ap (start_by (script_of parts plain late) left (play_of history level)) (sym is)
+-- one more again turn
+pub one_more : (first parts : SessionParts) (plain late those others : List Section) (start text : List ℕ) (most left next : ℕ) (play level : Play) (step : (Play → Step) → Step) →
+    parts ≡ first → those ≡ plain → others ≡ late → left ≡ suc next →
+    after start (start_turns (script_of first plain late) most play) ≡ after text (start_turns (script_of first plain late) left level) →
+    after text (start_turns (script_of parts those others) (suc next) level) ≡ step (start_turns (script_of parts those others) next) →
+    after start (start_turns (script_of first plain late) most play) ≡ step (start_turns (script_of first plain late) next)
+one_more first parts plain late those others start text most left next play level step a b c count rest one =
+    joined (script_of first plain late) (script_of parts those others) start text most left next play level step (same_script first parts plain late those others a b c) count rest one
 
--- a done one shows the level that it left
-shown_by : (parts : SessionParts) (plain late : List Section) (left : ℕ) (history : List Grid) (level : Standing) (done : DoneTurn) (g : Grid) (changed : Bool) → done.changed ≡ changed →
-    start_by (script_of parts plain late) left (play_of history level) (outcome_shown (Done done) g)
-    ≡ start_shown parts.names (play_of history (taken IfChanged (Done done) level g)) done left (start_turns (script_of parts plain late) left)
-shown_by parts plain late left history level done g true e = rw e refl
-shown_by parts plain late left history level done g false e = rw e refl
-
-pub start_done : (parts : SessionParts) (plain late : List Section) (left : ℕ) (history : List Grid) (level : Standing) (done : DoneTurn) (g : Grid) (text : List ℕ) →
-    outcome_shown (Done done) g ≡ turn (script_with (turn_parts parts) plain late) None level.board →
-    after text (start_turns (script_of parts plain late) (suc left) (play_of history level))
-    ≡ after text (start_shown parts.names (play_of history (taken IfChanged (Done done) level g)) done left (start_turns (script_of parts plain late) left))
-start_done parts plain late left history level done g text is =
-    ap (after text) (start_of parts plain late left history level (Done done) g is ∙ shown_by parts plain late left history level done g done.changed refl)
-
--- one that isn't done ends them
-pub start_blocked : (parts : SessionParts) (plain late : List Section) (left : ℕ) (history : List Grid) (level : Standing) (message : Option (List ℕ)) (g : Grid) (text : List ℕ) →
-    outcome_shown (Blocked message) g ≡ turn (script_with (turn_parts parts) plain late) None level.board →
-    after text (start_turns (script_of parts plain late) (suc left) (play_of history level)) ≡ came (Playing (play_of history level)) text
-start_blocked parts plain late left history level message g text is =
-    ap (after text) (start_of parts plain late left history level (Blocked message) g is) ∙ after_quietly text (Playing (play_of history level))
-
-pub start_restarted : (parts : SessionParts) (plain late : List Section) (left : ℕ) (history : List Grid) (level : Standing) (message : Option (List ℕ)) (g : Grid) (text : List ℕ) →
-    outcome_shown (Restarted message) g ≡ turn (script_with (turn_parts parts) plain late) None level.board →
-    after text (start_turns (script_of parts plain late) (suc left) (play_of history level)) ≡ came (Playing (play_of history level)) text
-start_restarted parts plain late left history level message g text is =
-    ap (after text) (start_of parts plain late left history level (Restarted message) g is) ∙ after_quietly text (Playing (play_of history level))
+-- as many as there may be
+pub all_starts : (script : Script) (play : Play) (most : ℕ) → most ≡ AGAIN_LIMIT → all_start_turns script play ≡ start_turns script most play
+unfolding all_start_turns
+all_starts script play most e = ap (λ (n : ℕ). start_turns script n play) (sym e)

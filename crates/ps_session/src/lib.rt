@@ -1,6 +1,7 @@
 //! A session: where a player is in a game, and what each key does.
 #![tactic(auto)]
 
+mod entering;
 mod entries;
 mod game;
 mod levels;
