@@ -100,7 +100,7 @@ impl<'g> Stage<'g> {
         ensures came { IfOk result (λ place. after self.old.text (enter (script_of self.old.game (R.meant rules.old.plain) (R.meant rules.old.late)) entry)
             ≡ came (place_shown [] place) self.new.text) }
     {
-        let entries = self.game.entries();
+        let entries = self.entries();
         if entries.len() <= entry {
             self.text.add(b"* the end\n")?;
             return Ok(Place::Ended(Ending::TheEnd));

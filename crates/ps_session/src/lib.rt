@@ -7,6 +7,7 @@ mod game;
 mod levels;
 mod loading;
 mod places;
+mod session;
 mod stage;
 mod starts;
 
@@ -15,3 +16,4 @@ pub use ps_board::Board;
 pub use ps_model::{Ending, Input, Key, Memory, Options};
 pub use ps_screen::Screen;
 pub use ps_turn::{Programs, Rules};
+pub use session::Session;

@@ -2,9 +2,12 @@
 
 ghost use Rattle.std.specs.Prelude.{◌≡◌, ◌++◌, [], OnOk, IfOk, codes};
 ghost use Rattle.ps_model.specs.session.Frames.{frame, written_line};
+ghost use Rattle.ps_levels.specs.EntriesShown.{entries_shown};
+ghost use Rattle.ps_session.specs.Playable.{ArePlayable};
 
 use crate::game::SessionGame;
 use ps_board::Board;
+use ps_levels::Entry;
 use ps_model::Memory;
 use ps_screen::{Picture, Screen};
 use std::alloc::Global;
@@ -44,6 +47,26 @@ impl<'g> Stage<'g> {
             picture,
             text: Screen::new(alloc),
         }
+    }
+
+    /// The entries of the game.
+    pub fn entries(&self) -> &'g [Entry]
+        ensures entries { entries_shown result.now ≡ self.now.game.entries }
+        ensures playable { ArePlayable self.now.game.names self.now.game.entries }
+    {
+        self.game.entries()
+    }
+
+    /// Adds the line of the title.
+    ///
+    /// # Errors
+    ///
+    /// `Memory`.
+    pub fn tell_title(&mut self) -> Result<(), Memory>
+        ensures game { self.new.game ≡ self.old.game }
+        ensures told { OnOk result (self.new.text ≡ self.old.text ++ written_line (codes "= ") self.old.game.title) }
+    {
+        self.text.add_line("= ", self.game.title())
     }
 
     /// Adds a frame.
