@@ -1,0 +1,78 @@
+//! The character that shows a cell of a board.
+
+ghost use Rattle.std.specs.Prelude.{◌≡◌, ◌++◌, ◌<◌, OnOk, IfOk, option_to_list};
+ghost use Rattle.ps_model.specs.board.Grid.{IsGrid, cell_at, cell_count, slot_at};
+ghost use Rattle.ps_model.specs.board.Levels.{background_layer};
+ghost use Rattle.ps_model.specs.session.Frames.{objects_in, shown_character};
+
+use crate::glyphs::objects_character;
+use ps_board::Board;
+use ps_model::{LayerId, Memory, ObjectId};
+use ps_names::Names;
+use std::alloc::Global;
+
+/// Room for the objects of one cell: all of them, and those above the background layer.
+#[derive(Drop)]
+pub struct Room {
+    objects: Vec<ObjectId>,
+    above: Vec<ObjectId>,
+}
+
+impl Room {
+    /// Room that grows when it is used.
+    pub fn new(alloc: Global) -> Room {
+        Room {
+            objects: Vec::new(alloc),
+            above: Vec::new(alloc),
+        }
+    }
+}
+
+/// The character that shows a cell.
+///
+/// # Errors
+///
+/// `Memory`.
+pub fn cell_character<B: Board>(
+    names: &Names,
+    ground: LayerId,
+    board: &B,
+    cell: u32,
+    room: &mut Room,
+) -> Result<char, Memory>
+    requires ground { ground.0 ≡ background_layer names.now }
+    requires cell { cell < cell_count (B.grid board.now) }
+    requires shape { IsGrid (B.grid board.now) }
+    ensures { IfOk result (λ character. character ≡ shown_character names.now (cell_at (B.grid board.now) cell)) }
+{
+    gather_objects(board, cell, &mut room.objects)?;
+    objects_character(names, ground, &room.objects, &mut room.above)
+}
+
+/// Gathers the objects of a cell, the lowest layer first, in place of what `objects` held.
+///
+/// # Errors
+///
+/// `Memory`, and `objects` holds some of them.
+fn gather_objects<B: Board>(board: &B, cell: u32, objects: &mut Vec<ObjectId>) -> Result<(), Memory>
+    requires cell { cell < cell_count (B.grid board.now) }
+    requires shape { IsGrid (B.grid board.now) }
+    ensures { OnOk result (objects.new.items ≡ objects_in (cell_at (B.grid board.now) cell)) }
+{
+    objects.clear();
+    for layer in 0..board.layers() {
+        push_some(objects, board.object(cell, LayerId(layer)))?;
+    }
+    Ok(())
+}
+
+/// Adds an object, if there is one.
+fn push_some(objects: &mut Vec<ObjectId>, object: Option<ObjectId>) -> Result<(), Memory>
+    ensures { OnOk result (objects.new.items ≡ objects.old.items ++ option_to_list object) }
+{
+    let Some(object) = object else {
+        return Ok(());
+    };
+    objects.push(object)?;
+    Ok(())
+}

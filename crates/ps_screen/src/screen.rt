@@ -1,0 +1,140 @@
+//! What is to be written: bytes gathered before they go out.
+
+ghost use Rattle.std.specs.Prelude.{◌≡◌, ◌≤◌, [], ◌++◌, OnOk, OnErr, encode_utf8, length, take, codes};
+ghost use Rattle.std.specs.Fmt.{decimal};
+ghost use Rattle.ps_model.specs.session.Frames.{written_line};
+
+use ps_model::Memory;
+use std::alloc::Global;
+use std::marker::Model;
+
+/// The bytes of a text that is being made.
+#[derive(Drop)]
+pub struct Screen {
+    text: Vec<u8>,
+}
+
+impl Model for Screen {
+    ghost use Rattle.std.specs.Prelude.{List, ℕ};
+
+    ghost Value = { List ℕ };
+
+    ghost view = { λ s. s.text.items };
+}
+
+impl Screen {
+    /// Without bytes.
+    pub fn new(alloc: Global) -> Screen
+        ensures { result ≡ [] }
+    {
+        Screen {
+            text: Vec::new(alloc),
+        }
+    }
+
+    /// The bytes so far.
+    pub fn bytes(&self) -> &[u8]
+        ensures { result.now ≡ self.now }
+    {
+        self.text.as_slice()
+    }
+
+    /// Forgets all bytes, and keeps their room for the next text.
+    pub fn clear(&mut self)
+        ensures { self.new ≡ [] }
+    {
+        self.text.clear();
+    }
+
+    /// Adds bytes.
+    ///
+    /// # Errors
+    ///
+    /// `Memory`, and the bytes are as before.
+    pub fn add(&mut self, bytes: &[u8]) -> Result<(), Memory>
+        ensures added { OnOk result (self.new ≡ self.old ++ bytes.now) }
+        ensures kept { OnErr result (self.new ≡ self.old) }
+    {
+        self.text.extend_from_slice(bytes)?;
+        Ok(())
+    }
+
+    /// Adds a character, in UTF-8.
+    ///
+    /// # Errors
+    ///
+    /// `Memory`, and the bytes are as before.
+    pub fn add_character(&mut self, character: char) -> Result<(), Memory>
+        ensures added { OnOk result (self.new ≡ self.old ++ encode_utf8 character) }
+        ensures kept { OnErr result (self.new ≡ self.old) }
+    {
+        let mut buffer = [0u8; 4];
+        let text = character.encode_utf8(&mut buffer);
+        self.add(text.as_bytes())
+    }
+
+    /// Adds a line: a mark, a text and a line feed.
+    ///
+    /// # Errors
+    ///
+    /// `Memory`, and the bytes are as before.
+    pub fn add_line(&mut self, mark: &str, text: &str) -> Result<(), Memory>
+        ensures added { OnOk result (self.new ≡ self.old ++ written_line mark.now text.now) }
+        ensures kept { OnErr result (self.new ≡ self.old) }
+    {
+        let before = self.text.len();
+        if let Err(Memory) = self.add_parts(mark, text) {
+            self.text.truncate(before);
+            return Err(Memory);
+        }
+        Ok(())
+    }
+
+    /// Adds the parts of a line one after the other; without memory, some of them.
+    fn add_parts(&mut self, mark: &str, text: &str) -> Result<(), Memory>
+        ensures added { OnOk result (self.new ≡ self.old ++ written_line mark.now text.now) }
+        ensures front { OnErr result (take (length self.old) self.new ≡ self.old) }
+    {
+        self.add(mark.as_bytes())?;
+        self.add(text.as_bytes())?;
+        self.add(b"\n")
+    }
+
+    /// Adds the line of a message.
+    ///
+    /// # Errors
+    ///
+    /// `Memory`, and the bytes are as before.
+    pub fn add_message(&mut self, text: &str) -> Result<(), Memory>
+        ensures added { OnOk result (self.new ≡ self.old ++ written_line (codes "! ") text.now) }
+        ensures kept { OnErr result (self.new ≡ self.old) }
+    {
+        self.add_line("! ", text)
+    }
+
+    /// Adds the line that opens a level, with its number.
+    ///
+    /// # Errors
+    ///
+    /// `Memory`, and the bytes are as before.
+    pub fn add_level(&mut self, alloc: Global, number: usize) -> Result<(), Memory>
+        ensures added { OnOk result (self.new ≡ self.old ++ written_line (codes "# level ") (decimal number)) }
+        ensures kept { OnErr result (self.new ≡ self.old) }
+    {
+        let digits = format!(in alloc; "{number}")?;
+        self.add_line("# level ", &digits)
+    }
+
+    /// Adds the line that closes a level, with its number.
+    ///
+    /// # Errors
+    ///
+    /// `Memory`, and the bytes are as before.
+    pub fn add_level_done(&mut self, alloc: Global, number: usize) -> Result<(), Memory>
+        ensures added { OnOk result (self.new ≡ self.old ++ written_line (codes "* level ") (decimal number ++ codes " done")) }
+        ensures kept { OnErr result (self.new ≡ self.old) }
+    {
+        let words = format!(in alloc; "{number} done")?;
+        self.add_line("* level ", &words)
+    }
+}

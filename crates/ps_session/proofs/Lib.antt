@@ -1,0 +1,4 @@
+mod EntriesFound
+mod PartLoaded
+mod StartTurns
+mod Texts

@@ -1,0 +1,4 @@
+pub mod Playable
+pub mod Standings
+pub mod StepsShown
+pub mod Places

@@ -1,0 +1,3 @@
+mod SameBoards
+mod Stayed
+mod Sweeps

@@ -1,0 +1,58 @@
+//! What an input does to a board.
+
+ghost use Rattle.std.specs.Prelude.{◌≡◌, ◌*◌, ◌<◌, slice_set, map};
+ghost use Rattle.ps_model.specs.board.Grid.{IsGrid, IsPlace, cell_at, slot_at, with_slot, cell_count};
+ghost use Rattle.ps_model.specs.board.Inputs.{motion_of, with_motion};
+ghost use Rattle.ps_turn.specs.Sweeps.{slot_set_moving, grid_with_cell};
+
+use crate::meanings::has_object;
+use ps_board::Board;
+use ps_model::{Direction, Input, LayerId, Motion, ObjectId};
+
+/// The motion that an input gives to a Player.
+pub fn motion_for(input: Input) -> Motion
+    ensures { result ≡ motion_of input }
+{
+    match input {
+        Input::Up => Motion::Going(Direction::Up),
+        Input::Down => Motion::Going(Direction::Down),
+        Input::Left => Motion::Going(Direction::Left),
+        Input::Right => Motion::Going(Direction::Right),
+        Input::Action => Motion::Acting,
+    }
+}
+
+/// Gives a motion to each of the objects `moved`, wherever it stands, and brings all others to rest.
+pub fn give_motion<B: Board>(board: &mut B, moved: &[ObjectId], motion: Motion)
+    ensures { B.grid board.new ≡ with_motion moved.now motion (B.grid board.old) }
+{
+    board.clear_moves();
+    let (width, height) = board.size();
+    for cell in 0..width * height {
+        give_cell(board, cell, moved, motion);
+    }
+}
+
+/// Gives the motion to those of the objects that stand in a cell.
+fn give_cell<B: Board>(board: &mut B, cell: u32, moved: &[ObjectId], motion: Motion)
+    requires cell { cell < cell_count (B.grid board.old) }
+    requires shape { IsGrid (B.grid board.old) }
+    ensures { B.grid board.new ≡ grid_with_cell (B.grid board.old) cell (map (slot_set_moving moved.now motion) (cell_at (B.grid board.old) cell)) }
+{
+    for layer in 0..board.layers() {
+        give_slot(board, cell, LayerId(layer), moved, motion);
+    }
+}
+
+/// Gives the motion to the object of a slot, if it is one of the objects.
+fn give_slot<B: Board>(board: &mut B, cell: u32, layer: LayerId, moved: &[ObjectId], motion: Motion)
+    requires { IsPlace (B.grid board.old) cell layer.0 }
+    ensures { B.grid board.new ≡ with_slot (B.grid board.old) cell layer.0 (slot_set_moving moved.now motion (slot_at (B.grid board.old) cell layer.0)) }
+{
+    let Some(object) = board.object(cell, layer) else {
+        return;
+    };
+    if has_object(moved, object) {
+        board.put(cell, layer, Some(object), motion);
+    }
+}

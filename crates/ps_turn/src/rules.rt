@@ -1,0 +1,35 @@
+//! What runs the rules.
+
+ghost use Rattle.std.specs.Prelude.{◌≡◌, List, OnOk};
+ghost use Rattle.ps_model.specs.board.Programs.{Section, program_run};
+ghost use Rattle.ps_turn.specs.States.{queue_shown, state_of};
+
+use crate::queue::Queue;
+use ps_board::Board;
+use ps_model::Memory;
+
+/// The rules of one part of a turn, with what their runs need besides the board.
+pub trait Rules<B: Board> {
+    /// The program that the rules are.
+    ghost meant: { Self → List Section };
+
+    /// Runs the program on a board, which keeps its sides and layers, and adds to the queue.
+    ///
+    /// # Errors
+    ///
+    /// `Memory`, and a part of the program may have been run.
+    fn run(&mut self, board: &mut B, queue: &mut Queue) -> Result<(), Memory>
+        ensures ran { OnOk result (state_of (B.grid board.new) (queue_shown queue.new)
+            ≡ program_run (meant self.old) (state_of (B.grid board.old) (queue_shown queue.old))) }
+        ensures same { meant self.new ≡ meant self.old }
+        ensures width { (B.grid board.new).width ≡ (B.grid board.old).width }
+        ensures height { (B.grid board.new).height ≡ (B.grid board.old).height }
+        ensures layers { (B.grid board.new).layers ≡ (B.grid board.old).layers };
+}
+
+/// The rules of a game: those before the movement, and those behind it.
+#[derive(Drop)]
+pub struct Programs<R> {
+    pub plain: R,
+    pub late: R,
+}
