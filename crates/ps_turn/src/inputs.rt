@@ -24,7 +24,8 @@ pub fn motion_for(input: Input) -> Motion
 
 /// Gives a motion to each of the objects `moved`, wherever it stands, and brings all others to rest.
 pub fn give_motion<B: Board>(board: &mut B, moved: &[ObjectId], motion: Motion)
-    ensures { B.grid board.new ≡ with_motion moved.now motion (B.grid board.old) }
+    ensures moved { B.grid board.new ≡ with_motion moved.now motion (B.grid board.old) }
+    ensures table { B.table board.new ≡ B.table board.old }
 {
     board.clear_moves();
     let (width, height) = board.size();
@@ -37,7 +38,9 @@ pub fn give_motion<B: Board>(board: &mut B, moved: &[ObjectId], motion: Motion)
 fn give_cell<B: Board>(board: &mut B, cell: u32, moved: &[ObjectId], motion: Motion)
     requires cell { cell < cell_count (B.grid board.old) }
     requires shape { IsGrid (B.grid board.old) }
-    ensures { B.grid board.new ≡ grid_with_cell (B.grid board.old) cell (map (slot_set_moving moved.now motion) (cell_at (B.grid board.old) cell)) }
+    ensures moved { B.grid board.new ≡ grid_with_cell (B.grid board.old) cell
+        (map (slot_set_moving moved.now motion) (cell_at (B.grid board.old) cell)) }
+    ensures table { B.table board.new ≡ B.table board.old }
 {
     for layer in 0..board.layers() {
         give_slot(board, cell, LayerId(layer), moved, motion);
@@ -47,7 +50,9 @@ fn give_cell<B: Board>(board: &mut B, cell: u32, moved: &[ObjectId], motion: Mot
 /// Gives the motion to the object of a slot, if it is one of the objects.
 fn give_slot<B: Board>(board: &mut B, cell: u32, layer: LayerId, moved: &[ObjectId], motion: Motion)
     requires { IsPlace (B.grid board.old) cell layer.0 }
-    ensures { B.grid board.new ≡ with_slot (B.grid board.old) cell layer.0 (slot_set_moving moved.now motion (slot_at (B.grid board.old) cell layer.0)) }
+    ensures moved { B.grid board.new ≡ with_slot (B.grid board.old) cell layer.0
+        (slot_set_moving moved.now motion (slot_at (B.grid board.old) cell layer.0)) }
+    ensures table { B.table board.new ≡ B.table board.old }
 {
     let Some(object) = board.object(cell, layer) else {
         return;

@@ -24,7 +24,8 @@ pub trait Rules<B: Board> {
         ensures same { meant self.new ≡ meant self.old }
         ensures width { (B.grid board.new).width ≡ (B.grid board.old).width }
         ensures height { (B.grid board.new).height ≡ (B.grid board.old).height }
-        ensures layers { (B.grid board.new).layers ≡ (B.grid board.old).layers };
+        ensures layers { (B.grid board.new).layers ≡ (B.grid board.old).layers }
+        ensures table { B.table board.new ≡ B.table board.old };
 }
 
 /// The rules of a game: those before the movement, and those behind it.

@@ -1,14 +1,14 @@
 //! A turn.
 
 ghost use Rattle.std.specs.Prelude.{◌≡◌, IfOk, OnOk, OnErr, [], false, not};
-ghost use Rattle.ps_model.specs.board.Inputs.{players, with_input, motion_of};
+ghost use Rattle.ps_model.specs.board.Inputs.{with_input, motion_of};
+ghost use Rattle.ps_model.specs.names.Names.{players};
 ghost use Rattle.ps_model.specs.board.Turns.{turn, outcome_of, played, prepared, is_held, done_with, same_cells};
 ghost use Rattle.ps_levels.specs.WinsShown.{wins_shown};
 ghost use Rattle.ps_turn.specs.States.{HaveSameSides, queue_shown, state_of, script_with, done_shown, outcome_shown, is_done};
 
 use crate::boards::same_cells;
 use crate::inputs::{give_motion, motion_for};
-use crate::meanings::players;
 use crate::outcomes::{DoneTurn, Turned};
 use crate::players::stayed;
 use crate::queue::Queue;
@@ -33,7 +33,7 @@ pub struct TurnGame<'g> {
 
 impl<'g> Model for TurnGame<'g> {
     ghost use Rattle.std.specs.Prelude.{◌≡◌};
-    ghost use Rattle.ps_model.specs.board.Inputs.{players as player_objects};
+    ghost use Rattle.ps_model.specs.names.Names.{players as player_objects};
     ghost use Rattle.ps_levels.specs.WinsShown.{wins_shown};
     ghost use Rattle.ps_turn.specs.States.{TurnParts};
 
@@ -55,7 +55,7 @@ impl<'g> TurnGame<'g> {
             names,
             options,
             wins,
-            players: players(names),
+            players: names.players(),
         }
     }
 
@@ -70,7 +70,8 @@ impl<'g> TurnGame<'g> {
 /// Makes a board ready for the rules of a turn: all objects at rest, and then, with an input, every object of Player with
 /// its motion.
 fn prepare<B: Board>(game: &TurnGame<'_>, input: Option<Input>, board: &mut B)
-    ensures { B.grid board.new ≡ prepared game.now.names input (B.grid board.old) }
+    ensures prepared { B.grid board.new ≡ prepared game.now.names input (B.grid board.old) }
+    ensures table { B.table board.new ≡ B.table board.old }
 {
     match input {
         None => board.clear_moves(),
@@ -94,6 +95,7 @@ fn play<B: Board, R: Rules<B>>(
     ensures plain { R.meant rules.new.plain ≡ R.meant rules.old.plain }
     ensures late { R.meant rules.new.late ≡ R.meant rules.old.late }
     ensures sides { HaveSameSides (B.grid board.new) (B.grid board.old) }
+    ensures table { B.table board.new ≡ B.table board.old }
 {
     let mut queue = Queue::new();
     prepare(game, input, board);
@@ -144,11 +146,13 @@ fn outcome<B: Board>(
     after: &mut B,
     queue: Queue,
 ) -> Turned
-    requires { HaveSameSides (B.grid after.old) (B.grid before.now) }
+    requires sides { HaveSameSides (B.grid after.old) (B.grid before.now) }
+    requires table { B.table after.old ≡ B.table before.now }
     ensures outcome { outcome_shown result (B.grid after.new)
         ≡ outcome_of (script_with game.now [] []) input (B.grid before.now) (state_of (B.grid after.old) (queue_shown queue)) }
     ensures undone { is_done result ≡ false → B.grid after.new ≡ B.grid before.now }
     ensures sides { HaveSameSides (B.grid after.new) (B.grid before.now) }
+    ensures table { B.table after.new ≡ B.table before.now }
 {
     if is_held(game, input, before, after) {
         before.copy_into(after);
@@ -178,12 +182,14 @@ pub fn turn<B: Board, R: Rules<B>>(
     before: &B,
     after: &mut B,
 ) -> Result<Turned, Memory>
-    requires { B.grid after.old ≡ B.grid before.now }
+    requires equal { B.grid after.old ≡ B.grid before.now }
+    requires table { B.table after.old ≡ B.table before.now }
     ensures outcome { IfOk result (λ turned. outcome_shown turned (B.grid after.new)
         ≡ turn (script_with game.now (R.meant rules.old.plain) (R.meant rules.old.late)) input (B.grid before.now)) }
     ensures undone { IfOk result (λ turned. is_done turned ≡ false → B.grid after.new ≡ B.grid before.now) }
     ensures stands { OnErr result (B.grid after.new ≡ B.grid before.now) }
     ensures sides { HaveSameSides (B.grid after.new) (B.grid before.now) }
+    ensures table { B.table after.new ≡ B.table before.now }
     ensures plain { R.meant rules.new.plain ≡ R.meant rules.old.plain }
     ensures late { R.meant rules.new.late ≡ R.meant rules.old.late }
 {
