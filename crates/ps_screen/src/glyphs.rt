@@ -9,7 +9,7 @@ ghost use Rattle.ps_model.specs.board.Levels.{background_layer, is_ground};
 ghost use Rattle.ps_names.specs.GlyphsShown.{glyph_shown, glyphs_shown};
 ghost use Rattle.ps_model.specs.session.Frames.{same_objects, topmost, glyph_of_objects, character_of};
 
-use crate::meanings::{are_same, layer_for, members};
+use crate::meanings::are_same;
 use ps_model::{LayerId, Memory, ObjectId};
 use ps_names::{Glyph, Names};
 use std::slice;
@@ -69,7 +69,7 @@ fn push_above(
     requires { ground.0 ≡ background_layer names.now }
     ensures { OnOk result (above.new.items ≡ above.old.items ++ filter (λ object. not (is_ground names.now object)) (object ∷ [])) }
 {
-    if layer_for(names, object).0 == ground.0 {
+    if names.layer_of(object).0 == ground.0 {
         return Ok(());
     }
     above.push(object)?;
@@ -91,7 +91,7 @@ fn glyph_for(glyphs: &[Glyph], objects: &[ObjectId]) -> Option<char>
     ensures { result ≡ option_map (λ glyph. glyph.character) (find (λ glyph. same_objects (members glyph.meaning) objects.now) (glyphs_shown glyphs.now)) }
 {
     for glyph in glyphs {
-        if are_same(members(&glyph.meaning), objects) {
+        if are_same(glyph.meaning.members(), objects) {
             return Some(glyph.character);
         }
     }

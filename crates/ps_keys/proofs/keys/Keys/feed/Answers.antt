@@ -1,4 +1,4 @@
-use Rattle.std.proofs.Common.{◌≡◌, ◌∙◌, ◌≤◌, ◌<◌, ◌++◌, ℕ, List, length, take, sym, Some, arith}
+use Rattle.std.proofs.Common.{◌∙◌, sym, Some, arith}
 use Rattle.ps_keys.proofs.FedPieces.{still_silent, fed_key, no_shorter}
 use Rattle.ps_keys.proofs.keys.Keys.feed.Goals as goal
 
