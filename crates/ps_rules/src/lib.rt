@@ -12,6 +12,7 @@ mod kinds;
 mod line_set;
 mod lines;
 mod looseness;
+mod movement_words;
 mod name_faults;
 mod occurrences;
 mod parts;
@@ -30,6 +31,7 @@ mod tree_cells;
 mod twice;
 mod unmatched;
 
+pub use movement_words::is_several;
 pub use occurrences::Occurrences;
 pub use ps_model::{Direction, Fault, FaultKind, MovementWord, Refusal};
 pub use read::read_rules;

@@ -3,7 +3,7 @@
 ghost use Rattle.std.specs.Prelude.{◌≡◌};
 ghost use Rattle.std.specs.List.{list_all};
 ghost use Rattle.ps_model.specs.names.Names.{layer_of};
-ghost use Rattle.ps_model.specs.meaning.Occurrences.{are_on_one_layer, is_loose};
+ghost use Rattle.ps_model.specs.meaning.Occurrences.{are_on_one_layer, is_loose, is_fixed};
 ghost use Rattle.std.specs.Prelude.{nat_eq};
 ghost use Rattle.ps_names.specs.Shown.{meaning_shown};
 
@@ -54,5 +54,17 @@ impl<'r> Occurrences<'r> {
             return false;
         };
         are_on_one_layer(names, objects.as_slice()) && !self.is_unmatched(*line)
+    }
+
+    /// Whether a property is fixed: each left occurrence is split into its members, since the rule doesn't keep it loose. What is no
+    /// property isn't fixed either.
+    pub fn is_fixed(&self, names: &Names, meaning: &Meaning) -> bool
+        ensures { result ≡ is_fixed names.now self.now (meaning_shown meaning.now) }
+    {
+        match meaning {
+            Meaning::One(_) => false,
+            Meaning::All { .. } => false,
+            Meaning::Any { .. } => !self.is_loose(names, meaning),
+        }
     }
 }

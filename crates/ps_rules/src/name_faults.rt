@@ -2,12 +2,12 @@
 
 ghost use Rattle.std.specs.Prelude.{◌≡◌, ◌||◌, ◌++◌, IfOk};
 ghost use Rattle.std.specs.List.{list_any};
-ghost use Rattle.ps_model.specs.meaning.Directions.{is_several};
 ghost use Rattle.ps_model.specs.meaning.Occurrences.{cells_of};
 ghost use Rattle.ps_model.specs.rules.RuleNameFaults.{has_name_twice, puts_no_before_aggregate, is_no_before_aggregate, has_unbound, is_unbound, is_name_unbound, is_word_unbound};
 ghost use Rattle.ps_names.specs.Shown.{meaning_shown};
 ghost use Rattle.ps_rules.specs.RulesShown.{item_shown, items_shown, cell_shown, cell_list_shown};
 
+use crate::movement_words::is_several;
 use crate::occurrences::Occurrences;
 use crate::tree::{CellPair, Item};
 use ps_model::MovementWord;
@@ -54,21 +54,6 @@ pub fn puts_no_before_aggregate(cells: &[&CellPair]) -> bool
         }
     }
     false
-}
-
-/// Whether the word leaves a choice of several moves.
-pub fn is_several(word: MovementWord) -> bool
-    ensures { result ≡ is_several word }
-{
-    matches!(
-        word,
-        MovementWord::Parallel
-            | MovementWord::Perpendicular
-            | MovementWord::Moving
-            | MovementWord::Orthogonal
-            | MovementWord::Horizontal
-            | MovementWord::Vertical
-    )
 }
 
 /// Whether no left occurrence decides a name on the right of a cell, which is a property.

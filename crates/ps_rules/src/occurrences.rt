@@ -89,6 +89,13 @@ impl<'r> Occurrences<'r> {
         })
     }
 
+    /// The rule.
+    pub fn rule(&self) -> &'r SourceRule
+        ensures { rule_shown result.now ≡ self.now }
+    {
+        self.rule
+    }
+
     /// The cells of the rule in written order.
     pub fn cells(&self) -> &[&'r CellPair]
         ensures { cell_list_shown result.now ≡ cells_of_rule self.now }
