@@ -111,7 +111,7 @@ fn key_word<'n>(word: &str) -> Option<Symbol<'n>>
 
 /// What a word is: a key word, whatever the case of its letters, or else a name. The name is looked up with its letters folded,
 /// since that finds it at once.
-#[tactic(auto, using(ps_model::proofs::Foldings::folded_again))]
+#[tactic(auto, using(ps_laws::proofs::common::Foldings::folded_again))]
 pub fn symbol_of<'n>(alloc: Global, names: &'n Names, word: &str) -> Result<Symbol<'n>, Memory>
     ensures { IfOk result (λ symbol. symbol_shown symbol ≡ symbol_of names.entry.now word.now) }
 {
