@@ -1,10 +1,12 @@
 -- The readings of a rule's turns are the rule's readings.
-use Rattle.std.proofs.Common.{◌≡◌, ℕ, List, [], ◌∷◌, ◌++◌, map, refl, sym, ap, ◌∙◌}
+use Rattle.std.proofs.Common.{◌≡◌, ℕ, suc, ◌+◌, ◌<◌, List, [], ◌∷◌, ◌++◌, length, get_or, map, drop, refl, sym, ap, ◌∙◌, arith}
+use Rattle.ps_rules.proofs.Loops.{drop-at}
 use Rattle.std.specs.List.{flat_map}
 use Rattle.std.proofs.lemmas.Grind.{flat_map-append}
 use Rattle.std.proofs.lemmas.List.Folds.{flat_map-map}
 use Rattle.ps_model.specs.declared.pieces.ObjectId.{ObjectId}
 use Rattle.ps_model.specs.declared.pieces.Direction.{Direction}
+use Rattle.ps_model.specs.declared.pieces.Motion.{Motion}
 use Rattle.ps_model.specs.rules.SourceRules.{SourceRule}
 use Rattle.ps_model.specs.meaning.Readings.{Reading, one_of_each, all_move_choices, readings_in}
 use Rattle.ps_readings.specs.TurnsMade.{turn, turns_in, readings_of_turn}
@@ -26,3 +28,12 @@ all-readings members_chosen rule (direction ∷ directions) =
 pub no-readings : (turns : List Reading) → flat_map (readings_of_turn []) turns ≡ []
 no-readings [] = refl
 no-readings (turn ∷ turns) = no-readings turns
+
+-- the turns of a direction and of those behind it
+pub faced : (rule : SourceRule) (directions : List Direction) (place : ℕ) (direction : Direction) (ways lists : List (List (ℕ × Motion))) → place < length directions →
+    direction ≡ get_or directions place direction → ways ≡ one_of_each lists → lists ≡ all_move_choices rule direction →
+    flat_map (turns_in rule) (drop place directions) ≡ map (turn direction) ways ++ flat_map (turns_in rule) (drop (place + 1) directions)
+faced rule directions place direction ways lists less is w l =
+    let next : place + 1 ≡ suc place = omega arith in
+    let there : drop place directions ≡ direction ∷ drop (place + 1) directions = drop-at direction directions place (place + 1) less is next in
+    rw (there, w, l) refl

@@ -1,3 +1,4 @@
+pub mod BoundMotions
 pub mod LeftItems
 pub mod ReadingsLeft
 pub mod ReadingsShown

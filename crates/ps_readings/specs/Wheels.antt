@@ -1,8 +1,8 @@
 -- The ways to take one item of each list, from one way on, in their order: the first list's item changes slowest. A wheel is a list
 -- with the place of the item that it shows.
-use Rattle.std.specs.Prelude.{ℕ, ◌+◌, ◌<◌, nat_eq, nat_lt, Bool, if◌then◌else◌, Option, Some, None, List, [], ◌∷◌, ◌++◌, length, map, drop, slice_get, ⊤}
+use Rattle.std.specs.Prelude.{ℕ, ◌+◌, nat_eq, nat_lt, Bool, if◌then◌else◌, Option, Some, None, List, [], ◌∷◌, ◌++◌, length, map, drop, slice_get}
 use Rattle.std.specs.Option.{option_to_list}
-use Rattle.std.specs.List.{flat_map, list_any}
+use Rattle.std.specs.List.{flat_map, list_any, list_all}
 use Rattle.ps_model.specs.meaning.Readings.{one_of_each}
 use Rattle.ps_readings.specs.declared.wheels.Wheel.{Wheel}
 
@@ -50,9 +50,8 @@ ways_behind None = []
 ways_behind (Some wheels) = ways_from wheels
 
 -- each wheel shows an item
-abbrev pub AreShowing : {A : Type 0} → List (Wheel A) → Type 0
-AreShowing [] = ⊤
-AreShowing (wheel ∷ wheels) = (wheel.place < length wheel.items) × AreShowing wheels
+abbrev pub are_showing : {A : Type 0} → List (Wheel A) → Bool
+are_showing wheels = list_all (λ wheel. nat_lt wheel.place (length wheel.items)) wheels
 
 -- some wheel has no items
 abbrev pub has_empty : {A : Type 0} → List (Wheel A) → Bool

@@ -1,6 +1,6 @@
 //! The turns of a rule: its directions, and for each all choices of moves.
 
-ghost use Rattle.std.specs.Prelude.{◌≡◌, IfOk, drop};
+ghost use Rattle.std.specs.Prelude.{◌≡◌, ◌<◌, ◌-◌, true, IfOk, drop, length};
 ghost use Rattle.std.specs.List.{flat_map};
 ghost use Rattle.ps_model.specs.meaning.Readings.{directions_of as directions_meant};
 ghost use Rattle.ps_readings.specs.TurnsMade.{turn, turns_in, more_turns};
@@ -46,12 +46,13 @@ impl<'o, 'r> Turns<'o, 'r> {
 
     /// Begins the next direction, if there is one; else the answer is `false`.
     fn face_next(&mut self, alloc: Global) -> Result<bool, Memory>
-        ensures { IfOk result (λ more. flat_map (turns_in self.old.occurrences.now) (drop self.old.faced self.old.directions.items) ≡ more_turns more (turns_left self.new)) }
+        ensures turns { IfOk result (λ more. flat_map (turns_in self.old.occurrences.now) (drop self.old.faced self.old.directions.items) ≡ more_turns more (turns_left self.new)) }
+        ensures fewer { IfOk result (λ more. more ≡ true → length self.new.directions.items - self.new.faced < length self.old.directions.items - self.old.faced) }
     {
-        let Some(direction) = self.directions.get(self.faced) else {
+        if self.faced >= self.directions.len() {
             return Ok(false);
-        };
-        let direction = *direction;
+        }
+        let direction = self.directions[self.faced];
         let lists = all_move_choices(alloc, self.occurrences, direction)?;
         self.ways = Ways::of(alloc, lists)?;
         self.direction = direction;

@@ -5,6 +5,7 @@ ghost use Rattle.ps_model.specs.meaning.Wanted.{motion_of_word as motion_of_word
 ghost use Rattle.ps_model.specs.meaning.ReadingMeanings.{left_of_cell as left_of_cell_meant, right_of_cell as right_of_cell_meant};
 ghost use Rattle.ps_names.specs.Shown.{meaning_shown};
 ghost use Rattle.ps_rules.specs.RulesShown.{item_shown, cell_shown};
+ghost use Rattle.ps_readings.specs.BoundMotions.{bound_motion};
 ghost use Rattle.ps_readings.specs.ReadingsShown.{reading_shown};
 ghost use Rattle.ps_readings.specs.WantedShown.{wanted_shown, wanteds_shown};
 
@@ -90,6 +91,21 @@ pub fn wanted_left<'r>(
     }
 }
 
+/// The motion of a word on the right of a cell, if there is one: that of the left occurrence that it is bound to, where it leaves a
+/// choice.
+fn bound_motion(
+    occurrences: &Occurrences<'_>,
+    cell: &CellPair,
+    reading: &Reading,
+    word: Option<MovementWord>,
+    meaning: &Meaning,
+) -> Option<Motion>
+    ensures { result ≡ bound_motion occurrences.now (cell_shown cell.now) (reading_shown reading.now) word (meaning_shown meaning.now) }
+{
+    let word = word?;
+    motion_of_word(reading, occurrences.bound_word(cell, word, meaning), word)
+}
+
 /// What an item of a cell's right puts there, or takes away with `no`: the choices are those of the left occurrences that it is
 /// bound to.
 pub fn wanted_right<'r>(
@@ -104,20 +120,11 @@ pub fn wanted_right<'r>(
     match item {
         Item::Is {
             at: _,
-            word: None,
+            word,
             meaning,
         } => {
+            let motion = bound_motion(occurrences, cell, reading, *word, meaning);
             let bound = occurrences.bound_name(cell, meaning);
-            wanted_name(names, occurrences, reading, bound, meaning, None)
-        }
-        Item::Is {
-            at: _,
-            word: Some(word),
-            meaning,
-        } => {
-            let bound = occurrences.bound_name(cell, meaning);
-            let decided = occurrences.bound_word(cell, *word, meaning);
-            let motion = motion_of_word(reading, decided, *word);
             wanted_name(names, occurrences, reading, bound, meaning, motion)
         }
         Item::No { meaning } => Wanted::Without(members(meaning)),

@@ -1,8 +1,9 @@
 //! The ways to take one item of each list, one after the other.
 
-ghost use Rattle.std.specs.Prelude.{◌≡◌, ◌++◌, [], true, false, IfOk, OnOk, Some, None, map, if◌then◌else◌};
+ghost use Rattle.std.specs.Prelude.{◌≡◌, ◌++◌, [], true, false, IfOk, OnOk, Some, None, map, slice_get};
+ghost use Rattle.std.specs.Option.{option_to_list};
 ghost use Rattle.ps_model.specs.meaning.Readings.{one_of_each};
-ghost use Rattle.ps_readings.specs.Wheels.{lists_of, way_shown, at_first, next_wheels, has_empty, AreShowing, ways_left, taken};
+ghost use Rattle.ps_readings.specs.Wheels.{lists_of, way_shown, at_first, next_wheels, has_empty, are_showing, ways_left, taken};
 
 use crate::wheels::Wheel;
 use ps_model::Memory;
@@ -21,33 +22,44 @@ fn has_empty<T>(wheels: &[Wheel<T>]) -> bool
     false
 }
 
-/// Puts the item that each wheel shows last.
+/// Puts the item that a wheel shows last.
+#[tactic(auto, using(std::proofs::lemmas::Option::gets, std::proofs::lemmas::Grind::common_steps))]
+fn push_item<T: Copy>(way: &mut Vec<T>, wheel: &Wheel<T>) -> Result<(), Memory>
+    ensures { OnOk result (way.new.items ≡ way.old.items ++ option_to_list (slice_get wheel.now.items wheel.now.place)) }
+{
+    let items = wheel.items.as_slice();
+    if wheel.place >= items.len() {
+        return Ok(());
+    }
+    way.push(items[wheel.place])?;
+    Ok(())
+}
+
+/// Puts the items that wheels show last.
 fn push_shown<T: Copy>(way: &mut Vec<T>, wheels: &[Wheel<T>]) -> Result<(), Memory>
     ensures { OnOk result (way.new.items ≡ way.old.items ++ way_shown wheels.now) }
 {
     for wheel in wheels {
-        if let Some(item) = wheel.items.as_slice().get(wheel.place) {
-            way.push(*item)?;
-        }
+        push_item(way, wheel)?;
     }
     Ok(())
 }
 
 /// Makes each wheel show its first item.
-fn turn_to_first<T>(wheels: &mut [Wheel<T>])
-    ensures { wheels.new ≡ map at_first wheels.old }
+fn turn_to_first<T>(wheels: &mut Vec<Wheel<T>>)
+    ensures { wheels.new.items ≡ map at_first wheels.old.items }
 {
-    for wheel in wheels.iter_mut() {
-        wheel.place = 0;
+    for place in 0..wheels.len() {
+        wheels[place].place = 0;
     }
 }
 
 /// Makes the wheels show the next way: the last one that has one more item shows that, and those behind it their first. If none
 /// has, all show their first ones, and the answer is `false`.
-fn turn_to_next<T>(wheels: &mut [Wheel<T>]) -> bool
-    ensures next { result ≡ true → next_wheels wheels.old ≡ Some wheels.new }
-    ensures none { result ≡ false → next_wheels wheels.old ≡ None }
-    ensures first { result ≡ false → wheels.new ≡ map at_first wheels.old }
+fn turn_to_next<T>(wheels: &mut Vec<Wheel<T>>) -> bool
+    ensures next { result ≡ true → next_wheels wheels.old.items ≡ Some wheels.new.items }
+    ensures none { result ≡ false → next_wheels wheels.old.items ≡ None }
+    ensures first { result ≡ false → wheels.new.items ≡ map at_first wheels.old.items }
 {
     let mut place = wheels.len();
     while place > 0 {
@@ -78,7 +90,7 @@ fn wheels_of<T: Drop>(alloc: Global, lists: Vec<List<T>>) -> Result<Vec<Wheel<T>
 pub struct Ways<T> {
     wheels: Vec<Wheel<T>>,
     ended: bool,
-    ghost showing: { ended ≡ false → AreShowing wheels.items },
+    ghost showing: { ended ≡ false → are_showing wheels.items ≡ true },
 }
 
 impl<T: Copy + Drop> Ways<T> {
