@@ -1,6 +1,6 @@
 -- The ways to take one item of each list, from one way on, in their order: the first list's item changes slowest. A wheel is a list
 -- with the place of the item that it shows.
-use Rattle.std.specs.Prelude.{ℕ, ◌+◌, nat_eq, nat_lt, Bool, if◌then◌else◌, Option, Some, None, List, [], ◌∷◌, ◌++◌, length, map, drop, slice_get}
+use Rattle.std.specs.Prelude.{◌+◌, nat_eq, nat_lt, Bool, if◌then◌else◌, Option, Some, None, List, [], ◌∷◌, ◌++◌, length, map, drop, slice_get}
 use Rattle.std.specs.Option.{option_to_list}
 use Rattle.std.specs.List.{flat_map, list_any, list_all}
 use Rattle.ps_model.specs.meaning.Readings.{one_of_each}

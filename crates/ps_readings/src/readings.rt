@@ -48,17 +48,19 @@ impl<'o, 'r> Readings<'o, 'r> {
     pub fn next(&mut self, alloc: Global) -> Result<bool, Memory>
         ensures { IfOk result (λ more. readings_left self.old ≡ taken more (made_last self.new) (readings_left self.new)) }
     {
-        if self.members.next(&mut self.reading.members)? {
+        let more = self.members.next(&mut self.reading.members)?;
+        if more {
             return Ok(true);
         }
-        if !self
-            .turns
-            .next(alloc, &mut self.reading.direction, &mut self.reading.moves)?
-        {
+        let turned =
+            self.turns
+                .next(alloc, &mut self.reading.direction, &mut self.reading.moves)?;
+        if !turned {
             return Ok(false);
         }
         self.members.rewind();
-        self.members.next(&mut self.reading.members)
+        let begun = self.members.next(&mut self.reading.members)?;
+        Ok(begun)
     }
 
     /// The reading that was made last.

@@ -1,7 +1,7 @@
 use Rattle.std.proofs.Common.{◌≡◌, ◌++◌, drop}
 use Rattle.std.specs.Prelude.{map}
 use Rattle.ps_model.specs.meaning.Wanted.{wanted_left}
-use Rattle.ps_rules.specs.RulesShown.{item_shown, items_shown, cell_shown}
+use Rattle.ps_rules.specs.RulesShown.{items_shown, cell_shown}
 use Rattle.ps_readings.specs.ReadingsShown.{reading_shown}
 use Rattle.ps_readings.specs.WantedShown.{wanteds_shown}
 use Rattle.ps_readings.proofs.wanted.left_of_cell.Given as goal

@@ -1,4 +1,3 @@
-use Rattle.std.proofs.Common.{◌≡◌, ◌∙◌, sym}
 use Rattle.ps_readings.proofs.BoundNames.{wanted-bound}
 use Rattle.ps_readings.proofs.wanted.wanted_right.Goals as goal
 

@@ -1,4 +1,4 @@
-use Rattle.std.proofs.Common.{arith, ◌<◌, ◌≡◌, length}
+use Rattle.std.proofs.Common.{arith, ◌<◌, length}
 use Rattle.std.proofs.lemmas.List.Edits.{map_over_more}
 use Rattle.ps_readings.specs.Wheels.{at_first}
 use Rattle.ps_readings.proofs.ways.turn_to_first.Goals as goal

@@ -1,4 +1,4 @@
-use Rattle.std.proofs.Common.{◌≡◌, ◌∙◌, ◌+◌, ◌-◌, ◌<◌, ℕ, length, arith, ap, sym, List}
+use Rattle.std.proofs.Common.{◌≡◌, ◌∙◌, ◌+◌, ◌-◌, ◌<◌, ℕ, length, arith, ap, sym}
 use Rattle.ps_readings.specs.declared.wheels.Wheel.{Wheel}
 use Rattle.ps_readings.proofs.WayByWay.{turned-here, same-read}
 use Rattle.ps_readings.proofs.ways.turn_to_next.Goals as goal

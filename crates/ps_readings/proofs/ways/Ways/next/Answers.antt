@@ -1,4 +1,4 @@
-use Rattle.std.proofs.Common.{◌≡◌, ◌∙◌, ap, sym, refl, Bool, true, false, List}
+use Rattle.std.proofs.Common.{refl}
 use Rattle.ps_readings.proofs.WayByWay.{lists-turned, showing-turned, ways-turned}
 use Rattle.ps_readings.proofs.ways.Ways.next.Goals as goal
 

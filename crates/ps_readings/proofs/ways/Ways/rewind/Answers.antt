@@ -1,5 +1,4 @@
-use Rattle.std.proofs.Common.{◌≡◌, ◌∙◌, ap, sym, Bool, true, false, List}
-use Rattle.ps_readings.specs.declared.wheels.Wheel.{Wheel}
+use Rattle.std.proofs.Common.{◌∙◌, ap, sym}
 use Rattle.ps_readings.specs.Wheels.{lists_of, has_empty}
 use Rattle.ps_readings.proofs.WayByWay.{lists-first, showing-started, ways-started}
 use Rattle.ps_readings.proofs.ways.Ways.rewind.Goals as goal

@@ -1,0 +1,6 @@
+pub mod GroupsMade
+pub mod GroupsWith
+pub mod OpenGroups
+pub mod PiecesShown
+pub mod PossibleRules
+pub mod ProgramsMade
