@@ -1,7 +1,13 @@
 -- Compiled groups in the making.
-use Rattle.std.proofs.Common.{◌≡◌, Bool, true, false, cond, Option, Some, None, List, [], ◌∷◌, ◌++◌, map, refl, sym, ap, ◌∙◌, append_assoc}
+use Rattle.std.proofs.Common.{◌≡◌, ℕ, suc, ◌+◌, ◌<◌, length, drop, get_or, arith, Bool, true, false, cond, Option, Some, None, List, [], ◌∷◌, ◌++◌, map, refl, sym, ap, ◌∙◌, append_assoc}
+use Rattle.std.specs.Prelude.{filter}
 use Rattle.std.specs.List.{flat_map}
-use Rattle.std.proofs.lemmas.List.{append-nil}
+use Rattle.std.proofs.lemmas.List.{append-nil, map-append}
+use Rattle.ps_rules.proofs.Loops.{drop-at}
+use Rattle.ps_model.specs.meaning.Readings.{Reading}
+use Rattle.ps_model.specs.meaning.ReadingMeanings.{is_possible}
+use Rattle.ps_model.specs.meaning.CompiledRules.{rule_by}
+use Rattle.ps_compile.specs.PossibleRules.{rule_if}
 use Rattle.ps_model.specs.names.Names.{Names}
 use Rattle.ps_model.specs.rules.SourceRules.{SourceRule}
 use Rattle.ps_model.specs.board.RulePrograms.{is_joined, before_groups}
@@ -68,3 +74,32 @@ added names rule open' left closed grown begun made groups g l b m = rw (m, b, l
 pub finished : (names : Names) (open' : Option (List CompiledRule)) (closed all : List (List CompiledRule)) → all ≡ closed ++ closed_by false open' → all ≡ closed ++ behind names open' []
 finished names None closed all e = e
 finished names (Some made) closed all e = e
+
+-- lists made piece by piece -----------------------------------------------------------------------------------------------
+
+-- one more element is made, shown as it is meant
+pub shown-more : {A B C D : Type 0} (show : A → B) (f : D → B) (h : C → D) (made grown : List A) (all : List B) (x : A) (y : C) (ys : List C) (i : ℕ) → grown ≡ made ++ x ∷ [] → show x ≡ f (h y) →
+    i < length ys → y ≡ get_or ys i y → map show made ++ map f (map h (drop i ys)) ≡ all → map show grown ++ map f (map h (drop (i + 1) ys)) ≡ all
+shown-more {A} {B} {C} {D} show f h made grown all x y ys i e shows less is before =
+    let next : i + 1 ≡ suc i = omega arith in
+    let there : drop i ys ≡ y ∷ drop (i + 1) ys = drop-at y ys i (i + 1) less is next in
+    let rest : List B = map f (map h (drop (i + 1) ys)) in
+    ap (λ (l : List A). map show l ++ rest) e
+    ∙ ap (λ (l : List B). l ++ rest) (map-append show made (x ∷ []))
+    ∙ append_assoc (map show made) (show x ∷ []) rest
+    ∙ ap (λ (z : B). map show made ++ z ∷ rest) shows
+    ∙ ap (λ (l : List C). map show made ++ map f (map h l)) (sym there)
+    ∙ before
+
+-- one more is made of what passes
+passed : {A B : Type 0} (f : A → B) (x : A) (xs : List A) (made : List B) (yes : Bool) → (made ++ cond yes (f x ∷ []) []) ++ map f xs ≡ made ++ map f (cond yes (x ∷ xs) xs)
+passed f x xs made true = append_assoc made (f x ∷ []) (map f xs)
+passed f x xs made false = ap (λ l. l ++ map f xs) (append-nil made)
+
+pub read-more : (names : Names) (rule : SourceRule) (reading : Reading) (left before : List Reading) (made grown all : List CompiledRule) → before ≡ reading ∷ left → grown ≡ made ++ rule_if names rule reading →
+    made ++ map (rule_by names rule) (filter (is_possible names rule) before) ≡ all → grown ++ map (rule_by names rule) (filter (is_possible names rule) left) ≡ all
+read-more names rule reading left before made grown all e g invariant =
+    ap (λ (l : List CompiledRule). l ++ map (rule_by names rule) (filter (is_possible names rule) left)) g
+    ∙ passed (rule_by names rule) reading (filter (is_possible names rule) left) made (is_possible names rule reading)
+    ∙ ap (λ (readings : List Reading). made ++ map (rule_by names rule) (filter (is_possible names rule) readings)) (sym e)
+    ∙ invariant

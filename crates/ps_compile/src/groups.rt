@@ -83,10 +83,11 @@ impl<'r> Groups<'r> {
     }
 
     /// All groups, as no rule is to come any more.
-    pub fn finish(mut self) -> Result<Vec<List<CompiledRule<'r>>>, Memory>
-        ensures { IfOk result (λ groups. (names : NamesMeant) → groups_shown groups.items ≡ groups_with names self []) }
+    pub fn finish(self) -> Result<Vec<List<CompiledRule<'r>>>, Memory>
+        ensures { IfOk result (λ groups. (names : NamesMeant) → groups_shown groups.items ≡ groups_with names self.entry []) }
     {
-        self.close()?;
-        Ok(self.closed)
+        let mut groups = self;
+        groups.close_unless(false)?;
+        Ok(groups.closed)
     }
 }

@@ -134,5 +134,6 @@ pub fn push_rules<'r>(
     ensures { OnOk result (rules_shown rules.new.items ≡ rules_shown rules.old.items ++ compiled_rules names.now (source_shown rule.entry.now)) }
 {
     let occurrences = Occurrences::of(alloc, rule)?;
-    push_readings(alloc, rules, names, &occurrences)
+    push_readings(alloc, rules, names, &occurrences)?;
+    Ok(())
 }
