@@ -1,1 +1,2 @@
+pub mod AlikePrograms
 pub mod MadePieces

@@ -32,7 +32,7 @@ opened names rule (group ∷ groups) = opens names rule group groups (is_joined 
 joins : (names : Names) (rule : SourceRule) (made : List CompiledRule) (group : List SourceRule) (groups : List (List SourceRule)) (joined : Bool) → rule.joined ≡ true →
     behind_open names made (cond joined ((rule ∷ group) ∷ groups) ((rule ∷ []) ∷ group ∷ groups))
     ≡ cond joined (((made ++ compiled_rules names rule) ++ compiled_group names group) ∷ map (compiled_group names) groups)
-        ((made ++ compiled_rules names rule) ∷ map (compiled_group names) (group ∷ groups))
+    ((made ++ compiled_rules names rule) ∷ map (compiled_group names) (group ∷ groups))
 joins names rule made group groups true j = rw j (ap (λ rules. rules ∷ map (compiled_group names) groups) (sym (append_assoc made (compiled_rules names rule) (compiled_group names group))))
 joins names rule made group groups false j = rw j (ap (λ rules. (made ++ rules) ∷ map (compiled_group names) (group ∷ groups)) (append-nil (compiled_rules names rule)))
 

@@ -1,3 +1,4 @@
+pub mod AlikeRuns
 pub mod GroupsMade
 pub mod GroupsWith
 pub mod OpenGroups

@@ -8,6 +8,7 @@ ghost use Rattle.ps_model.specs.meaning.Compiled.{CompiledGroup};
 ghost use Rattle.ps_model.specs.meaning.CompiledRules.{compiled_groups, compiled_outside, compiled_loop_and_rest, compiled_pieces, compiled_program};
 ghost use Rattle.ps_rules.specs.RulesShown.{rule_shown as source_shown, lines_shown};
 ghost use Rattle.ps_program.specs.ProgramShown.{groups_shown, sections_shown};
+ghost use Rattle.ps_compile.specs.AlikeRuns.{RunsAlike};
 ghost use Rattle.ps_compile.specs.PiecesShown.{pieces_shown};
 ghost use Rattle.ps_compile.specs.ProgramsMade.{sections_behind};
 
@@ -181,7 +182,8 @@ fn program_of<'r>(
     Ok(Program::from_sections(sections))
 }
 
-/// The two compiled programs of a game's rules. `Memory` if there is no room for them.
+/// The two compiled programs of a game's rules: for rules of a game, a run of each comes to what the rules mean on each of its
+/// grids. `Memory` if there is no room for them.
 pub fn compile<'r>(
     alloc: Global,
     names: &Names,
@@ -189,6 +191,8 @@ pub fn compile<'r>(
 ) -> Result<Programs<'r>, Memory>
     ensures plain { IfOk result (λ programs. programs.plain ≡ compiled_program names.now Plain rules.entry.now) }
     ensures late { IfOk result (λ programs. programs.late ≡ compiled_program names.now Late rules.entry.now) }
+    ensures plain_alike { IfOk result (λ programs. RunsAlike names.now Plain rules.entry.now programs.plain) }
+    ensures late_alike { IfOk result (λ programs. RunsAlike names.now Late rules.entry.now programs.late) }
 {
     let plain = program_of(alloc, names, Part::Plain, rules.lines())?;
     let late = program_of(alloc, names, Part::Late, rules.lines())?;

@@ -95,11 +95,7 @@ fn is_alone(claims: &[Claim], claim: Claim) -> bool
 }
 
 /// Puts the writes of the layers that the right claims last.
-fn push_claimed(
-    writes: &mut Vec<LayerWrite>,
-    left: &[Claim],
-    right: &[Claim],
-) -> Result<(), Memory>
+fn push_claimed(writes: &mut Vec<LayerWrite>, left: &[Claim], right: &[Claim]) -> Result<(), Memory>
     ensures { OnOk result (writes.new.items ≡ writes.old.items ++ map (claim_write left.now) right.now) }
 {
     for claim in right {
@@ -109,11 +105,7 @@ fn push_claimed(
 }
 
 /// Puts the writes last that clear the layers away that the left alone claims.
-fn push_cleared(
-    writes: &mut Vec<LayerWrite>,
-    left: &[Claim],
-    right: &[Claim],
-) -> Result<(), Memory>
+fn push_cleared(writes: &mut Vec<LayerWrite>, left: &[Claim], right: &[Claim]) -> Result<(), Memory>
     ensures { OnOk result (writes.new.items ≡ writes.old.items ++ map clear_write (filter (is_alone right.now) left.now)) }
 {
     for claim in left {
@@ -125,11 +117,7 @@ fn push_cleared(
 }
 
 /// The writes of the layers that the right claims, and then of those that the left alone does.
-fn layer_writes(
-    alloc: Global,
-    left: &[Claim],
-    right: &[Claim],
-) -> Result<Vec<LayerWrite>, Memory>
+fn layer_writes(alloc: Global, left: &[Claim], right: &[Claim]) -> Result<Vec<LayerWrite>, Memory>
     ensures { IfOk result (λ writes. writes.items ≡ layer_writes left.now right.now) }
 {
     let mut writes = Vec::new(alloc);

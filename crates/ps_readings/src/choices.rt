@@ -28,11 +28,7 @@ fn moves_at(alloc: Global, at: u32, moves: &[Motion]) -> Result<List<(u32, Motio
 }
 
 /// Members, each for the occurrence at that byte of the text.
-fn members_at(
-    alloc: Global,
-    at: u32,
-    objects: &[ObjectId],
-) -> Result<List<(u32, ObjectId)>, Memory>
+fn members_at(alloc: Global, at: u32, objects: &[ObjectId]) -> Result<List<(u32, ObjectId)>, Memory>
     ensures { IfOk result (λ choices. choices ≡ map (λ object. (at, object)) objects.now) }
 {
     let mut choices = Vec::new(alloc);

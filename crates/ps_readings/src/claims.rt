@@ -69,11 +69,7 @@ fn push_loose(
 }
 
 /// Puts what an item claims of layers last; `no` claims nothing.
-pub fn push_claims(
-    claims: &mut Vec<Claim>,
-    names: &Names,
-    wanted: Wanted<'_>,
-) -> Result<(), Memory>
+pub fn push_claims(claims: &mut Vec<Claim>, names: &Names, wanted: Wanted<'_>) -> Result<(), Memory>
     ensures { OnOk result (claims.new.items ≡ claims.old.items ++ claims_of names.now (wanted_shown wanted.entry)) }
 {
     match wanted {

@@ -144,10 +144,7 @@ fn written_directions(alloc: Global, named: &[Direction]) -> Result<Vec<Directio
 }
 
 /// The directions in which a rule is used, in their order; a rule that means the same in each is used in its first alone.
-pub fn directions_of(
-    alloc: Global,
-    occurrences: &Occurrences<'_>,
-) -> Result<Vec<Direction>, Memory>
+pub fn directions_of(alloc: Global, occurrences: &Occurrences<'_>) -> Result<Vec<Direction>, Memory>
     ensures { IfOk result (λ directions. directions.items ≡ directions_of occurrences.now) }
 {
     let mut directions = written_directions(alloc, occurrences.rule().directions.as_slice())?;

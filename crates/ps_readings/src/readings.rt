@@ -52,9 +52,7 @@ impl<'o, 'r> Readings<'o, 'r> {
         if more {
             return Ok(true);
         }
-        let turned =
-            self.turns
-                .next(alloc, &mut self.reading.direction, &mut self.reading.moves)?;
+        let turned = self.turns.next(alloc, &mut self.reading.direction, &mut self.reading.moves)?;
         if !turned {
             return Ok(false);
         }
