@@ -12,3 +12,6 @@ mod writes;
 pub use program::{Programs, compile};
 pub use ps_model::{Memory, Part};
 pub use ps_program::{CompiledRule, CompiledSection, Program};
+
+#[cfg(test)]
+mod tests;
