@@ -1,0 +1,2 @@
+pub mod AlikePrograms
+pub mod MadePieces

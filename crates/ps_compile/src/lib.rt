@@ -1,0 +1,17 @@
+//! Rules compiled: each possible reading of a rule as masks and writes, in order, and the two programs that they make.
+#![tactic(auto)]
+
+mod cells;
+mod groups;
+mod masks;
+mod pieces;
+mod program;
+mod rules;
+mod writes;
+
+pub use program::{Programs, compile};
+pub use ps_model::{Memory, Part};
+pub use ps_program::{CompiledRule, CompiledSection, Program};
+
+#[cfg(test)]
+mod tests;

@@ -1,0 +1,200 @@
+//! The two compiled programs of a game's rules.
+
+ghost use Rattle.std.specs.Prelude.{◌≡◌, ◌++◌, IfOk, OnOk, map};
+ghost use Rattle.std.specs.List.{flat_map};
+ghost use Rattle.ps_model.specs.declared.rules.Part.TheVariants.{Plain, Late};
+ghost use Rattle.ps_model.specs.board.RulePrograms.{is_in_part};
+ghost use Rattle.ps_model.specs.meaning.Compiled.{CompiledGroup};
+ghost use Rattle.ps_model.specs.meaning.CompiledRules.{compiled_groups, compiled_outside, compiled_loop_and_rest, compiled_pieces, compiled_program};
+ghost use Rattle.ps_rules.specs.RulesShown.{rule_shown as source_shown, lines_shown};
+ghost use Rattle.ps_program.specs.ProgramShown.{groups_shown, sections_shown};
+ghost use Rattle.ps_compile.specs.AlikeRuns.{RunsAlike};
+ghost use Rattle.ps_compile.specs.PiecesShown.{pieces_shown};
+ghost use Rattle.ps_compile.specs.ProgramsMade.{sections_behind};
+
+use crate::groups::Groups;
+use crate::pieces::{cut_at_ends, cut_at_starts};
+use ps_model::{Memory, Part};
+use ps_names::Names;
+use ps_program::{CompiledRule, CompiledSection, Program};
+use ps_rules::{RuleLine, RuleText, SourceRule};
+use ps_text::List;
+use std::alloc::Global;
+
+/// The two programs of a game's rules: the plain one, and the late one.
+#[derive(Drop)]
+pub struct Programs<'r> {
+    pub plain: Program<'r>,
+    pub late: Program<'r>,
+}
+
+/// Whether the rule belongs to that part of a turn.
+fn is_in_part(part: Part, rule: &SourceRule) -> bool
+    ensures { result ≡ is_in_part part (source_shown rule.now) }
+{
+    match part {
+        Part::Plain => !rule.late,
+        Part::Late => rule.late,
+    }
+}
+
+/// The compiled groups of one part that lines make.
+fn compiled_groups<'r>(
+    alloc: Global,
+    names: &Names,
+    part: Part,
+    lines: &'r [RuleLine],
+) -> Result<Vec<List<CompiledRule<'r>>>, Memory>
+    ensures { IfOk result (λ groups. groups_shown groups.items ≡ compiled_groups names.now part (lines_shown lines.entry.now)) }
+{
+    let mut groups = Groups::new(alloc);
+    for line in lines {
+        let RuleLine::Rule(rule) = line else {
+            continue;
+        };
+        if is_in_part(part, rule) {
+            groups.add(alloc, names, rule)?;
+        }
+    }
+    groups.finish()
+}
+
+/// Puts groups last, each as a section.
+fn push_groups<'r>(
+    sections: &mut Vec<CompiledSection<'r>>,
+    groups: Vec<List<CompiledRule<'r>>>,
+) -> Result<(), Memory>
+    ensures { OnOk result (sections_shown sections.new.items ≡ sections_shown sections.old.items ++ map CompiledGroup (groups_shown groups.entry.items)) }
+{
+    for group in groups {
+        sections.push(CompiledSection::Group(group))?;
+    }
+    Ok(())
+}
+
+/// Puts the sections of lines outside of loops last.
+fn push_outside<'r>(
+    alloc: Global,
+    sections: &mut Vec<CompiledSection<'r>>,
+    names: &Names,
+    part: Part,
+    lines: &'r [RuleLine],
+) -> Result<(), Memory>
+    ensures { OnOk result (sections_shown sections.new.items ≡ sections_shown sections.old.items ++ compiled_outside names.now part (lines_shown lines.entry.now)) }
+{
+    let groups = compiled_groups(alloc, names, part, lines)?;
+    push_groups(sections, groups)
+}
+
+/// Puts the sections of pieces outside of loops last.
+fn push_all_outside<'r>(
+    alloc: Global,
+    sections: &mut Vec<CompiledSection<'r>>,
+    names: &Names,
+    part: Part,
+    pieces: &[&'r [RuleLine]],
+) -> Result<(), Memory>
+    ensures { OnOk result (sections_shown sections.new.items ≡ sections_shown sections.old.items ++ flat_map (compiled_outside names.now part) (pieces_shown pieces.now)) }
+{
+    for piece in pieces {
+        push_outside(alloc, sections, names, part, piece)?;
+    }
+    Ok(())
+}
+
+/// Puts the sections of pieces last of which the first is a loop's body.
+fn push_loop<'r>(
+    alloc: Global,
+    sections: &mut Vec<CompiledSection<'r>>,
+    names: &Names,
+    part: Part,
+    pieces: &[&'r [RuleLine]],
+) -> Result<(), Memory>
+    ensures { OnOk result (sections_shown sections.new.items ≡ sections_shown sections.old.items ++ compiled_loop_and_rest names.now part (pieces_shown pieces.now)) }
+{
+    let Some((body, others)) = pieces.split_first() else {
+        return Ok(());
+    };
+    let groups = compiled_groups(alloc, names, part, body)?;
+    sections.push(CompiledSection::Loop(List::from_vec(groups)))?;
+    push_all_outside(alloc, sections, names, part, others)
+}
+
+/// Puts the sections of the lines behind the start of a loop last.
+fn push_behind<'r>(
+    alloc: Global,
+    sections: &mut Vec<CompiledSection<'r>>,
+    names: &Names,
+    part: Part,
+    lines: &'r [RuleLine],
+) -> Result<(), Memory>
+    ensures { OnOk result (sections_shown sections.new.items ≡ sections_shown sections.old.items ++ sections_behind names.now part (lines_shown lines.entry.now)) }
+{
+    let pieces = cut_at_ends(alloc, lines)?;
+    push_loop(alloc, sections, names, part, &pieces)
+}
+
+/// Puts the sections of the lines behind each start of a loop last.
+fn push_all_behind<'r>(
+    alloc: Global,
+    sections: &mut Vec<CompiledSection<'r>>,
+    names: &Names,
+    part: Part,
+    pieces: &[&'r [RuleLine]],
+) -> Result<(), Memory>
+    ensures { OnOk result (sections_shown sections.new.items ≡ sections_shown sections.old.items ++ flat_map (sections_behind names.now part) (pieces_shown pieces.now)) }
+{
+    for piece in pieces {
+        push_behind(alloc, sections, names, part, piece)?;
+    }
+    Ok(())
+}
+
+/// Puts the sections of lines last that are cut at the starts of loops.
+fn push_pieces<'r>(
+    alloc: Global,
+    sections: &mut Vec<CompiledSection<'r>>,
+    names: &Names,
+    part: Part,
+    pieces: &[&'r [RuleLine]],
+) -> Result<(), Memory>
+    ensures { OnOk result (sections_shown sections.new.items ≡ sections_shown sections.old.items ++ compiled_pieces names.now part (pieces_shown pieces.now)) }
+{
+    let Some((before, behind)) = pieces.split_first() else {
+        return Ok(());
+    };
+    push_outside(alloc, sections, names, part, before)?;
+    push_all_behind(alloc, sections, names, part, behind)
+}
+
+/// The compiled program of one part of a turn.
+fn program_of<'r>(
+    alloc: Global,
+    names: &Names,
+    part: Part,
+    lines: &'r [RuleLine],
+) -> Result<Program<'r>, Memory>
+    ensures { IfOk result (λ program. program ≡ compiled_program names.now part (lines_shown lines.entry.now)) }
+{
+    let pieces = cut_at_starts(alloc, lines)?;
+    let mut sections = Vec::new(alloc);
+    push_pieces(alloc, &mut sections, names, part, &pieces)?;
+    Ok(Program::from_sections(sections))
+}
+
+/// The two compiled programs of a game's rules: for rules of a game, a run of each comes to what the rules mean on each of its
+/// grids. `Memory` if there is no room for them.
+pub fn compile<'r>(
+    alloc: Global,
+    names: &Names,
+    rules: &'r RuleText,
+) -> Result<Programs<'r>, Memory>
+    ensures plain { IfOk result (λ programs. programs.plain ≡ compiled_program names.now Plain rules.entry.now) }
+    ensures late { IfOk result (λ programs. programs.late ≡ compiled_program names.now Late rules.entry.now) }
+    ensures plain_alike { IfOk result (λ programs. RunsAlike names.now Plain rules.entry.now programs.plain) }
+    ensures late_alike { IfOk result (λ programs. RunsAlike names.now Late rules.entry.now programs.late) }
+{
+    let plain = program_of(alloc, names, Part::Plain, rules.lines())?;
+    let late = program_of(alloc, names, Part::Late, rules.lines())?;
+    Ok(Programs { plain, late })
+}

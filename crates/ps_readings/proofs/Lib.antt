@@ -1,0 +1,4 @@
+pub mod BoundNames
+pub mod Pieces
+pub mod WayByWay
+pub mod TurnedReadings
