@@ -3,7 +3,7 @@ use Rattle.std.specs.Prelude.{if◌then◌else◌, Option, Some, None, List, [],
 use Rattle.std.specs.List.{flat_map}
 use Rattle.ps_model.specs.names.Names.{Names}
 use Rattle.ps_model.specs.rules.SourceRules.{SourceRule}
-use Rattle.ps_model.specs.board.RulePrograms.{is_joined, groups_of}
+use Rattle.ps_model.specs.board.RulePrograms.{is_joined}
 use Rattle.ps_model.specs.meaning.Compiled.{CompiledRule}
 use Rattle.ps_model.specs.meaning.CompiledRules.{compiled_rules}
 

@@ -1,6 +1,6 @@
 -- Pieces of a program.
 use Rattle.std.specs.Prelude.{List}
-use Rattle.std.specs.List.{flat_map, slice_split}
+use Rattle.std.specs.List.{slice_split}
 use Rattle.ps_model.specs.declared.rules.Part.{Part}
 use Rattle.ps_model.specs.names.Names.{Names}
 use Rattle.ps_model.specs.rules.SourceRules.{RuleLine}

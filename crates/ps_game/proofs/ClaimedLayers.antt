@@ -14,8 +14,8 @@ use Rattle.ps_model.specs.rules.SourceRules.{Item, Is, No, CellPair, SourceRule}
 use Rattle.ps_model.specs.meaning.Occurrences.{cells_of, bound_name, bound_word, is_loose}
 use Rattle.ps_model.specs.meaning.Readings.{Reading}
 use Rattle.ps_model.specs.meaning.Wanted.{Wanted, one_member, chosen_member, motion_of_word, wanted_name, wanted_left, wanted_right, Each, Any}
-use Rattle.ps_model.specs.meaning.Rewriting as rewriting
-use Rattle.ps_model.specs.meaning.Rewriting.{claims_of, loose_claim}
+use Rattle.ps_model.specs.declared.compiled.Claim.{Claim as ReadingClaim}
+use Rattle.ps_model.specs.meaning.Rewriting.{claims_of, loose_claim, object_claim}
 use Rattle.ps_model.specs.meaning.ReadingMeanings.{are_apart, is_possible_cell, is_possible, right_of_cell}
 use Rattle.ps_laws.proofs.common.Stages.{map-flat_map, same_flat_map}
 use Rattle.ps_game.specs.declared.claims.Claim.{Claim}
@@ -25,8 +25,8 @@ use Rattle.ps_game.specs.Pairing.{paired}
 use Rattle.ps_game.proofs.Quantified.{any_mapped, all_joined, all_same}
 
 -- the layer of a claim of a reading
-abbrev layer_in : rewriting.Claim → ℕ
-layer_in claim = claim.layer
+abbrev layer_in : ReadingClaim → ℕ
+layer_in claim = (claim.layer).0
 
 -- a choice as a reading with a direction and moves
 abbrev pub reading_by : Direction → List (ℕ × Motion) → List (ℕ × ObjectId) → Reading
@@ -57,7 +57,7 @@ claimed_at names direction moves (Some number) fixed objects e = found_at names 
 -- names ----------------------------------------------------------------------------------------------------------------
 
 each_layer : (names : Names) (motion : Option Motion) (objects : List ObjectId) → map layer_in (claims_of names (Each objects motion)) ≡ map (layer_of names) objects
-each_layer names motion objects = map-map layer_in (λ object. record { layer = layer_of names object; object = Some object; motion = motion }) objects
+each_layer names motion objects = map-map layer_in (object_claim names motion) objects
 
 loose_layer : (names : Names) (motion : Option Motion) (chosen objects : List ObjectId) → map layer_in (loose_claim names motion objects) ≡ map (claim_layer names chosen) (loose_claims names objects)
 loose_layer names motion chosen [] = refl
@@ -98,10 +98,10 @@ module _ (names : Names) (rule : SourceRule) (direction : Direction) (moves : Li
 -- sides ----------------------------------------------------------------------------------------------------------------
 
 -- claims are apart where their layers are distinct
-apart_layers : (claims : List rewriting.Claim) → are_apart claims ≡ are_distinct (map layer_in claims)
+apart_layers : (claims : List ReadingClaim) → are_apart claims ≡ are_distinct (map layer_in claims)
 apart_layers [] = refl
 apart_layers (claim ∷ others) =
-    ap (λ b. not b && are_apart others) (sym (any_mapped (nat_eq claim.layer) layer_in others)) ∙ ap (λ b. not (list_any (nat_eq claim.layer) (map layer_in others)) && b) (apart_layers others)
+    ap (λ b. not b && are_apart others) (sym (any_mapped (nat_eq (claim.layer).0) layer_in others)) ∙ ap (λ b. not (list_any (nat_eq (claim.layer).0) (map layer_in others)) && b) (apart_layers others)
 
 -- a side is apart
 side_apart : (names : Names) (chosen : List ObjectId) (wanted : Item → Wanted) (claims : Item → List Claim) → ((item : Item) → map layer_in (claims_of names (wanted item)) ≡ map (claim_layer names chosen) (claims item))
@@ -130,7 +130,5 @@ module _ (names : Names) (rule : SourceRule) (direction : Direction) (moves : Li
   -- a reading is possible where the sides are apart under its choice
   pub possible_by_choice : is_possible names rule (reading_by direction moves (paired fixed chosen)) ≡ are_sides_apart names (sides_of_cells names rule fixed (cells_of rule)) chosen
   possible_by_choice =
-      all_same _ _ (λ row. sym (all_joined (is_possible_cell names rule (reading_by direction moves (paired fixed chosen))) (λ part. part) row)) rule.rows
-      ∙ sym (all_joined (is_possible_cell names rule (reading_by direction moves (paired fixed chosen))) (λ row. flat_map (λ part. part) row) rule.rows)
-      ∙ all_same _ _ cell_apart (cells_of rule)
+      all_same _ _ cell_apart (cells_of rule)
       ∙ sym (all_joined (is_side_apart names chosen) (cell_sides names rule fixed) (cells_of rule))

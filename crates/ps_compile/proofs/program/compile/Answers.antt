@@ -1,4 +1,4 @@
-use Rattle.std.proofs.Common.{◌≡◌, ◌∙◌, ap}
+use Rattle.std.proofs.Common.{◌∙◌, ap}
 use Rattle.ps_model.specs.declared.rules.Part.TheVariants.{Plain, Late}
 use Rattle.ps_model.specs.meaning.CompiledRules.{compiled_program}
 use Rattle.ps_compile.proofs.AlikePrograms.{runs-alike}

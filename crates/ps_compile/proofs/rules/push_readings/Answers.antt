@@ -1,4 +1,4 @@
-use Rattle.std.proofs.Common.{◌≡◌, ◌∙◌, ◌++◌, ap}
+use Rattle.std.proofs.Common.{◌∙◌, ◌++◌, ap}
 use Rattle.ps_model.specs.meaning.Readings.{Reading}
 use Rattle.ps_program.specs.ProgramShown.{rules_shown}
 use Rattle.ps_readings.specs.ReadingsLeft.{made_last, readings_left}
