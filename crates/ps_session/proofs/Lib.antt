@@ -1,4 +1,0 @@
-mod EntriesFound
-mod PartLoaded
-mod StartTurns
-mod Texts

@@ -1,4 +1,0 @@
-pub mod Playable
-pub mod Standings
-pub mod StepsShown
-pub mod Places
