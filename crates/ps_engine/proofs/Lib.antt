@@ -3,3 +3,4 @@ pub mod RowByRow
 pub mod Odometer
 pub mod Attempting
 pub mod Sequences
+pub mod AsTheyAre

@@ -3,6 +3,9 @@
 ghost use Rattle.std.specs.Prelude.{◌≡◌, IfOk, OnOk};
 ghost use Rattle.ps_model.specs.board.Attempts.{State};
 ghost use Rattle.ps_model.specs.board.Programs.{Progress, looped, program_run, section_run, sections_run};
+ghost use Rattle.ps_model.specs.meaning.Compiled.{meaning_of_program};
+ghost use Rattle.ps_program.specs.ProgramShown.{sections_shown};
+ghost use Rattle.ps_engine.specs.Runnable.{IsRunnable};
 ghost use Rattle.ps_engine.specs.RulesInRoom.{groups_meaning, section_meaning, sections_meaning};
 
 use crate::queue::Queue;
@@ -79,11 +82,8 @@ fn play_section<'r, B: Scan>(
     }
 }
 
-/// A run of a program: its sections in order, until a loop would need one more repeat than are allowed for all loops together.
-///
-/// Where it answers, the board shows and the queue has what `program_run` says. After `Memory` some board of the same sides and
-/// some queue stand.
-pub fn run_program<'r, B: Scan>(
+/// The sections of a program in order, until a loop would need one more repeat than are allowed for all loops together.
+fn play_sections<'r, B: Scan>(
     alloc: Global,
     sections: &[CompiledSection<'r>],
     board: &mut B,
@@ -103,4 +103,29 @@ pub fn run_program<'r, B: Scan>(
         repeats = left.repeats;
     }
     Ok(())
+}
+
+/// A run of a program: its sections in order, until a loop would need one more repeat than are allowed for all loops together.
+///
+/// Where it answers, the board shows and the queue has what `program_run` says of the program, if no row of it has more than two
+/// parts and all that it puts has room on the board (`exact`); of any other program what it says without the other parts and
+/// without what has no room (`run`). After `Memory` some board and some queue stand.
+pub fn run_program<'r, B: Scan>(
+    alloc: Global,
+    sections: &[CompiledSection<'r>],
+    board: &mut B,
+    queue: &mut Queue<'r>,
+) -> Result<(), Memory>
+    ensures run { let before : State = record { grid = B.grid board.old; queue = queue.old } in
+        let after : State = record { grid = B.grid board.new; queue = queue.new } in
+        OnOk result (after ≡ program_run (sections_meaning (B.table board.old) sections.now) before) }
+    ensures exact {
+        let before : State = record { grid = B.grid board.old; queue = queue.old } in
+        let after : State = record { grid = B.grid board.new; queue = queue.new } in
+        IsRunnable (B.table board.old) sections.now
+        → OnOk result (after ≡ program_run (meaning_of_program (sections_shown sections.now)) before)
+    }
+    ensures table { B.table board.new ≡ B.table board.old }
+{
+    play_sections(alloc, sections, board, queue)
 }

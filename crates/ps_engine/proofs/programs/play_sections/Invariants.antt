@@ -2,7 +2,7 @@ use Rattle.std.proofs.Common.{◌≡◌, drop, map}
 use Rattle.ps_model.specs.board.Attempts.{State}
 use Rattle.ps_model.specs.board.Programs.{program_run, sections_run}
 use Rattle.ps_engine.specs.RulesInRoom.{section_meaning, sections_meaning}
-use Rattle.ps_engine.proofs.programs.run_program.Given as goal
+use Rattle.ps_engine.proofs.programs.play_sections.Given as goal
 
 -- what is left of the program comes to the same
 abbrev pub invariant-loop-section : goal.invariant-loop-section
