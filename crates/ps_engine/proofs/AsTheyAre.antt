@@ -63,7 +63,7 @@ row_as_it_is table row runs =
     let room : list_all (list_all (cell_has_room table)) row ≡ true = right_of (nat_le (length row) 2) (list_all (list_all (cell_has_room table)) row) runs in
     ap (map (map (cell_meaning table))) (short row (grind (arith, nat_tests)))
     ∙ mapped (list_all (cell_has_room table)) (map (cell_meaning table)) (λ part. map model.meaning_of_cell (map cell_shown part)) row
-      (λ part all. mapped (cell_has_room table) (cell_meaning table) (λ cell. model.meaning_of_cell (cell_shown cell)) part (cell_as_it_is table) all ∙ sym (twice model.meaning_of_cell cell_shown part)) room
+    (λ part all. mapped (cell_has_room table) (cell_meaning table) (λ cell. model.meaning_of_cell (cell_shown cell)) part (cell_as_it_is table) all ∙ sym (twice model.meaning_of_cell cell_shown part)) room
     ∙ sym (twice (map model.meaning_of_cell) (map cell_shown) row)
 
 pub rule_as_it_is : (table : Option (List ℕ)) (rule : CompiledRule) → rule_runs table rule ≡ true → rule_meaning table rule ≡ model.meaning_of_rule (rule_shown rule)
@@ -79,7 +79,7 @@ section_as_it_is : (table : Option (List ℕ)) (section : CompiledSection) → s
 section_as_it_is table (Group rules) run = ap GroupOf (rules_as_they_are table rules run)
 section_as_it_is table (Loop groups) run =
     ap LoopOf (mapped (list_all (rule_runs table)) (rules_meaning table) (λ rules. map model.meaning_of_rule (rules_shown rules)) groups (rules_as_they_are table) run
-      ∙ sym (twice (map model.meaning_of_rule) rules_shown groups))
+    ∙ sym (twice (map model.meaning_of_rule) rules_shown groups))
 
 pub program_as_it_is : (table : Option (List ℕ)) (sections : List CompiledSection) → IsRunnable table sections → sections_meaning table sections ≡ model.meaning_of_program (sections_shown sections)
 program_as_it_is table sections run =

@@ -3,6 +3,7 @@
 ghost use Rattle.std.specs.Prelude.{◌≡◌, IfOk, option_map};
 ghost use Rattle.ps_model.specs.board.Attempts.{Result as Meant, State, attempt};
 ghost use Rattle.ps_engine.specs.RulesInRoom.{AreRowsFound, rule_meaning};
+ghost use Rattle.ps_match.specs.InRoom.{sides_of};
 
 use crate::queue::Queue;
 use crate::walking::walk;
@@ -44,6 +45,7 @@ pub fn attempt<'r, B: Scan>(
         let after : State = record { grid = B.grid board.new; queue = queue.new } in
         IfOk result (λ changed. record { state = after; changed = changed } ≡ attempt (rule_meaning (B.table board.old) rule.now) before) }
     ensures table { B.table board.new ≡ B.table board.old }
+    ensures sides { sides_of (B.grid board.new) ≡ sides_of (B.grid board.old) }
 {
     let Some(rows) = find_rows(alloc, board, rule)? else {
         return Ok(false);

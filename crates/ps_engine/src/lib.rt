@@ -11,3 +11,6 @@ pub use attempts::attempt;
 pub use programs::run_program;
 pub use ps_match::{ListBoard, Scan};
 pub use queue::Queue;
+
+#[cfg(test)]
+mod tests;

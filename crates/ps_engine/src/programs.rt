@@ -7,6 +7,7 @@ ghost use Rattle.ps_model.specs.meaning.Compiled.{meaning_of_program};
 ghost use Rattle.ps_program.specs.ProgramShown.{sections_shown};
 ghost use Rattle.ps_engine.specs.Runnable.{IsRunnable};
 ghost use Rattle.ps_engine.specs.RulesInRoom.{groups_meaning, section_meaning, sections_meaning};
+ghost use Rattle.ps_match.specs.InRoom.{sides_of};
 
 use crate::queue::Queue;
 use crate::rounds::{pass, play_group};
@@ -36,6 +37,7 @@ fn play_loop<'r, B: Scan>(
         let all = looped (groups_meaning (B.table board.old) groups.now) repeats before in
         IfOk result (λ left. record { state = after; repeats = left.repeats; stopped = left.stopped } ≡ all) }
     ensures table { B.table board.new ≡ B.table board.old }
+    ensures sides { sides_of (B.grid board.new) ≡ sides_of (B.grid board.old) }
 {
     let mut left = repeats;
     loop {
@@ -69,6 +71,7 @@ fn play_section<'r, B: Scan>(
         let all = section_run (section_meaning (B.table board.old) section.now) repeats before in
         IfOk result (λ left. record { state = after; repeats = left.repeats; stopped = left.stopped } ≡ all) }
     ensures table { B.table board.new ≡ B.table board.old }
+    ensures sides { sides_of (B.grid board.new) ≡ sides_of (B.grid board.old) }
 {
     match section {
         CompiledSection::Group(rules) => {
@@ -93,6 +96,7 @@ fn play_sections<'r, B: Scan>(
         let after : State = record { grid = B.grid board.new; queue = queue.new } in
         OnOk result (after ≡ program_run (sections_meaning (B.table board.old) sections.now) before) }
     ensures table { B.table board.new ≡ B.table board.old }
+    ensures sides { sides_of (B.grid board.new) ≡ sides_of (B.grid board.old) }
 {
     let mut repeats = REPEAT_LIMIT;
     for section in sections {
@@ -109,7 +113,7 @@ fn play_sections<'r, B: Scan>(
 ///
 /// Where it answers, the board shows and the queue has what `program_run` says of the program, if no row of it has more than two
 /// parts and all that it puts has room on the board (`exact`); of any other program what it says without the other parts and
-/// without what has no room (`run`). After `Memory` some board and some queue stand.
+/// without what has no room (`run`). After `Memory` some board of the same sides and some queue stand.
 pub fn run_program<'r, B: Scan>(
     alloc: Global,
     sections: &[CompiledSection<'r>],
@@ -119,13 +123,12 @@ pub fn run_program<'r, B: Scan>(
     ensures run { let before : State = record { grid = B.grid board.old; queue = queue.old } in
         let after : State = record { grid = B.grid board.new; queue = queue.new } in
         OnOk result (after ≡ program_run (sections_meaning (B.table board.old) sections.now) before) }
-    ensures exact {
-        let before : State = record { grid = B.grid board.old; queue = queue.old } in
+    ensures exact { let before : State = record { grid = B.grid board.old; queue = queue.old } in
         let after : State = record { grid = B.grid board.new; queue = queue.new } in
         IsRunnable (B.table board.old) sections.now
-        → OnOk result (after ≡ program_run (meaning_of_program (sections_shown sections.now)) before)
-    }
+        → OnOk result (after ≡ program_run (meaning_of_program (sections_shown sections.now)) before) }
     ensures table { B.table board.new ≡ B.table board.old }
+    ensures sides { sides_of (B.grid board.new) ≡ sides_of (B.grid board.old) }
 {
     play_sections(alloc, sections, board, queue)
 }

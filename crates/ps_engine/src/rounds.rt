@@ -4,6 +4,7 @@ ghost use Rattle.std.specs.Prelude.{◌≡◌, IfOk};
 ghost use Rattle.ps_model.specs.board.Attempts.{Result as Meant, State};
 ghost use Rattle.ps_model.specs.board.Programs.{group, pass, round};
 ghost use Rattle.ps_engine.specs.RulesInRoom.{groups_meaning, rules_meaning};
+ghost use Rattle.ps_match.specs.InRoom.{sides_of};
 
 use crate::attempts::attempt;
 use crate::queue::Queue;
@@ -25,6 +26,7 @@ fn round<'r, B: Scan>(
         let after : State = record { grid = B.grid board.new; queue = queue.new } in
         IfOk result (λ changed. record { state = after; changed = changed } ≡ round (rules_meaning (B.table board.old) rules.now) before) }
     ensures table { B.table board.new ≡ B.table board.old }
+    ensures sides { sides_of (B.grid board.new) ≡ sides_of (B.grid board.old) }
 {
     let mut changed = false;
     for rule in rules {
@@ -45,6 +47,7 @@ pub fn play_group<'r, B: Scan>(
         let after : State = record { grid = B.grid board.new; queue = queue.new } in
         IfOk result (λ changed. record { state = after; changed = changed } ≡ group (rules_meaning (B.table board.old) rules.now) before) }
     ensures table { B.table board.new ≡ B.table board.old }
+    ensures sides { sides_of (B.grid board.new) ≡ sides_of (B.grid board.old) }
 {
     let mut changed = false;
     for _round in 0..ROUND_LIMIT {
@@ -69,6 +72,7 @@ pub fn pass<'r, B: Scan>(
         let after : State = record { grid = B.grid board.new; queue = queue.new } in
         IfOk result (λ changed. record { state = after; changed = changed } ≡ pass (groups_meaning (B.table board.old) groups.now) before) }
     ensures table { B.table board.new ≡ B.table board.old }
+    ensures sides { sides_of (B.grid board.new) ≡ sides_of (B.grid board.old) }
 {
     let mut changed = false;
     for rules in groups {

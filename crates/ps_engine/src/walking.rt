@@ -4,6 +4,7 @@ ghost use Rattle.std.specs.Prelude.{◌≡◌, ◌∷◌, IfOk, OnErr, Some, Non
 ghost use Rattle.ps_model.specs.board.Attempts.{Rewritten, all_fit, applied, combinations, rewritten_rows};
 ghost use Rattle.ps_engine.specs.Choices.{IsChoice, behind, chosen, next_choice};
 ghost use Rattle.ps_engine.specs.RulesInRoom.{all_places, rows_found};
+ghost use Rattle.ps_match.specs.InRoom.{sides_of};
 
 use ps_match::Scan;
 use ps_model::Memory;
@@ -33,6 +34,7 @@ fn rewrite_rows<B: Scan>(board: &mut B, rows: &[RowPlaces], choice: &[usize], ch
         let places = chosen (all_places rows.now) choice.now in
         record { grid = B.grid board.new; changed = result } ≡ rewritten_rows before (rows_found (B.table board.old) rows.now) places }
     ensures table { B.table board.new ≡ B.table board.old }
+    ensures sides { sides_of (B.grid board.new) ≡ sides_of (B.grid board.old) }
 {
     let mut any = changed;
     for number in 0..rows.len() {
@@ -49,6 +51,7 @@ fn apply<B: Scan>(board: &mut B, rows: &[RowPlaces], choice: &[usize], changed: 
         let places = chosen (all_places rows.now) choice.now in
         record { grid = B.grid board.new; changed = result } ≡ applied (rows_found (B.table board.old) rows.now) before places }
     ensures table { B.table board.new ≡ B.table board.old }
+    ensures sides { sides_of (B.grid board.new) ≡ sides_of (B.grid board.old) }
 {
     if !all_fit(board, rows, choice) {
         return changed;
@@ -80,6 +83,7 @@ fn walk_from<B: Scan>(board: &mut B, rows: &[RowPlaces], choice: &mut [usize]) -
         record { grid = B.grid board.new; changed = result }
         ≡ fold (applied (rows_found (B.table board.old) rows.now)) before (chosen places choice.old ∷ behind places choice.old) }
     ensures table { B.table board.new ≡ B.table board.old }
+    ensures sides { sides_of (B.grid board.new) ≡ sides_of (B.grid board.old) }
 {
     let mut changed = apply(board, rows, choice, false);
     while advance(rows, choice) {
@@ -95,6 +99,7 @@ pub fn walk<B: Scan>(alloc: Global, board: &mut B, rows: &[RowPlaces]) -> Result
         let all = fold (applied (rows_found (B.table board.old) rows.now)) before (combinations (all_places rows.now)) in
         IfOk result (λ changed. record { grid = B.grid board.new; changed = changed } ≡ all) }
     ensures table { B.table board.new ≡ B.table board.old }
+    ensures sides { sides_of (B.grid board.new) ≡ sides_of (B.grid board.old) }
     ensures kept { OnErr result (B.grid board.new ≡ B.grid board.old) }
 {
     let mut choice = Vec::from_elem(alloc, 0usize, rows.len())?;

@@ -31,4 +31,5 @@ loop-again-preserved g c =
     record {
       looped = looped_on meant c.loop-again.left now next (c.loop-again.left - 1) (omega arith) made ∙ c.loop-again.invariant.looped;
       table = c.pass.ensures.table ∙ c.loop-again.invariant.table;
+      sides = c.pass.ensures.sides ∙ c.loop-again.invariant.sides;
     }

@@ -1,4 +1,5 @@
 use Rattle.std.proofs.Common.{◌≡◌}
+use Rattle.ps_match.specs.InRoom.{sides_of}
 use Rattle.ps_model.specs.board.Attempts.{State}
 use Rattle.ps_model.specs.board.Programs.{looped}
 use Rattle.ps_engine.specs.RulesInRoom.{groups_meaning}
@@ -13,6 +14,7 @@ invariant-loop-again g l =
     record {
       looped : looped (groups_meaning table l.groups) l.left now ≡ looped (groups_meaning table l.groups) l.fn.repeats before;
       table : g.B.Board.table l.board ≡ table;
+      sides : sides_of (g.B.Board.grid l.board) ≡ sides_of (g.B.Board.grid l.fn.board);
     }
 
 -- the repeats that are left

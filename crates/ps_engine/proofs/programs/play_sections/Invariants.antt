@@ -1,4 +1,5 @@
 use Rattle.std.proofs.Common.{◌≡◌, drop, map}
+use Rattle.ps_match.specs.InRoom.{sides_of}
 use Rattle.ps_model.specs.board.Attempts.{State}
 use Rattle.ps_model.specs.board.Programs.{program_run, sections_run}
 use Rattle.ps_engine.specs.RulesInRoom.{section_meaning, sections_meaning}
@@ -13,4 +14,5 @@ invariant-loop-section g l =
     record {
       run : sections_run (map (section_meaning table) (drop l.section-index l.sections)) l.repeats now ≡ program_run (sections_meaning table l.sections) before;
       table : g.B.Board.table l.board ≡ table;
+      sides : sides_of (g.B.Board.grid l.board) ≡ sides_of (g.B.Board.grid l.fn.board);
     }

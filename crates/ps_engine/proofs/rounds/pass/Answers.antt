@@ -19,4 +19,5 @@ loop-rules-preserved g c =
     record {
       pass = pass_more (rules_meaning table) c.args.groups.now c.loop-rules.rules-index c.rules-item.result c.loop-rules.changed c.in_ok-changed.field-0 now next c.loop-rules-test.true c.rules-item.is made ∙ c.loop-rules.invariant.pass;
       table = c.play_group.ensures.table ∙ c.loop-rules.invariant.table;
+      sides = c.play_group.ensures.sides ∙ c.loop-rules.invariant.sides;
     }

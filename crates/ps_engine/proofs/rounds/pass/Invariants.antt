@@ -1,4 +1,5 @@
 use Rattle.std.proofs.Common.{◌≡◌, drop, map}
+use Rattle.ps_match.specs.InRoom.{sides_of}
 use Rattle.ps_model.specs.board.Attempts.{State}
 use Rattle.ps_model.specs.board.Programs.{after_change, pass}
 use Rattle.ps_engine.specs.RulesInRoom.{rules_meaning, groups_meaning}
@@ -13,4 +14,5 @@ invariant-loop-rules g l =
     record {
       pass : after_change l.changed (pass (map (rules_meaning table) (drop l.rules-index l.groups)) now) ≡ pass (groups_meaning table l.groups) before;
       table : g.B.Board.table l.board ≡ table;
+      sides : sides_of (g.B.Board.grid l.board) ≡ sides_of (g.B.Board.grid l.fn.board);
     }

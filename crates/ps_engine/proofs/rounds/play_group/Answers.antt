@@ -14,6 +14,7 @@ loop-round-init g c =
     record {
       group = group_is meant (ROUND_LIMIT - 0) before refl;
       table = refl;
+      sides = refl;
     }
 
 pub loop-round-preserved : goal.loop-round-preserved
@@ -29,6 +30,7 @@ loop-round-preserved g c =
     record {
       group = settled_on meant (ROUND_LIMIT - c.loop-round._round) (ROUND_LIMIT - (c.loop-round._round + 1)) c.loop-round.changed now next (omega arith) made ∙ c.loop-round.invariant.group;
       table = c.round.ensures.table ∙ c.loop-round.invariant.table;
+      sides = c.round.ensures.sides ∙ c.loop-round.invariant.sides;
     }
 
 pub returns-then-not-again-clause-group : goal.returns-then-not-again-clause-group

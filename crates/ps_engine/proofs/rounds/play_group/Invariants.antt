@@ -1,4 +1,5 @@
 use Rattle.std.proofs.Common.{◌≡◌, ◌-◌}
+use Rattle.ps_match.specs.InRoom.{sides_of}
 use Rattle.ps_model.specs.declared.limits.TheConstants.{ROUND_LIMIT}
 use Rattle.ps_model.specs.board.Attempts.{State}
 use Rattle.ps_model.specs.board.Programs.{group, settled}
@@ -14,4 +15,5 @@ invariant-loop-round g l =
     record {
       group : settled (rules_meaning table l.rules) (ROUND_LIMIT - l._round) l.changed now ≡ group (rules_meaning table l.rules) before;
       table : g.B.Board.table l.board ≡ table;
+      sides : sides_of (g.B.Board.grid l.board) ≡ sides_of (g.B.Board.grid l.fn.board);
     }

@@ -15,4 +15,5 @@ loop-rule-preserved g c =
     record {
       round = round_more (rule_meaning table) c.args.rules.now c.loop-rule.rule-index c.rule-item.result c.loop-rule.changed c.in_ok-changed.field-0 now next c.loop-rule-test.true c.rule-item.is made ∙ c.loop-rule.invariant.round;
       table = c.attempt.ensures.table ∙ c.loop-rule.invariant.table;
+      sides = c.attempt.ensures.sides ∙ c.loop-rule.invariant.sides;
     }

@@ -1,4 +1,5 @@
 use Rattle.std.proofs.Common.{◌≡◌, drop, map}
+use Rattle.ps_match.specs.InRoom.{sides_of}
 use Rattle.ps_model.specs.board.Attempts.{State}
 use Rattle.ps_model.specs.board.Programs.{after_change, round}
 use Rattle.ps_engine.specs.RulesInRoom.{rule_meaning, rules_meaning}
@@ -13,4 +14,5 @@ invariant-loop-rule g l =
     record {
       round : after_change l.changed (round (map (rule_meaning table) (drop l.rule-index l.rules)) now) ≡ round (rules_meaning table l.rules) before;
       table : g.B.Board.table l.board ≡ table;
+      sides : sides_of (g.B.Board.grid l.board) ≡ sides_of (g.B.Board.grid l.fn.board);
     }

@@ -23,4 +23,5 @@ loop-number-preserved g c =
           (is_within c.args.rows.now c.args.choice.now n row c.requires c.loop-number-test.true c.index-rows-number.is) c.index.ensures)
           ∙ c.loop-number.invariant.rewritten;
       table = c.rewrite_place-any.ensures.table ∙ c.loop-number.invariant.table;
+      sides = c.rewrite_place-any.ensures.sides ∙ c.loop-number.invariant.sides;
     }

@@ -1,4 +1,5 @@
 use Rattle.std.proofs.Common.{◌≡◌}
+use Rattle.ps_match.specs.InRoom.{sides_of}
 use Rattle.ps_model.specs.board.Attempts.{Rewritten, rewritten_rows}
 use Rattle.ps_engine.specs.Choices.{chosen}
 use Rattle.ps_engine.specs.RulesInRoom.{rows_found, all_places}
@@ -14,4 +15,5 @@ invariant-loop-number g l =
     record {
       rewritten : rewritten_on now table l.rows l.choice l.number ≡ rewritten_rows before (rows_found table l.rows) (chosen (all_places l.rows) l.choice);
       table : g.B.Board.table l.board ≡ table;
+      sides : sides_of (g.B.Board.grid l.board) ≡ sides_of (g.B.Board.grid l.fn.board);
     }

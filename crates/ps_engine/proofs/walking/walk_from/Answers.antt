@@ -37,6 +37,7 @@ loop-board-preserved g c =
           ∙ ap (fold (applied (rows_found table c.args.rows.now)) now) (sym (following_some places old new c.loop-board.invariant.is next))
           ∙ c.loop-board.invariant.rewritten;
       table = c.apply-changed-in-loop-board.ensures.table ∙ c.loop-board.invariant.table;
+      sides = c.apply-changed-in-loop-board.ensures.sides ∙ c.loop-board.invariant.sides;
     }
 
 pub returns-clause-rewritten : goal.returns-clause-rewritten

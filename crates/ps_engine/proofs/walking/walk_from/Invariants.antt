@@ -1,4 +1,5 @@
 use Rattle.std.proofs.Common.{◌≡◌, ◌∷◌, false, fold, length}
+use Rattle.ps_match.specs.InRoom.{sides_of}
 use Rattle.ps_model.specs.board.Attempts.{Rewritten, applied}
 use Rattle.ps_engine.specs.Choices.{IsChoice, chosen, behind}
 use Rattle.ps_engine.specs.RulesInRoom.{rows_found, all_places}
@@ -17,6 +18,7 @@ invariant-loop-board g l =
           fold (applied (rows_found table l.rows)) now (behind places l.choice)
           ≡ fold (applied (rows_found table l.rows)) before (chosen places l.fn.choice ∷ behind places l.fn.choice);
       table : g.B.Board.table l.board ≡ table;
+      sides : sides_of (g.B.Board.grid l.board) ≡ sides_of (g.B.Board.grid l.fn.board);
     }
 
 -- the combinations that are left
