@@ -6,6 +6,7 @@ use Rattle.ps_model.specs.declared.compiled.ObjectWrite.{ObjectWrite}
 use Rattle.ps_model.specs.declared.compiled.ObjectWrite.TheVariants.{Put, Leave, Clear}
 use Rattle.ps_model.specs.meaning.RuleMeanings.{CellMeaning}
 use Rattle.ps_model.specs.meaning.Compiled.{CellMask, CellWrite, CompiledCell, CompiledRule, mask_fits, cell_written, slot_written, slot_freed, write_on}
+use Rattle.ps_model.specs.board.Grid.{Grid}
 use Rattle.ps_board.specs.Rooms.{has_room}
 
 -- what is put has room on its layer
@@ -36,3 +37,7 @@ meaning_of_write write = record { fits = λ cell. true; rewritten = cell_written
 -- a slot of a layer written
 abbrev pub slot_after : CellWrite → ℕ → Slot → Slot
 slot_after write layer slot = slot_written (write_on layer write.layers) (slot_freed write.gone layer slot)
+
+-- the sides of a grid, and its layers
+abbrev pub sides_of : Grid → ℕ × ℕ × ℕ
+sides_of g = (g.width, g.height, g.layers)

@@ -4,7 +4,7 @@ ghost use Rattle.std.specs.Prelude.{◌≡◌, slice_get};
 ghost use Rattle.ps_model.specs.board.Places.{fits_there};
 ghost use Rattle.ps_model.specs.board.Attempts.{Rewritten, rewritten_cell};
 ghost use Rattle.ps_program.specs.ProgramShown.{mask_shown, write_shown};
-ghost use Rattle.ps_match.specs.InRoom.{meaning_of_mask, meaning_of_write, write_in_room};
+ghost use Rattle.ps_match.specs.InRoom.{meaning_of_mask, meaning_of_write, sides_of, write_in_room};
 
 use ps_board::Board;
 use ps_program::{CellMask, CellWrite};
@@ -21,5 +21,6 @@ pub trait Scan: Board {
         ensures rewritten { let before : Rewritten = record { grid = Self.grid self.old; changed = changed } in
             let meaning = meaning_of_write (write_in_room (Self.table self.old) (write_shown write.now)) in
             record { grid = Self.grid self.new; changed = result } ≡ rewritten_cell before meaning cell (slice_get before.grid.cells cell) }
-        ensures table { Self.table self.new ≡ Self.table self.old };
+        ensures table { Self.table self.new ≡ Self.table self.old }
+        ensures sides { sides_of (Self.grid self.new) ≡ sides_of (Self.grid self.old) };
 }

@@ -6,6 +6,7 @@ ghost use Rattle.ps_model.specs.board.Attempts.{Rewritten, rewritten_along};
 ghost use Rattle.ps_places.specs.Stretches.{cells_of};
 ghost use Rattle.ps_places.specs.RowCells.{all_cells};
 ghost use Rattle.ps_places.specs.RowMeanings.{meanings_of};
+ghost use Rattle.ps_match.specs.InRoom.{sides_of};
 
 use crate::row_cells::cell_in;
 use crate::shape::{Place, Shape};
@@ -49,6 +50,7 @@ pub fn rewrite_place<B: Scan>(
         let meanings = meanings_of (B.table board.old) parts.now in
         record { grid = B.grid board.new; changed = result } ≡ rewritten_along before meanings (cells_of shape place) }
     ensures table { B.table board.new ≡ B.table board.old }
+    ensures sides { sides_of (B.grid board.new) ≡ sides_of (B.grid board.old) }
 {
     let mut any = changed;
     for index in 0..shape.size {

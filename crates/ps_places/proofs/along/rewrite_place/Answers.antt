@@ -28,4 +28,5 @@ loop-index-preserved g c =
           ∙ sym (rewritten_from-on before table cells at c.args.shape.size index c.in-Some.cell.now there c.loop-index-test.true)
           ∙ c.loop-index.invariant.rewritten;
       table = c.write-any.ensures.table ∙ c.loop-index.invariant.table;
+      sides = c.write-any.ensures.sides ∙ c.loop-index.invariant.sides;
     }

@@ -1,4 +1,5 @@
 use Rattle.std.proofs.Common.{◌≡◌}
+use Rattle.ps_match.specs.InRoom.{sides_of}
 use Rattle.ps_model.specs.board.Attempts.{Rewritten, rewritten_along}
 use Rattle.ps_places.specs.Stretches.{cell_of, cells_of}
 use Rattle.ps_places.specs.RowCells.{all_cells}
@@ -17,4 +18,5 @@ invariant-loop-index g l =
           rewritten_from now table (all_cells l.parts) (cell_of l.shape l.place.end l.place.gap) l.shape.size l.index
           ≡ rewritten_along before (meanings_of table l.parts) (cells_of l.shape l.place);
       table : g.B.Board.table l.board ≡ table;
+      sides : sides_of (g.B.Board.grid l.board) ≡ sides_of (g.B.Board.grid l.fn.board);
     }

@@ -1,0 +1,34 @@
+-- What an attempt comes to.
+use Rattle.std.proofs.Common.{◌≡◌, ◌∙◌, ℕ, Bool, true, false, List, [], ◌∷◌, fold, refl, sym, ap, ap₂}
+use Rattle.ps_model.specs.board.Grid.{Grid}
+use Rattle.ps_model.specs.board.Attempts.{State, Result, Rewritten, applied, attempt_by, queued}
+use Rattle.ps_model.specs.rules.SourceRules.{Commands}
+use Rattle.ps_model.specs.meaning.RuleMeanings.{CellMeaning, RuleMeaning}
+use Rattle.ps_model.specs.declared.pieces.Direction.{Direction}
+
+-- a grid as it was
+abbrev pub unchanged : Grid → Rewritten
+unchanged g = record { grid = g; changed = false }
+
+abbrev pub rule_of : Direction → List (List (List CellMeaning)) → Bool → Commands → RuleMeaning
+rule_of direction rows rewrites commands = record { direction = direction; rows = rows; rewrites = rewrites; commands = commands }
+
+-- without a combination nothing is
+pub attempt_none : (direction : Direction) (rows : List (List (List CellMeaning))) (rewrites : Bool) (commands : Commands) (g : Grid) (queue : Commands) (all : List (List (List ℕ))) → all ≡ [] →
+    (let r : Result = record { state = record { grid = g; queue = queue }; changed = false } in r) ≡ attempt_by (rule_of direction rows rewrites commands) (record { grid = g; queue = queue }) all
+attempt_none direction rows true commands g queue all e = rw e refl
+attempt_none direction rows false commands g queue all e = rw e refl
+
+-- with one, the commands alone enter the queue
+pub attempt_commands : (direction : Direction) (rows : List (List (List CellMeaning))) (rewrites : Bool) (commands : Commands) (g : Grid) (queue : Commands) (all : List (List (List ℕ)))
+    (first : List (List ℕ)) (others : List (List (List ℕ))) → all ≡ first ∷ others → rewrites ≡ false →
+    (let r : Result = record { state = record { grid = g; queue = queued queue commands }; changed = false } in r) ≡ attempt_by (rule_of direction rows rewrites commands) (record { grid = g; queue = queue }) all
+attempt_commands direction rows rewrites commands g queue all first others e no_rewrite = rw (e, no_rewrite) refl
+
+-- or all are applied too
+pub attempt_walked : (direction : Direction) (rows : List (List (List CellMeaning))) (rewrites : Bool) (commands : Commands) (g : Grid) (queue : Commands) (all : List (List (List ℕ)))
+    (first : List (List ℕ)) (others : List (List (List ℕ))) (r : Rewritten) → all ≡ first ∷ others → rewrites ≡ true → r ≡ fold (applied rows) (unchanged g) all →
+    (let s : Result = record { state = record { grid = r.grid; queue = queued queue commands }; changed = r.changed } in s) ≡ attempt_by (rule_of direction rows rewrites commands) (record { grid = g; queue = queue }) all
+attempt_walked direction rows rewrites commands g queue all first others r e does made =
+    ap (λ (x : Rewritten). let s : Result = record { state = record { grid = x.grid; queue = queued queue commands }; changed = x.changed } in s) (made ∙ ap (fold (applied rows) (unchanged g)) e)
+    ∙ sym (ap₂ (λ (b : Bool) (xs : List (List (List ℕ))). attempt_by (rule_of direction rows b commands) (record { grid = g; queue = queue }) xs) does e)

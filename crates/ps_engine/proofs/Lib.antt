@@ -1,0 +1,6 @@
+pub mod Combinations
+pub mod RowByRow
+pub mod Odometer
+pub mod Attempting
+pub mod Sequences
+pub mod AsTheyAre

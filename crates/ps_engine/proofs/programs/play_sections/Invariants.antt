@@ -1,0 +1,18 @@
+use Rattle.std.proofs.Common.{◌≡◌, drop, map}
+use Rattle.ps_match.specs.InRoom.{sides_of}
+use Rattle.ps_model.specs.board.Attempts.{State}
+use Rattle.ps_model.specs.board.Programs.{program_run, sections_run}
+use Rattle.ps_engine.specs.RulesInRoom.{section_meaning, sections_meaning}
+use Rattle.ps_engine.proofs.programs.play_sections.Given as goal
+
+-- what is left of the program comes to the same
+abbrev pub invariant-loop-section : goal.invariant-loop-section
+invariant-loop-section g l =
+    let before : State = record { grid = g.B.Board.grid l.fn.board; queue = l.fn.queue } in
+    let now : State = record { grid = g.B.Board.grid l.board; queue = l.queue } in
+    let table = g.B.Board.table l.fn.board in
+    record {
+      run : sections_run (map (section_meaning table) (drop l.section-index l.sections)) l.repeats now ≡ program_run (sections_meaning table l.sections) before;
+      table : g.B.Board.table l.board ≡ table;
+      sides : sides_of (g.B.Board.grid l.board) ≡ sides_of (g.B.Board.grid l.fn.board);
+    }

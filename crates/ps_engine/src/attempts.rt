@@ -1,0 +1,59 @@
+//! An attempt of a rule.
+
+ghost use Rattle.std.specs.Prelude.{◌≡◌, IfOk, option_map};
+ghost use Rattle.ps_model.specs.board.Attempts.{Result as Meant, State, attempt};
+ghost use Rattle.ps_engine.specs.RulesInRoom.{AreRowsFound, rule_meaning};
+ghost use Rattle.ps_match.specs.InRoom.{sides_of};
+
+use crate::queue::Queue;
+use crate::walking::walk;
+use ps_match::Scan;
+use ps_model::Memory;
+use ps_places::{RowPlaces, find_places};
+use ps_program::CompiledRule;
+use std::alloc::Global;
+
+/// The rows of a rule with their places, which are those of the board as it is; nothing, where a row has none. `Memory` if there
+/// is no room for them.
+fn find_rows<'r, B: Scan>(
+    alloc: Global,
+    board: &B,
+    rule: &'r CompiledRule,
+) -> Result<Option<Vec<RowPlaces<'r>>>, Memory>
+    ensures { IfOk result (λ found. AreRowsFound (B.grid board.now) (B.table board.now) rule.entry.now (option_map (λ rows. rows.items) found)) }
+{
+    let mut found = Vec::new(alloc);
+    for row in rule.rows.as_slice() {
+        let Some(places) = find_places(alloc, board, rule.direction, row)? else {
+            return Ok(None);
+        };
+        found.push(places)?;
+    }
+    Ok(Some(found))
+}
+
+/// An attempt of a rule: all combinations of its places are applied in order, each if every row still fits, and its commands
+/// enter the queue, if it has a combination. Answers whether a cell changed. After `Memory` some board of the same sides and
+/// some queue stand.
+pub fn attempt<'r, B: Scan>(
+    alloc: Global,
+    rule: &CompiledRule<'r>,
+    board: &mut B,
+    queue: &mut Queue<'r>,
+) -> Result<bool, Memory>
+    ensures attempt { let before : State = record { grid = B.grid board.old; queue = queue.old } in
+        let after : State = record { grid = B.grid board.new; queue = queue.new } in
+        IfOk result (λ changed. record { state = after; changed = changed } ≡ attempt (rule_meaning (B.table board.old) rule.now) before) }
+    ensures table { B.table board.new ≡ B.table board.old }
+    ensures sides { sides_of (B.grid board.new) ≡ sides_of (B.grid board.old) }
+{
+    let Some(rows) = find_rows(alloc, board, rule)? else {
+        return Ok(false);
+    };
+    queue.enter(rule.commands);
+    if !rule.rewrites {
+        return Ok(false);
+    }
+    let changed = walk(alloc, board, rows.as_slice())?;
+    Ok(changed)
+}
