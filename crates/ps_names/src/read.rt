@@ -12,7 +12,9 @@ use crate::declaring::refuse;
 use crate::lines::{WrittenLine, lines_there, written_lines};
 use crate::names::Names;
 use crate::objects::{ObjectText, object_texts};
-use crate::sections::{declare_names, fault_of_whole, layer_numbers, layers_of_numbers, read_layers};
+use crate::sections::{
+    declare_names, fault_of_whole, layer_numbers, layers_of_numbers, read_layers,
+};
 use crate::table::Table;
 use ps_model::Refusal;
 use ps_text::{Cut, Source};

@@ -26,13 +26,14 @@ loop-object-preserved g c =
     let zero_object : ObjectId = record { 0 = 0 } in
     let object : ObjectId = get_or c.args.objects.now c.loop-object.object-index zero_object in
     let within : c.args.cell < length start.cells = rw c.requires.shape.cells c.requires.place in
-    let put = λ (slots : List Slot) (o : ObjectId). slice_set slots (layer_of names o) (Holds o Still) in
-    (c.put.ensures.grid
-    ∙ ap (λ (layer : ℕ). with_slot (g.B.Board.grid c.loop-object.board) c.args.cell layer (Holds object Still)) c.layer_of.ensures.layer
-    ∙ ap (λ (h : Grid). with_slot h c.args.cell (layer_of names object) (Holds object Still)) c.loop-object.invariant.0
-    ∙ put_in_cell start c.args.cell (layer_of names object) (fold put (cell_at start c.args.cell) (take c.loop-object.object-index c.args.objects.now)) (Holds object Still) within
-    ∙ ap (grid_with_cell start c.args.cell) (sym (fold_more put (cell_at start c.args.cell) c.args.objects.now c.loop-object.object-index zero_object c.loop-object-test.true)),
-    c.put.ensures.table ∙ c.loop-object.invariant.1)
+    let put = λ (slots : List Slot) (o : ObjectId). slice_set slots (layer_of names o) (Holds o Still) in (
+      c.put.ensures.grid
+          ∙ ap (λ (layer : ℕ). with_slot (g.B.Board.grid c.loop-object.board) c.args.cell layer (Holds object Still)) c.layer_of.ensures.layer
+          ∙ ap (λ (h : Grid). with_slot h c.args.cell (layer_of names object) (Holds object Still)) c.loop-object.invariant.0
+          ∙ put_in_cell start c.args.cell (layer_of names object) (fold put (cell_at start c.args.cell) (take c.loop-object.object-index c.args.objects.now)) (Holds object Still) within
+          ∙ ap (grid_with_cell start c.args.cell) (sym (fold_more put (cell_at start c.args.cell) c.args.objects.now c.loop-object.object-index zero_object c.loop-object-test.true)),
+      c.put.ensures.table ∙ c.loop-object.invariant.1,
+    )
 
 pub returns-clause-filled : goal.returns-clause-filled
 returns-clause-filled g c =

@@ -24,17 +24,19 @@ loop-cell-preserved g c =
     let level : Level = c.args.level.now in
     let within : c.loop-cell.cell < length level.cells = rw (← c.cells-cells.ensures) c.loop-cell-test.true in
     let put = λ (slots : List Slot) (o : ObjectId). slice_set slots (layer_of names o) (Holds o Still) in
-    let objects = c.as_slice.ensures ∙ get_or_read c.cells-cells.result.now c.loop-cell.cell _ c.loop-cell-test.true c.index-cells-cell.is [] ∙ ap (λ (cells : List (List ObjectId)). get_or cells c.loop-cell.cell []) c.cells-cells.ensures in
-    (c.fill_cell.ensures.filled
-    ∙ ap (λ (os : List ObjectId). grid_with_cell (g.B.Board.grid c.loop-cell.board) c.loop-cell.cell (fold put (cell_at (g.B.Board.grid c.loop-cell.board) c.loop-cell.cell) os)) objects
-    ∙ ap (λ (h : Grid). grid_with_cell h c.loop-cell.cell (fold put (cell_at h c.loop-cell.cell) (get_or level.cells c.loop-cell.cell []))) c.loop-cell.invariant.0
-    ∙ one_more_loaded names level c.loop-cell.cell c.requires within,
-    rw c.fill_cell.ensures.table c.loop-cell.invariant.1)
+    let objects = c.as_slice.ensures ∙ get_or_read c.cells-cells.result.now c.loop-cell.cell _ c.loop-cell-test.true c.index-cells-cell.is [] ∙ ap (λ (cells : List (List ObjectId)). get_or cells c.loop-cell.cell []) c.cells-cells.ensures in (
+      c.fill_cell.ensures.filled
+          ∙ ap (λ (os : List ObjectId). grid_with_cell (g.B.Board.grid c.loop-cell.board) c.loop-cell.cell (fold put (cell_at (g.B.Board.grid c.loop-cell.board) c.loop-cell.cell) os)) objects
+          ∙ ap (λ (h : Grid). grid_with_cell h c.loop-cell.cell (fold put (cell_at h c.loop-cell.cell) (get_or level.cells c.loop-cell.cell []))) c.loop-cell.invariant.0
+          ∙ one_more_loaded names level c.loop-cell.cell c.requires within,
+      rw c.fill_cell.ensures.table c.loop-cell.invariant.1,
+    )
 
 pub loop-cell-init : goal.loop-cell-init
-loop-cell-init g c =
-    (c.in_ok-board.ensures.grid ∙ none_loaded c.args.names.now c.args.level.now _ _ _ c.width.ensures c.height.ensures c.layer_count.ensures.count,
-    have-own-room _ c.own_layers.result.now c.args.names.now c.own_layers.ensures c.in_ok-board.ensures.room)
+loop-cell-init g c = (
+  c.in_ok-board.ensures.grid ∙ none_loaded c.args.names.now c.args.level.now _ _ _ c.width.ensures c.height.ensures c.layer_count.ensures.count,
+  have-own-room _ c.own_layers.result.now c.args.names.now c.own_layers.ensures c.in_ok-board.ensures.room,
+)
 
 pub returns : goal.returns
 returns g c =

@@ -21,11 +21,12 @@ loop-cell-preserved g c =
     let shape : IsGrid rested = rw c.clear_moves.ensures.grid at c.size-width.ensures.shape in
     let width = rw c.clear_moves.ensures.grid at c.size-width.ensures.width in
     let height = rw c.clear_moves.ensures.grid at c.size-width.ensures.height in
-    let within : c.loop-cell.cell < length rested.cells = rw (shape.cells, ← width, ← height) c.loop-cell-test.true in
-    (c.give_cell.ensures.moved
-    ∙ ap (λ (h : Grid). grid_with_cell h c.loop-cell.cell (map (slot_set_moving c.args.moved.now c.args.motion) (cell_at h c.loop-cell.cell))) c.loop-cell.invariant.0
-    ∙ one_more_cell (map (slot_set_moving c.args.moved.now c.args.motion)) rested c.loop-cell.cell _ within refl,
-    c.give_cell.ensures.table ∙ c.loop-cell.invariant.1)
+    let within : c.loop-cell.cell < length rested.cells = rw (shape.cells, ← width, ← height) c.loop-cell-test.true in (
+      c.give_cell.ensures.moved
+          ∙ ap (λ (h : Grid). grid_with_cell h c.loop-cell.cell (map (slot_set_moving c.args.moved.now c.args.motion) (cell_at h c.loop-cell.cell))) c.loop-cell.invariant.0
+          ∙ one_more_cell (map (slot_set_moving c.args.moved.now c.args.motion)) rested c.loop-cell.cell _ within refl,
+      c.give_cell.ensures.table ∙ c.loop-cell.invariant.1,
+    )
 
 pub returns-clause-moved : goal.returns-clause-moved
 returns-clause-moved g c =
