@@ -1,7 +1,8 @@
 //! What any board can do.
 
 ghost use Rattle.std.specs.Prelude.{◌≡◌, ℕ, ◌+◌, ◌*◌, ◌<◌, ◌≤◌, IfOk, IfSome, List, None, Option};
-ghost use Rattle.ps_model.specs.board.Grid.{Grid, IsGrid, IsPlace, empty_grid, slot_at, object_in, motion_in, slot_of, with_slot, at_rest};
+ghost use Rattle.ps_model.specs.board.Grid.{Grid, IsGrid, IsPlace, at_rest, empty_grid, with_slot};
+ghost use Rattle.ps_model.specs.board.Grid.{motion_in, object_in, slot_at, slot_of};
 ghost use Rattle.ps_model.specs.declared.limits.TheConstants.{LAYER_LIMIT, SIDE_LIMIT};
 ghost use Rattle.ps_model.specs.declared.pieces.Motion.TheVariants.{Still};
 ghost use Rattle.ps_board.specs.Rooms.{HasRoom, HaveRoom};
@@ -21,7 +22,8 @@ pub trait Board: Drop {
     /// What the board shows.
     ghost grid: { Self → Grid };
 
-    /// The layer of each object, where objects may stand on no other one; nothing, where any object may stand on any layer.
+    /// The layer of each object, where objects may stand on no other one; nothing, where any object may stand on any
+    /// layer.
     ghost table: { Self → Option (List ℕ) };
 
     /// A board without objects, of so many columns, rows and layers, for a game whose objects stand on the layers

@@ -9,7 +9,8 @@ use crate::board::Board;
 use ps_model::{LayerId, Memory, Motion, ObjectId, Slot};
 use std::alloc::Global;
 
-/// A board as one list of slots: the cells in the order of their numbers, and of each cell its layers, the lowest first.
+/// A board as one list of slots: the cells in the order of their numbers, and of each cell its layers, the lowest
+/// first.
 #[derive(Drop)]
 pub struct ListBoard {
     width: u32,

@@ -13,14 +13,15 @@ use ps_places::{RowPlaces, find_places};
 use ps_program::CompiledRule;
 use std::alloc::Global;
 
-/// The rows of a rule with their places, which are those of the board as it is; nothing, where a row has none. `Memory` if there
-/// is no room for them.
+/// The rows of a rule with their places, which are those of the board as it is; nothing, where a row has none.
+/// `Memory` if there is no room for them.
 fn find_rows<'r, B: Scan>(
     alloc: Global,
     board: &B,
     rule: &'r CompiledRule,
 ) -> Result<Option<Vec<RowPlaces<'r>>>, Memory>
-    ensures { IfOk result (λ found. AreRowsFound (B.grid board.now) (B.table board.now) rule.entry.now (option_map (λ rows. rows.items) found)) }
+    ensures { IfOk result (λ found. AreRowsFound (B.grid board.now) (B.table board.now) rule.entry.now
+        (option_map (λ rows. rows.items) found)) }
 {
     let mut found = Vec::new(alloc);
     for row in rule.rows.as_slice() {
@@ -32,9 +33,9 @@ fn find_rows<'r, B: Scan>(
     Ok(Some(found))
 }
 
-/// An attempt of a rule: all combinations of its places are applied in order, each if every row still fits, and its commands
-/// enter the queue, if it has a combination. Answers whether a cell changed. After `Memory` some board of the same sides and
-/// some queue stand.
+/// An attempt of a rule: all combinations of its places are applied in order, each if every row still fits, and its
+/// commands enter the queue, if it has a combination. Answers whether a cell changed. After `Memory` some board of
+/// the same sides and some queue stand.
 pub fn attempt<'r, B: Scan>(
     alloc: Global,
     rule: &CompiledRule<'r>,
@@ -43,7 +44,8 @@ pub fn attempt<'r, B: Scan>(
 ) -> Result<bool, Memory>
     ensures attempt { let before : State = record { grid = B.grid board.old; queue = queue.old } in
         let after : State = record { grid = B.grid board.new; queue = queue.new } in
-        IfOk result (λ changed. record { state = after; changed = changed } ≡ attempt (rule_meaning (B.table board.old) rule.now) before) }
+        IfOk result (λ changed. record { state = after; changed = changed }
+        ≡ attempt (rule_meaning (B.table board.old) rule.now) before) }
     ensures table { B.table board.new ≡ B.table board.old }
     ensures sides { sides_of (B.grid board.new) ≡ sides_of (B.grid board.old) }
 {

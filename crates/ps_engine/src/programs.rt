@@ -85,7 +85,8 @@ fn play_section<'r, B: Scan>(
     }
 }
 
-/// The sections of a program in order, until a loop would need one more repeat than are allowed for all loops together.
+/// The sections of a program in order, until a loop would need one more repeat than are allowed for all loops
+/// together.
 fn play_sections<'r, B: Scan>(
     alloc: Global,
     sections: &[CompiledSection<'r>],
@@ -109,11 +110,13 @@ fn play_sections<'r, B: Scan>(
     Ok(())
 }
 
-/// A run of a program: its sections in order, until a loop would need one more repeat than are allowed for all loops together.
+/// A run of a program: its sections in order, until a loop would need one more repeat than are allowed for all loops
+/// together.
 ///
-/// Where it answers, the board shows and the queue has what `program_run` says of the program, if no row of it has more than two
-/// parts and all that it puts has room on the board (`exact`); of any other program what it says without the other parts and
-/// without what has no room (`run`). After `Memory` some board of the same sides and some queue stand.
+/// Where it answers, the board shows and the queue has what `program_run` says of the program, if no row of it has
+/// more than two parts and all that it puts has room on the board (`exact`); of any other program what it says
+/// without the other parts and without what has no room (`run`). After `Memory` some board of the same sides and some
+/// queue stand.
 pub fn run_program<'r, B: Scan>(
     alloc: Global,
     sections: &[CompiledSection<'r>],

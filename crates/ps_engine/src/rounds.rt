@@ -14,8 +14,8 @@ use ps_program::CompiledRule;
 use ps_text::List;
 use std::alloc::Global;
 
-/// A round: the attempts of a group's rules in order. Answers whether one changed something. After `Memory` some board of the
-/// same sides and some queue stand.
+/// A round: the attempts of a group's rules in order. Answers whether one changed something. After `Memory` some
+/// board of the same sides and some queue stand.
 fn round<'r, B: Scan>(
     alloc: Global,
     rules: &[CompiledRule<'r>],
@@ -24,7 +24,8 @@ fn round<'r, B: Scan>(
 ) -> Result<bool, Memory>
     ensures round { let before : State = record { grid = B.grid board.old; queue = queue.old } in
         let after : State = record { grid = B.grid board.new; queue = queue.new } in
-        IfOk result (λ changed. record { state = after; changed = changed } ≡ round (rules_meaning (B.table board.old) rules.now) before) }
+        IfOk result (λ changed. record { state = after; changed = changed }
+        ≡ round (rules_meaning (B.table board.old) rules.now) before) }
     ensures table { B.table board.new ≡ B.table board.old }
     ensures sides { sides_of (B.grid board.new) ≡ sides_of (B.grid board.old) }
 {
@@ -35,8 +36,8 @@ fn round<'r, B: Scan>(
     Ok(changed)
 }
 
-/// A group: rounds until one changes nothing, as many as are allowed. Answers whether one changed something. After `Memory`
-/// some board of the same sides and some queue stand.
+/// A group: rounds until one changes nothing, as many as are allowed. Answers whether one changed something. After
+/// `Memory` some board of the same sides and some queue stand.
 pub fn play_group<'r, B: Scan>(
     alloc: Global,
     rules: &[CompiledRule<'r>],
@@ -45,7 +46,8 @@ pub fn play_group<'r, B: Scan>(
 ) -> Result<bool, Memory>
     ensures group { let before : State = record { grid = B.grid board.old; queue = queue.old } in
         let after : State = record { grid = B.grid board.new; queue = queue.new } in
-        IfOk result (λ changed. record { state = after; changed = changed } ≡ group (rules_meaning (B.table board.old) rules.now) before) }
+        IfOk result (λ changed. record { state = after; changed = changed }
+        ≡ group (rules_meaning (B.table board.old) rules.now) before) }
     ensures table { B.table board.new ≡ B.table board.old }
     ensures sides { sides_of (B.grid board.new) ≡ sides_of (B.grid board.old) }
 {
@@ -60,8 +62,8 @@ pub fn play_group<'r, B: Scan>(
     Ok(changed)
 }
 
-/// A pass of a loop's body: its groups in order. Answers whether one changed something. After `Memory` some board of the same
-/// sides and some queue stand.
+/// A pass of a loop's body: its groups in order. Answers whether one changed something. After `Memory` some board of
+/// the same sides and some queue stand.
 pub fn pass<'r, B: Scan>(
     alloc: Global,
     groups: &[List<CompiledRule<'r>>],
@@ -70,7 +72,8 @@ pub fn pass<'r, B: Scan>(
 ) -> Result<bool, Memory>
     ensures pass { let before : State = record { grid = B.grid board.old; queue = queue.old } in
         let after : State = record { grid = B.grid board.new; queue = queue.new } in
-        IfOk result (λ changed. record { state = after; changed = changed } ≡ pass (groups_meaning (B.table board.old) groups.now) before) }
+        IfOk result (λ changed. record { state = after; changed = changed }
+        ≡ pass (groups_meaning (B.table board.old) groups.now) before) }
     ensures table { B.table board.new ≡ B.table board.old }
     ensures sides { sides_of (B.grid board.new) ≡ sides_of (B.grid board.old) }
 {

@@ -25,20 +25,22 @@ fn nothing() -> Commands {
     }
 }
 
+/// Puts an object in a column, if the letter isn't a dot.
+fn lay(board: &mut ListBoard, x: u32, letter: u8) {
+    let (width, height) = board.size();
+    if letter != b'.' && x < width * height && 0 < board.layers() {
+        board.put(x, LOWEST, Some(ObjectId(letter as u32)), Motion::Still);
+    }
+}
+
 /// A board of one row.
 fn board_of(alloc: Global, row: &[u8]) -> Result<ListBoard, Memory> {
-    let width = if row.len() == 0 || (SIDE_LIMIT as usize) < row.len() {
-        1
-    } else {
-        row.len() as u32
-    };
+    let fits = row.len() != 0 && row.len() <= SIDE_LIMIT as usize;
+    let width = if fits { row.len() as u32 } else { 1 };
     let mut board = ListBoard::try_empty(alloc, width, 1, 1, &[])?;
     for x in 0..width {
-        match row.get(x as usize) {
-            Some(letter) if *letter != b'.' => {
-                board.put(x, LOWEST, Some(ObjectId(*letter as u32)), Motion::Still)
-            }
-            _ => {}
+        if let Some(letter) = row.get(x as usize) {
+            lay(&mut board, x, *letter);
         }
     }
     Ok(board)

@@ -26,13 +26,14 @@ fn all_fit<B: Scan>(board: &B, rows: &[RowPlaces], choice: &[usize]) -> bool
     true
 }
 
-/// Rewrites every row at its place that is chosen, one after the other, and answers whether a cell changed, or something had
-/// `changed` before.
+/// Rewrites every row at its place that is chosen, one after the other, and answers whether a cell changed, or
+/// something had `changed` before.
 fn rewrite_rows<B: Scan>(board: &mut B, rows: &[RowPlaces], choice: &[usize], changed: bool) -> bool
     requires { IsChoice (all_places rows.now) choice.now }
     ensures rewritten { let before : Rewritten = record { grid = B.grid board.old; changed = changed } in
         let places = chosen (all_places rows.now) choice.now in
-        record { grid = B.grid board.new; changed = result } ≡ rewritten_rows before (rows_found (B.table board.old) rows.now) places }
+        record { grid = B.grid board.new; changed = result }
+        ≡ rewritten_rows before (rows_found (B.table board.old) rows.now) places }
     ensures table { B.table board.new ≡ B.table board.old }
     ensures sides { sides_of (B.grid board.new) ≡ sides_of (B.grid board.old) }
 {
@@ -49,7 +50,8 @@ fn apply<B: Scan>(board: &mut B, rows: &[RowPlaces], choice: &[usize], changed: 
     requires { IsChoice (all_places rows.now) choice.now }
     ensures rewritten { let before : Rewritten = record { grid = B.grid board.old; changed = changed } in
         let places = chosen (all_places rows.now) choice.now in
-        record { grid = B.grid board.new; changed = result } ≡ applied (rows_found (B.table board.old) rows.now) before places }
+        record { grid = B.grid board.new; changed = result }
+        ≡ applied (rows_found (B.table board.old) rows.now) before places }
     ensures table { B.table board.new ≡ B.table board.old }
     ensures sides { sides_of (B.grid board.new) ≡ sides_of (B.grid board.old) }
 {
@@ -81,7 +83,8 @@ fn walk_from<B: Scan>(board: &mut B, rows: &[RowPlaces], choice: &mut [usize]) -
     ensures rewritten { let before : Rewritten = record { grid = B.grid board.old; changed = false } in
         let places = all_places rows.now in
         record { grid = B.grid board.new; changed = result }
-        ≡ fold (applied (rows_found (B.table board.old) rows.now)) before (chosen places choice.old ∷ behind places choice.old) }
+        ≡ fold (applied (rows_found (B.table board.old) rows.now)) before
+        (chosen places choice.old ∷ behind places choice.old) }
     ensures table { B.table board.new ≡ B.table board.old }
     ensures sides { sides_of (B.grid board.new) ≡ sides_of (B.grid board.old) }
 {
@@ -92,11 +95,12 @@ fn walk_from<B: Scan>(board: &mut B, rows: &[RowPlaces], choice: &mut [usize]) -
     changed
 }
 
-/// Applies all combinations of places, in their order, and answers whether a cell changed. `Memory` if there is no room for the
-/// number of the place that is chosen for each row; the board is then as it was.
+/// Applies all combinations of places, in their order, and answers whether a cell changed. `Memory` if there is no
+/// room for the number of the place that is chosen for each row; the board is then as it was.
 pub fn walk<B: Scan>(alloc: Global, board: &mut B, rows: &[RowPlaces]) -> Result<bool, Memory>
     ensures rewritten { let before : Rewritten = record { grid = B.grid board.old; changed = false } in
-        let all = fold (applied (rows_found (B.table board.old) rows.now)) before (combinations (all_places rows.now)) in
+        let all = fold (applied (rows_found (B.table board.old) rows.now)) before
+        (combinations (all_places rows.now)) in
         IfOk result (λ changed. record { grid = B.grid board.new; changed = changed } ≡ all) }
     ensures table { B.table board.new ≡ B.table board.old }
     ensures sides { sides_of (B.grid board.new) ≡ sides_of (B.grid board.old) }

@@ -1,7 +1,7 @@
 //! The cells of a board against the masks and writes of compiled rules.
 //!
-//! [`Scan`] says what a board does for a rule: whether a cell fits a mask, and what a write makes of a cell, in terms of the
-//! grid that the board shows. [`ListBoard`](ps_board::ListBoard) answers slot by slot.
+//! [`Scan`] says what a board does for a rule: whether a cell fits a mask, and what a write makes of a cell, in terms
+//! of the grid that the board shows. [`ListBoard`](ps_board::ListBoard) answers slot by slot.
 #![tactic(auto)]
 
 mod fitting;

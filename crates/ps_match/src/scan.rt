@@ -9,18 +9,21 @@ ghost use Rattle.ps_match.specs.InRoom.{meaning_of_mask, meaning_of_write, sides
 use ps_board::Board;
 use ps_program::{CellMask, CellWrite};
 
-/// A board whose cells are matched against masks and rewritten by writes. What runs rules touches a board through this alone.
+/// A board whose cells are matched against masks and rewritten by writes. What runs rules touches a board through
+/// this alone.
 pub trait Scan: Board {
     /// Whether a cell fits a mask; no cell beyond the board does.
     fn fits(&self, mask: &CellMask, cell: u32) -> bool
-        ensures { result ≡ fits_there (meaning_of_mask (mask_shown mask.now)) (slice_get (Self.grid self.now).cells cell) };
+        ensures { result ≡ fits_there (meaning_of_mask (mask_shown mask.now))
+            (slice_get (Self.grid self.now).cells cell) };
 
-    /// Writes a cell, and answers whether it changed, or something had `changed` before. Beyond the board nothing is written,
-    /// and an object that has no room on a layer isn't put there.
+    /// Writes a cell, and answers whether it changed, or something had `changed` before. Beyond the board nothing is
+    /// written, and an object that has no room on a layer isn't put there.
     fn write(&mut self, write: &CellWrite, cell: u32, changed: bool) -> bool
         ensures rewritten { let before : Rewritten = record { grid = Self.grid self.old; changed = changed } in
             let meaning = meaning_of_write (write_in_room (Self.table self.old) (write_shown write.now)) in
-            record { grid = Self.grid self.new; changed = result } ≡ rewritten_cell before meaning cell (slice_get before.grid.cells cell) }
+            record { grid = Self.grid self.new; changed = result }
+            ≡ rewritten_cell before meaning cell (slice_get before.grid.cells cell) }
         ensures table { Self.table self.new ≡ Self.table self.old }
         ensures sides { sides_of (Self.grid self.new) ≡ sides_of (Self.grid self.old) };
 }

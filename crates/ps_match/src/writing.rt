@@ -50,7 +50,8 @@ fn write_slot<B: Board>(
     requires free { B.table board.old ≡ None }
     requires place { IsPlace (B.grid board.old) cell layer.0 }
     ensures grid { let before = slot_at (B.grid board.old) cell layer.0 in
-        B.grid board.new ≡ with_slot (B.grid board.old) cell layer.0 (slot_after (write_shown write.now) layer.0 before) }
+        B.grid board.new ≡ with_slot (B.grid board.old) cell layer.0
+        (slot_after (write_shown write.now) layer.0 before) }
     ensures changed { let before = slot_at (B.grid board.old) cell layer.0 in
         result ≡ (changed || not (same_slot before (slot_after (write_shown write.now) layer.0 before))) }
     ensures table { B.table board.new ≡ B.table board.old }
@@ -67,7 +68,8 @@ pub fn write_cell<B: Board>(board: &mut B, write: &CellWrite, cell: u32, changed
     requires shape { IsGrid (B.grid board.old) }
     requires cell { cell < (B.grid board.old).width * (B.grid board.old).height }
     ensures grid { let g : Grid = B.grid board.old in
-        B.grid board.new ≡ record g { cells = slice_set g.cells cell (cell_written (write_shown write.now) (cell_at g cell)) } }
+        let after = cell_written (write_shown write.now) (cell_at g cell) in
+        B.grid board.new ≡ record g { cells = slice_set g.cells cell after } }
     ensures changed { let before = cell_at (B.grid board.old) cell in
         result ≡ (changed || not (same_cell before (cell_written (write_shown write.now) before))) }
     ensures table { B.table board.new ≡ B.table board.old }

@@ -1,9 +1,9 @@
 //! The movement of a turn: each object whose motion is a direction goes one cell on, where that cell is free.
 //!
-//! The cells are visited in the order of their numbers, in passes, until a pass moves nothing. An object that has moved is at
-//! rest, so that it goes one cell at most, and an object that waits for another to leave goes in the same pass or in a later one.
-//! Of several that want to enter a cell, the visits come first to the one that may: the least, or, where an object left the
-//! cell, the next one after it, and after the last cell the first.
+//! The cells are visited in the order of their numbers, in passes, until a pass moves nothing. An object that has
+//! moved is at rest, so that it goes one cell at most, and an object that waits for another to leave goes in the same
+//! pass or in a later one. Of several that want to enter a cell, the visits come first to the one that may: the
+//! least, or, where an object left the cell, the next one after it, and after the last cell the first.
 
 ghost use Rattle.std.specs.Prelude.{◌≡◌, ℕ, ◌+◌, ◌*◌, ◌<◌, ◌≤◌, IfSome, is_some};
 ghost use Rattle.ps_model.specs.board.Grid.{IsGrid, IsPlace, at_rest, neighbour};
@@ -41,12 +41,13 @@ impl Slid {
 
 /// Moves the objects of a board, and brings all to rest.
 ///
-/// Each object whose motion is a direction goes one cell on in its layer, where that cell is on the board and has nothing on
-/// the layer, or becomes free in the same movement. Nothing else moves: two objects never change places, no ring of objects
-/// turns, and an object that acts stays where it is. (PuzzleScript documentation, collision layers.)
+/// Each object whose motion is a direction goes one cell on in its layer, where that cell is on the board and has
+/// nothing on the layer, or becomes free in the same movement. Nothing else moves: two objects never change places,
+/// no ring of objects turns, and an object that acts stays where it is. (PuzzleScript documentation, collision
+/// layers.)
 ///
-/// `exact` says where everything stands afterwards, and `slid` what that means for each object: it stands where it stood or in
-/// its target, and none is lost or made.
+/// `exact` says where everything stands afterwards, and `slid` what that means for each object: it stands where it
+/// stood or in its target, and none is lost or made.
 pub fn slide<B: Board>(board: &mut B) -> Slid
     ensures exact { B.grid board.new ≡ slid (B.grid board.old) }
     ensures slid { IsWeaklySlid (B.grid board.old) (B.grid board.new) }
@@ -66,7 +67,8 @@ pub fn slide<B: Board>(board: &mut B) -> Slid
 /// Visits each cell in the order of the numbers, and tells whether any object went.
 fn pass<B: Board>(board: &mut B) -> bool
     ensures shape { IsGrid (B.grid board.old) }
-    ensures part { let old = B.grid board.old in IsPart result old (B.grid board.new) (0, 0) (old.width * old.height, 0) }
+    ensures part { let old = B.grid board.old in
+        IsPart result old (B.grid board.new) (0, 0) (old.width * old.height, 0) }
     ensures table { B.table board.new ≡ B.table board.old }
 {
     let (width, height) = board.size();
@@ -107,7 +109,8 @@ fn visit<B: Board>(board: &mut B, cell: u32, layer: LayerId) -> bool
     true
 }
 
-/// The cell that the object on a layer of a cell can go to at once: the one that it wants to go to, if nothing stands there.
+/// The cell that the object on a layer of a cell can go to at once: the one that it wants to go to, if nothing stands
+/// there.
 fn way<B: Board>(board: &B, cell: u32, layer: LayerId) -> Option<u32>
     requires { IsPlace (B.grid board.now) cell layer.0 }
     ensures value { result ≡ way (B.grid board.now) layer.0 cell }
@@ -172,7 +175,7 @@ mod tests {
         }
     }
 
-    fn lay<B: Board>(board: &mut B, layer: u32, x: u32, y: u32, letter: u8) {
+    fn lay(board: &mut ListBoard, layer: u32, x: u32, y: u32, letter: u8) {
         let (width, height) = board.size();
         if x < width && y < height && layer < board.layers() {
             if let Some((object, motion)) = piece(letter) {

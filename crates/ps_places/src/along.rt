@@ -36,8 +36,8 @@ pub fn fits_place<B: Scan>(
     true
 }
 
-/// Rewrites the cells of a row at a place, one after the other, and answers whether one changed, or something had `changed`
-/// before.
+/// Rewrites the cells of a row at a place, one after the other, and answers whether one changed, or something had
+/// `changed` before.
 pub fn rewrite_place<B: Scan>(
     board: &mut B,
     parts: &[List<CompiledCell>],

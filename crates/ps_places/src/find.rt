@@ -1,6 +1,7 @@
 //! The search for the places of a row.
 
-ghost use Rattle.std.specs.Prelude.{◌≡◌, ◌++◌, ◌<◌, ◌≤◌, IfOk, IfSome, None, OnOk, length, map, slice_index_or, sum, take};
+ghost use Rattle.std.specs.Prelude.{◌≡◌, ◌++◌, ◌<◌, ◌≤◌, IfOk, IfSome, None, OnOk};
+ghost use Rattle.std.specs.Prelude.{length, map, slice_index_or, sum, take};
 ghost use Rattle.ps_model.specs.declared.limits.TheConstants.{SIDE_LIMIT};
 ghost use Rattle.ps_model.specs.board.Grid.{IsGrid};
 ghost use Rattle.ps_model.specs.board.Places.{places};

@@ -75,7 +75,8 @@ pub fn search_columns<B: Scan>(
     requires size { sum (part_sizes parts.now) ≡ shape.size }
     requires whole { length (all_cells parts.now) ≡ shape.size }
     ensures { let g = B.grid board.now in
-        let more = flat_map (vertical_at g (B.table board.now) parts.now shape) (range_with_len 0 (g.width * g.height)) in
+        let at = vertical_at g (B.table board.now) parts.now shape in
+        let more = flat_map at (range_with_len 0 (g.width * g.height)) in
         OnOk result (map (cells_of shape) found.new.items ≡ map (cells_of shape) found.old.items ++ more) }
 {
     let (width, height) = board.size();
