@@ -97,8 +97,10 @@ pub fn run<R: ByteReader, W: ByteWriter>(
 {
     let read = read_game(alloc, game)?;
     let Some(plain) = plain(&read) else {
-        let fault = not_yet(alloc, game)?;
-        return Err(RunFault::Refused(fault));
+        match not_yet(alloc, game) {
+            Ok(fault) => return Err(RunFault::Refused(fault)),
+            Err(Memory) => return Err(RunFault::Memory),
+        }
     };
     let ending = play_game(alloc, &plain, reader, writer)?;
     Ok(ending)
