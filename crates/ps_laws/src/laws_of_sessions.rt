@@ -10,7 +10,6 @@ ghost use Rattle.ps_laws.specs.SessionSteps.{TextsJoin, EmptyTextAddsNothing, Un
 ghost use Rattle.ps_laws.specs.SessionSteps.{OpeningsAreEntered, FrontsAreTexts, SilentBytesWriteNothing};
 ghost use Rattle.ps_laws.specs.SessionSteps.{KeysWriteTheirTexts};
 ghost use Rattle.ps_laws.specs.SessionBoards.{OpeningsHaveBoards, KeysKeepBoards, SessionsHaveBoards};
-ghost use Rattle.ps_laws.specs.SessionBoards.{GameSessionsHaveBoards};
 ghost use Rattle.ps_laws.specs.AlikeScripts.{AlikeTurns, AlikeOpenings, AlikeKeys, AlikeRuns, AlikeGames};
 
 /// The again turns of a key, and those of a start, are those of the longest list of turns that count, no more than
@@ -46,14 +45,12 @@ pub fn session_texts()
     ensures keys { KeysWriteTheirTexts }
 {}
 
-/// What the levels of a script have as they are loaded, and what each turn keeps, all boards of its sessions have: those
-/// that are shown, those that undo goes back to, and those that a restart goes back to. In a game they are grids of the
-/// game, with sides within the limits.
+/// All boards of a run of a game are grids of the game, with sides within the limits: those that are shown, those that
+/// undo goes back to, and those that a restart goes back to.
 pub fn session_boards()
     ensures opening { OpeningsHaveBoards }
     ensures keys { KeysKeepBoards }
     ensures sessions { SessionsHaveBoards }
-    ensures games { GameSessionsHaveBoards }
 {}
 
 /// Scripts that are the same but for their rules, and whose programs come to the same on each grid of the game, have
