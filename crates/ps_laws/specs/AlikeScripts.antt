@@ -4,11 +4,13 @@
 use Rattle.std.specs.Prelude.{◌≡◌, ℕ, Option, Some, List, All}
 use Rattle.ps_model.specs.declared.play.Input.{Input}
 use Rattle.ps_model.specs.declared.play.Key.{Key}
+use Rattle.ps_model.specs.declared.rules.Part.TheVariants.{Plain, Late}
 use Rattle.ps_model.specs.names.Names.{Names}
 use Rattle.ps_model.specs.board.Grid.{Grid}
 use Rattle.ps_model.specs.board.GameGrids.{IsGridOf}
 use Rattle.ps_model.specs.board.Attempts.{State}
 use Rattle.ps_model.specs.board.Programs.{Section, program_run}
+use Rattle.ps_model.specs.board.RulePrograms.{program_of}
 use Rattle.ps_model.specs.board.Turns.{Script, script_of, Outcome, turn}
 use Rattle.ps_model.specs.session.Sessions.{Session, Step}
 use Rattle.ps_model.specs.session.KeySteps.{key_step}
@@ -35,6 +37,18 @@ pub record AlikeScripts (a b : Script) : Type 0 where
   pub wins : a.wins ≡ b.wins
   pub plain : RunAlike a.names a.plain b.plain
   pub late : RunAlike a.names a.late b.late
+
+-- a game that is played by these programs instead of its rules
+abbrev pub script_by : Game → List Section → List Section → Script
+script_by read plain late = record {
+  title = read.title;
+  options = read.options;
+  names = read.names;
+  plain = plain;
+  late = late;
+  entries = read.entries;
+  wins = read.wins;
+}
 
 -- equal ------------------------------------------------------------------------------------------------------------------
 
@@ -82,3 +96,10 @@ AlikeRuns = (a b : Script) → AlikeScripts a b → All (LoadsAsGrid a.names) a.
 abbrev pub AlikeGames : Type 0
 AlikeGames =
     (text : List ℕ) (read : Game) → game text ≡ Some read → (script : Script) → AlikeScripts script (script_of read) → SameRuns script (script_of read)
+
+-- so has a game that is played by other programs than those of its rules, if they run alike with these
+abbrev pub AlikeProgramsOfGames : Type 0
+AlikeProgramsOfGames =
+    (text : List ℕ) (read : Game) → game text ≡ Some read → (plain late : List Section) →
+    RunAlike read.names plain (program_of read.names Plain read.rules) → RunAlike read.names late (program_of read.names Late read.rules) →
+    SameRuns (script_by read plain late) (script_of read)

@@ -11,6 +11,7 @@ ghost use Rattle.ps_laws.specs.SessionSteps.{OpeningsAreEntered, FrontsAreTexts,
 ghost use Rattle.ps_laws.specs.SessionSteps.{KeysWriteTheirTexts};
 ghost use Rattle.ps_laws.specs.SessionBoards.{OpeningsHaveBoards, KeysKeepBoards, SessionsHaveBoards};
 ghost use Rattle.ps_laws.specs.AlikeScripts.{AlikeTurns, AlikeOpenings, AlikeKeys, AlikeRuns, AlikeGames};
+ghost use Rattle.ps_laws.specs.AlikeScripts.{AlikeProgramsOfGames};
 
 /// The again turns of a key, and those of a start, are those of the longest list of turns that count, no more than
 /// their limit; a message cuts it.
@@ -54,11 +55,12 @@ pub fn session_boards()
 {}
 
 /// Scripts that are the same but for their rules, and whose programs come to the same on each grid of the game, have
-/// the same turns, the same steps and the same runs.
+/// the same turns, the same steps and the same runs. So a game may be played by other programs than those of its rules.
 pub fn alike_scripts()
     ensures turns { AlikeTurns }
     ensures opening { AlikeOpenings }
     ensures keys { AlikeKeys }
     ensures runs { AlikeRuns }
     ensures games { AlikeGames }
+    ensures programs { AlikeProgramsOfGames }
 {}

@@ -17,7 +17,7 @@ use Rattle.ps_model.specs.game.Outputs.{opening_step}
 use Rattle.ps_laws.specs.EqualMeanings.{EqualStates}
 use Rattle.ps_laws.specs.GamesOfTexts.{LoadsAsGrid}
 use Rattle.ps_laws.specs.SessionBoards.{HasBoard}
-use Rattle.ps_laws.specs.AlikeScripts.{RunAlike, AlikeScripts, EqualOutcomes, EqualSteps, SameRuns, AlikeTurns, AlikeOpenings, AlikeKeys, AlikeRuns, AlikeGames}
+use Rattle.ps_laws.specs.AlikeScripts.{RunAlike, AlikeScripts, EqualOutcomes, EqualSteps, SameRuns, AlikeTurns, AlikeOpenings, AlikeKeys, AlikeRuns, AlikeGames, AlikeProgramsOfGames, script_by}
 use Rattle.ps_laws.proofs.common.Everywhere.{either_one}
 use Rattle.ps_laws.proofs.grids.KeptSlides.{slid-keeps}
 use Rattle.ps_laws.proofs.grids.KeptTurns.{prepared-keeps}
@@ -92,3 +92,7 @@ alike_runs a b h levels =
 
 pub alike_games : AlikeGames
 alike_games text read e script h = alike_runs script (script_of read) h (rw (h.names, h.entries) (game-levels text read e))
+
+pub alike_programs_of_games : AlikeProgramsOfGames
+alike_programs_of_games text read e plain late plain_too late_too =
+    alike_games text read e (script_by read plain late) (record { title = refl; options = refl; names = refl; entries = refl; wins = refl; plain = plain_too; late = late_too })
