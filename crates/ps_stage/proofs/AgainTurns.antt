@@ -8,7 +8,7 @@ use Rattle.ps_model.specs.session.Sessions.{Play, Step, after}
 use Rattle.ps_model.specs.session.StartSteps.{start_turns, all_start_turns}
 use Rattle.ps_model.specs.session.KeySteps.{key_turns, all_key_turns}
 use Rattle.ps_laws.proofs.sessions.SessionSteps.{key_turns-limited, start_turns-limited}
-use Rattle.ps_stage.specs.Standings.{SessionParts, script_on}
+use Rattle.ps_stage.specs.Standings.{SessionParts, script_for}
 use Rattle.ps_stage.proofs.Scripts.{same_script}
 
 joined : (turns : Script → ℕ → Play → Step) (script other : Script) (start text : List ℕ) (most left next : ℕ) (play level : Play) (step : Script → (Play → Step) → Step) →
@@ -24,15 +24,15 @@ joined turns script other start text most left next play level step same count r
     ∙ ap (λ (s : Script). step s (turns s next)) same
 
 -- one more again turn, where turns are those of a start or those of a key
-pub one_more : (turns : Script → ℕ → Play → Step) (first parts : SessionParts) (table here : Option (List ℕ)) (plain late those others : Option (List ℕ) → List Section)
+pub one_more : (turns : Script → ℕ → Play → Step) (table_for : List ℕ → Option (List ℕ)) (first parts : SessionParts) (plain late those others : Option (List ℕ) → List Section)
     (start text : List ℕ) (most left next : ℕ) (play level : Play) (step : Script → (Play → Step) → Step) →
-    parts ≡ first → here ≡ table → those ≡ plain → others ≡ late → left ≡ suc next →
-    after start (turns (script_on first table plain late) most play) ≡ after text (turns (script_on first table plain late) left level) →
-    after text (turns (script_on parts here those others) (suc next) level) ≡ step (script_on parts here those others) (turns (script_on parts here those others) next) →
-    after start (turns (script_on first table plain late) most play) ≡ step (script_on first table plain late) (turns (script_on first table plain late) next)
-one_more turns first parts table here plain late those others start text most left next play level step a b c d count rest one =
-    joined turns (script_on first table plain late) (script_on parts here those others) start text most left next play level step
-    (same_script first parts table here plain late those others a b c d) count rest one
+    parts ≡ first → those ≡ plain → others ≡ late → left ≡ suc next →
+    after start (turns (script_for table_for first plain late) most play) ≡ after text (turns (script_for table_for first plain late) left level) →
+    after text (turns (script_for table_for parts those others) (suc next) level) ≡ step (script_for table_for parts those others) (turns (script_for table_for parts those others) next) →
+    after start (turns (script_for table_for first plain late) most play) ≡ step (script_for table_for first plain late) (turns (script_for table_for first plain late) next)
+one_more turns table_for first parts plain late those others start text most left next play level step a b c count rest one =
+    joined turns (script_for table_for first plain late) (script_for table_for parts those others) start text most left next play level step
+    (same_script table_for first parts plain late those others a b c) count rest one
 
 -- as many as there may be
 pub all_starts : (script : Script) (play : Play) (most : ℕ) → most ≡ AGAIN_LIMIT → all_start_turns script play ≡ start_turns script most play

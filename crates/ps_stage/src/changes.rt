@@ -9,7 +9,7 @@ ghost use Rattle.ps_model.specs.session.KeySteps.{blocked, key_told, all_key_tur
 ghost use Rattle.ps_turn.specs.States.{done_shown};
 ghost use Rattle.ps_stage.specs.KeysShown.{key_end_step};
 ghost use Rattle.ps_stage.specs.Places.{change_shown, past_of, past_if, GoesOnTable};
-ghost use Rattle.ps_stage.specs.Standings.{Standing, script_on, play_of};
+ghost use Rattle.ps_stage.specs.Standings.{Standing, script_for, play_of};
 ghost use Rattle.ps_stage.specs.StepsShown.{came, stands, pending_shown};
 
 use crate::entering::placed;
@@ -66,7 +66,7 @@ impl<'g> Stage<'g> {
         ensures late { R.meant rules.new.late ≡ R.meant rules.old.late }
         ensures table { IfOk result (λ change. GoesOnTable (B.table_for self.old.game.names.layers) change) }
         ensures came { IfOk result (λ change. (history : List Grid) (first : Standing)
-            → key_end_step (script_on self.old.game (B.table_for self.old.game.names.layers) (R.meant rules.old.plain) (R.meant rules.old.late))
+            → key_end_step (script_for B.table_for self.old.game (R.meant rules.old.plain) (R.meant rules.old.late))
                 end (play_of (past_of past history first.board) level) self.old.text
             ≡ came (change_shown history first change) self.new.text) }
     {
@@ -98,9 +98,9 @@ impl<'g> Stage<'g> {
         ensures table { IfOk result (λ change. GoesOnTable (B.table_for self.old.game.names.layers) change) }
         ensures came { IfOk result (λ change. (history : List Grid) (first : Standing)
             → after self.old.text (after (frame self.old.game.names level.board)
-                (key_told (script_on self.old.game (B.table_for self.old.game.names.layers) (R.meant rules.old.plain) (R.meant rules.old.late))
+                (key_told (script_for B.table_for self.old.game (R.meant rules.old.plain) (R.meant rules.old.late))
                     (play_of (past_of (past_if done.now.changed) history first.board) level) (done_shown done.now level.board) AGAIN_LIMIT
-                    (all_key_turns (script_on self.old.game (B.table_for self.old.game.names.layers) (R.meant rules.old.plain) (R.meant rules.old.late)))))
+                    (all_key_turns (script_for B.table_for self.old.game (R.meant rules.old.plain) (R.meant rules.old.late)))))
             ≡ came (change_shown history first change) self.new.text) }
     {
         let past = past_if(done.changed);
@@ -133,7 +133,7 @@ impl<'g> Stage<'g> {
         ensures late { R.meant rules.new.late ≡ R.meant rules.old.late }
         ensures table { IfOk result (λ change. GoesOnTable (B.table_for self.old.game.names.layers) change) }
         ensures came { IfOk result (λ change. (history : List Grid) → after self.old.text
-            (input_taken (script_on self.old.game (B.table_for self.old.game.names.layers) (R.meant rules.old.plain) (R.meant rules.old.late))
+            (input_taken (script_for B.table_for self.old.game (R.meant rules.old.plain) (R.meant rules.old.late))
                 (play_of history level.old) input)
             ≡ came (change_shown history level.old change) self.new.text) }
     {
@@ -171,7 +171,7 @@ impl<'g> Stage<'g> {
         ensures late { R.meant rules.new.late ≡ R.meant rules.old.late }
         ensures table { IfOk result (λ change. GoesOnTable (B.table_for self.old.game.names.layers) change) }
         ensures came { IfOk result (λ change. (history : List Grid) → after self.old.text
-            (gone_on (script_on self.old.game (B.table_for self.old.game.names.layers) (R.meant rules.old.plain) (R.meant rules.old.late))
+            (gone_on (script_for B.table_for self.old.game (R.meant rules.old.plain) (R.meant rules.old.late))
                 (play_of history level.now) (pending_shown pending))
             ≡ came (change_shown history level.now change) self.new.text) }
     {

@@ -1,13 +1,13 @@
 //! Entries as they begin, levels that are done, and restarts.
 
-ghost use Rattle.std.specs.Prelude.{◌≡◌, ◌<◌, IfOk, [], suc, take, filter, length, Some, List, ◌∷◌};
+ghost use Rattle.std.specs.Prelude.{◌≡◌, ◌<◌, IfOk, [], suc, take, filter, length, ℕ, Option, Some, List, ◌∷◌};
 ghost use Rattle.ps_model.specs.board.Grid.{Grid};
 ghost use Rattle.ps_model.specs.session.LevelLines.{LevelEntry};
 ghost use Rattle.ps_model.specs.session.Sessions.{after, is_level, level_number};
 ghost use Rattle.ps_model.specs.session.StartSteps.{entered, enter, level_done, restarted};
 ghost use Rattle.ps_levels.specs.EntriesShown.{entry_shown, entries_shown};
 ghost use Rattle.ps_stage.specs.Playable.{IsPlayable};
-ghost use Rattle.ps_stage.specs.Standings.{script_of, script_on, play_of};
+ghost use Rattle.ps_stage.specs.Standings.{script_of, script_for, play_of};
 ghost use Rattle.ps_stage.specs.StepsShown.{came, stands};
 ghost use Rattle.ps_stage.specs.Places.{place_shown, IsOnTable};
 
@@ -60,7 +60,7 @@ pub(crate) fn placed<B: Board>(
     pending: Option<Pending>,
 ) -> Place<PlayedLevel<B>>
     ensures shown { (history : List Grid) → place_shown history result ≡ stands pending (play_of history level) }
-    ensures table { IsOnTable level.table result }
+    ensures table { (table : Option (List ℕ)) → level.table ≡ table → IsOnTable table result }
 {
     match pending {
         None => Place::Playing(level),
@@ -84,7 +84,7 @@ impl<'g> Stage<'g> {
         ensures late { R.meant rules.new.late ≡ R.meant rules.old.late }
         ensures table { IfOk result (λ place. IsOnTable (B.table_for self.old.game.names.layers) place) }
         ensures came { IfOk result (λ place. after self.old.text
-            (entered (script_on self.old.game (B.table_for self.old.game.names.layers) (R.meant rules.old.plain) (R.meant rules.old.late))
+            (entered (script_for B.table_for self.old.game (R.meant rules.old.plain) (R.meant rules.old.late))
                 entry (Some (LevelEntry level.now)))
             ≡ came (place_shown [] place) self.new.text) }
     {
@@ -114,7 +114,7 @@ impl<'g> Stage<'g> {
         ensures late { R.meant rules.new.late ≡ R.meant rules.old.late }
         ensures table { IfOk result (λ place. IsOnTable (B.table_for self.old.game.names.layers) place) }
         ensures came { IfOk result (λ place. after self.old.text
-            (enter (script_on self.old.game (B.table_for self.old.game.names.layers) (R.meant rules.old.plain) (R.meant rules.old.late)) entry)
+            (enter (script_for B.table_for self.old.game (R.meant rules.old.plain) (R.meant rules.old.late)) entry)
             ≡ came (place_shown [] place) self.new.text) }
     {
         let entries = self.entries();
@@ -151,7 +151,7 @@ impl<'g> Stage<'g> {
         ensures late { R.meant rules.new.late ≡ R.meant rules.old.late }
         ensures table { IfOk result (λ place. IsOnTable (B.table_for self.old.game.names.layers) place) }
         ensures came { IfOk result (λ place. (history : List Grid) → after self.old.text
-            (level_done (script_on self.old.game (B.table_for self.old.game.names.layers) (R.meant rules.old.plain) (R.meant rules.old.late))
+            (level_done (script_for B.table_for self.old.game (R.meant rules.old.plain) (R.meant rules.old.late))
                 (play_of history level.now))
             ≡ came (place_shown [] place) self.new.text) }
     {
@@ -174,12 +174,13 @@ impl<'g> Stage<'g> {
         level: &PlayedLevel<B>,
         message: Option<Text>,
     ) -> Result<Place<PlayedLevel<B>>, Memory>
+        requires { level.now.table ≡ B.table_for self.old.game.names.layers }
         ensures game { self.new.game ≡ self.old.game }
         ensures plain { R.meant rules.new.plain ≡ R.meant rules.old.plain }
         ensures late { R.meant rules.new.late ≡ R.meant rules.old.late }
-        ensures table { IfOk result (λ place. IsOnTable level.now.table place) }
+        ensures table { IfOk result (λ place. IsOnTable (B.table_for self.old.game.names.layers) place) }
         ensures came { IfOk result (λ place. (history : List Grid) → after self.old.text
-            (restarted (script_on self.old.game level.now.table (R.meant rules.old.plain) (R.meant rules.old.late)) (play_of history level.now) message)
+            (restarted (script_for B.table_for self.old.game (R.meant rules.old.plain) (R.meant rules.old.late)) (play_of history level.now) message)
             ≡ came (place_shown history place) self.new.text) }
     {
         let mut again = level.restarted(self.alloc)?;

@@ -8,7 +8,7 @@ ghost use Rattle.ps_model.specs.session.Sessions.{Play, Step, after};
 ghost use Rattle.ps_model.specs.session.KeySteps.{key_pending, key_told, key_turns, all_key_turns};
 ghost use Rattle.ps_turn.specs.States.{done_shown};
 ghost use Rattle.ps_stage.specs.KeysShown.{key_end_step, key_told_step};
-ghost use Rattle.ps_stage.specs.Standings.{script_on, play_of};
+ghost use Rattle.ps_stage.specs.Standings.{script_for, play_of};
 ghost use Rattle.ps_stage.specs.StepsShown.{pending_shown};
 
 use crate::levels::{Counting, PlayedLevel};
@@ -77,14 +77,15 @@ impl<'g> Stage<'g> {
         level: &mut PlayedLevel<B>,
         left: u32,
     ) -> Result<KeyTold, Memory>
+        requires { level.old.table ≡ B.table_for self.old.game.names.layers }
         ensures game { self.new.game ≡ self.old.game }
         ensures plain { R.meant rules.new.plain ≡ R.meant rules.old.plain }
         ensures late { R.meant rules.new.late ≡ R.meant rules.old.late }
         ensures table { level.new.table ≡ level.old.table }
         ensures told { IfOk result (λ told. (history : List Grid) → after self.old.text
-            (key_turns (script_on self.old.game level.old.table (R.meant rules.old.plain) (R.meant rules.old.late)) (suc left) (play_of history level.old))
-            ≡ key_told_step (script_on self.old.game level.old.table (R.meant rules.old.plain) (R.meant rules.old.late)) told (play_of history level.new)
-                self.new.text (key_turns (script_on self.old.game level.old.table (R.meant rules.old.plain) (R.meant rules.old.late)) left)) }
+            (key_turns (script_for B.table_for self.old.game (R.meant rules.old.plain) (R.meant rules.old.late)) (suc left) (play_of history level.old))
+            ≡ key_told_step (script_for B.table_for self.old.game (R.meant rules.old.plain) (R.meant rules.old.late)) told (play_of history level.new)
+                self.new.text (key_turns (script_for B.table_for self.old.game (R.meant rules.old.plain) (R.meant rules.old.late)) left)) }
     {
         let turned = level.take_turn(
             self.alloc,
@@ -112,13 +113,14 @@ impl<'g> Stage<'g> {
         level: &mut PlayedLevel<B>,
         most: u32,
     ) -> Result<KeyEnd, Memory>
+        requires { level.old.table ≡ B.table_for self.old.game.names.layers }
         ensures game { self.new.game ≡ self.old.game }
         ensures plain { R.meant rules.new.plain ≡ R.meant rules.old.plain }
         ensures late { R.meant rules.new.late ≡ R.meant rules.old.late }
         ensures table { level.new.table ≡ level.old.table }
         ensures came { IfOk result (λ end. (history : List Grid) → after self.old.text
-            (key_turns (script_on self.old.game level.old.table (R.meant rules.old.plain) (R.meant rules.old.late)) most (play_of history level.old))
-            ≡ key_end_step (script_on self.old.game level.old.table (R.meant rules.old.plain) (R.meant rules.old.late)) end (play_of history level.new)
+            (key_turns (script_for B.table_for self.old.game (R.meant rules.old.plain) (R.meant rules.old.late)) most (play_of history level.old))
+            ≡ key_end_step (script_for B.table_for self.old.game (R.meant rules.old.plain) (R.meant rules.old.late)) end (play_of history level.new)
                 self.new.text) }
     {
         let mut left = most;
@@ -138,13 +140,14 @@ impl<'g> Stage<'g> {
         rules: &mut Programs<R>,
         level: &mut PlayedLevel<B>,
     ) -> Result<KeyEnd, Memory>
+        requires { level.old.table ≡ B.table_for self.old.game.names.layers }
         ensures game { self.new.game ≡ self.old.game }
         ensures plain { R.meant rules.new.plain ≡ R.meant rules.old.plain }
         ensures late { R.meant rules.new.late ≡ R.meant rules.old.late }
         ensures table { level.new.table ≡ level.old.table }
         ensures came { IfOk result (λ end. (history : List Grid) → after self.old.text
-            (all_key_turns (script_on self.old.game level.old.table (R.meant rules.old.plain) (R.meant rules.old.late)) (play_of history level.old))
-            ≡ key_end_step (script_on self.old.game level.old.table (R.meant rules.old.plain) (R.meant rules.old.late)) end (play_of history level.new)
+            (all_key_turns (script_for B.table_for self.old.game (R.meant rules.old.plain) (R.meant rules.old.late)) (play_of history level.old))
+            ≡ key_end_step (script_for B.table_for self.old.game (R.meant rules.old.plain) (R.meant rules.old.late)) end (play_of history level.new)
                 self.new.text) }
     {
         let most = again_limit();

@@ -7,7 +7,7 @@ ghost use Rattle.ps_model.specs.board.Turns.{turn};
 ghost use Rattle.ps_turn.specs.States.{HaveSameSides, outcome_shown, is_done};
 ghost use Rattle.ps_stage.specs.KeysShown.{IsNext, tried_outcome};
 ghost use Rattle.ps_stage.specs.Playable.{IsPlayable};
-ghost use Rattle.ps_stage.specs.Standings.{script_on, with_done};
+ghost use Rattle.ps_stage.specs.Standings.{script_for, with_done};
 ghost use Rattle.ps_stage.specs.StepsShown.{counts, taken};
 
 use crate::entries::EntryNumber;
@@ -82,7 +82,7 @@ pub enum Tried<L> {
 /// # Errors
 ///
 /// `Memory`, and the second board is equal to the first again.
-fn take_turn<B: Board, R: Rules<B>>(
+fn run_turn<B: Board, R: Rules<B>>(
     game: &SessionGame<'_>,
     rules: &mut Programs<R>,
     input: Option<Input>,
@@ -91,8 +91,9 @@ fn take_turn<B: Board, R: Rules<B>>(
 ) -> Result<Turned, Memory>
     requires equal { B.grid after.old ≡ B.grid before.now }
     requires table { B.table after.old ≡ B.table before.now }
+    requires own { B.table before.now ≡ B.table_for game.now.names.layers }
     ensures outcome { IfOk result (λ turned. outcome_shown turned (B.grid after.new)
-        ≡ turn (script_on game.now (B.table before.now) (R.meant rules.old.plain) (R.meant rules.old.late)) input (B.grid before.now)) }
+        ≡ turn (script_for B.table_for game.now (R.meant rules.old.plain) (R.meant rules.old.late)) input (B.grid before.now)) }
     ensures undone { IfOk result (λ turned. is_done turned ≡ false → B.grid after.new ≡ B.grid before.now) }
     ensures stands { OnErr result (B.grid after.new ≡ B.grid before.now) }
     ensures sides { HaveSameSides (B.grid after.new) (B.grid before.now) }
@@ -100,7 +101,8 @@ fn take_turn<B: Board, R: Rules<B>>(
     ensures plain { R.meant rules.new.plain ≡ R.meant rules.old.plain }
     ensures late { R.meant rules.new.late ≡ R.meant rules.old.late }
 {
-    turn(game.turns(), rules, input, before, after)
+    let turned = turn(game.turns(), rules, input, before, after)?;
+    Ok(turned)
 }
 
 /// A level of these boards, which are copied.
@@ -261,15 +263,16 @@ impl<B: Board> PlayedLevel<B> {
         input: Option<Input>,
         counting: Counting,
     ) -> Result<Turned, Memory>
+        requires { self.old.table ≡ B.table_for game.now.names.layers }
         ensures turned { IfOk result (λ turned. (g : Grid)
             × (outcome_shown turned g
-                ≡ turn (script_on game.now self.old.table (R.meant rules.old.plain) (R.meant rules.old.late)) input self.old.board)
+                ≡ turn (script_for B.table_for game.now (R.meant rules.old.plain) (R.meant rules.old.late)) input self.old.board)
             × (self.new ≡ taken counting turned self.old g)) }
         ensures table { self.new.table ≡ self.old.table }
         ensures plain { R.meant rules.new.plain ≡ R.meant rules.old.plain }
         ensures late { R.meant rules.new.late ≡ R.meant rules.old.late }
     {
-        let turned = take_turn(game, rules, input, &self.board, &mut self.spare)?;
+        let turned = run_turn(game, rules, input, &self.board, &mut self.spare)?;
         let Turned::Done(done) = &turned else {
             return Ok(turned);
         };
@@ -298,14 +301,15 @@ impl<B: Board> PlayedLevel<B> {
         rules: &mut Programs<R>,
         input: Input,
     ) -> Result<Tried<PlayedLevel<B>>, Memory>
+        requires { self.old.table ≡ B.table_for game.now.names.layers }
         ensures level { self.new ≡ self.old }
         ensures outcome { IfOk result (λ tried. tried_outcome tried
-            ≡ turn (script_on game.now self.old.table (R.meant rules.old.plain) (R.meant rules.old.late)) (Some input) self.old.board) }
+            ≡ turn (script_for B.table_for game.now (R.meant rules.old.plain) (R.meant rules.old.late)) (Some input) self.old.board) }
         ensures next { IfOk result (λ tried. IsNext self.old tried) }
         ensures plain { R.meant rules.new.plain ≡ R.meant rules.old.plain }
         ensures late { R.meant rules.new.late ≡ R.meant rules.old.late }
     {
-        let turned = take_turn(game, rules, Some(input), &self.board, &mut self.spare)?;
+        let turned = run_turn(game, rules, Some(input), &self.board, &mut self.spare)?;
         let done = match turned {
             Turned::Blocked(message) => return Ok(Tried::Blocked(message)),
             Turned::Restarted(message) => return Ok(Tried::Restarted(message)),

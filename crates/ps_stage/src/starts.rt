@@ -6,7 +6,7 @@ ghost use Rattle.ps_model.specs.declared.limits.TheConstants.{AGAIN_LIMIT};
 ghost use Rattle.ps_model.specs.board.Grid.{Grid};
 ghost use Rattle.ps_model.specs.session.Sessions.{Play, Step, after, shown};
 ghost use Rattle.ps_model.specs.session.StartSteps.{start_pending, start_told, start_turns, all_start_turns, started, start_step};
-ghost use Rattle.ps_stage.specs.Standings.{script_on, play_of};
+ghost use Rattle.ps_stage.specs.Standings.{script_for, play_of};
 ghost use Rattle.ps_stage.specs.StepsShown.{told_step, start_shown, came, stands, pending_shown};
 
 use crate::levels::{Counting, PlayedLevel};
@@ -87,13 +87,14 @@ impl<'g> Stage<'g> {
         level: &mut PlayedLevel<B>,
         left: u32,
     ) -> Result<Told, Memory>
+        requires { level.old.table ≡ B.table_for self.old.game.names.layers }
         ensures game { self.new.game ≡ self.old.game }
         ensures plain { R.meant rules.new.plain ≡ R.meant rules.old.plain }
         ensures late { R.meant rules.new.late ≡ R.meant rules.old.late }
         ensures table { level.new.table ≡ level.old.table }
         ensures told { IfOk result (λ told. (history : List Grid)
-            → after self.old.text (start_turns (script_on self.old.game level.old.table (R.meant rules.old.plain) (R.meant rules.old.late)) (suc left) (play_of history level.old))
-            ≡ told_step told (play_of history level.new) self.new.text (start_turns (script_on self.old.game level.old.table (R.meant rules.old.plain) (R.meant rules.old.late)) left)) }
+            → after self.old.text (start_turns (script_for B.table_for self.old.game (R.meant rules.old.plain) (R.meant rules.old.late)) (suc left) (play_of history level.old))
+            ≡ told_step told (play_of history level.new) self.new.text (start_turns (script_for B.table_for self.old.game (R.meant rules.old.plain) (R.meant rules.old.late)) left)) }
     {
         let turned = level.take_turn(
             self.alloc,
@@ -116,12 +117,13 @@ impl<'g> Stage<'g> {
         level: &mut PlayedLevel<B>,
         most: u32,
     ) -> Result<Option<Pending>, Memory>
+        requires { level.old.table ≡ B.table_for self.old.game.names.layers }
         ensures game { self.new.game ≡ self.old.game }
         ensures plain { R.meant rules.new.plain ≡ R.meant rules.old.plain }
         ensures late { R.meant rules.new.late ≡ R.meant rules.old.late }
         ensures table { level.new.table ≡ level.old.table }
         ensures came { IfOk result (λ pending. (history : List Grid)
-            → after self.old.text (start_turns (script_on self.old.game level.old.table (R.meant rules.old.plain) (R.meant rules.old.late)) most (play_of history level.old))
+            → after self.old.text (start_turns (script_for B.table_for self.old.game (R.meant rules.old.plain) (R.meant rules.old.late)) most (play_of history level.old))
             ≡ came (stands pending (play_of history level.new)) self.new.text) }
     {
         let mut left = most;
@@ -141,12 +143,13 @@ impl<'g> Stage<'g> {
         rules: &mut Programs<R>,
         level: &mut PlayedLevel<B>,
     ) -> Result<Option<Pending>, Memory>
+        requires { level.old.table ≡ B.table_for self.old.game.names.layers }
         ensures game { self.new.game ≡ self.old.game }
         ensures plain { R.meant rules.new.plain ≡ R.meant rules.old.plain }
         ensures late { R.meant rules.new.late ≡ R.meant rules.old.late }
         ensures table { level.new.table ≡ level.old.table }
         ensures came { IfOk result (λ pending. (history : List Grid)
-            → after self.old.text (all_start_turns (script_on self.old.game level.old.table (R.meant rules.old.plain) (R.meant rules.old.late)) (play_of history level.old))
+            → after self.old.text (all_start_turns (script_for B.table_for self.old.game (R.meant rules.old.plain) (R.meant rules.old.late)) (play_of history level.old))
             ≡ came (stands pending (play_of history level.new)) self.new.text) }
     {
         let most = again_limit();
@@ -162,12 +165,13 @@ impl<'g> Stage<'g> {
         message: &Option<Text>,
         again: bool,
     ) -> Result<Option<Pending>, Memory>
+        requires { level.old.table ≡ B.table_for self.old.game.names.layers }
         ensures game { self.new.game ≡ self.old.game }
         ensures plain { R.meant rules.new.plain ≡ R.meant rules.old.plain }
         ensures late { R.meant rules.new.late ≡ R.meant rules.old.late }
         ensures table { level.new.table ≡ level.old.table }
         ensures came { IfOk result (λ pending. (history : List Grid)
-            → after self.old.text (started (script_on self.old.game level.old.table (R.meant rules.old.plain) (R.meant rules.old.late)) (play_of history level.old) message.now again)
+            → after self.old.text (started (script_for B.table_for self.old.game (R.meant rules.old.plain) (R.meant rules.old.late)) (play_of history level.old) message.now again)
             ≡ came (stands pending (play_of history level.new)) self.new.text) }
     {
         self.show(level.board())?;
@@ -188,12 +192,13 @@ impl<'g> Stage<'g> {
         level: &mut PlayedLevel<B>,
         message: Option<Text>,
     ) -> Result<Option<Pending>, Memory>
+        requires { level.old.table ≡ B.table_for self.old.game.names.layers }
         ensures game { self.new.game ≡ self.old.game }
         ensures plain { R.meant rules.new.plain ≡ R.meant rules.old.plain }
         ensures late { R.meant rules.new.late ≡ R.meant rules.old.late }
         ensures table { level.new.table ≡ level.old.table }
         ensures came { IfOk result (λ pending. (history : List Grid)
-            → after self.old.text (start_step (script_on self.old.game level.old.table (R.meant rules.old.plain) (R.meant rules.old.late)) (play_of history level.old) message)
+            → after self.old.text (start_step (script_for B.table_for self.old.game (R.meant rules.old.plain) (R.meant rules.old.late)) (play_of history level.old) message)
             ≡ came (stands pending (play_of history level.new)) self.new.text) }
     {
         if !self.game.options().run_rules_on_level_start {
