@@ -26,5 +26,5 @@ pub done_taken : (script : Script) (level next : Standing) (history : List Grid)
 done_taken script level next history done e =
     let past : List Grid = past_of (past_if done.changed) history level.board in
     let same : with_turn (remembered_if done.changed (play_of history level)) (done_shown done next.board) ≡ play_of past next =
-        next_play level history done next.board done.changed ∙ sym (ap (play_of past) e) in
+    next_play level history done next.board done.changed ∙ sym (ap (play_of past) e) in
     ap (λ (p : Play). after (frame script.names p.board) (key_told script p (done_shown done next.board) AGAIN_LIMIT (all_key_turns script))) same
