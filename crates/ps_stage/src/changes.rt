@@ -42,7 +42,8 @@ impl<'g> Stage<'g> {
     ) -> Result<Option<Pending>, Memory>
         ensures game { self.new.game ≡ self.old.game }
         ensures told { IfOk result (λ pending. (play : Play)
-            → after self.old.text (after (frame self.old.game.names level.now.board) (blocked play message.now)) ≡ came (stands pending play) self.new.text) }
+            → after self.old.text (after (frame self.old.game.names level.now.board) (blocked play message.now))
+            ≡ came (stands pending play) self.new.text) }
     {
         self.show(level.board())?;
         let Some(message) = message else {
@@ -67,7 +68,7 @@ impl<'g> Stage<'g> {
         ensures table { IfOk result (λ change. GoesOnTable (B.table_for self.old.game.names.layers) change) }
         ensures came { IfOk result (λ change. (history : List Grid) (first : Standing)
             → key_end_step (script_for B.table_for self.old.game (R.meant rules.old.plain) (R.meant rules.old.late))
-                end (play_of (past_of past history first.board) level) self.old.text
+            end (play_of (past_of past history first.board) level) self.old.text
             ≡ came (change_shown history first change) self.new.text) }
     {
         match end {
@@ -83,8 +84,8 @@ impl<'g> Stage<'g> {
         }
     }
 
-    /// What follows a done turn of a key, of which this level came: its frame, its message, the end of the level or again
-    /// turns.
+    /// What follows a done turn of a key, of which this level came: its frame, its message, the end of the level or
+    /// again turns.
     fn follow_key<B: Board, R: Rules<B>>(
         &mut self,
         rules: &mut Programs<R>,
@@ -98,9 +99,10 @@ impl<'g> Stage<'g> {
         ensures table { IfOk result (λ change. GoesOnTable (B.table_for self.old.game.names.layers) change) }
         ensures came { IfOk result (λ change. (history : List Grid) (first : Standing)
             → after self.old.text (after (frame self.old.game.names level.board)
-                (key_told (script_for B.table_for self.old.game (R.meant rules.old.plain) (R.meant rules.old.late))
-                    (play_of (past_of (past_if done.now.changed) history first.board) level) (done_shown done.now level.board) AGAIN_LIMIT
-                    (all_key_turns (script_for B.table_for self.old.game (R.meant rules.old.plain) (R.meant rules.old.late)))))
+            (key_told (script_for B.table_for self.old.game (R.meant rules.old.plain) (R.meant rules.old.late))
+            (play_of (past_of (past_if done.now.changed) history first.board) level)
+            (done_shown done.now level.board) AGAIN_LIMIT
+            (all_key_turns (script_for B.table_for self.old.game (R.meant rules.old.plain) (R.meant rules.old.late)))))
             ≡ came (change_shown history first change) self.new.text) }
     {
         let past = past_if(done.changed);
@@ -114,8 +116,8 @@ impl<'g> Stage<'g> {
         }
     }
 
-    /// Takes a turn of a level with an input. The level stays as it is, whatever comes of the turn; only the board that it
-    /// keeps for turns has worked.
+    /// Takes a turn of a level with an input. The level stays as it is, whatever comes of the turn; only the board that
+    /// it keeps for turns has worked.
     ///
     /// # Errors
     ///
@@ -134,7 +136,7 @@ impl<'g> Stage<'g> {
         ensures table { IfOk result (λ change. GoesOnTable (B.table_for self.old.game.names.layers) change) }
         ensures came { IfOk result (λ change. (history : List Grid) → after self.old.text
             (input_taken (script_for B.table_for self.old.game (R.meant rules.old.plain) (R.meant rules.old.late))
-                (play_of history level.old) input)
+            (play_of history level.old) input)
             ≡ came (change_shown history level.old change) self.new.text) }
     {
         match level.try_turn(self.alloc, &self.game, rules, input)? {
@@ -172,7 +174,7 @@ impl<'g> Stage<'g> {
         ensures table { IfOk result (λ change. GoesOnTable (B.table_for self.old.game.names.layers) change) }
         ensures came { IfOk result (λ change. (history : List Grid) → after self.old.text
             (gone_on (script_for B.table_for self.old.game (R.meant rules.old.plain) (R.meant rules.old.late))
-                (play_of history level.now) (pending_shown pending))
+            (play_of history level.now) (pending_shown pending))
             ≡ came (change_shown history level.now change) self.new.text) }
     {
         match pending {

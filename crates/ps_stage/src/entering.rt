@@ -1,6 +1,6 @@
 //! Entries as they begin, levels that are done, and restarts.
 
-ghost use Rattle.std.specs.Prelude.{◌≡◌, ◌<◌, IfOk, [], suc, take, filter, length, ℕ, Option, Some, List, ◌∷◌};
+ghost use Rattle.std.specs.Prelude.{◌≡◌, ◌<◌, ◌≤◌, IfOk, [], suc, take, filter, length, ℕ, Option, Some, List, ◌∷◌};
 ghost use Rattle.ps_model.specs.board.Grid.{Grid};
 ghost use Rattle.ps_model.specs.session.LevelLines.{LevelEntry};
 ghost use Rattle.ps_model.specs.session.Sessions.{after, is_level, level_number};
@@ -85,7 +85,7 @@ impl<'g> Stage<'g> {
         ensures table { IfOk result (λ place. IsOnTable (B.table_for self.old.game.names.layers) place) }
         ensures came { IfOk result (λ place. after self.old.text
             (entered (script_for B.table_for self.old.game (R.meant rules.old.plain) (R.meant rules.old.late))
-                entry (Some (LevelEntry level.now)))
+            entry (Some (LevelEntry level.now)))
             ≡ came (place_shown [] place) self.new.text) }
     {
         self.text.add_level(self.alloc, number)?;
@@ -152,7 +152,7 @@ impl<'g> Stage<'g> {
         ensures table { IfOk result (λ place. IsOnTable (B.table_for self.old.game.names.layers) place) }
         ensures came { IfOk result (λ place. (history : List Grid) → after self.old.text
             (level_done (script_for B.table_for self.old.game (R.meant rules.old.plain) (R.meant rules.old.late))
-                (play_of history level.now))
+            (play_of history level.now))
             ≡ came (place_shown [] place) self.new.text) }
     {
         let entry = level.entry();
@@ -180,7 +180,8 @@ impl<'g> Stage<'g> {
         ensures late { R.meant rules.new.late ≡ R.meant rules.old.late }
         ensures table { IfOk result (λ place. IsOnTable (B.table_for self.old.game.names.layers) place) }
         ensures came { IfOk result (λ place. (history : List Grid) → after self.old.text
-            (restarted (script_for B.table_for self.old.game (R.meant rules.old.plain) (R.meant rules.old.late)) (play_of history level.now) message)
+            (restarted (script_for B.table_for self.old.game (R.meant rules.old.plain) (R.meant rules.old.late))
+            (play_of history level.now) message)
             ≡ came (place_shown history place) self.new.text) }
     {
         let mut again = level.restarted(self.alloc)?;

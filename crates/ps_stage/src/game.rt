@@ -1,8 +1,7 @@
 //! A game as a session plays it.
 
-ghost use Rattle.std.specs.Prelude.{◌≡◌, ◌<◌, ◌^◌, IfSome, take, suc, length, filter, option_map, slice_get, option_copied};
-ghost use Rattle.ps_model.specs.session.Sessions.{is_level};
-ghost use Rattle.ps_levels.specs.EntriesShown.{entry_shown, entries_shown};
+ghost use Rattle.std.specs.Prelude.{◌≡◌};
+ghost use Rattle.ps_levels.specs.EntriesShown.{entries_shown};
 ghost use Rattle.ps_levels.specs.WinsShown.{wins_shown};
 ghost use Rattle.ps_stage.specs.Playable.{ArePlayable};
 ghost use Rattle.ps_stage.specs.Standings.{turn_parts};
@@ -31,9 +30,16 @@ impl<'g> Model for SessionGame<'g> {
 
     ghost Value = { SessionParts };
 
-    ghost view = { λ g. record { title = g.title.now; options = g.options; names = g.names.now; entries = entries_shown g.entries.now; wins = g.turns.wins } };
+    ghost view = { λ g. record {
+      title = g.title.now;
+      options = g.options;
+      names = g.names.now;
+      entries = entries_shown g.entries.now;
+      wins = g.turns.wins;
+    } };
 
-    ghost invariant = { λ g. ArePlayable g.names.now (entries_shown g.entries.now) × ((g.turns.names ≡ g.names.now) × (g.turns.options ≡ g.options)) };
+    ghost invariant = { λ g. ArePlayable g.names.now (entries_shown g.entries.now)
+        × ((g.turns.names ≡ g.names.now) × (g.turns.options ≡ g.options)) };
 }
 
 impl<'g> SessionGame<'g> {

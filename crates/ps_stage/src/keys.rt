@@ -33,12 +33,13 @@ fn key_pending(win: bool, again: bool, left: u32) -> Pending
 }
 
 impl<'g> Stage<'g> {
-    /// Tells what comes behind a frame of a key: a message waits; without one the level ends on a win; otherwise the again
-    /// turns come, if the turn is to come again.
+    /// Tells what comes behind a frame of a key: a message waits; without one the level ends on a win; otherwise the
+    /// again turns come, if the turn is to come again.
     fn tell_key(&mut self, done: &DoneTurn, left: u32) -> Result<KeyTold, Memory>
         ensures game { self.new.game ≡ self.old.game }
         ensures told { IfOk result (λ told. (script : Script) (play : Play) (g : Grid) (turns : Play → Step)
-            → after self.old.text (key_told script play (done_shown done.now g) left turns) ≡ key_told_step script told play self.new.text turns) }
+            → after self.old.text (key_told script play (done_shown done.now g) left turns)
+            ≡ key_told_step script told play self.new.text turns) }
     {
         if let Some(message) = &done.message {
             self.tell(message.as_str())?;
@@ -62,15 +63,16 @@ impl<'g> Stage<'g> {
     ) -> Result<KeyTold, Memory>
         ensures game { self.new.game ≡ self.old.game }
         ensures told { IfOk result (λ told. (script : Script) (play : Play) (turns : Play → Step)
-            → after self.old.text (after (frame self.old.game.names level.now.board) (key_told script play (done_shown done.now level.now.board) left turns))
+            → after self.old.text (after (frame self.old.game.names level.now.board)
+            (key_told script play (done_shown done.now level.now.board) left turns))
             ≡ key_told_step script told play self.new.text turns) }
     {
         self.show(level.board())?;
         self.tell_key(done, left)
     }
 
-    /// One again turn of a key: one that is blocked, or neither changed the board nor won, is as if not run, and ends them;
-    /// so does a restart.
+    /// One again turn of a key: one that is blocked, or neither changed the board nor won, is as if not run, and ends
+    /// them; so does a restart.
     fn key_turn<B: Board, R: Rules<B>>(
         &mut self,
         rules: &mut Programs<R>,
@@ -83,9 +85,12 @@ impl<'g> Stage<'g> {
         ensures late { R.meant rules.new.late ≡ R.meant rules.old.late }
         ensures table { level.new.table ≡ level.old.table }
         ensures told { IfOk result (λ told. (history : List Grid) → after self.old.text
-            (key_turns (script_for B.table_for self.old.game (R.meant rules.old.plain) (R.meant rules.old.late)) (suc left) (play_of history level.old))
-            ≡ key_told_step (script_for B.table_for self.old.game (R.meant rules.old.plain) (R.meant rules.old.late)) told (play_of history level.new)
-                self.new.text (key_turns (script_for B.table_for self.old.game (R.meant rules.old.plain) (R.meant rules.old.late)) left)) }
+            (key_turns (script_for B.table_for self.old.game (R.meant rules.old.plain) (R.meant rules.old.late))
+            (suc left) (play_of history level.old))
+            ≡ key_told_step (script_for B.table_for self.old.game (R.meant rules.old.plain) (R.meant rules.old.late))
+            told (play_of history level.new) self.new.text
+            (key_turns (script_for B.table_for self.old.game (R.meant rules.old.plain) (R.meant rules.old.late))
+            left)) }
     {
         let turned = level.take_turn(
             self.alloc,
@@ -119,9 +124,10 @@ impl<'g> Stage<'g> {
         ensures late { R.meant rules.new.late ≡ R.meant rules.old.late }
         ensures table { level.new.table ≡ level.old.table }
         ensures came { IfOk result (λ end. (history : List Grid) → after self.old.text
-            (key_turns (script_for B.table_for self.old.game (R.meant rules.old.plain) (R.meant rules.old.late)) most (play_of history level.old))
-            ≡ key_end_step (script_for B.table_for self.old.game (R.meant rules.old.plain) (R.meant rules.old.late)) end (play_of history level.new)
-                self.new.text) }
+            (key_turns (script_for B.table_for self.old.game (R.meant rules.old.plain) (R.meant rules.old.late)) most
+            (play_of history level.old))
+            ≡ key_end_step (script_for B.table_for self.old.game (R.meant rules.old.plain) (R.meant rules.old.late)) end
+            (play_of history level.new) self.new.text) }
     {
         let mut left = most;
         while left > 0 {
@@ -146,9 +152,10 @@ impl<'g> Stage<'g> {
         ensures late { R.meant rules.new.late ≡ R.meant rules.old.late }
         ensures table { level.new.table ≡ level.old.table }
         ensures came { IfOk result (λ end. (history : List Grid) → after self.old.text
-            (all_key_turns (script_for B.table_for self.old.game (R.meant rules.old.plain) (R.meant rules.old.late)) (play_of history level.old))
-            ≡ key_end_step (script_for B.table_for self.old.game (R.meant rules.old.plain) (R.meant rules.old.late)) end (play_of history level.new)
-                self.new.text) }
+            (all_key_turns (script_for B.table_for self.old.game (R.meant rules.old.plain) (R.meant rules.old.late))
+            (play_of history level.old))
+            ≡ key_end_step (script_for B.table_for self.old.game (R.meant rules.old.plain) (R.meant rules.old.late)) end
+            (play_of history level.new) self.new.text) }
     {
         let most = again_limit();
         let end = self.key_turns(rules, level, most)?;

@@ -1,6 +1,6 @@
 //! A level that is played.
 
-ghost use Rattle.std.specs.Prelude.{◌≡◌, IfOk, OnErr, Some, if◌then◌else◌};
+ghost use Rattle.std.specs.Prelude.{◌≡◌, IfOk, OnErr, Some, false, if◌then◌else◌};
 ghost use Rattle.ps_model.specs.board.Grid.{Grid};
 ghost use Rattle.ps_model.specs.board.Levels.{loaded};
 ghost use Rattle.ps_model.specs.board.Turns.{turn};
@@ -23,8 +23,8 @@ use std::alloc::Global;
 use std::marker::Model;
 use std::mem;
 
-/// A level that is played: its entry, its board, and the board that a restart goes back to. Turns work on a board of their
-/// own, which shows the same between them.
+/// A level that is played: its entry, its board, and the board that a restart goes back to. Turns work on a board of
+/// their own, which shows the same between them.
 #[derive(Drop)]
 pub struct PlayedLevel<B: Board> {
     entry: EntryNumber,
@@ -39,9 +39,15 @@ impl<B: Board> Model for PlayedLevel<B> {
 
     ghost Value = { Standing };
 
-    ghost view = { λ l. record { entry = l.entry; table = B.table l.board; board = B.grid l.board; target = B.grid l.target } };
+    ghost view = { λ l. record {
+      entry = l.entry;
+      table = B.table l.board;
+      board = B.grid l.board;
+      target = B.grid l.target;
+    } };
 
-    ghost invariant = { λ l. (B.grid l.spare ≡ B.grid l.board) × ((B.table l.spare ≡ B.table l.board) × (B.table l.target ≡ B.table l.board)) };
+    ghost invariant = { λ l. (B.grid l.spare ≡ B.grid l.board)
+        × ((B.table l.spare ≡ B.table l.board) × (B.table l.target ≡ B.table l.board)) };
 }
 
 /// Which done turns count. One that doesn't is as if not run.
@@ -68,8 +74,8 @@ impl Counting {
     }
 }
 
-/// What comes of a turn that leaves the level as it is: nothing; a restart, with a message or without; or the level behind
-/// the turn.
+/// What comes of a turn that leaves the level as it is: nothing; a restart, with a message or without; or the level
+/// behind the turn.
 #[derive(Drop)]
 pub enum Tried<L> {
     Blocked(Option<Text>),
@@ -93,7 +99,8 @@ fn run_turn<B: Board, R: Rules<B>>(
     requires table { B.table after.old ≡ B.table before.now }
     requires own { B.table before.now ≡ B.table_for game.now.names.layers }
     ensures outcome { IfOk result (λ turned. outcome_shown turned (B.grid after.new)
-        ≡ turn (script_for B.table_for game.now (R.meant rules.old.plain) (R.meant rules.old.late)) input (B.grid before.now)) }
+        ≡ turn (script_for B.table_for game.now (R.meant rules.old.plain) (R.meant rules.old.late)) input
+        (B.grid before.now)) }
     ensures undone { IfOk result (λ turned. is_done turned ≡ false → B.grid after.new ≡ B.grid before.now) }
     ensures stands { OnErr result (B.grid after.new ≡ B.grid before.now) }
     ensures sides { HaveSameSides (B.grid after.new) (B.grid before.now) }
@@ -149,7 +156,8 @@ fn level_behind<B: Board>(
     ensures entry { IfOk result (λ level. level.entry ≡ entry) }
     ensures table { IfOk result (λ level. level.table ≡ B.table board.now) }
     ensures board { IfOk result (λ level. level.board ≡ B.grid board.now) }
-    ensures target { IfOk result (λ level. level.target ≡ (if done.now.checkpoint then B.grid board.now else B.grid target.now)) }
+    ensures target { IfOk result (λ level. level.target
+        ≡ (if done.now.checkpoint then B.grid board.now else B.grid target.now)) }
 {
     if done.checkpoint {
         return level_of(alloc, entry, board, board);
@@ -249,8 +257,8 @@ impl<B: Board> PlayedLevel<B> {
         self.board
     }
 
-    /// Takes a turn. Where it is done and counts, the level has its board, and goes back to it at a restart where the turn
-    /// set a checkpoint.
+    /// Takes a turn. Where it is done and counts, the level has its board, and goes back to it at a restart where the
+    /// turn set a checkpoint.
     ///
     /// # Errors
     ///
@@ -266,7 +274,8 @@ impl<B: Board> PlayedLevel<B> {
         requires { self.old.table ≡ B.table_for game.now.names.layers }
         ensures turned { IfOk result (λ turned. (g : Grid)
             × (outcome_shown turned g
-                ≡ turn (script_for B.table_for game.now (R.meant rules.old.plain) (R.meant rules.old.late)) input self.old.board)
+            ≡ turn (script_for B.table_for game.now (R.meant rules.old.plain) (R.meant rules.old.late)) input
+            self.old.board)
             × (self.new ≡ taken counting turned self.old g)) }
         ensures table { self.new.table ≡ self.old.table }
         ensures plain { R.meant rules.new.plain ≡ R.meant rules.old.plain }
@@ -288,8 +297,8 @@ impl<B: Board> PlayedLevel<B> {
         Ok(turned)
     }
 
-    /// Tries a turn with an input. The level stays as it is; where the turn is done, the level behind it has boards of its
-    /// own. A turn that isn't done takes no memory for boards.
+    /// Tries a turn with an input. The level stays as it is; where the turn is done, the level behind it has boards of
+    /// its own. A turn that isn't done takes no memory for boards.
     ///
     /// # Errors
     ///
@@ -304,7 +313,8 @@ impl<B: Board> PlayedLevel<B> {
         requires { self.old.table ≡ B.table_for game.now.names.layers }
         ensures level { self.new ≡ self.old }
         ensures outcome { IfOk result (λ tried. tried_outcome tried
-            ≡ turn (script_for B.table_for game.now (R.meant rules.old.plain) (R.meant rules.old.late)) (Some input) self.old.board) }
+            ≡ turn (script_for B.table_for game.now (R.meant rules.old.plain) (R.meant rules.old.late)) (Some input)
+            self.old.board) }
         ensures next { IfOk result (λ tried. IsNext self.old tried) }
         ensures plain { R.meant rules.new.plain ≡ R.meant rules.old.plain }
         ensures late { R.meant rules.new.late ≡ R.meant rules.old.late }
@@ -315,13 +325,7 @@ impl<B: Board> PlayedLevel<B> {
             Turned::Restarted(message) => return Ok(Tried::Restarted(message)),
             Turned::Done(done) => done,
         };
-        let next = level_behind(
-            alloc,
-            self.entry.copied(),
-            &self.spare,
-            &self.target,
-            &done,
-        );
+        let next = level_behind(alloc, self.entry.copied(), &self.spare, &self.target, &done);
         self.board.copy_into(&mut self.spare);
         match next {
             Ok(next) => Ok(Tried::Done(next, done)),

@@ -13,8 +13,8 @@ use ps_screen::{Picture, Screen};
 use std::alloc::Global;
 use std::marker::Model;
 
-/// A game in play, its picture, and the text that a key makes. The text goes to the screen when all else is done, so that
-/// a key which fails writes nothing.
+/// A game in play, its picture, and the text that a key makes. The text goes to the screen when all else is done, so
+/// that a key which fails writes nothing.
 #[derive(Drop)]
 pub struct Stage<'g> {
     pub(crate) alloc: Global,

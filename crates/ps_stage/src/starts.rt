@@ -5,7 +5,8 @@ ghost use Rattle.std.specs.Option.{option_or};
 ghost use Rattle.ps_model.specs.declared.limits.TheConstants.{AGAIN_LIMIT};
 ghost use Rattle.ps_model.specs.board.Grid.{Grid};
 ghost use Rattle.ps_model.specs.session.Sessions.{Play, Step, after, shown};
-ghost use Rattle.ps_model.specs.session.StartSteps.{start_pending, start_told, start_turns, all_start_turns, started, start_step};
+ghost use Rattle.ps_model.specs.session.StartSteps.{start_pending, start_told, start_turns, all_start_turns};
+ghost use Rattle.ps_model.specs.session.StartSteps.{started, start_step};
 ghost use Rattle.ps_stage.specs.Standings.{script_for, play_of};
 ghost use Rattle.ps_stage.specs.StepsShown.{told_step, start_shown, came, stands, pending_shown};
 
@@ -50,7 +51,9 @@ impl<'g> Stage<'g> {
     /// come again.
     fn tell_start(&mut self, message: &Option<Text>, again: bool, left: u32) -> Result<Told, Memory>
         ensures game { self.new.game ≡ self.old.game }
-        ensures told { IfOk result (λ told. (play : Play) (turns : Play → Step) → after self.old.text (start_told play message.now again left turns) ≡ told_step told play self.new.text turns) }
+        ensures told { IfOk result (λ told. (play : Play) (turns : Play → Step)
+            → after self.old.text (start_told play message.now again left turns)
+            ≡ told_step told play self.new.text turns) }
     {
         if let Some(message) = message {
             self.tell(message.as_str())?;
@@ -71,7 +74,8 @@ impl<'g> Stage<'g> {
     ) -> Result<Told, Memory>
         ensures game { self.new.game ≡ self.old.game }
         ensures told { IfOk result (λ told. (history : List Grid) (turns : Play → Step)
-            → after self.old.text (start_shown self.old.game.names (play_of history level.now) done.now left turns) ≡ told_step told (play_of history level.now) self.new.text turns) }
+            → after self.old.text (start_shown self.old.game.names (play_of history level.now) done.now left turns)
+            ≡ told_step told (play_of history level.now) self.new.text turns) }
     {
         if !done.changed {
             return Ok(Told::Stops(None));
@@ -93,16 +97,13 @@ impl<'g> Stage<'g> {
         ensures late { R.meant rules.new.late ≡ R.meant rules.old.late }
         ensures table { level.new.table ≡ level.old.table }
         ensures told { IfOk result (λ told. (history : List Grid)
-            → after self.old.text (start_turns (script_for B.table_for self.old.game (R.meant rules.old.plain) (R.meant rules.old.late)) (suc left) (play_of history level.old))
-            ≡ told_step told (play_of history level.new) self.new.text (start_turns (script_for B.table_for self.old.game (R.meant rules.old.plain) (R.meant rules.old.late)) left)) }
+            → after self.old.text (start_turns
+            (script_for B.table_for self.old.game (R.meant rules.old.plain) (R.meant rules.old.late))
+            (suc left) (play_of history level.old))
+            ≡ told_step told (play_of history level.new) self.new.text (start_turns
+            (script_for B.table_for self.old.game (R.meant rules.old.plain) (R.meant rules.old.late)) left)) }
     {
-        let turned = level.take_turn(
-            self.alloc,
-            &self.game,
-            rules,
-            None,
-            Counting::IfChanged,
-        )?;
+        let turned = level.take_turn(self.alloc, &self.game, rules, None, Counting::IfChanged)?;
         match turned {
             Turned::Blocked(_) => Ok(Told::Stops(None)),
             Turned::Restarted(_) => Ok(Told::Stops(None)),
@@ -123,7 +124,9 @@ impl<'g> Stage<'g> {
         ensures late { R.meant rules.new.late ≡ R.meant rules.old.late }
         ensures table { level.new.table ≡ level.old.table }
         ensures came { IfOk result (λ pending. (history : List Grid)
-            → after self.old.text (start_turns (script_for B.table_for self.old.game (R.meant rules.old.plain) (R.meant rules.old.late)) most (play_of history level.old))
+            → after self.old.text (start_turns
+            (script_for B.table_for self.old.game (R.meant rules.old.plain) (R.meant rules.old.late)) most
+            (play_of history level.old))
             ≡ came (stands pending (play_of history level.new)) self.new.text) }
     {
         let mut left = most;
@@ -149,7 +152,9 @@ impl<'g> Stage<'g> {
         ensures late { R.meant rules.new.late ≡ R.meant rules.old.late }
         ensures table { level.new.table ≡ level.old.table }
         ensures came { IfOk result (λ pending. (history : List Grid)
-            → after self.old.text (all_start_turns (script_for B.table_for self.old.game (R.meant rules.old.plain) (R.meant rules.old.late)) (play_of history level.old))
+            → after self.old.text (all_start_turns
+            (script_for B.table_for self.old.game (R.meant rules.old.plain) (R.meant rules.old.late))
+            (play_of history level.old))
             ≡ came (stands pending (play_of history level.new)) self.new.text) }
     {
         let most = again_limit();
@@ -171,7 +176,9 @@ impl<'g> Stage<'g> {
         ensures late { R.meant rules.new.late ≡ R.meant rules.old.late }
         ensures table { level.new.table ≡ level.old.table }
         ensures came { IfOk result (λ pending. (history : List Grid)
-            → after self.old.text (started (script_for B.table_for self.old.game (R.meant rules.old.plain) (R.meant rules.old.late)) (play_of history level.old) message.now again)
+            → after self.old.text (started
+            (script_for B.table_for self.old.game (R.meant rules.old.plain) (R.meant rules.old.late))
+            (play_of history level.old) message.now again)
             ≡ came (stands pending (play_of history level.new)) self.new.text) }
     {
         self.show(level.board())?;
@@ -184,8 +191,8 @@ impl<'g> Stage<'g> {
         }
     }
 
-    /// The start of a level, with a message from before or without one. Where an option asks for it a turn without input
-    /// comes first; its message comes before one from before.
+    /// The start of a level, with a message from before or without one. Where an option asks for it a turn without
+    /// input comes first; its message comes before one from before.
     pub(crate) fn start_step<B: Board, R: Rules<B>>(
         &mut self,
         rules: &mut Programs<R>,
@@ -198,7 +205,9 @@ impl<'g> Stage<'g> {
         ensures late { R.meant rules.new.late ≡ R.meant rules.old.late }
         ensures table { level.new.table ≡ level.old.table }
         ensures came { IfOk result (λ pending. (history : List Grid)
-            → after self.old.text (start_step (script_for B.table_for self.old.game (R.meant rules.old.plain) (R.meant rules.old.late)) (play_of history level.old) message)
+            → after self.old.text (start_step
+            (script_for B.table_for self.old.game (R.meant rules.old.plain) (R.meant rules.old.late))
+            (play_of history level.old) message)
             ≡ came (stands pending (play_of history level.new)) self.new.text) }
     {
         if !self.game.options().run_rules_on_level_start {

@@ -1,4 +1,4 @@
-use Rattle.std.proofs.Common.{◌≡◌, ◌∙◌, ◌<◌, ℕ, Some, length, refl, sym, ap, arith}
+use Rattle.std.proofs.Common.{◌∙◌, ◌<◌, ℕ, Some, length, refl, sym, ap, arith}
 use Rattle.std.specs.Prelude.{Option}
 use Rattle.ps_model.specs.board.Turns.{Script}
 use Rattle.ps_model.specs.session.LevelLines.{Entry as Meant, LevelEntry}
@@ -19,7 +19,7 @@ enter_level-requires-clause-playable g c =
 pub returns-in_ok-tell-in-Message-clause-came : goal.returns-in_ok-tell-in-Message-clause-came
 returns-in_ok-tell-in-Message-clause-came g c =
     let script : Script =
-        script_for g.B.Board.table_for c.args.self.now.game (g.R.Rules.meant c.args.rules.now.plain) (g.R.Rules.meant c.args.rules.now.late) in
+    script_for g.B.Board.table_for c.args.self.now.game (g.R.Rules.meant c.args.rules.now.plain) (g.R.Rules.meant c.args.rules.now.late) in
     let within : c.args.entry < length c.entries-entries.result.now = omega arith in
     ap (λ (o : Option Meant). after c.args.self.now.text (entered script c.args.entry o))
     (entry_found c.entries-entries.result.now c.args.self.now.game.entries c.args.entry _ c.entries-entries.ensures.entries within c.index-entries-entry.is)
@@ -29,7 +29,7 @@ returns-in_ok-tell-in-Message-clause-came g c =
 pub returns-in_ok-place-in-Level-clause-came : goal.returns-in_ok-place-in-Level-clause-came
 returns-in_ok-place-in-Level-clause-came g c =
     let script : Script =
-        script_for g.B.Board.table_for c.args.self.now.game (g.R.Rules.meant c.args.rules.now.plain) (g.R.Rules.meant c.args.rules.now.late) in
+    script_for g.B.Board.table_for c.args.self.now.game (g.R.Rules.meant c.args.rules.now.plain) (g.R.Rules.meant c.args.rules.now.late) in
     let within : c.args.entry < length c.entries-entries.result.now = omega arith in
     ap (λ (o : Option Meant). after c.args.self.now.text (entered script c.args.entry o))
     (entry_found c.entries-entries.result.now c.args.self.now.game.entries c.args.entry _ c.entries-entries.ensures.entries within c.index-entries-entry.is)
