@@ -30,6 +30,15 @@ get_behind : (n k d : ℕ) (rest : List ℕ) → get_or (replicate n 0 ++ k ∷ 
 get_behind zero k d rest = refl
 get_behind (suc n) k d rest = get_behind n k d rest
 
+-- one number more starts again
+pub zero_more : (start choice : List ℕ) (n next : ℕ) → n < length start → choice ≡ replicate n 0 ++ drop n start → next ≡ n + 1 → slice_set choice n 0 ≡ replicate next 0 ++ drop next start
+zero_more start choice n next h e is =
+    let m : next ≡ suc n = omega arith in
+    ap (λ (c : List ℕ). slice_set c n 0) (e ∙ ap (λ (r : List ℕ). replicate n 0 ++ r) (drop-cons start n 0 h))
+    ∙ set_behind n (get_or start n 0) 0 (drop (suc n) start)
+    ∙ one_more_zero n (drop (suc n) start)
+    ∙ ap (λ (k : ℕ). replicate k 0 ++ drop k start) (sym m)
+
 module _ (rows : List RowPlaces) (start choice : List ℕ) (n : ℕ) (row : RowPlaces) where
   split : n < length start → choice ≡ replicate n 0 ++ drop n start → choice ≡ replicate n 0 ++ get_or start n 0 ∷ drop (suc n) start
   split h e = e ∙ ap (λ (r : List ℕ). replicate n 0 ++ r) (drop-cons start n 0 h)
@@ -69,12 +78,6 @@ module _ (rows : List RowPlaces) (start choice : List ℕ) (n : ℕ) (row : RowP
       (here hr er hs ∙ ap (λ (b : Bool). cond b (Some ((get_or start n 0 + 1) ∷ drop (suc n) start)) (option_map (λ rest. 0 ∷ rest) (next_choice (all_places (drop (suc n) rows)) (drop (suc n) start)))) test)
       ∙ again_more n (next_choice (all_places (drop (suc n) rows)) (drop (suc n) start))
       ∙ ap (λ (k : ℕ). starting_again k (next_choice (all_places (drop k rows)) (drop k start))) (sym m)
-
-  pub set_again : (next : ℕ) → n < length start → choice ≡ replicate n 0 ++ drop n start → next ≡ n + 1 → slice_set choice n 0 ≡ replicate next 0 ++ drop next start
-  set_again next hs e is =
-      let m : next ≡ suc n = omega arith in
-      ap (λ (c : List ℕ). slice_set c n 0) (split hs e) ∙ set_behind n (get_or start n 0) 0 (drop (suc n) start) ∙ one_more_zero n (drop (suc n) start)
-      ∙ ap (λ (k : ℕ). replicate k 0 ++ drop k start) (sym m)
 
 none_left : {X : Type 0} (xs : List X) (n : ℕ) → length xs ≤ n → drop n xs ≡ []
 none_left [] zero h = refl

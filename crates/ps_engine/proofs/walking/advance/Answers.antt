@@ -1,7 +1,7 @@
 use Rattle.std.proofs.Common.{◌≡◌, ◌∙◌, ℕ, ◌+◌, ◌-◌, ◌<◌, ◌≤◌, List, length, get_or, refl, sym, ap, arith, vec_len}
 use Rattle.ps_places.specs.declared.row_places.RowPlaces.{RowPlaces}
 use Rattle.ps_engine.proofs.RowByRow.{long_choice}
-use Rattle.ps_engine.proofs.Odometer.{goes_up, goes_on, set_again}
+use Rattle.ps_engine.proofs.Odometer.{goes_up, goes_on, zero_more}
 use Rattle.ps_engine.proofs.walking.advance.Goals as goal
 
 pub returns-then-choice-number : goal.returns-then-choice-number
@@ -26,7 +26,7 @@ loop-number-preserved c =
     let hs : n < length c.args.choice.now = rw (long_choice c.args.rows.now c.args.choice.now c.requires) c.loop-number-test.true in
     let high : length row.found.items ≤ get_or c.loop-number.choice n 0 + 1 = omega (arith, c.if-choice-number.false) in
     record {
-      choice = set_again c.args.rows.now c.args.choice.now c.loop-number.choice n row (n + 1) hs c.loop-number.invariant.choice refl;
+      choice = zero_more c.args.choice.now c.loop-number.choice n (n + 1) hs c.loop-number.invariant.choice refl;
       next =
           c.loop-number.invariant.next
           ∙ goes_on c.args.rows.now c.args.choice.now c.loop-number.choice n row (n + 1) c.loop-number-test.true c.index-rows-number.is hs c.loop-number.invariant.choice high refl;

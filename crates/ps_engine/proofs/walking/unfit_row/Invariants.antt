@@ -1,0 +1,6 @@
+use Rattle.std.proofs.Common.{◌≤◌, length}
+use Rattle.ps_engine.proofs.walking.unfit_row.Given as goal
+
+-- the number is that of a row
+abbrev pub invariant-loop-number : goal.invariant-loop-number
+invariant-loop-number g l = l.number ≤ length l.rows
