@@ -116,17 +116,22 @@ nothing_in : {X : Type 0} (xs : List X) → has_one xs ≡ false → xs ≡ []
 nothing_in [] e = refl
 nothing_in (x ∷ xs) e = absurd (cc)
 
-module _ {A : Type 0} (at : A → List (List ℕ)) where
-  pub some_combination : (rows : List A) → list_all (λ row. has_one (at row)) rows ≡ true → has_one (combinations (map at rows)) ≡ true
-  some_combination [] e = refl
-  some_combination (row ∷ rows) e = by (has_one (at row)) refl e where
-    by : (b : Bool) → has_one (at row) ≡ b → (has_one (at row) && list_all (λ r. has_one (at r)) rows) ≡ true → has_one (combinations (map at (row ∷ rows))) ≡ true
-    by true d all = one_spread (at row) (combinations (map at rows)) d (some_combination rows (rw d at all))
-    by false d all = absurd (let no : false ≡ true = rw d at all in cc)
+module _ {A B : Type 0} (meant : A → B) (at : B → List (List ℕ)) where
+  some_by : (row : A) (rows : List A) (one others : Bool) → has_one (at (meant row)) ≡ one → (others ≡ true → has_one (combinations (map at (map meant rows))) ≡ true) → (one && others) ≡ true →
+      has_one (combinations (map at (map meant (row ∷ rows)))) ≡ true
+  some_by row rows true others d rest e = one_spread (at (meant row)) (combinations (map at (map meant rows))) d (rest e)
+  some_by row rows false others d rest e = absurd (cc)
 
-  pub no_combination_in : (rows : List A) → list_all (λ row. has_one (at row)) rows ≡ false → combinations (map at rows) ≡ []
+  pub some_combination : (rows : List A) → list_all (λ row. has_one (at (meant row))) rows ≡ true → has_one (combinations (map at (map meant rows))) ≡ true
+  some_combination [] e = refl
+  some_combination (row ∷ rows) e = some_by row rows (has_one (at (meant row))) (list_all (λ r. has_one (at (meant r))) rows) refl (some_combination rows) e
+
+  none_by : (row : A) (rows : List A) (one others : Bool) → has_one (at (meant row)) ≡ one → (others ≡ false → combinations (map at (map meant rows)) ≡ []) → (one && others) ≡ false →
+      combinations (map at (map meant (row ∷ rows))) ≡ []
+  none_by row rows true others d rest e = ap (spread (at (meant row))) (rest e)
+  none_by row rows false others d rest e =
+      ap (λ (ps : List (List ℕ)). spread ps (combinations (map at (map meant rows)))) (nothing_in (at (meant row)) d) ∙ no_spread (combinations (map at (map meant rows)))
+
+  pub no_combination_in : (rows : List A) → list_all (λ row. has_one (at (meant row))) rows ≡ false → combinations (map at (map meant rows)) ≡ []
   no_combination_in [] e = absurd (cc)
-  no_combination_in (row ∷ rows) e = by (has_one (at row)) refl e where
-    by : (b : Bool) → has_one (at row) ≡ b → (has_one (at row) && list_all (λ r. has_one (at r)) rows) ≡ false → combinations (map at (row ∷ rows)) ≡ []
-    by true d all = ap (spread (at row)) (no_combination_in rows (rw d at all))
-    by false d all = ap (λ (ps : List (List ℕ)). spread ps (combinations (map at rows))) (nothing_in (at row) d) ∙ no_spread (combinations (map at rows))
+  no_combination_in (row ∷ rows) e = none_by row rows (has_one (at (meant row))) (list_all (λ r. has_one (at (meant r))) rows) refl (no_combination_in rows) e

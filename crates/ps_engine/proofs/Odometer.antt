@@ -7,7 +7,7 @@ use Rattle.std.proofs.lemmas.List.{length-map}
 use Rattle.ps_places.specs.declared.row_places.RowPlaces.{RowPlaces}
 use Rattle.ps_places.specs.Stretches.{cells_of}
 use Rattle.ps_places.specs.Found.{places_shown}
-use Rattle.ps_engine.specs.Choices.{next_choice}
+use Rattle.ps_engine.specs.Choices.{next_choice, next_choice_from}
 use Rattle.ps_engine.specs.RulesInRoom.{all_places}
 
 -- numbers that start again before others
@@ -29,6 +29,15 @@ set_behind (suc n) k v rest = ap (λ (r : List ℕ). 0 ∷ r) (set_behind n k v 
 get_behind : (n k d : ℕ) (rest : List ℕ) → get_or (replicate n 0 ++ k ∷ rest) n d ≡ k
 get_behind zero k d rest = refl
 get_behind (suc n) k d rest = get_behind n k d rest
+
+-- the next choice from a row on
+dropped : (n : ℕ) (rows : List RowPlaces) → drop n (all_places rows) ≡ all_places (drop n rows)
+dropped zero rows = refl
+dropped (suc n) [] = refl
+dropped (suc n) (row ∷ rows) = dropped n rows
+
+pub from_row : (n : ℕ) (rows : List RowPlaces) (start : List ℕ) → next_choice_from n (all_places rows) start ≡ starting_again n (next_choice (all_places (drop n rows)) (drop n start))
+from_row n rows start = ap (λ (ps : List (List (List ℕ))). starting_again n (next_choice ps (drop n start))) (dropped n rows)
 
 -- one number more starts again
 pub zero_more : (start choice : List ℕ) (n next : ℕ) → n < length start → choice ≡ replicate n 0 ++ drop n start → next ≡ n + 1 → slice_set choice n 0 ≡ replicate next 0 ++ drop next start

@@ -1,10 +1,10 @@
 -- Combinations that do nothing are passed over.
-use Rattle.std.proofs.Common.{◌≡◌, ◌∙◌, ℕ, ◌+◌, ◌<◌, ◌≤◌, suc, zero, Option, Some, None, List, [], ◌∷◌, ◌++◌, length, map, drop, replicate, get_or, fold, append_assoc, refl, sym, ap, subst, arith}
-use Rattle.std.specs.Prelude.{option_map, All}
+use Rattle.std.proofs.Common.{◌≡◌, ◌∙◌, ℕ, ◌+◌, ◌<◌, ◌≤◌, suc, zero, Option, Some, None, List, [], ◌∷◌, ◌++◌, length, map, drop, replicate, get_or, fold, append_assoc, refl, sym, ap, subst, arith, rules}
+use Rattle.std.specs.Prelude.{option_map, All, IfSome}
 use Rattle.std.proofs.lemmas.Grind.{fold-append, flat_map-append}
 use Rattle.std.proofs.lemmas.List.{length-append}
 use Rattle.std.proofs.lemmas.List.Elements.{All-head, All-drop}
-use Rattle.ps_engine.specs.Choices.{chosen, spread, behind, next_choice, next_choice_from, following, IsChoice}
+use Rattle.ps_engine.specs.Choices.{chosen, spread, behind, next_choice, next_choice_from, following, IsChoice, IsLater}
 use Rattle.ps_engine.proofs.Combinations.{IsChoice-rest, IsChoice-next, behind_is, carried}
 
 -- the place that is chosen in a list
@@ -22,7 +22,7 @@ next_from_rest places others number numbers i = twice (next_choice (drop i other
   twice None = refl
   twice (Some rest) = refl
 
-next_from_first : (all : List (List (List ℕ))) (numbers : List ℕ) → next_choice all numbers ≡ next_choice_from 0 all numbers
+pub next_from_first : (all : List (List (List ℕ))) (numbers : List ℕ) → next_choice all numbers ≡ next_choice_from 0 all numbers
 next_from_first all numbers = same (next_choice all numbers) where
   same : (next : Option (List ℕ)) → next ≡ option_map (λ rest. replicate 0 0 ++ rest) next
   same None = refl
@@ -49,7 +49,7 @@ IsChoice-from (suc i) (places ∷ others) (number ∷ numbers) next is e =
   by (Some rest) ih d = let same : 0 ∷ rest ≡ next = cc in subst (λ (ns : List ℕ). IsChoice (places ∷ others) ns) same (first_again places others rest some (ih rest refl))
 
 -- it, and what is behind it, is the end of what is behind the choice
-IsEnd : List (List (List ℕ)) → List (List (List ℕ)) → Type 0
+abbrev IsEnd : List (List (List ℕ)) → List (List (List ℕ)) → Type 0
 IsEnd all end = (front : List (List (List ℕ))) × (all ≡ front ++ end)
 
 its_end : (i : ℕ) (all : List (List (List ℕ))) (numbers : List ℕ) → IsChoice all numbers → IsEnd (behind all numbers) (following all (next_choice_from i all numbers))
@@ -75,6 +75,13 @@ fewer_behind i all numbers next is e =
     ap length (end.1 ∙ ap (λ (n : Option (List ℕ)). end.0 ++ following all n) e) ∙ length-append end.0 (chosen all next ∷ behind all next) in
     omega arith
 
+-- what holds of each element of any list, and what follows from it
+every : {X : Type 0} (P : X → Type 0) (xs : List X) → ((x : X) → P x) → All P xs
+every P xs h = λ i d low. h (get_or xs i d)
+
+weaker : (P Q : List ℕ → Type 0) (xs : List (List ℕ)) → ((x : List ℕ) → P x → Q x) → All P xs → All Q xs
+weaker P Q xs h all = λ i d low. h (get_or xs i d) (all i d low)
+
 module _ {R : Type 0} where
   -- each place of a list before a combination of the others
   abbrev with_each : (R → List (List ℕ) → R) → List (List ℕ) → R → List (List ℕ) → R
@@ -91,15 +98,9 @@ module _ {R : Type 0} where
   all_still f r (place ∷ places) rest still =
       ap (λ (s : R). with_each f places s rest) (All-head (λ p. f r (p ∷ rest) ≡ r) place places still) ∙ all_still f r places rest (λ i d h. still (suc i) d (omega arith))
 
-  every : {X : Type 0} (P : X → Type 0) (xs : List X) → ((x : X) → P x) → All P xs
-  every P xs h = λ i d low. h (get_or xs i d)
-
   each_time : (f : R → List (List ℕ) → R) (r : R) (all : List (List (List ℕ))) → ((c : List (List ℕ)) → f r c ≡ r) → fold f r all ≡ r
   each_time f r [] still = refl
   each_time f r (c ∷ all) still = ap (λ (s : R). fold f s all) (still c) ∙ each_time f r all still
-
-  weaker : (P Q : List ℕ → Type 0) (xs : List (List ℕ)) → ((x : List ℕ) → P x → Q x) → All P xs → All Q xs
-  weaker P Q xs h all = λ i d low. h (get_or xs i d) (all i d low)
 
   module _ (IsOff : List ℕ → Type 0) where
     -- where a combination with such a place in a list does nothing, all that share it are passed over
@@ -159,3 +160,16 @@ module _ {R : Type 0} where
         ∙ fold-spread f r places (behind others numbers)
         ∙ ap (λ (s : R). fold (with_each f places) s (behind others numbers)) (sym (quiet rest here))
         ∙ all_passed_over (with_each f places) r i others numbers tail (omega arith) off quiet
+
+  -- the combination that is chosen is applied
+  pub walked_on : (f : R → List (List ℕ) → R) (before after : R) (all : List (List (List ℕ))) (numbers : List ℕ) (next : Option (List ℕ)) → IsChoice all numbers → next_choice_from 0 all numbers ≡ next →
+        after ≡ f before (chosen all numbers) → fold f after (following all next) ≡ fold f before (following all (Some numbers))
+  walked_on f before after all numbers next is e made =
+      ap (λ (n : Option (List ℕ)). fold f after (following all n)) (sym (next_from_first all numbers ∙ e))
+      ∙ ap (fold f after) (sym (behind_is all numbers is))
+      ∙ ap (λ (s : R). fold f s (behind all numbers)) made
+
+-- what an advance comes to is later
+pub later_by : (i : ℕ) (all : List (List (List ℕ))) (old new : List ℕ) (moved : Option ℕ) → IsChoice all old → next_choice_from i all old ≡ option_map (λ m. new) moved → IfSome moved (λ m. IsLater all old new)
+later_by i all old new None is e = search rules
+later_by i all old new (Some m) is e = record { is = IsChoice-from i all old new is e; fewer = fewer_behind i all old new is e }

@@ -1,6 +1,9 @@
 -- The rows of a rule at the places that are chosen, row by row.
-use Rattle.std.proofs.Common.{◌≡◌, ◌∙◌, ℕ, ◌+◌, ◌<◌, ◌≤◌, suc, zero, Bool, true, false, Option, Some, None, List, [], ◌∷◌, length, map, drop, get_or, refl, sym, ap, ap₂, arith}
+use Rattle.std.proofs.Common.{◌≡◌, ◌∙◌, ℕ, ◌+◌, ◌<◌, ◌≤◌, suc, zero, Bool, true, false, Option, Some, None, List, [], ◌∷◌, length, map, drop, get_or, refl, sym, ap, ap₂, subst, arith}
+use Rattle.std.specs.Prelude.{All}
+use Rattle.std.specs.List.{list_any}
 use Rattle.std.proofs.Math.Seq.{drop-cons}
+use Rattle.std.proofs.lemmas.List.Folds.{list_any_at}
 use Rattle.std.proofs.lemmas.List.{length-map}
 use Rattle.ps_model.specs.board.Grid.{Grid}
 use Rattle.ps_model.specs.board.Places.{fits_along, cells_in}
@@ -113,10 +116,14 @@ all_unfit g (row ∷ rows) [] i low off = refl
 all_unfit g (row ∷ rows) (place ∷ places) zero low off = nothing (fits_along g (cells_in row) place) (all_fit g rows places) off
 all_unfit g (row ∷ rows) (place ∷ places) (suc i) low off = not_then (fits_along g (cells_in row) place) (all_fit g rows places) (all_unfit g rows places i (omega arith) off)
 
+passed_by : (test : Bool) (more r : Rewritten) → test ≡ false → (elim test [ true ↦ more | false ↦ r ]) ≡ r
+passed_by true more r e = absurd (cc)
+passed_by false more r e = refl
+
 -- does nothing
 pub applied-unfit : (r : Rewritten) (rows : List (List (List CellMeaning))) (places : List (List ℕ)) (i : ℕ) → i < length rows → fits_along r.grid (cells_in (get_or rows i [])) (get_or places i []) ≡ false →
     applied rows r places ≡ r
-applied-unfit r rows places i low off = rw (all_unfit r.grid rows places i low off) refl
+applied-unfit r rows places i low off = passed_by (all_fit r.grid rows places) (rewritten_rows r rows places) r (all_unfit r.grid rows places i low off)
 
 -- a row that was found, as it is meant
 pub row_there : (table : Option (List ℕ)) (rows : List RowPlaces) (n : ℕ) (row : RowPlaces) → n < length rows → row ≡ get_or rows n row → cells_in (get_or (rows_found table rows) n []) ≡ meanings_of table row.parts.now
@@ -129,3 +136,15 @@ place_there rows choice n row place is h e at =
     chosen_at (all_places rows) choice n is (rw (length-map rows places_shown) h)
     ∙ ap (λ (ps : List (List ℕ)). get_or ps (get_or choice n 0) []) (get-shown places_shown rows n row [] h e)
     ∙ get-shown (cells_of row.shape) row.found.items (get_or choice n 0) place [] (is_within rows choice n row is h e) at
+
+-- a row that fits at none of its places
+never : (test : List ℕ → Bool) (xs : List (List ℕ)) (i : ℕ) (d : List ℕ) (b : Bool) → list_any test xs ≡ false → i < length xs → test (get_or xs i d) ≡ b → b ≡ false
+never test xs i d true none low e = absurd (let some : list_any test xs ≡ true = list_any_at test xs i d low e in cc)
+never test xs i d false none low e = refl
+
+pub fits_nowhere : (g : Grid) (table : Option (List ℕ)) (rows : List RowPlaces) (n : ℕ) (row : RowPlaces) → n < length rows → row ≡ get_or rows n row →
+    list_any (fits_along g (meanings_of table row.parts.now)) (places_shown row) ≡ false → All (λ place. fits_along g (cells_in (get_or (rows_found table rows) n [])) place ≡ false) (get_or (all_places rows) n [])
+fits_nowhere g table rows n row h e none =
+    subst (λ (ms : List CellMeaning). All (λ place. fits_along g ms place ≡ false) (get_or (all_places rows) n [])) (sym (row_there table rows n row h e))
+    (subst (λ (ps : List (List ℕ)). All (λ place. fits_along g (meanings_of table row.parts.now) place ≡ false) ps) (sym (get-shown places_shown rows n row [] h e))
+    (λ i d low. never (fits_along g (meanings_of table row.parts.now)) (places_shown row) i d (fits_along g (meanings_of table row.parts.now) (get_or (places_shown row) i d)) none low refl))
