@@ -32,5 +32,5 @@ attempt_walked direction rows rewrites commands g queue all first others r e doe
 pub attempt_asked : (direction : Direction) (rows : List (List (List CellMeaning))) (rewrites : Bool) (commands : Commands) (g : Grid) (queue after : Commands) (all : List (List (List ℕ))) → rewrites ≡ false →
     has_one all ≡ true → after ≡ queued queue commands →
     (let r : Result = record { state = record { grid = g; queue = after }; changed = false } in r) ≡ attempt_by (rule_of direction rows rewrites commands) (record { grid = g; queue = queue }) all
-attempt_asked direction rows rewrites commands g queue after [] no one e = absurd (cc)
-attempt_asked direction rows rewrites commands g queue after (first ∷ others) no one e = rw (e, no) refl
+attempt_asked direction rows rewrites commands g queue after [] idle one e = absurd (cc)
+attempt_asked direction rows rewrites commands g queue after (first ∷ others) idle one e = rw (e, idle) refl

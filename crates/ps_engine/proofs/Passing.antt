@@ -42,11 +42,12 @@ IsChoice-from (suc i) (places ∷ others) [] next is e = absurd (let l : 0 ≡ l
 IsChoice-from (suc i) (places ∷ others) (number ∷ numbers) next is e =
     by (next_choice_from i others numbers) (λ rest f. IsChoice-from i others numbers rest (IsChoice-rest places others number numbers is) f)
     (next_from_rest places others number numbers i ∙ e) where
-  some : 0 < length places
-  some = let low : number < length places = is.within 0 (omega arith) in omega arith
-  by : (found : Option (List ℕ)) → ((rest : List ℕ) → found ≡ Some rest → IsChoice others rest) → option_map (λ rest. 0 ∷ rest) found ≡ Some next → IsChoice (places ∷ others) next
-  by None ih d = absurd (cc)
-  by (Some rest) ih d = let same : 0 ∷ rest ≡ next = cc in subst (λ (ns : List ℕ). IsChoice (places ∷ others) ns) same (first_again places others rest some (ih rest refl))
+      some : 0 < length places
+      some = let low : number < length places = is.within 0 (omega arith) in omega arith
+
+      by : (found : Option (List ℕ)) → ((rest : List ℕ) → found ≡ Some rest → IsChoice others rest) → option_map (λ rest. 0 ∷ rest) found ≡ Some next → IsChoice (places ∷ others) next
+      by None ih d = absurd (cc)
+      by (Some rest) ih d = let same : 0 ∷ rest ≡ next = cc in subst (λ (ns : List ℕ). IsChoice (places ∷ others) ns) same (first_again places others rest some (ih rest refl))
 
 -- it, and what is behind it, is the end of what is behind the choice
 abbrev IsEnd : List (List (List ℕ)) → List (List (List ℕ)) → Type 0
@@ -60,13 +61,14 @@ its_end (suc i) (places ∷ others) (number ∷ numbers) is =
     let front : List (List (List ℕ)) = map (λ place. place ∷ chosen others numbers) (drop (suc number) places) in
     let end = its_end i others numbers (IsChoice-rest places others number numbers is) in
     let next : Option (List ℕ) = next_choice_from i others numbers in
-    let some : 0 < length places = (let w : number < length places = is.within 0 (omega arith) in omega arith) in
-    (front ++ spread places end.0,
-    ap (λ (cs : List (List (List ℕ))). front ++ spread places cs) end.1
-    ∙ ap (λ (cs : List (List (List ℕ))). front ++ cs) (flat_map-append (λ rest. map (λ place. place ∷ rest) places) end.0 (following others next))
-    ∙ sym (append_assoc front (spread places end.0) (spread places (following others next)))
-    ∙ ap (λ (cs : List (List (List ℕ))). (front ++ spread places end.0) ++ cs)
-    (carried places others next some ∙ ap (following (places ∷ others)) (next_from_rest places others number numbers i)))
+    let some : 0 < length places = (let w : number < length places = is.within 0 (omega arith) in omega arith) in (
+      front ++ spread places end.0,
+      ap (λ (cs : List (List (List ℕ))). front ++ spread places cs) end.1
+          ∙ ap (λ (cs : List (List (List ℕ))). front ++ cs) (flat_map-append (λ rest. map (λ place. place ∷ rest) places) end.0 (following others next))
+          ∙ sym (append_assoc front (spread places end.0) (spread places (following others next)))
+          ∙ ap (λ (cs : List (List (List ℕ))). (front ++ spread places end.0) ++ cs)
+          (carried places others next some ∙ ap (following (places ∷ others)) (next_from_rest places others number numbers i)),
+    )
 
 pub fewer_behind : (i : ℕ) (all : List (List (List ℕ))) (numbers next : List ℕ) → IsChoice all numbers → next_choice_from i all numbers ≡ Some next → length (behind all next) < length (behind all numbers)
 fewer_behind i all numbers next is e =
@@ -163,7 +165,7 @@ module _ {R : Type 0} where
 
   -- the combination that is chosen is applied
   pub walked_on : (f : R → List (List ℕ) → R) (before after : R) (all : List (List (List ℕ))) (numbers : List ℕ) (next : Option (List ℕ)) → IsChoice all numbers → next_choice_from 0 all numbers ≡ next →
-        after ≡ f before (chosen all numbers) → fold f after (following all next) ≡ fold f before (following all (Some numbers))
+      after ≡ f before (chosen all numbers) → fold f after (following all next) ≡ fold f before (following all (Some numbers))
   walked_on f before after all numbers next is e made =
       ap (λ (n : Option (List ℕ)). fold f after (following all n)) (sym (next_from_first all numbers ∙ e))
       ∙ ap (fold f after) (sym (behind_is all numbers is))
@@ -173,3 +175,7 @@ module _ {R : Type 0} where
 pub later_by : (i : ℕ) (all : List (List (List ℕ))) (old new : List ℕ) (moved : Option ℕ) → IsChoice all old → next_choice_from i all old ≡ option_map (λ m. new) moved → IfSome moved (λ m. IsLater all old new)
 later_by i all old new None is e = search rules
 later_by i all old new (Some m) is e = record { is = IsChoice-from i all old new is e; fewer = fewer_behind i all old new is e }
+
+pub later_is : (all : List (List (List ℕ))) (old new : List ℕ) (moved : Option ℕ) → IfSome moved (λ m. IsLater all old new) → IfSome moved (λ m. IsChoice all new)
+later_is all old new None later = search rules
+later_is all old new (Some m) later = later.is

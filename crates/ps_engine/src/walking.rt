@@ -93,7 +93,12 @@ fn is_spent<B: Scan>(board: &B, row: &RowPlaces, number: usize) -> bool
 }
 
 /// The slowest of the first `count` rows that doesn't fit at its place that is chosen.
-fn unfit_row<B: Scan>(board: &B, rows: &[RowPlaces], choice: &[usize], count: usize) -> Option<usize>
+fn unfit_row<B: Scan>(
+    board: &B,
+    rows: &[RowPlaces],
+    choice: &[usize],
+    count: usize,
+) -> Option<usize>
     requires is { IsChoice (all_places rows.now) choice.now }
     requires count { count ≤ length rows.now }
     ensures { IfSome result (IsUnfit (B.grid board.now) (B.table board.now) rows.now choice.now) }

@@ -41,7 +41,11 @@ fn size_of(parts: &[List<CompiledCell>], number: usize) -> usize
 }
 
 /// How the places of a row lie on a board; nothing, where it has more cells than any board has in a line.
-pub fn shape_of<B: Scan>(board: &B, direction: Direction, parts: &[List<CompiledCell>]) -> Option<Shape>
+pub fn shape_of<B: Scan>(
+    board: &B,
+    direction: Direction,
+    parts: &[List<CompiledCell>],
+) -> Option<Shape>
     requires { length parts.now ≤ 2 }
     ensures some { IfSome result (λ shape. IsShapeOf (B.grid board.now) direction (part_sizes parts.now) shape) }
     ensures none { result ≡ None → SIDE_LIMIT < sum (part_sizes parts.now) }

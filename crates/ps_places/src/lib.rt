@@ -15,3 +15,6 @@ pub use find::find_places;
 pub use presence::has_place;
 pub use row_places::RowPlaces;
 pub use shape::{Place, Shape};
+
+#[cfg(test)]
+mod tests;

@@ -59,12 +59,7 @@ fn fits_in_columns<B: Scan>(board: &B, parts: &[List<CompiledCell>], shape: Shap
 }
 
 /// Whether parts that go left or right have a place in a row of the board.
-fn fits_in_row<B: Scan>(
-    board: &B,
-    parts: &[List<CompiledCell>],
-    shape: Shape,
-    row: u32,
-) -> bool
+fn fits_in_row<B: Scan>(board: &B, parts: &[List<CompiledCell>], shape: Shape, row: u32) -> bool
     requires few { length parts.now ≤ 2 }
     requires size { sum (part_sizes parts.now) ≡ shape.size }
     requires whole { length (all_cells parts.now) ≡ shape.size }
@@ -123,11 +118,7 @@ fn fits_somewhere<B: Scan>(
 }
 
 /// Whether a row has a place on a board. No memory is taken, and the search ends with the first place.
-pub fn has_place<B: Scan>(
-    board: &B,
-    direction: Direction,
-    row: &List<List<CompiledCell>>,
-) -> bool
+pub fn has_place<B: Scan>(board: &B, direction: Direction, row: &List<List<CompiledCell>>) -> bool
     ensures { let all = places (B.grid board.now) direction (row_meaning (B.table board.now) row.now) in
         result ≡ has_one all }
 {

@@ -11,7 +11,7 @@ returns-then-not-fits_place g c =
     record {
       low = low;
       off =
-          ap₂ (fits_along (g.B.Board.grid c.args.board.now)) (row_there (g.B.Board.table c.args.board.now) c.args.rows.now n c.index-row.result low c.index-row.is)
-          (place_there c.args.rows.now c.args.choice.now n c.index-row.result c.index.result.now c.requires.is low c.index-row.is c.index.ensures)
+          ap₂ (fits_along (g.B.Board.grid c.args.board.now)) (row_there (g.B.Board.table c.args.board.now) c.args.rows.now n c.index-rows-number.result low c.index-rows-number.is)
+          (place_there c.args.rows.now c.args.choice.now n c.index-rows-number.result c.index.result.now c.requires.is low c.index-rows-number.is c.index.ensures)
           ∙ sym c.fits_place.ensures ∙ no;
     }

@@ -7,8 +7,8 @@ use Rattle.ps_engine.specs.RulesInRoom.{rows_found, all_places}
 use Rattle.ps_engine.proofs.walking.walk_from.Given as goal
 
 -- the combinations before the one that is chosen are applied
-abbrev pub invariant-loop-board : goal.invariant-loop-board
-invariant-loop-board g l =
+abbrev pub invariant-loop-visited : goal.invariant-loop-visited
+invariant-loop-visited g l =
     let before : Rewritten = record { grid = g.B.Board.grid l.fn.board; changed = false } in
     let now : Rewritten = record { grid = g.B.Board.grid l.board; changed = l.visited.changed } in
     let table = g.B.Board.table l.fn.board in
@@ -24,5 +24,5 @@ invariant-loop-board g l =
     }
 
 -- the combinations that are left
-abbrev pub decreases-loop-board : goal.decreases-loop-board
-decreases-loop-board g l = length (following (all_places l.rows) (option_map (λ n. l.choice) l.visited.unsure))
+abbrev pub decreases-loop-visited : goal.decreases-loop-visited
+decreases-loop-visited g l = length (following (all_places l.rows) (option_map (λ n. l.choice) l.visited.unsure))
