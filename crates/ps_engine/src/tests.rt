@@ -200,16 +200,11 @@ fn the_smaller_gap_comes_first(rt: HostRuntime) -> Result<(), Fail> {
     Ok(())
 }
 
-/// A group of one rule with one row of one cell: the letter on the left becomes the one on the right.
-fn turning<'r>(
-    alloc: Global,
-    left: u8,
-    right: u8,
-    commands: &'r Commands,
-) -> Result<CompiledRule<'r>, Memory> {
+/// One row of one cell: the letter on the left becomes the one on the right.
+fn turning(alloc: Global, left: u8, right: u8) -> Result<Vec<List<List<CompiledCell>>>, Memory> {
     let mut rows = Vec::new(alloc);
     rows.push(row(alloc, &[&[(left, right)]])?)?;
-    Ok(rule(Direction::Right, rows, commands))
+    Ok(rows)
 }
 
 #[test]
@@ -217,10 +212,13 @@ fn a_group_ends_after_its_rounds(rt: HostRuntime) -> Result<(), Fail> {
     let alloc = rt.alloc();
     let commands = nothing();
     let mut to_and_fro = Vec::new(alloc);
-    to_and_fro.push(turning(alloc, b'A', b'B', &commands)?)?;
-    to_and_fro.push(turning(alloc, b'B', b'A', &commands)?)?;
+    let turned = turning(alloc, b'A', b'B')?;
+    to_and_fro.push(rule(Direction::Right, turned, &commands))?;
+    let turned = turning(alloc, b'B', b'A')?;
+    to_and_fro.push(rule(Direction::Right, turned, &commands))?;
     let mut last = Vec::new(alloc);
-    last.push(turning(alloc, b'A', b'C', &commands)?)?;
+    let turned = turning(alloc, b'A', b'C')?;
+    last.push(rule(Direction::Right, turned, &commands))?;
     let mut sections = Vec::new(alloc);
     sections.push(CompiledSection::Group(List::from_vec(to_and_fro)))?;
     sections.push(CompiledSection::Group(List::from_vec(last)))?;
@@ -238,11 +236,13 @@ fn a_loop_that_never_settles_ends_the_run(rt: HostRuntime) -> Result<(), Fail> {
     let mut groups = Vec::new(alloc);
     for letters in [(b'C', b'A'), (b'B', b'C'), (b'A', b'B')] {
         let mut rules = Vec::new(alloc);
-        rules.push(turning(alloc, letters.0, letters.1, &commands)?)?;
+        let turned = turning(alloc, letters.0, letters.1)?;
+        rules.push(rule(Direction::Right, turned, &commands))?;
         groups.push(List::from_vec(rules))?;
     }
     let mut last = Vec::new(alloc);
-    last.push(turning(alloc, b'B', b'D', &commands)?)?;
+    let turned = turning(alloc, b'B', b'D')?;
+    last.push(rule(Direction::Right, turned, &commands))?;
     let mut sections = Vec::new(alloc);
     sections.push(CompiledSection::Loop(List::from_vec(groups)))?;
     sections.push(CompiledSection::Group(List::from_vec(last)))?;
