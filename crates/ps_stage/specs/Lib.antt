@@ -1,0 +1,3 @@
+pub mod Standings
+pub mod StepsShown
+pub mod Places
