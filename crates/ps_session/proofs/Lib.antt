@@ -1,0 +1,4 @@
+mod Dismissed
+mod Heeded
+mod Opened
+mod Remembered

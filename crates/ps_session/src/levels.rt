@@ -6,7 +6,7 @@ ghost use Rattle.ps_model.specs.board.Programs.{Section};
 ghost use Rattle.ps_model.specs.session.KeySteps.{input_taken, key_in_level, quit, undone};
 ghost use Rattle.ps_model.specs.session.Sessions.{remembered};
 ghost use Rattle.ps_model.specs.session.StartSteps.{restarted};
-ghost use Rattle.ps_stage.specs.Standings.{play_of, script_of, script_on, Standing};
+ghost use Rattle.ps_stage.specs.Standings.{play_of, script_of, script_for, Standing};
 ghost use Rattle.ps_stage.specs.declared.places.Place.{Place as MeantPlace};
 ghost use Rattle.ps_stage.specs.declared.places.Place.TheVariants.{Playing};
 ghost use Rattle.ps_session.specs.IgnoredKeys.{is_ignored_in_level};
@@ -55,8 +55,8 @@ fn moves<B: Board, R: Rules<B>>(
     ensures late { R.meant rules.new.late ≡ R.meant rules.old.late }
     ensures same { level.new ≡ level.old }
     ensures came { IfOk result (λ next. (history : List Grid)
-        → input_taken (script_on stage.old.game (B.table_for stage.old.game.names.layers) (R.meant rules.old.plain) (R.meant rules.old.late))
-            (play_of history level.old) input
+        → input_taken (script_for B.table_for stage.old.game (R.meant rules.old.plain) (R.meant rules.old.late))
+        (play_of history level.old) input
         ≡ next_step history (Playing level.old) (Some next) stage.new.text) }
     ensures table { IfOk result (λ next. ComesOnTable (B.table_for stage.old.game.names.layers) next) }
 {
@@ -109,8 +109,8 @@ fn restarts<B: Board, R: Rules<B>>(
     ensures plain { R.meant rules.new.plain ≡ R.meant rules.old.plain }
     ensures late { R.meant rules.new.late ≡ R.meant rules.old.late }
     ensures came { IfOk result (λ next. (history : List Grid)
-        → restarted (script_on stage.old.game (B.table_for stage.old.game.names.layers) (R.meant rules.old.plain) (R.meant rules.old.late))
-            (remembered (play_of history level.now)) None
+        → restarted (script_for B.table_for stage.old.game (R.meant rules.old.plain) (R.meant rules.old.late))
+        (remembered (play_of history level.now)) None
         ≡ next_step history (Playing level.now) (Some next) stage.new.text) }
     ensures table { IfOk result (λ next. ComesOnTable (B.table_for stage.old.game.names.layers) next) }
 {
@@ -139,8 +139,8 @@ pub fn key_in_level<B: Board, R: Rules<B>>(
     ensures late { R.meant rules.new.late ≡ R.meant rules.old.late }
     ensures same { level.new ≡ level.old }
     ensures came { IfOk result (λ next.
-        key_in_level (script_on stage.old.game (B.table_for stage.old.game.names.layers) (R.meant rules.old.plain) (R.meant rules.old.late))
-            (play_of (map B.grid history.now.items) level.old) key
+        key_in_level (script_for B.table_for stage.old.game (R.meant rules.old.plain) (R.meant rules.old.late))
+        (play_of (map B.grid history.now.items) level.old) key
         ≡ next_step (map B.grid history.now.items) (Playing level.old) next stage.new.text) }
     ensures table { IfOk result (λ next. AnswersOnTable (B.table_for stage.old.game.names.layers) next) }
     ensures ignored { is_ignored_in_level stage.old.game.options key ≡ true → result ≡ Ok None }
@@ -148,11 +148,22 @@ pub fn key_in_level<B: Board, R: Rules<B>>(
     if is_ignored_in_level(stage.game().options(), key) {
         return Ok(None);
     }
-    let next = match key {
-        Key::Move(input) => moves(stage, rules, level, input)?,
-        Key::Undo => undoes(alloc, stage, level, history)?,
-        Key::Restart => restarts(stage, rules, level)?,
-        Key::Quit => quits(stage)?,
-    };
-    Ok(Some(next))
+    match key {
+        Key::Move(input) => {
+            let next = moves(stage, rules, level, input)?;
+            Ok(Some(next))
+        }
+        Key::Undo => {
+            let next = undoes(alloc, stage, level, history)?;
+            Ok(Some(next))
+        }
+        Key::Restart => {
+            let next = restarts(stage, rules, level)?;
+            Ok(Some(next))
+        }
+        Key::Quit => {
+            let next = quits(stage)?;
+            Ok(Some(next))
+        }
+    }
 }

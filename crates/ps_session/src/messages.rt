@@ -3,7 +3,7 @@
 ghost use Rattle.std.specs.Prelude.{◌≡◌, [], true, IfOk, List, None, Ok};
 ghost use Rattle.ps_model.specs.board.Grid.{Grid};
 ghost use Rattle.ps_model.specs.session.KeySteps.{key_at_entry, key_at_level_message};
-ghost use Rattle.ps_stage.specs.Standings.{play_of, script_on};
+ghost use Rattle.ps_stage.specs.Standings.{play_of, script_for};
 ghost use Rattle.ps_stage.specs.StepsShown.{pending_shown};
 ghost use Rattle.ps_stage.specs.declared.places.Place.TheVariants.{AtMessage, Waiting};
 ghost use Rattle.ps_session.specs.IgnoredKeys.{is_ignored_at_message};
@@ -35,8 +35,8 @@ pub fn key_at_level_message<B: Board, R: Rules<B>>(
     ensures plain { R.meant rules.new.plain ≡ R.meant rules.old.plain }
     ensures late { R.meant rules.new.late ≡ R.meant rules.old.late }
     ensures came { IfOk result (λ next. (history : List Grid)
-        → key_at_level_message (script_on stage.old.game (B.table_for stage.old.game.names.layers) (R.meant rules.old.plain) (R.meant rules.old.late))
-            (play_of history level.now) (pending_shown pending) key
+        → key_at_level_message (script_for B.table_for stage.old.game (R.meant rules.old.plain) (R.meant rules.old.late))
+        (play_of history level.now) (pending_shown pending) key
         ≡ next_step history (Waiting level.now pending) next stage.new.text) }
     ensures table { IfOk result (λ next. AnswersOnTable (B.table_for stage.old.game.names.layers) next) }
     ensures ignored { is_ignored_at_message key ≡ true → result ≡ Ok None }
@@ -68,8 +68,8 @@ pub fn key_at_entry<B: Board, R: Rules<B>>(
     ensures plain { R.meant rules.new.plain ≡ R.meant rules.old.plain }
     ensures late { R.meant rules.new.late ≡ R.meant rules.old.late }
     ensures came { IfOk result (λ next. (history : List Grid)
-        → key_at_entry (script_on stage.old.game (B.table_for stage.old.game.names.layers) (R.meant rules.old.plain) (R.meant rules.old.late))
-            entry.now key
+        → key_at_entry (script_for B.table_for stage.old.game (R.meant rules.old.plain) (R.meant rules.old.late))
+        entry.now key
         ≡ next_step history (AtMessage entry.now) next stage.new.text) }
     ensures table { IfOk result (λ next. AnswersOnTable (B.table_for stage.old.game.names.layers) next) }
     ensures ignored { is_ignored_at_message key ≡ true → result ≡ Ok None }

@@ -3,7 +3,7 @@
 ghost use Rattle.std.specs.Prelude.{◌≡◌, [], true, IfOk, None, Ok, map};
 ghost use Rattle.ps_model.specs.session.KeySteps.{key_step};
 ghost use Rattle.ps_stage.specs.Places.{place_shown, IsOnTable};
-ghost use Rattle.ps_stage.specs.Standings.{script_on};
+ghost use Rattle.ps_stage.specs.Standings.{script_for};
 ghost use Rattle.ps_session.specs.IgnoredKeys.{is_ignored};
 ghost use Rattle.ps_session.specs.Nexts.{next_step};
 ghost use Rattle.ps_session.specs.Tables.{AnswersOnTable, AreOnTable};
@@ -38,8 +38,8 @@ pub fn next_at<B: Board, R: Rules<B>>(
     ensures late { R.meant rules.new.late ≡ R.meant rules.old.late }
     ensures same { place.new ≡ place.old }
     ensures came { IfOk result (λ next.
-        key_step (script_on stage.old.game (B.table_for stage.old.game.names.layers) (R.meant rules.old.plain) (R.meant rules.old.late))
-            (place_shown (map B.grid history.now.items) place.old) key
+        key_step (script_for B.table_for stage.old.game (R.meant rules.old.plain) (R.meant rules.old.late))
+        (place_shown (map B.grid history.now.items) place.old) key
         ≡ next_step (map B.grid history.now.items) place.old next stage.new.text) }
     ensures table { IfOk result (λ next. AnswersOnTable (B.table_for stage.old.game.names.layers) next) }
     ensures ignored { is_ignored stage.old.game.options (place_shown (map B.grid history.now.items) place.old) key ≡ true → result ≡ Ok None }

@@ -3,7 +3,7 @@
 ghost use Rattle.std.specs.Prelude.{◌≡◌, ◌++◌, true, IfOk, IsOk, OnErr, OnOk};
 ghost use Rattle.ps_model.specs.game.Outputs.{ending_of, opening_step};
 ghost use Rattle.ps_model.specs.session.KeySteps.{key_step};
-ghost use Rattle.ps_stage.specs.Standings.{script_on};
+ghost use Rattle.ps_stage.specs.Standings.{script_for};
 ghost use Rattle.ps_session.specs.IgnoredKeys.{is_ignored};
 ghost use Rattle.ps_session.specs.Phases.{phase_of};
 
@@ -57,9 +57,9 @@ impl<'g, B: Board> Session<'g, B> {
     ) -> Result<Session<'g, B>, Memory>
         ensures game { IfOk result (λ session. session.game ≡ game.entry) }
         ensures session { IfOk result (λ session. session.session
-            ≡ (opening_step (script_on game.entry (B.table_for game.entry.names.layers) (R.meant rules.old.plain) (R.meant rules.old.late))).session) }
+            ≡ (opening_step (script_for B.table_for game.entry (R.meant rules.old.plain) (R.meant rules.old.late))).session) }
         ensures written { OnOk result (screen.new ≡ screen.old
-            ++ (opening_step (script_on game.entry (B.table_for game.entry.names.layers) (R.meant rules.old.plain) (R.meant rules.old.late))).text) }
+            ++ (opening_step (script_for B.table_for game.entry (R.meant rules.old.plain) (R.meant rules.old.late))).text) }
         ensures kept { OnErr result (screen.new ≡ screen.old) }
         ensures plain { R.meant rules.new.plain ≡ R.meant rules.old.plain }
         ensures late { R.meant rules.new.late ≡ R.meant rules.old.late }
@@ -91,9 +91,9 @@ impl<'g, B: Board> Session<'g, B> {
     ) -> Result<(), Memory>
         ensures game { self.new.game ≡ self.old.game }
         ensures session { OnOk result (self.new.session
-            ≡ (key_step (script_on self.old.game (B.table_for self.old.game.names.layers) (R.meant rules.old.plain) (R.meant rules.old.late)) self.old.session key).session) }
+            ≡ (key_step (script_for B.table_for self.old.game (R.meant rules.old.plain) (R.meant rules.old.late)) self.old.session key).session) }
         ensures written { OnOk result (screen.new ≡ screen.old
-            ++ (key_step (script_on self.old.game (B.table_for self.old.game.names.layers) (R.meant rules.old.plain) (R.meant rules.old.late)) self.old.session key).text) }
+            ++ (key_step (script_for B.table_for self.old.game (R.meant rules.old.plain) (R.meant rules.old.late)) self.old.session key).text) }
         ensures same { OnErr result (self.new ≡ self.old) }
         ensures kept { OnErr result (screen.new ≡ screen.old) }
         ensures ignored { is_ignored self.old.game.options self.old.session key ≡ true → IsOk result }

@@ -7,7 +7,7 @@ ghost use Rattle.ps_model.specs.session.Sessions.{after};
 ghost use Rattle.ps_model.specs.session.StartSteps.{enter, restarted};
 ghost use Rattle.ps_model.specs.session.KeySteps.{gone_on, input_taken};
 ghost use Rattle.ps_model.specs.game.Outputs.{quit_line};
-ghost use Rattle.ps_stage.specs.Standings.{script_on, play_of};
+ghost use Rattle.ps_stage.specs.Standings.{script_for, play_of};
 ghost use Rattle.ps_stage.specs.StepsShown.{came, pending_shown};
 ghost use Rattle.ps_stage.specs.Places.{place_shown, change_shown, GoesOnTable, IsOnTable};
 
@@ -118,7 +118,7 @@ impl<'g> Stage<'g> {
         rules: &mut Programs<R>,
         _entry: usize,
     ) -> Result<Place<PlayedLevel<B>>, Memory>
-        ensures came { IfOk result (λ place. after self.old.text (enter (script_on self.old.game (B.table_for self.old.game.names.layers) (R.meant rules.old.plain) (R.meant rules.old.late)) _entry) ≡ came (place_shown [] place) self.new.text) }
+        ensures came { IfOk result (λ place. after self.old.text (enter (script_for B.table_for self.old.game (R.meant rules.old.plain) (R.meant rules.old.late)) _entry) ≡ came (place_shown [] place) self.new.text) }
         ensures table { IfOk result (λ place. IsOnTable (B.table_for self.old.game.names.layers) place) }
         ensures game { self.new.game ≡ self.old.game }
         ensures plain { R.meant rules.new.plain ≡ R.meant rules.old.plain }
@@ -136,8 +136,9 @@ impl<'g> Stage<'g> {
         level: &PlayedLevel<B>,
         message: Option<Text>,
     ) -> Result<Place<PlayedLevel<B>>, Memory>
-        ensures came { IfOk result (λ place. (history : List Grid) → after self.old.text (restarted (script_on self.old.game level.now.table (R.meant rules.old.plain) (R.meant rules.old.late)) (play_of history level.now) message) ≡ came (place_shown history place) self.new.text) }
-        ensures table { IfOk result (λ place. IsOnTable level.now.table place) }
+        requires { level.now.table ≡ B.table_for self.old.game.names.layers }
+        ensures came { IfOk result (λ place. (history : List Grid) → after self.old.text (restarted (script_for B.table_for self.old.game (R.meant rules.old.plain) (R.meant rules.old.late)) (play_of history level.now) message) ≡ came (place_shown history place) self.new.text) }
+        ensures table { IfOk result (λ place. IsOnTable (B.table_for self.old.game.names.layers) place) }
         ensures game { self.new.game ≡ self.old.game }
         ensures plain { R.meant rules.new.plain ≡ R.meant rules.old.plain }
         ensures late { R.meant rules.new.late ≡ R.meant rules.old.late }
@@ -155,7 +156,7 @@ impl<'g> Stage<'g> {
         pending: Pending,
     ) -> Result<Change<PlayedLevel<B>>, Memory>
         requires { level.now.table ≡ B.table_for self.old.game.names.layers }
-        ensures came { IfOk result (λ gone. (history : List Grid) → after self.old.text (gone_on (script_on self.old.game (B.table_for self.old.game.names.layers) (R.meant rules.old.plain) (R.meant rules.old.late)) (play_of history level.now) (pending_shown pending)) ≡ came (change_shown history level.now gone) self.new.text) }
+        ensures came { IfOk result (λ gone. (history : List Grid) → after self.old.text (gone_on (script_for B.table_for self.old.game (R.meant rules.old.plain) (R.meant rules.old.late)) (play_of history level.now) (pending_shown pending)) ≡ came (change_shown history level.now gone) self.new.text) }
         ensures table { IfOk result (λ change. GoesOnTable (B.table_for self.old.game.names.layers) change) }
         ensures game { self.new.game ≡ self.old.game }
         ensures plain { R.meant rules.new.plain ≡ R.meant rules.old.plain }
@@ -174,7 +175,7 @@ impl<'g> Stage<'g> {
         input: Input,
     ) -> Result<Change<PlayedLevel<B>>, Memory>
         requires { level.old.table ≡ B.table_for self.old.game.names.layers }
-        ensures came { IfOk result (λ change. (history : List Grid) → after self.old.text (input_taken (script_on self.old.game (B.table_for self.old.game.names.layers) (R.meant rules.old.plain) (R.meant rules.old.late)) (play_of history level.old) input) ≡ came (change_shown history level.old change) self.new.text) }
+        ensures came { IfOk result (λ change. (history : List Grid) → after self.old.text (input_taken (script_for B.table_for self.old.game (R.meant rules.old.plain) (R.meant rules.old.late)) (play_of history level.old) input) ≡ came (change_shown history level.old change) self.new.text) }
         ensures same { level.new ≡ level.old }
         ensures table { IfOk result (λ change. GoesOnTable (B.table_for self.old.game.names.layers) change) }
         ensures game { self.new.game ≡ self.old.game }
