@@ -8,6 +8,8 @@ use Rattle.ps_model.specs.board.Turns.{Script}
 use Rattle.ps_model.specs.board.Wins.{Win}
 use Rattle.ps_model.specs.session.LevelLines.{Entry}
 use Rattle.ps_model.specs.session.Sessions.{Play, Session}
+use Rattle.ps_turn.specs.States.{TurnParts}
+use Rattle.ps_turn.specs.declared.outcomes.DoneTurn.{DoneTurn}
 
 -- a game without its rules
 pub record SessionParts : Type 0 where
@@ -34,6 +36,10 @@ script_of parts plain late = record {
 abbrev pub script_for : (List ℕ → Option (List ℕ)) → SessionParts → (Option (List ℕ) → List Section) → (Option (List ℕ) → List Section) → Script
 script_for table_for parts plain late = script_of parts (plain (table_for parts.names.layers)) (late (table_for parts.names.layers))
 
+-- what of it turns look at
+abbrev pub turn_parts : SessionParts → TurnParts
+turn_parts parts = record { names = parts.names; options = parts.options; wins = parts.wins }
+
 -- a level that is played, without its history, and the table of its boards
 pub record Standing : Type 0 where
   pub entry : ℕ
@@ -44,6 +50,10 @@ pub record Standing : Type 0 where
 -- with this history
 abbrev pub play_of : List Grid → Standing → Play
 play_of history level = record { entry = level.entry; board = level.board; history = history; target = level.target }
+
+-- the level behind a done turn that came to this grid
+abbrev pub with_done : Standing → DoneTurn → Grid → Standing
+with_done level done g = record { entry = level.entry; table = level.table; board = g; target = if done.checkpoint then g else level.target }
 
 -- a session and the game that it is of
 pub record SessionValue : Type 0 where

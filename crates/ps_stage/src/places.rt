@@ -2,10 +2,12 @@
 
 use crate::entries::EntryNumber;
 use ps_model::Ending;
+use ps_text::Text;
 
 /// What a level's message goes on with once it is dismissed.
 #[derive(Clone, Copy, PartialEq, Eq, Debug)]
 pub enum Pending {
+    /// No turn: the level goes on as it is.
     Nothing,
     /// The end of the level.
     LevelDone,
@@ -46,4 +48,33 @@ pub enum Change<L> {
     Stays(Option<Pending>),
     /// The player goes to another place, or to another board of the level.
     Goes(Place<L>, Past),
+}
+
+/// What comes behind a frame of the start of a level.
+#[derive(Clone, Copy, PartialEq, Eq, Debug)]
+pub enum Told {
+    /// No turn: a message waits, or none does.
+    Stops(Option<Pending>),
+    /// Again turns.
+    GoesOn,
+}
+
+/// How the turns of a key end.
+#[derive(Drop, Debug)]
+pub enum KeyEnd {
+    /// In the level, where a message waits, or none does.
+    Stops(Option<Pending>),
+    /// The level is won, and done.
+    Won,
+    /// The level restarts, with a message or without.
+    Restarts(Option<Text>),
+}
+
+/// What comes behind a turn of a key.
+#[derive(Drop, Debug)]
+pub enum KeyTold {
+    /// No further turn.
+    Ends(KeyEnd),
+    /// Again turns.
+    GoesOn,
 }

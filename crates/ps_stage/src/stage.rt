@@ -1,32 +1,26 @@
 //! A game with the text that is made on the side.
 
-ghost use Rattle.std.specs.Prelude.{◌≡◌, ◌++◌, [], OnOk, IfOk, List, suc, codes};
-ghost use Rattle.ps_model.specs.board.Grid.{Grid};
+ghost use Rattle.std.specs.Prelude.{◌≡◌, ◌++◌, [], OnOk, IfOk, codes};
 ghost use Rattle.ps_model.specs.session.Frames.{frame, written_line};
-ghost use Rattle.ps_model.specs.session.Sessions.{after};
-ghost use Rattle.ps_model.specs.session.StartSteps.{enter, restarted};
-ghost use Rattle.ps_model.specs.session.KeySteps.{gone_on, input_taken};
-ghost use Rattle.ps_model.specs.game.Outputs.{quit_line};
-ghost use Rattle.ps_stage.specs.Standings.{script_for, play_of};
-ghost use Rattle.ps_stage.specs.StepsShown.{came, pending_shown};
-ghost use Rattle.ps_stage.specs.Places.{place_shown, change_shown, GoesOnTable, IsOnTable};
+ghost use Rattle.ps_levels.specs.EntriesShown.{entries_shown};
+ghost use Rattle.ps_stage.specs.Playable.{ArePlayable};
 
 use crate::game::SessionGame;
-use crate::levels::PlayedLevel;
-use crate::places::{Change, Pending, Place};
 use ps_board::Board;
-use ps_model::{Input, Memory};
-use crate::rules::{Programs, Rules};
-use crate::screen::{Screen, Text};
+use ps_levels::Entry;
+use ps_model::Memory;
+use ps_screen::{Picture, Screen};
 use std::alloc::Global;
 use std::marker::Model;
 
-/// A game in play, its picture, and the text that a key makes.
+/// A game in play, its picture, and the text that a key makes. The text goes to the screen when all else is done, so
+/// that a key which fails writes nothing.
 #[derive(Drop)]
 pub struct Stage<'g> {
-    alloc: Global,
-    game: SessionGame<'g>,
-    text: Screen,
+    pub(crate) alloc: Global,
+    pub(crate) game: SessionGame<'g>,
+    picture: Picture<'g>,
+    pub(crate) text: Screen,
 }
 
 impl<'g> Model for Stage<'g> {
@@ -36,6 +30,8 @@ impl<'g> Model for Stage<'g> {
     ghost Value = { StageValue };
 
     ghost view = { λ s. record { game = s.game; text = s.text } };
+
+    ghost invariant = { λ s. s.picture ≡ s.game.names };
 }
 
 impl<'g> Stage<'g> {
@@ -44,9 +40,11 @@ impl<'g> Stage<'g> {
         ensures game { result.game ≡ game.entry }
         ensures text { result.text ≡ [] }
     {
+        let picture = Picture::new(alloc, game.names());
         Stage {
             alloc,
             game,
+            picture,
             text: Screen::new(alloc),
         }
     }
@@ -58,14 +56,14 @@ impl<'g> Stage<'g> {
         &self.game
     }
 
-    /// The text.
+    /// The text that was made since it was forgotten.
     pub fn text(&self) -> &[u8]
         ensures { result.now ≡ self.now.text }
     {
         self.text.bytes()
     }
 
-    /// Forgets the text.
+    /// Forgets the text, and keeps its room for the next.
     pub fn forget_text(&mut self)
         ensures game { self.new.game ≡ self.old.game }
         ensures text { self.new.text ≡ [] }
@@ -73,16 +71,12 @@ impl<'g> Stage<'g> {
         self.text.clear();
     }
 
-    /// Adds the line that says that the player quit.
-    ///
-    /// # Errors
-    ///
-    /// `Memory`.
-    pub fn tell_quit(&mut self) -> Result<(), Memory>
-        ensures game { self.new.game ≡ self.old.game }
-        ensures told { OnOk result (self.new.text ≡ self.old.text ++ quit_line) }
+    /// The entries of the game.
+    pub fn entries(&self) -> &'g [Entry]
+        ensures entries { entries_shown result.now ≡ self.now.game.entries }
+        ensures playable { ArePlayable self.now.game.names self.now.game.entries }
     {
-        self.text.add(b"* quit\n")
+        self.game.entries()
     }
 
     /// Adds the line of the title.
@@ -94,8 +88,7 @@ impl<'g> Stage<'g> {
         ensures game { self.new.game ≡ self.old.game }
         ensures told { OnOk result (self.new.text ≡ self.old.text ++ written_line (codes "= ") self.old.game.title) }
     {
-        self.text.clear();
-        Err(Memory)
+        self.text.add_line("= ", self.game.title())
     }
 
     /// Adds a frame.
@@ -107,83 +100,18 @@ impl<'g> Stage<'g> {
         ensures game { self.new.game ≡ self.old.game }
         ensures shown { OnOk result (self.new.text ≡ self.old.text ++ frame self.old.game.names (B.grid board.now)) }
     {
-        let _ = board.layers();
-        self.text.clear();
-        Err(Memory)
+        self.picture.show(board, &mut self.text)
     }
 
-    /// An entry begins.
-    pub fn enter<B: Board, R: Rules<B>>(
-        &mut self,
-        rules: &mut Programs<R>,
-        _entry: usize,
-    ) -> Result<Place<PlayedLevel<B>>, Memory>
-        ensures came { IfOk result (λ place. after self.old.text (enter (script_for B.table_for self.old.game (R.meant rules.old.plain) (R.meant rules.old.late)) _entry) ≡ came (place_shown [] place) self.new.text) }
-        ensures table { IfOk result (λ place. IsOnTable (B.table_for self.old.game.names.layers) place) }
+    /// Adds the line of a message.
+    ///
+    /// # Errors
+    ///
+    /// `Memory`.
+    pub fn tell(&mut self, message: &str) -> Result<(), Memory>
         ensures game { self.new.game ≡ self.old.game }
-        ensures plain { R.meant rules.new.plain ≡ R.meant rules.old.plain }
-        ensures late { R.meant rules.new.late ≡ R.meant rules.old.late }
+        ensures told { OnOk result (self.new.text ≡ self.old.text ++ written_line (codes "! ") message.now) }
     {
-        self.text.clear();
-        let _ = &rules.plain;
-        Err(Memory)
-    }
-
-    /// A level restarts.
-    pub fn restart<B: Board, R: Rules<B>>(
-        &mut self,
-        rules: &mut Programs<R>,
-        level: &PlayedLevel<B>,
-        message: Option<Text>,
-    ) -> Result<Place<PlayedLevel<B>>, Memory>
-        requires { level.now.table ≡ B.table_for self.old.game.names.layers }
-        ensures came { IfOk result (λ place. (history : List Grid) → after self.old.text (restarted (script_for B.table_for self.old.game (R.meant rules.old.plain) (R.meant rules.old.late)) (play_of history level.now) message) ≡ came (place_shown history place) self.new.text) }
-        ensures table { IfOk result (λ place. IsOnTable (B.table_for self.old.game.names.layers) place) }
-        ensures game { self.new.game ≡ self.old.game }
-        ensures plain { R.meant rules.new.plain ≡ R.meant rules.old.plain }
-        ensures late { R.meant rules.new.late ≡ R.meant rules.old.late }
-    {
-        self.text.clear();
-        let _ = &rules.plain;
-        Err(Memory)
-    }
-
-    /// A level goes on behind a message.
-    pub fn go_on<B: Board, R: Rules<B>>(
-        &mut self,
-        rules: &mut Programs<R>,
-        level: &PlayedLevel<B>,
-        pending: Pending,
-    ) -> Result<Change<PlayedLevel<B>>, Memory>
-        requires { level.now.table ≡ B.table_for self.old.game.names.layers }
-        ensures came { IfOk result (λ gone. (history : List Grid) → after self.old.text (gone_on (script_for B.table_for self.old.game (R.meant rules.old.plain) (R.meant rules.old.late)) (play_of history level.now) (pending_shown pending)) ≡ came (change_shown history level.now gone) self.new.text) }
-        ensures table { IfOk result (λ change. GoesOnTable (B.table_for self.old.game.names.layers) change) }
-        ensures game { self.new.game ≡ self.old.game }
-        ensures plain { R.meant rules.new.plain ≡ R.meant rules.old.plain }
-        ensures late { R.meant rules.new.late ≡ R.meant rules.old.late }
-    {
-        self.text.clear();
-        let _ = &rules.plain;
-        Err(Memory)
-    }
-
-    /// A turn of a key.
-    pub fn take_input<B: Board, R: Rules<B>>(
-        &mut self,
-        rules: &mut Programs<R>,
-        level: &mut PlayedLevel<B>,
-        input: Input,
-    ) -> Result<Change<PlayedLevel<B>>, Memory>
-        requires { level.old.table ≡ B.table_for self.old.game.names.layers }
-        ensures came { IfOk result (λ change. (history : List Grid) → after self.old.text (input_taken (script_for B.table_for self.old.game (R.meant rules.old.plain) (R.meant rules.old.late)) (play_of history level.old) input) ≡ came (change_shown history level.old change) self.new.text) }
-        ensures same { level.new ≡ level.old }
-        ensures table { IfOk result (λ change. GoesOnTable (B.table_for self.old.game.names.layers) change) }
-        ensures game { self.new.game ≡ self.old.game }
-        ensures plain { R.meant rules.new.plain ≡ R.meant rules.old.plain }
-        ensures late { R.meant rules.new.late ≡ R.meant rules.old.late }
-    {
-        self.text.clear();
-        let _ = &rules.plain;
-        Err(Memory)
+        self.text.add_message(message)
     }
 }
