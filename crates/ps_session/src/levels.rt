@@ -18,7 +18,8 @@ use crate::nexts::{Next, next_of};
 use circular_buffer::HeapCircularBuffer;
 use ps_board::Board;
 use ps_model::{Ending, Input, Key, Memory};
-use ps_stage::{Past, Place, PlayedLevel, Programs, Rules, Stage};
+use ps_stage::{Past, Place, PlayedLevel, Stage};
+use ps_turn::{Programs, Rules};
 use std::alloc::Global;
 
 /// The end that a player asks for.

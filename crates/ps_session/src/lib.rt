@@ -16,5 +16,7 @@ mod session;
 pub use phase::Phase;
 pub use ps_board::Board;
 pub use ps_model::{Ending, Key, Memory};
-pub use ps_stage::{Programs, Rules, Screen, SessionGame};
+pub use ps_screen::Screen;
+pub use ps_stage::SessionGame;
+pub use ps_turn::{Programs, Rules};
 pub use session::Session;

@@ -15,7 +15,8 @@ use crate::levels::quits;
 use crate::nexts::{Next, next_of};
 use ps_board::Board;
 use ps_model::{Key, Memory};
-use ps_stage::{EntryNumber, Past, Pending, PlayedLevel, Programs, Rules, Stage};
+use ps_stage::{EntryNumber, Past, Pending, PlayedLevel, Stage};
+use ps_turn::{Programs, Rules};
 
 /// What a key does in a level whose message waits; nothing, where it is ignored.
 ///

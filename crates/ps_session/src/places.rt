@@ -14,7 +14,8 @@ use crate::nexts::Next;
 use circular_buffer::HeapCircularBuffer;
 use ps_board::Board;
 use ps_model::{Key, Memory};
-use ps_stage::{Place, PlayedLevel, Programs, Rules, Stage};
+use ps_stage::{Place, PlayedLevel, Stage};
+use ps_turn::{Programs, Rules};
 use std::alloc::Global;
 
 /// What a key does; nothing, where it is ignored. The place stays as it is.

@@ -13,7 +13,9 @@ use crate::places::next_at;
 use circular_buffer::HeapCircularBuffer;
 use ps_board::Board;
 use ps_model::{Ending, HISTORY_LIMIT, Key, Memory};
-use ps_stage::{Place, PlayedLevel, Programs, Rules, Screen, SessionGame, Stage};
+use ps_screen::Screen;
+use ps_stage::{Place, PlayedLevel, SessionGame, Stage};
+use ps_turn::{Programs, Rules};
 use std::alloc::Global;
 use std::marker::Model;
 
