@@ -1,12 +1,14 @@
 -- The keys that a session ignores. In a level options have some ignored; at a message all are but `x` and `q`; after the end
 -- every one is.
-use Rattle.std.specs.Prelude.{Bool, true, false}
+use Rattle.std.specs.Prelude.{◌≡◌, Bool, true, false}
 use Rattle.ps_model.specs.declared.options.Options.{Options}
 use Rattle.ps_model.specs.declared.play.Input.{Input}
 use Rattle.ps_model.specs.declared.play.Input.TheVariants.{Up, Down, Left, Right, Action}
 use Rattle.ps_model.specs.declared.play.Key.{Key}
 use Rattle.ps_model.specs.declared.play.Key.TheVariants.{Move, Undo, Restart, Quit}
-use Rattle.ps_model.specs.session.Sessions.{Session, Playing, Waiting, AtMessage, Ended}
+use Rattle.ps_model.specs.board.Turns.{Script}
+use Rattle.ps_model.specs.session.Sessions.{Session, Playing, Waiting, AtMessage, Ended, quietly}
+use Rattle.ps_model.specs.session.KeySteps.{key_step}
 
 -- a key that these options have a level ignore
 abbrev pub is_ignored_in_level : Options → Key → Bool
@@ -36,3 +38,8 @@ is_ignored options (Playing play) key = is_ignored_in_level options key
 is_ignored options (Waiting play pending) key = is_ignored_at_message key
 is_ignored options (AtMessage entry) key = is_ignored_at_message key
 is_ignored options (Ended ending) key = true
+
+-- a key that is ignored leaves the session as it is, and writes nothing
+abbrev pub IgnoredKeysDoNothing : Type 0
+IgnoredKeysDoNothing =
+    (script : Script) (session : Session) (key : Key) → is_ignored script.options session key ≡ true → key_step script session key ≡ quietly session

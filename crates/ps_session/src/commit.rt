@@ -80,8 +80,10 @@ pub fn commit<B: Board>(
 )
     requires limit { history.old.capacity ≡ HISTORY_LIMIT }
     ensures limit { history.new.capacity ≡ HISTORY_LIMIT }
-    ensures shown { place_shown (map B.grid history.new.items) place.new ≡ next_shown (map B.grid history.old.items) place.old next }
-    ensures place { (table : Option (List ℕ)) → IsOnTable table place.old → ComesOnTable table next → IsOnTable table place.new }
+    ensures shown { place_shown (map B.grid history.new.items) place.new
+        ≡ next_shown (map B.grid history.old.items) place.old next }
+    ensures place { (table : Option (List ℕ)) → IsOnTable table place.old → ComesOnTable table next
+        → IsOnTable table place.new }
     ensures boards { (table : Option (List ℕ)) → AreOnTable B.table table history.old.items → IsOnTable table place.old
         → AreOnTable B.table table history.new.items }
 {

@@ -1,7 +1,7 @@
 //! The keys that are ignored.
 
 ghost use Rattle.std.specs.Prelude.{◌≡◌};
-ghost use Rattle.ps_session.specs.IgnoredKeys.{is_ignored_in_level, is_ignored_at_message};
+ghost use Rattle.ps_session.specs.IgnoredKeys.{is_ignored_at_message, is_ignored_in_level, IgnoredKeysDoNothing};
 
 use ps_model::{Input, Key, Options};
 
@@ -27,3 +27,8 @@ pub fn is_ignored_at_message(key: Key) -> bool
         _ => true,
     }
 }
+
+/// A key that is ignored leaves the session as it is, and writes nothing.
+pub fn ignored_keys_do_nothing()
+    ensures { IgnoredKeysDoNothing }
+{}

@@ -13,6 +13,7 @@ mod phase;
 mod places;
 mod session;
 
+pub use ignored::ignored_keys_do_nothing;
 pub use phase::Phase;
 pub use ps_board::Board;
 pub use ps_model::{Ending, Key, Memory};

@@ -36,7 +36,8 @@ pub fn key_at_level_message<B: Board, R: Rules<B>>(
     ensures plain { R.meant rules.new.plain ≡ R.meant rules.old.plain }
     ensures late { R.meant rules.new.late ≡ R.meant rules.old.late }
     ensures came { IfOk result (λ next. (history : List Grid)
-        → key_at_level_message (script_for B.table_for stage.old.game (R.meant rules.old.plain) (R.meant rules.old.late))
+        → key_at_level_message
+        (script_for B.table_for stage.old.game (R.meant rules.old.plain) (R.meant rules.old.late))
         (play_of history level.now) (pending_shown pending) key
         ≡ next_step history (Waiting level.now pending) next stage.new.text) }
     ensures table { IfOk result (λ next. AnswersOnTable (B.table_for stage.old.game.names.layers) next) }

@@ -43,7 +43,8 @@ pub fn next_at<B: Board, R: Rules<B>>(
         (place_shown (map B.grid history.now.items) place.old) key
         ≡ next_step (map B.grid history.now.items) place.old next stage.new.text) }
     ensures table { IfOk result (λ next. AnswersOnTable (B.table_for stage.old.game.names.layers) next) }
-    ensures ignored { is_ignored stage.old.game.options (place_shown (map B.grid history.now.items) place.old) key ≡ true → result ≡ Ok None }
+    ensures ignored { is_ignored stage.old.game.options (place_shown (map B.grid history.now.items) place.old) key
+        ≡ true → result ≡ Ok None }
 {
     match place {
         Place::Playing(level) => key_in_level(alloc, stage, rules, level, history, key),

@@ -59,9 +59,11 @@ impl<'g, B: Board> Session<'g, B> {
     ) -> Result<Session<'g, B>, Memory>
         ensures game { IfOk result (λ session. session.game ≡ game.entry) }
         ensures session { IfOk result (λ session. session.session
-            ≡ (opening_step (script_for B.table_for game.entry (R.meant rules.old.plain) (R.meant rules.old.late))).session) }
+            ≡ (opening_step (script_for B.table_for game.entry (R.meant rules.old.plain)
+            (R.meant rules.old.late))).session) }
         ensures written { OnOk result (screen.new ≡ screen.old
-            ++ (opening_step (script_for B.table_for game.entry (R.meant rules.old.plain) (R.meant rules.old.late))).text) }
+            ++ (opening_step (script_for B.table_for game.entry (R.meant rules.old.plain)
+            (R.meant rules.old.late))).text) }
         ensures kept { OnErr result (screen.new ≡ screen.old) }
         ensures plain { R.meant rules.new.plain ≡ R.meant rules.old.plain }
         ensures late { R.meant rules.new.late ≡ R.meant rules.old.late }
@@ -79,8 +81,8 @@ impl<'g, B: Board> Session<'g, B> {
         })
     }
 
-    /// Does what a key does, and adds its text to the screen. A key that is ignored, or that comes after the end, changes
-    /// nothing and takes no memory.
+    /// Does what a key does, and adds its text to the screen. A key that is ignored, or that comes after the end,
+    /// changes nothing and takes no memory.
     ///
     /// # Errors
     ///
@@ -93,9 +95,11 @@ impl<'g, B: Board> Session<'g, B> {
     ) -> Result<(), Memory>
         ensures game { self.new.game ≡ self.old.game }
         ensures session { OnOk result (self.new.session
-            ≡ (key_step (script_for B.table_for self.old.game (R.meant rules.old.plain) (R.meant rules.old.late)) self.old.session key).session) }
+            ≡ (key_step (script_for B.table_for self.old.game (R.meant rules.old.plain) (R.meant rules.old.late))
+            self.old.session key).session) }
         ensures written { OnOk result (screen.new ≡ screen.old
-            ++ (key_step (script_for B.table_for self.old.game (R.meant rules.old.plain) (R.meant rules.old.late)) self.old.session key).text) }
+            ++ (key_step (script_for B.table_for self.old.game (R.meant rules.old.plain) (R.meant rules.old.late))
+            self.old.session key).text) }
         ensures same { OnErr result (self.new ≡ self.old) }
         ensures kept { OnErr result (screen.new ≡ screen.old) }
         ensures ignored { is_ignored self.old.game.options self.old.session key ≡ true → IsOk result }
