@@ -1,5 +1,5 @@
 mod Dismissed
 mod Heeded
-mod Ignored
+mod IgnoredSteps
 mod Opened
 mod Remembered
