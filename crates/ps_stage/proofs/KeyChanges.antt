@@ -1,11 +1,10 @@
 -- A turn of a key by the level that a done turn leads to.
-use Rattle.std.proofs.Common.{◌≡◌, ◌∙◌, ℕ, List, Bool, true, false, refl, sym, ap}
-use Rattle.std.specs.Prelude.{if◌then◌else◌}
+use Rattle.std.proofs.Common.{◌≡◌, ◌∙◌, List, Bool, true, false, refl, sym, ap}
 use Rattle.ps_model.specs.declared.limits.TheConstants.{AGAIN_LIMIT}
 use Rattle.ps_model.specs.board.Grid.{Grid}
 use Rattle.ps_model.specs.board.Turns.{Script, Finished}
 use Rattle.ps_model.specs.session.Frames.{frame}
-use Rattle.ps_model.specs.session.Sessions.{Play, Step, after, with_turn}
+use Rattle.ps_model.specs.session.Sessions.{Play, after, with_turn}
 use Rattle.ps_model.specs.session.KeySteps.{key_told, all_key_turns, remembered_if, turn_taken}
 use Rattle.ps_turn.specs.States.{done_shown}
 use Rattle.ps_turn.specs.declared.outcomes.DoneTurn.{DoneTurn}

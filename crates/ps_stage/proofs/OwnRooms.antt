@@ -1,11 +1,10 @@
 -- Objects that have room on their layers, as names list these.
-use Rattle.std.proofs.Common.{◌≡◌, ◌∙◌, ◌<◌, ℕ, Bool, true, List, Option, length, get_or, sym, ap, subst}
+use Rattle.std.proofs.Common.{◌≡◌, ◌∙◌, ◌<◌, ℕ, List, Option, length, get_or, sym, ap, subst}
 use Rattle.std.proofs.lemmas.List.{get_or-map, length-map}
 use Rattle.std.proofs.lemmas.Option.{slice_get-get_or}
-use Rattle.ps_model.specs.declared.pieces.ObjectId.{ObjectId}
 use Rattle.ps_model.specs.declared.pieces.LayerId.{LayerId}
-use Rattle.ps_model.specs.names.Names.{Names, layer_of, object_count}
-use Rattle.ps_board.specs.Rooms.{HasRoom, HaveRoom, has_room}
+use Rattle.ps_model.specs.names.Names.{Names, layer_of}
+use Rattle.ps_board.specs.Rooms.{HasRoom, HaveRoom}
 use Rattle.ps_names.specs.NamesShown.{layer_numbers_shown}
 use Rattle.ps_stage.specs.Playable.{HaveOwnRoom}
 

@@ -1,11 +1,10 @@
 -- What turns of a key tell, as steps and outcomes of the definitions.
-use Rattle.std.specs.Prelude.{ℕ, List, Option, ◌≡◌, ⊤}
+use Rattle.std.specs.Prelude.{ℕ, List, ◌≡◌, ⊤}
 use Rattle.ps_model.specs.board.Turns as model
 use Rattle.ps_model.specs.board.Turns.{Script}
 use Rattle.ps_model.specs.session.Sessions.{Play, Step, after}
 use Rattle.ps_model.specs.session.StartSteps.{level_done, restarted}
 use Rattle.ps_turn.specs.States.{done_shown}
-use Rattle.ps_turn.specs.declared.outcomes.DoneTurn.{DoneTurn}
 use Rattle.ps_stage.specs.Standings.{Standing, with_done}
 use Rattle.ps_stage.specs.StepsShown.{came, stands}
 use Rattle.ps_stage.specs.declared.places.KeyEnd.{KeyEnd}

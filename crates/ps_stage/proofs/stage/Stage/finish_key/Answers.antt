@@ -1,10 +1,10 @@
-use Rattle.std.proofs.Common.{◌≡◌, ◌∙◌, List, ap}
+use Rattle.std.proofs.Common.{◌∙◌, List, ap}
 use Rattle.ps_model.specs.board.Grid.{Grid}
 use Rattle.ps_model.specs.board.Turns.{Script}
 use Rattle.ps_stage.specs.declared.places.KeyEnd.{KeyEnd}
 use Rattle.ps_stage.specs.KeysShown.{key_end_step}
 use Rattle.ps_stage.specs.Places.{past_of}
-use Rattle.ps_stage.specs.Standings.{Standing, script_for, play_of}
+use Rattle.ps_stage.specs.Standings.{script_for, play_of}
 use Rattle.ps_stage.proofs.stage.Stage.finish_key.Goals as goal
 
 pub returns-in_ok-place-in-Won-clause-came : goal.returns-in_ok-place-in-Won-clause-came
