@@ -1,6 +1,7 @@
 //! A game with the text that is made on the side.
 
 ghost use Rattle.std.specs.Prelude.{◌≡◌, ◌++◌, [], OnOk, IfOk, codes};
+ghost use Rattle.ps_model.specs.game.Outputs.{quit_line};
 ghost use Rattle.ps_model.specs.session.Frames.{frame, written_line};
 ghost use Rattle.ps_levels.specs.EntriesShown.{entries_shown};
 ghost use Rattle.ps_stage.specs.Playable.{ArePlayable};
@@ -89,6 +90,18 @@ impl<'g> Stage<'g> {
         ensures told { OnOk result (self.new.text ≡ self.old.text ++ written_line (codes "= ") self.old.game.title) }
     {
         self.text.add_line("= ", self.game.title())
+    }
+
+    /// Adds the line that says that the player quit.
+    ///
+    /// # Errors
+    ///
+    /// `Memory`.
+    pub fn tell_quit(&mut self) -> Result<(), Memory>
+        ensures game { self.new.game ≡ self.old.game }
+        ensures told { OnOk result (self.new.text ≡ self.old.text ++ quit_line) }
+    {
+        self.text.add(b"* quit\n")
     }
 
     /// Adds a frame.
