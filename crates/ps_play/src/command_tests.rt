@@ -1,19 +1,40 @@
 //! Command lines and what they ask for, and the sentences of faults.
 
 use crate::explanations::explanation;
-use crate::{Asked, Stop, read_command};
+use crate::command::{Asked, read_command};
+use crate::stops::Stop;
 use std::process::Abort;
 use std::test::Fail;
 
 /// The words of a command line that asks for something, and what they ask for.
-const LINES: [(&[&str], Asked<'static>); 3] = [
-    (&["ps_play", "a.game"], Asked::Game("a.game")),
-    (&["ps_play", "--", "--explain"], Asked::Game("--explain")),
+const LINES: [(&[&str], Asked<'static>); 8] = [
+    (&["ps_play", "a.game"], Asked::Play("a.game")),
+    (&["ps_play", "--", "--explain"], Asked::Play("--explain")),
+    (
+        &["ps_play", "a.game", "--keys", "a.keys"],
+        Asked::PlayFrom("a.game", "a.keys"),
+    ),
+    (
+        &["ps_play", "--keys=a.keys", "a.game"],
+        Asked::PlayFrom("a.game", "a.keys"),
+    ),
+    (&["ps_play", "a.game", "--check"], Asked::Check("a.game")),
+    (&["ps_play", "--check", "a.game"], Asked::Check("a.game")),
+    (
+        &["ps_play", "a.game", "--keys", "a.keys", "--check"],
+        Asked::Check("a.game"),
+    ),
     (&["ps_play", "--explain", "RU7"], Asked::Explanation("RU7")),
 ];
 
 /// The words of command lines that aren't right, or ask for help or the version.
-const OTHER_LINES: [&[&str]; 7] = [
+const OTHER_LINES: [&[&str]; 13] = [
+    &["ps_play", "--check"],
+    &["ps_play", "--keys", "a.keys"],
+    &["ps_play", "a.game", "--keys"],
+    &["ps_play", "a.game", "--check", "--check"],
+    &["ps_play", "a.game", "--keys", "a.keys", "--keys", "a.keys"],
+    &["ps_play", "--explain", "RU7", "--check"],
     &["ps_play"],
     &["ps_play", "a.game", "b.game"],
     &["ps_play", "--explain"],
