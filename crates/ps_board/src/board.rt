@@ -92,7 +92,4 @@ pub trait Board: Drop {
         requires table { table other.old ≡ table self.now }
         ensures grid { grid other.new ≡ grid self.now }
         ensures table { table other.new ≡ table self.now };
-
-    /// Each object may stand on its own layer, by the table of a board for a game's layers.
-    ghost room: { (layers : List LayerId) → HaveRoom (table_for (layer_numbers layers)) layers };
 }

@@ -219,6 +219,4 @@ mod tests {
         assert_eq!(rt; other.motion(1, LayerId(0)), PUSHED);
         Ok(())
     }
-
-    ghost room = { λ layers object layer e. refl };
 }
