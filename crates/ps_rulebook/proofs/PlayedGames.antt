@@ -1,5 +1,5 @@
 -- A game that is played by its compiled programs has the runs of the game as it is written.
-use Rattle.std.proofs.Common.{◌≡◌, ℕ, Option, Some, List, [], ◌∷◌, map, refl, sym, subst, ap}
+use Rattle.std.proofs.Common.{◌≡◌, ℕ, Option, List, [], ◌∷◌, map, refl, sym, subst, ap}
 use Rattle.std.specs.Prelude.{All}
 use Rattle.ps_model.specs.declared.pieces.LayerId.{LayerId}
 use Rattle.ps_model.specs.declared.rules.Part.{Part}
@@ -9,7 +9,6 @@ use Rattle.ps_model.specs.rules.SourceRules.{RuleLine}
 use Rattle.ps_model.specs.meaning.GameRules.{IsLineOf}
 use Rattle.ps_model.specs.board.Programs.{Section}
 use Rattle.ps_model.specs.board.RulePrograms.{program_of}
-use Rattle.ps_model.specs.game.Games.{Game, game}
 use Rattle.ps_laws.specs.AlikeScripts.{RunAlike}
 use Rattle.ps_laws.specs.ShortRows.{IsShortLine}
 use Rattle.ps_laws.proofs.texts.GamesOfTexts.{game-rules}

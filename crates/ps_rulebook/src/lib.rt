@@ -4,11 +4,13 @@
 //! is written, on each kind of board that gives every object room on its own layer.
 #![tactic(auto)]
 
+mod boards;
 mod game_rules;
 mod laws;
 mod programs;
 mod queues;
 
+pub use boards::{GameBoard, gives_room};
 pub use game_rules::GameRules;
 pub use laws::games_play_as_written;
 pub use programs::rules_of;

@@ -17,7 +17,7 @@ use std::alloc::Global;
 pub fn rules_of<'r>(alloc: Global, programs: &'r CompiledPrograms<'r>) -> Programs<GameRules<'r>>
     ensures { (names : Names) (lines : List RuleLine)
         → AreCompiled names lines programs.entry.now.plain programs.entry.now.late
-        → PlayAsWritten names lines result.plain result.late }
+        → PlayAsWritten names lines result.plain.sections.now result.late.sections.now }
 {
     Programs {
         plain: GameRules::new(alloc, &programs.plain),
