@@ -171,7 +171,7 @@ impl<B: Board> PlayedLevel<B> {
     /// # Errors
     ///
     /// `Memory`.
-    pub fn load(
+    pub(crate) fn load(
         alloc: Global,
         names: &Names,
         entry: EntryNumber,
@@ -225,7 +225,7 @@ impl<B: Board> PlayedLevel<B> {
     /// # Errors
     ///
     /// `Memory`.
-    pub fn restarted(&self, alloc: Global) -> Result<PlayedLevel<B>, Memory>
+    pub(crate) fn restarted(&self, alloc: Global) -> Result<PlayedLevel<B>, Memory>
         ensures entry { IfOk result (λ copy. copy.entry ≡ self.now.entry) }
         ensures table { IfOk result (λ copy. copy.table ≡ self.now.table) }
         ensures board { IfOk result (λ copy. copy.board ≡ self.now.target) }
@@ -263,7 +263,7 @@ impl<B: Board> PlayedLevel<B> {
     /// # Errors
     ///
     /// `Memory`, and the level is as before or behind the turn, but for its checkpoint.
-    pub fn take_turn<R: Rules<B>>(
+    pub(crate) fn take_turn<R: Rules<B>>(
         &mut self,
         alloc: Global,
         game: &SessionGame<'_>,
@@ -303,7 +303,7 @@ impl<B: Board> PlayedLevel<B> {
     /// # Errors
     ///
     /// `Memory`.
-    pub fn try_turn<R: Rules<B>>(
+    pub(crate) fn try_turn<R: Rules<B>>(
         &mut self,
         alloc: Global,
         game: &SessionGame<'_>,

@@ -73,7 +73,7 @@ impl<'g> Stage<'g> {
     }
 
     /// The entries of the game.
-    pub fn entries(&self) -> &'g [Entry]
+    pub(crate) fn entries(&self) -> &'g [Entry]
         ensures entries { entries_shown result.now ≡ self.now.game.entries }
         ensures playable { ArePlayable self.now.game.names self.now.game.entries }
     {
@@ -121,7 +121,7 @@ impl<'g> Stage<'g> {
     /// # Errors
     ///
     /// `Memory`.
-    pub fn tell(&mut self, message: &str) -> Result<(), Memory>
+    pub(crate) fn tell(&mut self, message: &str) -> Result<(), Memory>
         ensures game { self.new.game ≡ self.old.game }
         ensures told { OnOk result (self.new.text ≡ self.old.text ++ written_line (codes "! ") message.now) }
     {
