@@ -15,3 +15,4 @@ pub mod ReadingInPieces
 pub mod SessionSteps
 pub mod Sliding
 pub mod AgainTurns
+pub mod RunsNotAllowed
