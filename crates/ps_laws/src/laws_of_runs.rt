@@ -67,7 +67,8 @@ pub fn ends_of_output()
 {}
 
 /// Runs that aren't allowed, whatever the game: calls of the reader behind the ending, behind its end, too many or too
-/// long; answers that tell of a failure that wasn't, or don't tell of one that was; and writing what isn't to be written.
+/// long; answers that tell of a failure that wasn't, or don't tell of one that was; and writing what isn't to be
+/// written.
 pub fn runs_not_allowed()
     ensures no_call_behind_ending { NoCallBehindEnding }
     ensures no_read_fault_behind_ending { NoReadFaultBehindEnding }
