@@ -19,6 +19,8 @@ mod screen;
 mod session;
 mod turn;
 
+ghost use Rattle.std.specs.Prelude.{◌≡◌, false};
+
 use clap::error::ErrorKind;
 use clap::{Arg, ArgAction, Command};
 use explanations::explanation;
@@ -119,7 +121,10 @@ fn play<R: Env + Files + AllocGlobal + Print, I: ByteReader, O: ByteWriter>(
     rt: &R,
     keys: &mut I,
     screen: &mut O,
-) -> Result<(), Stop> {
+) -> Result<(), Stop>
+    requires keys { I.has_failed keys.old ≡ false }
+    requires screen { O.has_failed screen.old ≡ false }
+{
     let words = env::args(rt)
         .map_err(|error| stop_for(error, Stop::NotText))?
         .collect::<Vec<String>>(rt.alloc())

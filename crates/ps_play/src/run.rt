@@ -1,7 +1,7 @@
 //! A run: a game's text and the keys in, the frames out.
 
 ghost use Rattle.std.specs.Prelude.{◌≡◌, ◌≢◌, ◌+◌, ◌≤◌, ◌++◌, ◌∷◌, ◌⊎◌, [], IfOk, IfErr, IfSome, OnOk, OnErr};
-ghost use Rattle.std.specs.Prelude.{IsSome, IsErrOf, List, ℕ, true};
+ghost use Rattle.std.specs.Prelude.{IsSome, IsErrOf, List, ℕ, true, false};
 ghost use Rattle.ps_model.specs.declared.limits.TheConstants.{READ_LIMIT};
 ghost use Rattle.ps_model.specs.game.PlainGames.{plain_game};
 ghost use Rattle.ps_model.specs.board.Levels.{loaded};
@@ -69,7 +69,7 @@ impl From<Refusal> for RunFault {
 /// message that was dismissed.
 ///
 /// The opening is written before the first key is read, and the text of each key of a piece before the next piece is
-/// read. At most `CALL_LIMIT` bytes are asked for at a time.
+/// read. At most `CALL_LIMIT` bytes are asked for at a time. Neither device may have failed before.
 ///
 /// # Errors
 ///
@@ -82,6 +82,8 @@ pub fn run<R: ByteReader, W: ByteWriter>(
     reader: &mut R,
     writer: &mut W,
 ) -> Result<Ending, RunFault>
+    requires reads { R.has_failed reader.old ≡ false }
+    requires writes { W.has_failed writer.old ≡ false }
     ensures accepted { OnOk result (IsSome (plain_game game.now)) }
     ensures refused { IfErr result (λ fault. IsRefusal game.now fault) }
     ensures unread { (fault : Fault) → result ≡ Err (RunFault.Refused fault) → reader.new ≡ reader.old }
@@ -122,7 +124,9 @@ fn play_game<R: ByteReader, W: ByteWriter>(
     reader: &mut R,
     writer: &mut W,
 ) -> Result<Ending, RunFault>
-    requires { IsPlayable game.now.names game.now.level }
+    requires playable { IsPlayable game.now.names game.now.level }
+    requires reads { R.has_failed reader.old ≡ false }
+    requires writes { W.has_failed writer.old ≡ false }
     ensures calls { R.calls reader.new ≤ R.calls reader.old + READ_LIMIT }
     ensures reads { result ≢ Err RunFault.Read → R.has_failed reader.new ≡ R.has_failed reader.old }
     ensures unheard { result ≡ Err RunFault.Read
@@ -148,6 +152,8 @@ fn play<B: Board, R: ByteReader, W: ByteWriter>(
     reader: &mut R,
     writer: &mut W,
 ) -> Result<Ending, RunFault>
+    requires reads { R.has_failed reader.old ≡ false }
+    requires writes { W.has_failed writer.old ≡ false }
     ensures calls { R.calls reader.new ≤ R.calls reader.old + READ_LIMIT }
     ensures reads { result ≢ Err RunFault.Read → R.has_failed reader.new ≡ R.has_failed reader.old }
     ensures unheard { result ≡ Err RunFault.Read
@@ -183,6 +189,7 @@ fn play_piece<B: Board, W: ByteWriter>(
     screen: &mut Screen,
     writer: &mut W,
 ) -> Result<Option<Ending>, RunFault>
+    requires writes { W.has_failed writer.old ≡ false }
     ensures writes { result ≢ Err RunFault.Write → W.has_failed writer.new ≡ W.has_failed writer.old }
     ensures stopped { result ≡ Err RunFault.Write → W.has_failed writer.new ≡ true }
     ensures well { IfErr result IsWriterFault }
@@ -206,6 +213,7 @@ fn play_byte<B: Board, W: ByteWriter>(
     screen: &mut Screen,
     writer: &mut W,
 ) -> Result<Option<Ending>, RunFault>
+    requires writes { W.has_failed writer.old ≡ false }
     ensures writes { result ≢ Err RunFault.Write → W.has_failed writer.new ≡ W.has_failed writer.old }
     ensures stopped { result ≡ Err RunFault.Write → W.has_failed writer.new ≡ true }
     ensures well { IfErr result IsWriterFault }
@@ -225,6 +233,7 @@ fn play_byte<B: Board, W: ByteWriter>(
 
 /// Writes that the keys have ended.
 fn write_end_of_keys<W: ByteWriter>(screen: &mut Screen, writer: &mut W) -> Result<(), RunFault>
+    requires writes { W.has_failed writer.old ≡ false }
     ensures writes { result ≢ Err RunFault.Write → W.has_failed writer.new ≡ W.has_failed writer.old }
     ensures stopped { result ≡ Err RunFault.Write → W.has_failed writer.new ≡ true }
     ensures well { IfErr result IsWriterFault }
@@ -237,6 +246,7 @@ fn write_end_of_keys<W: ByteWriter>(screen: &mut Screen, writer: &mut W) -> Resu
 
 /// Writes what the screen has.
 fn write_screen<W: ByteWriter>(screen: &Screen, writer: &mut W) -> Result<(), RunFault>
+    requires writes { W.has_failed writer.old ≡ false }
     ensures written { OnOk result (Grows (W.contents writer.old) (W.contents writer.new) screen.now) }
     ensures writes { OnOk result (W.has_failed writer.new ≡ W.has_failed writer.old) }
     ensures stopped { OnErr result (W.has_failed writer.new ≡ true) }
