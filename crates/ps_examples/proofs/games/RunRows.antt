@@ -1,15 +1,13 @@
 -- Whole runs that are right, worked by hand: the reader gives a byte at a call, or all that it has; the writer takes all,
 -- or fails within a frame; memory is refused before anything is written, or behind a frame.
-use Rattle.std.proofs.Common.{◌≡◌, ℕ, ◌≤◌, ◌⊎◌, inl, inr, List, [], ◌∷◌, ◌++◌, refl, Option, Some, true, false, arith}
+use Rattle.std.proofs.Common.{◌≡◌, ℕ, inl, inr, List, [], ◌∷◌, refl, Some, true, false, arith}
 use Rattle.std.specs.Prelude.{codes}
 use Rattle.std.specs.Str.{chars, is_utf8}
 use Rattle.std.specs.Str.Lossy.{utf8_valid_len}
 use Rattle.std.specs.Fmt.{digits}
-use Rattle.std.specs.List.{All}
 use Rattle.std.proofs.Math.Utf8.{encode}
 use Rattle.std.proofs.lemmas.List.Elements.{All-from_recursion}
 use Rattle.ps_model.specs.declared.play.Ending.TheVariants.{Quit, EndOfKeys}
-use Rattle.ps_model.specs.declared.faults.Fault.{Fault}
 use Rattle.ps_model.specs.declared.faults.FaultKind.TheVariants as kind
 use Rattle.ps_model.specs.board.Turns.{Script, script_of, turn}
 use Rattle.ps_model.specs.board.Programs.{group, program_run}
@@ -18,7 +16,7 @@ use Rattle.ps_model.specs.session.KeySteps.{all_key_turns}
 use Rattle.ps_model.specs.text.Lines.{lines_of}
 use Rattle.ps_model.specs.game.Games.{game_read}
 use Rattle.ps_model.specs.game.Outputs.{opening_step}
-use Rattle.ps_model.specs.game.Tellings.{Gives, Fails, Unasked, Asked, Told}
+use Rattle.ps_model.specs.game.Tellings.{Gives, Fails, Unasked, Asked}
 use Rattle.ps_model.specs.game.Headline.{Ends, Refuses, WantsMemory, CannotRead, CannotWrite, Answers, IsPiece, script_of_text}
 use Rattle.ps_examples.proofs.games.BaseText.{base_text}
 
