@@ -12,8 +12,8 @@ use ps_model::CALL_LIMIT;
 use std::io::{Read, Write};
 
 /// A reader or a writer of std's. It can't tell which bytes the system gave or took, and tells the rest: its
-/// failure, the number of its calls and what the last one gave. One call of it is one call of the stream, also where the
-/// stream moves less than it might or fails.
+/// failure, the number of its calls and what the last one gave. One call of it is one call of the stream, also where
+/// the stream moves less than it might or fails.
 #[derive(Drop)]
 pub struct FromStd<T> {
     stream: Stream<T>,
@@ -43,8 +43,8 @@ impl<T: Read + Drop> ByteReader for FromStd<T> {
     ghost calls = { λ device. device.stream.calls };
 
     /// One read of the stream, of as many bytes as `buffer` has room for and `CALL_LIMIT` allows: what it gives goes
-    /// into `buffer`, and nothing of it is lost. std doesn't say that a read leaves the rest of its buffer alone, so the
-    /// stream reads into a piece of its own.
+    /// into `buffer`, and nothing of it is lost. std doesn't say that a read leaves the rest of its buffer alone, so
+    /// the stream reads into a piece of its own.
     fn read_some(&mut self, buffer: &mut [u8]) -> Result<usize, Failed>
         requires well { self.old.stream.failed ≡ false }
         ensures count { IfOk result (λ count. count ≤ length buffer.old) }

@@ -59,7 +59,8 @@ impl<T: Drop> Stream<T> {
 }
 
 impl<T: Read + Drop> Stream<T> {
-    /// One read of the stream into `piece`. Whatever error the stream answers, an interruption among them, is a failure.
+    /// One read of the stream into `piece`. Whatever error the stream answers, an interruption among them, is a
+    /// failure.
     pub(super) fn read_once(&mut self, piece: &mut [u8]) -> Result<usize, Failed>
         requires well { self.old.failed ≡ false }
         ensures count { IfOk result (λ count. count ≤ length piece.old) }
@@ -92,8 +93,8 @@ impl<T: Read + Drop> Stream<T> {
 }
 
 impl<T: Write + Drop> Stream<T> {
-    /// One write of a front of `bytes`. Whatever error the stream answers, an interruption among them, is a failure, and
-    /// so is taking nothing of some bytes.
+    /// One write of a front of `bytes`. Whatever error the stream answers, an interruption among them, is a failure,
+    /// and so is taking nothing of some bytes.
     pub(super) fn write_once(&mut self, bytes: &[u8]) -> Result<usize, Failed>
         requires well { self.old.failed ≡ false }
         ensures count { IfOk result (λ count. count ≤ length bytes.now) }

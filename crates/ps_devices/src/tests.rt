@@ -125,7 +125,8 @@ fn interrupted_calls_have_failed(rt: HostRuntime) {
     }
 }
 
-/// A stream that gives one byte at its first read, two at its second and so on, or takes at most as many as a pipe does.
+/// A stream that gives one byte at its first read, two at its second and so on, or takes at most as many as a pipe
+/// does.
 #[derive(Drop)]
 struct Pipe {
     calls: usize,

@@ -19,3 +19,4 @@ pub mod Sliding
 pub mod AgainTurns
 pub mod SessionBoards
 pub mod AlikeScripts
+pub mod RunsNotAllowed

@@ -33,7 +33,8 @@ pub use laws_of_rules::{
     alike_programs, alike_rounds, equal_meanings, idle_rules, settling, turning_round,
 };
 pub use laws_of_runs::{
-    ends_of_output, fronts_of_output, held_bytes, keys_in_pieces, one_game, readings_by_stages,
+    answers_of_texts, ends_of_output, fronts_of_output, held_bytes, keys_in_pieces, one_game,
+    readings_by_stages, runs_not_allowed,
 };
 pub use laws_of_sessions::{
     again_turns, alike_scripts, session_boards, session_steps, session_texts,
