@@ -1,0 +1,137 @@
+-- What bytes do, one after the other.
+use Rattle.std.proofs.Common.{◌≡◌, ◌∙◌, ℕ, zero, suc, ◌+◌, ◌<◌, ◌≤◌, List, [], ◌∷◌, ◌++◌, length, take, drop, get_or, Option, Some, None, refl, sym, ap, append_assoc, append-nil, arith, Result, Ok, Err}
+use Rattle.std.specs.Prelude.{OnOk, IfErr}
+use Rattle.std.proofs.lemmas.Grind.{common_steps}
+use Rattle.std.proofs.lemmas.List.{take-append-drop}
+use Rattle.ps_model.specs.declared.held.Held.{Held}
+use Rattle.ps_model.specs.declared.play.Key.{Key}
+use Rattle.ps_model.specs.board.Turns.{Script}
+use Rattle.ps_model.specs.session.HeldKeys as keys
+use Rattle.ps_model.specs.session.Sessions.{Session}
+use Rattle.ps_model.specs.session.KeySteps.{key_step}
+use Rattle.ps_model.specs.session.Keys.{keys_of}
+use Rattle.ps_model.specs.game.Headline.{IsFront}
+use Rattle.ps_model.specs.game.Outputs.{texts_of_keys}
+use Rattle.ps_laws.specs.Fronts.{session_of, whole_front}
+use Rattle.ps_laws.proofs.keys.Fronts.{front_in_pieces}
+use Rattle.ps_laws.proofs.keys.KeysInPieces.{read_byte_by_byte}
+use Rattle.ps_laws.proofs.sessions.SessionSteps.{silent_bytes, keys_write}
+use Rattle.ps_devices.specs.Devices.{Grows}
+use Rattle.ps_devices.proofs.Pieces.{grows_twice}
+use Rattle.ps_run.specs.declared.faults.PieceFault.{PieceFault}
+use Rattle.ps_run.specs.declared.faults.PieceFault.TheVariants.{Memory, Write}
+use Rattle.ps_run.specs.Played.{HavePlayed, StopsAs, StopsAtText}
+
+-- a byte that brings no key
+pub silent_byte :
+    (script : Script) (before now : Option (List ℕ)) (session : Session) (kept : Held) (read : List ℕ) (byte : ℕ) → keys.key_behind kept byte ≡ None →
+    HavePlayed script before now session kept read →
+    HavePlayed script before now session (keys.held_behind kept byte) (read ++ byte ∷ [])
+silent_byte script before now session kept read byte none played =
+    let quiet = silent_bytes script read byte kept played.held none in
+    record {
+      session = played.session ∙ sym quiet.1;
+      held = (read_byte_by_byte read byte kept played.held).1;
+      wrote = rw quiet.0 played.wrote;
+    }
+
+-- a byte that brings a key
+pub key_byte :
+    (script : Script) (before now later : Option (List ℕ)) (session next : Session) (kept : Held) (read : List ℕ) (byte : ℕ) (key : Key) → keys.key_behind kept byte ≡ Some key →
+    next ≡ (key_step script session key).session → Grows now later (key_step script session key).text →
+    HavePlayed script before now session kept read →
+    HavePlayed script before later next (keys.held_behind kept byte) (read ++ byte ∷ [])
+key_byte script before now later session next kept read byte key brings steps grows played =
+    let wrote = keys_write script read byte kept key played.held brings in
+    let same : key_step script session key ≡ key_step script (session_of script read) key = ap (λ s. key_step script s key) played.session in
+    record {
+      session = steps ∙ ap (λ (s : Session). (key_step script s key).session) played.session ∙ sym wrote.1;
+      held = (read_byte_by_byte read byte kept played.held).1;
+      wrote = grows_twice before now later (whole_front script read) (key_step script session key).text (whole_front script (read ++ byte ∷ [])) played.wrote grows
+          (wrote.0 ∙ ap (λ (s : Session). whole_front script read ++ (key_step script s key).text) (sym played.session));
+    }
+
+-- a byte whose key isn't written
+pub byte_stops :
+    (fault : PieceFault) (script : Script) (before now later : Option (List ℕ)) (session : Session) (kept : Held) (read : List ℕ) (byte : ℕ) (key : Key) → keys.key_behind kept byte ≡ Some key →
+    StopsAtText fault now later (key_step script session key).text →
+    HavePlayed script before now session kept read →
+    StopsAs fault script before later read (byte ∷ [])
+byte_stops Memory script before now later session kept read byte key brings stops played = record {
+  count = 0;
+  wrote = rw (append-nil read, stops) played.wrote;
+}
+byte_stops Write script before now later session kept read byte key brings (taken, front, grows) played =
+    let wrote = keys_write script read byte kept key played.held brings in
+    let whole : whole_front script (read ++ byte ∷ []) ≡ whole_front script read ++ (taken ++ front.0) =
+    wrote.0 ∙ ap (λ (s : Session). whole_front script read ++ (key_step script s key).text) (sym played.session) ∙ ap (λ text. whole_front script read ++ text) front.1 in
+    record {
+      taken = whole_front script read ++ taken;
+      wrote = grows_twice before now later (whole_front script read) taken (whole_front script read ++ taken) played.wrote grows refl;
+      whole_before = (taken, refl);
+      front = (front.0, whole ∙ sym (append_assoc (whole_front script read) taken front.0));
+    }
+
+-- what is written for bytes is a front of what is written for more
+pub front_of_piece : (script : Script) (first second : List ℕ) → IsFront (whole_front script first) (whole_front script (first ++ second))
+front_of_piece script first second =
+    (texts_of_keys script (session_of script first) (keys_of (keys.held first ++ second)), (front_in_pieces script first second).0)
+
+front_twice : (a b c : List ℕ) → IsFront a b → IsFront b c → IsFront a c
+front_twice a b c (x, e) (y, d) = (x ++ y, d ∙ ap (λ z. z ++ y) e ∙ append_assoc a x y)
+
+-- the bytes before one, and that one
+pub bytes_to : (bytes : List ℕ) (i : ℕ) → i < length bytes → take (i + 1) bytes ≡ take i bytes ++ get_or bytes i 0 ∷ []
+bytes_to bytes i within = grind (arith, common_steps)
+
+-- behind the bytes of a piece up to one, and that one
+pub piece_to : (read piece : List ℕ) (i : ℕ) → i < length piece → (read ++ take i piece) ++ get_or piece i 0 ∷ [] ≡ read ++ take (i + 1) piece
+piece_to read piece i within = append_assoc read (take i piece) (get_or piece i 0 ∷ []) ∙ ap (λ bytes. read ++ bytes) (sym (bytes_to piece i within))
+
+-- a part of one more byte of a piece is a part of the piece
+part_of_piece : (read piece : List ℕ) (i count : ℕ) → i < length piece → (upto : ℕ) × ((read ++ take i piece) ++ take count (get_or piece i 0 ∷ []) ≡ read ++ take upto piece)
+part_of_piece read piece i zero within = (i, append-nil (read ++ take i piece))
+part_of_piece read piece i (suc count) within = (i + 1, ap (λ bytes. (read ++ take i piece) ++ bytes) (one_byte count (get_or piece i 0)) ∙ piece_to read piece i within)
+  where
+    one_byte : (count byte : ℕ) → take (suc count) (byte ∷ []) ≡ byte ∷ []
+    one_byte zero byte = refl
+    one_byte (suc count) byte = refl
+
+-- a piece that stops at one of its bytes
+pub piece_stops :
+    (fault : PieceFault) (script : Script) (before now : Option (List ℕ)) (read piece : List ℕ) (i : ℕ) → i < length piece →
+    StopsAs fault script before now (read ++ take i piece) (get_or piece i 0 ∷ []) → StopsAs fault script before now read piece
+piece_stops Memory script before now read piece i within stops =
+    let part = part_of_piece read piece i stops.count within in
+    record {
+      count = part.0;
+      wrote = rw (← part.1) stops.wrote;
+    }
+piece_stops Write script before now read piece i within stops =
+    let rest : (read ++ take (i + 1) piece) ++ drop (i + 1) piece ≡ read ++ piece =
+    append_assoc read (take (i + 1) piece) (drop (i + 1) piece) ∙ ap (λ bytes. read ++ bytes) (take-append-drop (i + 1) piece) in
+    let upto : IsFront stops.taken (whole_front script (read ++ take (i + 1) piece)) = rw (← piece_to read piece i within) stops.front in
+    let behind : IsFront (whole_front script (read ++ take (i + 1) piece)) (whole_front script (read ++ piece)) =
+    rw (← rest) (front_of_piece script (read ++ take (i + 1) piece) (drop (i + 1) piece)) in
+    record {
+      taken = stops.taken;
+      wrote = stops.wrote;
+      whole_before = front_twice _ _ _ (front_of_piece script read (take i piece)) stops.whole_before;
+      front = front_twice _ _ _ upto behind;
+    }
+
+-- a writer that failed has taken a front of the text
+pub written_front :
+    (old new : Option (List ℕ)) (bytes text : List ℕ) → bytes ≡ text → (count : ℕ) × (count ≤ length bytes) × Grows old new (take count bytes) →
+    (taken : List ℕ) × IsFront taken text × Grows old new taken
+written_front old new bytes text same (count, within, grows) = (take count bytes, (drop count bytes, sym same ∙ sym (take-append-drop count bytes)), grows)
+
+-- what follows from two facts of a result that is Ok
+pub if_ok : {A E : Type 0} {P Q R : Type 0} (result : Result A E) → (P → Q → R) → OnOk result P → OnOk result Q → OnOk result R
+if_ok (Ok value) follows p q = follows p q
+if_ok (Err error) follows p q = tt
+
+-- what follows from a fact of an error
+pub if_err : {A E : Type 0} {P Q : E → Type 0} (result : Result A E) → ((error : E) → P error → Q error) → IfErr result P → IfErr result Q
+if_err (Ok value) follows p = tt
+if_err (Err error) follows p = follows error p

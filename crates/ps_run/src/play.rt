@@ -1,0 +1,110 @@
+//! A game in play: its keys byte by byte, and piece by piece.
+
+ghost use Rattle.std.specs.Prelude.{◌≡◌, ◌++◌, ◌∷◌, [], IfErr, OnOk, Option, List, ℕ, Err, true, ◌≢◌};
+ghost use Rattle.ps_model.specs.session.KeySteps.{key_step};
+ghost use Rattle.ps_devices.specs.Devices.{Grows};
+ghost use Rattle.ps_run.specs.Played.{HavePlayed, StopsAs, StopsAtText, script_on};
+
+use crate::faults::PieceFault;
+use ps_board::Board;
+use ps_devices::{ByteWriter, write_whole};
+use ps_keys::Keys;
+use ps_model::Key;
+use ps_screen::Screen;
+use ps_session::Session;
+use ps_turn::{Programs, Rules};
+
+/// A game in play: its session and its rules, what is held of an arrow that has begun, and the text that is made next.
+#[derive(Drop)]
+pub struct Play<'g, B: Board, R> {
+    pub session: Session<'g, B>,
+    pub rules: Programs<R>,
+    pub keys: Keys,
+    pub screen: Screen,
+}
+
+/// Writes what the screen has.
+fn write_screen<W: ByteWriter>(screen: &Screen, writer: &mut W) -> Result<(), PieceFault>
+    ensures written { OnOk result (Grows (W.contents writer.old) (W.contents writer.new) screen.now) }
+    ensures stops { IfErr result (λ fault. StopsAtText fault (W.contents writer.old) (W.contents writer.new) screen.now) }
+    ensures well { result ≢ Err PieceFault.Write → W.has_failed writer.new ≡ W.has_failed writer.old }
+    ensures told { result ≡ Err PieceFault.Write → W.has_failed writer.new ≡ true }
+{
+    match write_whole(screen.bytes(), writer) {
+        Ok(()) => Ok(()),
+        Err(_) => Err(PieceFault::Write),
+    }
+}
+
+impl<'g, B: Board, R: Rules<B> + Drop> Play<'g, B, R> {
+    /// Plays a key: makes its text whole, and then writes it.
+    fn play_key<W: ByteWriter>(&mut self, key: Key, writer: &mut W) -> Result<(), PieceFault>
+        ensures game { self.new.session.game ≡ self.old.session.game }
+        ensures plain { R.meant self.new.rules.plain ≡ R.meant self.old.rules.plain }
+        ensures late { R.meant self.new.rules.late ≡ R.meant self.old.rules.late }
+        ensures keys { self.new.keys ≡ self.old.keys }
+        ensures session { let script = script_on self.old.session.game B.table_for (R.meant self.old.rules.plain) (R.meant self.old.rules.late) in
+            OnOk result (self.new.session.session ≡ (key_step script self.old.session.session key).session) }
+        ensures written { let script = script_on self.old.session.game B.table_for (R.meant self.old.rules.plain) (R.meant self.old.rules.late) in
+            OnOk result (Grows (W.contents writer.old) (W.contents writer.new) (key_step script self.old.session.session key).text) }
+        ensures stops { let script = script_on self.old.session.game B.table_for (R.meant self.old.rules.plain) (R.meant self.old.rules.late) in
+            IfErr result (λ fault. StopsAtText fault (W.contents writer.old) (W.contents writer.new)
+            (key_step script self.old.session.session key).text) }
+        ensures well { result ≢ Err PieceFault.Write → W.has_failed writer.new ≡ W.has_failed writer.old }
+        ensures told { result ≡ Err PieceFault.Write → W.has_failed writer.new ≡ true }
+    {
+        self.screen.clear();
+        self.session.key(&mut self.rules, key, &mut self.screen)?;
+        write_screen(&self.screen, writer)
+    }
+
+    /// Plays the key of a byte, if it brings one behind what is held.
+    fn play_byte<W: ByteWriter>(&mut self, byte: u8, writer: &mut W) -> Result<(), PieceFault>
+        ensures game { self.new.session.game ≡ self.old.session.game }
+        ensures plain { R.meant self.new.rules.plain ≡ R.meant self.old.rules.plain }
+        ensures late { R.meant self.new.rules.late ≡ R.meant self.old.rules.late }
+        ensures played { let script = script_on self.old.session.game B.table_for (R.meant self.old.rules.plain) (R.meant self.old.rules.late) in
+            OnOk result ((before : Option (List ℕ)) (read : List ℕ)
+            → HavePlayed script before (W.contents writer.old) self.old.session.session self.old.keys read
+            → HavePlayed script before (W.contents writer.new) self.new.session.session self.new.keys (read ++ byte ∷ [])) }
+        ensures stops { let script = script_on self.old.session.game B.table_for (R.meant self.old.rules.plain) (R.meant self.old.rules.late) in
+            IfErr result (λ fault. (before : Option (List ℕ)) (read : List ℕ)
+            → HavePlayed script before (W.contents writer.old) self.old.session.session self.old.keys read
+            → StopsAs fault script before (W.contents writer.new) read (byte ∷ [])) }
+        ensures well { result ≢ Err PieceFault.Write → W.has_failed writer.new ≡ W.has_failed writer.old }
+        ensures told { result ≡ Err PieceFault.Write → W.has_failed writer.new ≡ true }
+    {
+        match self.keys.next(byte) {
+            None => Ok(()),
+            Some(key) => self.play_key(key, writer),
+        }
+    }
+
+    /// Plays the keys of a piece of bytes. Behind the end of the game they do nothing.
+    ///
+    /// # Errors
+    ///
+    /// `Memory` where a growth was refused, and the texts of the keys before are written; `Write` where the writer failed.
+    pub fn play_piece<W: ByteWriter>(&mut self, piece: &[u8], writer: &mut W) -> Result<(), PieceFault>
+        ensures game { self.new.session.game ≡ self.old.session.game }
+        ensures plain { R.meant self.new.rules.plain ≡ R.meant self.old.rules.plain }
+        ensures late { R.meant self.new.rules.late ≡ R.meant self.old.rules.late }
+        ensures played { let script = script_on self.old.session.game B.table_for (R.meant self.old.rules.plain) (R.meant self.old.rules.late) in
+            OnOk result ((before : Option (List ℕ)) (read : List ℕ)
+            → HavePlayed script before (W.contents writer.old) self.old.session.session self.old.keys read
+            → HavePlayed script before (W.contents writer.new) self.new.session.session self.new.keys (read ++ piece.now)) }
+        ensures stops { let script = script_on self.old.session.game B.table_for (R.meant self.old.rules.plain) (R.meant self.old.rules.late) in
+            IfErr result (λ fault. (before : Option (List ℕ)) (read : List ℕ)
+            → HavePlayed script before (W.contents writer.old) self.old.session.session self.old.keys read
+            → StopsAs fault script before (W.contents writer.new) read piece.now) }
+        ensures well { result ≢ Err PieceFault.Write → W.has_failed writer.new ≡ W.has_failed writer.old }
+        ensures told { result ≡ Err PieceFault.Write → W.has_failed writer.new ≡ true }
+    {
+        for byte in piece {
+            if let Err(fault) = self.play_byte(*byte, writer) {
+                return Err(fault);
+            }
+        }
+        Ok(())
+    }
+}

@@ -1,0 +1,2 @@
+pub mod Playable
+pub mod Standings
