@@ -15,3 +15,5 @@ pub mod ReadingInPieces
 pub mod SessionSteps
 pub mod Sliding
 pub mod AgainTurns
+pub mod SessionBoards
+pub mod AlikeScripts

@@ -34,5 +34,7 @@ pub use laws_of_rules::{
 pub use laws_of_runs::{
     ends_of_output, fronts_of_output, held_bytes, keys_in_pieces, one_game, readings_by_stages,
 };
-pub use laws_of_sessions::{again_turns, session_steps, session_texts};
+pub use laws_of_sessions::{
+    again_turns, alike_scripts, session_boards, session_steps, session_texts,
+};
 pub use laws_of_sides::{rules_keep_sides, turns_keep_sides};
