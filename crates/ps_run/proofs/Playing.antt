@@ -1,6 +1,7 @@
 -- What bytes do, one after the other.
-use Rattle.std.proofs.Common.{◌≡◌, ◌∙◌, ℕ, zero, suc, ◌+◌, ◌<◌, ◌≤◌, List, [], ◌∷◌, ◌++◌, length, take, drop, get_or, Option, Some, None, refl, sym, ap, append_assoc, append-nil, arith, Result, Ok, Err}
+use Rattle.std.proofs.Common.{◌≡◌, ◌∙◌, ℕ, zero, suc, ◌+◌, ◌<◌, ◌≤◌, inl, inr, false, true, List, [], ◌∷◌, ◌++◌, length, take, drop, get_or, Option, Some, None, refl, sym, ap, append_assoc, append-nil, arith, Result, Ok, Err}
 use Rattle.std.specs.Prelude.{OnOk, IfErr}
+use Rattle.std.proofs.lemmas.Bool.{cases_lt}
 use Rattle.std.proofs.lemmas.Grind.{common_steps}
 use Rattle.std.proofs.lemmas.List.{take-append-drop}
 use Rattle.ps_model.specs.declared.held.Held.{Held}
@@ -77,7 +78,7 @@ pub front_of_piece : (script : Script) (first second : List ℕ) → IsFront (wh
 front_of_piece script first second =
     (texts_of_keys script (session_of script first) (keys_of (keys.held first ++ second)), (front_in_pieces script first second).0)
 
-front_twice : (a b c : List ℕ) → IsFront a b → IsFront b c → IsFront a c
+pub front_twice : (a b c : List ℕ) → IsFront a b → IsFront b c → IsFront a c
 front_twice a b c (x, e) (y, d) = (x ++ y, d ∙ ap (λ z. z ++ y) e ∙ append_assoc a x y)
 
 -- the bytes before one, and that one
@@ -122,9 +123,9 @@ piece_stops Write script before now read piece i within stops =
 
 -- a writer that failed has taken a front of the text
 pub written_front :
-    (old new : Option (List ℕ)) (bytes text : List ℕ) → bytes ≡ text → (count : ℕ) × (count ≤ length bytes) × Grows old new (take count bytes) →
+    (old new : Option (List ℕ)) (bytes text : List ℕ) (count : ℕ) → bytes ≡ text → Grows old new (take count bytes) →
     (taken : List ℕ) × IsFront taken text × Grows old new taken
-written_front old new bytes text same (count, within, grows) = (take count bytes, (drop count bytes, sym same ∙ sym (take-append-drop count bytes)), grows)
+written_front old new bytes text count same grows = (take count bytes, (drop count bytes, sym same ∙ sym (take-append-drop count bytes)), grows)
 
 -- what follows from two facts of a result that is Ok
 pub if_ok : {A E : Type 0} {P Q R : Type 0} (result : Result A E) → (P → Q → R) → OnOk result P → OnOk result Q → OnOk result R
@@ -135,3 +136,7 @@ if_ok (Err error) follows p q = tt
 pub if_err : {A E : Type 0} {P Q : E → Type 0} (result : Result A E) → ((error : E) → P error → Q error) → IfErr result P → IfErr result Q
 if_err (Ok value) follows p = tt
 if_err (Err error) follows p = follows error p
+
+-- a call that a device counts
+pub one_call : (old new most : ℕ) → (old < most → new ≡ old + 1) → (most ≤ old → false ≡ true) → new ≡ old + 1
+one_call old new most counted worn = elim (cases_lt old most) [ inl below ↦ counted below | inr above ↦ (let e : false ≡ true = worn above in cc) ]

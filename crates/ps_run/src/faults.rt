@@ -1,6 +1,7 @@
 //! Why a run stops.
 
 ghost use Rattle.std.specs.Prelude.{◌≡◌};
+ghost use Rattle.ps_run.specs.Faults.{run_fault_of};
 
 use ps_model::{Fault, Memory, Refusal};
 use thiserror::Error;
@@ -51,16 +52,13 @@ impl From<Memory> for PieceFault {
     }
 }
 
-impl From<PieceFault> for RunFault {
-    ghost use Rattle.ps_run.specs.Faults.{run_fault_of};
-
-    ghost from_gives = { λ stop fault. fault ≡ run_fault_of stop };
-
-    fn from(stop: PieceFault) -> RunFault {
-        match stop {
-            PieceFault::Memory => RunFault::Memory,
-            PieceFault::Write => RunFault::Write,
-        }
+/// The fault of a run that stops in a piece.
+pub fn fault_of_piece(fault: PieceFault) -> RunFault
+    ensures { result ≡ run_fault_of fault }
+{
+    match fault {
+        PieceFault::Memory => RunFault::Memory,
+        PieceFault::Write => RunFault::Write,
     }
 }
 

@@ -1,15 +1,17 @@
 //! A game in play: its keys byte by byte, and piece by piece.
 
-ghost use Rattle.std.specs.Prelude.{◌≡◌, ◌++◌, ◌∷◌, [], IfErr, OnOk, Option, List, ℕ, Err, true, ◌≢◌};
+ghost use Rattle.std.specs.Prelude.{◌≡◌, ◌++◌, ◌∷◌, [], IfErr, OnOk, Option, List, ℕ, Err, false, true, ◌≢◌};
 ghost use Rattle.ps_model.specs.session.KeySteps.{key_step};
 ghost use Rattle.ps_devices.specs.Devices.{Grows};
+ghost use Rattle.ps_model.specs.game.Outputs.{end_of_keys_line};
+ghost use Rattle.ps_run.specs.Runs.{Comes};
 ghost use Rattle.ps_run.specs.Played.{HavePlayed, StopsAs, StopsAtText, script_on};
 
-use crate::faults::PieceFault;
+use crate::faults::{PieceFault, RunFault, fault_of_piece};
 use ps_board::Board;
-use ps_devices::{ByteWriter, write_whole};
+use ps_devices::{ByteReader, ByteWriter, write_whole};
 use ps_keys::Keys;
-use ps_model::Key;
+use ps_model::{CALL_LIMIT, Ending, Key, READ_LIMIT};
 use ps_screen::Screen;
 use ps_session::Session;
 use ps_turn::{Programs, Rules};
@@ -25,9 +27,10 @@ pub struct Play<'g, B: Board, R> {
 
 /// Writes what the screen has.
 fn write_screen<W: ByteWriter>(screen: &Screen, writer: &mut W) -> Result<(), PieceFault>
+    requires { W.has_failed writer.old ≡ false }
     ensures written { OnOk result (Grows (W.contents writer.old) (W.contents writer.new) screen.now) }
     ensures stops { IfErr result (λ fault. StopsAtText fault (W.contents writer.old) (W.contents writer.new) screen.now) }
-    ensures well { result ≢ Err PieceFault.Write → W.has_failed writer.new ≡ W.has_failed writer.old }
+    ensures well { result ≢ Err PieceFault.Write → W.has_failed writer.new ≡ false }
     ensures told { result ≡ Err PieceFault.Write → W.has_failed writer.new ≡ true }
 {
     match write_whole(screen.bytes(), writer) {
@@ -39,6 +42,7 @@ fn write_screen<W: ByteWriter>(screen: &Screen, writer: &mut W) -> Result<(), Pi
 impl<'g, B: Board, R: Rules<B> + Drop> Play<'g, B, R> {
     /// Plays a key: makes its text whole, and then writes it.
     fn play_key<W: ByteWriter>(&mut self, key: Key, writer: &mut W) -> Result<(), PieceFault>
+        requires { W.has_failed writer.old ≡ false }
         ensures game { self.new.session.game ≡ self.old.session.game }
         ensures plain { R.meant self.new.rules.plain ≡ R.meant self.old.rules.plain }
         ensures late { R.meant self.new.rules.late ≡ R.meant self.old.rules.late }
@@ -50,7 +54,7 @@ impl<'g, B: Board, R: Rules<B> + Drop> Play<'g, B, R> {
         ensures stops { let script = script_on self.old.session.game B.table_for (R.meant self.old.rules.plain) (R.meant self.old.rules.late) in
             IfErr result (λ fault. StopsAtText fault (W.contents writer.old) (W.contents writer.new)
             (key_step script self.old.session.session key).text) }
-        ensures well { result ≢ Err PieceFault.Write → W.has_failed writer.new ≡ W.has_failed writer.old }
+        ensures well { result ≢ Err PieceFault.Write → W.has_failed writer.new ≡ false }
         ensures told { result ≡ Err PieceFault.Write → W.has_failed writer.new ≡ true }
     {
         self.screen.clear();
@@ -60,6 +64,7 @@ impl<'g, B: Board, R: Rules<B> + Drop> Play<'g, B, R> {
 
     /// Plays the key of a byte, if it brings one behind what is held.
     fn play_byte<W: ByteWriter>(&mut self, byte: u8, writer: &mut W) -> Result<(), PieceFault>
+        requires { W.has_failed writer.old ≡ false }
         ensures game { self.new.session.game ≡ self.old.session.game }
         ensures plain { R.meant self.new.rules.plain ≡ R.meant self.old.rules.plain }
         ensures late { R.meant self.new.rules.late ≡ R.meant self.old.rules.late }
@@ -71,7 +76,7 @@ impl<'g, B: Board, R: Rules<B> + Drop> Play<'g, B, R> {
             IfErr result (λ fault. (before : Option (List ℕ)) (read : List ℕ)
             → HavePlayed script before (W.contents writer.old) self.old.session.session self.old.keys read
             → StopsAs fault script before (W.contents writer.new) read (byte ∷ [])) }
-        ensures well { result ≢ Err PieceFault.Write → W.has_failed writer.new ≡ W.has_failed writer.old }
+        ensures well { result ≢ Err PieceFault.Write → W.has_failed writer.new ≡ false }
         ensures told { result ≡ Err PieceFault.Write → W.has_failed writer.new ≡ true }
     {
         match self.keys.next(byte) {
@@ -86,6 +91,7 @@ impl<'g, B: Board, R: Rules<B> + Drop> Play<'g, B, R> {
     ///
     /// `Memory` where a growth was refused, and the texts of the keys before are written; `Write` where the writer failed.
     pub fn play_piece<W: ByteWriter>(&mut self, piece: &[u8], writer: &mut W) -> Result<(), PieceFault>
+        requires { W.has_failed writer.old ≡ false }
         ensures game { self.new.session.game ≡ self.old.session.game }
         ensures plain { R.meant self.new.rules.plain ≡ R.meant self.old.rules.plain }
         ensures late { R.meant self.new.rules.late ≡ R.meant self.old.rules.late }
@@ -97,7 +103,7 @@ impl<'g, B: Board, R: Rules<B> + Drop> Play<'g, B, R> {
             IfErr result (λ fault. (before : Option (List ℕ)) (read : List ℕ)
             → HavePlayed script before (W.contents writer.old) self.old.session.session self.old.keys read
             → StopsAs fault script before (W.contents writer.new) read piece.now) }
-        ensures well { result ≢ Err PieceFault.Write → W.has_failed writer.new ≡ W.has_failed writer.old }
+        ensures well { result ≢ Err PieceFault.Write → W.has_failed writer.new ≡ false }
         ensures told { result ≡ Err PieceFault.Write → W.has_failed writer.new ≡ true }
     {
         for byte in piece {
@@ -106,5 +112,64 @@ impl<'g, B: Board, R: Rules<B> + Drop> Play<'g, B, R> {
             }
         }
         Ok(())
+    }
+
+    /// Writes that the keys have ended.
+    fn end_keys<W: ByteWriter>(&mut self, writer: &mut W) -> Result<(), PieceFault>
+        requires { W.has_failed writer.old ≡ false }
+        ensures written { OnOk result (Grows (W.contents writer.old) (W.contents writer.new) end_of_keys_line) }
+        ensures stops { IfErr result (λ fault.
+            StopsAtText fault (W.contents writer.old) (W.contents writer.new) end_of_keys_line) }
+        ensures well { result ≢ Err PieceFault.Write → W.has_failed writer.new ≡ false }
+        ensures told { result ≡ Err PieceFault.Write → W.has_failed writer.new ≡ true }
+    {
+        self.screen.clear();
+        self.screen.add_line("* end of keys", "")?;
+        write_screen(&self.screen, writer)
+    }
+
+    /// Plays the keys of a reader to an ending, where nothing is read yet: a piece at a time, at most `CALL_LIMIT` bytes,
+    /// and the text of each key of a piece is written before the next piece is asked for. Behind the end of the game
+    /// nothing more is asked for.
+    ///
+    /// # Errors
+    ///
+    /// `Memory` where a growth was refused, `Read` where the reader failed or gave something `READ_LIMIT` times and the game
+    /// hasn't ended, `Write` where the writer failed. No device is called after its failure.
+    pub fn play<I: ByteReader, W: ByteWriter>(&mut self, reader: &mut I, writer: &mut W) -> Result<Ending, RunFault>
+        requires heard { I.has_failed reader.old ≡ false }
+        requires well { W.has_failed writer.old ≡ false }
+        ensures heard { result ≢ Err RunFault.Read → I.has_failed reader.new ≡ false }
+        ensures well { result ≢ Err RunFault.Write → W.has_failed writer.new ≡ false }
+        ensures told { result ≡ Err RunFault.Write → W.has_failed writer.new ≡ true }
+        ensures answers { let script = script_on self.old.session.game B.table_for (R.meant self.old.rules.plain) (R.meant self.old.rules.late) in
+            (before : Option (List ℕ))
+            → HavePlayed script before (W.contents writer.old) self.old.session.session self.old.keys []
+            → Comes script (I.remaining reader.old) (I.remaining reader.new) (I.calls reader.old) (I.calls reader.new)
+            (I.last reader.new) (I.has_failed reader.new) before (W.contents writer.new) result }
+    {
+        let mut buffer = [0u8; CALL_LIMIT];
+        for _call in 0..READ_LIMIT {
+            if let Some(ending) = self.session.ending() {
+                return Ok(ending);
+            }
+            let Ok(count) = reader.read_some(&mut buffer) else {
+                return Err(RunFault::Read);
+            };
+            if count == 0 {
+                return match self.end_keys(writer) {
+                    Ok(()) => Ok(Ending::EndOfKeys),
+                    Err(fault) => Err(fault_of_piece(fault)),
+                };
+            }
+            let (piece, _) = buffer.split_at(count);
+            if let Err(fault) = self.play_piece(piece, writer) {
+                return Err(fault_of_piece(fault));
+            }
+        }
+        match self.session.ending() {
+            Some(ending) => Ok(ending),
+            None => Err(RunFault::Read),
+        }
     }
 }
