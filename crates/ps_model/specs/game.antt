@@ -1,5 +1,6 @@
 pub mod Games
 pub mod Outputs
+pub mod Tellings
 pub mod Headline
 pub mod PlainGames
 pub mod PlainOutput
