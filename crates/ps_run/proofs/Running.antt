@@ -1,212 +1,204 @@
 -- How the calls of a run add up to its answer.
-use Rattle.std.proofs.Common.{◌≡◌, ◌∙◌, ℕ, ◌+◌, ◌<◌, ◌≤◌, inl, inr, true, List, [], ◌∷◌, ◌++◌, length, take, Option, Some, None, refl, sym, ap, append_assoc, append-nil, arith, Result, Ok, Err, Bool}
+use Rattle.std.proofs.Common.{◌≡◌, ◌∙◌, ◌⊎◌, ℕ, ◌+◌, ◌<◌, ◌≤◌, inl, inr, false, true, List, [], ◌∷◌, ◌++◌, length, take, Option, Some, None, refl, sym, ap, append_assoc, append-nil, arith, Ok, Err}
+use Rattle.std.specs.List.{concat}
 use Rattle.std.proofs.lemmas.Bool.{cases_lt}
-use Rattle.ps_model.specs.declared.limits.TheConstants.{READ_LIMIT}
+use Rattle.std.proofs.lemmas.List.{length-append}
+use Rattle.ps_model.specs.declared.limits.TheConstants.{READ_LIMIT, CALL_LIMIT}
 use Rattle.ps_model.specs.declared.held.Held.{Held}
 use Rattle.ps_model.specs.declared.play.Ending.{Ending}
 use Rattle.ps_model.specs.declared.play.Ending.TheVariants.{EndOfKeys}
 use Rattle.ps_model.specs.board.Turns.{Script}
 use Rattle.ps_model.specs.session.Sessions.{Session}
-use Rattle.ps_model.specs.game.Headline.{IsFront}
+use Rattle.ps_model.specs.game.Headline.{IsFront, IsCutOff, IsPiece, GoesOn, AsksInTurn, texts_of}
 use Rattle.ps_model.specs.game.Outputs.{Output, ending_of, output, end_of_keys_line}
+use Rattle.ps_model.specs.game.Tellings.{ReaderState, WriterState, Gives, Fails, Reading, Unasked, Asked, read, last_behind, most_calls}
 use Rattle.ps_laws.specs.Fronts.{session_of, whole_front}
-use Rattle.ps_laws.proofs.keys.Fronts.{output_of_unended, front_of_more}
-use Rattle.ps_devices.specs.Devices.{Grows, Loses, IsSpent}
-use Rattle.ps_devices.proofs.Pieces.{grows_twice, loses_twice}
+use Rattle.ps_laws.proofs.keys.Endings.{ends_otherwise}
+use Rattle.ps_laws.proofs.keys.Fronts.{output_of_ended, output_of_unended, output_once_ended}
+use Rattle.ps_devices.specs.Devices.{Loses, IsSpent}
+use Rattle.ps_devices.proofs.Pieces.{loses_twice}
 use Rattle.ps_run.specs.Faults.{run_fault_of}
 use Rattle.ps_run.specs.declared.faults.PieceFault.{PieceFault}
 use Rattle.ps_run.specs.declared.faults.PieceFault.TheVariants as piece
-use Rattle.ps_run.specs.declared.faults.RunFault.{RunFault}
-use Rattle.ps_run.specs.declared.faults.RunFault.TheVariants.{Memory, Read, Write}
-use Rattle.ps_run.specs.Played.{HavePlayed, StopsAs, StopsAtText}
-use Rattle.ps_run.specs.Runs.{HasRead, StopsAtReader, Comes}
-use Rattle.ps_run.proofs.Playing.{front_twice}
+use Rattle.ps_run.specs.declared.faults.RunFault.TheVariants as fault
+use Rattle.ps_run.specs.Played.{HavePlayed, HasTaken, StopsAs, StopsAtText}
+use Rattle.ps_run.specs.Runs.{HasAsked, IsAsked, Stands, Comes, call_count}
+use Rattle.ps_run.proofs.Playing.{taken_twice, taken_and_failed, taken_no_more, cut_off_behind, front_of_piece}
+use Rattle.ps_run.proofs.Telling as tells
 
--- a reader that hasn't been called
-pub no_call : (script : Script) (had : Option (List ℕ)) (calls last : ℕ) → HasRead script had had calls calls last 0
-no_call script had calls last = record {
-  earlier = [];
-  piece = [];
-  given = nothing had;
+nothing_given : (mid left : Option (List ℕ)) → left ≡ mid → Loses mid left []
+nothing_given None left same = rw same refl
+nothing_given (Some known) left same = rw same refl
+
+-- nothing is asked for yet
+pub none_asked :
+    (script : Script) (had : ReaderState) (before now : WriterState) (session : Session) (kept : Held) → HavePlayed script before now session kept [] →
+    Stands script had had before now session kept 0
+none_asked script had before now session kept played = record {
+  reading = Unasked;
+  is_asked = tt;
+  counted = refl;
+  given = nothing_given had.remaining had.remaining refl;
   calls = omega arith;
-  last_gave = λ below. absurd (omega arith);
-  none_gave = λ none. refl;
-  went_on = λ below. absurd (omega arith);
+  last = refl;
+  played = played;
 }
-  where
-    nothing : (had : Option (List ℕ)) → Loses had had []
-    nothing None = refl
-    nothing (Some known) = refl
-
--- a call more, which gave a piece
-pub one_more :
-    (script : Script) (had mid left : Option (List ℕ)) (before calls behind last last_behind count : ℕ) (piece : List ℕ) (reads : HasRead script had mid before calls last count) →
-    Loses mid left piece → behind ≡ calls + 1 → last_behind ≡ length piece → ending_of (session_of script (reads.earlier ++ reads.piece)) ≡ None →
-    HasRead script had left before behind last_behind (count + 1)
-one_more script had mid left before calls behind last last_behind count piece reads gives counted gave unended =
-    let so_far : calls ≡ before + count = reads.calls in
-    record {
-      earlier = reads.earlier ++ reads.piece;
-      piece = piece;
-      given = loses_twice had mid left (reads.earlier ++ reads.piece) piece reads.given gives;
-      calls = omega arith;
-      last_gave = λ some. gave;
-      none_gave = λ none. absurd (omega arith);
-      went_on = λ some. unended;
-    }
 
 -- the session of the bytes read hasn't ended
-pub unended : (script : Script) (before now : Option (List ℕ)) (session : Session) (kept : Held) (read : List ℕ) → HavePlayed script before now session kept read →
-    ending_of session ≡ None → ending_of (session_of script read) ≡ None
-unended script before now session kept read played e = ap ending_of (sym played.session) ∙ e
+pub unended :
+    (script : Script) (before now : WriterState) (session : Session) (kept : Held) (bytes : List ℕ) → HavePlayed script before now session kept bytes → ending_of session ≡ None →
+    ending_of (session_of script bytes) ≡ None
+unended script before now session kept bytes played e = ap ending_of (sym played.session) ∙ e
 
--- the game has ended before another call
+-- the game has ended, and no more is asked for
 pub ended_before :
-    (script : Script) (had left before now : Option (List ℕ)) (session : Session) (kept : Held) (calls_before calls last count : ℕ) (failed : Bool) (ending : Ending) →
-    count ≤ READ_LIMIT → (reads : HasRead script had left calls_before calls last count) → HavePlayed script before now session kept (reads.earlier ++ reads.piece) →
-    ending_of session ≡ Some ending → Comes script had left calls_before calls last failed before now (Ok ending)
-ended_before script had left before now session kept calls_before calls last count failed ending few reads played e = record {
-  count = count;
-  few = few;
-  reads = reads;
-  writes = inl (record { ended = ap ending_of (sym played.session) ∙ e; wrote = played.wrote });
-}
-
--- the last call that is allowed is behind
-pub limit_reached :
-    (script : Script) (had left before now : Option (List ℕ)) (session : Session) (kept : Held) (calls_before calls last count : ℕ) (failed : Bool) →
-    count ≡ READ_LIMIT → (reads : HasRead script had left calls_before calls last count) → 0 < length reads.piece → HavePlayed script before now session kept (reads.earlier ++ reads.piece) →
-    ending_of session ≡ None → Comes script had left calls_before calls last failed before now (Err Read)
-limit_reached script had left before now session kept calls_before calls last count failed all reads some played e = record {
-  count = count;
-  few = omega arith;
-  reads = reads;
-  writes = record {
-    cause = inr (all, some);
-    unended = ap ending_of (sym played.session) ∙ e;
-    wrote = played.wrote;
-  };
-}
-
--- a call that failed; a device that can't count further doesn't count it
-pub call_failed :
-    (script : Script) (had mid left before now : Option (List ℕ)) (session : Session) (kept : Held) (calls_before calls behind last last_behind count most : ℕ) (failed : Bool) →
-    count < READ_LIMIT → (reads : HasRead script had mid calls_before calls last count) → HavePlayed script before now session kept (reads.earlier ++ reads.piece) →
-    ending_of session ≡ None → left ≡ mid → (calls < most → behind ≡ calls + 1) → (most ≤ calls → behind ≡ calls) → last_behind ≡ 0 → failed ≡ true →
-    Comes script had left calls_before behind last_behind failed before now (Err Read)
-call_failed script had mid left before now session kept calls_before calls behind last last_behind count most failed few reads played e same counted held gave told =
-    elim (cases_lt calls most) [
-      | inl below ↦ record {
-        count = count + 1;
-        few = omega arith;
-        reads = one_more script had mid left calls_before calls behind last last_behind count [] reads (nothing mid left same) (counted below) gave (ap ending_of (sym played.session) ∙ e);
-        writes = stopped;
-      }
-      | inr above ↦ record {
-        count = count;
-        few = omega arith;
-        reads = record {
-          earlier = reads.earlier ++ reads.piece;
-          piece = [];
-          given = loses_twice had mid left (reads.earlier ++ reads.piece) [] reads.given (nothing mid left same);
-          calls = held above ∙ reads.calls;
-          last_gave = λ some. gave;
-          none_gave = λ none. append-nil (reads.earlier ++ reads.piece) ∙ reads.none_gave none;
-          went_on = λ some. ap ending_of (sym played.session) ∙ e;
-        };
-        writes = stopped;
-      }
-    ]
-  where
-    nothing : (mid left : Option (List ℕ)) → left ≡ mid → Loses mid left []
-    nothing None left same = rw same refl
-    nothing (Some known) left same = rw same refl
-    stopped : StopsAtReader script before now ((reads.earlier ++ reads.piece) ++ []) [] _ failed
-    stopped = record {
-      cause = inl told;
-      unended = rw (append-nil (reads.earlier ++ reads.piece)) (ap ending_of (sym played.session) ∙ e);
-      wrote = rw (append-nil (reads.earlier ++ reads.piece)) played.wrote;
+    (script : Script) (had has : ReaderState) (before now : WriterState) (session : Session) (kept : Held) (count : ℕ) (ending : Ending) →
+    had.has_failed ≡ false → has.has_failed ≡ false → now.has_failed ≡ false → (stands : Stands script had has before now session kept count) → ending_of session ≡ Some ending →
+    Comes script had has before now (Ok ending)
+ended_before script had has before now session kept count ending was_well is_well writer_well stands e =
+    let bytes : List ℕ = read stands.reading in
+    let left : List ℕ = tells.left_of has.remaining in
+    let ended : ending_of (session_of script bytes) ≡ Some ending = ap ending_of (sym stands.played.session) ∙ e in
+    let whole : output script (bytes ++ left) ≡ record { written = whole_front script bytes; ending = ending } = output_once_ended script bytes left ending ended in
+    let some_calls : now.calls ≤ before.calls + length (whole_front script bytes) = stands.played.wrote.1 in
+    record {
+      told = tells.told_of stands.reading has.remaining (whole_front script bytes) false;
+      tells = tells.tells_of had has before now stands.reading (whole_front script bytes) false was_well (is_well ∙ sym (tells.is_well script stands.reading stands.is_asked)) stands.given stands.last
+          (tells.counts_so_far script had.calls has.calls count stands.reading stands.is_asked stands.counted stands.calls) stands.played.was_well writer_well stands.played.wrote.0 (omega arith);
+      is_so = record {
+        reads = tells.asked_so_far script stands.reading left stands.is_asked;
+        reader_is_well = tells.is_well script stands.reading stands.is_asked;
+        writer_is_well = refl;
+        ending_is = ap (λ (out : Output). out.ending) whole;
+        wrote = ap (λ (out : Output). out.written) (sym whole);
+        brought = ap (λ (out : Output). out.ending) (output_of_ended script bytes ending ended);
+        silent = λ end. absurd (ends_otherwise script bytes (ended ∙ ap Some end));
+      };
     }
+
+-- a call failed; a device that can count no more doesn't count it
+pub call_failed :
+    (script : Script) (had mid has : ReaderState) (before now : WriterState) (session : Session) (kept : Held) (count : ℕ) →
+    had.has_failed ≡ false → now.has_failed ≡ false → count < READ_LIMIT → (stands : Stands script had mid before now session kept count) → ending_of session ≡ None →
+    has.has_failed ≡ true → has.remaining ≡ mid.remaining → has.last ≡ 0 → (mid.calls < most_calls → has.calls ≡ mid.calls + 1) → (most_calls ≤ mid.calls → has.calls ≡ mid.calls) →
+    Comes script had has before now (Err fault.Read)
+call_failed script had mid has before now session kept count was_well writer_well few stands e told same last counted held =
+    let bytes : List ℕ = read stands.reading in
+    let pieces : List (List ℕ) = tells.pieces_of stands.reading in
+    let on : GoesOn script bytes = tells.goes_on script bytes (unended script before now session kept bytes stands.played e) in
+    let joined : concat pieces ++ [] ≡ bytes = append-nil (concat pieces) ∙ tells.concat_pieces script stands.reading stands.is_asked in
+    let some_calls : now.calls ≤ before.calls + length (whole_front script bytes) = stands.played.wrote.1 in
+    let long : length pieces ≡ count = tells.count_pieces script stands.reading stands.is_asked ∙ stands.counted in
+    let so_far : mid.calls ≡ had.calls + count = stands.calls in
+    let counts : (has.calls ≡ had.calls + (length pieces + 1)) ⊎ ((most_calls ≤ has.calls) × (has.calls ≡ had.calls + length pieces)) =
+    elim (cases_lt mid.calls most_calls) [
+      | inl below ↦ inl (let more : has.calls ≡ mid.calls + 1 = counted below in rw long (rw more (rw so_far (append_one had.calls count))))
+      | inr above ↦ inr (let stays : has.calls ≡ mid.calls = held above in (rw stays above, rw long (stays ∙ so_far)))
+    ] in
+    record {
+      told = tells.told_of (Asked pieces Fails) has.remaining (whole_front script bytes) false;
+      tells = tells.tells_of had has before now (Asked pieces Fails) (whole_front script bytes) false was_well told
+          (rw joined (rw same stands.given)) last counts stands.played.was_well writer_well stands.played.wrote.0 (omega arith);
+      is_so = record {
+        reads = tells.asks script stands.reading Fails (tells.left_of has.remaining) stands.is_asked on (rw stands.counted few) (omega arith) (λ none. cc);
+        writer_is_well = refl;
+        cause = tt;
+        goes_on = rw joined on;
+        wrote = rw joined (tells.whole_is script bytes);
+      };
+    }
+  where
+    append_one : (n k : ℕ) → (n + k) + 1 ≡ n + (k + 1)
+    append_one n k = omega arith
+
+-- what stands with a call more that gave a piece
+pub one_more :
+    (script : Script) (had mid has : ReaderState) (before now later : WriterState) (session next : Session) (kept held : Held) (count : ℕ) (piece : List ℕ) →
+    count < READ_LIMIT → (stands : Stands script had mid before now session kept count) → ending_of session ≡ None →
+    1 ≤ length piece → length piece ≤ CALL_LIMIT → Loses mid.remaining has.remaining piece → has.last ≡ length piece → has.calls ≡ mid.calls + 1 →
+    ((bytes : List ℕ) → HavePlayed script before now session kept bytes → HavePlayed script before later next held (bytes ++ piece)) →
+    Stands script had has before later next held (count + 1)
+one_more script had mid has before now later session next kept held count piece few stands e some short gives last calls plays =
+    let bytes : List ℕ = read stands.reading in
+    let pieces : List (List ℕ) = tells.pieces_of stands.reading in
+    let on : GoesOn script bytes = tells.goes_on script bytes (unended script before now session kept bytes stands.played e) in
+    let joined : concat pieces ≡ bytes = tells.concat_pieces script stands.reading stands.is_asked in
+    let long : length pieces ≡ count = tells.count_pieces script stands.reading stands.is_asked ∙ stands.counted in
+    let so_far : mid.calls ≡ had.calls + count = stands.calls in
+    record {
+      reading = Asked pieces (Gives piece);
+      is_asked = record {
+        pieces = tells.are_pieces script stands.reading stands.is_asked;
+        this = record { some = some; few = short };
+        few = omega arith;
+        goes_on = rw joined on;
+      };
+      counted = ap (λ n. n + 1) long;
+      given = rw joined (loses_twice had.remaining mid.remaining has.remaining bytes piece stands.given gives);
+      calls = omega arith;
+      last = last;
+      played = rw joined (plays bytes stands.played);
+    }
+
+-- the last call that may be has given a piece, and the game goes on
+pub limit_reached :
+    (script : Script) (had has : ReaderState) (before now : WriterState) (session : Session) (kept : Held) (count : ℕ) →
+    had.has_failed ≡ false → has.has_failed ≡ false → now.has_failed ≡ false → count ≡ READ_LIMIT → (reading : Reading) → IsAsked script reading → call_count reading ≡ count →
+    Loses had.remaining has.remaining (read reading) → has.calls ≡ had.calls + count → has.last ≡ last_behind had.last reading →
+    HavePlayed script before now session kept (read reading) → ending_of session ≡ None →
+    Comes script had has before now (Err fault.Read)
+limit_reached script had has before now session kept count was_well is_well writer_well all Unasked asked counted given calls last played e =
+    let none : 0 ≡ READ_LIMIT = counted ∙ all in absurd (omega (arith, none))
+limit_reached script had has before now session kept count was_well is_well writer_well all (Asked earlier (Gives piece)) asked counted given calls last played e =
+    let bytes : List ℕ = concat earlier ++ piece in
+    let left : List ℕ = tells.left_of has.remaining in
+    let some_calls : now.calls ≤ before.calls + length (whole_front script bytes) = played.wrote.1 in
+    record {
+      told = tells.told_of (Asked earlier (Gives piece)) has.remaining (whole_front script bytes) false;
+      tells = tells.tells_of had has before now (Asked earlier (Gives piece)) (whole_front script bytes) false was_well is_well given last
+          (tells.counts_so_far script had.calls has.calls count (Asked earlier (Gives piece)) asked counted calls) played.was_well writer_well played.wrote.0 (omega arith);
+      is_so = record {
+        reads = tells.asked_so_far script (Asked earlier (Gives piece)) left asked;
+        writer_is_well = refl;
+        cause = (counted ∙ all, λ none. let some : 1 ≤ length piece = asked.this.some in let long : length piece ≡ 0 = ap length none in absurd (omega arith));
+        goes_on = tells.goes_on script bytes (unended script before now session kept bytes played e);
+        wrote = tells.whole_is script bytes;
+      };
+    }
+limit_reached script had has before now session kept count was_well is_well writer_well all (Asked earlier Fails) asked counted given calls last played e = absurd asked
 
 -- the keys have ended, and that is written
 pub keys_ended :
-    (script : Script) (had mid left before now later : Option (List ℕ)) (session : Session) (kept : Held) (calls_before calls behind last last_behind count : ℕ) (failed : Bool) →
-    count < READ_LIMIT → (reads : HasRead script had mid calls_before calls last count) → HavePlayed script before now session kept (reads.earlier ++ reads.piece) →
-    ending_of session ≡ None → Loses mid left [] → IsSpent left → behind ≡ calls + 1 → last_behind ≡ 0 → Grows now later end_of_keys_line →
-    Comes script had left calls_before behind last_behind failed before later (Ok EndOfKeys)
-keys_ended script had mid left before now later session kept calls_before calls behind last last_behind count failed few reads played e gives spent counted gave grows =
-    let quiet = ap ending_of (sym played.session) ∙ e in
-    let whole : (reads.earlier ++ reads.piece) ++ [] ≡ reads.earlier ++ reads.piece = append-nil (reads.earlier ++ reads.piece) in
+    (script : Script) (had mid has : ReaderState) (before now later : WriterState) (session : Session) (kept : Held) (count : ℕ) →
+    had.has_failed ≡ false → has.has_failed ≡ false → later.has_failed ≡ false → count < READ_LIMIT → (stands : Stands script had mid before now session kept count) → ending_of session ≡ None →
+    Loses mid.remaining has.remaining [] → IsSpent has.remaining → has.last ≡ 0 → has.calls ≡ mid.calls + 1 → HasTaken now later end_of_keys_line →
+    Comes script had has before later (Ok EndOfKeys)
+keys_ended script had mid has before now later session kept count was_well is_well writer_well few stands e gives spent last calls taken =
+    let bytes : List ℕ = read stands.reading in
+    let pieces : List (List ℕ) = tells.pieces_of stands.reading in
+    let left : List ℕ = tells.left_of has.remaining in
+    let quiet : ending_of (session_of script bytes) ≡ None = unended script before now session kept bytes stands.played e in
+    let on : GoesOn script bytes = tells.goes_on script bytes quiet in
+    let joined : concat pieces ++ [] ≡ bytes = append-nil (concat pieces) ∙ tells.concat_pieces script stands.reading stands.is_asked in
+    let long : length pieces ≡ count = tells.count_pieces script stands.reading stands.is_asked ∙ stands.counted in
+    let so_far : mid.calls ≡ had.calls + count = stands.calls in
+    let empty : left ≡ [] = tells.left_is_spent has.remaining spent in
+    let all : (concat pieces ++ []) ++ left ≡ bytes = ap (λ l. (concat pieces ++ []) ++ l) empty ∙ append-nil (concat pieces ++ []) ∙ joined in
+    let whole : output script bytes ≡ record { written = whole_front script bytes ++ end_of_keys_line; ending = EndOfKeys } = output_of_unended script bytes quiet in
+    let wrote : HasTaken before later (whole_front script bytes ++ end_of_keys_line) = taken_twice before now later (whole_front script bytes) end_of_keys_line _ stands.played.wrote taken refl in
+    let some_calls : later.calls ≤ before.calls + length (whole_front script bytes ++ end_of_keys_line) = wrote.1 in
     record {
-      count = count + 1;
-      few = omega arith;
-      reads = one_more script had mid left calls_before calls behind last last_behind count [] reads gives counted gave quiet;
-      writes = inr (record {
-        ending_is = refl;
-        spent = spent;
-        unended = rw whole quiet;
-        wrote = rw whole (grows_twice before now later _ end_of_keys_line _ played.wrote grows refl);
-      });
-    }
-
--- the keys have ended, and that isn't written
-pub keys_ended_unwritten :
-    (fault : PieceFault) (script : Script) (had mid left before now later : Option (List ℕ)) (session : Session) (kept : Held) (calls_before calls behind last last_behind count : ℕ) (failed : Bool) →
-    count < READ_LIMIT → (reads : HasRead script had mid calls_before calls last count) → HavePlayed script before now session kept (reads.earlier ++ reads.piece) →
-    ending_of session ≡ None → Loses mid left [] → IsSpent left → behind ≡ calls + 1 → last_behind ≡ 0 → StopsAtText fault now later end_of_keys_line →
-    Comes script had left calls_before behind last_behind failed before later (Err (run_fault_of fault))
-keys_ended_unwritten piece.Memory script had mid left before now later session kept calls_before calls behind last last_behind count failed few reads played e gives spent counted gave stops =
-    record {
-      count = count + 1;
-      few = omega arith;
-      reads = one_more script had mid left calls_before calls behind last last_behind count [] reads gives counted gave (ap ending_of (sym played.session) ∙ e);
-      writes = record {
-        count = 0;
-        wrote = rw (append-nil (reads.earlier ++ reads.piece), stops) played.wrote;
-      };
-    }
-keys_ended_unwritten piece.Write script had mid left before now later session kept calls_before calls behind last last_behind count failed few reads played e gives spent counted gave (taken, front, grows) =
-    let read : List ℕ = reads.earlier ++ reads.piece in
-    let quiet : ending_of (session_of script read) ≡ None = ap ending_of (sym played.session) ∙ e in
-    record {
-      count = count + 1;
-      few = omega arith;
-      reads = one_more script had mid left calls_before calls behind last last_behind count [] reads gives counted gave quiet;
-      writes = record {
-        taken = whole_front script read ++ taken;
-        wrote = grows_twice before now later (whole_front script read) taken (whole_front script read ++ taken) played.wrote grows refl;
-        whole_before = (taken, refl);
-        front = λ rest told.
-            let same : (read ++ []) ++ rest ≡ read = ap (λ bytes. bytes ++ rest) (append-nil read) ∙ ap (λ bytes. read ++ bytes) (spent rest told) ∙ append-nil read in (
-              front.0,
-              ap (λ bytes. (output script bytes).written) same ∙ ap (λ (out : Output). out.written) (output_of_unended script read quiet)
-              ∙ ap (λ line. whole_front script read ++ line) front.1 ∙ sym (append_assoc (whole_front script read) taken front.0),
-            );
-      };
-    }
-
--- a piece that isn't written whole
-pub piece_unwritten :
-    (fault : PieceFault) (script : Script) (had mid left before later : Option (List ℕ)) (calls_before calls behind last last_behind count : ℕ) (failed : Bool) (given : List ℕ) →
-    count < READ_LIMIT → (reads : HasRead script had mid calls_before calls last count) → ending_of (session_of script (reads.earlier ++ reads.piece)) ≡ None →
-    Loses mid left given → behind ≡ calls + 1 → last_behind ≡ length given → StopsAs fault script before later (reads.earlier ++ reads.piece) given →
-    Comes script had left calls_before behind last_behind failed before later (Err (run_fault_of fault))
-piece_unwritten piece.Memory script had mid left before later calls_before calls behind last last_behind count failed given few reads quiet gives counted gave stops =
-    record {
-      count = count + 1;
-      few = omega arith;
-      reads = one_more script had mid left calls_before calls behind last last_behind count given reads gives counted gave quiet;
-      writes = stops;
-    }
-piece_unwritten piece.Write script had mid left before later calls_before calls behind last last_behind count failed given few reads quiet gives counted gave stops =
-    record {
-      count = count + 1;
-      few = omega arith;
-      reads = one_more script had mid left calls_before calls behind last last_behind count given reads gives counted gave quiet;
-      writes = record {
-        taken = stops.taken;
-        wrote = stops.wrote;
-        whole_before = stops.whole_before;
-        front = λ rest told. front_twice _ _ _ stops.front (front_of_more script ((reads.earlier ++ reads.piece) ++ given) rest);
+      told = tells.told_of (Asked pieces (Gives [])) has.remaining (whole_front script bytes ++ end_of_keys_line) false;
+      tells = tells.tells_of had has before later (Asked pieces (Gives [])) (whole_front script bytes ++ end_of_keys_line) false was_well is_well
+          (rw joined (tells.added_nothing had.remaining mid.remaining has.remaining bytes stands.given gives)) last (tells.counted_one had.calls mid.calls has.calls count (length pieces) long so_far calls)
+          stands.played.was_well writer_well wrote.0 (omega arith);
+      is_so = record {
+        reads = tells.asks script stands.reading (Gives []) left stands.is_asked on (rw stands.counted few) (omega arith) (λ none. empty);
+        reader_is_well = refl;
+        writer_is_well = refl;
+        ending_is = rw all (ap (λ (out : Output). out.ending) whole);
+        wrote = rw all (ap (λ (out : Output). out.written) (sym whole));
+        brought = rw joined (ap (λ (out : Output). out.ending) whole);
+        silent = λ end. refl;
       };
     }

@@ -1,17 +1,18 @@
 //! A game in play: its keys byte by byte, and piece by piece.
 
-ghost use Rattle.std.specs.Prelude.{◌≡◌, ◌++◌, ◌∷◌, [], IfErr, OnOk, Option, List, ℕ, Err, false, true, ◌≢◌};
+ghost use Rattle.std.specs.Prelude.{◌≡◌, ◌++◌, ◌∷◌, [], IfErr, OnOk, None, List, ℕ, Err, false, true, ◌≢◌};
 ghost use Rattle.ps_model.specs.session.KeySteps.{key_step};
-ghost use Rattle.ps_devices.specs.Devices.{Grows};
-ghost use Rattle.ps_model.specs.game.Outputs.{end_of_keys_line};
+ghost use Rattle.ps_model.specs.game.Outputs.{ending_of, end_of_keys_line};
+ghost use Rattle.ps_model.specs.game.Tellings.{WriterState};
+ghost use Rattle.ps_stage.specs.Standings.{script_for};
 ghost use Rattle.ps_run.specs.Runs.{Comes};
-ghost use Rattle.ps_run.specs.Played.{HavePlayed, StopsAs, StopsAtText, script_on};
+ghost use Rattle.ps_run.specs.Played.{HasTaken, HavePlayed, StopsAs, StopsAtText, reader_told, writer_told};
 
 use crate::faults::{PieceFault, RunFault, fault_of_piece};
 use ps_board::Board;
 use ps_devices::{ByteReader, ByteWriter, write_whole};
 use ps_keys::Keys;
-use ps_model::{CALL_LIMIT, Ending, Key, READ_LIMIT};
+use ps_model::{CALL_LIMIT, Ending, Key, Memory, READ_LIMIT};
 use ps_screen::Screen;
 use ps_session::Session;
 use ps_turn::{Programs, Rules};
@@ -28,10 +29,15 @@ pub struct Play<'g, B: Board, R> {
 /// Writes what the screen has.
 fn write_screen<W: ByteWriter>(screen: &Screen, writer: &mut W) -> Result<(), PieceFault>
     requires { W.has_failed writer.old ≡ false }
-    ensures written { OnOk result (Grows (W.contents writer.old) (W.contents writer.new) screen.now) }
-    ensures stops { IfErr result (λ fault. StopsAtText fault (W.contents writer.old) (W.contents writer.new) screen.now) }
+    ensures written { let before = writer_told (W.contents writer.old) (W.has_failed writer.old) (W.calls writer.old) in
+        let now = writer_told (W.contents writer.new) (W.has_failed writer.new) (W.calls writer.new) in
+        OnOk result (HasTaken before now screen.now) }
+    ensures stops { let before = writer_told (W.contents writer.old) (W.has_failed writer.old) (W.calls writer.old) in
+        let now = writer_told (W.contents writer.new) (W.has_failed writer.new) (W.calls writer.new) in
+        IfErr result (λ fault. StopsAtText fault before now screen.now) }
     ensures well { result ≢ Err PieceFault.Write → W.has_failed writer.new ≡ false }
     ensures told { result ≡ Err PieceFault.Write → W.has_failed writer.new ≡ true }
+    ensures fault { result ≢ Err PieceFault.Memory }
 {
     match write_whole(screen.bytes(), writer) {
         Ok(()) => Ok(()),
@@ -47,19 +53,25 @@ impl<'g, B: Board, R: Rules<B> + Drop> Play<'g, B, R> {
         ensures plain { R.meant self.new.rules.plain ≡ R.meant self.old.rules.plain }
         ensures late { R.meant self.new.rules.late ≡ R.meant self.old.rules.late }
         ensures keys { self.new.keys ≡ self.old.keys }
-        ensures session { let script = script_on self.old.session.game B.table_for (R.meant self.old.rules.plain) (R.meant self.old.rules.late) in
+        ensures session { let script = script_for B.table_for self.old.session.game (R.meant self.old.rules.plain) (R.meant self.old.rules.late) in
             OnOk result (self.new.session.session ≡ (key_step script self.old.session.session key).session) }
-        ensures written { let script = script_on self.old.session.game B.table_for (R.meant self.old.rules.plain) (R.meant self.old.rules.late) in
-            OnOk result (Grows (W.contents writer.old) (W.contents writer.new) (key_step script self.old.session.session key).text) }
-        ensures stops { let script = script_on self.old.session.game B.table_for (R.meant self.old.rules.plain) (R.meant self.old.rules.late) in
-            IfErr result (λ fault. StopsAtText fault (W.contents writer.old) (W.contents writer.new)
-            (key_step script self.old.session.session key).text) }
+        ensures written { let script = script_for B.table_for self.old.session.game (R.meant self.old.rules.plain) (R.meant self.old.rules.late) in
+            let before = writer_told (W.contents writer.old) (W.has_failed writer.old) (W.calls writer.old) in
+            let now = writer_told (W.contents writer.new) (W.has_failed writer.new) (W.calls writer.new) in
+            OnOk result (HasTaken before now (key_step script self.old.session.session key).text) }
+        ensures stops { let script = script_for B.table_for self.old.session.game (R.meant self.old.rules.plain) (R.meant self.old.rules.late) in
+            let before = writer_told (W.contents writer.old) (W.has_failed writer.old) (W.calls writer.old) in
+            let now = writer_told (W.contents writer.new) (W.has_failed writer.new) (W.calls writer.new) in
+            IfErr result (λ fault. StopsAtText fault before now (key_step script self.old.session.session key).text) }
+        ensures unended { result ≡ Err PieceFault.Memory → ending_of self.old.session.session ≡ None }
         ensures well { result ≢ Err PieceFault.Write → W.has_failed writer.new ≡ false }
         ensures told { result ≡ Err PieceFault.Write → W.has_failed writer.new ≡ true }
     {
         self.screen.clear();
-        self.session.key(&mut self.rules, key, &mut self.screen)?;
-        write_screen(&self.screen, writer)
+        match self.session.key(&mut self.rules, key, &mut self.screen) {
+            Ok(()) => write_screen(&self.screen, writer),
+            Err(Memory) => Err(PieceFault::Memory),
+        }
     }
 
     /// Plays the key of a byte, if it brings one behind what is held.
@@ -68,14 +80,18 @@ impl<'g, B: Board, R: Rules<B> + Drop> Play<'g, B, R> {
         ensures game { self.new.session.game ≡ self.old.session.game }
         ensures plain { R.meant self.new.rules.plain ≡ R.meant self.old.rules.plain }
         ensures late { R.meant self.new.rules.late ≡ R.meant self.old.rules.late }
-        ensures played { let script = script_on self.old.session.game B.table_for (R.meant self.old.rules.plain) (R.meant self.old.rules.late) in
-            OnOk result ((before : Option (List ℕ)) (read : List ℕ)
-            → HavePlayed script before (W.contents writer.old) self.old.session.session self.old.keys read
-            → HavePlayed script before (W.contents writer.new) self.new.session.session self.new.keys (read ++ byte ∷ [])) }
-        ensures stops { let script = script_on self.old.session.game B.table_for (R.meant self.old.rules.plain) (R.meant self.old.rules.late) in
-            IfErr result (λ fault. (before : Option (List ℕ)) (read : List ℕ)
-            → HavePlayed script before (W.contents writer.old) self.old.session.session self.old.keys read
-            → StopsAs fault script before (W.contents writer.new) read (byte ∷ [])) }
+        ensures played { let script = script_for B.table_for self.old.session.game (R.meant self.old.rules.plain) (R.meant self.old.rules.late) in
+            let from = writer_told (W.contents writer.old) (W.has_failed writer.old) (W.calls writer.old) in
+            let now = writer_told (W.contents writer.new) (W.has_failed writer.new) (W.calls writer.new) in
+            OnOk result ((before : WriterState) (read : List ℕ)
+            → HavePlayed script before from self.old.session.session self.old.keys read
+            → HavePlayed script before now self.new.session.session self.new.keys (read ++ byte ∷ [])) }
+        ensures stops { let script = script_for B.table_for self.old.session.game (R.meant self.old.rules.plain) (R.meant self.old.rules.late) in
+            let from = writer_told (W.contents writer.old) (W.has_failed writer.old) (W.calls writer.old) in
+            let now = writer_told (W.contents writer.new) (W.has_failed writer.new) (W.calls writer.new) in
+            IfErr result (λ fault. (before : WriterState) (read : List ℕ)
+            → HavePlayed script before from self.old.session.session self.old.keys read
+            → StopsAs fault script before now read (byte ∷ [])) }
         ensures well { result ≢ Err PieceFault.Write → W.has_failed writer.new ≡ false }
         ensures told { result ≡ Err PieceFault.Write → W.has_failed writer.new ≡ true }
     {
@@ -95,14 +111,18 @@ impl<'g, B: Board, R: Rules<B> + Drop> Play<'g, B, R> {
         ensures game { self.new.session.game ≡ self.old.session.game }
         ensures plain { R.meant self.new.rules.plain ≡ R.meant self.old.rules.plain }
         ensures late { R.meant self.new.rules.late ≡ R.meant self.old.rules.late }
-        ensures played { let script = script_on self.old.session.game B.table_for (R.meant self.old.rules.plain) (R.meant self.old.rules.late) in
-            OnOk result ((before : Option (List ℕ)) (read : List ℕ)
-            → HavePlayed script before (W.contents writer.old) self.old.session.session self.old.keys read
-            → HavePlayed script before (W.contents writer.new) self.new.session.session self.new.keys (read ++ piece.now)) }
-        ensures stops { let script = script_on self.old.session.game B.table_for (R.meant self.old.rules.plain) (R.meant self.old.rules.late) in
-            IfErr result (λ fault. (before : Option (List ℕ)) (read : List ℕ)
-            → HavePlayed script before (W.contents writer.old) self.old.session.session self.old.keys read
-            → StopsAs fault script before (W.contents writer.new) read piece.now) }
+        ensures played { let script = script_for B.table_for self.old.session.game (R.meant self.old.rules.plain) (R.meant self.old.rules.late) in
+            let from = writer_told (W.contents writer.old) (W.has_failed writer.old) (W.calls writer.old) in
+            let now = writer_told (W.contents writer.new) (W.has_failed writer.new) (W.calls writer.new) in
+            OnOk result ((before : WriterState) (read : List ℕ)
+            → HavePlayed script before from self.old.session.session self.old.keys read
+            → HavePlayed script before now self.new.session.session self.new.keys (read ++ piece.now)) }
+        ensures stops { let script = script_for B.table_for self.old.session.game (R.meant self.old.rules.plain) (R.meant self.old.rules.late) in
+            let from = writer_told (W.contents writer.old) (W.has_failed writer.old) (W.calls writer.old) in
+            let now = writer_told (W.contents writer.new) (W.has_failed writer.new) (W.calls writer.new) in
+            IfErr result (λ fault. (before : WriterState) (read : List ℕ)
+            → HavePlayed script before from self.old.session.session self.old.keys read
+            → StopsAs fault script before now read piece.now) }
         ensures well { result ≢ Err PieceFault.Write → W.has_failed writer.new ≡ false }
         ensures told { result ≡ Err PieceFault.Write → W.has_failed writer.new ≡ true }
     {
@@ -117,9 +137,12 @@ impl<'g, B: Board, R: Rules<B> + Drop> Play<'g, B, R> {
     /// Writes that the keys have ended.
     fn end_keys<W: ByteWriter>(&mut self, writer: &mut W) -> Result<(), PieceFault>
         requires { W.has_failed writer.old ≡ false }
-        ensures written { OnOk result (Grows (W.contents writer.old) (W.contents writer.new) end_of_keys_line) }
-        ensures stops { IfErr result (λ fault.
-            StopsAtText fault (W.contents writer.old) (W.contents writer.new) end_of_keys_line) }
+        ensures written { let before = writer_told (W.contents writer.old) (W.has_failed writer.old) (W.calls writer.old) in
+            let now = writer_told (W.contents writer.new) (W.has_failed writer.new) (W.calls writer.new) in
+            OnOk result (HasTaken before now end_of_keys_line) }
+        ensures stops { let before = writer_told (W.contents writer.old) (W.has_failed writer.old) (W.calls writer.old) in
+            let now = writer_told (W.contents writer.new) (W.has_failed writer.new) (W.calls writer.new) in
+            IfErr result (λ fault. StopsAtText fault before now end_of_keys_line) }
         ensures well { result ≢ Err PieceFault.Write → W.has_failed writer.new ≡ false }
         ensures told { result ≡ Err PieceFault.Write → W.has_failed writer.new ≡ true }
     {
@@ -142,11 +165,13 @@ impl<'g, B: Board, R: Rules<B> + Drop> Play<'g, B, R> {
         ensures heard { result ≢ Err RunFault.Read → I.has_failed reader.new ≡ false }
         ensures well { result ≢ Err RunFault.Write → W.has_failed writer.new ≡ false }
         ensures told { result ≡ Err RunFault.Write → W.has_failed writer.new ≡ true }
-        ensures answers { let script = script_on self.old.session.game B.table_for (R.meant self.old.rules.plain) (R.meant self.old.rules.late) in
-            (before : Option (List ℕ))
-            → HavePlayed script before (W.contents writer.old) self.old.session.session self.old.keys []
-            → Comes script (I.remaining reader.old) (I.remaining reader.new) (I.calls reader.old) (I.calls reader.new)
-            (I.last reader.new) (I.has_failed reader.new) before (W.contents writer.new) result }
+        ensures answers { let script = script_for B.table_for self.old.session.game (R.meant self.old.rules.plain) (R.meant self.old.rules.late) in
+            let had = reader_told (I.remaining reader.old) (I.has_failed reader.old) (I.last reader.old) (I.calls reader.old) in
+            let has = reader_told (I.remaining reader.new) (I.has_failed reader.new) (I.last reader.new) (I.calls reader.new) in
+            let from = writer_told (W.contents writer.old) (W.has_failed writer.old) (W.calls writer.old) in
+            let now = writer_told (W.contents writer.new) (W.has_failed writer.new) (W.calls writer.new) in
+            (before : WriterState) → HavePlayed script before from self.old.session.session self.old.keys []
+            → Comes script had has before now result }
     {
         let mut buffer = [0u8; CALL_LIMIT];
         for _call in 0..READ_LIMIT {

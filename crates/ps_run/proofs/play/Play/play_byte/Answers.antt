@@ -1,4 +1,4 @@
-use Rattle.std.proofs.Common.{◌≡◌, ◌++◌, ◌∷◌, [], sym}
+use Rattle.std.proofs.Common.{◌≡◌, ◌++◌, ◌∷◌, [], sym, ◌∙◌, ap, Err}
 use Rattle.ps_run.proofs.Playing.{silent_byte, key_byte, byte_stops, if_ok, if_err}
 use Rattle.ps_run.proofs.play.Play.play_byte.Goals as goal
 
@@ -15,6 +15,7 @@ returns-in-Some-clause-played g c = if_ok c.play_key.result
 
 pub returns-in-Some-clause-stops : goal.returns-in-Some-clause-stops
 returns-in-Some-clause-stops g c = if_err c.play_key.result
-    (λ fault stops before read played.
-    byte_stops fault _ before _ _ _ c.args.self.now.keys read c.args.byte c.in-Some.key (sym c.in-Some.ensures.key) stops played)
+    (λ fault is stops before read played.
+    byte_stops fault _ before _ _ _ c.args.self.now.keys read c.args.byte c.in-Some.key (sym c.in-Some.ensures.key)
+    (λ memory. c.play_key.ensures.unended (is ∙ ap Err memory)) stops played)
     c.play_key.ensures.stops
