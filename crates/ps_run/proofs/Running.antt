@@ -1,8 +1,8 @@
 -- How the calls of a run add up to its answer.
-use Rattle.std.proofs.Common.{◌≡◌, ◌∙◌, ◌⊎◌, ℕ, ◌+◌, ◌<◌, ◌≤◌, inl, inr, false, true, List, [], ◌∷◌, ◌++◌, length, take, Option, Some, None, refl, sym, ap, append_assoc, append-nil, arith, Ok, Err}
+use Rattle.std.proofs.Common.{◌≡◌, ◌∙◌, ◌⊎◌, ℕ, ◌+◌, ◌<◌, ◌≤◌, inl, inr, false, true, List, [], ◌∷◌, ◌++◌, length, take, drop, Option, Some, None, refl, sym, ap, append_assoc, append-nil, arith, Ok, Err}
 use Rattle.std.specs.List.{concat}
 use Rattle.std.proofs.lemmas.Bool.{cases_lt}
-use Rattle.std.proofs.lemmas.List.{length-append}
+use Rattle.std.proofs.lemmas.List.{take-append-drop}
 use Rattle.ps_model.specs.declared.limits.TheConstants.{READ_LIMIT, CALL_LIMIT}
 use Rattle.ps_model.specs.declared.held.Held.{Held}
 use Rattle.ps_model.specs.declared.play.Ending.{Ending}
@@ -29,6 +29,10 @@ use Rattle.ps_run.proofs.Telling as tells
 nothing_given : (mid left : Option (List ℕ)) → left ≡ mid → Loses mid left []
 nothing_given None left same = rw same refl
 nothing_given (Some known) left same = rw same refl
+
+-- a piece of some bytes isn't none
+gave_some : (given : List ℕ) → Gives given ≡ Gives [] → 1 ≤ length given → ⊥
+gave_some given none some = let same : given ≡ [] = cc in let long : length given ≡ 0 = ap length same in absurd (omega (arith, long, some))
 
 -- nothing is asked for yet
 pub none_asked :
@@ -200,5 +204,124 @@ keys_ended script had mid has before now later session kept count was_well is_we
         wrote = rw all (ap (λ (out : Output). out.written) (sym whole));
         brought = rw joined (ap (λ (out : Output). out.ending) whole);
         silent = λ end. refl;
+      };
+    }
+
+-- the keys have ended, and that isn't written
+pub keys_ended_unwritten :
+    (fault : PieceFault) (script : Script) (had mid has : ReaderState) (before now later : WriterState) (session : Session) (kept : Held) (count : ℕ) →
+    had.has_failed ≡ false → has.has_failed ≡ false → (fault ≡ piece.Memory → later.has_failed ≡ false) → (fault ≡ piece.Write → later.has_failed ≡ true) → count < READ_LIMIT →
+    (stands : Stands script had mid before now session kept count) → ending_of session ≡ None →
+    Loses mid.remaining has.remaining [] → IsSpent has.remaining → has.last ≡ 0 → has.calls ≡ mid.calls + 1 → StopsAtText fault now later end_of_keys_line →
+    Comes script had has before later (Err (run_fault_of fault))
+keys_ended_unwritten piece.Memory script had mid has before now later session kept count was_well is_well writer_well writer_failed few stands e gives spent last calls stops =
+    let bytes : List ℕ = read stands.reading in
+    let pieces : List (List ℕ) = tells.pieces_of stands.reading in
+    let left : List ℕ = tells.left_of has.remaining in
+    let on : GoesOn script bytes = tells.goes_on script bytes (unended script before now session kept bytes stands.played e) in
+    let same : concat pieces ≡ bytes = tells.concat_pieces script stands.reading stands.is_asked in
+    let joined : concat pieces ++ [] ≡ bytes = append-nil (concat pieces) ∙ same in
+    let long : length pieces ≡ count = tells.count_pieces script stands.reading stands.is_asked ∙ stands.counted in
+    let so_far : mid.calls ≡ had.calls + count = stands.calls in
+    let wrote : HasTaken before later (whole_front script bytes) = taken_no_more before now later (whole_front script bytes) stands.played.wrote stops.0 stops.1 in
+    let some_calls : later.calls ≤ before.calls + length (whole_front script bytes) = wrote.1 in
+    record {
+      told = tells.told_of (Asked pieces (Gives [])) has.remaining (whole_front script bytes) false;
+      tells = tells.tells_of had has before later (Asked pieces (Gives [])) (whole_front script bytes) false was_well is_well
+          (rw joined (tells.added_nothing had.remaining mid.remaining has.remaining bytes stands.given gives)) last (tells.counted_one had.calls mid.calls has.calls count (length pieces) long so_far calls)
+          stands.played.was_well (writer_well refl) wrote.0 (omega arith);
+      is_so = record {
+        reads = tells.asks script stands.reading (Gives []) left stands.is_asked on (rw stands.counted few) (omega arith) (λ none. tells.left_is_spent has.remaining spent);
+        reader_is_well = refl;
+        writer_is_well = refl;
+        behind = bytes;
+        enough = ([], sym same ∙ sym (append-nil (concat pieces)));
+        within = ([], joined ∙ sym (append-nil bytes));
+        goes_on = on;
+        wrote = refl;
+      };
+    }
+keys_ended_unwritten piece.Write script had mid has before now later session kept count was_well is_well writer_well writer_failed few stands e gives spent last calls stops =
+    let bytes : List ℕ = read stands.reading in
+    let pieces : List (List ℕ) = tells.pieces_of stands.reading in
+    let left : List ℕ = tells.left_of has.remaining in
+    let quiet : ending_of (session_of script bytes) ≡ None = unended script before now session kept bytes stands.played e in
+    let on : GoesOn script bytes = tells.goes_on script bytes quiet in
+    let same : concat pieces ≡ bytes = tells.concat_pieces script stands.reading stands.is_asked in
+    let joined : concat pieces ++ [] ≡ bytes = append-nil (concat pieces) ∙ same in
+    let long : length pieces ≡ count = tells.count_pieces script stands.reading stands.is_asked ∙ stands.counted in
+    let so_far : mid.calls ≡ had.calls + count = stands.calls in
+    let taken : List ℕ = whole_front script bytes ++ stops.taken in
+    let whole : output script bytes ≡ record { written = whole_front script bytes ++ end_of_keys_line; ending = EndOfKeys } = output_of_unended script bytes quiet in
+    let wrote = taken_and_failed before now later (whole_front script bytes) stops.taken taken stands.played.wrote stops.wrote refl in
+    record {
+      told = tells.told_of (Asked pieces (Gives [])) has.remaining taken true;
+      tells = tells.tells_of had has before later (Asked pieces (Gives [])) taken true was_well is_well
+          (rw joined (tells.added_nothing had.remaining mid.remaining has.remaining bytes stands.given gives)) last (tells.counted_one had.calls mid.calls has.calls count (length pieces) long so_far calls)
+          stands.played.was_well (writer_failed refl) wrote.0 wrote.1;
+      is_so = record {
+        reads = tells.asks script stands.reading (Gives []) left stands.is_asked on (rw stands.counted few) (omega arith) (λ none. tells.left_is_spent has.remaining spent);
+        reader_is_well = refl;
+        cause = refl;
+        wrote = inr (refl, rw joined (cut_off_behind (whole_front script bytes) stops.taken end_of_keys_line _ stops.cut_off (ap (λ (out : Output). out.written) whole)));
+        whole_before = rw same (stops.taken, ap (λ front. front ++ stops.taken) (tells.whole_is script bytes));
+      };
+    }
+
+-- a piece that isn't written whole
+pub piece_unwritten :
+    (fault : PieceFault) (script : Script) (had mid has : ReaderState) (before now later : WriterState) (session : Session) (kept : Held) (count : ℕ) (given : List ℕ) →
+    had.has_failed ≡ false → has.has_failed ≡ false → (fault ≡ piece.Memory → later.has_failed ≡ false) → (fault ≡ piece.Write → later.has_failed ≡ true) → count < READ_LIMIT →
+    (stands : Stands script had mid before now session kept count) → ending_of session ≡ None →
+    1 ≤ length given → length given ≤ CALL_LIMIT → Loses mid.remaining has.remaining given → has.last ≡ length given → has.calls ≡ mid.calls + 1 →
+    ((bytes : List ℕ) → HavePlayed script before now session kept bytes → StopsAs fault script before later bytes given) →
+    Comes script had has before later (Err (run_fault_of fault))
+piece_unwritten piece.Memory script had mid has before now later session kept count given was_well is_well writer_well writer_failed few stands e some short gives last calls stops =
+    let bytes : List ℕ = read stands.reading in
+    let pieces : List (List ℕ) = tells.pieces_of stands.reading in
+    let left : List ℕ = tells.left_of has.remaining in
+    let on : GoesOn script bytes = tells.goes_on script bytes (unended script before now session kept bytes stands.played e) in
+    let same : concat pieces ≡ bytes = tells.concat_pieces script stands.reading stands.is_asked in
+    let long : length pieces ≡ count = tells.count_pieces script stands.reading stands.is_asked ∙ stands.counted in
+    let so_far : mid.calls ≡ had.calls + count = stands.calls in
+    let stopped = stops bytes stands.played in
+    let behind : List ℕ = bytes ++ take stopped.count given in
+    let some_calls : later.calls ≤ before.calls + length (whole_front script behind) = stopped.wrote.1 in
+    record {
+      told = tells.told_of (Asked pieces (Gives given)) has.remaining (whole_front script behind) false;
+      tells = tells.tells_of had has before later (Asked pieces (Gives given)) (whole_front script behind) false was_well is_well
+          (rw same (loses_twice had.remaining mid.remaining has.remaining bytes given stands.given gives)) last (tells.counted_one had.calls mid.calls has.calls count (length pieces) long so_far calls)
+          stands.played.was_well (writer_well refl) stopped.wrote.0 (omega arith);
+      is_so = record {
+        reads = tells.asks script stands.reading (Gives given) left stands.is_asked on (rw stands.counted few) short (λ none. absurd (gave_some given none some));
+        reader_is_well = refl;
+        writer_is_well = refl;
+        behind = behind;
+        enough = rw same (take stopped.count given, refl);
+        within = rw same (drop stopped.count given, ap (λ l. bytes ++ l) (sym (take-append-drop stopped.count given)) ∙ sym (append_assoc bytes (take stopped.count given) (drop stopped.count given)));
+        goes_on = tells.goes_on script behind stopped.goes_on;
+        wrote = refl;
+      };
+    }
+piece_unwritten piece.Write script had mid has before now later session kept count given was_well is_well writer_well writer_failed few stands e some short gives last calls stops =
+    let bytes : List ℕ = read stands.reading in
+    let pieces : List (List ℕ) = tells.pieces_of stands.reading in
+    let left : List ℕ = tells.left_of has.remaining in
+    let on : GoesOn script bytes = tells.goes_on script bytes (unended script before now session kept bytes stands.played e) in
+    let same : concat pieces ≡ bytes = tells.concat_pieces script stands.reading stands.is_asked in
+    let long : length pieces ≡ count = tells.count_pieces script stands.reading stands.is_asked ∙ stands.counted in
+    let so_far : mid.calls ≡ had.calls + count = stands.calls in
+    let stopped = stops bytes stands.played in
+    record {
+      told = tells.told_of (Asked pieces (Gives given)) has.remaining stopped.taken true;
+      tells = tells.tells_of had has before later (Asked pieces (Gives given)) stopped.taken true was_well is_well
+          (rw same (loses_twice had.remaining mid.remaining has.remaining bytes given stands.given gives)) last (tells.counted_one had.calls mid.calls has.calls count (length pieces) long so_far calls)
+          stands.played.was_well (writer_failed refl) stopped.wrote.0 stopped.wrote.1;
+      is_so = record {
+        reads = tells.asks script stands.reading (Gives given) left stands.is_asked on (rw stands.counted few) short (λ none. absurd (gave_some given none some));
+        reader_is_well = refl;
+        cause = refl;
+        wrote = inl (rw same (rw (← tells.whole_is script (bytes ++ given)) stopped.cut_off));
+        whole_before = rw same (rw (← tells.whole_is script bytes) stopped.whole_before);
       };
     }
