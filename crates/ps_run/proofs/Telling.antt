@@ -42,9 +42,16 @@ count_pieces script Unasked asked = refl
 count_pieces script (Asked earlier (Gives piece)) asked = length-append earlier (piece ∷ [])
 count_pieces script (Asked earlier Fails) asked = absurd asked
 
+no_pieces : All IsPiece []
+no_pieces k d within = absurd (omega arith)
+
+one_piece : (piece : List ℕ) → IsPiece piece → All IsPiece (piece ∷ [])
+one_piece piece is zero d within = is
+one_piece piece is (suc k) d within = absurd (omega arith)
+
 pub are_pieces : (script : Script) (reading : Reading) → IsAsked script reading → All IsPiece (pieces_of reading)
-are_pieces script Unasked asked = tt
-are_pieces script (Asked earlier (Gives piece)) asked = All-append IsPiece earlier (piece ∷ []) asked.pieces (asked.this, tt)
+are_pieces script Unasked asked = no_pieces
+are_pieces script (Asked earlier (Gives piece)) asked = All-append IsPiece earlier (piece ∷ []) asked.pieces (one_piece piece asked.this)
 are_pieces script (Asked earlier Fails) asked = absurd asked
 
 pub is_well : (script : Script) (reading : Reading) → IsAsked script reading → has_failing_call reading ≡ false

@@ -1,2 +1,0 @@
-pub mod Playable
-pub mod Standings
