@@ -1,0 +1,5 @@
+mod Dismissed
+mod Heeded
+mod Ignored
+mod Opened
+mod Remembered
