@@ -1,2 +1,3 @@
 pub mod AlikePrograms
 pub mod MadePieces
+pub mod RunnablePrograms

@@ -5,3 +5,4 @@ pub mod OpenGroups
 pub mod PiecesShown
 pub mod PossibleRules
 pub mod ProgramsMade
+pub mod RunnablePrograms

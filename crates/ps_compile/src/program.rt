@@ -11,6 +11,7 @@ ghost use Rattle.ps_program.specs.ProgramShown.{groups_shown, sections_shown};
 ghost use Rattle.ps_compile.specs.AlikeRuns.{RunsAlike};
 ghost use Rattle.ps_compile.specs.PiecesShown.{pieces_shown};
 ghost use Rattle.ps_compile.specs.ProgramsMade.{sections_behind};
+ghost use Rattle.ps_compile.specs.RunnablePrograms.{RunsOnBoards};
 
 use crate::groups::Groups;
 use crate::pieces::{cut_at_ends, cut_at_starts};
@@ -183,7 +184,8 @@ fn program_of<'r>(
 }
 
 /// The two compiled programs of a game's rules: for rules of a game, a run of each comes to what the rules mean on each of its
-/// grids. `Memory` if there is no room for them.
+/// grids; and a board on which the game's objects have room on their layers can run each as it is. `Memory` if there is no
+/// room for them.
 pub fn compile<'r>(
     alloc: Global,
     names: &Names,
@@ -193,6 +195,8 @@ pub fn compile<'r>(
     ensures late { IfOk result (λ programs. programs.late ≡ compiled_program names.now Late rules.entry.now) }
     ensures plain_alike { IfOk result (λ programs. RunsAlike names.now Plain rules.entry.now programs.plain) }
     ensures late_alike { IfOk result (λ programs. RunsAlike names.now Late rules.entry.now programs.late) }
+    ensures plain_runs { IfOk result (λ programs. RunsOnBoards names.now rules.entry.now programs.plain) }
+    ensures late_runs { IfOk result (λ programs. RunsOnBoards names.now rules.entry.now programs.late) }
 {
     let plain = program_of(alloc, names, Part::Plain, rules.lines())?;
     let late = program_of(alloc, names, Part::Late, rules.lines())?;

@@ -1,3 +1,2 @@
 pub mod Choices
 pub mod RulesInRoom
-pub mod Runnable

@@ -7,9 +7,11 @@ pub mod SameSides
 pub mod IdleRules
 pub mod AlikeRounds
 pub mod GamesOfTexts
+pub mod ShortRows
 pub mod Fronts
 pub mod CompilingCells
 pub mod CompilingRules
+pub mod CompiledGames
 pub mod TurningRound
 pub mod ReadingInPieces
 pub mod SessionSteps
