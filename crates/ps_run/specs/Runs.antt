@@ -1,5 +1,5 @@
 -- How a run of a script comes to its answer.
-use Rattle.std.specs.Prelude.{◌≡◌, ℕ, ◌+◌, ◌≤◌, ⊤, List, [], ◌++◌, length, Result, Ok, Err}
+use Rattle.std.specs.Prelude.{◌≡◌, ℕ, ◌+◌, ◌≤◌, ◌⊎◌, ⊤, List, [], ◌++◌, length, Result, Ok, Err}
 use Rattle.std.specs.List.{All, concat}
 use Rattle.ps_model.specs.declared.limits.TheConstants.{READ_LIMIT}
 use Rattle.ps_model.specs.declared.held.Held.{Held}
@@ -67,3 +67,8 @@ pub record Comes (script : Script) (had has : ReaderState) (before now : WriterS
   pub told : Told
   pub tells : Tells had has before now told
   pub is_so : IsSo script told answer
+
+-- memory was refused before anything was asked for and anything written; or the run came to its answer
+abbrev pub ComesOrStops : Script → ReaderState → ReaderState → WriterState → WriterState → Result Ending RunFault → Type 0
+ComesOrStops script had has before now answer =
+    ((answer ≡ Err fault.Memory) × (has ≡ had) × (now ≡ before)) ⊎ Comes script had has before now answer

@@ -2,6 +2,16 @@
 #![tactic(auto)]
 
 mod faults;
+mod game_run;
 mod play;
+mod rules;
+mod run;
 
 pub use faults::RunFault;
+pub use ps_devices::{ByteReader, ByteWriter};
+pub use ps_model::{Ending, Fault, FaultKind};
+pub use rules::EngineRules;
+pub use run::run;
+
+#[cfg(test)]
+mod tests;

@@ -27,7 +27,7 @@ pub struct Play<'g, B: Board, R> {
 }
 
 /// Writes what the screen has.
-fn write_screen<W: ByteWriter>(screen: &Screen, writer: &mut W) -> Result<(), PieceFault>
+pub fn write_screen<W: ByteWriter>(screen: &Screen, writer: &mut W) -> Result<(), PieceFault>
     requires { W.has_failed writer.old ≡ false }
     ensures written { let before = writer_told (W.contents writer.old) (W.has_failed writer.old) (W.calls writer.old) in
         let now = writer_told (W.contents writer.new) (W.has_failed writer.new) (W.calls writer.new) in
