@@ -10,7 +10,9 @@ use Rattle.ps_model.specs.declared.play.Ending.TheVariants.{EndOfKeys}
 use Rattle.ps_model.specs.board.Turns.{Script}
 use Rattle.ps_model.specs.session.Sessions.{Session}
 use Rattle.ps_model.specs.game.Headline.{IsFront, IsCutOff, IsPiece, GoesOn, AsksInTurn, texts_of}
-use Rattle.ps_model.specs.game.Outputs.{Output, ending_of, output, end_of_keys_line}
+use Rattle.ps_model.specs.game.Outputs.{Output, ending_of, output, opening_step, end_of_keys_line}
+use Rattle.ps_model.specs.declared.held.Held.TheVariants.{Nothing}
+use Rattle.ps_laws.proofs.sessions.SessionSteps.{fronts_are_texts}
 use Rattle.ps_model.specs.game.Tellings.{ReaderState, WriterState, Gives, Fails, Reading, Unasked, Asked, read, last_behind, most_calls}
 use Rattle.ps_laws.specs.Fronts.{session_of, whole_front}
 use Rattle.ps_laws.proofs.keys.Endings.{ends_otherwise}
@@ -323,5 +325,39 @@ piece_unwritten piece.Write script had mid has before now later session kept cou
         cause = refl;
         wrote = inl (rw same (rw (← tells.whole_is script (bytes ++ given)) stopped.cut_off));
         whole_before = rw same (rw (← tells.whole_is script bytes) stopped.whole_before);
+      };
+    }
+
+-- what is written before the first key is the text of the opening
+opening_is : (script : Script) → whole_front script [] ≡ (opening_step script).text
+opening_is script = fronts_are_texts script [] ∙ append-nil (opening_step script).text
+
+-- the opening is written
+pub opened :
+    (script : Script) (before now : WriterState) (screen start : List ℕ) (session : Session) → before.has_failed ≡ false → start ≡ [] → screen ≡ start ++ (opening_step script).text →
+    session ≡ (opening_step script).session → HasTaken before now screen → HavePlayed script before now session Nothing []
+opened script before now screen start session was_well empty shown begins taken = record {
+  was_well = was_well;
+  session = begins;
+  held = refl;
+  wrote = rw (opening_is script, ← (shown ∙ ap (λ s. s ++ (opening_step script).text) empty)) taken;
+}
+
+-- the opening isn't written whole
+pub opening_unwritten :
+    (fault : PieceFault) (script : Script) (had : ReaderState) (before now : WriterState) (screen start : List ℕ) → (fault ≡ piece.Memory → ⊥) → had.has_failed ≡ false → before.has_failed ≡ false →
+    (fault ≡ piece.Write → now.has_failed ≡ true) → start ≡ [] → screen ≡ start ++ (opening_step script).text → StopsAtText fault before now screen → Comes script had had before now (Err fault.Write)
+opening_unwritten piece.Memory script had before now screen start never reader_well was_well failed empty shown stops = absurd (never refl)
+opening_unwritten piece.Write script had before now screen start never reader_well was_well failed empty shown stops =
+    let same : screen ≡ texts_of script [] = shown ∙ (ap (λ s. s ++ (opening_step script).text) empty ∙ (sym (opening_is script) ∙ tells.whole_is script [])) in
+    record {
+      told = tells.told_of Unasked had.remaining stops.taken true;
+      tells = tells.tells_of had had before now Unasked stops.taken true reader_well reader_well (nothing_given had.remaining had.remaining refl) refl refl was_well (failed refl) stops.wrote.0 stops.wrote.1;
+      is_so = record {
+        reads = tt;
+        reader_is_well = refl;
+        cause = refl;
+        wrote = inl (rw (← same) stops.cut_off);
+        whole_before = tt;
       };
     }

@@ -3,11 +3,13 @@
 
 mod faults;
 mod game_run;
+mod laws;
 mod play;
 mod rules;
 mod run;
 
 pub use faults::RunFault;
+pub use laws::answers_carry_over;
 pub use ps_devices::{ByteReader, ByteWriter};
 pub use ps_model::{Ending, Fault, FaultKind};
 pub use rules::EngineRules;

@@ -16,6 +16,6 @@ fn plays_a_push_to_the_end(rt: HostRuntime) -> Result<(), Fail> {
     let mut writer = MemoryWriter::new(rt.alloc(), 1000, 7)?;
     let ending = run(rt.alloc(), PUSHING, &mut reader, &mut writer)?;
     assert_eq!(rt; ending, Ending::TheEnd);
-    assert_eq!(rt; writer.bytes(), b"= T\n# level 1\nP*O\n\n.P*\n\n* level 1 done\n* the end\n");
+    assert_eq!(rt; writer.bytes(), b"= T\n# level 1\nP*O\n\n.P*\n\n* level 1 done\n* the end\n".as_slice());
     Ok(())
 }
