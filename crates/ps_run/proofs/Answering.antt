@@ -40,12 +40,23 @@ same_texts : (a b : Script) → SameRuns a b → (bytes : List ℕ) → texts_of
 same_texts a b same bytes = same.fronts bytes (length (keys_of bytes))
 
 same_cut : (a b : Script) → SameRuns a b → (told : Told) → IsCutOffWriting a told → IsCutOffWriting b told
-same_cut a b same told (inl cut) = inl (rw (← same_texts a b same (read told.reading)) cut)
-same_cut a b same told (inr (none, cut)) = inr (none, rw (← same.outputs (read told.reading)) cut)
+same_cut a b same told (inl cut) = inl (record {
+  rest = cut.rest;
+  some = cut.some;
+  is = sym (same_texts a b same (read told.reading)) ∙ cut.is;
+})
+same_cut a b same told (inr (none, cut)) = inr (
+  none,
+  record {
+    rest = cut.rest;
+    some = cut.some;
+    is = sym (ap (λ (out : Output). out.written) (same.outputs (read told.reading))) ∙ cut.is;
+  },
+)
 
 same_whole : (a b : Script) → SameRuns a b → (reading : Reading) (wrote : List ℕ) → IsWholeBefore a reading wrote → IsWholeBefore b reading wrote
 same_whole a b same Unasked wrote whole = tt
-same_whole a b same (Asked earlier last) wrote whole = rw (← same_texts a b same (concat earlier)) whole
+same_whole a b same (Asked earlier last) wrote (rest, is) = (rest, is ∙ ap (λ text. text ++ rest) (same_texts a b same (concat earlier)))
 
 -- the keys of bytes are the first of the keys of more bytes
 keys_of_more : (first second : List ℕ) → keys_of (first ++ second) ≡ keys_of first ++ keys_of (held first ++ second)
@@ -76,35 +87,44 @@ stops a b same told so =
     }
 
 pub answers_carry_over : AnswersCarryOver
-answers_carry_over text read script is same told (Ok ending) so =
-    let source : Script = script_of read in
-    (source, ap (option_map script_of) is, record {
-      reads = same_reading script source same told.reading told.left so.reads;
-      reader_is_well = so.reader_is_well;
-      writer_is_well = so.writer_is_well;
-      ending_is = sym (ap (λ (out : Output). out.ending) (same.outputs _)) ∙ so.ending_is;
-      wrote = so.wrote ∙ ap (λ (out : Output). out.written) (same.outputs _);
-      brought = sym (ap (λ (out : Output). out.ending) (same.outputs _)) ∙ so.brought;
-      silent = so.silent;
-    })
-answers_carry_over text read script is same told (Err (fault.Refused refused)) so = absurd so
-answers_carry_over text read script is same told (Err fault.Memory) so =
-    inr (script_of read, ap (option_map script_of) is, stops script (script_of read) same told so)
-answers_carry_over text read script is same told (Err fault.Read) so =
-    let source : Script = script_of read in
-    (source, ap (option_map script_of) is, record {
-      reads = same_reading script source same told.reading told.left so.reads;
-      writer_is_well = so.writer_is_well;
-      cause = so.cause;
-      goes_on = same_going_on script source same _ so.goes_on;
-      wrote = so.wrote ∙ same_texts script source same _;
-    })
-answers_carry_over text read script is same told (Err fault.Write) so =
-    let source : Script = script_of read in
-    (source, ap (option_map script_of) is, record {
-      reads = same_reading script source same told.reading told.left so.reads;
-      reader_is_well = so.reader_is_well;
-      cause = so.cause;
-      wrote = same_cut script source same told so.wrote;
-      whole_before = same_whole script source same told.reading told.wrote so.whole_before;
-    })
+answers_carry_over text played script is same told (Ok ending) so =
+    let source : Script = script_of played in (
+      source,
+      ap (option_map script_of) is,
+      record {
+        reads = same_reading script source same told.reading told.left so.reads;
+        reader_is_well = so.reader_is_well;
+        writer_is_well = so.writer_is_well;
+        ending_is = sym (ap (λ (out : Output). out.ending) (same.outputs (read told.reading ++ told.left))) ∙ so.ending_is;
+        wrote = so.wrote ∙ ap (λ (out : Output). out.written) (same.outputs (read told.reading ++ told.left));
+        brought = sym (ap (λ (out : Output). out.ending) (same.outputs (read told.reading))) ∙ so.brought;
+        silent = so.silent;
+      },
+    )
+answers_carry_over text played script is same told (Err (fault.Refused refused)) so = absurd so
+answers_carry_over text played script is same told (Err fault.Memory) so =
+    inr (script_of played, ap (option_map script_of) is, stops script (script_of played) same told so)
+answers_carry_over text played script is same told (Err fault.Read) so =
+    let source : Script = script_of played in (
+      source,
+      ap (option_map script_of) is,
+      record {
+        reads = same_reading script source same told.reading told.left so.reads;
+        writer_is_well = so.writer_is_well;
+        cause = so.cause;
+        goes_on = same_going_on script source same (read told.reading) so.goes_on;
+        wrote = so.wrote ∙ same_texts script source same (read told.reading);
+      },
+    )
+answers_carry_over text played script is same told (Err fault.Write) so =
+    let source : Script = script_of played in (
+      source,
+      ap (option_map script_of) is,
+      record {
+        reads = same_reading script source same told.reading told.left so.reads;
+        reader_is_well = so.reader_is_well;
+        cause = so.cause;
+        wrote = same_cut script source same told so.wrote;
+        whole_before = same_whole script source same told.reading told.wrote so.whole_before;
+      },
+    )

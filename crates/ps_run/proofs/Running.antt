@@ -345,8 +345,8 @@ opened script before now screen start session was_well empty shown begins taken 
 
 -- the opening isn't written whole
 pub opening_unwritten :
-    (fault : PieceFault) (script : Script) (had : ReaderState) (before now : WriterState) (screen start : List ℕ) → (fault ≡ piece.Memory → ⊥) → had.has_failed ≡ false → before.has_failed ≡ false →
-    (fault ≡ piece.Write → now.has_failed ≡ true) → start ≡ [] → screen ≡ start ++ (opening_step script).text → StopsAtText fault before now screen → Comes script had had before now (Err fault.Write)
+    (broken : PieceFault) (script : Script) (had : ReaderState) (before now : WriterState) (screen start : List ℕ) → (broken ≡ piece.Memory → ⊥) → had.has_failed ≡ false → before.has_failed ≡ false →
+    (broken ≡ piece.Write → now.has_failed ≡ true) → start ≡ [] → screen ≡ start ++ (opening_step script).text → StopsAtText broken before now screen → Comes script had had before now (Err fault.Write)
 opening_unwritten piece.Memory script had before now screen start never reader_well was_well failed empty shown stops = absurd (never refl)
 opening_unwritten piece.Write script had before now screen start never reader_well was_well failed empty shown stops =
     let same : screen ≡ texts_of script [] = shown ∙ (ap (λ s. s ++ (opening_step script).text) empty ∙ (sym (opening_is script) ∙ tells.whole_is script [])) in

@@ -106,7 +106,11 @@ impl<'g, B: Board, R: Rules<B> + Drop> Play<'g, B, R> {
     /// # Errors
     ///
     /// `Memory` where a growth was refused, and the texts of the keys before are written; `Write` where the writer failed.
-    pub fn play_piece<W: ByteWriter>(&mut self, piece: &[u8], writer: &mut W) -> Result<(), PieceFault>
+    pub fn play_piece<W: ByteWriter>(
+        &mut self,
+        piece: &[u8],
+        writer: &mut W,
+    ) -> Result<(), PieceFault>
         requires { W.has_failed writer.old ≡ false }
         ensures game { self.new.session.game ≡ self.old.session.game }
         ensures plain { R.meant self.new.rules.plain ≡ R.meant self.old.rules.plain }
@@ -159,7 +163,11 @@ impl<'g, B: Board, R: Rules<B> + Drop> Play<'g, B, R> {
     ///
     /// `Memory` where a growth was refused, `Read` where the reader failed or gave something `READ_LIMIT` times and the game
     /// hasn't ended, `Write` where the writer failed. No device is called after its failure.
-    pub fn play<I: ByteReader, W: ByteWriter>(&mut self, reader: &mut I, writer: &mut W) -> Result<Ending, RunFault>
+    pub fn play<I: ByteReader, W: ByteWriter>(
+        &mut self,
+        reader: &mut I,
+        writer: &mut W,
+    ) -> Result<Ending, RunFault>
         requires heard { I.has_failed reader.old ≡ false }
         requires well { W.has_failed writer.old ≡ false }
         ensures heard { result ≢ Err RunFault.Read → I.has_failed reader.new ≡ false }

@@ -1,8 +1,10 @@
 //! A run: a game's text and the keys in, the frames out.
 
-ghost use Rattle.std.specs.Prelude.{◌≡◌};
+ghost use Rattle.std.specs.Prelude.{◌≡◌, false};
+ghost use Rattle.ps_model.specs.game.Headline.{RunsRightly, IsTrueOfText};
+ghost use Rattle.ps_run.specs.Answering.{answer_of};
+ghost use Rattle.ps_run.specs.Played.{reader_told, writer_told};
 ghost use Rattle.ps_stage.specs.Playable.{ArePlayable};
-ghost use Rattle.ps_levels.specs.EntriesShown.{entries_shown};
 
 use crate::faults::RunFault;
 use crate::game_run::run_game;
@@ -11,7 +13,7 @@ use ps_board::ListBoard;
 use ps_compile::{Programs as Compiled, compile};
 use ps_devices::{ByteReader, ByteWriter};
 use ps_game::{Game, read_game};
-use ps_model::{Ending, Refusal};
+use ps_model::Ending;
 use ps_stage::SessionGame;
 use ps_turn::Programs;
 use std::alloc::Global;
@@ -35,6 +37,12 @@ pub fn run<I: ByteReader, W: ByteWriter>(
 ) -> Result<Ending, RunFault>
     requires heard { I.has_failed reader.old ≡ false }
     requires well { W.has_failed writer.old ≡ false }
+    ensures rightly { let had = reader_told (I.remaining reader.old) (I.has_failed reader.old) (I.last reader.old) (I.calls reader.old) in
+        let has = reader_told (I.remaining reader.new) (I.has_failed reader.new) (I.last reader.new) (I.calls reader.new) in
+        let before = writer_told (W.contents writer.old) (W.has_failed writer.old) (W.calls writer.old) in
+        let now = writer_told (W.contents writer.new) (W.has_failed writer.new) (W.calls writer.new) in
+        RunsRightly text.now had has before now (answer_of result) }
+    ensures true_of_text { IsTrueOfText text.now (answer_of result) }
 {
     let game = read_game(alloc, text)?;
     let compiled = compile(alloc, &game.names, &game.rules)?;
