@@ -1,0 +1,4 @@
+pub mod Playing
+pub mod Telling
+pub mod Running
+pub mod Answering
