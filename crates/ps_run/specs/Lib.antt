@@ -2,3 +2,4 @@ pub mod Faults
 pub mod Played
 pub mod Runs
 pub mod Answering
+pub mod Checks

@@ -1,18 +1,18 @@
 //! Plays games of PuzzleScript: a text and keys in, frames out.
 #![tactic(auto)]
 
+mod check;
 mod faults;
 mod game_run;
 mod laws;
 mod play;
-mod rules;
 mod run;
 
+pub use check::check;
 pub use faults::RunFault;
 pub use laws::answers_carry_over;
 pub use ps_devices::{ByteReader, ByteWriter};
 pub use ps_model::{Ending, Fault, FaultKind};
-pub use rules::EngineRules;
 pub use run::run;
 
 #[cfg(test)]

@@ -17,6 +17,7 @@ mod places;
 mod stage;
 mod starts;
 
+pub use entering::levels_among;
 pub use entries::EntryNumber;
 pub use game::SessionGame;
 pub use levels::PlayedLevel;
