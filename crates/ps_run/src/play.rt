@@ -53,13 +53,16 @@ impl<'g, B: Board, R: Rules<B> + Drop> Play<'g, B, R> {
         ensures plain { R.meant self.new.rules.plain ≡ R.meant self.old.rules.plain }
         ensures late { R.meant self.new.rules.late ≡ R.meant self.old.rules.late }
         ensures keys { self.new.keys ≡ self.old.keys }
-        ensures session { let script = script_for B.table_for self.old.session.game (R.meant self.old.rules.plain) (R.meant self.old.rules.late) in
+        ensures session { let script = script_for B.table_for self.old.session.game
+            (R.meant self.old.rules.plain) (R.meant self.old.rules.late) in
             OnOk result (self.new.session.session ≡ (key_step script self.old.session.session key).session) }
-        ensures written { let script = script_for B.table_for self.old.session.game (R.meant self.old.rules.plain) (R.meant self.old.rules.late) in
+        ensures written { let script = script_for B.table_for self.old.session.game
+            (R.meant self.old.rules.plain) (R.meant self.old.rules.late) in
             let before = writer_told (W.contents writer.old) (W.has_failed writer.old) (W.calls writer.old) in
             let now = writer_told (W.contents writer.new) (W.has_failed writer.new) (W.calls writer.new) in
             OnOk result (HasTaken before now (key_step script self.old.session.session key).text) }
-        ensures stops { let script = script_for B.table_for self.old.session.game (R.meant self.old.rules.plain) (R.meant self.old.rules.late) in
+        ensures stops { let script = script_for B.table_for self.old.session.game
+            (R.meant self.old.rules.plain) (R.meant self.old.rules.late) in
             let before = writer_told (W.contents writer.old) (W.has_failed writer.old) (W.calls writer.old) in
             let now = writer_told (W.contents writer.new) (W.has_failed writer.new) (W.calls writer.new) in
             IfErr result (λ fault. StopsAtText fault before now (key_step script self.old.session.session key).text) }
@@ -80,13 +83,15 @@ impl<'g, B: Board, R: Rules<B> + Drop> Play<'g, B, R> {
         ensures game { self.new.session.game ≡ self.old.session.game }
         ensures plain { R.meant self.new.rules.plain ≡ R.meant self.old.rules.plain }
         ensures late { R.meant self.new.rules.late ≡ R.meant self.old.rules.late }
-        ensures played { let script = script_for B.table_for self.old.session.game (R.meant self.old.rules.plain) (R.meant self.old.rules.late) in
+        ensures played { let script = script_for B.table_for self.old.session.game
+            (R.meant self.old.rules.plain) (R.meant self.old.rules.late) in
             let from = writer_told (W.contents writer.old) (W.has_failed writer.old) (W.calls writer.old) in
             let now = writer_told (W.contents writer.new) (W.has_failed writer.new) (W.calls writer.new) in
             OnOk result ((before : WriterState) (read : List ℕ)
             → HavePlayed script before from self.old.session.session self.old.keys read
             → HavePlayed script before now self.new.session.session self.new.keys (read ++ byte ∷ [])) }
-        ensures stops { let script = script_for B.table_for self.old.session.game (R.meant self.old.rules.plain) (R.meant self.old.rules.late) in
+        ensures stops { let script = script_for B.table_for self.old.session.game
+            (R.meant self.old.rules.plain) (R.meant self.old.rules.late) in
             let from = writer_told (W.contents writer.old) (W.has_failed writer.old) (W.calls writer.old) in
             let now = writer_told (W.contents writer.new) (W.has_failed writer.new) (W.calls writer.new) in
             IfErr result (λ fault. (before : WriterState) (read : List ℕ)
@@ -115,13 +120,15 @@ impl<'g, B: Board, R: Rules<B> + Drop> Play<'g, B, R> {
         ensures game { self.new.session.game ≡ self.old.session.game }
         ensures plain { R.meant self.new.rules.plain ≡ R.meant self.old.rules.plain }
         ensures late { R.meant self.new.rules.late ≡ R.meant self.old.rules.late }
-        ensures played { let script = script_for B.table_for self.old.session.game (R.meant self.old.rules.plain) (R.meant self.old.rules.late) in
+        ensures played { let script = script_for B.table_for self.old.session.game
+            (R.meant self.old.rules.plain) (R.meant self.old.rules.late) in
             let from = writer_told (W.contents writer.old) (W.has_failed writer.old) (W.calls writer.old) in
             let now = writer_told (W.contents writer.new) (W.has_failed writer.new) (W.calls writer.new) in
             OnOk result ((before : WriterState) (read : List ℕ)
             → HavePlayed script before from self.old.session.session self.old.keys read
             → HavePlayed script before now self.new.session.session self.new.keys (read ++ piece.now)) }
-        ensures stops { let script = script_for B.table_for self.old.session.game (R.meant self.old.rules.plain) (R.meant self.old.rules.late) in
+        ensures stops { let script = script_for B.table_for self.old.session.game
+            (R.meant self.old.rules.plain) (R.meant self.old.rules.late) in
             let from = writer_told (W.contents writer.old) (W.has_failed writer.old) (W.calls writer.old) in
             let now = writer_told (W.contents writer.new) (W.has_failed writer.new) (W.calls writer.new) in
             IfErr result (λ fault. (before : WriterState) (read : List ℕ)
@@ -173,9 +180,12 @@ impl<'g, B: Board, R: Rules<B> + Drop> Play<'g, B, R> {
         ensures heard { result ≢ Err RunFault.Read → I.has_failed reader.new ≡ false }
         ensures well { result ≢ Err RunFault.Write → W.has_failed writer.new ≡ false }
         ensures told { result ≡ Err RunFault.Write → W.has_failed writer.new ≡ true }
-        ensures answers { let script = script_for B.table_for self.old.session.game (R.meant self.old.rules.plain) (R.meant self.old.rules.late) in
-            let had = reader_told (I.remaining reader.old) (I.has_failed reader.old) (I.last reader.old) (I.calls reader.old) in
-            let has = reader_told (I.remaining reader.new) (I.has_failed reader.new) (I.last reader.new) (I.calls reader.new) in
+        ensures answers { let script = script_for B.table_for self.old.session.game
+            (R.meant self.old.rules.plain) (R.meant self.old.rules.late) in
+            let had = reader_told (I.remaining reader.old) (I.has_failed reader.old)
+            (I.last reader.old) (I.calls reader.old) in
+            let has = reader_told (I.remaining reader.new) (I.has_failed reader.new)
+            (I.last reader.new) (I.calls reader.new) in
             let from = writer_told (W.contents writer.old) (W.has_failed writer.old) (W.calls writer.old) in
             let now = writer_told (W.contents writer.new) (W.has_failed writer.new) (W.calls writer.new) in
             (before : WriterState) → HavePlayed script before from self.old.session.session self.old.keys []

@@ -37,8 +37,10 @@ pub fn run<I: ByteReader, W: ByteWriter>(
 ) -> Result<Ending, RunFault>
     requires heard { I.has_failed reader.old ≡ false }
     requires well { W.has_failed writer.old ≡ false }
-    ensures rightly { let had = reader_told (I.remaining reader.old) (I.has_failed reader.old) (I.last reader.old) (I.calls reader.old) in
-        let has = reader_told (I.remaining reader.new) (I.has_failed reader.new) (I.last reader.new) (I.calls reader.new) in
+    ensures rightly { let had = reader_told (I.remaining reader.old) (I.has_failed reader.old)
+        (I.last reader.old) (I.calls reader.old) in
+        let has = reader_told (I.remaining reader.new) (I.has_failed reader.new)
+        (I.last reader.new) (I.calls reader.new) in
         let before = writer_told (W.contents writer.old) (W.has_failed writer.old) (W.calls writer.old) in
         let now = writer_told (W.contents writer.new) (W.has_failed writer.new) (W.calls writer.new) in
         RunsRightly text.now had has before now (answer_of result) }
