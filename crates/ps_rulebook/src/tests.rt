@@ -60,15 +60,23 @@ fn program_of<'r>(alloc: Global, commands: &'r Commands) -> Result<Program<'r>, 
     Ok(Program::from_sections(sections))
 }
 
+/// Programs of one rule, the plain one with the first commands, and the late one with the others.
+fn programs_of<'r>(
+    alloc: Global,
+    first: &'r Commands,
+    others: &'r Commands,
+) -> Result<CompiledPrograms<'r>, Memory> {
+    let plain = program_of(alloc, first)?;
+    let late = program_of(alloc, others)?;
+    Ok(CompiledPrograms { plain, late })
+}
+
 #[test]
 fn the_first_message_stays(rt: HostRuntime) -> Result<(), Fail> {
     let alloc = rt.alloc();
     let plain_commands = won_with(alloc, "plain")?;
     let late_commands = won_with(alloc, "late")?;
-    let programs = CompiledPrograms {
-        plain: program_of(alloc, &plain_commands)?,
-        late: program_of(alloc, &late_commands)?,
-    };
+    let programs = programs_of(alloc, &plain_commands, &late_commands)?;
     let mut rules = rules_of(alloc, &programs);
     let mut board = ListBoard::try_empty(alloc, 1, 1, 1, &[])?;
     let mut queue = Queue::new();
