@@ -12,14 +12,14 @@ use std::alloc::Global;
 
 /// The rules of one part of a turn: the sections of a compiled program, lent, and where their runs take memory from.
 #[derive(Drop)]
-pub struct GameRules<'r> {
+pub struct GameRules<'p, 'r> {
     alloc: Global,
-    sections: &'r [CompiledSection<'r>],
+    sections: &'p [CompiledSection<'r>],
 }
 
-impl<'r> GameRules<'r> {
+impl<'p, 'r> GameRules<'p, 'r> {
     /// The rules of a program.
-    pub fn new(alloc: Global, program: &'r Program<'r>) -> GameRules<'r>
+    pub fn new(alloc: Global, program: &'p Program<'r>) -> GameRules<'p, 'r>
         ensures { sections_shown result.sections.now ≡ program.entry.now }
     {
         GameRules {
@@ -29,7 +29,7 @@ impl<'r> GameRules<'r> {
     }
 }
 
-impl<'r, B: Scan> Rules<B> for GameRules<'r> {
+impl<'p, 'r, B: Scan> Rules<B> for GameRules<'p, 'r> {
     ghost use Rattle.ps_engine.specs.RulesInRoom.{sections_meaning};
 
     ghost meant = { λ rules table. sections_meaning table rules.sections.now };

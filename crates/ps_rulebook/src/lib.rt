@@ -18,3 +18,6 @@ pub use ps_compile::Programs as CompiledPrograms;
 pub use ps_engine::{ListBoard, Scan};
 pub use ps_model::Memory;
 pub use ps_turn::{Programs, Rules};
+
+#[cfg(test)]
+mod tests;
