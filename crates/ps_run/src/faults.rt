@@ -1,7 +1,7 @@
 //! Why a run stops.
 
 ghost use Rattle.std.specs.Prelude.{◌≡◌};
-ghost use Rattle.ps_run.specs.Faults.{run_fault_of};
+ghost use Rattle.ps_run.specs.Faults.{fault_of, run_fault_of};
 
 use ps_model::{Fault, Memory, Refusal};
 use thiserror::Error;
@@ -62,15 +62,12 @@ pub fn fault_of_piece(fault: PieceFault) -> RunFault
     }
 }
 
-impl From<Refusal> for RunFault {
-    ghost use Rattle.ps_run.specs.Faults.{fault_of};
-
-    ghost from_gives = { λ refusal fault. fault ≡ fault_of refusal };
-
-    fn from(refusal: Refusal) -> RunFault {
-        match refusal {
-            Refusal::Refused(fault) => RunFault::Refused(fault),
-            Refusal::Memory => RunFault::Memory,
-        }
+/// The fault of a run whose text is refused, or whose reading wants memory.
+pub fn fault_of_refusal(refusal: Refusal) -> RunFault
+    ensures { result ≡ fault_of refusal }
+{
+    match refusal {
+        Refusal::Refused(fault) => RunFault::Refused(fault),
+        Refusal::Memory => RunFault::Memory,
     }
 }

@@ -1,19 +1,19 @@
 //! Plays games of PuzzleScript: a text and keys in, frames out.
 #![tactic(auto)]
 
-mod check;
+mod checking;
 mod faults;
 mod game_run;
 mod laws;
 mod play;
-mod run;
+mod text_run;
 
-pub use check::check;
+pub use checking::check;
 pub use faults::RunFault;
 pub use laws::answers_carry_over;
 pub use ps_devices::{ByteReader, ByteWriter};
 pub use ps_model::{Ending, Fault, FaultKind};
-pub use run::run;
+pub use text_run::run;
 
 #[cfg(test)]
 mod tests;

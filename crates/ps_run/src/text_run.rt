@@ -1,14 +1,14 @@
 //! A run: a game's text and the keys in, the frames out.
 
-ghost use Rattle.std.specs.Prelude.{◌≡◌, ◌→◌, ℕ, List, Some, false};
-ghost use Rattle.ps_model.specs.game.Games.{game};
+ghost use Rattle.std.specs.Prelude.{◌≡◌, ℕ, List, Some, false};
+ghost use Rattle.ps_model.specs.game.Games.{game as game_in};
 ghost use Rattle.ps_model.specs.game.Headline.{RunsRightly, IsTrueOfText};
 ghost use Rattle.ps_rulebook.specs.PlayedGames.{AreCompiled};
 ghost use Rattle.ps_run.specs.Answering.{answer_of};
 ghost use Rattle.ps_run.specs.Played.{reader_told, writer_told};
 ghost use Rattle.ps_stage.specs.Playable.{ArePlayable};
 
-use crate::faults::RunFault;
+use crate::faults::{RunFault, fault_of_refusal};
 use crate::game_run::run_game;
 use ps_compile::{Programs as CompiledPrograms, compile};
 use ps_devices::{ByteReader, ByteWriter};
@@ -48,7 +48,7 @@ pub fn run<I: ByteReader, W: ByteWriter>(
 {
     let game = match read_game(alloc, text) {
         Ok(game) => game,
-        Err(refusal) => return Err(RunFault::from(refusal)),
+        Err(refusal) => return Err(fault_of_refusal(refusal)),
     };
     let compiled = match compile(alloc, &game.names, &game.rules) {
         Ok(compiled) => compiled,
@@ -72,8 +72,9 @@ fn run_compiled<I: ByteReader, W: ByteWriter>(
         let has = reader_told (I.remaining reader.new) (I.has_failed reader.new) (I.last reader.new) (I.calls reader.new) in
         let before = writer_told (W.contents writer.old) (W.has_failed writer.old) (W.calls writer.old) in
         let now = writer_told (W.contents writer.new) (W.has_failed writer.new) (W.calls writer.new) in
-        (text : List ℕ) → game text ≡ Some game.now → AreCompiled game.now.names game.now.rules compiled.now.plain compiled.now.late
+        (text : List ℕ) → game_in text ≡ Some game.now → AreCompiled game.now.names game.now.rules compiled.now.plain compiled.now.late
         → RunsRightly text had has before now (answer_of result) }
+    ensures true_of_text { (text : List ℕ) → game_in text ≡ Some game.now → IsTrueOfText text (answer_of result) }
 {
     let parts = SessionGame::new(
         game.title.as_str(),
@@ -83,5 +84,5 @@ fn run_compiled<I: ByteReader, W: ByteWriter>(
         &game.wins,
     );
     let rules = rules_of(alloc, compiled);
-    run_game::<ListBoard, GameRules<'_>, I, W>(alloc, parts, rules, reader, writer)
+    run_game::<ListBoard, GameRules<'_, '_>, I, W>(alloc, parts, rules, reader, writer)
 }
