@@ -9,7 +9,8 @@ use std::convert::AsStr;
 const VERSION: &str = "0.2.0";
 
 /// What help says below the arguments.
-const AFTER_HELP: &str = "Keys: w, a, s, d or the arrows move, x acts, z undoes, r restarts, q quits.
+const AFTER_HELP: &str =
+    "Keys: w, a, s, d or the arrows move, x acts, z undoes, r restarts, q quits.
 Status: 0 where the run ended or the check accepted, 1 at a fault, 2 at a bad command line.
 A fault of the game is told on standard error, as `line 30: RU7 Unbound`; --check tells it
 on standard output.";
@@ -70,7 +71,9 @@ fn game_argument(alloc: Global) -> Result<Arg<'static>, AllocError> {
 fn check_option(alloc: Global) -> Arg<'static> {
     Arg::new(alloc, "check")
         .long("check")
-        .help("Says whether the text is a game, and how large, or which fault it has; plays nothing")
+        .help(
+            "Says whether the text is a game, and how large, or which fault it has; plays nothing",
+        )
         .action(ArgAction::SetTrue)
 }
 

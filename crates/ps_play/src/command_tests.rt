@@ -1,7 +1,7 @@
 //! Command lines and what they ask for, and the sentences of faults.
 
-use crate::explanations::explanation;
 use crate::command::{Asked, read_command};
+use crate::explanations::explanation;
 use crate::stops::Stop;
 use std::process::Abort;
 use std::test::Fail;

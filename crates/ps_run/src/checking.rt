@@ -55,7 +55,9 @@ fn line_on(alloc: Global, game: &Game) -> Result<String, Memory>
     let layers = game.names.layer_count();
     let rules = rules_among(game.rules.lines());
     let levels = levels_among(&game.entries);
-    let line = format!(in alloc; "ok: objects {objects}, layers {layers}, rules {rules}, levels {levels}\n")?;
+    let line = format!(in alloc;
+        "ok: objects {objects}, layers {layers}, rules {rules}, levels {levels}\n"
+    )?;
     Ok(line)
 }
 
@@ -67,7 +69,10 @@ fn checked(alloc: Global, text: &[u8]) -> Result<Checked, Memory>
     match read_game(alloc, text) {
         Ok(game) => {
             let line = line_on(alloc, &game)?;
-            Ok(Checked { accepted: true, line })
+            Ok(Checked {
+                accepted: true,
+                line,
+            })
         }
         Err(Refusal::Refused(fault)) => {
             let line = format!(in alloc; "{fault}\n")?;

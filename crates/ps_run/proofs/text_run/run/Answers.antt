@@ -34,13 +34,13 @@ run_compiled-requires-clause-playable g c =
 pub returns-clause-rightly : goal.returns-clause-rightly
 returns-clause-rightly g c =
     c.run_compiled.ensures.rightly c.args.text.now c.in-Ok.ensures.read.0 (
-      made_of c.game.inside.names c.in-Ok.game.names c.game.inside.rules c.in-Ok.game.rules c.in-Ok-compile.compiled.plain c.in-Ok-compile.compiled.late (ap (λ (r : Game). r.names) c.game.view_is)
-      (ap (λ (r : Game). r.rules) c.game.view_is) (
-        record {
-          plain_alike = c.in-Ok-compile.ensures.plain_alike;
-          late_alike = c.in-Ok-compile.ensures.late_alike;
-          plain_runs = c.in-Ok-compile.ensures.plain_runs;
-          late_runs = c.in-Ok-compile.ensures.late_runs;
-        }
-      )
+    made_of c.game.inside.names c.in-Ok.game.names c.game.inside.rules c.in-Ok.game.rules c.in-Ok-compile.compiled.plain c.in-Ok-compile.compiled.late (ap (λ (r : Game). r.names) c.game.view_is)
+    (ap (λ (r : Game). r.rules) c.game.view_is) (
+    record {
+      plain_alike = c.in-Ok-compile.ensures.plain_alike;
+      late_alike = c.in-Ok-compile.ensures.late_alike;
+      plain_runs = c.in-Ok-compile.ensures.plain_runs;
+      late_runs = c.in-Ok-compile.ensures.late_runs;
+    }
+    )
     )
