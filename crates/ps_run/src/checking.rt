@@ -20,7 +20,7 @@ use std::alloc::Global;
 
 /// What a check says of a text: whether it is a game, and the line that tells so.
 #[derive(Drop)]
-struct Checked {
+struct CheckedText {
     accepted: bool,
     line: String,
 }
@@ -62,21 +62,21 @@ fn line_on(alloc: Global, game: &Game) -> Result<String, Memory>
 }
 
 /// What a check says of a text.
-fn checked(alloc: Global, text: &[u8]) -> Result<Checked, Memory>
+fn check_text(alloc: Global, text: &[u8]) -> Result<CheckedText, Memory>
     ensures line { IfOk result (λ checked. checked.line ≡ check_line text.now) }
     ensures accepted { IfOk result (λ checked. checked.accepted ≡ is_some (game text.now)) }
 {
     match read_game(alloc, text) {
         Ok(game) => {
             let line = line_on(alloc, &game)?;
-            Ok(Checked {
+            Ok(CheckedText {
                 accepted: true,
                 line,
             })
         }
         Err(Refusal::Refused(fault)) => {
             let line = format!(in alloc; "{fault}\n")?;
-            Ok(Checked {
+            Ok(CheckedText {
                 accepted: false,
                 line,
             })
@@ -103,7 +103,7 @@ pub fn check<W: ByteWriter>(alloc: Global, text: &[u8], writer: &mut W) -> Resul
     ensures well { result ≢ Err RunFault.Write → W.has_failed writer.new ≡ false }
     ensures told { result ≡ Err RunFault.Write → W.has_failed writer.new ≡ true }
 {
-    let checked = checked(alloc, text)?;
+    let checked = check_text(alloc, text)?;
     match write_whole(checked.line.as_bytes(), writer) {
         Ok(()) => Ok(checked.accepted),
         Err(_) => Err(RunFault::Write),
