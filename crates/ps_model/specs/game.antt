@@ -3,4 +3,3 @@ pub mod Outputs
 pub mod Tellings
 pub mod Headline
 pub mod HeldFaults
-pub mod Checks

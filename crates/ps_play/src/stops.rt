@@ -17,8 +17,6 @@ pub enum Stop {
     NoSuchCode,
     /// The game can't be read.
     Game,
-    /// The text that was to be checked is no game; that is told already.
-    NotAccepted,
     /// The run came to a fault, or memory ran out before it.
     Run(RunFault),
 }
@@ -76,7 +74,6 @@ pub fn tell<R: Print + Eprint>(rt: &R, stop: Stop) -> u8 {
         Stop::Game => {
             let _ = rt.eprintln("cannot read game");
         }
-        Stop::NotAccepted => {}
         Stop::Run(fault) => {
             let _ = rt.eprintln(fault);
         }

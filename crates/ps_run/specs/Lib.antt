@@ -2,4 +2,3 @@ pub mod Faults
 pub mod Played
 pub mod Runs
 pub mod Answering
-pub mod Checks

@@ -1,14 +1,12 @@
 //! Plays games of PuzzleScript: a text and keys in, frames out.
 #![tactic(auto)]
 
-mod checking;
 mod faults;
 mod game_run;
 mod laws;
 mod play;
 mod text_run;
 
-pub use checking::check;
 pub use faults::RunFault;
 pub use laws::answers_carry_over;
 pub use ps_devices::{ByteReader, ByteWriter};

@@ -33,7 +33,7 @@ fn level_count(entry: &Entry) -> usize
 }
 
 /// How many of the entries are levels.
-pub fn levels_among(entries: &[Entry]) -> usize
+fn levels_among(entries: &[Entry]) -> usize
     ensures { result ≡ length (filter is_level (entries_shown entries.now)) }
 {
     let mut count = 0;

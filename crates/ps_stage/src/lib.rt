@@ -17,7 +17,6 @@ mod places;
 mod stage;
 mod starts;
 
-pub use entering::levels_among;
 pub use entries::EntryNumber;
 pub use game::SessionGame;
 pub use levels::PlayedLevel;
