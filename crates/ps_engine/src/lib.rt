@@ -13,6 +13,4 @@ pub use ps_match::{ListBoard, Scan};
 pub use queue::Queue;
 
 #[cfg(test)]
-mod full_boards;
-#[cfg(test)]
 mod tests;

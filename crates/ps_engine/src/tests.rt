@@ -12,9 +12,9 @@ use std::alloc::Global;
 use std::process::Abort;
 use std::test::Fail;
 
-pub const LOWEST: LayerId = LayerId(0);
+const LOWEST: LayerId = LayerId(0);
 
-pub fn nothing() -> Commands {
+fn nothing() -> Commands {
     Commands {
         cancel: false,
         restart: false,
@@ -26,7 +26,7 @@ pub fn nothing() -> Commands {
 }
 
 /// Puts an object in a column, if the letter isn't a dot.
-pub fn lay(board: &mut ListBoard, x: u32, letter: u8) {
+fn lay(board: &mut ListBoard, x: u32, letter: u8) {
     let (width, height) = board.size();
     if letter != b'.' && x < width * height && 0 < board.layers() {
         board.put(x, LOWEST, Some(ObjectId(letter as u32)), Motion::Still);
@@ -34,7 +34,7 @@ pub fn lay(board: &mut ListBoard, x: u32, letter: u8) {
 }
 
 /// A board of one row.
-pub fn board_of(alloc: Global, row: &[u8]) -> Result<ListBoard, Memory> {
+fn board_of(alloc: Global, row: &[u8]) -> Result<ListBoard, Memory> {
     let fits = row.len() != 0 && row.len() <= SIDE_LIMIT as usize;
     let width = if fits { row.len() as u32 } else { 1 };
     let mut board = ListBoard::try_empty(alloc, width, 1, 1, &[])?;
@@ -47,7 +47,7 @@ pub fn board_of(alloc: Global, row: &[u8]) -> Result<ListBoard, Memory> {
 }
 
 /// The row of a board shows these letters.
-pub fn check(rt: &impl Abort, board: &ListBoard, row: &[u8]) {
+fn check(rt: &impl Abort, board: &ListBoard, row: &[u8]) {
     let (width, height) = board.size();
     assert_eq!(rt; width as usize, row.len());
     for x in 0..width {
@@ -96,7 +96,7 @@ fn cell(alloc: Global, left: u8, right: u8) -> Result<CompiledCell, Memory> {
 }
 
 /// A row: its parts by their cells, each the letter on the left and the one on the right.
-pub fn row(alloc: Global, parts: &[&[(u8, u8)]]) -> Result<List<List<CompiledCell>>, Memory> {
+fn row(alloc: Global, parts: &[&[(u8, u8)]]) -> Result<List<List<CompiledCell>>, Memory> {
     let mut all = Vec::new(alloc);
     for part in parts {
         let mut cells = Vec::new(alloc);
@@ -108,7 +108,7 @@ pub fn row(alloc: Global, parts: &[&[(u8, u8)]]) -> Result<List<List<CompiledCel
     Ok(List::from_vec(all))
 }
 
-pub fn rule<'r>(
+fn rule<'r>(
     direction: Direction,
     rows: Vec<List<List<CompiledCell>>>,
     commands: &'r Commands,
@@ -197,58 +197,5 @@ fn the_smaller_gap_comes_first(rt: HostRuntime) -> Result<(), Fail> {
     )?;
     assert!(&rt; changed);
     check(&rt, &board, b"C.B..");
-    Ok(())
-}
-
-/// One row of one cell: the letter on the left becomes the one on the right.
-fn turning(alloc: Global, left: u8, right: u8) -> Result<Vec<List<List<CompiledCell>>>, Memory> {
-    let mut rows = Vec::new(alloc);
-    rows.push(row(alloc, &[&[(left, right)]])?)?;
-    Ok(rows)
-}
-
-#[test]
-fn a_group_ends_after_its_rounds(rt: HostRuntime) -> Result<(), Fail> {
-    let alloc = rt.alloc();
-    let commands = nothing();
-    let mut to_and_fro = Vec::new(alloc);
-    let turned = turning(alloc, b'A', b'B')?;
-    to_and_fro.push(rule(Direction::Right, turned, &commands))?;
-    let turned = turning(alloc, b'B', b'A')?;
-    to_and_fro.push(rule(Direction::Right, turned, &commands))?;
-    let mut last = Vec::new(alloc);
-    let turned = turning(alloc, b'A', b'C')?;
-    last.push(rule(Direction::Right, turned, &commands))?;
-    let mut sections = Vec::new(alloc);
-    sections.push(CompiledSection::Group(List::from_vec(to_and_fro)))?;
-    sections.push(CompiledSection::Group(List::from_vec(last)))?;
-    let mut board = board_of(alloc, b"A")?;
-    let mut queue = Queue::empty();
-    run_program(alloc, sections.as_slice(), &mut board, &mut queue)?;
-    check(&rt, &board, b"C");
-    Ok(())
-}
-
-#[test]
-fn a_loop_that_never_settles_ends_the_run(rt: HostRuntime) -> Result<(), Fail> {
-    let alloc = rt.alloc();
-    let commands = nothing();
-    let mut groups = Vec::new(alloc);
-    for letters in [(b'C', b'A'), (b'B', b'C'), (b'A', b'B')] {
-        let mut rules = Vec::new(alloc);
-        let turned = turning(alloc, letters.0, letters.1)?;
-        rules.push(rule(Direction::Right, turned, &commands))?;
-        groups.push(List::from_vec(rules))?;
-    }
-    let mut last = Vec::new(alloc);
-    let turned = turning(alloc, b'B', b'D')?;
-    last.push(rule(Direction::Right, turned, &commands))?;
-    let mut sections = Vec::new(alloc);
-    sections.push(CompiledSection::Loop(List::from_vec(groups)))?;
-    sections.push(CompiledSection::Group(List::from_vec(last)))?;
-    let mut board = board_of(alloc, b"A")?;
-    let mut queue = Queue::empty();
-    run_program(alloc, sections.as_slice(), &mut board, &mut queue)?;
-    check(&rt, &board, b"B");
     Ok(())
 }
