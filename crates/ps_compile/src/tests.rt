@@ -1,7 +1,7 @@
 //! Rules of a small game, compiled.
 
 use crate::{CompiledRule, CompiledSection, Program, compile};
-use ps_model::{Direction, Refusal};
+use ps_model::Refusal;
 use ps_names::{Names, read_names};
 use ps_rules::{RuleText, read_rules};
 use ps_text::{List, Source};
@@ -117,25 +117,13 @@ fn keeps_the_order_of_readings(rt: HostRuntime) {
     assert!(rt; pair_at(alloc, rules, 4) == None);
 }
 
-/// The direction of the compiled rule at a place.
-fn direction_at(alloc: Global, rules: &str, place: usize) -> Option<Direction> {
-    let source = source_of(alloc, rules).ok()?;
-    let names = names_of(alloc, &source).ok()?;
-    let text = rules_of(alloc, &source, &names).ok()?;
-    let programs = compile(alloc, &names, &text).ok()?;
-    let rule = first_group(&programs.plain)?.as_slice().get(place)?;
-    Some(rule.direction)
-}
-
 #[test]
 fn turns_rules_down_or_right(rt: HostRuntime) {
     let alloc = rt.alloc();
     // `A` is the object 5 and `B` the object 6
     assert!(rt; pair_at(alloc, "down [ A | B ] -> [ | ]\n", 0) == Some((5, 6)));
     assert!(rt; pair_at(alloc, "up [ A | B ] -> [ | ]\n", 0) == Some((6, 5)));
-    assert!(rt; direction_at(alloc, "up [ A | B ] -> [ | ]\n", 0) == Some(Direction::Down));
     assert!(rt; pair_at(alloc, "left [ A | B ] -> [ | ]\n", 0) == Some((6, 5)));
-    assert!(rt; direction_at(alloc, "left [ A | B ] -> [ | ]\n", 0) == Some(Direction::Right));
     assert!(rt; pair_at(alloc, "right [ A | B ] -> [ | ]\n", 0) == Some((5, 6)));
 }
 
@@ -206,25 +194,6 @@ fn largest_rule(alloc: Global) -> Option<String> {
     Some(text)
 }
 
-/// How many rows the first compiled rule has, how many cells the last of them, and how many objects the last of these
-/// needs and bars.
-fn shape_of(alloc: Global, rules: &str) -> Option<(usize, usize, usize, usize)> {
-    let source = source_of(alloc, rules).ok()?;
-    let names = names_of(alloc, &source).ok()?;
-    let text = rules_of(alloc, &source, &names).ok()?;
-    let programs = compile(alloc, &names, &text).ok()?;
-    let rule = first_group(&programs.plain)?.as_slice().get(0)?;
-    let row = rule.rows.as_slice().last()?;
-    let part = row.as_slice().get(0)?;
-    let cell = part.as_slice().last()?;
-    Some((
-        rule.rows.as_slice().len(),
-        part.as_slice().len(),
-        cell.mask.needed.as_slice().len(),
-        cell.mask.barred.as_slice().len(),
-    ))
-}
-
 #[test]
 fn compiles_a_large_rule_whole(rt: HostRuntime) {
     let alloc = rt.alloc();
@@ -233,5 +202,4 @@ fn compiles_a_large_rule_whole(rt: HostRuntime) {
         return;
     };
     assert!(rt; count_of(alloc, rule.as_str()) == Some(1));
-    assert!(rt; shape_of(alloc, rule.as_str()) == Some((12, 40, 4, 1)));
 }
