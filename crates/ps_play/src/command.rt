@@ -35,11 +35,11 @@ pub fn read_command<'w, S: AsStr>(alloc: Global, words: &'w [S]) -> Result<Asked
         .arg(keys_option(alloc))?
         .arg(explain_option(alloc)?)?;
     let matches = command.try_get_matches_from(words)?;
-    asked(&matches)
+    asked_by(&matches)
 }
 
 /// What the matches of a command line ask for.
-fn asked<'w>(matches: &ArgMatches<'w>) -> Result<Asked<'w>, Stop> {
+fn asked_by<'w>(matches: &ArgMatches<'w>) -> Result<Asked<'w>, Stop> {
     if let Some(code) = matches.get_str("explain") {
         return Ok(Asked::Explanation(code));
     }

@@ -8,6 +8,8 @@ mod command_tests;
 mod explanations;
 mod stops;
 
+ghost use Rattle.std.specs.Prelude.{◌≡◌, false};
+
 use command::{Asked, read_command};
 use explanations::explanation;
 use ps_devices::{ByteReader, ByteWriter, FromStd};
