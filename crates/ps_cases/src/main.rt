@@ -1,7 +1,7 @@
-//! Reads small games, and says of each which fault it has, or plays it and says whether it writes what it must. The names
-//! of the games come on standard input, a line each, as `odd/play-001`; of NAME the text is the file NAME.game, the keys are
-//! NAME.keys, and what it must write is NAME.stdout, from where the program runs. What the games of `data/` are, and who
-//! says what each must do, stands in `data/README.md`.
+//! Reads small games, and says of each which fault it has, or plays it and says whether it writes what it must. The
+//! names of the games come on standard input, a line each, as `odd/play-001`; of NAME the text is the file NAME.game,
+//! the keys are NAME.keys, and what it must write is NAME.stdout, from where the program runs. What the games of
+//! `data/` are, and who says what each must do, stands in `data/README.md`.
 #![tactic(auto)]
 
 mod playing;

@@ -9,7 +9,8 @@ use std::alloc::Global;
 /// More bytes than any of the games has keys or writes.
 const WHOLE: usize = 1_048_576;
 
-/// Whether a game that is played with these keys, at most so many bytes at a call of a device, writes this and nothing else.
+/// Whether a game that is played with these keys, at most so many bytes at a call of a device, writes this and
+/// nothing else.
 fn writes(
     alloc: Global,
     text: &[u8],

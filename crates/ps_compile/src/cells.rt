@@ -24,7 +24,8 @@ pub fn cell_by(
     left: &[Wanted<'_>],
     right: &[Wanted<'_>],
 ) -> Result<CompiledCell, Memory>
-    ensures { IfOk result (λ cell. cell_shown cell ≡ cell_by names.now (wanteds_shown left.now) (wanteds_shown right.now)) }
+    ensures { IfOk result (λ cell. cell_shown cell
+        ≡ cell_by names.now (wanteds_shown left.now) (wanteds_shown right.now)) }
 {
     let mask = mask_of(alloc, names, left)?;
     let write = write_of(alloc, names, left, right)?;
@@ -39,7 +40,8 @@ pub fn compiled_cell(
     reading: &Reading,
     cell: &CellPair,
 ) -> Result<CompiledCell, Memory>
-    ensures { IfOk result (λ made. cell_shown made ≡ compiled_cell names.now occurrences.now (reading_shown reading.now) (pair_shown cell.now)) }
+    ensures { IfOk result (λ made. cell_shown made
+        ≡ compiled_cell names.now occurrences.now (reading_shown reading.now) (pair_shown cell.now)) }
 {
     let left = left_of_cell(alloc, names, occurrences, reading, cell)?;
     let right = right_of_cell(alloc, names, occurrences, reading, cell)?;

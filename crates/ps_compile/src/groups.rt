@@ -41,7 +41,8 @@ impl<'r> Groups<'r> {
 
     /// No groups yet.
     pub fn new(alloc: Global) -> Groups<'r>
-        ensures { (names : NamesMeant) (rules : Sequence Meant) → groups_with names result rules ≡ map (compiled_group names) (groups_of rules) }
+        ensures { (names : NamesMeant) (rules : Sequence Meant) → groups_with names result rules
+            ≡ map (compiled_group names) (groups_of rules) }
     {
         Groups {
             closed: Vec::new(alloc),
@@ -51,7 +52,8 @@ impl<'r> Groups<'r> {
 
     /// Closes the group that is open.
     fn close(&mut self) -> Result<(), Memory>
-        ensures closed { OnOk result (groups_shown self.new.closed.items ≡ groups_shown self.old.closed.items ++ opened_groups (option_map open_shown self.old.open)) }
+        ensures closed { OnOk result (groups_shown self.new.closed.items
+            ≡ groups_shown self.old.closed.items ++ opened_groups (option_map open_shown self.old.open)) }
         ensures none { OnOk result (self.new.open ≡ None) }
     {
         if let Some(rules) = self.open.take() {
@@ -62,8 +64,10 @@ impl<'r> Groups<'r> {
 
     /// Closes the group that is open, unless the next rule is joined to it.
     fn close_unless(&mut self, joined: bool) -> Result<(), Memory>
-        ensures closed { OnOk result (groups_shown self.new.closed.items ≡ groups_shown self.old.closed.items ++ closed_by joined (option_map open_shown self.old.open)) }
-        ensures open { OnOk result (option_map open_shown self.new.open ≡ left_open joined (option_map open_shown self.old.open)) }
+        ensures closed { OnOk result (groups_shown self.new.closed.items
+            ≡ groups_shown self.old.closed.items ++ closed_by joined (option_map open_shown self.old.open)) }
+        ensures open { OnOk result (option_map open_shown self.new.open
+            ≡ left_open joined (option_map open_shown self.old.open)) }
     {
         if joined {
             return Ok(());
@@ -73,7 +77,8 @@ impl<'r> Groups<'r> {
 
     /// Takes the compiled rules of the next rule.
     pub fn add(&mut self, alloc: Global, names: &Names, rule: &'r SourceRule) -> Result<(), Memory>
-        ensures { OnOk result ((rules : Sequence Meant) → groups_with names.now self.new rules ≡ groups_with names.now self.old (source_shown rule.entry.now ∷ rules)) }
+        ensures { OnOk result ((rules : Sequence Meant) → groups_with names.now self.new rules
+            ≡ groups_with names.now self.old (source_shown rule.entry.now ∷ rules)) }
     {
         self.close_unless(rule.joined)?;
         let mut rules = taken(alloc, &mut self.open);
@@ -84,7 +89,8 @@ impl<'r> Groups<'r> {
 
     /// All groups, as no rule is to come any more.
     pub fn finish(self) -> Result<Vec<List<CompiledRule<'r>>>, Memory>
-        ensures { IfOk result (λ groups. (names : NamesMeant) → groups_shown groups.items ≡ groups_with names self.entry []) }
+        ensures { IfOk result (λ groups. (names : NamesMeant) → groups_shown groups.items
+            ≡ groups_with names self.entry []) }
     {
         let mut groups = self;
         groups.close_unless(false)?;

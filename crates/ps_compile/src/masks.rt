@@ -4,7 +4,8 @@ ghost use Rattle.std.specs.Prelude.{◌≡◌, ◌++◌, IfOk, OnOk, map};
 ghost use Rattle.std.specs.List.{flat_map, filter_map};
 ghost use Rattle.std.specs.Option.{option_to_list};
 ghost use Rattle.ps_model.specs.meaning.Wanted.{denied};
-ghost use Rattle.ps_model.specs.meaning.CompiledCells.{layered as layered_meant, needed_by, one_of_by, motion_test, mask_of};
+ghost use Rattle.ps_model.specs.meaning.CompiledCells.{layered as layered_meant, needed_by, one_of_by, motion_test};
+ghost use Rattle.ps_model.specs.meaning.CompiledCells.{mask_of};
 ghost use Rattle.ps_readings.specs.WantedShown.{wanted_shown, wanteds_shown};
 ghost use Rattle.ps_program.specs.ProgramShown.{mask_shown};
 
@@ -35,7 +36,8 @@ fn push_needed(
     names: &Names,
     wanted: Wanted<'_>,
 ) -> Result<(), Memory>
-    ensures { OnOk result (made.new.items ≡ made.old.items ++ map (layered_meant names.now) (needed_by (wanted_shown wanted.entry))) }
+    ensures { OnOk result (made.new.items
+        ≡ made.old.items ++ map (layered_meant names.now) (needed_by (wanted_shown wanted.entry))) }
 {
     match wanted {
         Wanted::Each(objects, _) => push_layered(made, names, objects),
@@ -55,7 +57,8 @@ fn needed_of(
     names: &Names,
     side: &[Wanted<'_>],
 ) -> Result<Vec<LayeredObject>, Memory>
-    ensures { IfOk result (λ made. made.items ≡ map (layered_meant names.now) (flat_map needed_by (wanteds_shown side.now))) }
+    ensures { IfOk result (λ made. made.items
+        ≡ map (layered_meant names.now) (flat_map needed_by (wanteds_shown side.now))) }
 {
     let mut made = Vec::new(alloc);
     for wanted in side {
@@ -70,7 +73,8 @@ fn push_denied(
     names: &Names,
     wanted: Wanted<'_>,
 ) -> Result<(), Memory>
-    ensures { OnOk result (made.new.items ≡ made.old.items ++ map (layered_meant names.now) (denied (wanted_shown wanted.entry))) }
+    ensures { OnOk result (made.new.items
+        ≡ made.old.items ++ map (layered_meant names.now) (denied (wanted_shown wanted.entry))) }
 {
     match wanted {
         Wanted::Each(_, _) => Ok(()),
@@ -86,7 +90,8 @@ pub fn denied_of(
     names: &Names,
     side: &[Wanted<'_>],
 ) -> Result<Vec<LayeredObject>, Memory>
-    ensures { IfOk result (λ made. made.items ≡ map (layered_meant names.now) (flat_map denied (wanteds_shown side.now))) }
+    ensures { IfOk result (λ made. made.items
+        ≡ map (layered_meant names.now) (flat_map denied (wanteds_shown side.now))) }
 {
     let mut made = Vec::new(alloc);
     for wanted in side {
@@ -102,7 +107,8 @@ fn push_one_of(
     names: &Names,
     wanted: Wanted<'_>,
 ) -> Result<(), Memory>
-    ensures { OnOk result (made.new.items ≡ made.old.items ++ map (map (layered_meant names.now)) (one_of_by (wanted_shown wanted.entry))) }
+    ensures { OnOk result (made.new.items
+        ≡ made.old.items ++ map (map (layered_meant names.now)) (one_of_by (wanted_shown wanted.entry))) }
 {
     match wanted {
         Wanted::Each(_, _) => Ok(()),
@@ -123,7 +129,8 @@ fn one_of_of(
     names: &Names,
     side: &[Wanted<'_>],
 ) -> Result<Vec<List<LayeredObject>>, Memory>
-    ensures { IfOk result (λ made. made.items ≡ map (map (layered_meant names.now)) (flat_map one_of_by (wanteds_shown side.now))) }
+    ensures { IfOk result (λ made. made.items
+        ≡ map (map (layered_meant names.now)) (flat_map one_of_by (wanteds_shown side.now))) }
 {
     let mut made = Vec::new(alloc);
     for wanted in side {

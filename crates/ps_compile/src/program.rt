@@ -47,7 +47,8 @@ fn compiled_groups<'r>(
     part: Part,
     lines: &'r [RuleLine],
 ) -> Result<Vec<List<CompiledRule<'r>>>, Memory>
-    ensures { IfOk result (λ groups. groups_shown groups.items ≡ compact_groups names.now part (lines_shown lines.entry.now)) }
+    ensures { IfOk result (λ groups. groups_shown groups.items
+        ≡ compact_groups names.now part (lines_shown lines.entry.now)) }
 {
     let mut groups = Groups::new(alloc);
     for line in lines {
@@ -66,7 +67,8 @@ fn push_groups<'r>(
     sections: &mut Vec<CompiledSection<'r>>,
     groups: Vec<List<CompiledRule<'r>>>,
 ) -> Result<(), Memory>
-    ensures { OnOk result (sections_shown sections.new.items ≡ sections_shown sections.old.items ++ map CompiledGroup (groups_shown groups.entry.items)) }
+    ensures { OnOk result (sections_shown sections.new.items
+        ≡ sections_shown sections.old.items ++ map CompiledGroup (groups_shown groups.entry.items)) }
 {
     for group in groups {
         sections.push(CompiledSection::Group(group))?;
@@ -82,7 +84,8 @@ fn push_outside<'r>(
     part: Part,
     lines: &'r [RuleLine],
 ) -> Result<(), Memory>
-    ensures { OnOk result (sections_shown sections.new.items ≡ sections_shown sections.old.items ++ compact_outside names.now part (lines_shown lines.entry.now)) }
+    ensures { OnOk result (sections_shown sections.new.items
+        ≡ sections_shown sections.old.items ++ compact_outside names.now part (lines_shown lines.entry.now)) }
 {
     let groups = compiled_groups(alloc, names, part, lines)?;
     push_groups(sections, groups)
@@ -96,7 +99,8 @@ fn push_all_outside<'r>(
     part: Part,
     pieces: &[&'r [RuleLine]],
 ) -> Result<(), Memory>
-    ensures { OnOk result (sections_shown sections.new.items ≡ sections_shown sections.old.items ++ flat_map (compact_outside names.now part) (pieces_shown pieces.now)) }
+    ensures { OnOk result (sections_shown sections.new.items
+        ≡ sections_shown sections.old.items ++ flat_map (compact_outside names.now part) (pieces_shown pieces.now)) }
 {
     for piece in pieces {
         push_outside(alloc, sections, names, part, piece)?;
@@ -112,7 +116,8 @@ fn push_loop<'r>(
     part: Part,
     pieces: &[&'r [RuleLine]],
 ) -> Result<(), Memory>
-    ensures { OnOk result (sections_shown sections.new.items ≡ sections_shown sections.old.items ++ compact_loop_and_rest names.now part (pieces_shown pieces.now)) }
+    ensures { OnOk result (sections_shown sections.new.items
+        ≡ sections_shown sections.old.items ++ compact_loop_and_rest names.now part (pieces_shown pieces.now)) }
 {
     let Some((body, others)) = pieces.split_first() else {
         return Ok(());
@@ -130,7 +135,8 @@ fn push_behind<'r>(
     part: Part,
     lines: &'r [RuleLine],
 ) -> Result<(), Memory>
-    ensures { OnOk result (sections_shown sections.new.items ≡ sections_shown sections.old.items ++ sections_behind names.now part (lines_shown lines.entry.now)) }
+    ensures { OnOk result (sections_shown sections.new.items
+        ≡ sections_shown sections.old.items ++ sections_behind names.now part (lines_shown lines.entry.now)) }
 {
     let pieces = cut_at_ends(alloc, lines)?;
     push_loop(alloc, sections, names, part, &pieces)
@@ -144,7 +150,8 @@ fn push_all_behind<'r>(
     part: Part,
     pieces: &[&'r [RuleLine]],
 ) -> Result<(), Memory>
-    ensures { OnOk result (sections_shown sections.new.items ≡ sections_shown sections.old.items ++ flat_map (sections_behind names.now part) (pieces_shown pieces.now)) }
+    ensures { OnOk result (sections_shown sections.new.items
+        ≡ sections_shown sections.old.items ++ flat_map (sections_behind names.now part) (pieces_shown pieces.now)) }
 {
     for piece in pieces {
         push_behind(alloc, sections, names, part, piece)?;
@@ -160,7 +167,8 @@ fn push_pieces<'r>(
     part: Part,
     pieces: &[&'r [RuleLine]],
 ) -> Result<(), Memory>
-    ensures { OnOk result (sections_shown sections.new.items ≡ sections_shown sections.old.items ++ compact_pieces names.now part (pieces_shown pieces.now)) }
+    ensures { OnOk result (sections_shown sections.new.items
+        ≡ sections_shown sections.old.items ++ compact_pieces names.now part (pieces_shown pieces.now)) }
 {
     let Some((before, behind)) = pieces.split_first() else {
         return Ok(());

@@ -10,7 +10,9 @@ use std::test::Fail;
 
 /// The sections OBJECTS, LEGEND and COLLISIONLAYERS stand below lines 2, 21 and 24, and RULES below line 29.
 const HEAD: &str =
-    "title T\nOBJECTS\nBackground .\ngreen\nWall #\nbrown\nPlayer P\nwhite\nCrate *\norange\nTarget O\nblue\nA\nred\nB\npink\nC\ngray\nD\nblack\nLEGEND\n@ = Crate and Target\nAT = A or Target\nCOLLISIONLAYERS\nBackground\nTarget\nPlayer, Wall, Crate\nA B C D\nRULES\n";
+    "title T\nOBJECTS\nBackground .\ngreen\nWall #\nbrown\nPlayer P\nwhite\nCrate *\norange\nTarget O\nblue\n\
+    A\nred\nB\npink\nC\ngray\nD\nblack\nLEGEND\n@ = Crate and Target\nAT = A or Target\n\
+    COLLISIONLAYERS\nBackground\nTarget\nPlayer, Wall, Crate\nA B C D\nRULES\n";
 
 /// The text of the game with these rules.
 fn source_of(alloc: Global, rules: &str) -> Result<Source, Refusal> {

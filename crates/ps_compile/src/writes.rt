@@ -2,7 +2,8 @@
 
 ghost use Rattle.std.specs.Prelude.{◌≡◌, ◌++◌, IfOk, OnOk, nat_eq, map, filter};
 ghost use Rattle.ps_model.specs.meaning.Rewriting.{claim_on};
-ghost use Rattle.ps_model.specs.meaning.CompiledCells.{rest_or_kept, motion_written, object_of_claim, claim_write, clear_write, is_alone, layer_writes, write_of};
+ghost use Rattle.ps_model.specs.meaning.CompiledCells.{rest_or_kept, motion_written, object_of_claim, claim_write};
+ghost use Rattle.ps_model.specs.meaning.CompiledCells.{clear_write, is_alone, layer_writes, write_of};
 ghost use Rattle.ps_readings.specs.WantedShown.{wanteds_shown};
 ghost use Rattle.ps_program.specs.ProgramShown.{write_shown};
 
@@ -26,8 +27,8 @@ fn claim_on(layer: LayerId, claims: &[Claim]) -> Option<Claim>
     None
 }
 
-/// The motion that a layer gets where the right names it without a word: none, so that it keeps its own, where the left names it
-/// without a word too; else it rests.
+/// The motion that a layer gets where the right names it without a word: none, so that it keeps its own, where the
+/// left names it without a word too; else it rests.
 fn rest_or_kept(left: Option<Claim>) -> Option<Motion>
     ensures { result ≡ rest_or_kept left }
 {
@@ -106,7 +107,8 @@ fn push_claimed(writes: &mut Vec<LayerWrite>, left: &[Claim], right: &[Claim]) -
 
 /// Puts the writes last that clear the layers away that the left alone claims.
 fn push_cleared(writes: &mut Vec<LayerWrite>, left: &[Claim], right: &[Claim]) -> Result<(), Memory>
-    ensures { OnOk result (writes.new.items ≡ writes.old.items ++ map clear_write (filter (is_alone right.now) left.now)) }
+    ensures { OnOk result (writes.new.items
+        ≡ writes.old.items ++ map clear_write (filter (is_alone right.now) left.now)) }
 {
     for claim in left {
         if is_alone(right, *claim) {
@@ -133,7 +135,8 @@ pub fn write_of(
     left: &[Wanted<'_>],
     right: &[Wanted<'_>],
 ) -> Result<CellWrite, Memory>
-    ensures { IfOk result (λ write. write_shown write ≡ write_of names.now (wanteds_shown left.now) (wanteds_shown right.now)) }
+    ensures { IfOk result (λ write. write_shown write
+        ≡ write_of names.now (wanteds_shown left.now) (wanteds_shown right.now)) }
 {
     let gone = denied_of(alloc, names, right)?;
     let left_claims = claims_of_side(alloc, names, left)?;

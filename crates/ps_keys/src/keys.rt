@@ -69,7 +69,8 @@ impl Keys {
         ensures keys { (others : List ℕ) → keys_of (bytes_of self.old ++ (piece.now ++ others))
             ≡ option_to_list result.key ++ keys_of (bytes_of self.new ++ (drop result.read piece.now ++ others)) }
         ensures whole { result.key ≡ None → result.read ≡ length piece.now }
-        ensures first { (shorter : ℕ) → shorter < result.read → keys_of (bytes_of self.old ++ take shorter piece.now) ≡ [] }
+        ensures first { (shorter : ℕ) → shorter < result.read → keys_of (bytes_of self.old ++ take shorter piece.now)
+            ≡ [] }
     {
         for place in 0..piece.len() {
             if let Some(key) = self.next(piece[place]) {

@@ -33,7 +33,8 @@ impl Model for Names {
 
     ghost view = { λ n. names_shown n.table (layer_numbers_shown n.own_layers.items) n.layer_count n.glyphs.items };
 
-    ghost invariant = { λ n. AreKept (names_shown n.table (layer_numbers_shown n.own_layers.items) n.layer_count n.glyphs.items) n.players.items
+    ghost invariant = { λ n. AreKept (names_shown n.table
+        (layer_numbers_shown n.own_layers.items) n.layer_count n.glyphs.items) n.players.items
         n.backgrounds.items };
 }
 

@@ -58,8 +58,8 @@ pub fn stop_for(error: io::Error, other: Stop) -> Stop {
     }
 }
 
-/// Says why the program ends, and gives its status: 0 after help or the version, 2 for a bad command line, 1 for a fault.
-/// What standard error doesn't take is lost.
+/// Says why the program ends, and gives its status: 0 after help or the version, 2 for a bad command line, 1 for a
+/// fault. What standard error doesn't take is lost.
 pub fn tell<R: Print + Eprint>(rt: &R, stop: Stop) -> u8 {
     match stop {
         Stop::CommandLine(error) => return tell_command_line(rt, &error),

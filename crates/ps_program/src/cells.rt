@@ -1,10 +1,11 @@
-//! A cell of a compiled rule: its mask, which tells the cells of a board that it fits, and its write, which tells what it makes
-//! of them.
+//! A cell of a compiled rule: its mask, which tells the cells of a board that it fits, and its write, which tells
+//! what it makes of them.
 
 use ps_model::{LayerWrite, LayeredObject, MotionTest};
 use ps_text::List;
 
-/// What a cell of a board must have to fit: each needed object, no barred one, one of each list, and each layer's motion.
+/// What a cell of a board must have to fit: each needed object, no barred one, one of each list, and each layer's
+/// motion.
 #[derive(Drop, Debug)]
 pub struct CellMask {
     pub needed: List<LayeredObject>,

@@ -5,7 +5,8 @@ use ps_model::Direction;
 use ps_rules::Commands;
 use ps_text::List;
 
-/// One reading of a rule, compiled. Its commands are lent by the rule: a copy for each reading would be one of its message too.
+/// One reading of a rule, compiled. Its commands are lent by the rule: a copy for each reading would be one of its
+/// message too.
 #[derive(Drop)]
 pub struct CompiledRule<'r> {
     /// The direction in which its rows are laid.

@@ -59,7 +59,8 @@ fn push_move_choices(
     direction: Direction,
     item: &Item,
 ) -> Result<(), Memory>
-    ensures { OnOk result (lists.new.items ≡ lists.old.items ++ option_to_list (move_choices direction (item_shown item.now))) }
+    ensures { OnOk result (lists.new.items
+        ≡ lists.old.items ++ option_to_list (move_choices direction (item_shown item.now))) }
 {
     let Item::Is {
         at,
@@ -84,7 +85,8 @@ fn push_items_moves(
     direction: Direction,
     items: &[Item],
 ) -> Result<(), Memory>
-    ensures { OnOk result (lists.new.items ≡ lists.old.items ++ filter_map (move_choices direction) (items_shown items.now)) }
+    ensures { OnOk result (lists.new.items
+        ≡ lists.old.items ++ filter_map (move_choices direction) (items_shown items.now)) }
 {
     for item in items {
         push_move_choices(alloc, lists, direction, item)?;
@@ -98,7 +100,8 @@ fn cells_moves(
     direction: Direction,
     cells: &[&CellPair],
 ) -> Result<Vec<List<(u32, Motion)>>, Memory>
-    ensures { IfOk result (λ lists. lists.items ≡ filter_map (move_choices direction) (left_of_cells (cell_list_shown cells.now))) }
+    ensures { IfOk result (λ lists. lists.items
+        ≡ filter_map (move_choices direction) (left_of_cells (cell_list_shown cells.now))) }
 {
     let mut lists = Vec::new(alloc);
     for cell in cells {
@@ -127,7 +130,8 @@ fn push_member_choices(
     occurrences: &Occurrences<'_>,
     item: &Item,
 ) -> Result<(), Memory>
-    ensures { OnOk result (lists.new.items ≡ lists.old.items ++ option_to_list (member_choices names.now occurrences.now (item_shown item.now))) }
+    ensures { OnOk result (lists.new.items
+        ≡ lists.old.items ++ option_to_list (member_choices names.now occurrences.now (item_shown item.now))) }
 {
     let Item::Is {
         at,
@@ -153,7 +157,8 @@ fn push_items_members(
     occurrences: &Occurrences<'_>,
     items: &[Item],
 ) -> Result<(), Memory>
-    ensures { OnOk result (lists.new.items ≡ lists.old.items ++ filter_map (member_choices names.now occurrences.now) (items_shown items.now)) }
+    ensures { OnOk result (lists.new.items
+        ≡ lists.old.items ++ filter_map (member_choices names.now occurrences.now) (items_shown items.now)) }
 {
     for item in items {
         push_member_choices(alloc, lists, names, occurrences, item)?;
@@ -168,7 +173,8 @@ fn cells_members(
     occurrences: &Occurrences<'_>,
     cells: &[&CellPair],
 ) -> Result<Vec<List<(u32, ObjectId)>>, Memory>
-    ensures { IfOk result (λ lists. lists.items ≡ filter_map (member_choices names.now occurrences.now) (left_of_cells (cell_list_shown cells.now))) }
+    ensures { IfOk result (λ lists. lists.items
+        ≡ filter_map (member_choices names.now occurrences.now) (left_of_cells (cell_list_shown cells.now))) }
 {
     let mut lists = Vec::new(alloc);
     for cell in cells {

@@ -3,8 +3,10 @@
 ghost use Rattle.std.specs.Prelude.{◌≡◌, nat_eq, length, take, IfOk};
 ghost use Rattle.std.specs.List.{list_any, list_all};
 ghost use Rattle.ps_model.specs.meaning.Directions.{turns_with_rule};
-ghost use Rattle.ps_model.specs.meaning.Readings.{item_turns, is_steady, is_one_cell, is_direction_free, written_directions, directions_of};
-ghost use Rattle.ps_rules.specs.RulesShown.{item_shown, items_shown, cell_shown, cell_list_shown, tree_row_shown, tree_rows_shown};
+ghost use Rattle.ps_model.specs.meaning.Readings.{item_turns, is_steady, is_one_cell, is_direction_free};
+ghost use Rattle.ps_model.specs.meaning.Readings.{written_directions, directions_of};
+ghost use Rattle.ps_rules.specs.RulesShown.{item_shown, items_shown, cell_shown, cell_list_shown, tree_row_shown};
+ghost use Rattle.ps_rules.specs.RulesShown.{tree_rows_shown};
 
 use ps_model::{Direction, Memory};
 use ps_rules::{CellPair, Item, MovementWord, Occurrences};
@@ -116,7 +118,8 @@ fn have_one_cell(rows: &[List<List<CellPair>>]) -> bool
     true
 }
 
-/// Whether the rule means the same in each direction: its rows are of one cell only, and none of its words turns with it.
+/// Whether the rule means the same in each direction: its rows are of one cell only, and none of its words turns with
+/// it.
 fn is_direction_free(occurrences: &Occurrences<'_>) -> bool
     ensures { result ≡ is_direction_free occurrences.now }
 {
@@ -143,7 +146,8 @@ fn written_directions(alloc: Global, named: &[Direction]) -> Result<Vec<Directio
     Ok(directions)
 }
 
-/// The directions in which a rule is used, in their order; a rule that means the same in each is used in its first alone.
+/// The directions in which a rule is used, in their order; a rule that means the same in each is used in its first
+/// alone.
 pub fn directions_of(alloc: Global, occurrences: &Occurrences<'_>) -> Result<Vec<Direction>, Memory>
     ensures { IfOk result (λ directions. directions.items ≡ directions_of occurrences.now) }
 {

@@ -29,8 +29,8 @@ fn some_is_on(layer: LayerId, claims: &[Claim]) -> bool
     false
 }
 
-/// Whether no two of the claims are on one layer. There are at most 32 layers, so that of any 33 claims two are on one: it ends after
-/// at most 33 passes over the claims.
+/// Whether no two of the claims are on one layer. There are at most 32 layers, so that of any 33 claims two are on
+/// one: it ends after at most 33 passes over the claims.
 fn are_apart(claims: &[Claim]) -> bool
     ensures { result ≡ are_apart claims.now }
 {
@@ -60,7 +60,8 @@ fn is_possible_cell(
     reading: &Reading,
     cell: &CellPair,
 ) -> Result<bool, Memory>
-    ensures { IfOk result (λ yes. yes ≡ is_possible_cell names.now occurrences.now (reading_shown reading.now) (cell_shown cell.now)) }
+    ensures { IfOk result (λ yes. yes
+        ≡ is_possible_cell names.now occurrences.now (reading_shown reading.now) (cell_shown cell.now)) }
 {
     let left = left_of_cell(alloc, names, occurrences, reading, cell)?;
     if !is_side_possible(alloc, names, &left)? {
@@ -78,7 +79,9 @@ fn are_possible_cells(
     reading: &Reading,
     cells: &[&CellPair],
 ) -> Result<bool, Memory>
-    ensures { IfOk result (λ yes. yes ≡ list_all (is_possible_cell names.now occurrences.now (reading_shown reading.now)) (cell_list_shown cells.now)) }
+    ensures { IfOk result (λ yes. yes
+        ≡ list_all (is_possible_cell names.now occurrences.now (reading_shown reading.now))
+        (cell_list_shown cells.now)) }
 {
     for cell in cells {
         if !is_possible_cell(alloc, names, occurrences, reading, cell)? {
@@ -88,8 +91,8 @@ fn are_possible_cells(
     Ok(true)
 }
 
-/// Whether a reading of a rule is possible: no cell of one side has two names of one layer, `no` aside. `Memory` if there is no
-/// room for what a cell claims.
+/// Whether a reading of a rule is possible: no cell of one side has two names of one layer, `no` aside. `Memory` if
+/// there is no room for what a cell claims.
 pub fn is_possible(
     alloc: Global,
     names: &Names,

@@ -8,8 +8,8 @@ ghost use Rattle.ps_model.specs.meaning.Wanted.{chosen_move, chosen_member, one_
 use ps_model::{Direction, Motion, ObjectId};
 use std::alloc::Global;
 
-/// A reading of a rule: a direction, a move for each left word of several, and a member for each left occurrence of a fixed
-/// property. Occurrences are told apart by the bytes of the text at which their names stand.
+/// A reading of a rule: a direction, a move for each left word of several, and a member for each left occurrence of a
+/// fixed property. Occurrences are told apart by the bytes of the text at which their names stand.
 #[derive(Drop)]
 pub struct Reading {
     pub direction: Direction,

@@ -13,8 +13,8 @@ use ps_names::Names;
 use ps_rules::Occurrences;
 use std::alloc::Global;
 
-/// The readings of a rule, impossible ones among them: ordered by direction, then by moves, then by members, the first occurrence
-/// slowest. One of them is held at a time, however many there are.
+/// The readings of a rule, impossible ones among them: ordered by direction, then by moves, then by members, the
+/// first occurrence slowest. One of them is held at a time, however many there are.
 #[derive(Drop)]
 pub struct Readings<'o, 'r> {
     turns: Turns<'o, 'r>,
@@ -44,9 +44,11 @@ impl<'o, 'r> Readings<'o, 'r> {
         })
     }
 
-    /// Makes the next reading, if there is one; else the answer is `false`. After `Memory` nothing is known of those left.
+    /// Makes the next reading, if there is one; else the answer is `false`. After `Memory` nothing is known of those
+    /// left.
     pub fn next(&mut self, alloc: Global) -> Result<bool, Memory>
-        ensures { IfOk result (λ more. readings_left self.old ≡ taken more (made_last self.new) (readings_left self.new)) }
+        ensures { IfOk result (λ more. readings_left self.old
+            ≡ taken more (made_last self.new) (readings_left self.new)) }
     {
         let more = self.members.next(&mut self.reading.members)?;
         if more {

@@ -31,7 +31,8 @@ impl<'o, 'r> Turns<'o, 'r> {
 
     /// The turns of a rule, none of them taken yet.
     pub fn of(alloc: Global, occurrences: &'o Occurrences<'r>) -> Result<Turns<'o, 'r>, Memory>
-        ensures left { IfOk result (λ turns. turns_left turns ≡ flat_map (turns_in occurrences.entry.now) (directions_meant occurrences.entry.now)) }
+        ensures left { IfOk result (λ turns. turns_left turns
+            ≡ flat_map (turns_in occurrences.entry.now) (directions_meant occurrences.entry.now)) }
     {
         let directions = directions_of(alloc, occurrences)?;
         let ways = Ways::spent(alloc, Vec::new(alloc))?;
@@ -46,8 +47,10 @@ impl<'o, 'r> Turns<'o, 'r> {
 
     /// Begins the next direction, if there is one; else the answer is `false`.
     fn face_next(&mut self, alloc: Global) -> Result<bool, Memory>
-        ensures turns { IfOk result (λ more. flat_map (turns_in self.old.occurrences.now) (drop self.old.faced self.old.directions.items) ≡ more_turns more (turns_left self.new)) }
-        ensures fewer { IfOk result (λ more. more ≡ true → length self.new.directions.items - self.new.faced < length self.old.directions.items - self.old.faced) }
+        ensures turns { IfOk result (λ more. flat_map (turns_in self.old.occurrences.now)
+            (drop self.old.faced self.old.directions.items) ≡ more_turns more (turns_left self.new)) }
+        ensures fewer { IfOk result (λ more. more ≡ true
+            → length self.new.directions.items - self.new.faced < length self.old.directions.items - self.old.faced) }
     {
         if self.faced >= self.directions.len() {
             return Ok(false);
@@ -67,7 +70,8 @@ impl<'o, 'r> Turns<'o, 'r> {
         direction: &mut Direction,
         moves: &mut Vec<(u32, Motion)>,
     ) -> Result<bool, Memory>
-        ensures { IfOk result (λ more. turns_left self.old ≡ taken more (turn direction.new moves.new.items) (turns_left self.new)) }
+        ensures { IfOk result (λ more. turns_left self.old
+            ≡ taken more (turn direction.new moves.new.items) (turns_left self.new)) }
     {
         while !self.ways.next(moves)? {
             if !self.face_next(alloc)? {

@@ -1,8 +1,11 @@
 //! What an item of a rule asks of a cell of the board under a reading.
 
 ghost use Rattle.std.specs.Prelude.{◌≡◌, IfOk};
-ghost use Rattle.ps_model.specs.meaning.Wanted.{motion_of_word as motion_of_word_meant, wanted_name as wanted_name_meant, wanted_left as wanted_left_meant, wanted_right as wanted_right_meant};
-ghost use Rattle.ps_model.specs.meaning.ReadingMeanings.{left_of_cell as left_of_cell_meant, right_of_cell as right_of_cell_meant};
+ghost use Rattle.ps_model.specs.meaning.Wanted.{motion_of_word as motion_of_word_meant};
+ghost use Rattle.ps_model.specs.meaning.Wanted.{wanted_name as wanted_name_meant, wanted_left as wanted_left_meant};
+ghost use Rattle.ps_model.specs.meaning.Wanted.{wanted_right as wanted_right_meant};
+ghost use Rattle.ps_model.specs.meaning.ReadingMeanings.{left_of_cell as left_of_cell_meant};
+ghost use Rattle.ps_model.specs.meaning.ReadingMeanings.{right_of_cell as right_of_cell_meant};
 ghost use Rattle.ps_names.specs.Shown.{meaning_shown};
 ghost use Rattle.ps_rules.specs.RulesShown.{item_shown, cell_shown};
 ghost use Rattle.ps_readings.specs.BoundMotions.{bound_motion};
@@ -49,7 +52,9 @@ fn wanted_name<'r>(
     meaning: &'r Meaning,
     motion: Option<Motion>,
 ) -> Wanted<'r>
-    ensures { wanted_shown result ≡ wanted_name_meant names.now occurrences.now (reading_shown reading.now) bound (meaning_shown meaning.entry.now) motion }
+    ensures { wanted_shown result
+        ≡ wanted_name_meant names.now occurrences.now (reading_shown reading.now) bound
+        (meaning_shown meaning.entry.now) motion }
 {
     let objects = members(meaning);
     match meaning {
@@ -71,7 +76,8 @@ pub fn wanted_left<'r>(
     reading: &Reading,
     item: &'r Item,
 ) -> Wanted<'r>
-    ensures { wanted_shown result ≡ wanted_left_meant names.now occurrences.now (reading_shown reading.now) (item_shown item.entry.now) }
+    ensures { wanted_shown result
+        ≡ wanted_left_meant names.now occurrences.now (reading_shown reading.now) (item_shown item.entry.now) }
 {
     match item {
         Item::Is {
@@ -91,8 +97,8 @@ pub fn wanted_left<'r>(
     }
 }
 
-/// The motion of a word on the right of a cell, if there is one: that of the left occurrence that it is bound to, where it leaves a
-/// choice.
+/// The motion of a word on the right of a cell, if there is one: that of the left occurrence that it is bound to,
+/// where it leaves a choice.
 fn bound_motion(
     occurrences: &Occurrences<'_>,
     cell: &CellPair,
@@ -100,14 +106,15 @@ fn bound_motion(
     word: Option<MovementWord>,
     meaning: &Meaning,
 ) -> Option<Motion>
-    ensures { result ≡ bound_motion occurrences.now (cell_shown cell.now) (reading_shown reading.now) word (meaning_shown meaning.now) }
+    ensures { result ≡ bound_motion occurrences.now (cell_shown cell.now) (reading_shown reading.now) word
+        (meaning_shown meaning.now) }
 {
     let word = word?;
     motion_of_word(reading, occurrences.bound_word(cell, word, meaning), word)
 }
 
-/// What an item of a cell's right puts there, or takes away with `no`: the choices are those of the left occurrences that it is
-/// bound to.
+/// What an item of a cell's right puts there, or takes away with `no`: the choices are those of the left occurrences
+/// that it is bound to.
 pub fn wanted_right<'r>(
     names: &Names,
     occurrences: &Occurrences<'_>,
@@ -115,7 +122,9 @@ pub fn wanted_right<'r>(
     reading: &Reading,
     item: &'r Item,
 ) -> Wanted<'r>
-    ensures { wanted_shown result ≡ wanted_right_meant names.now occurrences.now (cell_shown cell.now) (reading_shown reading.now) (item_shown item.entry.now) }
+    ensures { wanted_shown result
+        ≡ wanted_right_meant names.now occurrences.now (cell_shown cell.now) (reading_shown reading.now)
+        (item_shown item.entry.now) }
 {
     match item {
         Item::Is {
@@ -139,7 +148,8 @@ pub fn left_of_cell<'r>(
     reading: &Reading,
     cell: &'r CellPair,
 ) -> Result<Vec<Wanted<'r>>, Memory>
-    ensures { IfOk result (λ wanteds. wanteds_shown wanteds.items ≡ left_of_cell_meant names.now occurrences.now (reading_shown reading.now) (cell_shown cell.entry.now)) }
+    ensures { IfOk result (λ wanteds. wanteds_shown wanteds.items
+        ≡ left_of_cell_meant names.now occurrences.now (reading_shown reading.now) (cell_shown cell.entry.now)) }
 {
     let mut wanteds = Vec::new(alloc);
     for item in cell.left.as_slice() {
@@ -156,7 +166,8 @@ pub fn right_of_cell<'r>(
     reading: &Reading,
     cell: &'r CellPair,
 ) -> Result<Vec<Wanted<'r>>, Memory>
-    ensures { IfOk result (λ wanteds. wanteds_shown wanteds.items ≡ right_of_cell_meant names.now occurrences.now (reading_shown reading.now) (cell_shown cell.entry.now)) }
+    ensures { IfOk result (λ wanteds. wanteds_shown wanteds.items
+        ≡ right_of_cell_meant names.now occurrences.now (reading_shown reading.now) (cell_shown cell.entry.now)) }
 {
     let mut wanteds = Vec::new(alloc);
     for item in cell.right.as_slice() {

@@ -3,7 +3,8 @@
 ghost use Rattle.std.specs.Prelude.{◌≡◌, ◌++◌, [], true, false, IfOk, OnOk, Some, None, map, slice_get};
 ghost use Rattle.std.specs.Option.{option_to_list};
 ghost use Rattle.ps_model.specs.meaning.Readings.{one_of_each};
-ghost use Rattle.ps_readings.specs.Wheels.{lists_of, way_shown, at_first, next_wheels, has_empty, are_showing, ways_left, taken};
+ghost use Rattle.ps_readings.specs.Wheels.{lists_of, way_shown, at_first, next_wheels, has_empty, are_showing};
+ghost use Rattle.ps_readings.specs.Wheels.{ways_left, taken};
 
 use crate::wheels::Wheel;
 use ps_model::Memory;
@@ -25,7 +26,8 @@ fn has_empty<T>(wheels: &[Wheel<T>]) -> bool
 /// Puts the item that a wheel shows last.
 #[tactic(auto, using(std::proofs::lemmas::Option::gets, std::proofs::lemmas::Grind::common_steps))]
 fn push_item<T: Copy>(way: &mut Vec<T>, wheel: &Wheel<T>) -> Result<(), Memory>
-    ensures { OnOk result (way.new.items ≡ way.old.items ++ option_to_list (slice_get wheel.now.items wheel.now.place)) }
+    ensures { OnOk result (way.new.items
+        ≡ way.old.items ++ option_to_list (slice_get wheel.now.items wheel.now.place)) }
 {
     let items = wheel.items.as_slice();
     if wheel.place >= items.len() {
@@ -54,8 +56,8 @@ fn turn_to_first<T>(wheels: &mut Vec<Wheel<T>>)
     }
 }
 
-/// Makes the wheels show the next way: the last one that has one more item shows that, and those behind it their first. If none
-/// has, all show their first ones, and the answer is `false`.
+/// Makes the wheels show the next way: the last one that has one more item shows that, and those behind it their
+/// first. If none has, all show their first ones, and the answer is `false`.
 fn turn_to_next<T>(wheels: &mut Vec<Wheel<T>>) -> bool
     ensures next { result ≡ true → next_wheels wheels.old.items ≡ Some wheels.new.items }
     ensures none { result ≡ false → next_wheels wheels.old.items ≡ None }
@@ -85,7 +87,8 @@ fn wheels_of<T: Drop>(alloc: Global, lists: Vec<List<T>>) -> Result<Vec<Wheel<T>
     Ok(wheels)
 }
 
-/// The ways to take one item of each list, in their order: the first list's item changes slowest. One way is held at a time.
+/// The ways to take one item of each list, in their order: the first list's item changes slowest. One way is held at
+/// a time.
 #[derive(Drop)]
 pub struct Ways<T> {
     wheels: Vec<Wheel<T>>,
@@ -128,7 +131,8 @@ impl<T: Copy + Drop> Ways<T> {
     /// Makes a list the next way, if there is one; else the answer is `false`.
     pub fn next(&mut self, way: &mut Vec<T>) -> Result<bool, Memory>
         ensures lists { lists_of self.new.wheels.items ≡ lists_of self.old.wheels.items }
-        ensures left { IfOk result (λ more. ways_left self.old.ended self.old.wheels.items ≡ taken more way.new.items (ways_left self.new.ended self.new.wheels.items)) }
+        ensures left { IfOk result (λ more. ways_left self.old.ended self.old.wheels.items
+            ≡ taken more way.new.items (ways_left self.new.ended self.new.wheels.items)) }
     {
         way.clear();
         if self.ended {

@@ -1,5 +1,5 @@
-//! Programs of one rule on a board of one cell: the commands of a run come into the queue of a turn, and of two messages
-//! the first stays.
+//! Programs of one rule on a board of one cell: the commands of a run come into the queue of a turn, and of two
+//! messages the first stays.
 
 use crate::{CompiledPrograms, ListBoard, Rules, rules_of};
 use ps_board::Board;

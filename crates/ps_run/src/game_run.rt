@@ -21,8 +21,8 @@ use std::alloc::Global;
 ///
 /// # Errors
 ///
-/// `Memory` where a growth was refused, `Read` where the reader failed or gave something `READ_LIMIT` times and the game
-/// hasn't ended, `Write` where the writer failed. No device is called after its failure.
+/// `Memory` where a growth was refused, `Read` where the reader failed or gave something `READ_LIMIT` times and the
+/// game hasn't ended, `Write` where the writer failed. No device is called after its failure.
 pub fn run_game<'g, B: Board, R: Rules<B> + Drop, I: ByteReader, W: ByteWriter>(
     alloc: Global,
     game: SessionGame<'g>,

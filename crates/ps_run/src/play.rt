@@ -110,7 +110,8 @@ impl<'g, B: Board, R: Rules<B> + Drop> Play<'g, B, R> {
     ///
     /// # Errors
     ///
-    /// `Memory` where a growth was refused, and the texts of the keys before are written; `Write` where the writer failed.
+    /// `Memory` where a growth was refused, and the texts of the keys before are written; `Write` where the writer
+    /// failed.
     pub fn play_piece<W: ByteWriter>(
         &mut self,
         piece: &[u8],
@@ -148,10 +149,12 @@ impl<'g, B: Board, R: Rules<B> + Drop> Play<'g, B, R> {
     /// Writes that the keys have ended.
     fn end_keys<W: ByteWriter>(&mut self, writer: &mut W) -> Result<(), PieceFault>
         requires { W.has_failed writer.old ≡ false }
-        ensures written { let before = writer_told (W.contents writer.old) (W.has_failed writer.old) (W.calls writer.old) in
+        ensures written { let before = writer_told (W.contents writer.old) (W.has_failed writer.old)
+            (W.calls writer.old) in
             let now = writer_told (W.contents writer.new) (W.has_failed writer.new) (W.calls writer.new) in
             OnOk result (HasTaken before now end_of_keys_line) }
-        ensures stops { let before = writer_told (W.contents writer.old) (W.has_failed writer.old) (W.calls writer.old) in
+        ensures stops { let before = writer_told (W.contents writer.old) (W.has_failed writer.old)
+            (W.calls writer.old) in
             let now = writer_told (W.contents writer.new) (W.has_failed writer.new) (W.calls writer.new) in
             IfErr result (λ fault. StopsAtText fault before now end_of_keys_line) }
         ensures well { result ≢ Err PieceFault.Write → W.has_failed writer.new ≡ false }
@@ -162,14 +165,14 @@ impl<'g, B: Board, R: Rules<B> + Drop> Play<'g, B, R> {
         write_screen(&self.screen, writer)
     }
 
-    /// Plays the keys of a reader to an ending, where nothing is read yet: a piece at a time, at most `CALL_LIMIT` bytes,
-    /// and the text of each key of a piece is written before the next piece is asked for. Behind the end of the game
-    /// nothing more is asked for.
+    /// Plays the keys of a reader to an ending, where nothing is read yet: a piece at a time, at most `CALL_LIMIT`
+    /// bytes, and the text of each key of a piece is written before the next piece is asked for. Behind the end of
+    /// the game nothing more is asked for.
     ///
     /// # Errors
     ///
-    /// `Memory` where a growth was refused, `Read` where the reader failed or gave something `READ_LIMIT` times and the game
-    /// hasn't ended, `Write` where the writer failed. No device is called after its failure.
+    /// `Memory` where a growth was refused, `Read` where the reader failed or gave something `READ_LIMIT` times and
+    /// the game hasn't ended, `Write` where the writer failed. No device is called after its failure.
     pub fn play<I: ByteReader, W: ByteWriter>(
         &mut self,
         reader: &mut I,

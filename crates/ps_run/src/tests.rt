@@ -8,7 +8,8 @@ use std::test::Fail;
 /// A game of pushing.
 const PUSHING: &[u8] =
     b"title T\nOBJECTS\nBackground .\ngreen\nWall #\nbrown\nPlayer P\nwhite\nCrate *\norange\nTarget O\nblue\n\
-LEGEND\nCOLLISIONLAYERS\nBackground\nTarget\nPlayer, Wall, Crate\nRULES\n[ > Player | Crate ] -> [ > Player | > Crate ]\n\
+LEGEND\nCOLLISIONLAYERS\nBackground\nTarget\nPlayer, Wall, Crate\nRULES\n\
+[ > Player | Crate ] -> [ > Player | > Crate ]\n\
 WINCONDITIONS\nall Target on Crate\nLEVELS\nP*O\n\n";
 
 #[test]

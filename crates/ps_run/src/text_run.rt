@@ -18,17 +18,17 @@ use ps_rulebook::{GameRules, ListBoard, rules_of};
 use ps_stage::SessionGame;
 use std::alloc::Global;
 
-/// Plays the game whose text is `text`: reads keys from `reader` and writes frames to `writer`, until the game has ended,
-/// the player quits or the keys end.
+/// Plays the game whose text is `text`: reads keys from `reader` and writes frames to `writer`, until the game has
+/// ended, the player quits or the keys end.
 ///
 /// The opening is written before the first key is read, and the text of each key of a piece before the next piece is
 /// read. At most `CALL_LIMIT` bytes are asked for at a time, and nothing behind the end of the game.
 ///
 /// # Errors
 ///
-/// `Refused` with the first fault of the text where it has one: neither device is called then. `Memory` where a growth was
-/// refused, `Read` where the reader failed or gave something `READ_LIMIT` times and the game hasn't ended, `Write` where
-/// the writer failed. No device is called after its failure.
+/// `Refused` with the first fault of the text where it has one: neither device is called then. `Memory` where a
+/// growth was refused, `Read` where the reader failed or gave something `READ_LIMIT` times and the game hasn't ended,
+/// `Write` where the writer failed. No device is called after its failure.
 pub fn run<I: ByteReader, W: ByteWriter>(
     alloc: Global,
     text: &[u8],
@@ -68,11 +68,14 @@ fn run_compiled<I: ByteReader, W: ByteWriter>(
     requires heard { I.has_failed reader.old ≡ false }
     requires well { W.has_failed writer.old ≡ false }
     requires playable { ArePlayable game.now.names game.now.entries }
-    ensures rightly { let had = reader_told (I.remaining reader.old) (I.has_failed reader.old) (I.last reader.old) (I.calls reader.old) in
-        let has = reader_told (I.remaining reader.new) (I.has_failed reader.new) (I.last reader.new) (I.calls reader.new) in
+    ensures rightly { let had = reader_told (I.remaining reader.old) (I.has_failed reader.old) (I.last reader.old)
+        (I.calls reader.old) in
+        let has = reader_told (I.remaining reader.new) (I.has_failed reader.new) (I.last reader.new)
+        (I.calls reader.new) in
         let before = writer_told (W.contents writer.old) (W.has_failed writer.old) (W.calls writer.old) in
         let now = writer_told (W.contents writer.new) (W.has_failed writer.new) (W.calls writer.new) in
-        (text : List ℕ) → game_in text ≡ Some game.now → AreCompiled game.now.names game.now.rules compiled.now.plain compiled.now.late
+        (text : List ℕ) → game_in text ≡ Some game.now
+        → AreCompiled game.now.names game.now.rules compiled.now.plain compiled.now.late
         → RunsRightly text had has before now (answer_of result) }
     ensures true_of_text { (text : List ℕ) → game_in text ≡ Some game.now → IsTrueOfText text (answer_of result) }
 {

@@ -67,7 +67,8 @@ fn push_above(
     above: &mut Vec<ObjectId>,
 ) -> Result<(), Memory>
     requires { ground.0 ≡ background_layer names.now }
-    ensures { OnOk result (above.new.items ≡ above.old.items ++ filter (λ object. not (is_ground names.now object)) (object ∷ [])) }
+    ensures { OnOk result (above.new.items
+        ≡ above.old.items ++ filter (λ object. not (is_ground names.now object)) (object ∷ [])) }
 {
     if names.layer_of(object).0 == ground.0 {
         return Ok(());
@@ -88,7 +89,8 @@ fn topmost(objects: &[ObjectId]) -> &[ObjectId]
 
 /// The character of the first glyph that shows just these objects.
 fn glyph_for(glyphs: &[Glyph], objects: &[ObjectId]) -> Option<char>
-    ensures { result ≡ option_map (λ glyph. glyph.character) (find (λ glyph. same_objects (members glyph.meaning) objects.now) (glyphs_shown glyphs.now)) }
+    ensures { result ≡ option_map (λ glyph. glyph.character) (find (λ glyph. same_objects
+        (members glyph.meaning) objects.now) (glyphs_shown glyphs.now)) }
 {
     for glyph in glyphs {
         if are_same(glyph.meaning.members(), objects) {

@@ -131,7 +131,8 @@ impl Screen {
     ///
     /// `Memory`, and the bytes are as before.
     pub fn add_level_done(&mut self, alloc: Global, number: usize) -> Result<(), Memory>
-        ensures added { OnOk result (self.new ≡ self.old ++ written_line (codes "* level ") (decimal number ++ codes " done")) }
+        ensures added { OnOk result (self.new
+            ≡ self.old ++ written_line (codes "* level ") (decimal number ++ codes " done")) }
         ensures kept { OnErr result (self.new ≡ self.old) }
     {
         let words = format!(in alloc; "{number} done")?;

@@ -17,7 +17,8 @@ use ps_names::Meaning;
 /// Whether an object stands on a layer of a cell.
 fn slot_has<B: Board>(board: &B, cell: u32, layer: u32, object: ObjectId) -> bool
     requires { IsPlace (B.grid board.now) cell layer }
-    ensures { result ≡ list_any (same_object object) (option_to_list (object_in (slot_at (B.grid board.now) cell layer))) }
+    ensures { result ≡ list_any (same_object object) (option_to_list (object_in (slot_at
+        (B.grid board.now) cell layer))) }
 {
     match board.object(cell, LayerId(layer)) {
         Some(other) => object.0 == other.0,
@@ -28,7 +29,8 @@ fn slot_has<B: Board>(board: &B, cell: u32, layer: u32, object: ObjectId) -> boo
 /// Whether one of the objects stands on a layer of a cell.
 fn slot_has_any<B: Board>(board: &B, cell: u32, layer: u32, objects: &[ObjectId]) -> bool
     requires { IsPlace (B.grid board.now) cell layer }
-    ensures { result ≡ list_any (is_among objects.now) (option_to_list (object_in (slot_at (B.grid board.now) cell layer))) }
+    ensures { result ≡ list_any (is_among objects.now) (option_to_list (object_in (slot_at
+        (B.grid board.now) cell layer))) }
 {
     match board.object(cell, LayerId(layer)) {
         Some(object) => has_object(objects, object),

@@ -24,7 +24,8 @@ fn is_left<B: Board>(game: &TurnGame<'_>, before: &B, after: &B, cell: u32) -> b
     requires cell { cell < cell_count (B.grid before.now) }
     requires before { IsGrid (B.grid before.now) }
     requires after { IsGrid (B.grid after.now) }
-    ensures { result ≡ (has_player game.now.names (cell_at (B.grid before.now) cell) && not (has_player game.now.names (cell_at (B.grid after.now) cell))) }
+    ensures { result ≡ (has_player game.now.names (cell_at (B.grid before.now) cell)
+        && not (has_player game.now.names (cell_at (B.grid after.now) cell))) }
 {
     has_player(game, before, cell) && !has_player(game, after, cell)
 }

@@ -5,7 +5,8 @@ ghost use Rattle.ps_model.specs.board.Inputs.{with_input, motion_of};
 ghost use Rattle.ps_model.specs.names.Names.{players};
 ghost use Rattle.ps_model.specs.board.Turns.{turn, outcome_of, played, prepared, is_held, done_with, same_cells};
 ghost use Rattle.ps_levels.specs.WinsShown.{wins_shown};
-ghost use Rattle.ps_turn.specs.States.{HaveSameSides, queue_shown, state_of, script_with, done_shown, outcome_shown, is_done};
+ghost use Rattle.ps_turn.specs.States.{HaveSameSides, queue_shown, state_of, script_with, done_shown, outcome_shown};
+ghost use Rattle.ps_turn.specs.States.{is_done};
 
 use crate::boards::same_cells;
 use crate::inputs::{give_motion, motion_for};
@@ -67,8 +68,8 @@ impl<'g> TurnGame<'g> {
     }
 }
 
-/// Makes a board ready for the rules of a turn: all objects at rest, and then, with an input, every object of Player with
-/// its motion.
+/// Makes a board ready for the rules of a turn: all objects at rest, and then, with an input, every object of Player
+/// with its motion.
 fn prepare<B: Board>(game: &TurnGame<'_>, input: Option<Input>, board: &mut B)
     ensures prepared { B.grid board.new ≡ prepared game.now.names input (B.grid board.old) }
     ensures table { B.table board.new ≡ B.table board.old }
@@ -91,7 +92,8 @@ fn play<B: Board, R: Rules<B>>(
     board: &mut B,
 ) -> Result<Queue, Memory>
     ensures played { IfOk result (λ queue. state_of (B.grid board.new) (queue_shown queue)
-        ≡ played (script_with game.now (R.meant rules.old.plain (B.table board.old)) (R.meant rules.old.late (B.table board.old))) input (B.grid board.old)) }
+        ≡ played (script_with game.now (R.meant rules.old.plain (B.table board.old)) (R.meant rules.old.late
+        (B.table board.old))) input (B.grid board.old)) }
     ensures plain { R.meant rules.new.plain ≡ R.meant rules.old.plain }
     ensures late { R.meant rules.new.late ≡ R.meant rules.old.late }
     ensures sides { HaveSameSides (B.grid board.new) (B.grid board.old) }
@@ -124,7 +126,8 @@ fn message_of(queue: Queue) -> Option<Text>
 fn done<B: Board>(game: &TurnGame<'_>, before: &B, after: &B, queue: Queue) -> DoneTurn
     requires { HaveSameSides (B.grid after.now) (B.grid before.now) }
     ensures { done_shown result (B.grid after.now)
-        ≡ done_with (script_with game.now [] []) (state_of (B.grid after.now) (queue_shown queue)) (not (same_cells (B.grid before.now).cells (B.grid after.now).cells)) }
+        ≡ done_with (script_with game.now [] []) (state_of (B.grid after.now) (queue_shown queue)) (not (same_cells
+        (B.grid before.now).cells (B.grid after.now).cells)) }
 {
     let changed = !same_cells(before, after);
     DoneTurn {
@@ -136,9 +139,9 @@ fn done<B: Board>(game: &TurnGame<'_>, before: &B, after: &B, queue: Queue) -> D
     }
 }
 
-/// What comes of a turn, by the boards before and after its changes: blocked, where the game asks for a move of the Player
-/// and each cell that had one still has one; blocked by `cancel`; restarted by `restart`; or done. Where it isn't done the
-/// second board is made equal to the first.
+/// What comes of a turn, by the boards before and after its changes: blocked, where the game asks for a move of the
+/// Player and each cell that had one still has one; blocked by `cancel`; restarted by `restart`; or done. Where it
+/// isn't done the second board is made equal to the first.
 fn outcome<B: Board>(
     game: &TurnGame<'_>,
     input: Option<Input>,
@@ -149,7 +152,8 @@ fn outcome<B: Board>(
     requires sides { HaveSameSides (B.grid after.old) (B.grid before.now) }
     requires table { B.table after.old ≡ B.table before.now }
     ensures outcome { outcome_shown result (B.grid after.new)
-        ≡ outcome_of (script_with game.now [] []) input (B.grid before.now) (state_of (B.grid after.old) (queue_shown queue)) }
+        ≡ outcome_of (script_with game.now [] []) input (B.grid before.now) (state_of (B.grid after.old)
+        (queue_shown queue)) }
     ensures undone { is_done result ≡ false → B.grid after.new ≡ B.grid before.now }
     ensures sides { HaveSameSides (B.grid after.new) (B.grid before.now) }
     ensures table { B.table after.new ≡ B.table before.now }
@@ -169,8 +173,8 @@ fn outcome<B: Board>(
     Turned::Done(done(game, before, after, queue))
 }
 
-/// Takes a turn with an input, or without one. It works on a second board, equal to the first, which shows the new board
-/// behind a done turn, and is equal to the first again behind any other.
+/// Takes a turn with an input, or without one. It works on a second board, equal to the first, which shows the new
+/// board behind a done turn, and is equal to the first again behind any other.
 ///
 /// # Errors
 ///
@@ -185,7 +189,8 @@ pub fn turn<B: Board, R: Rules<B>>(
     requires equal { B.grid after.old ≡ B.grid before.now }
     requires table { B.table after.old ≡ B.table before.now }
     ensures outcome { IfOk result (λ turned. outcome_shown turned (B.grid after.new)
-        ≡ turn (script_with game.now (R.meant rules.old.plain (B.table before.now)) (R.meant rules.old.late (B.table before.now))) input (B.grid before.now)) }
+        ≡ turn (script_with game.now (R.meant rules.old.plain (B.table before.now)) (R.meant rules.old.late
+        (B.table before.now))) input (B.grid before.now)) }
     ensures undone { IfOk result (λ turned. is_done turned ≡ false → B.grid after.new ≡ B.grid before.now) }
     ensures stands { OnErr result (B.grid after.new ≡ B.grid before.now) }
     ensures sides { HaveSameSides (B.grid after.new) (B.grid before.now) }
