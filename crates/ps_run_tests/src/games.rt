@@ -14,6 +14,13 @@ pub const NAMES: &str =
     C\ngray\nD\nblack\nLEGEND\n@ = Crate and Target\nAT = A or Target\nCOLLISIONLAYERS\nBackground\nTarget\n\
     Player, Wall, Crate\nA B C D\n";
 
+/// A push that ends the game, as it stands below [`NAMES`].
+pub const PUSH: &str =
+    "RULES\n[ > Player | Crate ] -> [ > Player | > Crate ]\nWINCONDITIONS\nAll Target on Crate\nLEVELS\n#P*O#\n";
+
+/// What is written of it with the key `d`.
+pub const PUSHED: &str = "= T\n# level 1\n#P*O#\n\n#.P@#\n\n* level 1 done\n* the end\n";
+
 /// The lines of a game called `T` that differ from one game to the next, each with its line end.
 #[derive(Clone, Copy)]
 pub struct Lines<'a> {
@@ -42,7 +49,9 @@ pub fn repeated(
     count: usize,
     back: &str,
 ) -> String {
-    let middle = part.repeat(rt.alloc(), count).expect(rt, "memory for a text");
+    let middle = part
+        .repeat(rt.alloc(), count)
+        .expect(rt, "memory for a text");
     format!(in rt.alloc(); "{front}{middle}{back}").expect(rt, "memory for a text")
 }
 
@@ -55,8 +64,8 @@ pub fn expect(rt: &(impl Abort + AllocGlobal), lines: Lines<'_>, keys: &str, wan
         levels,
     } = lines;
     let text = format!(in rt.alloc();
-        "title T\n{options}{NAMES}RULES\n{rules}WINCONDITIONS\n{wins}LEVELS\n{levels}")
-    .expect(rt, "memory for the text");
+        "title T\n{options}{NAMES}RULES\n{rules}WINCONDITIONS\n{wins}LEVELS\n{levels}"
+    ).expect(rt, "memory for the text");
     expect_of_text(rt, text.as_bytes(), keys.as_bytes(), wanted, CALL_LIMIT);
     expect_of_text(rt, text.as_bytes(), keys.as_bytes(), wanted, 1);
 }
@@ -72,7 +81,10 @@ pub fn expect_of_text(
     requires { 1 ≤ piece }
 {
     let mut reader = MemoryReader::new(keys, piece, None);
-    let mut writer = MemoryWriter::new(rt.alloc(), 100_000, piece).expect(rt, "memory for the output");
+    let mut writer = MemoryWriter::new(rt.alloc(), 100_000, piece).expect(
+        rt,
+        "memory for the output",
+    );
     let result = run(rt.alloc(), text, &mut reader, &mut writer);
     assert_eq!(rt; from_utf8(writer.bytes()), Ok(wanted));
     assert_eq!(rt; result, Ok(ending_of(wanted)));

@@ -7,4 +7,8 @@ mod devices;
 #[cfg(test)]
 mod games;
 #[cfg(test)]
+mod large;
+#[cfg(test)]
+mod memory;
+#[cfg(test)]
 mod sessions;
