@@ -86,8 +86,9 @@ impl<D: ByteWriter> ByteWriter for Watched<D> {
     }
 }
 
-fn moved_nothing(result: Result<usize, Failed>) -> bool {
-    match result {
+/// Whether a call failed, or moved nothing.
+fn moved_nothing(answer: Result<usize, Failed>) -> bool {
+    match answer {
         Ok(count) => count == 0,
         Err(Failed) => true,
     }
