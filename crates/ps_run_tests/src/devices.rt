@@ -303,15 +303,16 @@ fn no_device_is_called_for_a_fault(rt: HostRuntime) {
     assert_eq!(rt; seen, wanted);
 }
 
-/// A reader that gives for ever what is no key.
+/// A reader that gives three bytes by turns, for ever.
 #[derive(Drop)]
-struct Endless {
+struct Endless<'a> {
+    bytes: &'a [u8; 3],
     calls: u64,
     last: usize,
     has_failed: bool,
 }
 
-impl ByteReader for Endless {
+impl<'a> ByteReader for Endless<'a> {
     ghost remaining = { λ _. None };
 
     ghost has_failed = { λ reader. reader.has_failed };
@@ -326,8 +327,9 @@ impl ByteReader for Endless {
             self.has_failed = true;
             return Err(Failed);
         }
+        let (_, turn) = self.bytes.split_at((self.calls % 3) as usize);
         self.calls += 1;
-        let mut once = MemoryReader::new(b"k", 1, None);
+        let mut once = MemoryReader::new(turn, 1, None);
         match once.read_some(buffer) {
             Ok(count) => {
                 self.last = count;
@@ -341,17 +343,24 @@ impl ByteReader for Endless {
     }
 }
 
+/// Neither a letter that is no key nor an arrow that never comes writes anything.
 #[test]
 fn keys_without_end_are_read_up_to_the_limit(rt: HostRuntime) {
     let text = format!(in rt.alloc(); "title T\n{NAMES}{WALK}").expect(&rt, "memory for the text");
-    let mut reader = Endless {
-        calls: 0,
-        last: 0,
-        has_failed: false,
-    };
-    let mut writer = MemoryWriter::new(rt.alloc(), 100, 100).expect(&rt, "memory for the output");
-    let answer = run(rt.alloc(), text.as_bytes(), &mut reader, &mut writer);
-    assert_eq!(rt; answer, Err(RunFault::Read));
-    assert_eq!(rt; reader.calls, u64::from(READ_LIMIT));
-    assert_eq!(rt; writer.bytes(), BEGUN.as_bytes());
+    for bytes in [b"kkk", b"\x1b[k"] {
+        let mut reader = Endless {
+            bytes,
+            calls: 0,
+            last: 0,
+            has_failed: false,
+        };
+        let mut writer = MemoryWriter::new(rt.alloc(), 100, 100).expect(
+            &rt,
+            "memory for the output",
+        );
+        let answer = run(rt.alloc(), text.as_bytes(), &mut reader, &mut writer);
+        assert_eq!(rt; answer, Err(RunFault::Read));
+        assert_eq!(rt; reader.calls, u64::from(READ_LIMIT));
+        assert_eq!(rt; writer.bytes(), BEGUN.as_bytes());
+    }
 }

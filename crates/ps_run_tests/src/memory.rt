@@ -1,5 +1,5 @@
-//! Runs for which memory is refused. As the tests run by themselves each game is played to its end; by
-//! `rt try --test --fail-alloc N` the Nth growth is refused once, and then it is looked at what that leaves.
+//! Runs for which memory is refused. As the tests run by themselves each game is played to its end; `tools/refuse_growths` plays
+//! them with each growth refused in turn, and then it is looked at what that leaves.
 
 use crate::games::NAMES;
 use ps_devices::{MemoryReader, MemoryWriter};
