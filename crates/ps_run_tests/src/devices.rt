@@ -327,7 +327,8 @@ impl<'a> ByteReader for Endless<'a> {
             self.has_failed = true;
             return Err(Failed);
         }
-        let (_, turn) = self.bytes.split_at((self.calls % 3) as usize);
+        let bytes = self.bytes;
+        let (_, turn) = bytes.split_at((self.calls % 3) as usize);
         self.calls += 1;
         let mut once = MemoryReader::new(turn, 1, None);
         match once.read_some(buffer) {
