@@ -94,8 +94,8 @@ fn moved_nothing(answer: Result<usize, Failed>) -> bool {
     }
 }
 
-/// The devices of a run: the most bytes that a call of the reader gives, where it fails, if it does, the most bytes that a
-/// call of the writer takes, and for how many it has room.
+/// The devices of a run: the most bytes that a call of the reader gives, where it fails, if it does, the most bytes
+/// that a call of the writer takes, and for how many it has room.
 #[derive(Clone, Copy)]
 struct Setting {
     gives: usize,
@@ -113,8 +113,8 @@ struct Seen {
     writes: u32,
 }
 
-/// Plays a game and compares what is written with `wanted`. No device is called behind its end or its failure, and no read
-/// asks for too much.
+/// Plays a game and compares what is written with `wanted`. No device is called behind its end or its failure, and no
+/// read asks for too much.
 fn watch(
     rt: &(impl Abort + AllocGlobal),
     lines: &str,

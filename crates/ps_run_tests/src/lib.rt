@@ -1,5 +1,5 @@
-//! Tests of whole runs, by the public call `run`. They stand above the crate that they test, since a crate with tests is
-//! proved twice.
+//! Tests of whole runs, by the public call `run`. They stand above the crate that they test, since a crate with tests
+//! is proved twice.
 #![tactic(auto)]
 
 #[cfg(test)]

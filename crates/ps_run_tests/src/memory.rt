@@ -1,5 +1,5 @@
-//! Runs for which memory is refused. As the tests run by themselves each game is played to its end; `tools/refuse_growths` plays
-//! them with each growth refused in turn, and then it is looked at what that leaves.
+//! Runs for which memory is refused. As the tests run by themselves each game is played to its end;
+//! `tools/refuse_growths` plays them with each growth refused in turn, and then it is looked at what that leaves.
 
 use crate::games::NAMES;
 use ps_devices::{MemoryReader, MemoryWriter};
@@ -21,8 +21,9 @@ fn whole_texts(written: &[u8], texts: &[&str]) -> Option<usize> {
     if rest.is_empty() { Some(count) } else { None }
 }
 
-/// Plays a game of which the opening and then each key writes one of the texts: it writes them all, or memory is refused, and
-/// then it has written the opening and the whole texts of all keys that were read before the last one, or nothing at all.
+/// Plays a game of which the opening and then each key writes one of the texts: it writes them all, or memory is
+/// refused, and then it has written the opening and the whole texts of all keys that were read before the last one,
+/// or nothing at all.
 fn expect_whole_texts(rt: &(impl Abort + AllocGlobal), lines: &str, keys: &str, texts: &[&str]) {
     let Ok(text) = format!(in rt.alloc(); "title T\n{NAMES}{lines}") else {
         return;

@@ -1,5 +1,5 @@
-//! Sessions: entries, messages, undo, restarts, checkpoints, again turns and options. What is written was worked by hand from
-//! the language's rules.
+//! Sessions: entries, messages, undo, restarts, checkpoints, again turns and options. What is written was worked by
+//! hand from the language's rules.
 
 use crate::games::{Lines, expect, repeated, ruled};
 
@@ -48,7 +48,8 @@ fn a_restart_goes_back_to_the_checkpoint(rt: HostRuntime) {
         &rt,
         ruled("[ action Player ] -> checkpoint\n", "P...\n"),
         "dxdrzzzrq",
-        "= T\n# level 1\nP...\n\n.P..\n\n.P..\n\n..P.\n\n.P..\n\n..P.\n\n.P..\n\nP...\n\n.P..\n\n* quit\n",
+        "= T\n# level 1\nP...\n\n.P..\n\n.P..\n\n..P.\n\n.P..\n\n..P.\n\n\
+        .P..\n\nP...\n\n.P..\n\n* quit\n",
     );
     expect(
         &rt,
@@ -58,8 +59,8 @@ fn a_restart_goes_back_to_the_checkpoint(rt: HostRuntime) {
     );
 }
 
-/// The oldest of 1,001 boards is dropped, so that the last board that comes back is the one behind the first move; a further
-/// undo shows it again. These are 2,003 frames.
+/// The oldest of 1,001 boards is dropped, so that the last board that comes back is the one behind the first move; a
+/// further undo shows it again. These are 2,003 frames.
 #[test]
 fn a_thousand_boards_are_kept(rt: HostRuntime) {
     let moves = repeated(&rt, "", "da", 500, "d");
@@ -81,7 +82,8 @@ fn a_level_begins_without_boards_to_undo(rt: HostRuntime) {
         &rt,
         ruled("[ action Player ] -> win\n", "P\n\n.P\n"),
         "xzax",
-        "= T\n# level 1\nP\n\nP\n\n* level 1 done\n# level 2\n.P\n\n.P\n\nP.\n\nP.\n\n* level 2 done\n* the end\n",
+        "= T\n# level 1\nP\n\nP\n\n* level 1 done\n\
+        # level 2\n.P\n\n.P\n\nP.\n\nP.\n\n* level 2 done\n* the end\n",
     );
 }
 
@@ -192,8 +194,8 @@ fn a_win_comes_before_again_turns(rt: HostRuntime) {
     );
 }
 
-/// Each dismissal goes on with two again turns, up to the next message; behind the 200th there are none left. These are 202
-/// frames and 101 messages, and the last key writes nothing.
+/// Each dismissal goes on with two again turns, up to the next message; behind the 200th there are none left. These
+/// are 202 frames and 101 messages, and the last key writes nothing.
 #[test]
 fn messages_cut_into_two_hundred_again_turns(rt: HostRuntime) {
     let keys = repeated(&rt, "", "x", 102, "");
