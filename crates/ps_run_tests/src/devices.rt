@@ -1,0 +1,367 @@
+//! Runs by what they ask of their devices: pieces of any size, failures, and how often each device is called.
+
+ghost use Rattle.std.specs.Prelude.{◌≡◌, ◌≤◌, None};
+
+use crate::games::{NAMES, PUSH, PUSHED};
+use ps_devices::{ByteReader, ByteWriter, Failed, MemoryReader, MemoryWriter};
+use ps_model::{CALL_LIMIT, Ending, Fault, FaultKind, READ_LIMIT};
+use ps_run::{RunFault, run};
+use std::process::Abort;
+
+/// A player with two free cells at its right.
+const WALK: &str = "RULES\nWINCONDITIONS\nLEVELS\nP..\n";
+
+/// What the walk writes before its first key, and with the keys `dd`.
+const BEGUN: &str = "= T\n# level 1\nP..\n\n";
+
+const WALKED: &str = "= T\n# level 1\nP..\n\n.P.\n\n..P\n\n";
+
+/// A device that counts its calls.
+#[derive(Drop)]
+struct Watched<D> {
+    device: D,
+    calls: u32,
+    /// The most bytes that a call had room for, or brought.
+    most: usize,
+    /// Whether a call has failed, or moved nothing.
+    is_over: bool,
+    /// The calls behind that.
+    late: u32,
+}
+
+impl<D: Drop> Watched<D> {
+    fn new(device: D) -> Watched<D>
+        ensures { result.device ≡ device }
+    {
+        Watched {
+            device,
+            calls: 0,
+            most: 0,
+            is_over: false,
+            late: 0,
+        }
+    }
+
+    /// Counts a call of so many bytes.
+    fn count(&mut self, bytes: usize)
+        ensures { self.new.device ≡ self.old.device }
+    {
+        self.calls = self.calls.saturating_add(1);
+        self.most = self.most.max(bytes);
+        if self.is_over {
+            self.late = self.late.saturating_add(1);
+        }
+    }
+}
+
+impl<D: ByteReader> ByteReader for Watched<D> {
+    ghost remaining = { λ watched. D.remaining watched.device };
+
+    ghost has_failed = { λ watched. D.has_failed watched.device };
+
+    ghost last = { λ watched. D.last watched.device };
+
+    ghost calls = { λ watched. D.calls watched.device };
+
+    fn read_some(&mut self, buffer: &mut [u8]) -> Result<usize, Failed> {
+        self.count(buffer.len());
+        let result = self.device.read_some(buffer);
+        self.is_over = moved_nothing(result);
+        result
+    }
+}
+
+impl<D: ByteWriter> ByteWriter for Watched<D> {
+    ghost contents = { λ watched. D.contents watched.device };
+
+    ghost has_failed = { λ watched. D.has_failed watched.device };
+
+    ghost calls = { λ watched. D.calls watched.device };
+
+    fn write_some(&mut self, bytes: &[u8]) -> Result<usize, Failed> {
+        self.count(bytes.len());
+        let result = self.device.write_some(bytes);
+        self.is_over = moved_nothing(result);
+        result
+    }
+}
+
+/// Whether a call failed, or moved nothing.
+fn moved_nothing(answer: Result<usize, Failed>) -> bool {
+    match answer {
+        Ok(count) => count == 0,
+        Err(Failed) => true,
+    }
+}
+
+/// The devices of a run: the most bytes that a call of the reader gives, where it fails, if it does, the most bytes
+/// that a call of the writer takes, and for how many it has room.
+#[derive(Clone, Copy)]
+struct Setting {
+    gives: usize,
+    fails_at: Option<usize>,
+    takes: usize,
+    room: usize,
+}
+
+/// What devices saw of a run, and what the run answered.
+#[derive(Clone, Copy, PartialEq, Eq, Debug)]
+struct Seen {
+    answer: Result<Ending, RunFault>,
+    given: usize,
+    reads: u32,
+    writes: u32,
+}
+
+/// Plays a game and compares what is written with `wanted`. No device is called behind its end or its failure, and no
+/// read asks for too much.
+fn watch(
+    rt: &(impl Abort + AllocGlobal),
+    lines: &str,
+    keys: &[u8],
+    setting: Setting,
+    wanted: &[u8],
+) -> Seen
+    requires { 1 ≤ setting.gives }
+{
+    let text = format!(in rt.alloc(); "title T\n{NAMES}{lines}").expect(rt, "memory for the text");
+    let mut reader = Watched::new(MemoryReader::new(keys, setting.gives, setting.fails_at));
+    let writer = MemoryWriter::new(rt.alloc(), setting.room, setting.takes);
+    let mut writer = Watched::new(writer.expect(rt, "memory for the output"));
+    let answer = run(rt.alloc(), text.as_bytes(), &mut reader, &mut writer);
+    assert_eq!(rt; writer.device.bytes(), wanted);
+    assert_eq!(rt; reader.late, 0);
+    assert_eq!(rt; writer.late, 0);
+    assert!(rt; reader.most <= CALL_LIMIT);
+    Seen {
+        answer,
+        given: reader.device.given(),
+        reads: reader.calls,
+        writes: writer.calls,
+    }
+}
+
+/// Devices that don't fail.
+fn well(gives: usize, takes: usize) -> Setting
+    ensures { result.gives ≡ gives }
+{
+    Setting {
+        gives,
+        fails_at: None,
+        takes,
+        room: 1000,
+    }
+}
+
+#[test]
+fn a_writer_that_fails_has_the_bytes_before(rt: HostRuntime) {
+    let pushed = PUSHED.as_bytes();
+    for room in 0..pushed.len() {
+        let (front, _) = pushed.split_at(room);
+        for takes in [1, 7, CALL_LIMIT] {
+            let setting = Setting {
+                gives: 1,
+                fails_at: None,
+                takes,
+                room,
+            };
+            let seen = watch(&rt, PUSH, b"d", setting, front);
+            assert_eq!(rt; seen.answer, Err(RunFault::Write), "room for {room}");
+        }
+    }
+}
+
+#[test]
+fn a_writer_that_takes_nothing_has_failed(rt: HostRuntime) {
+    let seen = watch(&rt, PUSH, b"d", well(1, 0), b"");
+    let wanted = Seen {
+        answer: Err(RunFault::Write),
+        given: 0,
+        reads: 0,
+        writes: 1,
+    };
+    assert_eq!(rt; seen, wanted);
+}
+
+/// Each key is played before the next one is read.
+#[test]
+fn no_key_is_read_behind_a_failed_write(rt: HostRuntime) {
+    let setting = Setting {
+        gives: 1,
+        fails_at: None,
+        takes: CALL_LIMIT,
+        room: 26,
+    };
+    let front = b"= T\n# level 1\nP..\n\n.P.\n\n..";
+    let wanted = Seen {
+        answer: Err(RunFault::Write),
+        given: 2,
+        reads: 2,
+        writes: 4,
+    };
+    assert_eq!(rt; watch(&rt, WALK, b"dddq", setting, front), wanted);
+}
+
+#[test]
+fn no_key_is_read_behind_the_end(rt: HostRuntime) {
+    let quit = b"= T\n# level 1\nP..\n\n.P.\n\n..P\n\n..P\n\n* quit\n";
+    let mut wanted = Seen {
+        answer: Ok(Ending::Quit),
+        given: 4,
+        reads: 4,
+        writes: 5,
+    };
+    assert_eq!(rt;
+        watch(&rt, WALK, b"dddqdq", well(1, CALL_LIMIT), quit),
+        wanted
+    );
+    wanted.given = 6;
+    wanted.reads = 1;
+    assert_eq!(rt;
+        watch(&rt, WALK, b"dddqdq", well(CALL_LIMIT, CALL_LIMIT), quit),
+        wanted
+    );
+    let ended = Seen {
+        answer: Ok(Ending::TheEnd),
+        given: 1,
+        reads: 1,
+        writes: 2,
+    };
+    assert_eq!(rt;
+        watch(&rt, PUSH, b"ddd", well(1, CALL_LIMIT), PUSHED.as_bytes()),
+        ended
+    );
+}
+
+/// Bytes that are no keys bring no write, nor does an arrow that isn't whole.
+#[test]
+fn a_key_brings_one_write(rt: HostRuntime) {
+    let walked = b"= T\n# level 1\nP..\n\n.P.\n\n..P\n\n* end of keys\n";
+    let wanted = Seen {
+        answer: Ok(Ending::EndOfKeys),
+        given: 9,
+        reads: 10,
+        writes: 4,
+    };
+    assert_eq!(rt;
+        watch(
+            &rt,
+            WALK,
+            b"kd\x1bQ\x1b[C\x1b[",
+            well(1, CALL_LIMIT),
+            walked
+        ),
+        wanted
+    );
+}
+
+#[test]
+fn a_reader_that_fails_leaves_the_texts_before(rt: HostRuntime) {
+    let mut setting = Setting {
+        gives: 1,
+        fails_at: Some(0),
+        takes: CALL_LIMIT,
+        room: 1000,
+    };
+    let mut wanted = Seen {
+        answer: Err(RunFault::Read),
+        given: 0,
+        reads: 1,
+        writes: 1,
+    };
+    assert_eq!(rt; watch(&rt, WALK, b"ddd", setting, BEGUN.as_bytes()), wanted);
+    setting.fails_at = Some(2);
+    wanted.given = 2;
+    wanted.reads = 3;
+    wanted.writes = 3;
+    assert_eq!(rt;
+        watch(&rt, WALK, b"ddd", setting, WALKED.as_bytes()),
+        wanted
+    );
+    setting.gives = CALL_LIMIT;
+    wanted.reads = 2;
+    assert_eq!(rt;
+        watch(&rt, WALK, b"ddd", setting, WALKED.as_bytes()),
+        wanted
+    );
+}
+
+/// A text with a fault is refused before any device is called.
+#[test]
+fn no_device_is_called_for_a_fault(rt: HostRuntime) {
+    let seen = watch(&rt, "RULES\n[ A ] ->\nLEVELS\nP\n", b"d", well(1, 1), b"");
+    let fault = Fault {
+        kind: FaultKind::NothingRight,
+        line: 30,
+    };
+    let wanted = Seen {
+        answer: Err(RunFault::Refused(fault)),
+        given: 0,
+        reads: 0,
+        writes: 0,
+    };
+    assert_eq!(rt; seen, wanted);
+}
+
+/// A reader that gives three bytes by turns, for ever.
+#[derive(Drop)]
+struct Endless<'a> {
+    bytes: &'a [u8; 3],
+    calls: u64,
+    last: usize,
+    has_failed: bool,
+}
+
+impl<'a> ByteReader for Endless<'a> {
+    ghost remaining = { λ _. None };
+
+    ghost has_failed = { λ reader. reader.has_failed };
+
+    ghost last = { λ reader. reader.last };
+
+    ghost calls = { λ reader. reader.calls };
+
+    fn read_some(&mut self, buffer: &mut [u8]) -> Result<usize, Failed> {
+        self.last = 0;
+        if self.calls == u64::MAX {
+            self.has_failed = true;
+            return Err(Failed);
+        }
+        let bytes = self.bytes;
+        let (_, turn) = bytes.split_at((self.calls % 3) as usize);
+        self.calls += 1;
+        let mut once = MemoryReader::new(turn, 1, None);
+        match once.read_some(buffer) {
+            Ok(count) => {
+                self.last = count;
+                Ok(count)
+            }
+            Err(Failed) => {
+                self.has_failed = true;
+                Err(Failed)
+            }
+        }
+    }
+}
+
+/// Neither a letter that is no key nor an arrow that never comes writes anything.
+#[test]
+fn keys_without_end_are_read_up_to_the_limit(rt: HostRuntime) {
+    let text = format!(in rt.alloc(); "title T\n{NAMES}{WALK}").expect(&rt, "memory for the text");
+    for bytes in [b"kkk", b"\x1b[k"] {
+        let mut reader = Endless {
+            bytes,
+            calls: 0,
+            last: 0,
+            has_failed: false,
+        };
+        let mut writer = MemoryWriter::new(rt.alloc(), 100, 100).expect(
+            &rt,
+            "memory for the output",
+        );
+        let answer = run(rt.alloc(), text.as_bytes(), &mut reader, &mut writer);
+        assert_eq!(rt; answer, Err(RunFault::Read));
+        assert_eq!(rt; reader.calls, u64::from(READ_LIMIT));
+        assert_eq!(rt; writer.bytes(), BEGUN.as_bytes());
+    }
+}
