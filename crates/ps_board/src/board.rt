@@ -5,7 +5,7 @@ ghost use Rattle.ps_model.specs.board.Grid.{Grid, IsGrid, IsPlace, at_rest, empt
 ghost use Rattle.ps_model.specs.board.Grid.{motion_in, object_in, slot_at, slot_of};
 ghost use Rattle.ps_model.specs.declared.limits.TheConstants.{LAYER_LIMIT, SIDE_LIMIT};
 ghost use Rattle.ps_model.specs.declared.pieces.Motion.TheVariants.{Still};
-ghost use Rattle.ps_board.specs.Rooms.{HasRoom, HaveRoom};
+ghost use Rattle.ps_board.specs.Rooms.{HasRoom, HaveRoom, layer_numbers};
 
 use ps_model::{LayerId, Memory, Motion, ObjectId};
 use std::alloc::Global;
@@ -26,6 +26,9 @@ pub trait Board: Drop {
     /// layer.
     ghost table: { Self → Option (List ℕ) };
 
+    /// The table of a board for a game whose objects stand on these layers.
+    ghost table_for: { List ℕ → Option (List ℕ) };
+
     /// A board without objects, of so many columns, rows and layers, for a game whose objects stand on the layers
     /// `own_layers`, in the order of their numbers. Without memory there is no board.
     fn try_empty(
@@ -39,6 +42,7 @@ pub trait Board: Drop {
         requires height { (0 < height) × (height ≤ SIDE_LIMIT) }
         requires layers { (0 < layers) × (layers ≤ LAYER_LIMIT) }
         ensures grid { IfOk result (λ board. grid board ≡ empty_grid width height layers) }
+        ensures table { IfOk result (λ board. table board ≡ table_for (layer_numbers own_layers.now)) }
         ensures room { IfOk result (λ board. HaveRoom (table board) own_layers.now) };
 
     /// Another board that shows the same. Without memory there is none, and this one stays as it is.

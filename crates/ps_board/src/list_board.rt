@@ -80,6 +80,8 @@ impl Board for ListBoard {
 
     ghost table = { λ _. None };
 
+    ghost table_for = { λ _. None };
+
     /// Any object may stand on any layer, so the objects' own layers aren't kept.
     fn try_empty(
         alloc: Global,

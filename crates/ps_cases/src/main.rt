@@ -1,15 +1,18 @@
-//! Reads small games and says of each that it is accepted, or which fault it has. The names of the games come on standard
-//! input, a line each, as `odd/play-001`; the text of NAME is the file NAME.game, from where the program runs. What the
-//! games of `data/` are, and who says what each must do, stands in `data/README.md`.
+//! Reads small games, and says of each which fault it has, or plays it and says whether it writes what it must. The names
+//! of the games come on standard input, a line each, as `odd/play-001`; of NAME the text is the file NAME.game, the keys are
+//! NAME.keys, and what it must write is NAME.stdout, from where the program runs. What the games of `data/` are, and who
+//! says what each must do, stands in `data/README.md`.
 #![tactic(auto)]
 
+mod playing;
 #[cfg(test)]
 mod tests;
 mod verdict;
 
+use playing::writes_as_meant;
 use std::rt::Files;
 use std::{fs, io};
-use verdict::judge;
+use verdict::{Verdict, judge};
 
 fn main(rt: HostRuntime) -> io::Result<()> {
     for name in rt.lines(rt.alloc()) {
@@ -24,5 +27,24 @@ fn told<R: Files + AllocGlobal>(rt: &R, name: &str) -> io::Result<String> {
     let path = format!(in rt.alloc(); "{name}.game")?;
     let text = fs::read(rt, path.as_str())?;
     let verdict = judge(rt.alloc(), &text).map_err(|_| io::ErrorKind::OutOfMemory)?;
-    Ok(format!(in rt.alloc(); "{name}: {verdict}")?)
+    let Verdict::Refused(fault) = verdict else {
+        let said = played(rt, name, &text)?;
+        return Ok(format!(in rt.alloc(); "{name}: {said}")?);
+    };
+    Ok(format!(in rt.alloc(); "{name}: {fault}")?)
+}
+
+/// Whether the game of that name writes what it must.
+fn played<R: Files + AllocGlobal>(rt: &R, name: &str, text: &[u8]) -> io::Result<&'static str> {
+    let path = format!(in rt.alloc(); "{name}.keys")?;
+    let keys = fs::read(rt, path.as_str())?;
+    let path = format!(in rt.alloc(); "{name}.stdout")?;
+    let wanted = fs::read(rt, path.as_str())?;
+    let same = writes_as_meant(rt.alloc(), text, &keys, &wanted).map_err(
+        |_| io::ErrorKind::OutOfMemory,
+    )?;
+    if same {
+        return Ok("played as it must be");
+    }
+    Ok("played otherwise")
 }

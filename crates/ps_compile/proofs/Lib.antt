@@ -1,2 +1,6 @@
-pub mod AlikePrograms
+pub mod CompactPrograms
+pub mod IdleCells
+pub mod IdleRules
 pub mod MadePieces
+pub mod RunnablePrograms
+pub mod TurnedRules

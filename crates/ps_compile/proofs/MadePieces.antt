@@ -11,33 +11,34 @@ use Rattle.ps_model.specs.names.Names.{Names}
 use Rattle.ps_model.specs.rules.SourceRules.{SourceRule}
 use Rattle.ps_model.specs.board.RulePrograms.{is_joined, before_groups}
 use Rattle.ps_model.specs.meaning.Compiled.{CompiledRule}
-use Rattle.ps_model.specs.meaning.CompiledRules.{compiled_rules}
+use Rattle.ps_compile.specs.CompactPrograms.{rule_forwards, is_busy, compact, compact_rules}
+use Rattle.ps_compile.proofs.TurnedRules.{compact-more}
 use Rattle.ps_compile.specs.GroupsMade.{compiled_group, behind_open, behind}
 use Rattle.ps_compile.specs.OpenGroups.{opened_rules, closed_by, left_open}
 
 -- a rule that opens a group
 opens : (names : Names) (rule : SourceRule) (group : List SourceRule) (groups : List (List SourceRule)) (joined : Bool) →
     map (compiled_group names) (cond joined ((rule ∷ group) ∷ groups) ((rule ∷ []) ∷ group ∷ groups))
-    ≡ cond joined ((compiled_rules names rule ++ compiled_group names group) ∷ map (compiled_group names) groups) (compiled_rules names rule ∷ map (compiled_group names) (group ∷ groups))
+    ≡ cond joined ((compact_rules names rule ++ compiled_group names group) ∷ map (compiled_group names) groups) (compact_rules names rule ∷ map (compiled_group names) (group ∷ groups))
 opens names rule group groups true = refl
-opens names rule group groups false = ap (λ rules. rules ∷ map (compiled_group names) (group ∷ groups)) (append-nil (compiled_rules names rule))
+opens names rule group groups false = ap (λ rules. rules ∷ map (compiled_group names) (group ∷ groups)) (append-nil (compact_rules names rule))
 
 opened : (names : Names) (rule : SourceRule) (groups : List (List SourceRule)) →
-    map (compiled_group names) (before_groups rule groups) ≡ behind_open names (compiled_rules names rule) groups
-opened names rule [] = ap (λ rules. rules ∷ []) (append-nil (compiled_rules names rule))
+    map (compiled_group names) (before_groups rule groups) ≡ behind_open names (compact_rules names rule) groups
+opened names rule [] = ap (λ rules. rules ∷ []) (append-nil (compact_rules names rule))
 opened names rule (group ∷ groups) = opens names rule group groups (is_joined group)
 
 -- a rule that is joined to the open group
 joins : (names : Names) (rule : SourceRule) (made : List CompiledRule) (group : List SourceRule) (groups : List (List SourceRule)) (joined : Bool) → rule.joined ≡ true →
     behind_open names made (cond joined ((rule ∷ group) ∷ groups) ((rule ∷ []) ∷ group ∷ groups))
-    ≡ cond joined (((made ++ compiled_rules names rule) ++ compiled_group names group) ∷ map (compiled_group names) groups)
-    ((made ++ compiled_rules names rule) ∷ map (compiled_group names) (group ∷ groups))
-joins names rule made group groups true j = rw j (ap (λ rules. rules ∷ map (compiled_group names) groups) (sym (append_assoc made (compiled_rules names rule) (compiled_group names group))))
-joins names rule made group groups false j = rw j (ap (λ rules. (made ++ rules) ∷ map (compiled_group names) (group ∷ groups)) (append-nil (compiled_rules names rule)))
+    ≡ cond joined (((made ++ compact_rules names rule) ++ compiled_group names group) ∷ map (compiled_group names) groups)
+    ((made ++ compact_rules names rule) ∷ map (compiled_group names) (group ∷ groups))
+joins names rule made group groups true j = rw j (ap (λ rules. rules ∷ map (compiled_group names) groups) (sym (append_assoc made (compact_rules names rule) (compiled_group names group))))
+joins names rule made group groups false j = rw j (ap (λ rules. (made ++ rules) ∷ map (compiled_group names) (group ∷ groups)) (append-nil (compact_rules names rule)))
 
 joined-open : (names : Names) (rule : SourceRule) (made : List CompiledRule) (groups : List (List SourceRule)) → rule.joined ≡ true →
-    behind_open names made (before_groups rule groups) ≡ behind_open names (made ++ compiled_rules names rule) groups
-joined-open names rule made [] j = rw j (ap (λ rules. (made ++ rules) ∷ []) (append-nil (compiled_rules names rule)))
+    behind_open names made (before_groups rule groups) ≡ behind_open names (made ++ compact_rules names rule) groups
+joined-open names rule made [] j = rw j (ap (λ rules. (made ++ rules) ∷ []) (append-nil (compact_rules names rule)))
 joined-open names rule made (group ∷ groups) j = joins names rule made group groups (is_joined group) j
 
 -- one that isn't
@@ -54,18 +55,18 @@ parted-open names rule made (group ∷ groups) j = parts names rule made group g
 
 -- one rule more
 adds : (names : Names) (rule : SourceRule) (open' : Option (List CompiledRule)) (closed : List (List CompiledRule)) (groups : List (List SourceRule)) (joined : Bool) → rule.joined ≡ joined →
-    (closed ++ closed_by joined open') ++ behind_open names (opened_rules (left_open joined open') ++ compiled_rules names rule) groups
+    (closed ++ closed_by joined open') ++ behind_open names (opened_rules (left_open joined open') ++ compact_rules names rule) groups
     ≡ closed ++ behind names open' (before_groups rule groups)
 adds names rule None closed groups true j = rw (append-nil closed) (ap (λ made. closed ++ made) (sym (opened names rule groups)))
 adds names rule None closed groups false j = rw (append-nil closed) (ap (λ made. closed ++ made) (sym (opened names rule groups)))
 adds names rule (Some made) closed groups true j = rw (append-nil closed) (ap (λ all. closed ++ all) (sym (joined-open names rule made groups j)))
 adds names rule (Some made) closed groups false j =
-    append_assoc closed (made ∷ []) (behind_open names (compiled_rules names rule) groups)
+    append_assoc closed (made ∷ []) (behind_open names (compact_rules names rule) groups)
     ∙ ap (λ all. closed ++ (made ∷ all)) (sym (opened names rule groups))
     ∙ ap (λ all. closed ++ all) (sym (parted-open names rule made groups j))
 
 pub added : (names : Names) (rule : SourceRule) (open' left : Option (List CompiledRule)) (closed grown : List (List CompiledRule)) (begun made : List CompiledRule) (groups : List (List SourceRule)) →
-    grown ≡ closed ++ closed_by rule.joined open' → left ≡ left_open rule.joined open' → begun ≡ opened_rules left → made ≡ begun ++ compiled_rules names rule →
+    grown ≡ closed ++ closed_by rule.joined open' → left ≡ left_open rule.joined open' → begun ≡ opened_rules left → made ≡ begun ++ compact_rules names rule →
     grown ++ behind names (Some made) groups ≡ closed ++ behind names open' (before_groups rule groups)
 added names rule open' left closed grown begun made groups g l b m = rw (m, b, l, g) (adds names rule open' closed groups rule.joined refl)
 
@@ -91,14 +92,14 @@ shown-more {A} {B} {C} {D} show f h made grown all x y ys i e shows less is befo
     ∙ before
 
 -- one more is made of what passes
-passed : {A B : Type 0} (f : A → B) (x : A) (xs : List A) (made : List B) (yes : Bool) → (made ++ cond yes (f x ∷ []) []) ++ map f xs ≡ made ++ map f (cond yes (x ∷ xs) xs)
-passed f x xs made true = append_assoc made (f x ∷ []) (map f xs)
-passed f x xs made false = ap (λ l. l ++ map f xs) (append-nil made)
+passed : {A : Type 0} (f : A → CompiledRule) (x : A) (xs : List A) (made : List CompiledRule) (yes : Bool) → (made ++ compact (cond yes (f x ∷ []) [])) ++ compact (map f xs) ≡ made ++ compact (map f (cond yes (x ∷ xs) xs))
+passed f x xs made true = compact-more made (compact (map f xs)) (rule_forwards (f x)) (is_busy (rule_forwards (f x)))
+passed f x xs made false = ap (λ l. l ++ compact (map f xs)) (append-nil made)
 
-pub read-more : (names : Names) (rule : SourceRule) (reading : Reading) (left before : List Reading) (made grown all : List CompiledRule) → before ≡ reading ∷ left → grown ≡ made ++ rule_if names rule reading →
-    made ++ map (rule_by names rule) (filter (is_possible names rule) before) ≡ all → grown ++ map (rule_by names rule) (filter (is_possible names rule) left) ≡ all
+pub read-more : (names : Names) (rule : SourceRule) (reading : Reading) (left before : List Reading) (made grown all : List CompiledRule) → before ≡ reading ∷ left → grown ≡ made ++ compact (rule_if names rule reading) →
+    made ++ compact (map (rule_by names rule) (filter (is_possible names rule) before)) ≡ all → grown ++ compact (map (rule_by names rule) (filter (is_possible names rule) left)) ≡ all
 read-more names rule reading left before made grown all e g invariant =
-    ap (λ (l : List CompiledRule). l ++ map (rule_by names rule) (filter (is_possible names rule) left)) g
+    ap (λ (l : List CompiledRule). l ++ compact (map (rule_by names rule) (filter (is_possible names rule) left))) g
     ∙ passed (rule_by names rule) reading (filter (is_possible names rule) left) made (is_possible names rule reading)
-    ∙ ap (λ (readings : List Reading). made ++ map (rule_by names rule) (filter (is_possible names rule) readings)) (sym e)
+    ∙ ap (λ (readings : List Reading). made ++ compact (map (rule_by names rule) (filter (is_possible names rule) readings))) (sym e)
     ∙ invariant

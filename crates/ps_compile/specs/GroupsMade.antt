@@ -5,11 +5,11 @@ use Rattle.ps_model.specs.names.Names.{Names}
 use Rattle.ps_model.specs.rules.SourceRules.{SourceRule}
 use Rattle.ps_model.specs.board.RulePrograms.{is_joined}
 use Rattle.ps_model.specs.meaning.Compiled.{CompiledRule}
-use Rattle.ps_model.specs.meaning.CompiledRules.{compiled_rules}
+use Rattle.ps_compile.specs.CompactPrograms.{compact_rules}
 
 -- a group of source rules, compiled
 abbrev pub compiled_group : Names → List SourceRule → List CompiledRule
-compiled_group names rules = flat_map (compiled_rules names) rules
+compiled_group names rules = flat_map (compact_rules names) rules
 
 -- an open group before the groups that rules to come make: the first of them goes into it, if it is joined
 abbrev pub behind_open : Names → List CompiledRule → List (List SourceRule) → List (List CompiledRule)

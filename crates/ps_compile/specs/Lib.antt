@@ -1,7 +1,11 @@
 pub mod AlikeRuns
+pub mod CompactPrograms
 pub mod GroupsMade
 pub mod GroupsWith
+pub mod IdleRules
 pub mod OpenGroups
 pub mod PiecesShown
 pub mod PossibleRules
 pub mod ProgramsMade
+pub mod RunnablePrograms
+pub mod TurnedRows

@@ -3,10 +3,12 @@
 
 mod cells;
 mod groups;
+mod idle;
 mod masks;
 mod pieces;
 mod program;
 mod rules;
+mod turning;
 mod writes;
 
 pub use program::{Programs, compile};

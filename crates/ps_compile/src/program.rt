@@ -5,12 +5,14 @@ ghost use Rattle.std.specs.List.{flat_map};
 ghost use Rattle.ps_model.specs.declared.rules.Part.TheVariants.{Plain, Late};
 ghost use Rattle.ps_model.specs.board.RulePrograms.{is_in_part};
 ghost use Rattle.ps_model.specs.meaning.Compiled.{CompiledGroup};
-ghost use Rattle.ps_model.specs.meaning.CompiledRules.{compiled_groups, compiled_outside, compiled_loop_and_rest, compiled_pieces, compiled_program};
+ghost use Rattle.ps_compile.specs.CompactPrograms.{compact_groups, compact_outside, compact_loop_and_rest};
+ghost use Rattle.ps_compile.specs.CompactPrograms.{compact_pieces, compact_program};
 ghost use Rattle.ps_rules.specs.RulesShown.{rule_shown as source_shown, lines_shown};
 ghost use Rattle.ps_program.specs.ProgramShown.{groups_shown, sections_shown};
 ghost use Rattle.ps_compile.specs.AlikeRuns.{RunsAlike};
 ghost use Rattle.ps_compile.specs.PiecesShown.{pieces_shown};
 ghost use Rattle.ps_compile.specs.ProgramsMade.{sections_behind};
+ghost use Rattle.ps_compile.specs.RunnablePrograms.{RunsOnBoards};
 
 use crate::groups::Groups;
 use crate::pieces::{cut_at_ends, cut_at_starts};
@@ -45,7 +47,7 @@ fn compiled_groups<'r>(
     part: Part,
     lines: &'r [RuleLine],
 ) -> Result<Vec<List<CompiledRule<'r>>>, Memory>
-    ensures { IfOk result (λ groups. groups_shown groups.items ≡ compiled_groups names.now part (lines_shown lines.entry.now)) }
+    ensures { IfOk result (λ groups. groups_shown groups.items ≡ compact_groups names.now part (lines_shown lines.entry.now)) }
 {
     let mut groups = Groups::new(alloc);
     for line in lines {
@@ -80,7 +82,7 @@ fn push_outside<'r>(
     part: Part,
     lines: &'r [RuleLine],
 ) -> Result<(), Memory>
-    ensures { OnOk result (sections_shown sections.new.items ≡ sections_shown sections.old.items ++ compiled_outside names.now part (lines_shown lines.entry.now)) }
+    ensures { OnOk result (sections_shown sections.new.items ≡ sections_shown sections.old.items ++ compact_outside names.now part (lines_shown lines.entry.now)) }
 {
     let groups = compiled_groups(alloc, names, part, lines)?;
     push_groups(sections, groups)
@@ -94,7 +96,7 @@ fn push_all_outside<'r>(
     part: Part,
     pieces: &[&'r [RuleLine]],
 ) -> Result<(), Memory>
-    ensures { OnOk result (sections_shown sections.new.items ≡ sections_shown sections.old.items ++ flat_map (compiled_outside names.now part) (pieces_shown pieces.now)) }
+    ensures { OnOk result (sections_shown sections.new.items ≡ sections_shown sections.old.items ++ flat_map (compact_outside names.now part) (pieces_shown pieces.now)) }
 {
     for piece in pieces {
         push_outside(alloc, sections, names, part, piece)?;
@@ -110,7 +112,7 @@ fn push_loop<'r>(
     part: Part,
     pieces: &[&'r [RuleLine]],
 ) -> Result<(), Memory>
-    ensures { OnOk result (sections_shown sections.new.items ≡ sections_shown sections.old.items ++ compiled_loop_and_rest names.now part (pieces_shown pieces.now)) }
+    ensures { OnOk result (sections_shown sections.new.items ≡ sections_shown sections.old.items ++ compact_loop_and_rest names.now part (pieces_shown pieces.now)) }
 {
     let Some((body, others)) = pieces.split_first() else {
         return Ok(());
@@ -158,7 +160,7 @@ fn push_pieces<'r>(
     part: Part,
     pieces: &[&'r [RuleLine]],
 ) -> Result<(), Memory>
-    ensures { OnOk result (sections_shown sections.new.items ≡ sections_shown sections.old.items ++ compiled_pieces names.now part (pieces_shown pieces.now)) }
+    ensures { OnOk result (sections_shown sections.new.items ≡ sections_shown sections.old.items ++ compact_pieces names.now part (pieces_shown pieces.now)) }
 {
     let Some((before, behind)) = pieces.split_first() else {
         return Ok(());
@@ -174,7 +176,7 @@ fn program_of<'r>(
     part: Part,
     lines: &'r [RuleLine],
 ) -> Result<Program<'r>, Memory>
-    ensures { IfOk result (λ program. program ≡ compiled_program names.now part (lines_shown lines.entry.now)) }
+    ensures { IfOk result (λ program. program ≡ compact_program names.now part (lines_shown lines.entry.now)) }
 {
     let pieces = cut_at_starts(alloc, lines)?;
     let mut sections = Vec::new(alloc);
@@ -182,17 +184,20 @@ fn program_of<'r>(
     Ok(Program::from_sections(sections))
 }
 
-/// The two compiled programs of a game's rules: for rules of a game, a run of each comes to what the rules mean on each of its
-/// grids. `Memory` if there is no room for them.
+/// The two compiled programs of a game's rules, made of the rules that can do something, which face down or right: for
+/// rules of a game, a run of each comes to what the rules mean on each of its grids; and a board on which the game's
+/// objects have room on their layers can run each as it is. `Memory` if there is no room for them.
 pub fn compile<'r>(
     alloc: Global,
     names: &Names,
     rules: &'r RuleText,
 ) -> Result<Programs<'r>, Memory>
-    ensures plain { IfOk result (λ programs. programs.plain ≡ compiled_program names.now Plain rules.entry.now) }
-    ensures late { IfOk result (λ programs. programs.late ≡ compiled_program names.now Late rules.entry.now) }
+    ensures plain { IfOk result (λ programs. programs.plain ≡ compact_program names.now Plain rules.entry.now) }
+    ensures late { IfOk result (λ programs. programs.late ≡ compact_program names.now Late rules.entry.now) }
     ensures plain_alike { IfOk result (λ programs. RunsAlike names.now Plain rules.entry.now programs.plain) }
     ensures late_alike { IfOk result (λ programs. RunsAlike names.now Late rules.entry.now programs.late) }
+    ensures plain_runs { IfOk result (λ programs. RunsOnBoards names.now rules.entry.now programs.plain) }
+    ensures late_runs { IfOk result (λ programs. RunsOnBoards names.now rules.entry.now programs.late) }
 {
     let plain = program_of(alloc, names, Part::Plain, rules.lines())?;
     let late = program_of(alloc, names, Part::Late, rules.lines())?;

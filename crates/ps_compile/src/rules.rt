@@ -1,14 +1,19 @@
-//! The compiled rules of a rule: one for each of its possible readings, in their order.
+//! The compiled rules of a rule: one for each of its possible readings that can do something, in their order, facing
+//! down or right.
 
-ghost use Rattle.std.specs.Prelude.{◌≡◌, ◌++◌, IfOk, OnOk, map};
-ghost use Rattle.ps_model.specs.meaning.CompiledRules.{compiled_cell, rule_by, compiled_rules};
+ghost use Rattle.std.specs.Prelude.{◌≡◌, ◌++◌, ◌∷◌, [], IfOk, OnOk, map, filter};
+ghost use Rattle.ps_model.specs.meaning.CompiledRules.{compiled_cell, rule_by};
 ghost use Rattle.ps_model.specs.meaning.ReadingMeanings.{is_possible as is_possible_meant};
 ghost use Rattle.ps_rules.specs.RulesShown.{part_shown, tree_row_shown, tree_rows_shown, rule_shown as source_shown};
 ghost use Rattle.ps_readings.specs.ReadingsShown.{reading_shown};
 ghost use Rattle.ps_program.specs.ProgramShown.{cell_shown, row_shown, rows_shown, rule_shown, rules_shown};
+ghost use Rattle.ps_compile.specs.CompactPrograms.{rule_forwards, is_busy, compact, compact_rules};
 ghost use Rattle.ps_compile.specs.PossibleRules.{rule_if};
+ghost use Rattle.ps_compile.specs.TurnedRows.{part_from, row_from};
 
 use crate::cells::compiled_cell;
+use crate::idle::is_idle;
+use crate::turning::{faces_back, facing_forwards, from_end};
 use ps_model::Memory;
 use ps_names::Names;
 use ps_program::{CompiledCell, CompiledRule};
@@ -17,40 +22,85 @@ use ps_rules::{CellPair, Occurrences, SourceRule};
 use ps_text::List;
 use std::alloc::Global;
 
-/// A part of a row, compiled.
-fn compiled_part(
+/// The cells of a part of a row, compiled.
+fn compiled_cells(
     alloc: Global,
     names: &Names,
     occurrences: &Occurrences<'_>,
     reading: &Reading,
     part: &[CellPair],
-) -> Result<List<CompiledCell>, Memory>
-    ensures { IfOk result (λ made. map cell_shown made ≡ map (compiled_cell names.now occurrences.now (reading_shown reading.now)) (part_shown part.now)) }
+) -> Result<Vec<CompiledCell>, Memory>
+    ensures { IfOk result (λ made. map cell_shown made.items
+        ≡ map (compiled_cell names.now occurrences.now (reading_shown reading.now)) (part_shown part.now)) }
 {
     let mut made = Vec::new(alloc);
     for cell in part {
         let compiled = compiled_cell(alloc, names, occurrences, reading, cell)?;
         made.push(compiled)?;
     }
-    Ok(List::from_vec(made))
+    Ok(made)
 }
 
-/// A row, compiled.
+/// A part of a row, compiled; backwards, where the rule is turned round.
+fn compiled_part(
+    alloc: Global,
+    names: &Names,
+    occurrences: &Occurrences<'_>,
+    reading: &Reading,
+    part: &[CellPair],
+    backwards: bool,
+) -> Result<List<CompiledCell>, Memory>
+    ensures { IfOk result (λ made. map cell_shown made
+        ≡ part_from backwards (compiled_cell names.now occurrences.now (reading_shown reading.now))
+        (part_shown part.now)) }
+{
+    let cells = compiled_cells(alloc, names, occurrences, reading, part)?;
+    Ok(from_end(cells, backwards))
+}
+
+/// The parts of a row, compiled.
+fn compiled_parts(
+    alloc: Global,
+    names: &Names,
+    occurrences: &Occurrences<'_>,
+    reading: &Reading,
+    row: &[List<CellPair>],
+    backwards: bool,
+) -> Result<Vec<List<CompiledCell>>, Memory>
+    ensures { IfOk result (λ made. row_shown made.items
+        ≡ map (part_from backwards (compiled_cell names.now occurrences.now (reading_shown reading.now)))
+        (tree_row_shown row.now)) }
+{
+    let mut made = Vec::new(alloc);
+    for part in row {
+        let compiled = compiled_part(
+            alloc,
+            names,
+            occurrences,
+            reading,
+            part.as_slice(),
+            backwards,
+        )?;
+        made.push(compiled)?;
+    }
+    Ok(made)
+}
+
+/// A row, compiled; from its other end, where the rule is turned round.
 fn compiled_row(
     alloc: Global,
     names: &Names,
     occurrences: &Occurrences<'_>,
     reading: &Reading,
     row: &[List<CellPair>],
+    backwards: bool,
 ) -> Result<List<List<CompiledCell>>, Memory>
-    ensures { IfOk result (λ made. row_shown made ≡ map (map (compiled_cell names.now occurrences.now (reading_shown reading.now))) (tree_row_shown row.now)) }
+    ensures { IfOk result (λ made. row_shown made
+        ≡ row_from backwards (compiled_cell names.now occurrences.now (reading_shown reading.now))
+        (tree_row_shown row.now)) }
 {
-    let mut made = Vec::new(alloc);
-    for part in row {
-        let compiled = compiled_part(alloc, names, occurrences, reading, part.as_slice())?;
-        made.push(compiled)?;
-    }
-    Ok(List::from_vec(made))
+    let parts = compiled_parts(alloc, names, occurrences, reading, row, backwards)?;
+    Ok(from_end(parts, backwards))
 }
 
 /// The rows of a rule, compiled.
@@ -60,37 +110,68 @@ fn compiled_rows(
     occurrences: &Occurrences<'_>,
     reading: &Reading,
     rows: &[List<List<CellPair>>],
+    backwards: bool,
 ) -> Result<List<List<List<CompiledCell>>>, Memory>
-    ensures { IfOk result (λ made. rows_shown made ≡ map (map (map (compiled_cell names.now occurrences.now (reading_shown reading.now)))) (tree_rows_shown rows.now)) }
+    ensures { IfOk result (λ made. rows_shown made
+        ≡ map (row_from backwards (compiled_cell names.now occurrences.now (reading_shown reading.now)))
+        (tree_rows_shown rows.now)) }
 {
     let mut made = Vec::new(alloc);
     for row in rows {
-        let compiled = compiled_row(alloc, names, occurrences, reading, row.as_slice())?;
+        let compiled = compiled_row(
+            alloc,
+            names,
+            occurrences,
+            reading,
+            row.as_slice(),
+            backwards,
+        )?;
         made.push(compiled)?;
     }
     Ok(List::from_vec(made))
 }
 
-/// The compiled rule of a rule under a reading.
+/// The compiled rule of a rule under a reading, facing down or right.
 fn rule_by<'r>(
     alloc: Global,
     names: &Names,
     occurrences: &Occurrences<'r>,
     reading: &Reading,
 ) -> Result<CompiledRule<'r>, Memory>
-    ensures { IfOk result (λ made. rule_shown made ≡ rule_by names.now occurrences.now (reading_shown reading.now)) }
+    ensures { IfOk result (λ made. rule_shown made
+        ≡ rule_forwards (rule_by names.now occurrences.now (reading_shown reading.now))) }
 {
     let rule = occurrences.rule();
-    let rows = compiled_rows(alloc, names, occurrences, reading, rule.rows.as_slice())?;
+    let backwards = faces_back(reading.direction);
+    let rows = compiled_rows(
+        alloc,
+        names,
+        occurrences,
+        reading,
+        rule.rows.as_slice(),
+        backwards,
+    )?;
     Ok(CompiledRule {
-        direction: reading.direction,
+        direction: facing_forwards(reading.direction),
         rows,
         rewrites: rule.rewrites,
         commands: &rule.commands,
     })
 }
 
-/// Puts the compiled rule of a reading last, if it is possible.
+/// Puts a compiled rule last, unless it can do nothing.
+fn push_if_busy<'r>(rules: &mut Vec<CompiledRule<'r>>, rule: CompiledRule<'r>) -> Result<(), Memory>
+    ensures { OnOk result (rules_shown rules.new.items
+        ≡ rules_shown rules.old.items ++ filter is_busy (rule_shown rule.entry ∷ [])) }
+{
+    if is_idle(&rule) {
+        return Ok(());
+    }
+    rules.push(rule)?;
+    Ok(())
+}
+
+/// Puts the compiled rule of a reading last, if it is possible and can do something.
 fn push_if_possible<'r>(
     alloc: Global,
     rules: &mut Vec<CompiledRule<'r>>,
@@ -98,14 +179,14 @@ fn push_if_possible<'r>(
     occurrences: &Occurrences<'r>,
     reading: &Reading,
 ) -> Result<(), Memory>
-    ensures { OnOk result (rules_shown rules.new.items ≡ rules_shown rules.old.items ++ rule_if names.now occurrences.now (reading_shown reading.now)) }
+    ensures { OnOk result (rules_shown rules.new.items
+        ≡ rules_shown rules.old.items ++ compact (rule_if names.now occurrences.now (reading_shown reading.now))) }
 {
     if !is_possible(alloc, names, occurrences, reading)? {
         return Ok(());
     }
     let rule = rule_by(alloc, names, occurrences, reading)?;
-    rules.push(rule)?;
-    Ok(())
+    push_if_busy(rules, rule)
 }
 
 /// Puts the compiled rules of the readings that are left last.
@@ -115,7 +196,8 @@ fn push_readings<'r>(
     names: &Names,
     occurrences: &Occurrences<'r>,
 ) -> Result<(), Memory>
-    ensures { OnOk result (rules_shown rules.new.items ≡ rules_shown rules.old.items ++ compiled_rules names.now occurrences.now) }
+    ensures { OnOk result (rules_shown rules.new.items
+        ≡ rules_shown rules.old.items ++ compact_rules names.now occurrences.now) }
 {
     let mut readings = Readings::of(alloc, names, occurrences)?;
     while readings.next(alloc)? {
@@ -124,14 +206,16 @@ fn push_readings<'r>(
     Ok(())
 }
 
-/// Puts the compiled rules of a rule last: those of its possible readings, in their order.
+/// Puts the compiled rules of a rule last: those of its possible readings that can do something, in their order, facing
+/// down or right.
 pub fn push_rules<'r>(
     alloc: Global,
     rules: &mut Vec<CompiledRule<'r>>,
     names: &Names,
     rule: &'r SourceRule,
 ) -> Result<(), Memory>
-    ensures { OnOk result (rules_shown rules.new.items ≡ rules_shown rules.old.items ++ compiled_rules names.now (source_shown rule.entry.now)) }
+    ensures { OnOk result (rules_shown rules.new.items
+        ≡ rules_shown rules.old.items ++ compact_rules names.now (source_shown rule.entry.now)) }
 {
     let occurrences = Occurrences::of(alloc, rule)?;
     push_readings(alloc, rules, names, &occurrences)?;

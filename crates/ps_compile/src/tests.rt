@@ -89,7 +89,7 @@ fn makes_a_rule_for_each_reading(rt: HostRuntime) {
     let alloc = rt.alloc();
     assert!(rt; count_of(alloc, "[ > Player | Crate ] -> [ > Player | > Crate ]\n") == Some(4));
     assert!(rt; count_of(alloc, "[ A ] -> [ right A ]\n") == Some(1));
-    assert!(rt; count_of(alloc, "[ moving A ] -> [ moving A ]\n") == Some(5));
+    assert!(rt; count_of(alloc, "[ moving A ] -> [ moving A ] again\n") == Some(5));
     assert!(rt; count_of(alloc, "horizontal [ > A | B ] -> [ A | B ]\n") == Some(2));
     assert!(rt;
         count_of(
@@ -118,6 +118,32 @@ fn keeps_the_order_of_readings(rt: HostRuntime) {
 }
 
 #[test]
+fn turns_rules_down_or_right(rt: HostRuntime) {
+    let alloc = rt.alloc();
+    // `A` is the object 5 and `B` the object 6
+    assert!(rt; pair_at(alloc, "down [ A | B ] -> [ | ]\n", 0) == Some((5, 6)));
+    assert!(rt; pair_at(alloc, "up [ A | B ] -> [ | ]\n", 0) == Some((6, 5)));
+    assert!(rt; pair_at(alloc, "left [ A | B ] -> [ | ]\n", 0) == Some((6, 5)));
+    assert!(rt; pair_at(alloc, "right [ A | B ] -> [ | ]\n", 0) == Some((5, 6)));
+}
+
+#[test]
+fn leaves_out_rules_that_can_do_nothing(rt: HostRuntime) {
+    let alloc = rt.alloc();
+    assert!(rt; count_of(alloc, "[ A ] -> [ A ]\n") == Some(0));
+    assert!(rt; count_of(alloc, "[ moving A ] -> [ moving A ]\n") == Some(0));
+    assert!(rt; count_of(alloc, "[ AT no Crate ] -> [ AT no Crate ]\n") == Some(0));
+    assert!(rt; count_of(alloc, "[ A ] -> [ A ] win\n") == Some(1));
+    assert!(rt; count_of(alloc, "[ A ] -> sfx1\n") == Some(0));
+    assert!(rt;
+        count_of(
+            alloc,
+            "[ A ] -> [ A ]\n+ [ A ] -> [ A ] sfx0\n+ [ A no A ] -> cancel\n+ [ A ] -> [ B ]\n+ [ A ] -> [ B ]\n"
+        ) == Some(2)
+    );
+}
+
+#[test]
 fn puts_rules_into_groups_and_parts(rt: HostRuntime) {
     let alloc = rt.alloc();
     assert!(rt;
@@ -134,4 +160,46 @@ fn puts_rules_into_groups_and_parts(rt: HostRuntime) {
             "startloop\n[ A ] -> [ B ]\nendloop\n[ B ] -> [ C ]\n"
         ) == Some((2, 1))
     );
+}
+
+/// So many copies of a text, with another one between them.
+fn repeated(alloc: Global, part: &str, between: &str, count: u32) -> Option<String> {
+    let mut text = String::from_str(alloc, part).ok()?;
+    for _more in 1..count {
+        text.push_str(between).ok()?;
+        text.push_str(part).ok()?;
+    }
+    Some(text)
+}
+
+/// Twelve rows of forty such cells.
+fn twelve_rows(alloc: Global, cell: &str) -> Option<String> {
+    let cells = repeated(alloc, cell, " | ", 40)?;
+    let mut row = String::from_str(alloc, "[ ").ok()?;
+    row.push_str(cells.as_str()).ok()?;
+    row.push_str(" ]").ok()?;
+    repeated(alloc, row.as_str(), " ", 12)
+}
+
+/// A rule of twelve rows of forty cells of five items, with every command.
+fn largest_rule(alloc: Global) -> Option<String> {
+    let left = twelve_rows(alloc, "Background Target Player A no Wall")?;
+    let right = twelve_rows(alloc, "Background Target Player B no Wall")?;
+    let mut text = String::from_str(alloc, "right ").ok()?;
+    text.push_str(left.as_str()).ok()?;
+    text.push_str(" -> ").ok()?;
+    text.push_str(right.as_str()).ok()?;
+    text.push_str(" cancel restart again checkpoint win sfx0 message all of it\n")
+        .ok()?;
+    Some(text)
+}
+
+#[test]
+fn compiles_a_large_rule_whole(rt: HostRuntime) {
+    let alloc = rt.alloc();
+    let Some(rule) = largest_rule(alloc) else {
+        assert!(rt; false);
+        return;
+    };
+    assert!(rt; count_of(alloc, rule.as_str()) == Some(1));
 }

@@ -1,6 +1,6 @@
 //! Devices in memory: they tell their bytes, give and take them in pieces, and fail where they are told to.
 
-ghost use Rattle.std.specs.Prelude.{◌≡◌, ◌+◌, ◌<◌, ◌≤◌, Some, None, IfSome, [], true, false, vec_len};
+ghost use Rattle.std.specs.Prelude.{◌≡◌, ◌+◌, ◌-◌, ◌<◌, ◌≤◌, min, Some, None, IfSome, [], true, false, vec_len};
 ghost use Rattle.std.specs.Prelude.{vec_capacity, length, take, drop, IfOk, OnOk, OnErr, IsOk, IsErr};
 ghost use Rattle.ps_devices.specs.Devices.{Grows, Loses, IsSpent, most_calls};
 
@@ -77,8 +77,8 @@ impl<'a> ByteReader for MemoryReader<'a> {
 
     ghost calls = { λ device. device.calls };
 
-    /// Gives as many bytes as are left up to where it stops, but no more than a piece and than `buffer` has room for; it
-    /// fails where it stops and was told to, and behind the `u64::MAX`th call.
+    /// Gives as many bytes as are left up to where it stops, but no more than a piece and than `buffer` has room for;
+    /// it fails where it stops and was told to, and behind the `u64::MAX`th call.
     fn read_some(&mut self, buffer: &mut [u8]) -> Result<usize, Failed>
         ensures count { IfOk result (λ count. count ≤ length buffer.old) }
         ensures given { IfOk result (λ count. Loses (Some (drop self.old.place self.old.bytes.now))
@@ -102,7 +102,8 @@ impl<'a> ByteReader for MemoryReader<'a> {
         ensures stop { self.new.stop ≡ self.old.stop }
         ensures fails { self.new.fails ≡ self.old.fails }
         ensures piece { self.new.piece ≡ self.old.piece }
-        ensures few { IfOk result (λ count. count ≤ self.old.piece) }
+        ensures exact { IfOk result (λ count.
+            count ≡ min (min (self.old.stop - self.old.place) self.old.piece) (length buffer.old)) }
         ensures edge { self.old.place ≡ self.old.stop → self.old.fails ≡ true → IsErr result }
         ensures gives { self.old.calls < most_calls → self.old.place < self.old.stop → IsOk result }
         ensures ends { self.old.calls < most_calls → self.old.fails ≡ false → IsOk result }
@@ -134,6 +135,7 @@ pub struct MemoryWriter {
     room: usize,
     piece: usize,
     failed: bool,
+    calls: u64,
     ghost within: { vec_len bytes ≤ room },
     ghost reserved: { room ≤ vec_capacity bytes },
 }
@@ -148,6 +150,7 @@ impl MemoryWriter {
     pub fn new(alloc: Global, room: usize, piece: usize) -> Result<MemoryWriter, Memory>
         ensures contents { IfOk result (λ writer. ⟦<MemoryWriter as ByteWriter>⟧.contents writer ≡ Some []) }
         ensures has_failed { IfOk result (λ writer. ⟦<MemoryWriter as ByteWriter>⟧.has_failed writer ≡ false) }
+        ensures calls { IfOk result (λ writer. ⟦<MemoryWriter as ByteWriter>⟧.calls writer ≡ 0) }
         ensures room { IfOk result (λ writer. writer.room ≡ room) }
         ensures piece { IfOk result (λ writer. writer.piece ≡ piece) }
     {
@@ -156,6 +159,7 @@ impl MemoryWriter {
             room,
             piece,
             failed: false,
+            calls: 0,
         })
     }
 
@@ -172,7 +176,10 @@ impl ByteWriter for MemoryWriter {
 
     ghost has_failed = { λ device. device.failed };
 
-    /// Takes as much as there is room for, but no more than a piece; it fails where it has no room left for some bytes.
+    ghost calls = { λ device. device.calls };
+
+    /// Takes as much as there is room for, but no more than a piece; it fails where it has no room left for some bytes,
+    /// and behind the `u64::MAX`th call.
     fn write_some(&mut self, bytes: &[u8]) -> Result<usize, Failed>
         ensures count { IfOk result (λ count. count ≤ length bytes.now) }
         ensures taken { IfOk result (λ count.
@@ -184,13 +191,20 @@ impl ByteWriter for MemoryWriter {
         ensures stays { OnErr result (Some self.new.bytes.items ≡ Some self.old.bytes.items) }
         ensures room { self.new.room ≡ self.old.room }
         ensures piece { self.new.piece ≡ self.old.piece }
-        ensures few { IfOk result (λ count. count ≤ self.old.piece) }
+        ensures exact { IfOk result (λ count.
+            count ≡ min (min (self.old.room - vec_len self.old.bytes) self.old.piece) (length bytes.now)) }
+        ensures counted { self.old.calls < most_calls → self.new.calls ≡ self.old.calls + 1 }
+        ensures worn { most_calls ≤ self.old.calls → IsErr result }
+        ensures held { most_calls ≤ self.old.calls → self.new.calls ≡ self.old.calls }
         ensures full { vec_len self.old.bytes ≡ self.old.room → 0 < length bytes.now → IsErr result }
-        ensures takes { vec_len self.old.bytes < self.old.room → IsOk result }
-        ensures some { vec_len self.old.bytes < self.old.room → 0 < self.old.piece → 0 < length bytes.now
-            → IfOk result (λ count. 0 < count) }
-        ensures nothing { length bytes.now ≡ 0 → IsOk result }
+        ensures takes { self.old.calls < most_calls → vec_len self.old.bytes < self.old.room → IsOk result }
+        ensures nothing { self.old.calls < most_calls → length bytes.now ≡ 0 → IsOk result }
     {
+        if self.calls == u64::MAX {
+            self.failed = true;
+            return Err(Failed);
+        }
+        self.calls += 1;
         let left = self.room - self.bytes.len();
         if left == 0 && !bytes.is_empty() {
             self.failed = true;

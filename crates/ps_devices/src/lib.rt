@@ -4,6 +4,7 @@
 
 mod from_std;
 mod in_memory;
+mod stream;
 mod traits;
 
 pub use from_std::FromStd;

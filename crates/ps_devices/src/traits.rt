@@ -1,6 +1,6 @@
 //! What a run asks of its two devices.
 
-ghost use Rattle.std.specs.Prelude.{◌≡◌, ℕ, ◌+◌, ◌<◌, ◌≤◌, List, length, take, drop, true, Bool, Option};
+ghost use Rattle.std.specs.Prelude.{◌≡◌, ℕ, ◌+◌, ◌<◌, ◌≤◌, List, length, take, drop, true, false, Bool, Option};
 ghost use Rattle.std.specs.Prelude.{IfOk, OnOk, OnErr, IsErr};
 ghost use Rattle.ps_devices.specs.Devices.{Grows, Loses, IsSpent, most_calls};
 
@@ -26,13 +26,14 @@ pub trait ByteReader: Drop {
     ghost calls: { Self → ℕ };
 
     /// Gives the next bytes, at most as many as `buffer` has room for, at the start of `buffer`, and says
-    /// how many. It gives 0 only at its end, or where `buffer` is empty.
+    /// how many. It gives 0 only at its end, or where `buffer` is empty. A device that has failed isn't asked again.
     ///
     /// # Errors
     ///
-    /// `Failed` where the device can't be read, and at each call after the `u64::MAX`th. No byte is given
+    /// `Failed` where the device can't be read, and at a call after the `u64::MAX`th. No byte is given
     /// then, and the buffer is as it was.
     fn read_some(&mut self, buffer: &mut [u8]) -> Result<usize, Failed>
+        requires well { has_failed self.old ≡ false }
         ensures count { IfOk result (λ count. count ≤ length buffer.old) }
         ensures given { IfOk result (λ count. Loses (remaining self.old) (remaining self.new) (take count buffer.new)) }
         ensures rest { IfOk result (λ count. drop count buffer.new ≡ drop count buffer.old) }
@@ -56,34 +57,47 @@ pub trait ByteWriter: Drop {
     /// Whether a call has failed. A failure stays told.
     ghost has_failed: { Self → Bool };
 
+    /// How many calls it has had, at most `u64::MAX`.
+    ghost calls: { Self → ℕ };
+
     /// Takes a front of `bytes` and says how many bytes it has. A writer that takes none, where there
-    /// are some, has failed.
+    /// are some, has failed. A device that has failed isn't asked again.
     ///
     /// # Errors
     ///
-    /// `Failed` where the device can't be written to. No byte is taken then.
+    /// `Failed` where the device can't be written to, and at a call after the `u64::MAX`th. No byte is taken then.
     fn write_some(&mut self, bytes: &[u8]) -> Result<usize, Failed>
+        requires well { has_failed self.old ≡ false }
         ensures count { IfOk result (λ count. count ≤ length bytes.now) }
         ensures taken { IfOk result (λ count. Grows (contents self.old) (contents self.new) (take count bytes.now)) }
         ensures well { IfOk result (λ count. 0 < count → has_failed self.new ≡ has_failed self.old) }
         ensures idle { OnOk result (length bytes.now ≡ 0 → has_failed self.new ≡ has_failed self.old) }
         ensures refused { IfOk result (λ count. count ≡ 0 → 0 < length bytes.now → has_failed self.new ≡ true) }
         ensures told { OnErr result (has_failed self.new ≡ true) }
-        ensures stays { OnErr result (contents self.new ≡ contents self.old) };
+        ensures stays { OnErr result (contents self.new ≡ contents self.old) }
+        ensures counted { calls self.old < most_calls → calls self.new ≡ calls self.old + 1 }
+        ensures worn { most_calls ≤ calls self.old → IsErr result }
+        ensures held { most_calls ≤ calls self.old → calls self.new ≡ calls self.old };
 }
 
-/// Writes all of `bytes`, in order and nothing else, by as many calls as it takes.
+/// Writes all of `bytes`, in order and nothing else, by as many calls as it takes: each but one that fails takes a byte
+/// or more, and none comes behind a failure or behind the last byte.
 ///
 /// # Errors
 ///
 /// `Failed` where a call fails, or takes nothing of what is left. The writer has taken a front of `bytes`
 /// then, and tells of the failure.
 pub fn write_whole<W: ByteWriter>(bytes: &[u8], writer: &mut W) -> Result<(), Failed>
+    requires well { W.has_failed writer.old ≡ false }
     ensures taken { OnOk result (Grows (W.contents writer.old) (W.contents writer.new) bytes.now) }
     ensures well { OnOk result (W.has_failed writer.new ≡ W.has_failed writer.old) }
-    ensures front { OnErr result ((count : ℕ) × (count ≤ length bytes.now)
-        × Grows (W.contents writer.old) (W.contents writer.new) (take count bytes.now)) }
+    ensures calls { OnOk result (W.calls writer.new ≤ W.calls writer.old + length bytes.now) }
+    ensures called { OnOk result (0 < length bytes.now → W.calls writer.old < W.calls writer.new) }
+    ensures front { OnErr result ((count : ℕ) × (count < length bytes.now)
+        × Grows (W.contents writer.old) (W.contents writer.new) (take count bytes.now)
+        × (W.calls writer.new ≤ W.calls writer.old + (count + 1))) }
     ensures told { OnErr result (W.has_failed writer.new ≡ true) }
+    ensures counts { W.calls writer.old ≤ W.calls writer.new }
 {
     let mut done = 0usize;
     while done < bytes.len() {

@@ -3,6 +3,7 @@ use Rattle.std.proofs.Common.{◌≡◌, ◌∙◌, ℕ, ◌≤◌, ◌&&◌, Bo
 use Rattle.std.specs.Prelude.{nat_le}
 use Rattle.std.specs.List.{list_all}
 use Rattle.std.proofs.lemmas.Bool.Decides.{nat_tests}
+use Rattle.std.proofs.lemmas.List.{length-map}
 use Rattle.ps_model.specs.declared.compiled.LayerWrite.{LayerWrite}
 use Rattle.ps_model.specs.meaning.Compiled as model
 use Rattle.ps_model.specs.meaning.RuleMeanings.{CellMeaning, RuleMeaning}
@@ -12,11 +13,11 @@ use Rattle.ps_program.specs.declared.rules.CompiledRule.{CompiledRule}
 use Rattle.ps_program.specs.declared.program.CompiledSection.{CompiledSection}
 use Rattle.ps_program.specs.declared.program.CompiledSection.TheVariants.{Group, Loop}
 use Rattle.ps_program.specs.ProgramShown.{cell_shown, row_shown, rows_shown, rule_shown, rules_shown, groups_shown, section_shown, sections_shown, write_shown}
-use Rattle.ps_match.specs.InRoom.{has_room_for, write_in_room, cell_in_room}
+use Rattle.ps_match.specs.InRoom.{write_in_room, cell_in_room}
 use Rattle.ps_places.specs.RowMeanings.{cell_meaning}
 use Rattle.ps_places.specs.Found.{row_meaning}
 use Rattle.ps_engine.specs.RulesInRoom.{rule_meaning, rules_meaning, groups_meaning, section_meaning, sections_meaning}
-use Rattle.ps_engine.specs.Runnable.{cell_has_room, row_runs, rule_runs, section_runs, IsRunnable}
+use Rattle.ps_board.specs.Runnable.{has_room_for, cell_has_room, row_runs, rule_runs, section_runs, IsRunnable}
 
 -- both of two tests
 left_of : (a b : Bool) → (a && b) ≡ true → a ≡ true
@@ -27,11 +28,11 @@ right_of : (a b : Bool) → (a && b) ≡ true → b ≡ true
 right_of true b e = e
 right_of false b e = absurd (cc)
 
--- what is meant of each element that passes a test
-mapped : {X Y : Type 0} (test : X → Bool) (f h : X → Y) (xs : List X) → ((x : X) → test x ≡ true → f x ≡ h x) → list_all test xs ≡ true → map f xs ≡ map h xs
-mapped test f h [] same all = refl
-mapped test f h (x ∷ xs) same all =
-    ap₂ (λ (y : _) (ys : List _). y ∷ ys) (same x (left_of (test x) (list_all test xs) all)) (mapped test f h xs same (right_of (test x) (list_all test xs) all))
+-- what is meant of each element that passes a test as it is shown
+mapped : {X Y Z : Type 0} (show : X → Z) (test : Z → Bool) (f h : X → Y) (xs : List X) → ((x : X) → test (show x) ≡ true → f x ≡ h x) → list_all test (map show xs) ≡ true → map f xs ≡ map h xs
+mapped show test f h [] same all = refl
+mapped show test f h (x ∷ xs) same all =
+    ap₂ (λ (y : _) (ys : List _). y ∷ ys) (same x (left_of (test (show x)) (list_all test (map show xs)) all)) (mapped show test f h xs same (right_of (test (show x)) (list_all test (map show xs)) all))
 
 twice : {X Y Z : Type 0} (f : Y → Z) (h : X → Y) (xs : List X) → map f (map h xs) ≡ map (λ x. f (h x)) xs
 twice f h [] = refl
@@ -47,7 +48,7 @@ write_as_it_is : (table : Option (List ℕ)) (write : model.CellWrite) → list_
 write_as_it_is None write all = refl
 write_as_it_is (Some layers) write all = ap (λ (ws : List LayerWrite). let w : model.CellWrite = record { gone = write.gone; layers = ws } in w) (all_kept (has_room_for (Some layers)) write.layers all)
 
-cell_as_it_is : (table : Option (List ℕ)) (cell : CompiledCell) → cell_has_room table cell ≡ true → cell_meaning table cell ≡ model.meaning_of_cell (cell_shown cell)
+cell_as_it_is : (table : Option (List ℕ)) (cell : CompiledCell) → cell_has_room table (cell_shown cell) ≡ true → cell_meaning table cell ≡ model.meaning_of_cell (cell_shown cell)
 cell_as_it_is table cell room =
     ap (λ (w : model.CellWrite). model.meaning_of_cell (record { mask = (cell_shown cell).mask; write = w })) (write_as_it_is table (write_shown cell.write) room)
 
@@ -57,30 +58,32 @@ short (x ∷ []) h = refl
 short (x ∷ y ∷ []) h = refl
 short (x ∷ y ∷ z ∷ xs) h = absurd (omega arith)
 
-row_as_it_is : (table : Option (List ℕ)) (row : List (List CompiledCell)) → row_runs table row ≡ true → row_meaning table row ≡ map (map model.meaning_of_cell) (row_shown row)
+row_as_it_is : (table : Option (List ℕ)) (row : List (List CompiledCell)) → row_runs table (row_shown row) ≡ true → row_meaning table row ≡ map (map model.meaning_of_cell) (row_shown row)
 row_as_it_is table row runs =
-    let few : nat_le (length row) 2 ≡ true = left_of (nat_le (length row) 2) (list_all (list_all (cell_has_room table)) row) runs in
-    let room : list_all (list_all (cell_has_room table)) row ≡ true = right_of (nat_le (length row) 2) (list_all (list_all (cell_has_room table)) row) runs in
+    let parts : List (List model.CompiledCell) = row_shown row in
+    let few : nat_le (length parts) 2 ≡ true = left_of (nat_le (length parts) 2) (list_all (list_all (cell_has_room table)) parts) runs in
+    let room : list_all (list_all (cell_has_room table)) parts ≡ true = right_of (nat_le (length parts) 2) (list_all (list_all (cell_has_room table)) parts) runs in
+    let as_many : length parts ≡ length row = length-map row (map cell_shown) in
     ap (map (map (cell_meaning table))) (short row (grind (arith, nat_tests)))
-    ∙ mapped (list_all (cell_has_room table)) (map (cell_meaning table)) (λ part. map model.meaning_of_cell (map cell_shown part)) row
-    (λ part all. mapped (cell_has_room table) (cell_meaning table) (λ cell. model.meaning_of_cell (cell_shown cell)) part (cell_as_it_is table) all ∙ sym (twice model.meaning_of_cell cell_shown part)) room
+    ∙ mapped (map cell_shown) (list_all (cell_has_room table)) (map (cell_meaning table)) (λ part. map model.meaning_of_cell (map cell_shown part)) row
+    (λ part all. mapped cell_shown (cell_has_room table) (cell_meaning table) (λ cell. model.meaning_of_cell (cell_shown cell)) part (cell_as_it_is table) all ∙ sym (twice model.meaning_of_cell cell_shown part)) room
     ∙ sym (twice (map model.meaning_of_cell) (map cell_shown) row)
 
-pub rule_as_it_is : (table : Option (List ℕ)) (rule : CompiledRule) → rule_runs table rule ≡ true → rule_meaning table rule ≡ model.meaning_of_rule (rule_shown rule)
+pub rule_as_it_is : (table : Option (List ℕ)) (rule : CompiledRule) → rule_runs table (rule_shown rule) ≡ true → rule_meaning table rule ≡ model.meaning_of_rule (rule_shown rule)
 rule_as_it_is table rule runs =
     ap (λ (rows : List (List (List CellMeaning))). let r : RuleMeaning = record { direction = rule.direction; rows = rows; rewrites = rule.rewrites; commands = (rule_shown rule).commands } in r)
-    (mapped (row_runs table) (row_meaning table) (λ row. map (map model.meaning_of_cell) (row_shown row)) rule.rows (row_as_it_is table) runs ∙ sym (twice (map (map model.meaning_of_cell)) row_shown rule.rows))
+    (mapped row_shown (row_runs table) (row_meaning table) (λ row. map (map model.meaning_of_cell) (row_shown row)) rule.rows (row_as_it_is table) runs ∙ sym (twice (map (map model.meaning_of_cell)) row_shown rule.rows))
 
-rules_as_they_are : (table : Option (List ℕ)) (rules : List CompiledRule) → list_all (rule_runs table) rules ≡ true → rules_meaning table rules ≡ map model.meaning_of_rule (rules_shown rules)
+rules_as_they_are : (table : Option (List ℕ)) (rules : List CompiledRule) → list_all (rule_runs table) (rules_shown rules) ≡ true → rules_meaning table rules ≡ map model.meaning_of_rule (rules_shown rules)
 rules_as_they_are table rules run =
-    mapped (rule_runs table) (rule_meaning table) (λ rule. model.meaning_of_rule (rule_shown rule)) rules (rule_as_it_is table) run ∙ sym (twice model.meaning_of_rule rule_shown rules)
+    mapped rule_shown (rule_runs table) (rule_meaning table) (λ rule. model.meaning_of_rule (rule_shown rule)) rules (rule_as_it_is table) run ∙ sym (twice model.meaning_of_rule rule_shown rules)
 
-section_as_it_is : (table : Option (List ℕ)) (section : CompiledSection) → section_runs table section ≡ true → section_meaning table section ≡ model.meaning_of_section (section_shown section)
+section_as_it_is : (table : Option (List ℕ)) (section : CompiledSection) → section_runs table (section_shown section) ≡ true → section_meaning table section ≡ model.meaning_of_section (section_shown section)
 section_as_it_is table (Group rules) run = ap GroupOf (rules_as_they_are table rules run)
 section_as_it_is table (Loop groups) run =
-    ap LoopOf (mapped (list_all (rule_runs table)) (rules_meaning table) (λ rules. map model.meaning_of_rule (rules_shown rules)) groups (rules_as_they_are table) run
+    ap LoopOf (mapped rules_shown (list_all (rule_runs table)) (rules_meaning table) (λ rules. map model.meaning_of_rule (rules_shown rules)) groups (rules_as_they_are table) run
     ∙ sym (twice (map model.meaning_of_rule) rules_shown groups))
 
-pub program_as_it_is : (table : Option (List ℕ)) (sections : List CompiledSection) → IsRunnable table sections → sections_meaning table sections ≡ model.meaning_of_program (sections_shown sections)
+pub program_as_it_is : (table : Option (List ℕ)) (sections : List CompiledSection) → IsRunnable table (sections_shown sections) → sections_meaning table sections ≡ model.meaning_of_program (sections_shown sections)
 program_as_it_is table sections run =
-    mapped (section_runs table) (section_meaning table) (λ section. model.meaning_of_section (section_shown section)) sections (section_as_it_is table) run ∙ sym (twice model.meaning_of_section section_shown sections)
+    mapped section_shown (section_runs table) (section_meaning table) (λ section. model.meaning_of_section (section_shown section)) sections (section_as_it_is table) run ∙ sym (twice model.meaning_of_section section_shown sections)

@@ -5,6 +5,7 @@ use Rattle.ps_model.specs.board.Attempts.{State, Result, Rewritten, applied, att
 use Rattle.ps_model.specs.rules.SourceRules.{Commands}
 use Rattle.ps_model.specs.meaning.RuleMeanings.{CellMeaning, RuleMeaning}
 use Rattle.ps_model.specs.declared.pieces.Direction.{Direction}
+use Rattle.ps_places.specs.Found.{has_one}
 
 -- a grid as it was
 abbrev pub unchanged : Grid → Rewritten
@@ -19,12 +20,6 @@ pub attempt_none : (direction : Direction) (rows : List (List (List CellMeaning)
 attempt_none direction rows true commands g queue all e = rw e refl
 attempt_none direction rows false commands g queue all e = rw e refl
 
--- with one, the commands alone enter the queue
-pub attempt_commands : (direction : Direction) (rows : List (List (List CellMeaning))) (rewrites : Bool) (commands : Commands) (g : Grid) (queue : Commands) (all : List (List (List ℕ)))
-    (first : List (List ℕ)) (others : List (List (List ℕ))) → all ≡ first ∷ others → rewrites ≡ false →
-    (let r : Result = record { state = record { grid = g; queue = queued queue commands }; changed = false } in r) ≡ attempt_by (rule_of direction rows rewrites commands) (record { grid = g; queue = queue }) all
-attempt_commands direction rows rewrites commands g queue all first others e no_rewrite = rw (e, no_rewrite) refl
-
 -- or all are applied too
 pub attempt_walked : (direction : Direction) (rows : List (List (List CellMeaning))) (rewrites : Bool) (commands : Commands) (g : Grid) (queue : Commands) (all : List (List (List ℕ)))
     (first : List (List ℕ)) (others : List (List (List ℕ))) (r : Rewritten) → all ≡ first ∷ others → rewrites ≡ true → r ≡ fold (applied rows) (unchanged g) all →
@@ -32,3 +27,10 @@ pub attempt_walked : (direction : Direction) (rows : List (List (List CellMeanin
 attempt_walked direction rows rewrites commands g queue all first others r e does made =
     ap (λ (x : Rewritten). let s : Result = record { state = record { grid = x.grid; queue = queued queue commands }; changed = x.changed } in s) (made ∙ ap (fold (applied rows) (unchanged g)) e)
     ∙ sym (ap₂ (λ (b : Bool) (xs : List (List (List ℕ))). attempt_by (rule_of direction rows b commands) (record { grid = g; queue = queue }) xs) does e)
+
+-- the commands of a rule that rewrites nothing, where it has a combination or not
+pub attempt_asked : (direction : Direction) (rows : List (List (List CellMeaning))) (rewrites : Bool) (commands : Commands) (g : Grid) (queue after : Commands) (all : List (List (List ℕ))) → rewrites ≡ false →
+    has_one all ≡ true → after ≡ queued queue commands →
+    (let r : Result = record { state = record { grid = g; queue = after }; changed = false } in r) ≡ attempt_by (rule_of direction rows rewrites commands) (record { grid = g; queue = queue }) all
+attempt_asked direction rows rewrites commands g queue after [] idle one e = absurd (cc)
+attempt_asked direction rows rewrites commands g queue after (first ∷ others) idle one e = rw (e, idle) refl

@@ -1,11 +1,12 @@
 -- The walk over combinations.
-use Rattle.std.proofs.Common.{◌≡◌, ◌∙◌, ℕ, ◌+◌, ◌<◌, ◌≤◌, suc, zero, Bool, true, false, cond, Option, Some, None, List, [], ◌∷◌, ◌++◌, length, map, drop, take, get_or, replicate, refl, sym, ap, ap₂, subst, arith}
+use Rattle.std.proofs.Common.{◌≡◌, ◌∙◌, ℕ, ◌+◌, ◌<◌, ◌≤◌, suc, zero, ◌&&◌, Bool, true, false, cond, Option, Some, None, List, [], ◌∷◌, ◌++◌, length, map, drop, take, get_or, replicate, refl, sym, ap, ap₂, subst, arith}
 use Rattle.std.specs.Prelude.{nat_lt, slice_set, option_map}
-use Rattle.std.specs.List.{flat_map}
+use Rattle.std.specs.List.{flat_map, list_all}
 use Rattle.std.proofs.Math.Seq.{drop-cons}
 use Rattle.std.proofs.lemmas.Bool.Decides.{nat_tests}
 use Rattle.ps_model.specs.board.Attempts.{combinations}
-use Rattle.ps_engine.specs.Choices.{chosen, spread, behind, next_choice, IsChoice}
+use Rattle.ps_places.specs.Found.{has_one}
+use Rattle.ps_engine.specs.Choices.{chosen, spread, behind, next_choice, following, IsChoice}
 
 -- the choice goes on with the other lists
 pub IsChoice-rest : (places : List (List ℕ)) (others : List (List (List ℕ))) (number : ℕ) (numbers : List ℕ) → IsChoice (places ∷ others) (number ∷ numbers) → IsChoice others numbers
@@ -31,12 +32,7 @@ first_of : (places : List (List ℕ)) (rest : List (List ℕ)) → 0 < length pl
 first_of [] rest h = absurd (omega arith)
 first_of (p ∷ places) rest h = refl
 
--- what follows a choice: the next one and all behind it, or nothing
-abbrev pub following : List (List (List ℕ)) → Option (List ℕ) → List (List (List ℕ))
-following places None = []
-following places (Some numbers) = chosen places numbers ∷ behind places numbers
-
-carried : (places : List (List ℕ)) (others : List (List (List ℕ))) (next : Option (List ℕ)) → 0 < length places →
+pub carried : (places : List (List ℕ)) (others : List (List (List ℕ))) (next : Option (List ℕ)) → 0 < length places →
     spread places (following others next) ≡ following (places ∷ others) (option_map (λ rest. 0 ∷ rest) next)
 carried places others None h = refl
 carried places others (Some numbers) h = ap (λ (front : List (List (List ℕ))). front ++ spread places (behind others numbers)) (first_of places (chosen others numbers) h)
@@ -110,9 +106,32 @@ no_combination [] i d h e = absurd (omega arith)
 no_combination (places ∷ others) zero d h e = rw e (no_spread (combinations others))
 no_combination (places ∷ others) (suc i) d h e = ap (spread places) (no_combination others i d (omega arith) e)
 
--- a walk: what follows a choice
-pub following_some : (places : List (List (List ℕ))) (numbers next : List ℕ) → IsChoice places numbers → next_choice places numbers ≡ Some next → behind places numbers ≡ chosen places next ∷ behind places next
-following_some places numbers next is e = behind_is places numbers is ∙ ap (following places) e
+-- where each list has a place, there is a combination, and else none
+one_spread : (places : List (List ℕ)) (rests : List (List (List ℕ))) → has_one places ≡ true → has_one rests ≡ true → has_one (spread places rests) ≡ true
+one_spread [] rests e d = absurd (cc)
+one_spread (place ∷ places) [] e d = absurd (cc)
+one_spread (place ∷ places) (rest ∷ rests) e d = refl
 
-pub following_none : (places : List (List (List ℕ))) (numbers : List ℕ) → IsChoice places numbers → next_choice places numbers ≡ None → behind places numbers ≡ []
-following_none places numbers is e = behind_is places numbers is ∙ ap (following places) e
+nothing_in : {X : Type 0} (xs : List X) → has_one xs ≡ false → xs ≡ []
+nothing_in [] e = refl
+nothing_in (x ∷ xs) e = absurd (cc)
+
+module _ {A B : Type 0} (meant : A → B) (at : B → List (List ℕ)) where
+  some_by : (row : A) (rows : List A) (one others : Bool) → has_one (at (meant row)) ≡ one → (others ≡ true → has_one (combinations (map at (map meant rows))) ≡ true) → (one && others) ≡ true →
+      has_one (combinations (map at (map meant (row ∷ rows)))) ≡ true
+  some_by row rows true others d rest e = one_spread (at (meant row)) (combinations (map at (map meant rows))) d (rest e)
+  some_by row rows false others d rest e = absurd (cc)
+
+  pub some_combination : (rows : List A) → list_all (λ row. has_one (at (meant row))) rows ≡ true → has_one (combinations (map at (map meant rows))) ≡ true
+  some_combination [] e = refl
+  some_combination (row ∷ rows) e = some_by row rows (has_one (at (meant row))) (list_all (λ r. has_one (at (meant r))) rows) refl (some_combination rows) e
+
+  none_by : (row : A) (rows : List A) (one others : Bool) → has_one (at (meant row)) ≡ one → (others ≡ false → combinations (map at (map meant rows)) ≡ []) → (one && others) ≡ false →
+      combinations (map at (map meant (row ∷ rows))) ≡ []
+  none_by row rows true others d rest e = ap (spread (at (meant row))) (rest e)
+  none_by row rows false others d rest e =
+      ap (λ (ps : List (List ℕ)). spread ps (combinations (map at (map meant rows)))) (nothing_in (at (meant row)) d) ∙ no_spread (combinations (map at (map meant rows)))
+
+  pub no_combination_in : (rows : List A) → list_all (λ row. has_one (at (meant row))) rows ≡ false → combinations (map at (map meant rows)) ≡ []
+  no_combination_in [] e = absurd (cc)
+  no_combination_in (row ∷ rows) e = none_by row rows (has_one (at (meant row))) (list_all (λ r. has_one (at (meant r))) rows) refl (no_combination_in rows) e

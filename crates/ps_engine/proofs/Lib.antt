@@ -1,4 +1,5 @@
 pub mod Combinations
+pub mod Passing
 pub mod RowByRow
 pub mod Odometer
 pub mod Attempting

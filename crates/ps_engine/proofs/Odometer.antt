@@ -7,7 +7,7 @@ use Rattle.std.proofs.lemmas.List.{length-map}
 use Rattle.ps_places.specs.declared.row_places.RowPlaces.{RowPlaces}
 use Rattle.ps_places.specs.Stretches.{cells_of}
 use Rattle.ps_places.specs.Found.{places_shown}
-use Rattle.ps_engine.specs.Choices.{next_choice}
+use Rattle.ps_engine.specs.Choices.{next_choice, next_choice_from}
 use Rattle.ps_engine.specs.RulesInRoom.{all_places}
 
 -- numbers that start again before others
@@ -29,6 +29,24 @@ set_behind (suc n) k v rest = ap (λ (r : List ℕ). 0 ∷ r) (set_behind n k v 
 get_behind : (n k d : ℕ) (rest : List ℕ) → get_or (replicate n 0 ++ k ∷ rest) n d ≡ k
 get_behind zero k d rest = refl
 get_behind (suc n) k d rest = get_behind n k d rest
+
+-- the next choice from a row on
+dropped : (n : ℕ) (rows : List RowPlaces) → drop n (all_places rows) ≡ all_places (drop n rows)
+dropped zero rows = refl
+dropped (suc n) [] = refl
+dropped (suc n) (row ∷ rows) = dropped n rows
+
+pub from_row : (n : ℕ) (rows : List RowPlaces) (start : List ℕ) → next_choice_from n (all_places rows) start ≡ starting_again n (next_choice (all_places (drop n rows)) (drop n start))
+from_row n rows start = ap (λ (ps : List (List (List ℕ))). starting_again n (next_choice ps (drop n start))) (dropped n rows)
+
+-- one number more starts again
+pub zero_more : (start choice : List ℕ) (n next : ℕ) → n < length start → choice ≡ replicate n 0 ++ drop n start → next ≡ n + 1 → slice_set choice n 0 ≡ replicate next 0 ++ drop next start
+zero_more start choice n next h e is =
+    let m : next ≡ suc n = omega arith in
+    ap (λ (c : List ℕ). slice_set c n 0) (e ∙ ap (λ (r : List ℕ). replicate n 0 ++ r) (drop-cons start n 0 h))
+    ∙ set_behind n (get_or start n 0) 0 (drop (suc n) start)
+    ∙ one_more_zero n (drop (suc n) start)
+    ∙ ap (λ (k : ℕ). replicate k 0 ++ drop k start) (sym m)
 
 module _ (rows : List RowPlaces) (start choice : List ℕ) (n : ℕ) (row : RowPlaces) where
   split : n < length start → choice ≡ replicate n 0 ++ drop n start → choice ≡ replicate n 0 ++ get_or start n 0 ∷ drop (suc n) start
@@ -69,12 +87,6 @@ module _ (rows : List RowPlaces) (start choice : List ℕ) (n : ℕ) (row : RowP
       (here hr er hs ∙ ap (λ (b : Bool). cond b (Some ((get_or start n 0 + 1) ∷ drop (suc n) start)) (option_map (λ rest. 0 ∷ rest) (next_choice (all_places (drop (suc n) rows)) (drop (suc n) start)))) test)
       ∙ again_more n (next_choice (all_places (drop (suc n) rows)) (drop (suc n) start))
       ∙ ap (λ (k : ℕ). starting_again k (next_choice (all_places (drop k rows)) (drop k start))) (sym m)
-
-  pub set_again : (next : ℕ) → n < length start → choice ≡ replicate n 0 ++ drop n start → next ≡ n + 1 → slice_set choice n 0 ≡ replicate next 0 ++ drop next start
-  set_again next hs e is =
-      let m : next ≡ suc n = omega arith in
-      ap (λ (c : List ℕ). slice_set c n 0) (split hs e) ∙ set_behind n (get_or start n 0) 0 (drop (suc n) start) ∙ one_more_zero n (drop (suc n) start)
-      ∙ ap (λ (k : ℕ). replicate k 0 ++ drop k start) (sym m)
 
 none_left : {X : Type 0} (xs : List X) (n : ℕ) → length xs ≤ n → drop n xs ≡ []
 none_left [] zero h = refl

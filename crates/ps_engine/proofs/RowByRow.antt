@@ -1,10 +1,13 @@
 -- The rows of a rule at the places that are chosen, row by row.
-use Rattle.std.proofs.Common.{◌≡◌, ◌∙◌, ℕ, ◌+◌, ◌<◌, ◌≤◌, suc, zero, Bool, true, false, Option, Some, None, List, [], ◌∷◌, length, map, drop, get_or, refl, sym, ap, ap₂, arith}
+use Rattle.std.proofs.Common.{◌≡◌, ◌∙◌, ℕ, ◌+◌, ◌<◌, ◌≤◌, suc, zero, Bool, true, false, Option, Some, None, List, [], ◌∷◌, length, map, drop, get_or, refl, sym, ap, ap₂, subst, arith}
+use Rattle.std.specs.Prelude.{All}
+use Rattle.std.specs.List.{list_any}
 use Rattle.std.proofs.Math.Seq.{drop-cons}
+use Rattle.std.proofs.lemmas.List.Folds.{list_any_at}
 use Rattle.std.proofs.lemmas.List.{length-map}
 use Rattle.ps_model.specs.board.Grid.{Grid}
 use Rattle.ps_model.specs.board.Places.{fits_along, cells_in}
-use Rattle.ps_model.specs.board.Attempts.{Rewritten, all_fit, rewritten_rows, rewritten_along}
+use Rattle.ps_model.specs.board.Attempts.{Rewritten, all_fit, applied, rewritten_rows, rewritten_along}
 use Rattle.ps_model.specs.meaning.RuleMeanings.{CellMeaning}
 use Rattle.ps_places.specs.declared.shape.Place.{Place}
 use Rattle.ps_places.specs.declared.row_places.RowPlaces.{RowPlaces}
@@ -14,6 +17,7 @@ use Rattle.ps_places.specs.Found.{places_shown}
 use Rattle.ps_places.proofs.Closed.{cells_in-meant}
 use Rattle.ps_engine.specs.Choices.{chosen, IsChoice}
 use Rattle.ps_engine.specs.RulesInRoom.{rows_found, all_places}
+use Rattle.ps_engine.proofs.Passing.{chosen_at}
 
 -- an element of a list, as it is shown
 pub get-shown : {P X : Type 0} (f : P → X) (xs : List P) (k : ℕ) (x : P) (d : X) → k < length xs → x ≡ get_or xs k x → get_or (map f xs) k d ≡ f x
@@ -100,3 +104,47 @@ pub get-shown_twice : {P X Y : Type 0} (f : P → X) (h : X → Y) (xs : List P)
 get-shown_twice f h [] k x d low e = absurd (omega arith)
 get-shown_twice f h (y ∷ xs) zero x d low e = ap (λ z. h (f z)) (sym e)
 get-shown_twice f h (y ∷ xs) (suc k) x d low e = get-shown_twice f h xs k x d (omega arith) e
+
+-- a combination with a place where a row doesn't fit
+not_then : (test more : Bool) → more ≡ false → (elim test [ true ↦ more | false ↦ false ]) ≡ false
+not_then true more e = e
+not_then false more e = refl
+
+all_unfit : (g : Grid) (rows : List (List (List CellMeaning))) (places : List (List ℕ)) (i : ℕ) → i < length rows → fits_along g (cells_in (get_or rows i [])) (get_or places i []) ≡ false → all_fit g rows places ≡ false
+all_unfit g [] places i low off = absurd (omega arith)
+all_unfit g (row ∷ rows) [] i low off = refl
+all_unfit g (row ∷ rows) (place ∷ places) zero low off = nothing (fits_along g (cells_in row) place) (all_fit g rows places) off
+all_unfit g (row ∷ rows) (place ∷ places) (suc i) low off = not_then (fits_along g (cells_in row) place) (all_fit g rows places) (all_unfit g rows places i (omega arith) off)
+
+passed_by : (test : Bool) (more r : Rewritten) → test ≡ false → (elim test [ true ↦ more | false ↦ r ]) ≡ r
+passed_by true more r e = absurd (cc)
+passed_by false more r e = refl
+
+-- does nothing
+pub applied-unfit : (r : Rewritten) (rows : List (List (List CellMeaning))) (places : List (List ℕ)) (i : ℕ) → i < length rows → fits_along r.grid (cells_in (get_or rows i [])) (get_or places i []) ≡ false →
+    applied rows r places ≡ r
+applied-unfit r rows places i low off = passed_by (all_fit r.grid rows places) (rewritten_rows r rows places) r (all_unfit r.grid rows places i low off)
+
+-- a row that was found, as it is meant
+pub row_there : (table : Option (List ℕ)) (rows : List RowPlaces) (n : ℕ) (row : RowPlaces) → n < length rows → row ≡ get_or rows n row → cells_in (get_or (rows_found table rows) n []) ≡ meanings_of table row.parts.now
+row_there table rows n row h e = ap cells_in (get-shown (λ r. parts_meaning table r.parts.now) rows n row [] h e) ∙ cells_in-meant table row.parts.now
+
+-- its place that is chosen
+pub place_there : (rows : List RowPlaces) (choice : List ℕ) (n : ℕ) (row : RowPlaces) (place : Place) → IsChoice (all_places rows) choice → n < length rows → row ≡ get_or rows n row →
+    place ≡ get_or row.found.items (get_or choice n 0) place → get_or (chosen (all_places rows) choice) n [] ≡ cells_of row.shape place
+place_there rows choice n row place is h e at =
+    chosen_at (all_places rows) choice n is (rw (length-map rows places_shown) h)
+    ∙ ap (λ (ps : List (List ℕ)). get_or ps (get_or choice n 0) []) (get-shown places_shown rows n row [] h e)
+    ∙ get-shown (cells_of row.shape) row.found.items (get_or choice n 0) place [] (is_within rows choice n row is h e) at
+
+-- a row that fits at none of its places
+never : (test : List ℕ → Bool) (xs : List (List ℕ)) (i : ℕ) (d : List ℕ) (b : Bool) → list_any test xs ≡ false → i < length xs → test (get_or xs i d) ≡ b → b ≡ false
+never test xs i d true none low e = absurd (let some : list_any test xs ≡ true = list_any_at test xs i d low e in cc)
+never test xs i d false none low e = refl
+
+pub fits_nowhere : (g : Grid) (table : Option (List ℕ)) (rows : List RowPlaces) (n : ℕ) (row : RowPlaces) → n < length rows → row ≡ get_or rows n row →
+    list_any (fits_along g (meanings_of table row.parts.now)) (places_shown row) ≡ false → All (λ place. fits_along g (cells_in (get_or (rows_found table rows) n [])) place ≡ false) (get_or (all_places rows) n [])
+fits_nowhere g table rows n row h e none =
+    subst (λ (ms : List CellMeaning). All (λ place. fits_along g ms place ≡ false) (get_or (all_places rows) n [])) (sym (row_there table rows n row h e))
+    (subst (λ (ps : List (List ℕ)). All (λ place. fits_along g (meanings_of table row.parts.now) place ≡ false) ps) (sym (get-shown places_shown rows n row [] h e))
+    (λ i d low. never (fits_along g (meanings_of table row.parts.now)) (places_shown row) i d (fits_along g (meanings_of table row.parts.now) (get_or (places_shown row) i d)) none low refl))

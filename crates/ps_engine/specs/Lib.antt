@@ -1,3 +1,3 @@
 pub mod Choices
 pub mod RulesInRoom
-pub mod Runnable
+pub mod Unfit

@@ -1,7 +1,10 @@
 //! An attempt of a rule.
 
-ghost use Rattle.std.specs.Prelude.{◌≡◌, IfOk, option_map};
+ghost use Rattle.std.specs.Prelude.{◌≡◌, IfOk, false, option_map};
+ghost use Rattle.std.specs.List.{list_all};
+ghost use Rattle.ps_model.specs.board.Places.{places};
 ghost use Rattle.ps_model.specs.board.Attempts.{Result as Meant, State, attempt};
+ghost use Rattle.ps_places.specs.Found.{has_one, row_meaning};
 ghost use Rattle.ps_engine.specs.RulesInRoom.{AreRowsFound, rule_meaning};
 ghost use Rattle.ps_match.specs.InRoom.{sides_of};
 
@@ -9,7 +12,7 @@ use crate::queue::Queue;
 use crate::walking::walk;
 use ps_match::Scan;
 use ps_model::Memory;
-use ps_places::{RowPlaces, find_places};
+use ps_places::{RowPlaces, find_places, has_place};
 use ps_program::CompiledRule;
 use std::alloc::Global;
 
@@ -33,9 +36,36 @@ fn find_rows<'r, B: Scan>(
     Ok(Some(found))
 }
 
+/// Whether each row of a rule has a place. No memory is taken.
+fn has_places<B: Scan>(board: &B, rule: &CompiledRule) -> bool
+    ensures { let at = places (B.grid board.now) rule.now.direction in
+        result ≡ list_all (λ row. has_one (at (row_meaning (B.table board.now) row))) rule.now.rows }
+{
+    for row in rule.rows.as_slice() {
+        if !has_place(board, rule.direction, row) {
+            return false;
+        }
+    }
+    true
+}
+
+/// An attempt of a rule whose right is commands alone: they enter the queue, if each row has a place. No memory is
+/// taken.
+fn ask<'r, B: Scan>(board: &B, rule: &CompiledRule<'r>, queue: &mut Queue<'r>)
+    requires { rule.now.rewrites ≡ false }
+    ensures { let before : State = record { grid = B.grid board.now; queue = queue.old } in
+        let after : State = record { grid = B.grid board.now; queue = queue.new } in
+        let all : Meant = record { state = after; changed = false } in
+        all ≡ attempt (rule_meaning (B.table board.now) rule.now) before }
+{
+    if has_places(board, rule) {
+        queue.enter(rule.commands);
+    }
+}
+
 /// An attempt of a rule: all combinations of its places are applied in order, each if every row still fits, and its
 /// commands enter the queue, if it has a combination. Answers whether a cell changed. After `Memory` some board of
-/// the same sides and some queue stand.
+/// the same sides and some queue stand. An attempt of a rule of which a row has no place takes no memory.
 pub fn attempt<'r, B: Scan>(
     alloc: Global,
     rule: &CompiledRule<'r>,
@@ -49,13 +79,18 @@ pub fn attempt<'r, B: Scan>(
     ensures table { B.table board.new ≡ B.table board.old }
     ensures sides { sides_of (B.grid board.new) ≡ sides_of (B.grid board.old) }
 {
+    if !rule.rewrites {
+        ask(board, rule, queue);
+        return Ok(false);
+    }
+    // Of several rows the first may have places and another none: nothing is kept before that is known.
+    if 1 < rule.rows.as_slice().len() && !has_places(board, rule) {
+        return Ok(false);
+    }
     let Some(rows) = find_rows(alloc, board, rule)? else {
         return Ok(false);
     };
     queue.enter(rule.commands);
-    if !rule.rewrites {
-        return Ok(false);
-    }
     let changed = walk(alloc, board, rows.as_slice())?;
     Ok(changed)
 }

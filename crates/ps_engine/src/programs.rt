@@ -5,8 +5,8 @@ ghost use Rattle.ps_model.specs.board.Attempts.{State};
 ghost use Rattle.ps_model.specs.board.Programs.{Progress, looped, program_run, section_run, sections_run};
 ghost use Rattle.ps_model.specs.meaning.Compiled.{meaning_of_program};
 ghost use Rattle.ps_program.specs.ProgramShown.{sections_shown};
-ghost use Rattle.ps_engine.specs.Runnable.{IsRunnable};
 ghost use Rattle.ps_engine.specs.RulesInRoom.{groups_meaning, section_meaning, sections_meaning};
+ghost use Rattle.ps_board.specs.Runnable.{IsRunnable};
 ghost use Rattle.ps_match.specs.InRoom.{sides_of};
 
 use crate::queue::Queue;
@@ -128,7 +128,7 @@ pub fn run_program<'r, B: Scan>(
         OnOk result (after ≡ program_run (sections_meaning (B.table board.old) sections.now) before) }
     ensures exact { let before : State = record { grid = B.grid board.old; queue = queue.old } in
         let after : State = record { grid = B.grid board.new; queue = queue.new } in
-        IsRunnable (B.table board.old) sections.now
+        IsRunnable (B.table board.old) (sections_shown sections.now)
         → OnOk result (after ≡ program_run (meaning_of_program (sections_shown sections.now)) before) }
     ensures table { B.table board.new ≡ B.table board.old }
     ensures sides { sides_of (B.grid board.new) ≡ sides_of (B.grid board.old) }

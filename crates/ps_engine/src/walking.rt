@@ -1,8 +1,15 @@
-//! The combinations of a rule's places, walked one after the other and never stored.
+//! The combinations of a rule's places, walked one after the other and never stored. Where a row doesn't fit any more
+//! at its place, all combinations that share the place are passed over.
 
-ghost use Rattle.std.specs.Prelude.{◌≡◌, ◌∷◌, IfOk, OnErr, Some, None, cond, false, fold};
+ghost use Rattle.std.specs.Prelude.{◌≡◌, ◌≤◌, ◌∷◌, ◌++◌, Bool, IfOk, IfSome, OnErr, Some, drop, false, fold};
+ghost use Rattle.std.specs.Prelude.{length, option_map, replicate, true};
+ghost use Rattle.std.specs.List.{list_any};
+ghost use Rattle.ps_model.specs.board.Places.{fits_along};
 ghost use Rattle.ps_model.specs.board.Attempts.{Rewritten, all_fit, applied, combinations, rewritten_rows};
-ghost use Rattle.ps_engine.specs.Choices.{IsChoice, behind, chosen, next_choice};
+ghost use Rattle.ps_places.specs.Found.{places_shown};
+ghost use Rattle.ps_places.specs.RowMeanings.{meanings_of};
+ghost use Rattle.ps_engine.specs.Choices.{IsChoice, IsLater, behind, chosen, following, next_choice_from};
+ghost use Rattle.ps_engine.specs.Unfit.{IsUnfit};
 ghost use Rattle.ps_engine.specs.RulesInRoom.{all_places, rows_found};
 ghost use Rattle.ps_match.specs.InRoom.{sides_of};
 
@@ -61,23 +68,179 @@ fn apply<B: Scan>(board: &mut B, rows: &[RowPlaces], choice: &[usize], changed: 
     rewrite_rows(board, rows, choice, changed)
 }
 
-/// Goes on to the next combination, if there is one: the first row's place changes fastest.
-fn advance(rows: &[RowPlaces], choice: &mut [usize]) -> bool
-    requires { IsChoice (all_places rows.now) choice.old }
-    ensures { next_choice (all_places rows.now) choice.old ≡ cond result (Some choice.new) None }
+/// Whether a row fits at one of its places.
+fn fits_somewhere<B: Scan>(board: &B, row: &RowPlaces) -> bool
+    ensures { let fits = fits_along (B.grid board.now) (meanings_of (B.table board.now) row.now.parts.now) in
+        result ≡ list_any fits (places_shown row.now) }
 {
-    for number in 0..rows.len() {
-        let last = rows[number].found.len() - 1;
-        if choice[number] < last {
-            choice[number] += 1;
+    for place in row.found.as_slice() {
+        if fits_place(board, row.parts, row.shape, *place) {
             return true;
         }
-        choice[number] = 0;
     }
     false
 }
 
-/// Applies all combinations of places, in their order, and answers whether a cell changed.
+/// Whether a place is a row's last one, and the row fits at none of its places.
+fn is_spent<B: Scan>(board: &B, row: &RowPlaces, number: usize) -> bool
+    ensures { let fits = fits_along (B.grid board.now) (meanings_of (B.table board.now) row.now.parts.now) in
+        result ≡ true → list_any fits (places_shown row.now) ≡ false }
+{
+    if number < row.found.len() - 1 {
+        return false;
+    }
+    !fits_somewhere(board, row)
+}
+
+/// The slowest of the first `count` rows that doesn't fit at its place that is chosen.
+fn unfit_row<B: Scan>(
+    board: &B,
+    rows: &[RowPlaces],
+    choice: &[usize],
+    count: usize,
+) -> Option<usize>
+    requires is { IsChoice (all_places rows.now) choice.now }
+    requires count { count ≤ length rows.now }
+    ensures { IfSome result (IsUnfit (B.grid board.now) (B.table board.now) rows.now choice.now) }
+{
+    let mut number = count;
+    while 0 < number {
+        number -= 1;
+        let row = &rows[number];
+        if !fits_place(board, row.parts, row.shape, row.found[choice[number]]) {
+            return Some(number);
+        }
+    }
+    None
+}
+
+/// Starts the first `count` numbers again.
+fn start_again(choice: &mut [usize], count: usize)
+    requires { count ≤ length choice.old }
+    ensures { choice.new ≡ replicate count 0 ++ drop count choice.old }
+{
+    for number in 0..count {
+        choice[number] = 0;
+    }
+}
+
+/// Goes on to the next combination that changes the place of row `first` or of a slower one, if there is one. The
+/// first row's place changes fastest. Answers how many rows have another place now.
+fn advance(rows: &[RowPlaces], choice: &mut [usize], first: usize) -> Option<usize>
+    requires is { IsChoice (all_places rows.now) choice.old }
+    requires first { first ≤ length rows.now }
+    ensures next { let next = next_choice_from first (all_places rows.now) choice.old in
+        next ≡ option_map (λ moved. choice.new) result }
+    ensures moved { IfSome result (λ moved. moved ≤ length rows.now) }
+{
+    start_again(choice, first);
+    for number in first..rows.len() {
+        let last = rows[number].found.len() - 1;
+        if choice[number] < last {
+            choice[number] += 1;
+            return Some(number + 1);
+        }
+        choice[number] = 0;
+    }
+    None
+}
+
+/// What a visit of a combination leaves: whether a cell changed, and, where there is a next combination, how many of
+/// its rows may not fit.
+#[derive(Clone, Copy)]
+struct Visited {
+    changed: bool,
+    unsure: Option<usize>,
+}
+
+/// Applies the combination that is chosen, and goes on to the next one.
+fn apply_one<B: Scan>(
+    board: &mut B,
+    rows: &[RowPlaces],
+    choice: &mut [usize],
+    changed: bool,
+) -> Visited
+    requires { IsChoice (all_places rows.now) choice.old }
+    ensures rewritten { let before : Rewritten = record { grid = B.grid board.old; changed = changed } in
+        let after : Rewritten = record { grid = B.grid board.new; changed = result.changed } in
+        let places = all_places rows.now in
+        let next = option_map (λ unsure. choice.new) result.unsure in
+        fold (applied (rows_found (B.table board.old) rows.now)) after (following places next)
+        ≡ fold (applied (rows_found (B.table board.old) rows.now)) before (following places (Some choice.old)) }
+    ensures unsure { IfSome result.unsure (λ unsure. unsure ≤ length rows.now) }
+    ensures later { IfSome result.unsure (λ unsure. IsLater (all_places rows.now) choice.old choice.new) }
+    ensures table { B.table board.new ≡ B.table board.old }
+    ensures sides { sides_of (B.grid board.new) ≡ sides_of (B.grid board.old) }
+{
+    let changed = apply(board, rows, choice, changed);
+    let Some(_moved) = advance(rows, choice, 0) else {
+        return Visited {
+            changed,
+            unsure: None,
+        };
+    };
+    Visited {
+        changed,
+        unsure: Some(rows.len()),
+    }
+}
+
+/// Passes over the combination that is chosen, in which a row doesn't fit, and over all behind it that have this row
+/// and the slower ones at the same places. Where the row fits at none of its places, all that are left are passed
+/// over.
+fn pass_over<B: Scan>(
+    board: &B,
+    rows: &[RowPlaces],
+    choice: &mut [usize],
+    number: usize,
+) -> Option<usize>
+    requires is { IsChoice (all_places rows.now) choice.old }
+    requires unfit { IsUnfit (B.grid board.now) (B.table board.now) rows.now choice.old number }
+    ensures passed { (changed : Bool) →
+        let now : Rewritten = record { grid = B.grid board.now; changed = changed } in
+        let places = all_places rows.now in
+        let next = option_map (λ unsure. choice.new) result in
+        fold (applied (rows_found (B.table board.now) rows.now)) now (following places next)
+        ≡ fold (applied (rows_found (B.table board.now) rows.now)) now (following places (Some choice.old)) }
+    ensures unsure { IfSome result (λ unsure. unsure ≤ length rows.now) }
+    ensures later { IfSome result (λ unsure. IsLater (all_places rows.now) choice.old choice.new) }
+{
+    if is_spent(board, &rows[number], choice[number]) {
+        return None;
+    }
+    advance(rows, choice, number)
+}
+
+/// Applies the combination that is chosen, or passes over it where one of the first `unsure` rows doesn't fit.
+fn visit<B: Scan>(
+    board: &mut B,
+    rows: &[RowPlaces],
+    choice: &mut [usize],
+    unsure: usize,
+    changed: bool,
+) -> Visited
+    requires is { IsChoice (all_places rows.now) choice.old }
+    requires unsure { unsure ≤ length rows.now }
+    ensures rewritten { let before : Rewritten = record { grid = B.grid board.old; changed = changed } in
+        let after : Rewritten = record { grid = B.grid board.new; changed = result.changed } in
+        let places = all_places rows.now in
+        let next = option_map (λ unsure. choice.new) result.unsure in
+        fold (applied (rows_found (B.table board.old) rows.now)) after (following places next)
+        ≡ fold (applied (rows_found (B.table board.old) rows.now)) before (following places (Some choice.old)) }
+    ensures unsure { IfSome result.unsure (λ unsure. unsure ≤ length rows.now) }
+    ensures later { IfSome result.unsure (λ unsure. IsLater (all_places rows.now) choice.old choice.new) }
+    ensures table { B.table board.new ≡ B.table board.old }
+    ensures sides { sides_of (B.grid board.new) ≡ sides_of (B.grid board.old) }
+{
+    let Some(number) = unfit_row(board, rows, choice, unsure) else {
+        return apply_one(board, rows, choice, changed);
+    };
+    let unsure = pass_over(board, rows, choice, number);
+    Visited { changed, unsure }
+}
+
+/// Applies all combinations of places, in their order, and answers whether a cell changed. Those that share a place
+/// where a row doesn't fit any more are passed over.
 fn walk_from<B: Scan>(board: &mut B, rows: &[RowPlaces], choice: &mut [usize]) -> bool
     requires { IsChoice (all_places rows.now) choice.old }
     ensures rewritten { let before : Rewritten = record { grid = B.grid board.old; changed = false } in
@@ -88,11 +251,13 @@ fn walk_from<B: Scan>(board: &mut B, rows: &[RowPlaces], choice: &mut [usize]) -
     ensures table { B.table board.new ≡ B.table board.old }
     ensures sides { sides_of (B.grid board.new) ≡ sides_of (B.grid board.old) }
 {
-    let mut changed = apply(board, rows, choice, false);
-    while advance(rows, choice) {
-        changed = apply(board, rows, choice, changed);
+    let mut visited = visit(board, rows, choice, rows.len(), false);
+    loop {
+        let Some(unsure) = visited.unsure else {
+            return visited.changed;
+        };
+        visited = visit(board, rows, choice, unsure, visited.changed);
     }
-    changed
 }
 
 /// Applies all combinations of places, in their order, and answers whether a cell changed. `Memory` if there is no

@@ -16,3 +16,4 @@ mod RefusedGames2Rows
 mod RefusedGames3Rows
 mod RefusedGames4Rows
 mod CornerRows
+mod RunRows

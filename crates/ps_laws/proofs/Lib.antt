@@ -5,3 +5,4 @@ pub mod alike
 pub mod keys
 pub mod common
 pub mod sessions
+pub mod runs

@@ -8,6 +8,7 @@ pub mod MentionedObjects
 pub mod NoObjects
 pub mod ObjectsThere
 pub mod RulesOfNames
+pub mod RulesInParts
 pub mod GameLaws
 pub mod OneGame
 pub mod HeldFaults

@@ -7,11 +7,16 @@ pub mod SameSides
 pub mod IdleRules
 pub mod AlikeRounds
 pub mod GamesOfTexts
+pub mod ShortRows
 pub mod Fronts
 pub mod CompilingCells
 pub mod CompilingRules
+pub mod CompiledGames
 pub mod TurningRound
 pub mod ReadingInPieces
 pub mod SessionSteps
 pub mod Sliding
 pub mod AgainTurns
+pub mod SessionBoards
+pub mod AlikeScripts
+pub mod RunsNotAllowed

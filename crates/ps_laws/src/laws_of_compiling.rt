@@ -6,6 +6,7 @@ ghost use Rattle.ps_laws.specs.CompilingCells.{LeftsAreOnOneLayer, RightsAreOnOn
 ghost use Rattle.ps_laws.specs.CompilingCells.{CompiledCellsAgree};
 ghost use Rattle.ps_laws.specs.CompilingRules.{RuleCellsAgree, ReadingsCompile, RulesCompile, ProgramsCompile};
 ghost use Rattle.ps_laws.specs.CompilingRules.{CompiledProgramsRunAlike};
+ghost use Rattle.ps_laws.specs.CompiledGames.{CompiledRulesAreOfGames, CompiledProgramsAreOfGames};
 
 /// What an item asks of a loose property lies on one layer, on the left and on the right, under every reading.
 pub fn loose_properties_lie_on_one_layer()
@@ -33,4 +34,11 @@ pub fn rules_compile()
 pub fn programs_compile()
     ensures alike { ProgramsCompile }
     ensures runs { CompiledProgramsRunAlike }
+{}
+
+/// Compiled rules of a game's rules with short rows have short rows, and put each object on its own layer; both
+/// compiled programs are made of such rules.
+pub fn compiled_programs_are_of_games()
+    ensures rules { CompiledRulesAreOfGames }
+    ensures programs { CompiledProgramsAreOfGames }
 {}

@@ -4,6 +4,7 @@ ghost use Rattle.ps_laws.specs.GamesOfTexts.{GamesHaveObjects, RulesReadAreOfNam
 ghost use Rattle.ps_laws.specs.GamesOfTexts.{LoadedLevelsAreGrids, EntriesReadAreOfNames, GameEntriesAreOfNames};
 ghost use Rattle.ps_laws.specs.GamesOfTexts.{GameLevelsAreGrids, GameLevelsAreWithinLimits, GridsOfGamesAreGrids};
 ghost use Rattle.ps_laws.specs.GamesOfTexts.{GameTurnsKeepAll};
+ghost use Rattle.ps_laws.specs.ShortRows.{RulesReadAreShort, GameRulesAreShort};
 
 /// Names of lines without faults are bounded, and so are the names of every game.
 pub fn names_are_bounded()
@@ -21,6 +22,13 @@ pub fn games_have_objects()
 pub fn rules_are_of_games()
     ensures read { RulesReadAreOfNames }
     ensures games { GameRulesAreOfNames }
+{}
+
+/// Rules that are read from lines without faults have short rows alone: at most one ellipsis parts a row. So have the
+/// rules of every game.
+pub fn rules_have_short_rows()
+    ensures read { RulesReadAreShort }
+    ensures games { GameRulesAreShort }
 {}
 
 /// A level of a game is loaded as a grid of the game. The levels that are read, with names that are bounded and of

@@ -8,6 +8,11 @@ ghost use Rattle.ps_laws.specs.ReadingInPieces.{ReadByteByByte, OneByteMore};
 ghost use Rattle.ps_laws.specs.Fronts.{FrontGrows, FrontOfOutput, FrontInPieces, FrontOfMore, OutputOfEnded};
 ghost use Rattle.ps_laws.specs.Fronts.{OutputOfUnended, OutputOnceEnded, EndIsQuiet, EndStays, EndsOtherwise};
 ghost use Rattle.ps_laws.specs.Fronts.{WrittenByEnding};
+ghost use Rattle.ps_laws.specs.RunsNotAllowed.{NoCallBehindEnding, NoReadFaultBehindEnding, NoWantBehindEnding};
+ghost use Rattle.ps_laws.specs.RunsNotAllowed.{NoMoreCalls, NoLongCall, NoCallBehindEnd, ReadsWhatWasThere};
+ghost use Rattle.ps_laws.specs.RunsNotAllowed.{ReadFaultIsTold, WriteFaultIsTold, NoReadFaultUnasked};
+ghost use Rattle.ps_laws.specs.RunsNotAllowed.{NoWriteFaultUnfailed, NoRunOnFailedDevices, NoWritingUnasked};
+ghost use Rattle.ps_laws.specs.RunsNotAllowed.{WritesFronts, AnswersAreTrueOfTexts};
 ghost use Rattle.ps_laws.specs.OneGame.{AtMostOneGame, FaultBarsGame, FaultlessIsGame, GameIsFaultless, GameOrFault};
 ghost use Rattle.ps_laws.specs.OneGame.{FirstIsFault, HiddenAreBehind};
 
@@ -59,6 +64,31 @@ pub fn ends_of_output()
     ensures stays { EndStays }
     ensures otherwise { EndsOtherwise }
     ensures by_ending { WrittenByEnding }
+{}
+
+/// Runs that aren't allowed, whatever the game: calls of the reader behind the ending, behind its end, too many or too
+/// long; answers that tell of a failure that wasn't, or don't tell of one that was; and writing what isn't to be
+/// written.
+pub fn runs_not_allowed()
+    ensures no_call_behind_ending { NoCallBehindEnding }
+    ensures no_read_fault_behind_ending { NoReadFaultBehindEnding }
+    ensures no_want_behind_ending { NoWantBehindEnding }
+    ensures no_more_calls { NoMoreCalls }
+    ensures no_long_call { NoLongCall }
+    ensures no_call_behind_end { NoCallBehindEnd }
+    ensures reads_what_was_there { ReadsWhatWasThere }
+    ensures read_fault_is_told { ReadFaultIsTold }
+    ensures write_fault_is_told { WriteFaultIsTold }
+    ensures no_read_fault_unasked { NoReadFaultUnasked }
+    ensures no_write_fault_unfailed { NoWriteFaultUnfailed }
+    ensures no_run_on_failed_devices { NoRunOnFailedDevices }
+    ensures no_writing_unasked { NoWritingUnasked }
+    ensures writes_fronts { WritesFronts }
+{}
+
+/// What a right answer says of the text is true, whatever the devices tell.
+pub fn answers_of_texts()
+    ensures { AnswersAreTrueOfTexts }
 {}
 
 /// A text has at most one game. It has one exactly where it has no fault.

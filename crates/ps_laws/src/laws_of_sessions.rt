@@ -1,4 +1,4 @@
-//! Laws of sessions: again turns, steps and what they write.
+//! Laws of sessions: again turns, steps and what they write, the boards of sessions, and scripts that are alike.
 //!
 //! Each function here is a law: it has no body, and its contract is proved.
 
@@ -9,6 +9,9 @@ ghost use Rattle.ps_laws.specs.SessionSteps.{KeyTurnsGoByOutcome, StartTurnsGoBy
 ghost use Rattle.ps_laws.specs.SessionSteps.{TextsJoin, EmptyTextAddsNothing, UndoTakesLatest, UndoOfNothing};
 ghost use Rattle.ps_laws.specs.SessionSteps.{OpeningsAreEntered, FrontsAreTexts, SilentBytesWriteNothing};
 ghost use Rattle.ps_laws.specs.SessionSteps.{KeysWriteTheirTexts};
+ghost use Rattle.ps_laws.specs.SessionBoards.{OpeningsHaveBoards, KeysKeepBoards, SessionsHaveBoards};
+ghost use Rattle.ps_laws.specs.AlikeScripts.{AlikeTurns, AlikeOpenings, AlikeKeys, AlikeRuns, AlikeGames};
+ghost use Rattle.ps_laws.specs.AlikeScripts.{AlikeProgramsOfGames};
 
 /// The again turns of a key, and those of a start, are those of the longest list of turns that count, no more than
 /// their limit; a message cuts it.
@@ -41,4 +44,23 @@ pub fn session_texts()
     ensures front { FrontsAreTexts }
     ensures silent { SilentBytesWriteNothing }
     ensures keys { KeysWriteTheirTexts }
+{}
+
+/// All boards of a run of a game are grids of the game, with sides within the limits: those that are shown, those that
+/// undo goes back to, and those that a restart goes back to.
+pub fn session_boards()
+    ensures opening { OpeningsHaveBoards }
+    ensures keys { KeysKeepBoards }
+    ensures sessions { SessionsHaveBoards }
+{}
+
+/// Scripts that are the same but for their rules, and whose programs come to the same on each grid of the game, have
+/// the same turns, the same steps and the same runs. So a game may be played by other programs than those of its rules.
+pub fn alike_scripts()
+    ensures turns { AlikeTurns }
+    ensures opening { AlikeOpenings }
+    ensures keys { AlikeKeys }
+    ensures runs { AlikeRuns }
+    ensures games { AlikeGames }
+    ensures programs { AlikeProgramsOfGames }
 {}

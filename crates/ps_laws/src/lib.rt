@@ -15,11 +15,12 @@ mod laws_of_sides;
 
 pub use laws_of_boards::{chains_slide, places_lie_on_boards};
 pub use laws_of_compiling::{
-    cells_compile, loose_properties_lie_on_one_layer, programs_compile, rules_compile,
+    cells_compile, compiled_programs_are_of_games, loose_properties_lie_on_one_layer,
+    programs_compile, rules_compile,
 };
 pub use laws_of_games::{
     games_have_objects, grids_of_games, levels_are_of_games, names_are_bounded, rules_are_of_games,
-    turns_are_of_games,
+    rules_have_short_rows, turns_are_of_games,
 };
 pub use laws_of_grids::{
     attempts_keep_grids, game_turns_keep_grids, groups_keep_grids, inputs_keep_grids,
@@ -32,7 +33,10 @@ pub use laws_of_rules::{
     alike_programs, alike_rounds, equal_meanings, idle_rules, settling, turning_round,
 };
 pub use laws_of_runs::{
-    ends_of_output, fronts_of_output, held_bytes, keys_in_pieces, one_game, readings_by_stages,
+    answers_of_texts, ends_of_output, fronts_of_output, held_bytes, keys_in_pieces, one_game,
+    readings_by_stages, runs_not_allowed,
 };
-pub use laws_of_sessions::{again_turns, session_steps, session_texts};
+pub use laws_of_sessions::{
+    again_turns, alike_scripts, session_boards, session_steps, session_texts,
+};
 pub use laws_of_sides::{rules_keep_sides, turns_keep_sides};

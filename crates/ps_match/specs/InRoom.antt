@@ -1,22 +1,10 @@
 -- What compiled cells mean on a board: objects without room on a layer aren't put there.
 use Rattle.std.specs.Prelude.{ℕ, Bool, true, Option, Some, None, List, map, filter}
 use Rattle.ps_model.specs.declared.pieces.Slot.{Slot}
-use Rattle.ps_model.specs.declared.compiled.LayerWrite.{LayerWrite}
-use Rattle.ps_model.specs.declared.compiled.ObjectWrite.{ObjectWrite}
-use Rattle.ps_model.specs.declared.compiled.ObjectWrite.TheVariants.{Put, Leave, Clear}
 use Rattle.ps_model.specs.meaning.RuleMeanings.{CellMeaning}
 use Rattle.ps_model.specs.meaning.Compiled.{CellMask, CellWrite, CompiledCell, CompiledRule, mask_fits, cell_written, slot_written, slot_freed, write_on}
 use Rattle.ps_model.specs.board.Grid.{Grid}
-use Rattle.ps_board.specs.Rooms.{has_room}
-
--- what is put has room on its layer
-abbrev pub object_has_room : Option (List ℕ) → ℕ → ObjectWrite → Bool
-object_has_room table layer (Put object) = has_room table object layer
-object_has_room table layer Leave = true
-object_has_room table layer Clear = true
-
-abbrev pub has_room_for : Option (List ℕ) → LayerWrite → Bool
-has_room_for table write = object_has_room table (write.layer).0 write.object
+use Rattle.ps_board.specs.Runnable.{has_room_for}
 
 -- a write without what has no room
 abbrev pub write_in_room : Option (List ℕ) → CellWrite → CellWrite

@@ -96,8 +96,6 @@ pub enum FaultKind {
     BadWin,
     /// `WN2 UnknownName`: a win condition names what isn't declared.
     UnknownWinName,
-    /// `NY1`: the text may be a game, but not one that this version plays. No fault of the text.
-    NotYet,
 }
 
 /// A cause of refusal and the line that has it, counted from 1.
@@ -157,7 +155,6 @@ impl FaultKind {
             FaultKind::TooManyEntries => "LV5 TooMany",
             FaultKind::BadWin => "WN1 BadWin",
             FaultKind::UnknownWinName => "WN2 UnknownName",
-            FaultKind::NotYet => "NY1 NotYet",
         }
     }
 }

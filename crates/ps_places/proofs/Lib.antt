@@ -4,3 +4,4 @@ pub mod Ranges
 pub mod Lines
 pub mod Gathering
 pub mod Closed
+pub mod FirstOne

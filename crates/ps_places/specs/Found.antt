@@ -1,5 +1,5 @@
 -- What a search for the places of a row finds.
-use Rattle.std.specs.Prelude.{◌≡◌, ℕ, Option, Some, None, List, [], map, take}
+use Rattle.std.specs.Prelude.{◌≡◌, ℕ, Bool, true, false, Option, Some, None, List, [], ◌∷◌, map, take}
 use Rattle.ps_model.specs.declared.pieces.Direction.{Direction}
 use Rattle.ps_model.specs.board.Grid.{Grid}
 use Rattle.ps_model.specs.board.Places.{places}
@@ -26,3 +26,8 @@ pub record AreFound (g : Grid) (table : Option (List ℕ)) (direction : Directio
 abbrev pub IsFound : Grid → Option (List ℕ) → Direction → List (List CompiledCell) → Option RowPlaces → Type 0
 IsFound g table direction row None = places g direction (row_meaning table row) ≡ []
 IsFound g table direction row (Some found) = AreFound g table direction row found
+
+-- whether a list has an element
+abbrev pub has_one : {X : Type 0} → List X → Bool
+has_one [] = false
+has_one (x ∷ xs) = true

@@ -20,7 +20,7 @@ use ps_text::List;
 use std::alloc::Global;
 
 /// The first two parts of a row. A rule has no more: a row has one ellipsis at most.
-fn first_parts(row: &[List<CompiledCell>]) -> &[List<CompiledCell>]
+pub fn first_parts(row: &[List<CompiledCell>]) -> &[List<CompiledCell>]
     ensures parts { result.now ≡ take 2 row.entry.now }
     ensures few { length result.now ≤ 2 }
 {
@@ -41,7 +41,11 @@ fn size_of(parts: &[List<CompiledCell>], number: usize) -> usize
 }
 
 /// How the places of a row lie on a board; nothing, where it has more cells than any board has in a line.
-fn shape_of<B: Scan>(board: &B, direction: Direction, parts: &[List<CompiledCell>]) -> Option<Shape>
+pub fn shape_of<B: Scan>(
+    board: &B,
+    direction: Direction,
+    parts: &[List<CompiledCell>],
+) -> Option<Shape>
     requires { length parts.now ≤ 2 }
     ensures some { IfSome result (λ shape. IsShapeOf (B.grid board.now) direction (part_sizes parts.now) shape) }
     ensures none { result ≡ None → SIDE_LIMIT < sum (part_sizes parts.now) }

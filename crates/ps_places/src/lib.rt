@@ -3,6 +3,7 @@
 
 mod along;
 mod find;
+mod presence;
 mod row_cells;
 mod row_places;
 mod search;
@@ -11,5 +12,9 @@ mod shape_cells;
 
 pub use along::{fits_place, rewrite_place};
 pub use find::find_places;
+pub use presence::has_place;
 pub use row_places::RowPlaces;
 pub use shape::{Place, Shape};
+
+#[cfg(test)]
+mod tests;

@@ -15,7 +15,7 @@ use ps_program::CompiledCell;
 use ps_text::List;
 
 /// How many gaps a row with these parts may have on a line so long.
-fn gaps(parts: &[List<CompiledCell>], shape: Shape, long: u32) -> u32
+pub fn gaps(parts: &[List<CompiledCell>], shape: Shape, long: u32) -> u32
     requires few { length parts.now ≤ 2 }
     requires size { sum (part_sizes parts.now) ≡ shape.size }
     requires long { long ≤ SIDE_LIMIT }

@@ -1,19 +1,32 @@
 //! Command lines and what they ask for, and the sentences of faults.
 
+use crate::command::{Asked, read_command};
 use crate::explanations::explanation;
-use crate::{Asked, Stop, read_command};
+use crate::stops::Stop;
 use std::process::Abort;
 use std::test::Fail;
 
 /// The words of a command line that asks for something, and what they ask for.
-const LINES: [(&[&str], Asked<'static>); 3] = [
-    (&["ps_play", "a.game"], Asked::Game("a.game")),
-    (&["ps_play", "--", "--explain"], Asked::Game("--explain")),
+const LINES: [(&[&str], Asked<'static>); 5] = [
+    (&["ps_play", "a.game"], Asked::Play("a.game")),
+    (&["ps_play", "--", "--explain"], Asked::Play("--explain")),
+    (
+        &["ps_play", "a.game", "--keys", "a.keys"],
+        Asked::PlayFrom("a.game", "a.keys"),
+    ),
+    (
+        &["ps_play", "--keys=a.keys", "a.game"],
+        Asked::PlayFrom("a.game", "a.keys"),
+    ),
     (&["ps_play", "--explain", "RU7"], Asked::Explanation("RU7")),
 ];
 
 /// The words of command lines that aren't right, or ask for help or the version.
-const OTHER_LINES: [&[&str]; 7] = [
+const OTHER_LINES: [&[&str]; 11] = [
+    &["ps_play", "--keys", "a.keys"],
+    &["ps_play", "a.game", "--keys"],
+    &["ps_play", "a.game", "--keys", "a.keys", "--keys", "a.keys"],
+    &["ps_play", "--explain", "RU7", "--keys", "a.keys"],
     &["ps_play"],
     &["ps_play", "a.game", "b.game"],
     &["ps_play", "--explain"],

@@ -4,7 +4,7 @@ use ps_model::FaultKind;
 
 /// The sentence of each cause of refusal. docs/LANGUAGE.md has the same sentences; `tools/check_explanations` compares
 /// them.
-const EXPLANATIONS: [(FaultKind, &str); 45] = [
+const EXPLANATIONS: [(FaultKind, &str); 44] = [
     (FaultKind::NotUtf8, "The text isn't UTF-8."),
     (
         FaultKind::TooLong,
@@ -168,10 +168,6 @@ const EXPLANATIONS: [(FaultKind, &str); 45] = [
     (
         FaultKind::UnknownWinName,
         "A win condition names what nothing declares.",
-    ),
-    (
-        FaultKind::NotYet,
-        "The text is a game, but not one that this version plays yet.",
     ),
 ];
 

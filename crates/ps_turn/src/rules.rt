@@ -1,6 +1,6 @@
 //! What runs the rules.
 
-ghost use Rattle.std.specs.Prelude.{◌≡◌, List, OnOk};
+ghost use Rattle.std.specs.Prelude.{◌≡◌, ℕ, List, OnOk, Option};
 ghost use Rattle.ps_model.specs.board.Programs.{Section, program_run};
 ghost use Rattle.ps_turn.specs.States.{queue_shown, state_of};
 
@@ -10,8 +10,8 @@ use ps_model::Memory;
 
 /// The rules of one part of a turn, with what their runs need besides the board.
 pub trait Rules<B: Board> {
-    /// The program that the rules are.
-    ghost meant: { Self → List Section };
+    /// The program that the rules are on boards whose objects have these layers.
+    ghost meant: { Self → Option (List ℕ) → List Section };
 
     /// Runs the program on a board, which keeps its sides and layers, and adds to the queue.
     ///
@@ -20,7 +20,7 @@ pub trait Rules<B: Board> {
     /// `Memory`, and a part of the program may have been run.
     fn run(&mut self, board: &mut B, queue: &mut Queue) -> Result<(), Memory>
         ensures ran { OnOk result (state_of (B.grid board.new) (queue_shown queue.new)
-            ≡ program_run (meant self.old) (state_of (B.grid board.old) (queue_shown queue.old))) }
+            ≡ program_run (meant self.old (B.table board.old)) (state_of (B.grid board.old) (queue_shown queue.old))) }
         ensures same { meant self.new ≡ meant self.old }
         ensures width { (B.grid board.new).width ≡ (B.grid board.old).width }
         ensures height { (B.grid board.new).height ≡ (B.grid board.old).height }

@@ -91,7 +91,7 @@ fn play<B: Board, R: Rules<B>>(
     board: &mut B,
 ) -> Result<Queue, Memory>
     ensures played { IfOk result (λ queue. state_of (B.grid board.new) (queue_shown queue)
-        ≡ played (script_with game.now (R.meant rules.old.plain) (R.meant rules.old.late)) input (B.grid board.old)) }
+        ≡ played (script_with game.now (R.meant rules.old.plain (B.table board.old)) (R.meant rules.old.late (B.table board.old))) input (B.grid board.old)) }
     ensures plain { R.meant rules.new.plain ≡ R.meant rules.old.plain }
     ensures late { R.meant rules.new.late ≡ R.meant rules.old.late }
     ensures sides { HaveSameSides (B.grid board.new) (B.grid board.old) }
@@ -185,7 +185,7 @@ pub fn turn<B: Board, R: Rules<B>>(
     requires equal { B.grid after.old ≡ B.grid before.now }
     requires table { B.table after.old ≡ B.table before.now }
     ensures outcome { IfOk result (λ turned. outcome_shown turned (B.grid after.new)
-        ≡ turn (script_with game.now (R.meant rules.old.plain) (R.meant rules.old.late)) input (B.grid before.now)) }
+        ≡ turn (script_with game.now (R.meant rules.old.plain (B.table before.now)) (R.meant rules.old.late (B.table before.now))) input (B.grid before.now)) }
     ensures undone { IfOk result (λ turned. is_done turned ≡ false → B.grid after.new ≡ B.grid before.now) }
     ensures stands { OnErr result (B.grid after.new ≡ B.grid before.now) }
     ensures sides { HaveSameSides (B.grid after.new) (B.grid before.now) }

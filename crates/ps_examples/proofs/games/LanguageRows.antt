@@ -14,7 +14,6 @@ use Rattle.ps_model.specs.text.Lines.{lines_of}
 use Rattle.ps_model.specs.text.Faults.{first_fault}
 use Rattle.ps_model.specs.text.TextFaults.{utf8_fault}
 use Rattle.ps_model.specs.game.Games.{game, line_faults}
-use Rattle.ps_model.specs.game.PlainGames.{plain_game}
 use Rattle.ps_model.specs.board.Programs.{group, program_run}
 use Rattle.ps_model.specs.session.StartSteps.{all_start_turns}
 use Rattle.ps_model.specs.session.KeySteps.{all_key_turns}
@@ -31,11 +30,6 @@ the_game = base_game (codes "[ > Player | Crate ] -> [ > Player | > Crate ]\n") 
 whole_game : written the_game (codes "d") ≡ Some (codes "= T\n# level 1\n#P*O#\n\n#.P@#\n\n* level 1 done\n* the end\n")
 unfolding chars digits is_utf8 utf8_valid_len encode group program_run all_start_turns all_key_turns turn opening_step
 whole_game = refl
-
--- what this version plays
-not_yet : plain_game the_game ≡ None
-unfolding chars digits is_utf8 utf8_valid_len encode
-not_yet = refl
 
 comment_in_object : written (changed 14 1 (codes "(a little\n\nred fruit)\nred\n") (base_game [] [] (codes "P\n"))) []
     ≡ Some (codes "= T\n# level 1\nP\n\n* end of keys\n")

@@ -1,6 +1,6 @@
 -- Whole runs from the bytes of a text to the bytes that are written, worked by hand.
-use Rattle.std.proofs.Common.{◌≡◌, ℕ, List, [], ◌∷◌, ◌++◌, refl, Option, Some, true, false, Bool}
-use Rattle.std.specs.Prelude.{codes, option_map, is_some}
+use Rattle.std.proofs.Common.{◌≡◌, ℕ, List, [], ◌∷◌, ◌++◌, refl, Some, true, false, Bool}
+use Rattle.std.specs.Prelude.{codes, is_some}
 use Rattle.std.specs.Str.{chars, is_utf8}
 use Rattle.std.specs.Str.Lossy.{utf8_valid_len}
 use Rattle.std.specs.Fmt.{digits}
@@ -13,52 +13,47 @@ use Rattle.ps_model.specs.session.Keys.{keys_of}
 use Rattle.ps_model.specs.board.Programs.{group, program_run}
 use Rattle.ps_model.specs.session.StartSteps.{all_start_turns}
 use Rattle.ps_model.specs.session.KeySteps.{all_key_turns}
-use Rattle.ps_model.specs.game.PlainGames.{plain_game}
-use Rattle.ps_model.specs.game.PlainOutput.{plain_output}
 use Rattle.ps_examples.proofs.games.BaseText.{base_text, base_head}
-use Rattle.ps_examples.proofs.games.WholeRuns.{written as written_whole}
-
--- what a text writes on keys, if it is a plain game
-abbrev written : List ℕ → List ℕ → Option (List ℕ)
-written text keys = option_map (λ game. (plain_output game keys).written) (plain_game text)
+use Rattle.ps_model.specs.game.Games.{game}
+use Rattle.ps_examples.proofs.games.WholeRuns.{written}
 
 abbrev is_game : List ℕ → Bool
-is_game text = is_some (plain_game text)
+is_game text = is_some (game text)
 
 walk_and_quit : written (base_text (codes "P..\n")) (codes "dddq") ≡ Some (codes "= T\n# level 1\nP..\n\n.P.\n\n..P\n\n..P\n\n* quit\n")
-unfolding chars digits is_utf8 utf8_valid_len encode
+unfolding chars digits is_utf8 utf8_valid_len encode group program_run all_start_turns all_key_turns turn opening_step
 walk_and_quit = refl
 
 no_keys : written (base_text (codes "P..")) [] ≡ Some (codes "= T\n# level 1\nP..\n\n* end of keys\n")
-unfolding chars digits is_utf8 utf8_valid_len encode
+unfolding chars digits is_utf8 utf8_valid_len encode group program_run all_start_turns all_key_turns turn opening_step
 no_keys = refl
 
 keys_without_meaning : written (base_text (codes "P..")) (codes "kQ1") ≡ Some (codes "= T\n# level 1\nP..\n\n* end of keys\n")
-unfolding chars digits is_utf8 utf8_valid_len encode
+unfolding chars digits is_utf8 utf8_valid_len encode group program_run all_start_turns all_key_turns turn opening_step
 keys_without_meaning = refl
 
 -- a chain of players moves as one, and doesn't where a wall stands before it
 chain_moves : written (base_text (codes "PP.")) (codes "d") ≡ Some (codes "= T\n# level 1\nPP.\n\n.PP\n\n* end of keys\n")
-unfolding chars digits is_utf8 utf8_valid_len encode
+unfolding chars digits is_utf8 utf8_valid_len encode group program_run all_start_turns all_key_turns turn opening_step
 chain_moves = refl
 
 chain_stays : written (base_text (codes "PP#")) (codes "d") ≡ Some (codes "= T\n# level 1\nPP#\n\nPP#\n\n* end of keys\n")
-unfolding chars digits is_utf8 utf8_valid_len encode
+unfolding chars digits is_utf8 utf8_valid_len encode group program_run all_start_turns all_key_turns turn opening_step
 chain_stays = refl
 
 -- nothing pushes without a rule; `x` writes a frame; what stands below a player is shown again when it has gone; the
 -- cell of a crate on a target has a glyph of its own
 crate_stays : written (base_text (codes "P@.\n.O*")) (codes "dsd") ≡ Some (codes "= T\n# level 1\nP@.\n.O*\n\nP@.\n.O*\n\n.@.\nPO*\n\n.@.\n.P*\n\n* end of keys\n")
-unfolding chars digits is_utf8 utf8_valid_len encode
+unfolding chars digits is_utf8 utf8_valid_len encode group program_run all_start_turns all_key_turns turn opening_step
 crate_stays = refl
 
 on_and_off : written (base_text (codes "PO.")) (codes "ddx") ≡ Some (codes "= T\n# level 1\nPO.\n\n.P.\n\n.OP\n\n.OP\n\n* end of keys\n")
-unfolding chars digits is_utf8 utf8_valid_len encode
+unfolding chars digits is_utf8 utf8_valid_len encode group program_run all_start_turns all_key_turns turn opening_step
 on_and_off = refl
 
 -- rows lie below one another, and columns are told apart from rows
 up_and_left : written (base_text (codes "...\n.P.")) (codes "waw") ≡ Some (codes "= T\n# level 1\n...\n.P.\n\n.P.\n...\n\nP..\n...\n\nP..\n...\n\n* end of keys\n")
-unfolding chars digits is_utf8 utf8_valid_len encode
+unfolding chars digits is_utf8 utf8_valid_len encode group program_run all_start_turns all_key_turns turn opening_step
 up_and_left = refl
 
 -- arrows are three bytes; ESC before another byte is nothing, and that byte is read afresh
@@ -71,32 +66,19 @@ held_back = refl
 -- the ground of a cell without one is the first ground met in the level, column by column
 two_grounds : written (codes "title T\nOBJECTS\nBackground g\ngreen\nSand s\nyellow\nPlayer P\nwhite\nLEGEND\nQ = Player and Sand\nCOLLISIONLAYERS\nBackground Sand\nPlayer\nLEVELS\nPg\nsg\n") (codes "d")
     ≡ Some (codes "= T\n# level 1\nQg\nsg\n\nsP\nsg\n\n* end of keys\n")
-unfolding chars digits is_utf8 utf8_valid_len encode
+unfolding chars digits is_utf8 utf8_valid_len encode group program_run all_start_turns all_key_turns turn opening_step
 two_grounds = refl
-
--- the whole definition says the same of plain games
-same_walk : written_whole (base_text (codes "P..\n")) (codes "dddq") ≡ Some (codes "= T\n# level 1\nP..\n\n.P.\n\n..P\n\n..P\n\n* quit\n")
-unfolding chars digits is_utf8 utf8_valid_len encode group program_run all_start_turns all_key_turns turn opening_step
-same_walk = refl
-
-same_below : written_whole (base_text (codes "P@.\n.O*")) (codes "dsd") ≡ Some (codes "= T\n# level 1\nP@.\n.O*\n\nP@.\n.O*\n\n.@.\nPO*\n\n.@.\n.P*\n\n* end of keys\n")
-unfolding chars digits is_utf8 utf8_valid_len encode group program_run all_start_turns all_key_turns turn opening_step
-same_below = refl
 
 -- Background and Player may be properties: the first ground met fills, and every member of Player hears the key
 abbrev many_players : List ℕ
 many_players = codes "OBJECTS\nGrass g\ngreen\nSand s\nyellow\nAnn a\nred\nBob b\nblue\nLEGEND\nBackground = Sand or Grass\nPlayer = Ann or Bob\nCOLLISIONLAYERS\nBackground\nAnn\nBob\nLEVELS\nabg\ngsa\n"
 
 players_move : written many_players (codes "d") ≡ Some (codes "= \n# level 1\nabg\ngsa\n\ngab\ngsa\n\n* end of keys\n")
-unfolding chars digits is_utf8 utf8_valid_len encode
+unfolding chars digits is_utf8 utf8_valid_len encode group program_run all_start_turns all_key_turns turn opening_step
 players_move = refl
 
-same_players : written_whole many_players (codes "d") ≡ Some (codes "= \n# level 1\nabg\ngsa\n\ngab\ngsa\n\n* end of keys\n")
-unfolding chars digits is_utf8 utf8_valid_len encode group program_run all_start_turns all_key_turns turn opening_step
-same_players = refl
-
--- texts that are no plain games, or have a fault; and some that are plain games
-option : is_game (codes "noundo\n" ++ base_text (codes "P")) ≡ false
+-- texts that have a fault, and some that are games
+option : is_game (codes "noundo\n" ++ base_text (codes "P")) ≡ true
 unfolding chars digits is_utf8 utf8_valid_len encode
 option = refl
 
@@ -104,11 +86,11 @@ comment : is_game (codes "title (x)\n" ++ base_text (codes "P")) ≡ true
 unfolding chars digits is_utf8 utf8_valid_len encode
 comment = refl
 
-rule : is_game (base_head ++ codes "RULES\n[ A ] -> [ B ]\nWINCONDITIONS\nLEVELS\nP") ≡ false
+rule : is_game (base_head ++ codes "RULES\n[ A ] -> [ B ]\nWINCONDITIONS\nLEVELS\nP") ≡ true
 unfolding chars digits is_utf8 utf8_valid_len encode
 rule = refl
 
-condition : is_game (base_head ++ codes "RULES\nWINCONDITIONS\nNo A\nLEVELS\nP") ≡ false
+condition : is_game (base_head ++ codes "RULES\nWINCONDITIONS\nNo A\nLEVELS\nP") ≡ true
 unfolding chars digits is_utf8 utf8_valid_len encode
 condition = refl
 
@@ -128,11 +110,11 @@ no_level : is_game (base_text []) ≡ false
 unfolding chars digits is_utf8 utf8_valid_len encode
 no_level = refl
 
-two_levels : is_game (base_text (codes "P\n\nP")) ≡ false
+two_levels : is_game (base_text (codes "P\n\nP")) ≡ true
 unfolding chars digits is_utf8 utf8_valid_len encode
 two_levels = refl
 
-level_and_message : is_game (base_text (codes "P\nmessage P")) ≡ false
+level_and_message : is_game (base_text (codes "P\nmessage P")) ≡ true
 unfolding chars digits is_utf8 utf8_valid_len encode
 level_and_message = refl
 

@@ -134,15 +134,20 @@ pub rewritten-game : (names : Names) (left right : List Claim) (gone : List Obje
     IsCellOf names (rewritten_from left right gone 0 cell)
 rewritten-game names left right gone cell all h = (length-rewritten_from left right gone 0 cell ∙ h.0, rewritten_from-game names left right gone 0 cell all h.1)
 
--- a cell of a rule under a reading whose members are objects of the game
+-- what the right of a cell claims, under a reading whose members are objects of the game
+pub right_claims-game : (names : Names) (rule : SourceRule) (reading : Reading) (cell : CellPair) → IsReadingOf names reading → IsPairOf names cell →
+    All (IsClaimOf names) (flat_map (claims_of names) (right_of_cell names rule reading cell))
+right_claims-game names rule reading cell chosen h =
+    All-flat_map (IsClaimOf names) (IsWantedOf names) (claims_of names) (right_of_cell names rule reading cell) (claims_of-game names)
+    (All-mapped (IsWantedOf names) (IsItemOf names) (wanted_right names rule cell reading) cell.right (λ item. wanted_right-game names rule cell reading item chosen) h.right)
+
+-- a cell of a rule under such a reading
 pub cell_meaning-keeps : (names : Names) (rule : SourceRule) (reading : Reading) (cell : CellPair) → IsReadingOf names reading → IsPairOf names cell →
     KeepsCells names (cell_meaning names rule reading cell)
 cell_meaning-keeps names rule reading cell chosen h slots =
     let right : List Wanted = right_of_cell names rule reading cell in
-    let wanted : All (IsWantedOf names) right =
-    All-mapped (IsWantedOf names) (IsItemOf names) (wanted_right names rule cell reading) cell.right (λ item. wanted_right-game names rule cell reading item chosen) h.right in
     rewritten-game names (flat_map (claims_of names) (left_of_cell names rule reading cell)) (flat_map (claims_of names) right) (flat_map denied right) slots
-    (All-flat_map (IsClaimOf names) (IsWantedOf names) (claims_of names) right (claims_of-game names) wanted)
+    (right_claims-game names rule reading cell chosen h)
 
 -- a reading of a game's rule
 pub reading_meaning-keeps : (names : Names) (rule : SourceRule) (reading : Reading) → IsRuleOf names rule → IsReadingOf names reading → Keeps names (reading_meaning names rule reading)

@@ -50,7 +50,7 @@ IsSlotOf-with_motion names moved motion layer (Holds object was) h = h
 pub with_input-keeps : (names : Names) (input : Input) (g : Grid) → IsGridOf names g → IsGridOf names (with_input names input g)
 with_input-keeps names input g h = IsGridOf-map names (slot_with_motion (players names) (motion_of input)) g (IsSlotOf-with_motion names (players names) (motion_of input)) h
 
-prepared-keeps : (names : Names) (input : Option Input) (g : Grid) → IsGridOf names g → IsGridOf names (prepared names input g)
+pub prepared-keeps : (names : Names) (input : Option Input) (g : Grid) → IsGridOf names g → IsGridOf names (prepared names input g)
 prepared-keeps names None g h = at_rest-keeps names g h
 prepared-keeps names (Some input) g h = with_input-keeps names input g h
 

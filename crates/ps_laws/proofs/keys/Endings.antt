@@ -12,7 +12,7 @@ use Rattle.ps_model.specs.declared.limits.TheConstants.{AGAIN_LIMIT}
 use Rattle.ps_model.specs.session.LevelLines.{Entry, MessageEntry, LevelEntry}
 use Rattle.ps_model.specs.session.Keys.{keys_of}
 use Rattle.ps_model.specs.board.Turns.{Script, Done, Outcome, Blocked, Restarted, Finished, turn}
-use Rattle.ps_model.specs.session.Sessions.{Play, Pending, Nothing, LevelDone, KeyAgain, StartAgain, Session, Playing, Waiting, AtMessage, Ended, Step, quietly, remembered, with_turn}
+use Rattle.ps_model.specs.session.Sessions.{Play, Pending, Nothing, LevelDone, KeyAgain, StartAgain, Session, Playing, Waiting, AtMessage, Ended, Step, remembered, with_turn}
 use Rattle.ps_model.specs.session.StartSteps.{start_pending, start_told, start_counted, start_turn_by, start_turns, all_start_turns, started, started_by, start_step, entered, enter, fresh, restarted}
 use Rattle.ps_model.specs.session.KeySteps.{key_pending, key_told, key_counted, key_turn_by, key_turns, all_key_turns, turn_taken, back_at, undone, unless_ignored, key_in_level, input_taken, gone_on, key_at_level_message, key_at_entry, key_step}
 use Rattle.ps_model.specs.game.Outputs.{Output, output, opening_step, ending_of, end_of_keys_line}
@@ -20,7 +20,7 @@ use Rattle.ps_laws.specs.Fronts.{session_after, session_of, whole_front, EndsOth
 use Rattle.ps_laws.proofs.keys.Fronts.{output_of_ended, output_of_unended}
 
 -- the session hasn't ended for want of keys
-abbrev IsOwn : Session → Type 0
+abbrev pub IsOwn : Session → Type 0
 IsOwn session = ending_of session ≢ Some EndOfKeys
 
 in_play : (play : Play) → IsOwn (Playing play)
@@ -82,7 +82,7 @@ of_entered script entry None = at_end
 of_entered script entry (Some (MessageEntry text)) = at_entry entry
 of_entered script entry (Some (LevelEntry level)) = of_start_step script (fresh script entry level) None script.options.run_rules_on_level_start refl
 
-of_enter : (script : Script) (entry : ℕ) → IsOwn (enter script entry).session
+pub of_enter : (script : Script) (entry : ℕ) → IsOwn (enter script entry).session
 of_enter script entry = of_entered script entry (slice_get script.entries entry)
 
 of_restarted : (script : Script) (play : Play) (message : Option (List ℕ)) → IsOwn (restarted script play message).session
@@ -160,7 +160,7 @@ of_key_at_entry script entry _ = at_entry entry
 
 -- runs -----------------------------------------------------------------------------------------------------------------
 
-of_key_step : (script : Script) (session : Session) (key : Key) → IsOwn session → IsOwn (key_step script session key).session
+pub of_key_step : (script : Script) (session : Session) (key : Key) → IsOwn session → IsOwn (key_step script session key).session
 of_key_step script (Playing play) key own = of_key_in_level script play key
 of_key_step script (Waiting play pending) key own = of_key_at_level_message script play pending key
 of_key_step script (AtMessage entry) key own = of_key_at_entry script entry key

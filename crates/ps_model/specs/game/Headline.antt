@@ -1,16 +1,20 @@
 -- What a run may answer, for every text and every stream of key bytes, in whatever pieces it comes: it refuses the text
 -- with the first fault that the text has, or writes exactly the output of the text's game on the keys. Where memory is
 -- refused, keys can't be read or the output can't be written, it stops and says so, and has written a front of it, as
--- said below.
-use Rattle.std.specs.Prelude.{◌≡◌, ℕ, ◌-◌, ◌≤◌, Bool, true, ◌⊎◌, Option, Some, option_map, List, [], ◌++◌, length, take}
+-- said below. Whatever it answers, it asks for no more keys once those that it has read have ended the game.
+use Rattle.std.specs.Prelude.{◌≡◌, ◌≢◌, ℕ, ◌+◌, ◌<◌, ◌≤◌, true, false, ⊤, ◌⊎◌, Option, Some, option_map, List, [], ◌++◌, length, take}
+use Rattle.std.specs.List.{All, concat}
 use Rattle.ps_model.specs.declared.faults.Fault.{Fault}
 use Rattle.ps_model.specs.declared.play.Ending.{Ending}
-use Rattle.ps_model.specs.declared.limits.TheConstants.{READ_LIMIT}
+use Rattle.ps_model.specs.declared.play.Ending.TheVariants.{EndOfKeys}
+use Rattle.ps_model.specs.declared.limits.TheConstants.{READ_LIMIT, CALL_LIMIT}
 use Rattle.ps_model.specs.session.Keys.{keys_of}
+use Rattle.ps_model.specs.session.Sessions.{Step}
 use Rattle.ps_model.specs.text.Faults.{first_fault}
 use Rattle.ps_model.specs.game.Games.{faults, game}
 use Rattle.ps_model.specs.board.Turns.{Script, script_of}
-use Rattle.ps_model.specs.game.Outputs.{output, front}
+use Rattle.ps_model.specs.game.Outputs.{output, opening_step, output_of_keys, ending_of, front}
+use Rattle.ps_model.specs.game.Tellings.{ReaderState, WriterState, Call, Gives, Fails, Reading, Unasked, Asked, Told, Tells, given, read_before, read, all_bytes, has_failing_call}
 
 -- the game of a text as it is played
 abbrev pub script_of_text : List ℕ → Option Script
@@ -25,62 +29,142 @@ pub data Answer : Type 0 where
   CannotRead : Answer
   CannotWrite : Answer
 
--- what the reader and the writer of a run told
-pub record Told : Type 0 where
-  -- all bytes that the reader had when the run began
-  pub all : List ℕ
-  -- those of them that the run read, how many of these its last call gave, and how many calls it made
-  pub read : List ℕ
-  pub last : ℕ
-  pub calls : ℕ
-  -- whether the reader has failed, and whether the writer has
-  pub reader_failed : Bool
-  pub writer_failed : Bool
-  -- the bytes that the writer took
-  pub wrote : List ℕ
-
--- the bytes that were read before the last call
-abbrev pub read_before : Told → List ℕ
-read_before told = take (length told.read - told.last) told.read
+-- fronts ----------------------------------------------------------------------------------------------------------------
 
 -- the second list begins with the first
 abbrev pub IsFront : List ℕ → List ℕ → Type 0
 IsFront first second = (rest : List ℕ) × (second ≡ first ++ rest)
 
+-- the second list begins with the first, and goes on behind it
+pub record IsCutOff (first second : List ℕ) : Type 0 where
+  pub rest : List ℕ
+  pub some : 1 ≤ length rest
+  pub is : second ≡ first ++ rest
+
+-- the opening and the texts of all keys of the bytes
+abbrev pub texts_of : Script → List ℕ → List ℕ
+texts_of script bytes = front script bytes (length (keys_of bytes))
+
+-- how the first so many keys of the bytes leave the game: it has ended, or else the keys have
+abbrev pub ending_behind : Script → List ℕ → ℕ → Ending
+ending_behind script bytes count =
+    let start : Step = opening_step script in
+    (output_of_keys script start.session (ending_of start.session) (take count (keys_of bytes))).ending
+
+-- the game goes on behind all keys of the bytes
+abbrev pub GoesOn : Script → List ℕ → Type 0
+GoesOn script bytes = (output script bytes).ending ≡ EndOfKeys
+
+-- reading ---------------------------------------------------------------------------------------------------------------
+
+-- what a call gives that isn't the last: a byte at least, and no more than one call asks for
+pub record IsPiece (piece : List ℕ) : Type 0 where
+  pub some : 1 ≤ length piece
+  pub few : length piece ≤ CALL_LIMIT
+
+-- a run's calls of its reader, in a game, with what the reader has left behind them
+pub record AsksInTurn (script : Script) (earlier : List (List ℕ)) (last : Call) (left : List ℕ) : Type 0 where
+  -- no call asks for more than one may, none comes behind one that gave nothing, and they are no more than a run makes
+  pub pieces : All IsPiece earlier
+  pub few : length (given last) ≤ CALL_LIMIT
+  pub calls : length earlier < READ_LIMIT
+  -- the game went on behind the keys that were read before the last call: so no call comes behind the ending
+  pub goes_on : GoesOn script (concat earlier)
+  -- a call gives nothing only where nothing is left
+  pub spent : last ≡ Gives [] → left ≡ []
+
+-- if a run asks for keys at all, it does so in turn
+abbrev pub ReadsInTurn : Script → Reading → List ℕ → Type 0
+ReadsInTurn script Unasked left = ⊤
+ReadsInTurn script (Asked earlier last) left = AsksInTurn script earlier last left
+
+-- the last call gave nothing: there are no more keys
+abbrev pub GaveNothing : Reading → Type 0
+GaveNothing Unasked = ⊥
+GaveNothing (Asked earlier last) = last ≡ Gives []
+
+-- what goes for every run of a game but one whose reader failed, or but one whose writer did
+abbrev pub ReaderIsWell : Told → Type 0
+ReaderIsWell told = has_failing_call told.reading ≡ false
+
+abbrev pub WriterIsWell : Told → Type 0
+WriterIsWell told = told.writer_failed ≡ false
+
+-- answers ---------------------------------------------------------------------------------------------------------------
+
 -- the run ended: it wrote the output of all bytes and nothing else, and that output ends so
 pub record EndsAsMeant (script : Script) (told : Told) (ending : Ending) : Type 0 where
-  pub ending_is : (output script told.all).ending ≡ ending
-  pub wrote : told.wrote ≡ (output script told.all).written
+  pub reads : ReadsInTurn script told.reading told.left
+  pub reader_is_well : ReaderIsWell told
+  pub writer_is_well : WriterIsWell told
+  pub ending_is : (output script (all_bytes told)).ending ≡ ending
+  pub wrote : told.wrote ≡ (output script (all_bytes told)).written
+  -- it was brought by what was read: by a key of it, or, if the keys ended, by a call that gave nothing
+  pub brought : (output script (read told.reading)).ending ≡ ending
+  pub silent : ending ≡ EndOfKeys → GaveNothing told.reading
 
 -- the text was refused: that is its first fault, and no key was asked for and nothing written
 pub record RefusesRightly (text : List ℕ) (told : Told) (fault : Fault) : Type 0 where
   pub is_first : first_fault (faults text) ≡ Some fault
-  pub asked_nothing : told.calls ≡ 0
+  pub asked_nothing : told.reading ≡ Unasked
   pub wrote_nothing : told.wrote ≡ []
+  pub writer_is_well : WriterIsWell told
+
+-- memory was refused before keys were asked for and anything was written
+pub record StopsAtOnce (told : Told) : Type 0 where
+  pub asked_nothing : told.reading ≡ Unasked
+  pub wrote_nothing : told.wrote ≡ []
+  pub writer_is_well : WriterIsWell told
 
 -- memory was refused in play: what was written is the opening and the texts of so many keys, whole, and not fewer than
--- were read before the last call
+-- were read before the last call; the game went on behind them
 pub record StopsForMemory (script : Script) (told : Told) : Type 0 where
+  pub reads : ReadsInTurn script told.reading told.left
+  pub reader_is_well : ReaderIsWell told
+  pub writer_is_well : WriterIsWell told
   pub keys : ℕ
-  pub enough : length (keys_of (read_before told)) ≤ keys
-  pub wrote : told.wrote ≡ front script told.read keys
+  pub enough : length (keys_of (read_before told.reading)) ≤ keys
+  pub goes_on : ending_behind script (read told.reading) keys ≡ EndOfKeys
+  pub wrote : told.wrote ≡ front script (read told.reading) keys
 
--- memory was refused before keys were asked for and anything was written; or in play
+-- memory was refused at once, or in play
 abbrev pub WantsMemoryRightly : List ℕ → Told → Type 0
 WantsMemoryRightly text told =
-    ((told.calls ≡ 0) × (told.wrote ≡ [])) ⊎ ((script : Script) × (script_of_text text ≡ Some script) × StopsForMemory script told)
+    StopsAtOnce told ⊎ ((script : Script) × (script_of_text text ≡ Some script) × StopsForMemory script told)
 
--- keys couldn't be read: the reader failed, or gave as many times as it may; the texts of all keys read are written
+-- why no more keys can be read: the last call failed, or it gave some and is the last that a run makes
+abbrev pub ReadsNoMore : Reading → Type 0
+ReadsNoMore Unasked = ⊥
+ReadsNoMore (Asked earlier (Gives piece)) = (length earlier + 1 ≡ READ_LIMIT) × (piece ≢ [])
+ReadsNoMore (Asked earlier Fails) = ⊤
+
+-- keys couldn't be read: the texts of all keys read are written, and the game went on behind them
 pub record CannotReadRightly (script : Script) (told : Told) : Type 0 where
-  pub cause : (told.reader_failed ≡ true) ⊎ (told.calls ≡ READ_LIMIT)
-  pub wrote : told.wrote ≡ front script told.read (length (keys_of told.read))
+  pub reads : ReadsInTurn script told.reading told.left
+  pub writer_is_well : WriterIsWell told
+  pub cause : ReadsNoMore told.reading
+  pub goes_on : GoesOn script (read told.reading)
+  pub wrote : told.wrote ≡ texts_of script (read told.reading)
 
--- the output couldn't be written: the writer failed; what it took is a front of the output of the bytes read, and has
--- the texts of all keys that were read before the last call, if there was a call
+-- what was written is cut off from what was to be written: from the texts of the keys read, or, where there are no more
+-- keys, from the output, which says so
+abbrev pub IsCutOffWriting : Script → Told → Type 0
+IsCutOffWriting script told =
+    IsCutOff told.wrote (texts_of script (read told.reading))
+    ⊎ (GaveNothing told.reading × IsCutOff told.wrote (output script (read told.reading)).written)
+
+-- what was written has the texts of all keys that were read before the last call, if there was a call
+abbrev pub IsWholeBefore : Script → Reading → List ℕ → Type 0
+IsWholeBefore script Unasked wrote = ⊤
+IsWholeBefore script (Asked earlier last) wrote = IsFront (texts_of script (concat earlier)) wrote
+
+-- the output couldn't be written: a write failed, and what was written before it is cut off
 pub record CannotWriteRightly (script : Script) (told : Told) : Type 0 where
+  pub reads : ReadsInTurn script told.reading told.left
+  pub reader_is_well : ReaderIsWell told
   pub cause : told.writer_failed ≡ true
-  pub wrote : IsFront told.wrote (output script told.read).written
-  pub whole_before : (told.calls ≡ 0) ⊎ IsFront (front script (read_before told) (length (keys_of (read_before told)))) told.wrote
+  pub wrote : IsCutOffWriting script told
+  pub whole_before : IsWholeBefore script told.reading told.wrote
 
 -- what a run may answer
 abbrev pub Answers : List ℕ → Told → Answer → Type 0
@@ -90,3 +174,25 @@ Answers text told (Refuses fault) = RefusesRightly text told fault
 Answers text told WantsMemory = WantsMemoryRightly text told
 Answers text told CannotRead = (script : Script) × (script_of_text text ≡ Some script) × CannotReadRightly script told
 Answers text told CannotWrite = (script : Script) × (script_of_text text ≡ Some script) × CannotWriteRightly script told
+
+-- devices -----------------------------------------------------------------------------------------------------------------
+
+-- a run on a text with this answer is right, by what its devices told before it and tell behind it. Devices that don't
+-- tell their bytes tell the rest: then there are some bytes with which it is
+pub record RunsRightly (text : List ℕ) (reader_before reader_after : ReaderState) (writer_before writer_after : WriterState) (answer : Answer) : Type 0 where
+  pub told : Told
+  pub tells : Tells reader_before reader_after writer_before writer_after told
+  pub answers : Answers text told answer
+
+-- the text has a game
+abbrev pub HasGame : List ℕ → Type 0
+HasGame text = (script : Script) × (script_of_text text ≡ Some script)
+
+-- what an answer says of the text, whatever the devices tell: a refusal names its first fault, and a text that was played
+-- has a game
+abbrev pub IsTrueOfText : List ℕ → Answer → Type 0
+IsTrueOfText text (Ends ending) = HasGame text
+IsTrueOfText text (Refuses fault) = first_fault (faults text) ≡ Some fault
+IsTrueOfText text WantsMemory = ⊤
+IsTrueOfText text CannotRead = HasGame text
+IsTrueOfText text CannotWrite = HasGame text

@@ -13,7 +13,7 @@ use Rattle.ps_model.specs.declared.faults.FaultKind.TheVariants.{UnknownWord, Ro
 use Rattle.ps_model.specs.declared.faults.FaultKind.TheVariants.{NoAggregate, Unbound, LateMove, PlusAlone, PlusLate}
 use Rattle.ps_model.specs.declared.faults.FaultKind.TheVariants.{Loop, Ellipsis, NotInProfile, TooManyRules}
 use Rattle.ps_model.specs.declared.faults.FaultKind.TheVariants.{UnknownGlyph, PropertyGlyph, TooLarge, NoLevel}
-use Rattle.ps_model.specs.declared.faults.FaultKind.TheVariants.{TooManyEntries, BadWin, UnknownWinName, NotYet}
+use Rattle.ps_model.specs.declared.faults.FaultKind.TheVariants.{TooManyEntries, BadWin, UnknownWinName}
 
 -- the code of a cause, a blank and its name
 abbrev pub words_of : FaultKind → List ℕ
@@ -61,7 +61,6 @@ words_of NoLevel = codes "LV4 NoLevel"
 words_of TooManyEntries = codes "LV5 TooMany"
 words_of BadWin = codes "WN1 BadWin"
 words_of UnknownWinName = codes "WN2 UnknownName"
-words_of NotYet = codes "NY1 NotYet"
 
 -- the line that tells of a fault
 abbrev pub fault_line : Fault → List ℕ

@@ -1,11 +1,9 @@
-use Rattle.ps_model.specs.meaning.CompiledRules.{compiled_cell}
-use Rattle.ps_rules.specs.RulesShown.{cell_shown as pair_shown}
-use Rattle.ps_readings.specs.ReadingsShown.{reading_shown}
+use Rattle.std.proofs.Common.{◌∙◌, ap, map}
 use Rattle.ps_program.specs.ProgramShown.{cell_shown}
-use Rattle.ps_compile.proofs.MadePieces.{shown-more}
+use Rattle.ps_compile.specs.TurnedRows.{from_end}
+use Rattle.ps_compile.proofs.TurnedRules.{shown-from_end}
 use Rattle.ps_compile.proofs.rules.compiled_part.Goals as goal
 
-pub loop-cell-preserved : goal.loop-cell-preserved
-loop-cell-preserved c =
-    shown-more cell_shown (compiled_cell c.args.names.now c.args.occurrences.now (reading_shown c.args.reading.now)) pair_shown c.loop-cell.made.items c.push.new.self.items _ c.in_ok-compiled.compiled c.cell-item.result
-    c.args.part.now c.loop-cell.cell-index c.in_ok-push.ensures.items c.in_ok-compiled.ensures c.loop-cell-test.true c.cell-item.is c.loop-cell.invariant
+pub returns : goal.returns
+returns c =
+    ap (map cell_shown) c.from_end.ensures ∙ shown-from_end c.args.backwards cell_shown c.in_ok-cells.cells.items ∙ ap (from_end c.args.backwards) c.in_ok-cells.ensures

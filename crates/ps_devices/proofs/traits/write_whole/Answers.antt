@@ -1,11 +1,24 @@
-use Rattle.std.proofs.Common.{arith, take-add, rules}
+use Rattle.std.proofs.Common.{◌≡◌, ◌+◌, ◌<◌, arith, take-add, rules}
 use Rattle.std.proofs.lemmas.Grind.{common_steps}
+use Rattle.ps_devices.proofs.Calls.{one_call, one_at_most}
 use Rattle.ps_devices.proofs.Pieces.{grows_twice}
 use Rattle.ps_devices.proofs.traits.write_whole.Goals as goal
 
 pub loop-done-preserved : goal.loop-done-preserved
-loop-done-preserved g c = record {
-  within = grind (arith, common_steps);
-  taken = grows_twice _ _ _ _ _ _ c.loop-done.invariant.taken c.in-Ok.ensures.taken (rw c.split_at.ensures.back (take-add c.loop-done.done c.in-Ok.count c.args.bytes.now));
-  well = search (rules, arith);
-}
+loop-done-preserved g c =
+    let one : g.W.ByteWriter.calls c.write_some.new.self ≡ g.W.ByteWriter.calls c.loop-done.writer + 1 =
+    one_call _ _ _ c.in-Ok.ensures.counted c.in-Ok.ensures.worn in
+    let some : 0 < c.in-Ok.count = search (rules, arith) in
+    record {
+      within = grind (arith, common_steps);
+      taken = grows_twice _ _ _ _ _ _ c.loop-done.invariant.taken c.in-Ok.ensures.taken (rw c.split_at.ensures.back (take-add c.loop-done.done c.in-Ok.count c.args.bytes.now));
+      well = search (rules, arith);
+      calls = omega (arith, one, some, c.loop-done.invariant.calls);
+      called = λ more. omega (arith, one, c.loop-done.invariant.counts);
+      counts = omega (arith, one, c.loop-done.invariant.counts);
+    }
+
+pub returns-in-Err-clause-front : goal.returns-in-Err-clause-front
+returns-in-Err-clause-front g c =
+    let one = one_at_most _ _ _ c.write_some.ensures.counted c.write_some.ensures.held in
+    (c.loop-done.done, c.loop-done-test.true, search (rules, arith), omega (arith, one, c.loop-done.invariant.calls))

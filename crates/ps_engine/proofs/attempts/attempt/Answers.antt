@@ -9,25 +9,20 @@ use Rattle.ps_places.specs.declared.row_places.RowPlaces.{RowPlaces}
 use Rattle.ps_places.specs.Found.{row_meaning}
 use Rattle.ps_engine.specs.Choices.{chosen, behind}
 use Rattle.ps_engine.specs.RulesInRoom.{AreRowsOf, rows_found, all_places, rule_meaning}
-use Rattle.ps_engine.proofs.Combinations.{all_combinations}
+use Rattle.ps_engine.proofs.Combinations.{all_combinations, no_combination_in}
 use Rattle.ps_engine.proofs.RowByRow.{some_places}
-use Rattle.ps_engine.proofs.Attempting.{attempt_commands, attempt_walked, unchanged}
+use Rattle.ps_engine.proofs.Attempting.{attempt_none, attempt_walked, unchanged}
 use Rattle.ps_engine.proofs.attempts.attempt.Goals as goal
 
-pub returns-then-not-rule-clause-attempt : goal.returns-then-not-rule-clause-attempt
-returns-then-not-rule-clause-attempt g c =
+pub returns-then-not-has_places-clause-attempt : goal.returns-then-not-has_places-clause-attempt
+returns-then-not-has_places-clause-attempt g c =
     let grid : Grid = g.B.Board.grid c.args.board.now in
     let table : Option (List ℕ) = g.B.Board.table c.args.board.now in
     let rule = c.args.rule.now in
-    let rows = c.in-Some.rows.items in
-    let found : AreRowsOf grid table rule rows = rw c.in-Some.is at c.in_ok-rows.ensures in
-    let no_rewrite : rule.rewrites ≡ false = search rules in
-    let zeros : List ℕ = replicate (length (all_places rows)) 0 in
-    let all : combinations (map (places grid rule.direction) (map (row_meaning table) rule.rows)) ≡ chosen (all_places rows) zeros ∷ behind (all_places rows) zeros =
-    ap combinations (sym found.places) ∙ all_combinations (all_places rows) (some_places rows) in
-    ap (λ (q : Commands). let r : Result = record { state = record { grid = grid; queue = q }; changed = false } in r) c.enter.ensures
-    ∙ attempt_commands rule.direction (map (row_meaning table) rule.rows) rule.rewrites (commands_shown rule.commands.now) grid c.args.queue.now
-    (combinations (map (places grid rule.direction) (map (row_meaning table) rule.rows))) (chosen (all_places rows) zeros) (behind (all_places rows) zeros) all no_rewrite
+    let no : c.has_places.result ≡ false = search rules in
+    attempt_none rule.direction (map (row_meaning table) rule.rows) rule.rewrites (commands_shown rule.commands.now) grid c.args.queue.now
+    (combinations (map (places grid rule.direction) (map (row_meaning table) rule.rows)))
+    (no_combination_in (row_meaning table) (places grid rule.direction) rule.rows (sym c.has_places.ensures ∙ no))
 
 pub returns-clause-attempt : goal.returns-clause-attempt
 returns-clause-attempt g c =
@@ -44,7 +39,7 @@ returns-clause-attempt g c =
     let after : Rewritten = record { grid = g.B.Board.grid c.walk.new.board; changed = c.in_ok-changed.changed } in
     let walked : after ≡ fold (applied meant) (unchanged grid) (combinations (map (places grid rule.direction) meant)) =
     c.in_ok-changed.ensures.rewritten
-    ∙ ap (λ (rs : List RowPlaces). fold (applied (rows_found table rs)) (unchanged grid) (combinations (all_places rs))) c.as_slice.ensures.value
+    ∙ ap (λ (rs : List RowPlaces). fold (applied (rows_found table rs)) (unchanged grid) (combinations (all_places rs))) c.as_slice-2.ensures.value
     ∙ ap (λ (ms : List (List (List CellMeaning))). fold (applied ms) (unchanged grid) (combinations (all_places rows))) found.meanings
     ∙ ap (λ (ps : List (List (List ℕ))). fold (applied meant) (unchanged grid) (combinations ps)) found.places in
     ap (λ (q : Commands). let r : Result = record { state = record { grid = after.grid; queue = q }; changed = after.changed } in r) c.enter.ensures

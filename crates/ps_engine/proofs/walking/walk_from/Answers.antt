@@ -1,49 +1,35 @@
-use Rattle.std.proofs.Common.{◌≡◌, ◌∙◌, ℕ, ◌∷◌, ◌<◌, ◌≤◌, suc, Bool, true, false, cond, Option, Some, None, List, [], length, fold, sym, ap, arith, rules}
+use Rattle.std.proofs.Common.{◌≡◌, ◌∙◌, ℕ, Option, Some, List, fold, option_map, sym, ap, subst}
 use Rattle.ps_model.specs.board.Attempts.{Rewritten, applied}
-use Rattle.ps_engine.specs.Choices.{IsChoice, chosen, behind, next_choice}
+use Rattle.ps_engine.specs.Choices.{following}
 use Rattle.ps_engine.specs.RulesInRoom.{rows_found, all_places}
-use Rattle.ps_engine.proofs.Combinations.{IsChoice-next, following_some, following_none}
+use Rattle.ps_engine.proofs.Passing.{later_is}
 use Rattle.ps_engine.proofs.walking.walk_from.Goals as goal
 
-pub apply-changed-requires-in-loop-board : goal.apply-changed-requires-in-loop-board
-apply-changed-requires-in-loop-board g c =
-    let next : next_choice (all_places c.args.rows.now) c.loop-board.choice ≡ Some c.advance.new.choice =
-    c.advance.ensures ∙ ap (λ (b : Bool). cond b (Some c.advance.new.choice) None) c.loop-board-test.true in
-    IsChoice-next (all_places c.args.rows.now) c.loop-board.choice c.advance.new.choice c.loop-board.invariant.is next
-
-pub loop-board-smaller : goal.loop-board-smaller
-loop-board-smaller g c =
-    let next : next_choice (all_places c.args.rows.now) c.loop-board.choice ≡ Some c.advance.new.choice =
-    c.advance.ensures ∙ ap (λ (b : Bool). cond b (Some c.advance.new.choice) None) c.loop-board-test.true in
-    let fewer : length (behind (all_places c.args.rows.now) c.loop-board.choice) ≡ suc (length (behind (all_places c.args.rows.now) c.advance.new.choice)) =
-    ap length (following_some (all_places c.args.rows.now) c.loop-board.choice c.advance.new.choice c.loop-board.invariant.is next) in
-    omega arith
-
-pub loop-board-preserved : goal.loop-board-preserved
-loop-board-preserved g c =
-    let places : List (List (List ℕ)) = all_places c.args.rows.now in
-    let old : List ℕ = c.loop-board.choice in
-    let new : List ℕ = c.advance.new.choice in
-    let table : Option (List ℕ) = g.B.Board.table c.args.board.now in
-    let now : Rewritten = record { grid = g.B.Board.grid c.loop-board.board; changed = c.loop-board.changed } in
-    let after : Rewritten = record { grid = g.B.Board.grid c.apply-changed-in-loop-board.new.board; changed = c.apply-changed-in-loop-board.result } in
-    let next : next_choice places old ≡ Some new = c.advance.ensures ∙ ap (λ (b : Bool). cond b (Some new) None) c.loop-board-test.true in
-    let wrote : after ≡ applied (rows_found table c.args.rows.now) now (chosen places new) =
-    c.apply-changed-in-loop-board.ensures.rewritten ∙ ap (λ (t : Option (List ℕ)). applied (rows_found t c.args.rows.now) now (chosen places new)) c.loop-board.invariant.table in
+pub loop-visited-init : goal.loop-visited-init
+loop-visited-init g c =
     record {
-      is = IsChoice-next places old new c.loop-board.invariant.is next;
-      rewritten =
-          ap (λ (r : Rewritten). fold (applied (rows_found table c.args.rows.now)) r (behind places new)) wrote
-          ∙ ap (fold (applied (rows_found table c.args.rows.now)) now) (sym (following_some places old new c.loop-board.invariant.is next))
-          ∙ c.loop-board.invariant.rewritten;
-      table = c.apply-changed-in-loop-board.ensures.table ∙ c.loop-board.invariant.table;
-      sides = c.apply-changed-in-loop-board.ensures.sides ∙ c.loop-board.invariant.sides;
+      unsure = c.visit-visited.ensures.unsure;
+      is = later_is (all_places c.args.rows.now) c.args.choice.now c.visit-visited.new.choice c.visit-visited.result.unsure c.visit-visited.ensures.later;
+      rewritten = c.visit-visited.ensures.rewritten;
+      table = c.visit-visited.ensures.table;
+      sides = c.visit-visited.ensures.sides;
     }
 
-pub returns-clause-rewritten : goal.returns-clause-rewritten
-returns-clause-rewritten g c =
+pub loop-visited-preserved : goal.loop-visited-preserved
+loop-visited-preserved g c =
     let places : List (List (List ℕ)) = all_places c.args.rows.now in
-    let now : Rewritten = record { grid = g.B.Board.grid c.loop-board.board; changed = c.loop-board.changed } in
-    let next : next_choice places c.loop-board.choice ≡ None = c.advance.ensures ∙ ap (λ (b : Bool). cond b (Some c.advance.new.choice) None) c.loop-board-test.false in
-    ap (fold (applied (rows_found (g.B.Board.table c.args.board.now) c.args.rows.now)) now) (sym (following_none places c.loop-board.choice c.loop-board.invariant.is next))
-    ∙ c.loop-board.invariant.rewritten
+    let table : Option (List ℕ) = g.B.Board.table c.args.board.now in
+    let now : Rewritten = record { grid = g.B.Board.grid c.loop-visited.board; changed = c.loop-visited.visited.changed } in
+    let after : Rewritten = record { grid = g.B.Board.grid c.visit-visited-in-loop-visited.new.board; changed = c.visit-visited-in-loop-visited.result.changed } in
+    let next : Option (List ℕ) = option_map (λ (n : ℕ). c.visit-visited-in-loop-visited.new.choice) c.visit-visited-in-loop-visited.result.unsure in
+    record {
+      unsure = c.visit-visited-in-loop-visited.ensures.unsure;
+      is = later_is places c.loop-visited.choice c.visit-visited-in-loop-visited.new.choice c.visit-visited-in-loop-visited.result.unsure c.visit-visited-in-loop-visited.ensures.later;
+      rewritten =
+          subst (λ (t : Option (List ℕ)). fold (applied (rows_found t c.args.rows.now)) after (following places next) ≡ fold (applied (rows_found t c.args.rows.now)) now (following places (Some c.loop-visited.choice)))
+          c.loop-visited.invariant.table c.visit-visited-in-loop-visited.ensures.rewritten
+          ∙ ap (λ (o : Option ℕ). fold (applied (rows_found table c.args.rows.now)) now (following places (option_map (λ (n : ℕ). c.loop-visited.choice) o))) (sym c.in-Some.is)
+          ∙ c.loop-visited.invariant.rewritten;
+      table = c.visit-visited-in-loop-visited.ensures.table ∙ c.loop-visited.invariant.table;
+      sides = c.visit-visited-in-loop-visited.ensures.sides ∙ c.loop-visited.invariant.sides;
+    }

@@ -1,0 +1,8 @@
+use Rattle.std.proofs.Common.{◌≡◌, drop, map}
+use Rattle.std.specs.List.{list_all, list_any}
+use Rattle.ps_program.specs.ProgramShown.{cell_shown}
+use Rattle.ps_compile.specs.IdleRules.{leaves}
+use Rattle.ps_compile.proofs.idle.leaves_part.Given as goal
+
+abbrev pub invariant-loop-cell : goal.invariant-loop-cell
+invariant-loop-cell l = list_all leaves (map cell_shown (drop l.cell-index l.part)) ≡ list_all leaves (map cell_shown l.part)

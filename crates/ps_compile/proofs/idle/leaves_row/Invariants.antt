@@ -1,0 +1,8 @@
+use Rattle.std.proofs.Common.{◌≡◌, drop, map}
+use Rattle.std.specs.List.{list_all, list_any}
+use Rattle.ps_program.specs.ProgramShown.{row_shown}
+use Rattle.ps_compile.specs.IdleRules.{leaves}
+use Rattle.ps_compile.proofs.idle.leaves_row.Given as goal
+
+abbrev pub invariant-loop-part : goal.invariant-loop-part
+invariant-loop-part l = list_all (list_all leaves) (row_shown (drop l.part-index l.row)) ≡ list_all (list_all leaves) (row_shown l.row)

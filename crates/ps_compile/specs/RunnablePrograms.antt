@@ -1,0 +1,17 @@
+-- What a board can do with a compiled program.
+use Rattle.std.specs.Prelude.{◌≡◌, ℕ, Option, List, All}
+use Rattle.ps_model.specs.declared.pieces.LayerId.{LayerId}
+use Rattle.ps_model.specs.names.Names.{Names}
+use Rattle.ps_model.specs.rules.SourceRules.{RuleLine}
+use Rattle.ps_model.specs.meaning.GameRules.{IsLineOf}
+use Rattle.ps_model.specs.meaning.Compiled.{CompiledSection}
+use Rattle.ps_laws.specs.ShortRows.{IsShortLine}
+use Rattle.ps_board.specs.Rooms.{HaveRoom, layer_numbers}
+use Rattle.ps_board.specs.Runnable.{IsRunnable}
+
+-- a board on which each object of the game has room on its own layer can run the sections as they are, if the source lines
+-- are lines of the game whose rows are short
+abbrev pub RunsOnBoards : Names → List RuleLine → List CompiledSection → Type 0
+RunsOnBoards names lines sections =
+    All (IsLineOf names) lines → All IsShortLine lines → (table : Option (List ℕ)) (layers : List LayerId) →
+    layer_numbers layers ≡ names.layers → HaveRoom table layers → IsRunnable table sections

@@ -1,0 +1,43 @@
+//! Rules turned round: those that face up or left are compiled facing down or right, their rows from their other ends.
+
+ghost use Rattle.std.specs.Prelude.{◌≡◌};
+ghost use Rattle.ps_compile.specs.CompactPrograms.{faces_back};
+ghost use Rattle.ps_compile.specs.TurnedRows.{facing_forwards, from_end};
+
+use ps_model::Direction;
+use ps_text::List;
+
+/// Whether the direction is up or left.
+pub fn faces_back(direction: Direction) -> bool
+    ensures { result ≡ faces_back direction }
+{
+    match direction {
+        Direction::Up => true,
+        Direction::Down => false,
+        Direction::Left => true,
+        Direction::Right => false,
+    }
+}
+
+/// Down for up, right for left; the others as they are.
+pub fn facing_forwards(direction: Direction) -> Direction
+    ensures { result ≡ facing_forwards direction }
+{
+    match direction {
+        Direction::Up => Direction::Down,
+        Direction::Down => Direction::Down,
+        Direction::Left => Direction::Right,
+        Direction::Right => Direction::Right,
+    }
+}
+
+/// The list of these items, from the other end where the rule is turned round.
+pub fn from_end<T>(items: Vec<T>, backwards: bool) -> List<T>
+    ensures { result ≡ from_end backwards items.items }
+{
+    let mut made = items;
+    if backwards {
+        made.reverse();
+    }
+    List::from_vec(made)
+}

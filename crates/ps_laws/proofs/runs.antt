@@ -1,0 +1,3 @@
+pub mod SaidEndings
+pub mod LeftToWrite
+pub mod RunsNotAllowed

@@ -1,0 +1,110 @@
+-- Runs that aren't right, whatever the game: what a run may answer leaves no room for them. Each law says of one of them
+-- that it isn't allowed.
+use Rattle.std.specs.Prelude.{◌≡◌, ◌≢◌, ℕ, ◌<◌, ◌≤◌, true, false, Some, List, [], ◌∷◌, ◌++◌, length, ◌⊎◌}
+use Rattle.std.specs.List.{concat}
+use Rattle.ps_model.specs.declared.play.Ending.TheVariants.{EndOfKeys}
+use Rattle.ps_model.specs.declared.limits.TheConstants.{READ_LIMIT, CALL_LIMIT}
+use Rattle.ps_model.specs.board.Turns.{Script}
+use Rattle.ps_model.specs.game.Outputs.{output}
+use Rattle.ps_model.specs.game.Tellings.{ReaderState, WriterState, Call, Gives, Unasked, Asked, Told, Tells, read, all_bytes, has_failing_call}
+use Rattle.ps_model.specs.game.Headline.{Answer, WantsMemory, CannotRead, CannotWrite, Answers, IsFront, RunsRightly, IsTrueOfText, script_of_text, texts_of}
+
+-- reading behind the ending -----------------------------------------------------------------------------------------------
+
+-- the keys that were read had ended the game, and the run called the reader once more: it isn't allowed, whether that
+-- call gave bytes or failed, and whatever the run answered
+abbrev pub NoCallBehindEnding : Type 0
+NoCallBehindEnding =
+    (text : List ℕ) (told : Told) (answer : Answer) (script : Script) (earlier : List (List ℕ)) (last : Call) →
+    script_of_text text ≡ Some script → told.reading ≡ Asked earlier last → (output script (concat earlier)).ending ≢ EndOfKeys →
+    Answers text told answer → ⊥
+
+-- the game had ended with what was read, and the run answers that it can't read: not even if its last call was the last
+-- one that it makes
+abbrev pub NoReadFaultBehindEnding : Type 0
+NoReadFaultBehindEnding =
+    (text : List ℕ) (told : Told) (script : Script) →
+    script_of_text text ≡ Some script → (output script (read told.reading)).ending ≢ EndOfKeys → Answers text told CannotRead → ⊥
+
+-- the game had ended and its whole output is written, and the run answers that it wants memory
+abbrev pub NoWantBehindEnding : Type 0
+NoWantBehindEnding =
+    (text : List ℕ) (told : Told) (script : Script) →
+    script_of_text text ≡ Some script → told.wrote ≡ (output script (all_bytes told)).written → Answers text told WantsMemory → ⊥
+
+-- calls -------------------------------------------------------------------------------------------------------------------
+
+-- the run made more calls than it may
+abbrev pub NoMoreCalls : Type 0
+NoMoreCalls =
+    (text : List ℕ) (told : Told) (answer : Answer) (earlier : List (List ℕ)) (last : Call) →
+    told.reading ≡ Asked earlier last → READ_LIMIT ≤ length earlier → Answers text told answer → ⊥
+
+-- a call gave more bytes than one may ask for
+abbrev pub NoLongCall : Type 0
+NoLongCall =
+    (text : List ℕ) (told : Told) (answer : Answer) (earlier : List (List ℕ)) (piece : List ℕ) →
+    told.reading ≡ Asked earlier (Gives piece) → CALL_LIMIT < length piece → Answers text told answer → ⊥
+
+-- the run called the reader behind a call that gave nothing
+abbrev pub NoCallBehindEnd : Type 0
+NoCallBehindEnd =
+    (text : List ℕ) (told : Told) (answer : Answer) (before behind : List (List ℕ)) (last : Call) →
+    told.reading ≡ Asked (before ++ [] ∷ behind) last → Answers text told answer → ⊥
+
+-- what was read isn't a part of what the reader had
+abbrev pub ReadsWhatWasThere : Type 0
+ReadsWhatWasThere =
+    (reader_before reader_after : ReaderState) (writer_before writer_after : WriterState) (told : Told) (had : List ℕ) →
+    reader_before.remaining ≡ Some had → (IsFront (read told.reading) had → ⊥) → Tells reader_before reader_after writer_before writer_after told → ⊥
+
+-- failures ----------------------------------------------------------------------------------------------------------------
+
+-- the reader failed, and the run answers otherwise
+abbrev pub ReadFaultIsTold : Type 0
+ReadFaultIsTold =
+    (text : List ℕ) (told : Told) (answer : Answer) →
+    has_failing_call told.reading ≡ true → answer ≢ CannotRead → Answers text told answer → ⊥
+
+-- the writer failed, and the run answers otherwise
+abbrev pub WriteFaultIsTold : Type 0
+WriteFaultIsTold =
+    (text : List ℕ) (told : Told) (answer : Answer) →
+    told.writer_failed ≡ true → answer ≢ CannotWrite → Answers text told answer → ⊥
+
+-- the run called no reader, and answers that it can't read
+abbrev pub NoReadFaultUnasked : Type 0
+NoReadFaultUnasked = (text : List ℕ) (told : Told) → told.reading ≡ Unasked → Answers text told CannotRead → ⊥
+
+-- no write failed in the run, and it answers that it can't write
+abbrev pub NoWriteFaultUnfailed : Type 0
+NoWriteFaultUnfailed = (text : List ℕ) (told : Told) → told.writer_failed ≡ false → Answers text told CannotWrite → ⊥
+
+-- a device had failed before the run
+abbrev pub NoRunOnFailedDevices : Type 0
+NoRunOnFailedDevices =
+    (text : List ℕ) (reader_before reader_after : ReaderState) (writer_before writer_after : WriterState) (answer : Answer) →
+    (reader_before.has_failed ≡ true) ⊎ (writer_before.has_failed ≡ true) → RunsRightly text reader_before reader_after writer_before writer_after answer → ⊥
+
+-- writing -----------------------------------------------------------------------------------------------------------------
+
+-- the reader wasn't called, and the run has written all that is written before a key, or more, and answers that it can't
+-- write
+abbrev pub NoWritingUnasked : Type 0
+NoWritingUnasked =
+    (text : List ℕ) (told : Told) (script : Script) →
+    script_of_text text ≡ Some script → told.reading ≡ Unasked → IsFront (texts_of script []) told.wrote → Answers text told CannotWrite → ⊥
+
+-- what a run that can't write has written isn't a front of the output of all bytes
+abbrev pub WritesFronts : Type 0
+WritesFronts =
+    (text : List ℕ) (told : Told) (script : Script) →
+    script_of_text text ≡ Some script → (IsFront told.wrote (output script (all_bytes told)).written → ⊥) → Answers text told CannotWrite → ⊥
+
+-- texts -------------------------------------------------------------------------------------------------------------------
+
+-- whatever the devices tell, a right answer is true of the text
+abbrev pub AnswersAreTrueOfTexts : Type 0
+AnswersAreTrueOfTexts =
+    (text : List ℕ) (reader_before reader_after : ReaderState) (writer_before writer_after : WriterState) (answer : Answer) →
+    RunsRightly text reader_before reader_after writer_before writer_after answer → IsTrueOfText text answer

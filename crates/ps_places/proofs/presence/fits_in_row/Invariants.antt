@@ -1,0 +1,10 @@
+use Rattle.std.proofs.Common.{◌≡◌, ◌+◌, ◌*◌, []}
+use Rattle.std.specs.List.{flat_map, range_with_len}
+use Rattle.ps_places.specs.RowMeanings.{horizontal_at}
+use Rattle.ps_places.proofs.presence.fits_in_row.Given as goal
+
+-- there is no place whose end was passed by
+abbrev pub invariant-loop-column : goal.invariant-loop-column
+invariant-loop-column g l =
+    let grid = g.B.Board.grid l.board in
+    flat_map (λ column. horizontal_at grid (g.B.Board.table l.board) l.parts l.shape (column * grid.height + l.row)) (range_with_len 0 l.column) ≡ []

@@ -1,0 +1,130 @@
+//! Whether a row of a rule has a place on a board: the search stops at the first one, and keeps none.
+
+ghost use Rattle.std.specs.Prelude.{◌≡◌, ◌+◌, ◌*◌, ◌<◌, ◌≤◌, length, sum};
+ghost use Rattle.std.specs.List.{flat_map, range_with_len};
+ghost use Rattle.ps_model.specs.declared.limits.TheConstants.{SIDE_LIMIT};
+ghost use Rattle.ps_model.specs.board.Places.{places};
+ghost use Rattle.ps_places.specs.Found.{has_one, row_meaning};
+ghost use Rattle.ps_places.specs.RowCells.{all_cells};
+ghost use Rattle.ps_places.specs.RowMeanings.{IsShapeOf, part_sizes, parts_meaning};
+ghost use Rattle.ps_places.specs.RowMeanings.{places_at, row_places_at, vertical_at};
+
+use crate::along::fits_place;
+use crate::find::{first_parts, shape_of};
+use crate::search::gaps;
+use crate::shape::{Place, Shape};
+use ps_match::Scan;
+use ps_model::Direction;
+use ps_program::CompiledCell;
+use ps_text::List;
+
+/// Whether parts have a place whose leftmost or topmost cell is `end`.
+fn fits_at_end<B: Scan>(
+    board: &B,
+    parts: &[List<CompiledCell>],
+    shape: Shape,
+    end: u32,
+    count: u32,
+) -> bool
+    requires whole { length (all_cells parts.now) ≡ shape.size }
+    requires end { end < SIDE_LIMIT * SIDE_LIMIT }
+    requires count { count ≤ SIDE_LIMIT + 1 }
+    ensures { result ≡ has_one (places_at (B.grid board.now) (B.table board.now) parts.now shape end count) }
+{
+    for gap in 0..count {
+        if fits_place(board, parts, shape, Place { end, gap }) {
+            return true;
+        }
+    }
+    false
+}
+
+/// Whether parts that go up or down have a place.
+fn fits_in_columns<B: Scan>(board: &B, parts: &[List<CompiledCell>], shape: Shape) -> bool
+    requires few { length parts.now ≤ 2 }
+    requires size { sum (part_sizes parts.now) ≡ shape.size }
+    requires whole { length (all_cells parts.now) ≡ shape.size }
+    ensures { let g = B.grid board.now in
+        let at = vertical_at g (B.table board.now) parts.now shape in
+        result ≡ has_one (flat_map at (range_with_len 0 (g.width * g.height))) }
+{
+    let (width, height) = board.size();
+    for end in 0..width * height {
+        let count = gaps(parts, shape, height - end % height);
+        if fits_at_end(board, parts, shape, end, count) {
+            return true;
+        }
+    }
+    false
+}
+
+/// Whether parts that go left or right have a place in a row of the board.
+fn fits_in_row<B: Scan>(board: &B, parts: &[List<CompiledCell>], shape: Shape, row: u32) -> bool
+    requires few { length parts.now ≤ 2 }
+    requires size { sum (part_sizes parts.now) ≡ shape.size }
+    requires whole { length (all_cells parts.now) ≡ shape.size }
+    requires row { row < (B.grid board.now).height }
+    ensures { result ≡ has_one (row_places_at (B.grid board.now) (B.table board.now) parts.now shape row) }
+{
+    let (width, height) = board.size();
+    for column in 0..width {
+        let end = column * height + row;
+        let count = gaps(parts, shape, width - end / height);
+        if fits_at_end(board, parts, shape, end, count) {
+            return true;
+        }
+    }
+    false
+}
+
+/// Whether parts that go left or right have a place.
+fn fits_in_rows<B: Scan>(board: &B, parts: &[List<CompiledCell>], shape: Shape) -> bool
+    requires few { length parts.now ≤ 2 }
+    requires size { sum (part_sizes parts.now) ≡ shape.size }
+    requires whole { length (all_cells parts.now) ≡ shape.size }
+    ensures { let g = B.grid board.now in
+        let at = row_places_at g (B.table board.now) parts.now shape in
+        result ≡ has_one (flat_map at (range_with_len 0 g.height)) }
+{
+    let (_width, height) = board.size();
+    for row in 0..height {
+        if fits_in_row(board, parts, shape, row) {
+            return true;
+        }
+    }
+    false
+}
+
+/// Whether parts have a place.
+fn fits_somewhere<B: Scan>(
+    board: &B,
+    direction: Direction,
+    parts: &[List<CompiledCell>],
+    shape: Shape,
+) -> bool
+    requires few { length parts.now ≤ 2 }
+    requires is { IsShapeOf (B.grid board.now) direction (part_sizes parts.now) shape }
+    requires size { sum (part_sizes parts.now) ≡ shape.size }
+    requires whole { length (all_cells parts.now) ≡ shape.size }
+    ensures { let all = places (B.grid board.now) direction (parts_meaning (B.table board.now) parts.now) in
+        result ≡ has_one all }
+{
+    match direction {
+        Direction::Up => fits_in_columns(board, parts, shape),
+        Direction::Down => fits_in_columns(board, parts, shape),
+        Direction::Left => fits_in_rows(board, parts, shape),
+        Direction::Right => fits_in_rows(board, parts, shape),
+    }
+}
+
+/// Whether a row has a place on a board. No memory is taken, and the search ends with the first place.
+pub fn has_place<B: Scan>(board: &B, direction: Direction, row: &List<List<CompiledCell>>) -> bool
+    ensures { let all = places (B.grid board.now) direction (row_meaning (B.table board.now) row.now) in
+        result ≡ has_one all }
+{
+    let parts = first_parts(row.as_slice());
+    let Some(shape) = shape_of(board, direction, parts) else {
+        return false;
+    };
+    fits_somewhere(board, direction, parts, shape)
+}

@@ -1,0 +1,120 @@
+//! Places that were worked out by hand, on boards of one row and one layer; a dot is an empty cell.
+
+use crate::{RowPlaces, find_places, has_place};
+use ps_match::{Board, ListBoard};
+use ps_model::{Direction, LayerId, LayeredObject, Memory, Motion, ObjectId, SIDE_LIMIT};
+use ps_program::{CellMask, CellWrite, CompiledCell};
+use ps_text::List;
+use std::alloc::Global;
+use std::process::Abort;
+use std::test::Fail;
+
+const LOWEST: LayerId = LayerId(0);
+
+/// A board of one row.
+fn board_of(alloc: Global, letters: &[u8]) -> Result<ListBoard, Memory> {
+    let fits = letters.len() != 0 && letters.len() <= SIDE_LIMIT as usize;
+    let width = if fits { letters.len() as u32 } else { 1 };
+    let mut board = ListBoard::try_empty(alloc, width, 1, 1, &[])?;
+    for x in 0..width {
+        let (columns, rows) = board.size();
+        if let Some(letter) = letters.get(x as usize) {
+            if *letter != b'.' && x < columns * rows && 0 < board.layers() {
+                board.put(x, LOWEST, Some(ObjectId(*letter as u32)), Motion::Still);
+            }
+        }
+    }
+    Ok(board)
+}
+
+/// A cell of a rule that needs an object and writes nothing.
+fn needing(alloc: Global, letter: u8) -> Result<CompiledCell, Memory> {
+    let mut needed = Vec::new(alloc);
+    needed.push(LayeredObject {
+        object: ObjectId(letter as u32),
+        layer: LOWEST,
+    })?;
+    Ok(CompiledCell {
+        mask: CellMask {
+            needed: List::from_vec(needed),
+            barred: List::from_vec(Vec::new(alloc)),
+            one_of: List::from_vec(Vec::new(alloc)),
+            motions: List::from_vec(Vec::new(alloc)),
+        },
+        write: CellWrite {
+            gone: List::from_vec(Vec::new(alloc)),
+            layers: List::from_vec(Vec::new(alloc)),
+        },
+    })
+}
+
+/// A row: its parts by the letters that their cells need.
+fn row(alloc: Global, parts: &[&[u8]]) -> Result<List<List<CompiledCell>>, Memory> {
+    let mut all = Vec::new(alloc);
+    for part in parts {
+        let mut cells = Vec::new(alloc);
+        for letter in *part {
+            cells.push(needing(alloc, *letter)?)?;
+        }
+        all.push(List::from_vec(cells))?;
+    }
+    Ok(List::from_vec(all))
+}
+
+/// The places have these ends and gaps, in this order.
+fn check(rt: &impl Abort, found: &Option<RowPlaces>, wanted: &[(u32, u32)]) {
+    let Some(row) = found else {
+        assert!(rt; wanted.is_empty());
+        return;
+    };
+    assert_eq!(rt; row.found.len(), wanted.len());
+    for number in 0..wanted.len() {
+        if let Some(place) = row.found.get(number) {
+            assert_eq!(rt; place.end, wanted[number].0);
+            assert_eq!(rt; place.gap, wanted[number].1);
+        }
+    }
+}
+
+#[test]
+fn one_place_in_three_cells(rt: HostRuntime) -> Result<(), Fail> {
+    let alloc = rt.alloc();
+    let sought = row(alloc, &[b"AO"])?;
+    let board = board_of(alloc, b"AOA")?;
+    let found = find_places(alloc, &board, Direction::Right, &sought)?;
+    check(&rt, &found, &[(0, 0)]);
+    assert!(&rt; has_place(&board, Direction::Right, &sought));
+    Ok(())
+}
+
+#[test]
+fn leftwards_a_place_begins_at_its_other_end(rt: HostRuntime) -> Result<(), Fail> {
+    let alloc = rt.alloc();
+    let sought = row(alloc, &[b"AO"])?;
+    let board = board_of(alloc, b"AOA")?;
+    let found = find_places(alloc, &board, Direction::Left, &sought)?;
+    check(&rt, &found, &[(1, 0)]);
+    Ok(())
+}
+
+#[test]
+fn ends_come_before_gaps(rt: HostRuntime) -> Result<(), Fail> {
+    let alloc = rt.alloc();
+    let sought = row(alloc, &[b"A", b"B"])?;
+    let board = board_of(alloc, b"ABAB")?;
+    let found = find_places(alloc, &board, Direction::Right, &sought)?;
+    check(&rt, &found, &[(0, 0), (0, 2), (2, 0)]);
+    Ok(())
+}
+
+#[test]
+fn a_row_longer_than_the_board_has_no_place(rt: HostRuntime) -> Result<(), Fail> {
+    let alloc = rt.alloc();
+    let sought = row(alloc, &[b"AA"])?;
+    let board = board_of(alloc, b"A")?;
+    let found = find_places(alloc, &board, Direction::Right, &sought)?;
+    check(&rt, &found, &[]);
+    assert!(&rt; !has_place(&board, Direction::Right, &sought));
+    assert!(&rt; !has_place(&board, Direction::Down, &sought));
+    Ok(())
+}

@@ -1,4 +1,0 @@
-pub mod Faults
-pub mod Inputs
-pub mod Playable
-pub mod Runs

@@ -1,0 +1,80 @@
+//! The command line.
+
+use crate::stops::Stop;
+use clap::{Arg, ArgAction, ArgMatches, Command};
+use std::alloc::{AllocError, Global};
+use std::convert::AsStr;
+
+/// The version, which `--version` tells.
+const VERSION: &str = "0.2.0";
+
+/// What help says below the arguments.
+const AFTER_HELP: &str =
+    "Keys: w, a, s, d or the arrows move, x acts, z undoes, r restarts, q quits.
+Status: 0 where the run ended, 1 at a fault, 2 at a bad command line.
+A fault of the game is told on standard error, as `line 30: RU7 Unbound`.";
+
+/// What a command line asks for.
+#[derive(Clone, Copy, PartialEq, Eq, Debug)]
+pub enum Asked<'w> {
+    /// That the game in this file be played, with keys from standard input.
+    Play(&'w str),
+    /// That the game in this file be played, with keys from that file.
+    PlayFrom(&'w str, &'w str),
+    /// What the fault of this code is.
+    Explanation(&'w str),
+}
+
+/// What the words of a command line ask for, of which the first is the program's own name.
+pub fn read_command<'w, S: AsStr>(alloc: Global, words: &'w [S]) -> Result<Asked<'w>, Stop> {
+    let command = Command::new(alloc, "ps_play")
+        .version(VERSION)
+        .about("Plays a game of PuzzleScript at a terminal")
+        .after_help(AFTER_HELP)
+        .arg(game_argument(alloc)?)?
+        .arg(keys_option(alloc))?
+        .arg(explain_option(alloc)?)?;
+    let matches = command.try_get_matches_from(words)?;
+    asked_by(&matches)
+}
+
+/// What the matches of a command line ask for.
+fn asked_by<'w>(matches: &ArgMatches<'w>) -> Result<Asked<'w>, Stop> {
+    if let Some(code) = matches.get_str("explain") {
+        return Ok(Asked::Explanation(code));
+    }
+    let Some(path) = matches.get_str("GAME") else {
+        return Err(Stop::Game);
+    };
+    match matches.get_str("keys") {
+        Some(file) => Ok(Asked::PlayFrom(path, file)),
+        None => Ok(Asked::Play(path)),
+    }
+}
+
+/// `GAME`.
+fn game_argument(alloc: Global) -> Result<Arg<'static>, AllocError> {
+    Arg::new(alloc, "GAME")
+        .help("The text of a game, which is played: frames go to standard output")
+        .action(ArgAction::Set)
+        .required_unless_present("explain")
+}
+
+/// `--keys FILE`.
+fn keys_option(alloc: Global) -> Arg<'static> {
+    Arg::new(alloc, "keys")
+        .long("keys")
+        .value_name("FILE")
+        .help("Takes the keys from a file in place of standard input")
+        .action(ArgAction::Set)
+}
+
+/// `--explain CODE`.
+fn explain_option(alloc: Global) -> Result<Arg<'static>, AllocError> {
+    Arg::new(alloc, "explain")
+        .long("explain")
+        .value_name("CODE")
+        .help("Says in a sentence what the fault of this code is, as RU7")
+        .action(ArgAction::Set)
+        .conflicts_with_all(&["GAME", "keys"])
+}

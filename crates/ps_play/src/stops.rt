@@ -1,0 +1,95 @@
+//! Why the program ends in place of a run's end, and how that is told.
+
+use clap::error::ErrorKind;
+use ps_model::Memory;
+use ps_run::RunFault;
+use std::alloc::AllocError;
+use std::io;
+
+/// Why the program ends in place of a run's end.
+#[derive(Drop)]
+pub enum Stop {
+    /// The command line asks for help or the version, or isn't right.
+    CommandLine(clap::Error),
+    /// The command line isn't UTF-8.
+    NotText,
+    /// The command line asks what a fault is, by a code that no fault has.
+    NoSuchCode,
+    /// The game can't be read.
+    Game,
+    /// The run came to a fault, or memory ran out before it.
+    Run(RunFault),
+}
+
+impl From<Memory> for Stop {
+    fn from(_error: Memory) -> Stop {
+        Stop::Run(RunFault::Memory)
+    }
+}
+
+impl From<AllocError> for Stop {
+    fn from(_error: AllocError) -> Stop {
+        Stop::Run(RunFault::Memory)
+    }
+}
+
+impl From<RunFault> for Stop {
+    fn from(fault: RunFault) -> Stop {
+        Stop::Run(fault)
+    }
+}
+
+impl From<clap::Error> for Stop {
+    fn from(error: clap::Error) -> Stop {
+        if error.kind() == ErrorKind::OutOfMemory {
+            Stop::Run(RunFault::Memory)
+        } else {
+            Stop::CommandLine(error)
+        }
+    }
+}
+
+/// `other`, where the error isn't that memory ran out.
+pub fn stop_for(error: io::Error, other: Stop) -> Stop {
+    if error.kind() == io::ErrorKind::OutOfMemory {
+        Stop::Run(RunFault::Memory)
+    } else {
+        other
+    }
+}
+
+/// Says why the program ends, and gives its status: 0 after help or the version, 2 for a bad command line, 1 for a fault.
+/// What standard error doesn't take is lost.
+pub fn tell<R: Print + Eprint>(rt: &R, stop: Stop) -> u8 {
+    match stop {
+        Stop::CommandLine(error) => return tell_command_line(rt, &error),
+        Stop::NotText => {
+            let _ = rt.eprintln("error: the command line isn't UTF-8");
+            return 2;
+        }
+        Stop::NoSuchCode => {
+            let _ = rt.eprintln("error: no fault has this code");
+            return 2;
+        }
+        Stop::Game => {
+            let _ = rt.eprintln("cannot read game");
+        }
+        Stop::Run(fault) => {
+            let _ = rt.eprintln(fault);
+        }
+    }
+    1
+}
+
+/// Says what is wrong with a command line, or the help or the version that it asks for, and gives the status.
+fn tell_command_line<R: Print + Eprint>(rt: &R, error: &clap::Error) -> u8 {
+    if error.use_stderr() {
+        let _ = rt.eprint(error);
+        return 2;
+    }
+    if rt.print(error).is_ok() {
+        return 0;
+    }
+    let _ = rt.eprintln(RunFault::Write);
+    1
+}

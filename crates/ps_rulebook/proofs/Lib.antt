@@ -1,0 +1,2 @@
+pub mod PlayedGames
+pub mod LentPrograms

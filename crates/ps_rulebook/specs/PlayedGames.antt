@@ -1,0 +1,58 @@
+-- A game that is played by its compiled programs: the script that turns of these programs play, and when it has the runs of
+-- the game as it is written.
+use Rattle.std.specs.Prelude.{◌≡◌, ℕ, Option, Some, List}
+use Rattle.ps_model.specs.declared.pieces.LayerId.{LayerId}
+use Rattle.ps_model.specs.declared.rules.Part.TheVariants.{Plain, Late}
+use Rattle.ps_model.specs.names.Names.{Names}
+use Rattle.ps_model.specs.rules.SourceRules.{RuleLine}
+use Rattle.ps_model.specs.board.Programs.{Section}
+use Rattle.ps_model.specs.board.Turns.{Script, script_of}
+use Rattle.ps_model.specs.meaning.Compiled as model
+use Rattle.ps_model.specs.game.Games.{Game, game}
+use Rattle.ps_laws.specs.AlikeScripts.{SameRuns}
+use Rattle.ps_board.specs.Rooms.{HaveRoom, layer_numbers}
+use Rattle.ps_program.specs.declared.program.CompiledSection.{CompiledSection}
+use Rattle.ps_program.specs.ProgramShown.{sections_shown}
+use Rattle.ps_compile.specs.AlikeRuns.{RunsAlike}
+use Rattle.ps_compile.specs.RunnablePrograms.{RunsOnBoards}
+use Rattle.ps_engine.specs.RulesInRoom.{sections_meaning}
+use Rattle.ps_stage.specs.Standings.{SessionParts, script_for}
+
+-- a game without its rules
+abbrev pub parts_of : Game → SessionParts
+parts_of read = record { title = read.title; options = read.options; names = read.names; entries = read.entries; wins = read.wins }
+
+-- a kind of board gives every object room on its own layer, by the table that its boards have for layers
+abbrev pub GivesRoom : (List ℕ → Option (List ℕ)) → Type 0
+GivesRoom table_for = (layers : List LayerId) → HaveRoom (table_for (layer_numbers layers)) layers
+
+-- two programs are compiled of these names and lines: each comes to what its part of the lines means on grids of the game,
+-- and can run as it is on boards where each object has room on its own layer
+pub record AreCompiled (names : Names) (lines : List RuleLine) (plain late : List model.CompiledSection) : Type 0 where
+  pub plain_alike : RunsAlike names Plain lines plain
+  pub late_alike : RunsAlike names Late lines late
+  pub plain_runs : RunsOnBoards names lines plain
+  pub late_runs : RunsOnBoards names lines late
+
+-- the program that sections are on boards of a table
+abbrev pub meant_of : List CompiledSection → Option (List ℕ) → List Section
+meant_of sections table = sections_meaning table sections
+
+-- a game, played by these sections on this kind of board
+abbrev pub played_by : (List ℕ → Option (List ℕ)) → Game → List CompiledSection → List CompiledSection → Script
+played_by table_for read plain late = script_for table_for (parts_of read) (meant_of plain) (meant_of late)
+
+-- if the names and the lines are those of the game of a text, that game, played by these sections, has the runs of the game
+-- as it is written
+abbrev pub PlayAsWritten : Names → List RuleLine → List CompiledSection → List CompiledSection → Type 0
+PlayAsWritten names lines plain late =
+    (text : List ℕ) (read : Game) → game text ≡ Some read → names ≡ read.names → lines ≡ read.rules →
+    (table_for : List ℕ → Option (List ℕ)) → GivesRoom table_for →
+    SameRuns (played_by table_for read plain late) (script_of read)
+
+-- the law: a game that is played by programs compiled of its names and rules has the runs of the game as it is written
+abbrev pub CompiledGamesPlayAsWritten : Type 0
+CompiledGamesPlayAsWritten =
+    (text : List ℕ) (read : Game) → game text ≡ Some read → (plain late : List CompiledSection) →
+    AreCompiled read.names read.rules (sections_shown plain) (sections_shown late) →
+    (table_for : List ℕ → Option (List ℕ)) → GivesRoom table_for → SameRuns (played_by table_for read plain late) (script_of read)

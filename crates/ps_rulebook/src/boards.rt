@@ -1,0 +1,22 @@
+//! Boards on which compiled programs play.
+
+ghost use Rattle.ps_rulebook.specs.PlayedGames.{GivesRoom};
+
+use ps_engine::{ListBoard, Scan};
+
+/// A kind of board that gives every object room on its own layer.
+pub trait GameBoard: Scan {
+    /// By the table that its boards have for layers, each object has room on its layer.
+    ghost room: { GivesRoom Self.table_for };
+}
+
+impl GameBoard for ListBoard {
+    ghost use Rattle.std.specs.Prelude.{refl};
+
+    ghost room = { λ layers object layer own. refl };
+}
+
+/// The kind of board gives every object room on its own layer.
+pub fn gives_room<B: GameBoard>()
+    ensures { GivesRoom B.table_for }
+{}

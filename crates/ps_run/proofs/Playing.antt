@@ -1,0 +1,202 @@
+-- What bytes do, one after the other.
+use Rattle.std.proofs.Common.{◌≡◌, ◌∙◌, ℕ, zero, suc, ◌+◌, ◌<◌, ◌≤◌, ◌-◌, inl, inr, false, true, List, [], ◌∷◌, ◌++◌, length, take, drop, get_or, Option, Some, None, refl, sym, ap, append_assoc, append-nil, arith, Result, Ok, Err}
+use Rattle.std.specs.Prelude.{OnOk, IfErr}
+use Rattle.std.proofs.lemmas.Bool.{cases_lt}
+use Rattle.std.proofs.lemmas.Grind.{common_steps}
+use Rattle.std.proofs.lemmas.List.{take-append-drop, length-append}
+use Rattle.ps_model.specs.declared.held.Held.{Held}
+use Rattle.ps_model.specs.declared.play.Key.{Key}
+use Rattle.ps_model.specs.board.Turns.{Script}
+use Rattle.ps_model.specs.session.HeldKeys as keys
+use Rattle.ps_model.specs.session.Sessions.{Session}
+use Rattle.ps_model.specs.session.KeySteps.{key_step}
+use Rattle.ps_model.specs.session.Keys.{keys_of}
+use Rattle.ps_model.specs.game.Headline.{IsFront, IsCutOff}
+use Rattle.ps_model.specs.game.Outputs.{texts_of_keys, ending_of}
+use Rattle.ps_model.specs.game.Tellings.{WriterState}
+use Rattle.ps_laws.specs.Fronts.{session_of, whole_front}
+use Rattle.ps_laws.proofs.keys.Fronts.{front_in_pieces}
+use Rattle.ps_laws.proofs.keys.KeysInPieces.{read_byte_by_byte}
+use Rattle.ps_laws.proofs.sessions.SessionSteps.{silent_bytes, keys_write}
+use Rattle.ps_devices.specs.Devices.{Grows}
+use Rattle.ps_devices.proofs.Pieces.{grows_twice}
+use Rattle.ps_run.specs.declared.faults.PieceFault.{PieceFault}
+use Rattle.ps_run.specs.declared.faults.PieceFault.TheVariants.{Memory, Write}
+use Rattle.ps_run.specs.Played.{HavePlayed, HasTaken, HasTakenAndFailed, IsCutOffAt, StopsAs, StopsAtText}
+
+-- texts taken one after the other
+pub taken_twice :
+    (before now later : WriterState) (first second whole : List ℕ) → HasTaken before now first → HasTaken now later second → whole ≡ first ++ second → HasTaken before later whole
+taken_twice before now later first second whole (grows, calls) (grows_more, more_calls) same =
+    let long : length whole ≡ length first + length second = ap length same ∙ length-append first second in
+    (grows_twice before.contents now.contents later.contents first second whole grows grows_more same, omega arith)
+
+-- a text taken, and then some of another
+pub taken_and_failed :
+    (before now later : WriterState) (first second whole : List ℕ) → HasTaken before now first → HasTakenAndFailed now later second → whole ≡ first ++ second → HasTakenAndFailed before later whole
+taken_and_failed before now later first second whole (grows, calls) (grows_more, more_calls) same =
+    let long : length whole ≡ length first + length second = ap length same ∙ length-append first second in
+    (grows_twice before.contents now.contents later.contents first second whole grows grows_more same, omega arith)
+
+-- nothing more was taken
+pub taken_no_more : (before now later : WriterState) (text : List ℕ) → HasTaken before now text → later.contents ≡ now.contents → later.calls ≡ now.calls → HasTaken before later text
+taken_no_more before now later text (grows, calls) same same_calls = (same ∙ grows, omega arith)
+
+-- a byte that brings no key
+pub silent_byte :
+    (script : Script) (before now : WriterState) (session : Session) (kept : Held) (read : List ℕ) (byte : ℕ) → keys.key_behind kept byte ≡ None →
+    HavePlayed script before now session kept read →
+    HavePlayed script before now session (keys.held_behind kept byte) (read ++ byte ∷ [])
+silent_byte script before now session kept read byte none played =
+    let quiet = silent_bytes script read byte kept played.held none in
+    record {
+      was_well = played.was_well;
+      session = played.session ∙ sym quiet.1;
+      held = (read_byte_by_byte read byte kept played.held).1;
+      wrote = rw quiet.0 played.wrote;
+    }
+
+-- a byte that brings a key
+pub key_byte :
+    (script : Script) (before now later : WriterState) (session next : Session) (kept : Held) (read : List ℕ) (byte : ℕ) (key : Key) → keys.key_behind kept byte ≡ Some key →
+    next ≡ (key_step script session key).session → HasTaken now later (key_step script session key).text →
+    HavePlayed script before now session kept read →
+    HavePlayed script before later next (keys.held_behind kept byte) (read ++ byte ∷ [])
+key_byte script before now later session next kept read byte key brings steps taken played =
+    let wrote = keys_write script read byte kept key played.held brings in
+    record {
+      was_well = played.was_well;
+      session = steps ∙ ap (λ (s : Session). (key_step script s key).session) played.session ∙ sym wrote.1;
+      held = (read_byte_by_byte read byte kept played.held).1;
+      wrote = taken_twice before now later (whole_front script read) (key_step script session key).text (whole_front script (read ++ byte ∷ [])) played.wrote taken
+          (wrote.0 ∙ ap (λ (s : Session). whole_front script read ++ (key_step script s key).text) (sym played.session));
+    }
+
+-- what is cut off stays so behind a text
+pub cut_off_behind : (text first second whole : List ℕ) → IsCutOff first second → whole ≡ text ++ second → IsCutOff (text ++ first) whole
+cut_off_behind text first second whole cut same = record {
+  rest = cut.rest;
+  some = cut.some;
+  is = same ∙ ap (λ behind. text ++ behind) cut.is ∙ sym (append_assoc text first cut.rest);
+}
+
+-- and with more behind it
+pub cut_off_before : (first second whole : List ℕ) → IsCutOff first second → IsFront second whole → IsCutOff first whole
+cut_off_before first second whole cut (rest, same) =
+    let long : length (cut.rest ++ rest) ≡ length cut.rest + length rest = length-append cut.rest rest in
+    let some : 1 ≤ length cut.rest = cut.some in
+    record {
+      rest = cut.rest ++ rest;
+      some = omega arith;
+      is = same ∙ ap (λ front. front ++ rest) cut.is ∙ append_assoc first cut.rest rest;
+    }
+
+-- a byte whose key isn't written
+pub byte_stops :
+    (fault : PieceFault) (script : Script) (before now later : WriterState) (session : Session) (kept : Held) (read : List ℕ) (byte : ℕ) (key : Key) → keys.key_behind kept byte ≡ Some key →
+    (fault ≡ Memory → ending_of session ≡ None) →
+    StopsAtText fault now later (key_step script session key).text →
+    HavePlayed script before now session kept read →
+    StopsAs fault script before later read (byte ∷ [])
+byte_stops Memory script before now later session kept read byte key brings unended stops played =
+    let same : read ++ take 0 (byte ∷ []) ≡ read = append-nil read in
+    record {
+      was_well = played.was_well;
+      count = 0;
+      wrote = rw same (taken_no_more before now later (whole_front script read) played.wrote stops.0 stops.1);
+      goes_on = rw same (ap ending_of (sym played.session) ∙ unended refl);
+    }
+byte_stops Write script before now later session kept read byte key brings unended stops played =
+    let wrote = keys_write script read byte kept key played.held brings in
+    let whole : whole_front script (read ++ byte ∷ []) ≡ whole_front script read ++ (key_step script session key).text =
+    wrote.0 ∙ ap (λ (s : Session). whole_front script read ++ (key_step script s key).text) (sym played.session) in
+    record {
+      was_well = played.was_well;
+      taken = whole_front script read ++ stops.taken;
+      wrote = taken_and_failed before now later (whole_front script read) stops.taken (whole_front script read ++ stops.taken) played.wrote stops.wrote refl;
+      whole_before = (stops.taken, refl);
+      cut_off = cut_off_behind (whole_front script read) stops.taken (key_step script session key).text _ stops.cut_off whole;
+    }
+
+-- what is written for bytes is a front of what is written for more
+pub front_of_piece : (script : Script) (first second : List ℕ) → IsFront (whole_front script first) (whole_front script (first ++ second))
+front_of_piece script first second =
+    (texts_of_keys script (session_of script first) (keys_of (keys.held first ++ second)), (front_in_pieces script first second).0)
+
+pub front_twice : (a b c : List ℕ) → IsFront a b → IsFront b c → IsFront a c
+front_twice a b c (x, e) (y, d) = (x ++ y, d ∙ ap (λ z. z ++ y) e ∙ append_assoc a x y)
+
+-- the bytes before one, and that one
+pub bytes_to : (bytes : List ℕ) (i : ℕ) → i < length bytes → take (i + 1) bytes ≡ take i bytes ++ get_or bytes i 0 ∷ []
+bytes_to bytes i within = grind (arith, common_steps)
+
+-- behind the bytes of a piece up to one, and that one
+pub piece_to : (read piece : List ℕ) (i : ℕ) → i < length piece → (read ++ take i piece) ++ get_or piece i 0 ∷ [] ≡ read ++ take (i + 1) piece
+piece_to read piece i within = append_assoc read (take i piece) (get_or piece i 0 ∷ []) ∙ ap (λ bytes. read ++ bytes) (sym (bytes_to piece i within))
+
+-- a part of one more byte of a piece is a part of the piece
+part_of_piece : (read piece : List ℕ) (i count : ℕ) → i < length piece → (upto : ℕ) × ((read ++ take i piece) ++ take count (get_or piece i 0 ∷ []) ≡ read ++ take upto piece)
+part_of_piece read piece i zero within = (i, append-nil (read ++ take i piece))
+part_of_piece read piece i (suc count) within = (i + 1, ap (λ bytes. (read ++ take i piece) ++ bytes) (one_byte count (get_or piece i 0)) ∙ piece_to read piece i within)
+  where
+    one_byte : (count byte : ℕ) → take (suc count) (byte ∷ []) ≡ byte ∷ []
+    one_byte zero byte = refl
+    one_byte (suc count) byte = refl
+
+-- a piece that stops at one of its bytes
+pub piece_stops :
+    (fault : PieceFault) (script : Script) (before now : WriterState) (read piece : List ℕ) (i : ℕ) → i < length piece →
+    StopsAs fault script before now (read ++ take i piece) (get_or piece i 0 ∷ []) → StopsAs fault script before now read piece
+piece_stops Memory script before now read piece i within stops =
+    let part = part_of_piece read piece i stops.count within in
+    record {
+      was_well = stops.was_well;
+      count = part.0;
+      wrote = rw (← part.1) stops.wrote;
+      goes_on = rw (← part.1) stops.goes_on;
+    }
+piece_stops Write script before now read piece i within stops =
+    let rest : (read ++ take (i + 1) piece) ++ drop (i + 1) piece ≡ read ++ piece =
+    append_assoc read (take (i + 1) piece) (drop (i + 1) piece) ∙ ap (λ bytes. read ++ bytes) (take-append-drop (i + 1) piece) in
+    let upto : IsCutOff stops.taken (whole_front script (read ++ take (i + 1) piece)) = rw (← piece_to read piece i within) stops.cut_off in
+    let behind : IsFront (whole_front script (read ++ take (i + 1) piece)) (whole_front script (read ++ piece)) =
+    rw (← rest) (front_of_piece script (read ++ take (i + 1) piece) (drop (i + 1) piece)) in
+    record {
+      was_well = stops.was_well;
+      taken = stops.taken;
+      wrote = stops.wrote;
+      whole_before = front_twice _ _ _ (front_of_piece script read (take i piece)) stops.whole_before;
+      cut_off = cut_off_before stops.taken _ _ upto behind;
+    }
+
+-- a writer that failed has taken some of the text, but not all
+pub written_front :
+    (old new : WriterState) (bytes text : List ℕ) (count : ℕ) → bytes ≡ text → count < length bytes → Grows old.contents new.contents (take count bytes) → new.calls ≤ old.calls + (count + 1) →
+    IsCutOffAt old new text
+written_front old new bytes text count same within grows calls =
+    let long : length (take count bytes) ≡ count = grind (arith, common_steps) in
+    let short : length (drop count bytes) ≡ length bytes - count = grind (arith, common_steps) in
+    record {
+      taken = take count bytes;
+      cut_off = record {
+        rest = drop count bytes;
+        some = omega arith;
+        is = sym same ∙ sym (take-append-drop count bytes);
+      };
+      wrote = (grows, omega arith);
+    }
+
+-- what follows from two facts of a result that is Ok
+pub if_ok : {A E : Type 0} {P Q R : Type 0} (result : Result A E) → (P → Q → R) → OnOk result P → OnOk result Q → OnOk result R
+if_ok (Ok value) follows p q = follows p q
+if_ok (Err error) follows p q = tt
+
+-- what follows from a fact of an error
+pub if_err :
+    {A E : Type 0} {P Q : E → Type 0} (result : Result A E) → ((error : E) → result ≡ Err error → P error → Q error) → IfErr result P → IfErr result Q
+if_err (Ok value) follows p = tt
+if_err (Err error) follows p = follows error refl p
+
+-- a call that a device counts
+pub one_call : (old new most : ℕ) → (old < most → new ≡ old + 1) → (most ≤ old → false ≡ true) → new ≡ old + 1
+one_call old new most counted worn = elim (cases_lt old most) [ inl below ↦ counted below | inr above ↦ (let e : false ≡ true = worn above in cc) ]

@@ -1,0 +1,4 @@
+pub mod Faults
+pub mod Played
+pub mod Runs
+pub mod Answering

@@ -1,0 +1,71 @@
+-- How far a run has come with the bytes that it has read.
+use Rattle.std.specs.Prelude.{◌≡◌, ℕ, ◌+◌, ◌≤◌, Bool, false, Option, None, List, ◌++◌, length, take}
+use Rattle.ps_model.specs.declared.held.Held.{Held}
+use Rattle.ps_model.specs.board.Turns.{Script}
+use Rattle.ps_model.specs.session.HeldKeys as keys
+use Rattle.ps_model.specs.session.Sessions.{Session}
+use Rattle.ps_model.specs.game.Headline.{IsFront, IsCutOff}
+use Rattle.ps_model.specs.game.Outputs.{ending_of}
+use Rattle.ps_model.specs.game.Tellings.{ReaderState, WriterState}
+use Rattle.ps_laws.specs.Fronts.{session_of, whole_front}
+use Rattle.ps_devices.specs.Devices.{Grows}
+use Rattle.ps_run.specs.declared.faults.PieceFault.{PieceFault}
+use Rattle.ps_run.specs.declared.faults.PieceFault.TheVariants.{Memory, Write}
+
+-- what a reader tells
+abbrev pub reader_told : Option (List ℕ) → Bool → ℕ → ℕ → ReaderState
+reader_told remaining has_failed last calls = record { remaining = remaining; has_failed = has_failed; last = last; calls = calls }
+
+-- what a writer tells
+abbrev pub writer_told : Option (List ℕ) → Bool → ℕ → WriterState
+writer_told contents has_failed calls = record { contents = contents; has_failed = has_failed; calls = calls }
+
+-- a writer has taken the text, by calls that each took some of it
+abbrev pub HasTaken : WriterState → WriterState → List ℕ → Type 0
+HasTaken before now text = Grows before.contents now.contents text × (now.calls ≤ before.calls + length text)
+
+-- a writer has taken the text, and then a call failed
+abbrev pub HasTakenAndFailed : WriterState → WriterState → List ℕ → Type 0
+HasTakenAndFailed before now text = Grows before.contents now.contents text × (now.calls ≤ before.calls + (length text + 1))
+
+-- the keys of these bytes are played: the session is theirs, what they leave of an arrow is held, and the writer, which was
+-- well before, has taken the front that is theirs
+pub record HavePlayed (script : Script) (before now : WriterState) (current : Session) (kept : Held) (read : List ℕ) : Type 0 where
+  pub was_well : before.has_failed ≡ false
+  pub session : current ≡ session_of script read
+  pub held : keys.bytes_of kept ≡ keys.held read
+  pub wrote : HasTaken before now (whole_front script read)
+
+-- memory was refused at a byte of a piece: the texts of the keys before it are written, and nothing else; the game went on
+-- behind them
+pub record WantsMemory (script : Script) (before now : WriterState) (read piece : List ℕ) : Type 0 where
+  pub was_well : before.has_failed ≡ false
+  pub count : ℕ
+  pub wrote : HasTaken before now (whole_front script (read ++ take count piece))
+  pub goes_on : ending_of (session_of script (read ++ take count piece)) ≡ None
+
+-- the writer failed at a text of a piece: what it took has the texts of the keys before the piece, and is cut off from those
+-- of all its keys
+pub record CannotWrite (script : Script) (before now : WriterState) (read piece : List ℕ) : Type 0 where
+  pub was_well : before.has_failed ≡ false
+  pub taken : List ℕ
+  pub wrote : HasTakenAndFailed before now taken
+  pub whole_before : IsFront (whole_front script read) taken
+  pub cut_off : IsCutOff taken (whole_front script (read ++ piece))
+
+-- a piece stops so
+abbrev pub StopsAs : PieceFault → Script → WriterState → WriterState → List ℕ → List ℕ → Type 0
+StopsAs Memory script before now read piece = WantsMemory script before now read piece
+StopsAs Write script before now read piece = CannotWrite script before now read piece
+
+-- a writer has taken some of a text, but not all, and then a call failed
+pub record IsCutOffAt (before now : WriterState) (text : List ℕ) : Type 0 where
+  pub taken : List ℕ
+  pub cut_off : IsCutOff taken text
+  pub wrote : HasTakenAndFailed before now taken
+
+-- a text was to be written, and wasn't: memory was refused before it was whole, and nothing is written; or the writer
+-- failed, and took some of it, but not all
+abbrev pub StopsAtText : PieceFault → WriterState → WriterState → List ℕ → Type 0
+StopsAtText Memory before now text = (now.contents ≡ before.contents) × (now.calls ≡ before.calls)
+StopsAtText Write before now text = IsCutOffAt before now text

@@ -1,0 +1,61 @@
+//! A run of a game by rules.
+
+ghost use Rattle.std.specs.Prelude.{◌≡◌, ◌≢◌, Err, false, true};
+ghost use Rattle.ps_stage.specs.Standings.{script_for};
+ghost use Rattle.ps_run.specs.Played.{reader_told, writer_told};
+ghost use Rattle.ps_run.specs.Runs.{ComesOrStops};
+
+use crate::faults::RunFault;
+use crate::play::{Play, write_screen};
+use ps_board::Board;
+use ps_devices::{ByteReader, ByteWriter};
+use ps_keys::Keys;
+use ps_model::{Ending, Memory};
+use ps_screen::Screen;
+use ps_session::Session;
+use ps_stage::SessionGame;
+use ps_turn::{Programs, Rules};
+use std::alloc::Global;
+
+/// Plays a game by these rules: writes its opening, and plays the keys of a reader to an ending.
+///
+/// # Errors
+///
+/// `Memory` where a growth was refused, `Read` where the reader failed or gave something `READ_LIMIT` times and the game
+/// hasn't ended, `Write` where the writer failed. No device is called after its failure.
+pub fn run_game<'g, B: Board, R: Rules<B> + Drop, I: ByteReader, W: ByteWriter>(
+    alloc: Global,
+    game: SessionGame<'g>,
+    rules: Programs<R>,
+    reader: &mut I,
+    writer: &mut W,
+) -> Result<Ending, RunFault>
+    requires heard { I.has_failed reader.old ≡ false }
+    requires well { W.has_failed writer.old ≡ false }
+    ensures answers { let script = script_for B.table_for game.entry (R.meant rules.plain) (R.meant rules.late) in
+        let had = reader_told (I.remaining reader.old) (I.has_failed reader.old)
+        (I.last reader.old) (I.calls reader.old) in
+        let has = reader_told (I.remaining reader.new) (I.has_failed reader.new)
+        (I.last reader.new) (I.calls reader.new) in
+        let before = writer_told (W.contents writer.old) (W.has_failed writer.old) (W.calls writer.old) in
+        let now = writer_told (W.contents writer.new) (W.has_failed writer.new) (W.calls writer.new) in
+        ComesOrStops script had has before now result }
+{
+    let mut rules = rules;
+    let mut screen = Screen::new(alloc);
+    let session = match Session::<B>::start(alloc, game, &mut rules, &mut screen) {
+        Ok(session) => session,
+        Err(Memory) => return Err(RunFault::Memory),
+    };
+    if let Err(_) = write_screen(&screen, writer) {
+        return Err(RunFault::Write);
+    }
+    let keys = Keys::new();
+    let mut play = Play {
+        session,
+        rules,
+        keys,
+        screen,
+    };
+    play.play(reader, writer)
+}

@@ -1,0 +1,17 @@
+//! Plays games of PuzzleScript: a text and keys in, frames out.
+#![tactic(auto)]
+
+mod faults;
+mod game_run;
+mod laws;
+mod play;
+mod text_run;
+
+pub use faults::RunFault;
+pub use laws::answers_carry_over;
+pub use ps_devices::{ByteReader, ByteWriter};
+pub use ps_model::{Ending, Fault, FaultKind};
+pub use text_run::run;
+
+#[cfg(test)]
+mod tests;

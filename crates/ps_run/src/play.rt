@@ -1,0 +1,218 @@
+//! A game in play: its keys byte by byte, and piece by piece.
+
+ghost use Rattle.std.specs.Prelude.{◌≡◌, ◌++◌, ◌∷◌, [], IfErr, OnOk, None, List, ℕ, Err, false, true, ◌≢◌};
+ghost use Rattle.ps_model.specs.session.KeySteps.{key_step};
+ghost use Rattle.ps_model.specs.game.Outputs.{ending_of, end_of_keys_line};
+ghost use Rattle.ps_model.specs.game.Tellings.{WriterState};
+ghost use Rattle.ps_stage.specs.Standings.{script_for};
+ghost use Rattle.ps_run.specs.Runs.{Comes};
+ghost use Rattle.ps_run.specs.Played.{HasTaken, HavePlayed, StopsAs, StopsAtText, reader_told, writer_told};
+
+use crate::faults::{PieceFault, RunFault, fault_of_piece};
+use ps_board::Board;
+use ps_devices::{ByteReader, ByteWriter, write_whole};
+use ps_keys::Keys;
+use ps_model::{CALL_LIMIT, Ending, Key, Memory, READ_LIMIT};
+use ps_screen::Screen;
+use ps_session::Session;
+use ps_turn::{Programs, Rules};
+
+/// A game in play: its session and its rules, what is held of an arrow that has begun, and the text that is made next.
+#[derive(Drop)]
+pub struct Play<'g, B: Board, R> {
+    pub session: Session<'g, B>,
+    pub rules: Programs<R>,
+    pub keys: Keys,
+    pub screen: Screen,
+}
+
+/// Writes what the screen has.
+pub fn write_screen<W: ByteWriter>(screen: &Screen, writer: &mut W) -> Result<(), PieceFault>
+    requires { W.has_failed writer.old ≡ false }
+    ensures written { let before = writer_told (W.contents writer.old) (W.has_failed writer.old) (W.calls writer.old) in
+        let now = writer_told (W.contents writer.new) (W.has_failed writer.new) (W.calls writer.new) in
+        OnOk result (HasTaken before now screen.now) }
+    ensures stops { let before = writer_told (W.contents writer.old) (W.has_failed writer.old) (W.calls writer.old) in
+        let now = writer_told (W.contents writer.new) (W.has_failed writer.new) (W.calls writer.new) in
+        IfErr result (λ fault. StopsAtText fault before now screen.now) }
+    ensures well { result ≢ Err PieceFault.Write → W.has_failed writer.new ≡ false }
+    ensures told { result ≡ Err PieceFault.Write → W.has_failed writer.new ≡ true }
+    ensures fault { result ≢ Err PieceFault.Memory }
+{
+    match write_whole(screen.bytes(), writer) {
+        Ok(()) => Ok(()),
+        Err(_) => Err(PieceFault::Write),
+    }
+}
+
+impl<'g, B: Board, R: Rules<B> + Drop> Play<'g, B, R> {
+    /// Plays a key: makes its text whole, and then writes it.
+    fn play_key<W: ByteWriter>(&mut self, key: Key, writer: &mut W) -> Result<(), PieceFault>
+        requires { W.has_failed writer.old ≡ false }
+        ensures game { self.new.session.game ≡ self.old.session.game }
+        ensures plain { R.meant self.new.rules.plain ≡ R.meant self.old.rules.plain }
+        ensures late { R.meant self.new.rules.late ≡ R.meant self.old.rules.late }
+        ensures keys { self.new.keys ≡ self.old.keys }
+        ensures session { let script = script_for B.table_for self.old.session.game
+            (R.meant self.old.rules.plain) (R.meant self.old.rules.late) in
+            OnOk result (self.new.session.session ≡ (key_step script self.old.session.session key).session) }
+        ensures written { let script = script_for B.table_for self.old.session.game
+            (R.meant self.old.rules.plain) (R.meant self.old.rules.late) in
+            let before = writer_told (W.contents writer.old) (W.has_failed writer.old) (W.calls writer.old) in
+            let now = writer_told (W.contents writer.new) (W.has_failed writer.new) (W.calls writer.new) in
+            OnOk result (HasTaken before now (key_step script self.old.session.session key).text) }
+        ensures stops { let script = script_for B.table_for self.old.session.game
+            (R.meant self.old.rules.plain) (R.meant self.old.rules.late) in
+            let before = writer_told (W.contents writer.old) (W.has_failed writer.old) (W.calls writer.old) in
+            let now = writer_told (W.contents writer.new) (W.has_failed writer.new) (W.calls writer.new) in
+            IfErr result (λ fault. StopsAtText fault before now (key_step script self.old.session.session key).text) }
+        ensures unended { result ≡ Err PieceFault.Memory → ending_of self.old.session.session ≡ None }
+        ensures well { result ≢ Err PieceFault.Write → W.has_failed writer.new ≡ false }
+        ensures told { result ≡ Err PieceFault.Write → W.has_failed writer.new ≡ true }
+    {
+        self.screen.clear();
+        match self.session.key(&mut self.rules, key, &mut self.screen) {
+            Ok(()) => write_screen(&self.screen, writer),
+            Err(Memory) => Err(PieceFault::Memory),
+        }
+    }
+
+    /// Plays the key of a byte, if it brings one behind what is held.
+    fn play_byte<W: ByteWriter>(&mut self, byte: u8, writer: &mut W) -> Result<(), PieceFault>
+        requires { W.has_failed writer.old ≡ false }
+        ensures game { self.new.session.game ≡ self.old.session.game }
+        ensures plain { R.meant self.new.rules.plain ≡ R.meant self.old.rules.plain }
+        ensures late { R.meant self.new.rules.late ≡ R.meant self.old.rules.late }
+        ensures played { let script = script_for B.table_for self.old.session.game
+            (R.meant self.old.rules.plain) (R.meant self.old.rules.late) in
+            let from = writer_told (W.contents writer.old) (W.has_failed writer.old) (W.calls writer.old) in
+            let now = writer_told (W.contents writer.new) (W.has_failed writer.new) (W.calls writer.new) in
+            OnOk result ((before : WriterState) (read : List ℕ)
+            → HavePlayed script before from self.old.session.session self.old.keys read
+            → HavePlayed script before now self.new.session.session self.new.keys (read ++ byte ∷ [])) }
+        ensures stops { let script = script_for B.table_for self.old.session.game
+            (R.meant self.old.rules.plain) (R.meant self.old.rules.late) in
+            let from = writer_told (W.contents writer.old) (W.has_failed writer.old) (W.calls writer.old) in
+            let now = writer_told (W.contents writer.new) (W.has_failed writer.new) (W.calls writer.new) in
+            IfErr result (λ fault. (before : WriterState) (read : List ℕ)
+            → HavePlayed script before from self.old.session.session self.old.keys read
+            → StopsAs fault script before now read (byte ∷ [])) }
+        ensures well { result ≢ Err PieceFault.Write → W.has_failed writer.new ≡ false }
+        ensures told { result ≡ Err PieceFault.Write → W.has_failed writer.new ≡ true }
+    {
+        match self.keys.next(byte) {
+            None => Ok(()),
+            Some(key) => self.play_key(key, writer),
+        }
+    }
+
+    /// Plays the keys of a piece of bytes. Behind the end of the game they do nothing.
+    ///
+    /// # Errors
+    ///
+    /// `Memory` where a growth was refused, and the texts of the keys before are written; `Write` where the writer failed.
+    pub fn play_piece<W: ByteWriter>(
+        &mut self,
+        piece: &[u8],
+        writer: &mut W,
+    ) -> Result<(), PieceFault>
+        requires { W.has_failed writer.old ≡ false }
+        ensures game { self.new.session.game ≡ self.old.session.game }
+        ensures plain { R.meant self.new.rules.plain ≡ R.meant self.old.rules.plain }
+        ensures late { R.meant self.new.rules.late ≡ R.meant self.old.rules.late }
+        ensures played { let script = script_for B.table_for self.old.session.game
+            (R.meant self.old.rules.plain) (R.meant self.old.rules.late) in
+            let from = writer_told (W.contents writer.old) (W.has_failed writer.old) (W.calls writer.old) in
+            let now = writer_told (W.contents writer.new) (W.has_failed writer.new) (W.calls writer.new) in
+            OnOk result ((before : WriterState) (read : List ℕ)
+            → HavePlayed script before from self.old.session.session self.old.keys read
+            → HavePlayed script before now self.new.session.session self.new.keys (read ++ piece.now)) }
+        ensures stops { let script = script_for B.table_for self.old.session.game
+            (R.meant self.old.rules.plain) (R.meant self.old.rules.late) in
+            let from = writer_told (W.contents writer.old) (W.has_failed writer.old) (W.calls writer.old) in
+            let now = writer_told (W.contents writer.new) (W.has_failed writer.new) (W.calls writer.new) in
+            IfErr result (λ fault. (before : WriterState) (read : List ℕ)
+            → HavePlayed script before from self.old.session.session self.old.keys read
+            → StopsAs fault script before now read piece.now) }
+        ensures well { result ≢ Err PieceFault.Write → W.has_failed writer.new ≡ false }
+        ensures told { result ≡ Err PieceFault.Write → W.has_failed writer.new ≡ true }
+    {
+        for byte in piece {
+            if let Err(fault) = self.play_byte(*byte, writer) {
+                return Err(fault);
+            }
+        }
+        Ok(())
+    }
+
+    /// Writes that the keys have ended.
+    fn end_keys<W: ByteWriter>(&mut self, writer: &mut W) -> Result<(), PieceFault>
+        requires { W.has_failed writer.old ≡ false }
+        ensures written { let before = writer_told (W.contents writer.old) (W.has_failed writer.old) (W.calls writer.old) in
+            let now = writer_told (W.contents writer.new) (W.has_failed writer.new) (W.calls writer.new) in
+            OnOk result (HasTaken before now end_of_keys_line) }
+        ensures stops { let before = writer_told (W.contents writer.old) (W.has_failed writer.old) (W.calls writer.old) in
+            let now = writer_told (W.contents writer.new) (W.has_failed writer.new) (W.calls writer.new) in
+            IfErr result (λ fault. StopsAtText fault before now end_of_keys_line) }
+        ensures well { result ≢ Err PieceFault.Write → W.has_failed writer.new ≡ false }
+        ensures told { result ≡ Err PieceFault.Write → W.has_failed writer.new ≡ true }
+    {
+        self.screen.clear();
+        self.screen.add_line("* end of keys", "")?;
+        write_screen(&self.screen, writer)
+    }
+
+    /// Plays the keys of a reader to an ending, where nothing is read yet: a piece at a time, at most `CALL_LIMIT` bytes,
+    /// and the text of each key of a piece is written before the next piece is asked for. Behind the end of the game
+    /// nothing more is asked for.
+    ///
+    /// # Errors
+    ///
+    /// `Memory` where a growth was refused, `Read` where the reader failed or gave something `READ_LIMIT` times and the game
+    /// hasn't ended, `Write` where the writer failed. No device is called after its failure.
+    pub fn play<I: ByteReader, W: ByteWriter>(
+        &mut self,
+        reader: &mut I,
+        writer: &mut W,
+    ) -> Result<Ending, RunFault>
+        requires heard { I.has_failed reader.old ≡ false }
+        requires well { W.has_failed writer.old ≡ false }
+        ensures heard { result ≢ Err RunFault.Read → I.has_failed reader.new ≡ false }
+        ensures well { result ≢ Err RunFault.Write → W.has_failed writer.new ≡ false }
+        ensures told { result ≡ Err RunFault.Write → W.has_failed writer.new ≡ true }
+        ensures answers { let script = script_for B.table_for self.old.session.game
+            (R.meant self.old.rules.plain) (R.meant self.old.rules.late) in
+            let had = reader_told (I.remaining reader.old) (I.has_failed reader.old)
+            (I.last reader.old) (I.calls reader.old) in
+            let has = reader_told (I.remaining reader.new) (I.has_failed reader.new)
+            (I.last reader.new) (I.calls reader.new) in
+            let from = writer_told (W.contents writer.old) (W.has_failed writer.old) (W.calls writer.old) in
+            let now = writer_told (W.contents writer.new) (W.has_failed writer.new) (W.calls writer.new) in
+            (before : WriterState) → HavePlayed script before from self.old.session.session self.old.keys []
+            → Comes script had has before now result }
+    {
+        let mut buffer = [0u8; CALL_LIMIT];
+        for _call in 0..READ_LIMIT {
+            if let Some(ending) = self.session.ending() {
+                return Ok(ending);
+            }
+            let Ok(count) = reader.read_some(&mut buffer) else {
+                return Err(RunFault::Read);
+            };
+            if count == 0 {
+                return match self.end_keys(writer) {
+                    Ok(()) => Ok(Ending::EndOfKeys),
+                    Err(fault) => Err(fault_of_piece(fault)),
+                };
+            }
+            let (piece, _) = buffer.split_at(count);
+            if let Err(fault) = self.play_piece(piece, writer) {
+                return Err(fault_of_piece(fault));
+            }
+        }
+        match self.session.ending() {
+            Some(ending) => Ok(ending),
+            None => Err(RunFault::Read),
+        }
+    }
+}

@@ -1,0 +1,88 @@
+//! A run: a game's text and the keys in, the frames out.
+
+ghost use Rattle.std.specs.Prelude.{◌≡◌, ℕ, List, Some, false};
+ghost use Rattle.ps_model.specs.game.Games.{game as game_in};
+ghost use Rattle.ps_model.specs.game.Headline.{RunsRightly, IsTrueOfText};
+ghost use Rattle.ps_rulebook.specs.PlayedGames.{AreCompiled};
+ghost use Rattle.ps_run.specs.Answering.{answer_of};
+ghost use Rattle.ps_run.specs.Played.{reader_told, writer_told};
+ghost use Rattle.ps_stage.specs.Playable.{ArePlayable};
+
+use crate::faults::{RunFault, fault_of_refusal};
+use crate::game_run::run_game;
+use ps_compile::{Programs as CompiledPrograms, compile};
+use ps_devices::{ByteReader, ByteWriter};
+use ps_game::{Game, read_game};
+use ps_model::Ending;
+use ps_rulebook::{GameRules, ListBoard, rules_of};
+use ps_stage::SessionGame;
+use std::alloc::Global;
+
+/// Plays the game whose text is `text`: reads keys from `reader` and writes frames to `writer`, until the game has ended,
+/// the player quits or the keys end.
+///
+/// The opening is written before the first key is read, and the text of each key of a piece before the next piece is
+/// read. At most `CALL_LIMIT` bytes are asked for at a time, and nothing behind the end of the game.
+///
+/// # Errors
+///
+/// `Refused` with the first fault of the text where it has one: neither device is called then. `Memory` where a growth was
+/// refused, `Read` where the reader failed or gave something `READ_LIMIT` times and the game hasn't ended, `Write` where
+/// the writer failed. No device is called after its failure.
+pub fn run<I: ByteReader, W: ByteWriter>(
+    alloc: Global,
+    text: &[u8],
+    reader: &mut I,
+    writer: &mut W,
+) -> Result<Ending, RunFault>
+    requires heard { I.has_failed reader.old ≡ false }
+    requires well { W.has_failed writer.old ≡ false }
+    ensures rightly { let had = reader_told (I.remaining reader.old) (I.has_failed reader.old)
+        (I.last reader.old) (I.calls reader.old) in
+        let has = reader_told (I.remaining reader.new) (I.has_failed reader.new)
+        (I.last reader.new) (I.calls reader.new) in
+        let before = writer_told (W.contents writer.old) (W.has_failed writer.old) (W.calls writer.old) in
+        let now = writer_told (W.contents writer.new) (W.has_failed writer.new) (W.calls writer.new) in
+        RunsRightly text.now had has before now (answer_of result) }
+    ensures true_of_text { IsTrueOfText text.now (answer_of result) }
+{
+    let game = match read_game(alloc, text) {
+        Ok(game) => game,
+        Err(refusal) => return Err(fault_of_refusal(refusal)),
+    };
+    let compiled = match compile(alloc, &game.names, &game.rules) {
+        Ok(compiled) => compiled,
+        Err(_) => return Err(RunFault::Memory),
+    };
+    run_compiled(alloc, &game, &compiled, reader, writer)
+}
+
+/// Plays a game by its compiled programs.
+fn run_compiled<I: ByteReader, W: ByteWriter>(
+    alloc: Global,
+    game: &Game,
+    compiled: &CompiledPrograms<'_>,
+    reader: &mut I,
+    writer: &mut W,
+) -> Result<Ending, RunFault>
+    requires heard { I.has_failed reader.old ≡ false }
+    requires well { W.has_failed writer.old ≡ false }
+    requires playable { ArePlayable game.now.names game.now.entries }
+    ensures rightly { let had = reader_told (I.remaining reader.old) (I.has_failed reader.old) (I.last reader.old) (I.calls reader.old) in
+        let has = reader_told (I.remaining reader.new) (I.has_failed reader.new) (I.last reader.new) (I.calls reader.new) in
+        let before = writer_told (W.contents writer.old) (W.has_failed writer.old) (W.calls writer.old) in
+        let now = writer_told (W.contents writer.new) (W.has_failed writer.new) (W.calls writer.new) in
+        (text : List ℕ) → game_in text ≡ Some game.now → AreCompiled game.now.names game.now.rules compiled.now.plain compiled.now.late
+        → RunsRightly text had has before now (answer_of result) }
+    ensures true_of_text { (text : List ℕ) → game_in text ≡ Some game.now → IsTrueOfText text (answer_of result) }
+{
+    let parts = SessionGame::new(
+        game.title.as_str(),
+        game.options,
+        &game.names,
+        &game.entries,
+        &game.wins,
+    );
+    let rules = rules_of(alloc, compiled);
+    run_game::<ListBoard, GameRules<'_, '_>, I, W>(alloc, parts, rules, reader, writer)
+}

@@ -1,0 +1,22 @@
+-- A message that is dismissed.
+use Rattle.std.proofs.Common.{◌≡◌, ◌≢◌, true, false, refl}
+use Rattle.std.proofs.lemmas.Bool.{true≢false}
+use Rattle.ps_model.specs.declared.play.Input.TheVariants.{Up, Down, Left, Right, Action}
+use Rattle.ps_model.specs.declared.play.Key.{Key}
+use Rattle.ps_model.specs.declared.play.Key.TheVariants.{Move, Undo, Restart, Quit}
+use Rattle.ps_model.specs.board.Turns.{Script}
+use Rattle.ps_model.specs.session.Sessions.{Play, Pending}
+use Rattle.ps_model.specs.session.KeySteps.{gone_on, key_at_level_message}
+use Rattle.ps_session.specs.IgnoredKeys.{is_ignored_at_message}
+
+-- a key that is neither ignored nor `q` dismisses it
+pub dismissed : (script : Script) (play : Play) (pending : Pending) (key : Key) → is_ignored_at_message key ≡ false → key ≢ Quit →
+    key_at_level_message script play pending key ≡ gone_on script play pending
+dismissed script play pending (Move Up) e n = absurd (true≢false e)
+dismissed script play pending (Move Down) e n = absurd (true≢false e)
+dismissed script play pending (Move Left) e n = absurd (true≢false e)
+dismissed script play pending (Move Right) e n = absurd (true≢false e)
+dismissed script play pending (Move Action) e n = refl
+dismissed script play pending Undo e n = absurd (true≢false e)
+dismissed script play pending Restart e n = absurd (true≢false e)
+dismissed script play pending Quit e n = absurd (n refl)

@@ -1,0 +1,5 @@
+mod Dismissed
+mod Heeded
+mod IgnoredSteps
+mod Opened
+mod Remembered

@@ -1,0 +1,4 @@
+pub mod IgnoredKeys
+pub mod Nexts
+pub mod Phases
+pub mod Tables

@@ -1,0 +1,104 @@
+//! What comes next is put in the place of what was. Nothing here takes memory.
+
+ghost use Rattle.std.specs.Prelude.{◌≡◌, ◌++◌, ℕ, [], ◌∷◌, List, Option, map};
+ghost use Rattle.ps_model.specs.board.Grid.{Grid};
+ghost use Rattle.ps_model.specs.declared.limits.TheConstants.{HISTORY_LIMIT};
+ghost use Rattle.ps_stage.specs.Places.{place_shown, IsOnTable};
+ghost use Rattle.ps_stage.specs.Standings.{play_of};
+ghost use Rattle.ps_stage.specs.StepsShown.{stands};
+ghost use Rattle.ps_model.specs.session.Sessions.{kept};
+ghost use Rattle.ps_session.specs.Nexts.{next_shown, past_at, stood};
+ghost use Rattle.ps_session.specs.Tables.{AreOnTable, ComesOnTable};
+
+use crate::nexts::Next;
+use circular_buffer::HeapCircularBuffer;
+use ps_board::Board;
+use ps_model::Ending;
+use ps_stage::{Past, Pending, Place, PlayedLevel};
+use std::mem;
+
+/// A level in which a message waits, or none.
+fn standing<B: Board>(level: PlayedLevel<B>, pending: Option<Pending>) -> Place<PlayedLevel<B>>
+    ensures shown { (history : List Grid) → place_shown history result ≡ stands pending (play_of history level) }
+    ensures table { IsOnTable level.table result }
+{
+    match pending {
+        None => Place::Playing(level),
+        Some(pending) => Place::Waiting(level, pending),
+    }
+}
+
+/// A place whose level is as it was; a message waits in it now, or none does.
+fn stood<B: Board>(place: Place<PlayedLevel<B>>, pending: Option<Pending>) -> Place<PlayedLevel<B>>
+    ensures shown { (history : List Grid) → place_shown history result ≡ stood history place pending }
+    ensures table { (table : Option (List ℕ)) → IsOnTable table place → IsOnTable table result }
+{
+    match place {
+        Place::Playing(level) => standing(level, pending),
+        Place::Waiting(level, _) => standing(level, pending),
+        Place::AtMessage(entry) => Place::AtMessage(entry),
+        Place::Ended(ending) => Place::Ended(ending),
+    }
+}
+
+/// The board of a level enters the history. Of a full one the oldest board goes.
+fn remember<B: Board>(history: &mut HeapCircularBuffer<B>, level: PlayedLevel<B>)
+    requires limit { history.old.capacity ≡ HISTORY_LIMIT }
+    ensures limit { history.new.capacity ≡ HISTORY_LIMIT }
+    ensures shown { map B.grid history.new.items ≡ kept (map B.grid history.old.items ++ level.board ∷ []) }
+    ensures boards { (table : Option (List ℕ)) → AreOnTable B.table table history.old.items → level.table ≡ table
+        → AreOnTable B.table table history.new.items }
+{
+    let _ = history.push_back(level.into_board());
+}
+
+/// The history behind a place that is left.
+fn leave<B: Board>(history: &mut HeapCircularBuffer<B>, place: Place<PlayedLevel<B>>, past: Past)
+    requires limit { history.old.capacity ≡ HISTORY_LIMIT }
+    ensures limit { history.new.capacity ≡ HISTORY_LIMIT }
+    ensures shown { map B.grid history.new.items ≡ past_at past (map B.grid history.old.items) place }
+    ensures boards { (table : Option (List ℕ)) → AreOnTable B.table table history.old.items → IsOnTable table place
+        → AreOnTable B.table table history.new.items }
+{
+    match past {
+        Past::Keeps => {}
+        Past::Forgets => history.clear(),
+        Past::Remembers => match place {
+            Place::Playing(level) => remember(history, level),
+            Place::Waiting(level, _) => remember(history, level),
+            Place::AtMessage(_) => {}
+            Place::Ended(_) => {}
+        },
+    }
+}
+
+/// What comes next becomes the place and the history.
+pub fn commit<B: Board>(
+    place: &mut Place<PlayedLevel<B>>,
+    history: &mut HeapCircularBuffer<B>,
+    next: Next<PlayedLevel<B>>,
+)
+    requires limit { history.old.capacity ≡ HISTORY_LIMIT }
+    ensures limit { history.new.capacity ≡ HISTORY_LIMIT }
+    ensures shown { place_shown (map B.grid history.new.items) place.new
+        ≡ next_shown (map B.grid history.old.items) place.old next }
+    ensures place { (table : Option (List ℕ)) → IsOnTable table place.old → ComesOnTable table next
+        → IsOnTable table place.new }
+    ensures boards { (table : Option (List ℕ)) → AreOnTable B.table table history.old.items → IsOnTable table place.old
+        → AreOnTable B.table table history.new.items }
+{
+    match next {
+        Next::Stands(pending) => {
+            let before = mem::replace(place, Place::Ended(Ending::Quit));
+            *place = stood(before, pending);
+        }
+        Next::Undoes(level) => {
+            let _ = history.pop_back();
+            *place = Place::Playing(level);
+        }
+        Next::Goes(next, past) => {
+            let before = mem::replace(place, next);
+            leave(history, before, past);
+        }
+    }
+}

@@ -1,0 +1,170 @@
+//! Keys in a level.
+
+ghost use Rattle.std.specs.Prelude.{◌≡◌, ℕ, [], true, IfOk, List, None, Ok, Option, Some, map};
+ghost use Rattle.ps_model.specs.board.Grid.{Grid};
+ghost use Rattle.ps_model.specs.board.Programs.{Section};
+ghost use Rattle.ps_model.specs.session.KeySteps.{input_taken, key_in_level, quit, undone};
+ghost use Rattle.ps_model.specs.session.Sessions.{remembered};
+ghost use Rattle.ps_model.specs.session.StartSteps.{restarted};
+ghost use Rattle.ps_stage.specs.Standings.{play_of, script_of, script_for, Standing};
+ghost use Rattle.ps_stage.specs.declared.places.Place.{Place as MeantPlace};
+ghost use Rattle.ps_stage.specs.declared.places.Place.TheVariants.{Playing};
+ghost use Rattle.ps_session.specs.IgnoredKeys.{is_ignored_in_level};
+ghost use Rattle.ps_session.specs.Nexts.{next_step};
+ghost use Rattle.ps_session.specs.Tables.{AnswersOnTable, AreOnTable, ComesOnTable};
+
+use crate::ignored::is_ignored_in_level;
+use crate::nexts::{Next, next_of};
+use circular_buffer::HeapCircularBuffer;
+use ps_board::Board;
+use ps_model::{Ending, Input, Key, Memory};
+use ps_stage::{Past, Place, PlayedLevel, Stage};
+use ps_turn::{Programs, Rules};
+use std::alloc::Global;
+
+/// The end that a player asks for.
+///
+/// # Errors
+///
+/// `Memory`.
+pub fn quits<B: Board>(stage: &mut Stage<'_>) -> Result<Next<PlayedLevel<B>>, Memory>
+    requires empty { stage.old.text ≡ [] }
+    ensures game { stage.new.game ≡ stage.old.game }
+    ensures came { IfOk result (λ next. (history : List Grid) (place : MeantPlace Standing)
+        → quit ≡ next_step history place (Some next) stage.new.text) }
+    ensures table { IfOk result (λ next. (table : Option (List ℕ)) → ComesOnTable table next) }
+{
+    stage.tell_quit()?;
+    Ok(Next::Goes(Place::Ended(Ending::Quit), Past::Forgets))
+}
+
+/// A turn with an input.
+///
+/// # Errors
+///
+/// `Memory`, and the level is as before.
+fn moves<B: Board, R: Rules<B>>(
+    stage: &mut Stage<'_>,
+    rules: &mut Programs<R>,
+    level: &mut PlayedLevel<B>,
+    input: Input,
+) -> Result<Next<PlayedLevel<B>>, Memory>
+    requires empty { stage.old.text ≡ [] }
+    requires table { level.old.table ≡ B.table_for stage.old.game.names.layers }
+    ensures game { stage.new.game ≡ stage.old.game }
+    ensures plain { R.meant rules.new.plain ≡ R.meant rules.old.plain }
+    ensures late { R.meant rules.new.late ≡ R.meant rules.old.late }
+    ensures same { level.new ≡ level.old }
+    ensures came { IfOk result (λ next. (history : List Grid)
+        → input_taken (script_for B.table_for stage.old.game (R.meant rules.old.plain) (R.meant rules.old.late))
+        (play_of history level.old) input
+        ≡ next_step history (Playing level.old) (Some next) stage.new.text) }
+    ensures table { IfOk result (λ next. ComesOnTable (B.table_for stage.old.game.names.layers) next) }
+{
+    let change = stage.take_input(rules, level, input)?;
+    Ok(next_of(change))
+}
+
+/// The level at the latest board of the history, or as it is where there is none. A frame shows it.
+///
+/// # Errors
+///
+/// `Memory`.
+fn undoes<B: Board>(
+    alloc: Global,
+    stage: &mut Stage<'_>,
+    level: &PlayedLevel<B>,
+    history: &HeapCircularBuffer<B>,
+) -> Result<Next<PlayedLevel<B>>, Memory>
+    requires empty { stage.old.text ≡ [] }
+    requires table { level.now.table ≡ B.table_for stage.old.game.names.layers }
+    requires boards { AreOnTable B.table (B.table_for stage.old.game.names.layers) history.now.items }
+    ensures game { stage.new.game ≡ stage.old.game }
+    ensures came { IfOk result (λ next. (plain late : List Section)
+        → undone (script_of stage.old.game plain late) (play_of (map B.grid history.now.items) level.now)
+        ≡ next_step (map B.grid history.now.items) (Playing level.now) (Some next) stage.new.text) }
+    ensures table { IfOk result (λ next. ComesOnTable (B.table_for stage.old.game.names.layers) next) }
+{
+    let Some(latest) = history.back() else {
+        stage.show(level.board())?;
+        return Ok(Next::Stands(None));
+    };
+    let back = level.with_board(alloc, latest)?;
+    stage.show(back.board())?;
+    Ok(Next::Undoes(back))
+}
+
+/// The level from the board that a restart goes back to. Undo takes it back.
+///
+/// # Errors
+///
+/// `Memory`.
+fn restarts<B: Board, R: Rules<B>>(
+    stage: &mut Stage<'_>,
+    rules: &mut Programs<R>,
+    level: &PlayedLevel<B>,
+) -> Result<Next<PlayedLevel<B>>, Memory>
+    requires empty { stage.old.text ≡ [] }
+    requires table { level.now.table ≡ B.table_for stage.old.game.names.layers }
+    ensures game { stage.new.game ≡ stage.old.game }
+    ensures plain { R.meant rules.new.plain ≡ R.meant rules.old.plain }
+    ensures late { R.meant rules.new.late ≡ R.meant rules.old.late }
+    ensures came { IfOk result (λ next. (history : List Grid)
+        → restarted (script_for B.table_for stage.old.game (R.meant rules.old.plain) (R.meant rules.old.late))
+        (remembered (play_of history level.now)) None
+        ≡ next_step history (Playing level.now) (Some next) stage.new.text) }
+    ensures table { IfOk result (λ next. ComesOnTable (B.table_for stage.old.game.names.layers) next) }
+{
+    let place = stage.restart(rules, level, None)?;
+    Ok(Next::Goes(place, Past::Remembers))
+}
+
+/// What a key does in a level; nothing, where it is ignored.
+///
+/// # Errors
+///
+/// `Memory`, and the level is as before.
+pub fn key_in_level<B: Board, R: Rules<B>>(
+    alloc: Global,
+    stage: &mut Stage<'_>,
+    rules: &mut Programs<R>,
+    level: &mut PlayedLevel<B>,
+    history: &HeapCircularBuffer<B>,
+    key: Key,
+) -> Result<Option<Next<PlayedLevel<B>>>, Memory>
+    requires empty { stage.old.text ≡ [] }
+    requires table { level.old.table ≡ B.table_for stage.old.game.names.layers }
+    requires boards { AreOnTable B.table (B.table_for stage.old.game.names.layers) history.now.items }
+    ensures game { stage.new.game ≡ stage.old.game }
+    ensures plain { R.meant rules.new.plain ≡ R.meant rules.old.plain }
+    ensures late { R.meant rules.new.late ≡ R.meant rules.old.late }
+    ensures same { level.new ≡ level.old }
+    ensures came { IfOk result (λ next.
+        key_in_level (script_for B.table_for stage.old.game (R.meant rules.old.plain) (R.meant rules.old.late))
+        (play_of (map B.grid history.now.items) level.old) key
+        ≡ next_step (map B.grid history.now.items) (Playing level.old) next stage.new.text) }
+    ensures table { IfOk result (λ next. AnswersOnTable (B.table_for stage.old.game.names.layers) next) }
+    ensures ignored { is_ignored_in_level stage.old.game.options key ≡ true → result ≡ Ok None }
+{
+    if is_ignored_in_level(stage.game().options(), key) {
+        return Ok(None);
+    }
+    match key {
+        Key::Move(input) => {
+            let next = moves(stage, rules, level, input)?;
+            Ok(Some(next))
+        }
+        Key::Undo => {
+            let next = undoes(alloc, stage, level, history)?;
+            Ok(Some(next))
+        }
+        Key::Restart => {
+            let next = restarts(stage, rules, level)?;
+            Ok(Some(next))
+        }
+        Key::Quit => {
+            let next = quits(stage)?;
+            Ok(Some(next))
+        }
+    }
+}

@@ -1,0 +1,88 @@
+//! Keys at a message.
+
+ghost use Rattle.std.specs.Prelude.{◌≡◌, [], true, IfOk, List, None, Ok};
+ghost use Rattle.ps_model.specs.board.Grid.{Grid};
+ghost use Rattle.ps_model.specs.session.KeySteps.{key_at_entry, key_at_level_message};
+ghost use Rattle.ps_stage.specs.Standings.{play_of, script_for};
+ghost use Rattle.ps_stage.specs.StepsShown.{pending_shown};
+ghost use Rattle.ps_stage.specs.declared.places.Place.TheVariants.{AtMessage, Waiting};
+ghost use Rattle.ps_session.specs.IgnoredKeys.{is_ignored_at_message};
+ghost use Rattle.ps_session.specs.Nexts.{next_step};
+ghost use Rattle.ps_session.specs.Tables.{AnswersOnTable};
+
+use crate::ignored::is_ignored_at_message;
+use crate::levels::quits;
+use crate::nexts::{Next, next_of};
+use ps_board::Board;
+use ps_model::{Key, Memory};
+use ps_stage::{EntryNumber, Past, Pending, PlayedLevel, Stage};
+use ps_turn::{Programs, Rules};
+
+/// What a key does in a level whose message waits; nothing, where it is ignored.
+///
+/// # Errors
+///
+/// `Memory`.
+pub fn key_at_level_message<B: Board, R: Rules<B>>(
+    stage: &mut Stage<'_>,
+    rules: &mut Programs<R>,
+    level: &PlayedLevel<B>,
+    pending: Pending,
+    key: Key,
+) -> Result<Option<Next<PlayedLevel<B>>>, Memory>
+    requires empty { stage.old.text ≡ [] }
+    requires table { level.now.table ≡ B.table_for stage.old.game.names.layers }
+    ensures game { stage.new.game ≡ stage.old.game }
+    ensures plain { R.meant rules.new.plain ≡ R.meant rules.old.plain }
+    ensures late { R.meant rules.new.late ≡ R.meant rules.old.late }
+    ensures came { IfOk result (λ next. (history : List Grid)
+        → key_at_level_message
+        (script_for B.table_for stage.old.game (R.meant rules.old.plain) (R.meant rules.old.late))
+        (play_of history level.now) (pending_shown pending) key
+        ≡ next_step history (Waiting level.now pending) next stage.new.text) }
+    ensures table { IfOk result (λ next. AnswersOnTable (B.table_for stage.old.game.names.layers) next) }
+    ensures ignored { is_ignored_at_message key ≡ true → result ≡ Ok None }
+{
+    if is_ignored_at_message(key) {
+        return Ok(None);
+    }
+    if let Key::Quit = key {
+        let next = quits(stage)?;
+        return Ok(Some(next));
+    }
+    let change = stage.go_on(rules, level, pending)?;
+    Ok(Some(next_of(change)))
+}
+
+/// What a key does at a message entry; nothing, where it is ignored.
+///
+/// # Errors
+///
+/// `Memory`.
+pub fn key_at_entry<B: Board, R: Rules<B>>(
+    stage: &mut Stage<'_>,
+    rules: &mut Programs<R>,
+    entry: &EntryNumber,
+    key: Key,
+) -> Result<Option<Next<PlayedLevel<B>>>, Memory>
+    requires empty { stage.old.text ≡ [] }
+    ensures game { stage.new.game ≡ stage.old.game }
+    ensures plain { R.meant rules.new.plain ≡ R.meant rules.old.plain }
+    ensures late { R.meant rules.new.late ≡ R.meant rules.old.late }
+    ensures came { IfOk result (λ next. (history : List Grid)
+        → key_at_entry (script_for B.table_for stage.old.game (R.meant rules.old.plain) (R.meant rules.old.late))
+        entry.now key
+        ≡ next_step history (AtMessage entry.now) next stage.new.text) }
+    ensures table { IfOk result (λ next. AnswersOnTable (B.table_for stage.old.game.names.layers) next) }
+    ensures ignored { is_ignored_at_message key ≡ true → result ≡ Ok None }
+{
+    if is_ignored_at_message(key) {
+        return Ok(None);
+    }
+    if let Key::Quit = key {
+        let next = quits(stage)?;
+        return Ok(Some(next));
+    }
+    let place = stage.enter(rules, entry.next())?;
+    Ok(Some(Next::Goes(place, Past::Forgets)))
+}

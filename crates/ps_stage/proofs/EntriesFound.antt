@@ -1,0 +1,33 @@
+-- The entry at a place, as the definitions see it.
+use Rattle.std.proofs.Common.{◌≡◌, ◌∙◌, ℕ, ◌<◌, List, Some, length, get_or, sym, ap, subst, option_map}
+use Rattle.std.specs.Prelude.{slice_get}
+use Rattle.std.proofs.lemmas.List.{length-map}
+use Rattle.std.proofs.lemmas.Option.{slice_get-map, slice_get-get_or}
+use Rattle.ps_model.specs.names.Names.{Names}
+use Rattle.ps_model.specs.board.Levels.{Level}
+use Rattle.ps_model.specs.session.LevelLines.{Entry as Meant, LevelEntry}
+use Rattle.ps_levels.specs.declared.levels.Entry.{Entry}
+use Rattle.ps_levels.specs.EntriesShown.{entry_shown, entries_shown}
+use Rattle.ps_levels.specs.Sized.{IsSizedEntry}
+use Rattle.ps_stage.specs.Playable.{IsPlayable, ArePlayable}
+
+pub entry_found : (es : List Entry) (entries : List Meant) (i : ℕ) (x : Entry) → entries_shown es ≡ entries → i < length es → x ≡ get_or es i x →
+    slice_get entries i ≡ Some (entry_shown x)
+entry_found es entries i x e within is =
+    ap (λ (l : List Meant). slice_get l i) (sym e)
+    ∙ slice_get-map entry_shown es i
+    ∙ ap (option_map entry_shown) (slice_get-get_or es i x within)
+    ∙ ap (λ (y : Entry). Some (entry_shown y)) (sym is)
+
+pub playable_at : (names : Names) (es : List Entry) (entries : List Meant) (i : ℕ) (x : Entry) (level : Level) → entries_shown es ≡ entries → i < length es → x ≡ get_or es i x →
+    entry_shown x ≡ LevelEntry level → ArePlayable names entries → IsPlayable names level
+playable_at names es entries i x level e within is shows playable =
+    let long : i < length entries = rw (← e, length-map) within in
+    let found : slice_get entries i ≡ Some (entry_shown x) = entry_found es entries i x e within is in
+    let there : slice_get entries i ≡ Some (get_or entries i (entry_shown x)) = slice_get-get_or entries i (entry_shown x) long in
+    let here : get_or entries i (entry_shown x) ≡ entry_shown x = cc in
+    record {
+      bounded = playable.bounded;
+      some_object = playable.some_object;
+      sized = subst (IsSizedEntry names) (here ∙ shows) (playable.sized i (entry_shown x) long);
+    }

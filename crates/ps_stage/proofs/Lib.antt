@@ -1,0 +1,6 @@
+mod AgainTurns
+mod EntriesFound
+mod KeyChanges
+mod OwnRooms
+mod PartLoaded
+mod Scripts

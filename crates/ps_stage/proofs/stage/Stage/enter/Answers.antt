@@ -1,0 +1,38 @@
+use Rattle.std.proofs.Common.{◌∙◌, ◌<◌, ℕ, Some, length, refl, sym, ap, arith}
+use Rattle.std.specs.Prelude.{Option}
+use Rattle.ps_model.specs.board.Turns.{Script}
+use Rattle.ps_model.specs.session.LevelLines.{Entry as Meant, LevelEntry}
+use Rattle.ps_model.specs.session.Sessions.{after}
+use Rattle.ps_model.specs.session.StartSteps.{entered}
+use Rattle.ps_levels.specs.declared.levels.Entry.{Entry}
+use Rattle.ps_levels.specs.EntriesShown.{entry_shown}
+use Rattle.ps_stage.specs.Standings.{script_for}
+use Rattle.ps_stage.proofs.EntriesFound.{entry_found, playable_at}
+use Rattle.ps_stage.proofs.stage.Stage.enter.Goals as goal
+
+pub enter_level-requires-clause-playable : goal.enter_level-requires-clause-playable
+enter_level-requires-clause-playable g c =
+    let within : c.args.entry < length c.entries-entries.result.now = omega arith in
+    playable_at c.args.self.now.game.names c.entries-entries.result.now c.args.self.now.game.entries c.args.entry _ c.in-Level.level c.entries-entries.ensures.entries within c.index-entries-entry.is
+    (ap entry_shown c.in-Level.is) c.entries-entries.ensures.playable
+
+pub returns-in_ok-tell-in-Message-clause-came : goal.returns-in_ok-tell-in-Message-clause-came
+returns-in_ok-tell-in-Message-clause-came g c =
+    let script : Script =
+    script_for g.B.Board.table_for c.args.self.now.game (g.R.Rules.meant c.args.rules.now.plain) (g.R.Rules.meant c.args.rules.now.late) in
+    let within : c.args.entry < length c.entries-entries.result.now = omega arith in
+    ap (λ (o : Option Meant). after c.args.self.now.text (entered script c.args.entry o))
+    (entry_found c.entries-entries.result.now c.args.self.now.game.entries c.args.entry _ c.entries-entries.ensures.entries within c.index-entries-entry.is)
+    ∙ ap (λ (x : Entry). after c.args.self.now.text (entered script c.args.entry (Some (entry_shown x)))) c.in-Message.is
+    ∙ rw (c.in_ok-tell-in-Message.ensures.told, c.as_str.ensures, c.new-number.ensures) refl
+
+pub returns-in_ok-place-in-Level-clause-came : goal.returns-in_ok-place-in-Level-clause-came
+returns-in_ok-place-in-Level-clause-came g c =
+    let script : Script =
+    script_for g.B.Board.table_for c.args.self.now.game (g.R.Rules.meant c.args.rules.now.plain) (g.R.Rules.meant c.args.rules.now.late) in
+    let within : c.args.entry < length c.entries-entries.result.now = omega arith in
+    ap (λ (o : Option Meant). after c.args.self.now.text (entered script c.args.entry o))
+    (entry_found c.entries-entries.result.now c.args.self.now.game.entries c.args.entry _ c.entries-entries.ensures.entries within c.index-entries-entry.is)
+    ∙ ap (λ (x : Entry). after c.args.self.now.text (entered script c.args.entry (Some (entry_shown x)))) c.in-Level.is
+    ∙ ap (λ (n : ℕ). after c.args.self.now.text (entered script n (Some (LevelEntry c.in-Level.level)))) (sym c.new-number.ensures)
+    ∙ c.in_ok-place-in-Level.ensures.came

@@ -1,0 +1,40 @@
+use Rattle.std.proofs.Common.{◌≡◌, ◌∙◌, ◌-◌, suc, ap, arith}
+use Rattle.ps_model.specs.board.Turns.{Script}
+use Rattle.ps_model.specs.session.Sessions.{Play, Step}
+use Rattle.ps_model.specs.session.StartSteps.{start_turns}
+use Rattle.ps_stage.specs.declared.places.Told.{Told}
+use Rattle.ps_stage.specs.Standings.{script_for, play_of}
+use Rattle.ps_stage.specs.StepsShown.{told_step}
+use Rattle.ps_stage.proofs.AgainTurns.{one_more}
+use Rattle.ps_stage.proofs.stage.Stage.start_turns.Goals as goal
+
+pub returns-in-Stops-clause-came : goal.returns-in-Stops-clause-came
+returns-in-Stops-clause-came g c history =
+    let count : c.loop-left.left ≡ suc (c.loop-left.left - 1) = omega arith in
+    one_more start_turns g.B.Board.table_for c.args.self.now.game c.loop-left.self.game
+    (g.R.Rules.meant c.args.rules.now.plain) (g.R.Rules.meant c.args.rules.now.late)
+    (g.R.Rules.meant c.loop-left.rules.plain) (g.R.Rules.meant c.loop-left.rules.late) c.args.self.now.text c.loop-left.self.text
+    c.args.most c.loop-left.left (c.loop-left.left - 1) (play_of history c.args.level.now) (play_of history c.loop-left.level)
+    (λ (script : Script) (turns : Play → Step). told_step c.in_ok-pending.field-0 (play_of history c.start_turn.new.level) c.start_turn.new.self.text turns)
+    c.loop-left.invariant.game c.loop-left.invariant.plain c.loop-left.invariant.late count (c.loop-left.invariant.rest history) (c.in_ok-pending.ensures.told history)
+    ∙ ap (λ (told : Told). told_step told (play_of history c.start_turn.new.level) c.start_turn.new.self.text
+    (start_turns (script_for g.B.Board.table_for c.args.self.now.game (g.R.Rules.meant c.args.rules.now.plain) (g.R.Rules.meant c.args.rules.now.late)) (c.loop-left.left - 1))) c.in-Stops.is
+
+pub loop-left-preserved : goal.loop-left-preserved
+loop-left-preserved g c =
+    let count : c.loop-left.left ≡ suc (c.loop-left.left - 1) = omega arith in
+    record {
+      game = c.in_ok-pending.ensures.game ∙ c.loop-left.invariant.game;
+      plain = c.in_ok-pending.ensures.plain ∙ c.loop-left.invariant.plain;
+      late = c.in_ok-pending.ensures.late ∙ c.loop-left.invariant.late;
+      table = c.in_ok-pending.ensures.table ∙ c.loop-left.invariant.table;
+      rest = λ history.
+          one_more start_turns g.B.Board.table_for c.args.self.now.game c.loop-left.self.game
+          (g.R.Rules.meant c.args.rules.now.plain) (g.R.Rules.meant c.args.rules.now.late)
+          (g.R.Rules.meant c.loop-left.rules.plain) (g.R.Rules.meant c.loop-left.rules.late) c.args.self.now.text c.loop-left.self.text
+          c.args.most c.loop-left.left (c.loop-left.left - 1) (play_of history c.args.level.now) (play_of history c.loop-left.level)
+          (λ (script : Script) (turns : Play → Step). told_step c.in_ok-pending.field-0 (play_of history c.start_turn.new.level) c.start_turn.new.self.text turns)
+          c.loop-left.invariant.game c.loop-left.invariant.plain c.loop-left.invariant.late count (c.loop-left.invariant.rest history) (c.in_ok-pending.ensures.told history)
+          ∙ ap (λ (told : Told). told_step told (play_of history c.start_turn.new.level) c.start_turn.new.self.text
+          (start_turns (script_for g.B.Board.table_for c.args.self.now.game (g.R.Rules.meant c.args.rules.now.plain) (g.R.Rules.meant c.args.rules.now.late)) (c.loop-left.left - 1))) c.in-GoesOn.is;
+    }

@@ -1,0 +1,38 @@
+-- What turns of a key tell, as steps and outcomes of the definitions.
+use Rattle.std.specs.Prelude.{ℕ, List, ◌≡◌, ⊤}
+use Rattle.ps_model.specs.board.Turns as model
+use Rattle.ps_model.specs.board.Turns.{Script}
+use Rattle.ps_model.specs.session.Sessions.{Play, Step, after}
+use Rattle.ps_model.specs.session.StartSteps.{level_done, restarted}
+use Rattle.ps_turn.specs.States.{done_shown}
+use Rattle.ps_stage.specs.Standings.{Standing, with_done}
+use Rattle.ps_stage.specs.StepsShown.{came, stands}
+use Rattle.ps_stage.specs.declared.places.KeyEnd.{KeyEnd}
+use Rattle.ps_stage.specs.declared.places.KeyEnd.TheVariants.{Stops, Won, Restarts}
+use Rattle.ps_stage.specs.declared.places.KeyTold.{KeyTold}
+use Rattle.ps_stage.specs.declared.places.KeyTold.TheVariants.{Ends, GoesOn}
+use Rattle.ps_stage.specs.declared.levels.Tried.{Tried}
+use Rattle.ps_stage.specs.declared.levels.Tried.TheVariants.{Blocked, Restarted, Done}
+
+-- how the turns of a key end: the level stands, is done, or restarts
+abbrev pub key_end_step : Script → KeyEnd → Play → List ℕ → Step
+key_end_step script (Stops pending) play text = came (stands pending play) text
+key_end_step script Won play text = after text (level_done script play)
+key_end_step script (Restarts message) play text = after text (restarted script play message)
+
+-- a turn of a key behind which they end, or go on with again turns
+abbrev pub key_told_step : Script → KeyTold → Play → List ℕ → (Play → Step) → Step
+key_told_step script (Ends end) play text again_turns = key_end_step script end play text
+key_told_step script GoesOn play text again_turns = after text (again_turns play)
+
+-- the outcome of a turn that was tried on a level
+abbrev pub tried_outcome : Tried Standing → model.Outcome
+tried_outcome (Blocked message) = model.Blocked message
+tried_outcome (Restarted message) = model.Restarted message
+tried_outcome (Done next done) = model.Finished (done_shown done next.board)
+
+-- the level behind a done turn is the one before with the turn's board
+abbrev pub IsNext : Standing → Tried Standing → Type 0
+IsNext level (Blocked message) = ⊤
+IsNext level (Restarted message) = ⊤
+IsNext level (Done next done) = next ≡ with_done level done next.board

@@ -1,0 +1,66 @@
+-- A level that is played and a game that is played, as contracts see them.
+use Rattle.std.specs.Prelude.{ℕ, if◌then◌else◌, List, Option}
+use Rattle.ps_model.specs.declared.options.Options.{Options}
+use Rattle.ps_model.specs.names.Names.{Names}
+use Rattle.ps_model.specs.board.Grid.{Grid}
+use Rattle.ps_model.specs.board.Programs.{Section}
+use Rattle.ps_model.specs.board.Turns.{Script}
+use Rattle.ps_model.specs.board.Wins.{Win}
+use Rattle.ps_model.specs.session.LevelLines.{Entry}
+use Rattle.ps_model.specs.session.Sessions.{Play, Session}
+use Rattle.ps_turn.specs.States.{TurnParts}
+use Rattle.ps_turn.specs.declared.outcomes.DoneTurn.{DoneTurn}
+
+-- a game without its rules
+pub record SessionParts : Type 0 where
+  pub title : List ℕ
+  pub options : Options
+  pub names : Names
+  pub entries : List Entry
+  pub wins : List Win
+
+-- that game with these programs
+abbrev pub script_of : SessionParts → List Section → List Section → Script
+script_of parts plain late = record {
+  title = parts.title;
+  options = parts.options;
+  names = parts.names;
+  plain = plain;
+  late = late;
+  entries = parts.entries;
+  wins = parts.wins;
+}
+
+-- that game with the programs that its rules are on its own boards, by the table that a board has for layers and by what
+-- the rules are on boards of a table
+abbrev pub script_for : (List ℕ → Option (List ℕ)) → SessionParts → (Option (List ℕ) → List Section) → (Option (List ℕ) → List Section) → Script
+script_for table_for parts plain late = script_of parts (plain (table_for parts.names.layers)) (late (table_for parts.names.layers))
+
+-- what of it turns look at
+abbrev pub turn_parts : SessionParts → TurnParts
+turn_parts parts = record { names = parts.names; options = parts.options; wins = parts.wins }
+
+-- a level that is played, without its history, and the table of its boards
+pub record Standing : Type 0 where
+  pub entry : ℕ
+  pub table : Option (List ℕ)
+  pub board : Grid
+  pub target : Grid
+
+-- with this history
+abbrev pub play_of : List Grid → Standing → Play
+play_of history level = record { entry = level.entry; board = level.board; history = history; target = level.target }
+
+-- the level behind a done turn that came to this grid
+abbrev pub with_done : Standing → DoneTurn → Grid → Standing
+with_done level done g = record { entry = level.entry; table = level.table; board = g; target = if done.checkpoint then g else level.target }
+
+-- a session and the game that it is of
+pub record SessionValue : Type 0 where
+  pub game : SessionParts
+  pub session : Session
+
+-- a game and the text on the side
+pub record StageValue : Type 0 where
+  pub game : SessionParts
+  pub text : List ℕ

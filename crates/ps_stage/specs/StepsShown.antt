@@ -1,0 +1,58 @@
+-- What steps of the code tell, as steps of the definitions.
+use Rattle.std.specs.Prelude.{ℕ, Bool, true, false, ◌||◌, Option, Some, None, List}
+use Rattle.ps_model.specs.board.Grid.{Grid}
+use Rattle.ps_model.specs.session.Sessions as model
+use Rattle.ps_model.specs.session.Sessions.{Play, Step, after, quietly}
+use Rattle.ps_model.specs.session.StartSteps.{start_told}
+use Rattle.ps_model.specs.session.Frames.{frame}
+use Rattle.ps_model.specs.names.Names.{Names}
+use Rattle.ps_turn.specs.declared.outcomes.Turned.{Turned}
+use Rattle.ps_turn.specs.declared.outcomes.Turned.TheVariants.{Blocked, Restarted, Done}
+use Rattle.ps_turn.specs.declared.outcomes.DoneTurn.{DoneTurn}
+use Rattle.ps_stage.specs.declared.levels.Counting.{Counting}
+use Rattle.ps_stage.specs.declared.levels.Counting.TheVariants.{Always, IfChanged, IfChangedOrWon}
+use Rattle.ps_stage.specs.Standings.{Standing, with_done}
+use Rattle.ps_stage.specs.declared.places.Pending.{Pending}
+use Rattle.ps_stage.specs.declared.places.Pending.TheVariants.{Nothing, LevelDone, KeyAgain, StartAgain}
+use Rattle.ps_stage.specs.declared.places.Told.{Told}
+use Rattle.ps_stage.specs.declared.places.Told.TheVariants.{Stops, GoesOn}
+
+-- whether a done turn counts
+abbrev pub counts : Counting → DoneTurn → Bool
+counts Always done = true
+counts IfChanged done = done.changed
+counts IfChangedOrWon done = done.changed || done.win
+
+-- the level behind a turn that came to this grid, where only some done turns count
+abbrev pub taken : Counting → Turned → Standing → Grid → Standing
+taken counting (Blocked message) level g = level
+taken counting (Restarted message) level g = level
+taken counting (Done done) level g = elim (counts counting done) [ true ↦ with_done level done g | false ↦ level ]
+
+-- a session that was come to, and the text on the way
+abbrev pub came : model.Session → List ℕ → Step
+came session text = record { session = session; text = text }
+
+-- what a message goes on with
+abbrev pub pending_shown : Pending → model.Pending
+pending_shown Nothing = model.Nothing
+pending_shown LevelDone = model.LevelDone
+pending_shown (KeyAgain left) = model.KeyAgain left
+pending_shown (StartAgain left) = model.StartAgain left
+
+-- a level in which a message waits, or none
+abbrev pub stands : Option Pending → Play → model.Session
+stands None play = model.Playing play
+stands (Some pending) play = model.Waiting play (pending_shown pending)
+
+-- a step that stops there, or goes on with again turns
+abbrev pub told_step : Told → Play → List ℕ → (Play → Step) → Step
+told_step (Stops pending) play text again_turns = came (stands pending play) text
+told_step GoesOn play text again_turns = after text (again_turns play)
+
+-- the start behind a done turn, of which this level came: a frame and what follows, if the turn changed the board
+abbrev pub start_shown : Names → Play → DoneTurn → ℕ → (Play → Step) → Step
+start_shown names play done left again_turns = elim done.changed [
+  | false ↦ quietly (model.Playing play)
+  | true ↦ after (frame names play.board) (start_told play done.message done.again left again_turns)
+]

@@ -1,0 +1,198 @@
+//! What comes of a key in a level: a turn with an input, and going on behind a message.
+
+ghost use Rattle.std.specs.Prelude.{◌≡◌, IfOk, List};
+ghost use Rattle.ps_model.specs.board.Grid.{Grid};
+ghost use Rattle.ps_model.specs.declared.limits.TheConstants.{AGAIN_LIMIT};
+ghost use Rattle.ps_model.specs.session.Frames.{frame};
+ghost use Rattle.ps_model.specs.session.Sessions.{Play, after};
+ghost use Rattle.ps_model.specs.session.KeySteps.{blocked, key_told, all_key_turns, gone_on, input_taken};
+ghost use Rattle.ps_turn.specs.States.{done_shown};
+ghost use Rattle.ps_stage.specs.KeysShown.{key_end_step};
+ghost use Rattle.ps_stage.specs.Places.{change_shown, past_of, past_if, GoesOnTable};
+ghost use Rattle.ps_stage.specs.Standings.{Standing, script_for, play_of};
+ghost use Rattle.ps_stage.specs.StepsShown.{came, stands, pending_shown};
+
+use crate::entering::placed;
+use crate::levels::{PlayedLevel, Tried};
+use crate::places::{Change, KeyEnd, KeyTold, Past, Pending};
+use crate::stage::Stage;
+use crate::starts::again_limit;
+use ps_board::Board;
+use ps_model::{Input, Memory};
+use ps_text::Text;
+use ps_turn::{DoneTurn, Programs, Rules};
+
+/// What a done turn does to the history: the board before it enters, if the turn changed it.
+fn past_if(changed: bool) -> Past
+    ensures { result ≡ past_if changed }
+{
+    if changed {
+        Past::Remembers
+    } else {
+        Past::Keeps
+    }
+}
+
+impl<'g> Stage<'g> {
+    /// Shows the level of a blocked turn, and its message, if it has one.
+    fn tell_blocked<B: Board>(
+        &mut self,
+        level: &PlayedLevel<B>,
+        message: &Option<Text>,
+    ) -> Result<Option<Pending>, Memory>
+        ensures game { self.new.game ≡ self.old.game }
+        ensures told { IfOk result (λ pending. (play : Play)
+            → after self.old.text (after (frame self.old.game.names level.now.board) (blocked play message.now))
+            ≡ came (stands pending play) self.new.text) }
+    {
+        self.show(level.board())?;
+        let Some(message) = message else {
+            return Ok(None);
+        };
+        self.tell(message.as_str())?;
+        Ok(Some(Pending::Nothing))
+    }
+
+    /// Goes where the turns of a key have ended, with the history as it is then.
+    fn finish_key<B: Board, R: Rules<B>>(
+        &mut self,
+        rules: &mut Programs<R>,
+        level: PlayedLevel<B>,
+        end: KeyEnd,
+        past: Past,
+    ) -> Result<Change<PlayedLevel<B>>, Memory>
+        requires { level.table ≡ B.table_for self.old.game.names.layers }
+        ensures game { self.new.game ≡ self.old.game }
+        ensures plain { R.meant rules.new.plain ≡ R.meant rules.old.plain }
+        ensures late { R.meant rules.new.late ≡ R.meant rules.old.late }
+        ensures table { IfOk result (λ change. GoesOnTable (B.table_for self.old.game.names.layers) change) }
+        ensures came { IfOk result (λ change. (history : List Grid) (first : Standing)
+            → key_end_step (script_for B.table_for self.old.game (R.meant rules.old.plain) (R.meant rules.old.late))
+            end (play_of (past_of past history first.board) level) self.old.text
+            ≡ came (change_shown history first change) self.new.text) }
+    {
+        match end {
+            KeyEnd::Stops(pending) => Ok(Change::Goes(placed(level, pending), past)),
+            KeyEnd::Won => {
+                let place = self.level_done(rules, &level)?;
+                Ok(Change::Goes(place, Past::Forgets))
+            }
+            KeyEnd::Restarts(message) => {
+                let place = self.restart(rules, &level, message)?;
+                Ok(Change::Goes(place, past))
+            }
+        }
+    }
+
+    /// What follows a done turn of a key, of which this level came: its frame, its message, the end of the level or
+    /// again turns.
+    fn follow_key<B: Board, R: Rules<B>>(
+        &mut self,
+        rules: &mut Programs<R>,
+        mut level: PlayedLevel<B>,
+        done: &DoneTurn,
+    ) -> Result<Change<PlayedLevel<B>>, Memory>
+        requires { level.table ≡ B.table_for self.old.game.names.layers }
+        ensures game { self.new.game ≡ self.old.game }
+        ensures plain { R.meant rules.new.plain ≡ R.meant rules.old.plain }
+        ensures late { R.meant rules.new.late ≡ R.meant rules.old.late }
+        ensures table { IfOk result (λ change. GoesOnTable (B.table_for self.old.game.names.layers) change) }
+        ensures came { IfOk result (λ change. (history : List Grid) (first : Standing)
+            → after self.old.text (after (frame self.old.game.names level.board)
+            (key_told (script_for B.table_for self.old.game (R.meant rules.old.plain) (R.meant rules.old.late))
+            (play_of (past_of (past_if done.now.changed) history first.board) level)
+            (done_shown done.now level.board) AGAIN_LIMIT
+            (all_key_turns (script_for B.table_for self.old.game (R.meant rules.old.plain) (R.meant rules.old.late)))))
+            ≡ came (change_shown history first change) self.new.text) }
+    {
+        let past = past_if(done.changed);
+        let most = again_limit();
+        match self.tell_key_turn(&level, done, most)? {
+            KeyTold::Ends(end) => self.finish_key(rules, level, end, past),
+            KeyTold::GoesOn => {
+                let end = self.all_key_turns(rules, &mut level)?;
+                self.finish_key(rules, level, end, past)
+            }
+        }
+    }
+
+    /// Takes a turn of a level with an input. The level stays as it is, whatever comes of the turn; only the board that
+    /// it keeps for turns has worked.
+    ///
+    /// # Errors
+    ///
+    /// `Memory`, and a part of the text may have been made.
+    pub fn take_input<B: Board, R: Rules<B>>(
+        &mut self,
+        rules: &mut Programs<R>,
+        level: &mut PlayedLevel<B>,
+        input: Input,
+    ) -> Result<Change<PlayedLevel<B>>, Memory>
+        requires { level.old.table ≡ B.table_for self.old.game.names.layers }
+        ensures level { level.new ≡ level.old }
+        ensures game { self.new.game ≡ self.old.game }
+        ensures plain { R.meant rules.new.plain ≡ R.meant rules.old.plain }
+        ensures late { R.meant rules.new.late ≡ R.meant rules.old.late }
+        ensures table { IfOk result (λ change. GoesOnTable (B.table_for self.old.game.names.layers) change) }
+        ensures came { IfOk result (λ change. (history : List Grid) → after self.old.text
+            (input_taken (script_for B.table_for self.old.game (R.meant rules.old.plain) (R.meant rules.old.late))
+            (play_of history level.old) input)
+            ≡ came (change_shown history level.old change) self.new.text) }
+    {
+        match level.try_turn(self.alloc, &self.game, rules, input)? {
+            Tried::Blocked(message) => {
+                let pending = self.tell_blocked(level, &message)?;
+                Ok(Change::Stays(pending))
+            }
+            Tried::Restarted(message) => {
+                let place = self.restart(rules, level, message)?;
+                Ok(Change::Goes(place, Past::Remembers))
+            }
+            Tried::Done(next, done) => {
+                let change = self.follow_key(rules, next, &done)?;
+                Ok(change)
+            }
+        }
+    }
+
+    /// Goes on behind a message of a level that was dismissed. The level stays as it is. Where nothing is to come, no
+    /// memory is taken.
+    ///
+    /// # Errors
+    ///
+    /// `Memory`, and a part of the text may have been made.
+    pub fn go_on<B: Board, R: Rules<B>>(
+        &mut self,
+        rules: &mut Programs<R>,
+        level: &PlayedLevel<B>,
+        pending: Pending,
+    ) -> Result<Change<PlayedLevel<B>>, Memory>
+        requires { level.now.table ≡ B.table_for self.old.game.names.layers }
+        ensures game { self.new.game ≡ self.old.game }
+        ensures plain { R.meant rules.new.plain ≡ R.meant rules.old.plain }
+        ensures late { R.meant rules.new.late ≡ R.meant rules.old.late }
+        ensures table { IfOk result (λ change. GoesOnTable (B.table_for self.old.game.names.layers) change) }
+        ensures came { IfOk result (λ change. (history : List Grid) → after self.old.text
+            (gone_on (script_for B.table_for self.old.game (R.meant rules.old.plain) (R.meant rules.old.late))
+            (play_of history level.now) (pending_shown pending))
+            ≡ came (change_shown history level.now change) self.new.text) }
+    {
+        match pending {
+            Pending::Nothing => Ok(Change::Stays(None)),
+            Pending::LevelDone => {
+                let place = self.level_done(rules, level)?;
+                Ok(Change::Goes(place, Past::Forgets))
+            }
+            Pending::KeyAgain(left) => {
+                let mut next = level.try_copy(self.alloc)?;
+                let end = self.key_turns(rules, &mut next, left)?;
+                self.finish_key(rules, next, end, Past::Keeps)
+            }
+            Pending::StartAgain(left) => {
+                let mut next = level.try_copy(self.alloc)?;
+                let pending = self.start_turns(rules, &mut next, left)?;
+                Ok(Change::Goes(placed(next, pending), Past::Keeps))
+            }
+        }
+    }
+}

@@ -1,0 +1,191 @@
+//! Entries as they begin, levels that are done, and restarts.
+
+ghost use Rattle.std.specs.Prelude.{◌≡◌, ◌<◌, ◌≤◌, IfOk, [], suc, take, filter, length, ℕ, Option, Some, List, ◌∷◌};
+ghost use Rattle.ps_model.specs.board.Grid.{Grid};
+ghost use Rattle.ps_model.specs.session.LevelLines.{LevelEntry};
+ghost use Rattle.ps_model.specs.session.Sessions.{after, is_level, level_number};
+ghost use Rattle.ps_model.specs.session.StartSteps.{entered, enter, level_done, restarted};
+ghost use Rattle.ps_levels.specs.EntriesShown.{entry_shown, entries_shown};
+ghost use Rattle.ps_stage.specs.Playable.{IsPlayable};
+ghost use Rattle.ps_stage.specs.Standings.{script_of, script_for, play_of};
+ghost use Rattle.ps_stage.specs.StepsShown.{came, stands};
+ghost use Rattle.ps_stage.specs.Places.{place_shown, IsOnTable};
+
+use crate::entries::EntryNumber;
+use crate::levels::PlayedLevel;
+use crate::places::{Pending, Place};
+use crate::stage::Stage;
+use ps_board::Board;
+use ps_levels::{Entry, Level};
+use ps_model::{Ending, Memory};
+use ps_text::Text;
+use ps_turn::{Programs, Rules};
+
+/// One for an entry that is a level, and nothing for a message.
+fn level_count(entry: &Entry) -> usize
+    ensures counted { result ≡ length (filter is_level (entry_shown entry.now ∷ [])) }
+    ensures few { result ≤ 1 }
+{
+    match entry {
+        Entry::Message(_) => 0,
+        Entry::Level(_) => 1,
+    }
+}
+
+/// How many of the entries are levels.
+fn levels_among(entries: &[Entry]) -> usize
+    ensures { result ≡ length (filter is_level (entries_shown entries.now)) }
+{
+    let mut count = 0;
+    for entry in entries {
+        count += level_count(entry);
+    }
+    count
+}
+
+/// The number of a level: the levels up to it, itself counted. Behind the last entry it is that of the last level.
+fn level_number(entries: &[Entry], entry: &EntryNumber) -> usize
+    ensures { result ≡ length (filter is_level (take (suc entry.now) (entries_shown entries.now))) }
+{
+    if entries.len() <= entry.number() {
+        return levels_among(entries);
+    }
+    let (front, _) = entries.split_at(entry.next());
+    levels_among(front)
+}
+
+/// A level in which a message waits, or none.
+pub(crate) fn placed<B: Board>(
+    level: PlayedLevel<B>,
+    pending: Option<Pending>,
+) -> Place<PlayedLevel<B>>
+    ensures shown { (history : List Grid) → place_shown history result ≡ stands pending (play_of history level) }
+    ensures table { (table : Option (List ℕ)) → level.table ≡ table → IsOnTable table result }
+{
+    match pending {
+        None => Place::Playing(level),
+        Some(pending) => Place::Waiting(level, pending),
+    }
+}
+
+impl<'g> Stage<'g> {
+    /// A level begins: its line, and its start.
+    fn enter_level<B: Board, R: Rules<B>>(
+        &mut self,
+        rules: &mut Programs<R>,
+        number: usize,
+        entry: EntryNumber,
+        level: &Level,
+    ) -> Result<Place<PlayedLevel<B>>, Memory>
+        requires playable { IsPlayable self.old.game.names level.now }
+        requires number { number ≡ level_number (script_of self.old.game [] []) entry }
+        ensures game { self.new.game ≡ self.old.game }
+        ensures plain { R.meant rules.new.plain ≡ R.meant rules.old.plain }
+        ensures late { R.meant rules.new.late ≡ R.meant rules.old.late }
+        ensures table { IfOk result (λ place. IsOnTable (B.table_for self.old.game.names.layers) place) }
+        ensures came { IfOk result (λ place. after self.old.text
+            (entered (script_for B.table_for self.old.game (R.meant rules.old.plain) (R.meant rules.old.late))
+            entry (Some (LevelEntry level.now)))
+            ≡ came (place_shown [] place) self.new.text) }
+    {
+        self.text.add_level(self.alloc, number)?;
+        let mut played: PlayedLevel<B> = PlayedLevel::load(
+            self.alloc,
+            self.game.names(),
+            entry,
+            level,
+        )?;
+        let pending = self.start_step(rules, &mut played, None)?;
+        Ok(placed(played, pending))
+    }
+
+    /// An entry begins: a message waits, a level starts; behind the last entry is the end.
+    ///
+    /// # Errors
+    ///
+    /// `Memory`, and a part of the text may have been made.
+    pub fn enter<B: Board, R: Rules<B>>(
+        &mut self,
+        rules: &mut Programs<R>,
+        entry: usize,
+    ) -> Result<Place<PlayedLevel<B>>, Memory>
+        ensures game { self.new.game ≡ self.old.game }
+        ensures plain { R.meant rules.new.plain ≡ R.meant rules.old.plain }
+        ensures late { R.meant rules.new.late ≡ R.meant rules.old.late }
+        ensures table { IfOk result (λ place. IsOnTable (B.table_for self.old.game.names.layers) place) }
+        ensures came { IfOk result (λ place. after self.old.text
+            (enter (script_for B.table_for self.old.game (R.meant rules.old.plain) (R.meant rules.old.late)) entry)
+            ≡ came (place_shown [] place) self.new.text) }
+    {
+        let entries = self.entries();
+        if entries.len() <= entry {
+            self.text.add(b"* the end\n")?;
+            return Ok(Place::Ended(Ending::TheEnd));
+        }
+        let number = EntryNumber::new(entry);
+        match &entries[entry] {
+            Entry::Message(text) => {
+                self.tell(text.as_str())?;
+                Ok(Place::AtMessage(number))
+            }
+            Entry::Level(level) => {
+                let count = level_number(entries, &number);
+                let place = self.enter_level(rules, count, number, level)?;
+                Ok(place)
+            }
+        }
+    }
+
+    /// A level is done: its closing line, and the next entry begins.
+    ///
+    /// # Errors
+    ///
+    /// `Memory`, and a part of the text may have been made.
+    pub fn level_done<B: Board, R: Rules<B>>(
+        &mut self,
+        rules: &mut Programs<R>,
+        level: &PlayedLevel<B>,
+    ) -> Result<Place<PlayedLevel<B>>, Memory>
+        ensures game { self.new.game ≡ self.old.game }
+        ensures plain { R.meant rules.new.plain ≡ R.meant rules.old.plain }
+        ensures late { R.meant rules.new.late ≡ R.meant rules.old.late }
+        ensures table { IfOk result (λ place. IsOnTable (B.table_for self.old.game.names.layers) place) }
+        ensures came { IfOk result (λ place. (history : List Grid) → after self.old.text
+            (level_done (script_for B.table_for self.old.game (R.meant rules.old.plain) (R.meant rules.old.late))
+            (play_of history level.now))
+            ≡ came (place_shown [] place) self.new.text) }
+    {
+        let entry = level.entry();
+        let number = level_number(self.entries(), &entry);
+        self.text.add_level_done(self.alloc, number)?;
+        let place = self.enter(rules, entry.next())?;
+        Ok(place)
+    }
+
+    /// A level restarts: it begins at the board that a restart goes back to, with a message from before or without one.
+    /// The level itself stays as it is.
+    ///
+    /// # Errors
+    ///
+    /// `Memory`, and a part of the text may have been made.
+    pub fn restart<B: Board, R: Rules<B>>(
+        &mut self,
+        rules: &mut Programs<R>,
+        level: &PlayedLevel<B>,
+        message: Option<Text>,
+    ) -> Result<Place<PlayedLevel<B>>, Memory>
+        requires { level.now.table ≡ B.table_for self.old.game.names.layers }
+        ensures game { self.new.game ≡ self.old.game }
+        ensures plain { R.meant rules.new.plain ≡ R.meant rules.old.plain }
+        ensures late { R.meant rules.new.late ≡ R.meant rules.old.late }
+        ensures table { IfOk result (λ place. IsOnTable (B.table_for self.old.game.names.layers) place) }
+        ensures came { IfOk result (λ place. (history : List Grid) → after self.old.text
+            (restarted (script_for B.table_for self.old.game (R.meant rules.old.plain) (R.meant rules.old.late))
+            (play_of history level.now) message)
+            ≡ came (place_shown history place) self.new.text) }
+    {
+        let mut again = level.restarted(self.alloc)?;
+        let pending = self.start_step(rules, &mut again, message)?;
+        Ok(placed(again, pending))
+    }
+}

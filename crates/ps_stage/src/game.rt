@@ -1,0 +1,106 @@
+//! A game as a session plays it.
+
+ghost use Rattle.std.specs.Prelude.{◌≡◌};
+ghost use Rattle.ps_levels.specs.EntriesShown.{entries_shown};
+ghost use Rattle.ps_levels.specs.WinsShown.{wins_shown};
+ghost use Rattle.ps_stage.specs.Playable.{ArePlayable};
+ghost use Rattle.ps_stage.specs.Standings.{turn_parts};
+
+use ps_levels::{Entry, Win};
+use ps_model::Options;
+use ps_names::Names;
+use ps_turn::TurnGame;
+use std::marker::Model;
+
+/// A game without its rules: its title, options, names, entries and win conditions.
+#[derive(Drop)]
+pub struct SessionGame<'g> {
+    title: &'g str,
+    options: Options,
+    names: &'g Names,
+    entries: &'g [Entry],
+    turns: TurnGame<'g>,
+}
+
+impl<'g> Model for SessionGame<'g> {
+    ghost use Rattle.std.specs.Prelude.{◌≡◌};
+    ghost use Rattle.ps_levels.specs.EntriesShown.{entries_shown};
+    ghost use Rattle.ps_stage.specs.Playable.{ArePlayable};
+    ghost use Rattle.ps_stage.specs.Standings.{SessionParts};
+
+    ghost Value = { SessionParts };
+
+    ghost view = { λ g. record {
+      title = g.title.now;
+      options = g.options;
+      names = g.names.now;
+      entries = entries_shown g.entries.now;
+      wins = g.turns.wins;
+    } };
+
+    ghost invariant = { λ g. ArePlayable g.names.now (entries_shown g.entries.now)
+        × ((g.turns.names ≡ g.names.now) × (g.turns.options ≡ g.options)) };
+}
+
+impl<'g> SessionGame<'g> {
+    /// The game of these parts.
+    pub fn new(
+        title: &'g str,
+        options: Options,
+        names: &'g Names,
+        entries: &'g [Entry],
+        wins: &'g [Win],
+    ) -> SessionGame<'g>
+        requires { ArePlayable names.now (entries_shown entries.now) }
+        ensures title { result.title ≡ title.entry.now }
+        ensures options { result.options ≡ options }
+        ensures names { result.names ≡ names.entry.now }
+        ensures entries { result.entries ≡ entries_shown entries.entry.now }
+        ensures wins { result.wins ≡ wins_shown wins.entry.now }
+    {
+        SessionGame {
+            title,
+            options,
+            names,
+            entries,
+            turns: TurnGame::new(names, options, wins),
+        }
+    }
+
+    /// The title.
+    pub fn title(&self) -> &str
+        ensures { result.now ≡ self.now.title }
+    {
+        self.title
+    }
+
+    /// The options.
+    pub fn options(&self) -> Options
+        ensures { result ≡ self.now.options }
+    {
+        self.options
+    }
+
+    /// The names.
+    pub fn names(&self) -> &'g Names
+        ensures names { result.now ≡ self.now.names }
+        ensures playable { ArePlayable self.now.names self.now.entries }
+    {
+        self.names
+    }
+
+    /// What its turns look at.
+    pub fn turns(&self) -> &TurnGame<'g>
+        ensures { result.now ≡ turn_parts self.now }
+    {
+        &self.turns
+    }
+
+    /// The entries.
+    pub fn entries(&self) -> &'g [Entry]
+        ensures entries { entries_shown result.now ≡ self.now.entries }
+        ensures playable { ArePlayable self.now.names self.now.entries }
+    {
+        self.entries
+    }
+}

@@ -1,0 +1,164 @@
+//! The turns of a key: its own, and the again turns that follow.
+
+ghost use Rattle.std.specs.Prelude.{◌≡◌, IfOk, suc, List, None};
+ghost use Rattle.ps_model.specs.board.Grid.{Grid};
+ghost use Rattle.ps_model.specs.board.Turns.{Script};
+ghost use Rattle.ps_model.specs.session.Frames.{frame};
+ghost use Rattle.ps_model.specs.session.Sessions.{Play, Step, after};
+ghost use Rattle.ps_model.specs.session.KeySteps.{key_pending, key_told, key_turns, all_key_turns};
+ghost use Rattle.ps_turn.specs.States.{done_shown};
+ghost use Rattle.ps_stage.specs.KeysShown.{key_end_step, key_told_step};
+ghost use Rattle.ps_stage.specs.Standings.{script_for, play_of};
+ghost use Rattle.ps_stage.specs.StepsShown.{pending_shown};
+
+use crate::levels::{Counting, PlayedLevel};
+use crate::places::{KeyEnd, KeyTold, Pending};
+use crate::stage::Stage;
+use crate::starts::again_limit;
+use ps_board::Board;
+use ps_model::Memory;
+use ps_turn::{DoneTurn, Programs, Rules, Turned};
+
+/// What a turn of a key leaves to come behind its message.
+fn key_pending(win: bool, again: bool, left: u32) -> Pending
+    ensures { pending_shown result ≡ key_pending win again left }
+{
+    if win {
+        return Pending::LevelDone;
+    }
+    if again {
+        return Pending::KeyAgain(left);
+    }
+    Pending::Nothing
+}
+
+impl<'g> Stage<'g> {
+    /// Tells what comes behind a frame of a key: a message waits; without one the level ends on a win; otherwise the
+    /// again turns come, if the turn is to come again.
+    fn tell_key(&mut self, done: &DoneTurn, left: u32) -> Result<KeyTold, Memory>
+        ensures game { self.new.game ≡ self.old.game }
+        ensures told { IfOk result (λ told. (script : Script) (play : Play) (g : Grid) (turns : Play → Step)
+            → after self.old.text (key_told script play (done_shown done.now g) left turns)
+            ≡ key_told_step script told play self.new.text turns) }
+    {
+        if let Some(message) = &done.message {
+            self.tell(message.as_str())?;
+            return Ok(KeyTold::Ends(KeyEnd::Stops(Some(key_pending(done.win, done.again, left)))));
+        }
+        if done.win {
+            return Ok(KeyTold::Ends(KeyEnd::Won));
+        }
+        if done.again {
+            return Ok(KeyTold::GoesOn);
+        }
+        Ok(KeyTold::Ends(KeyEnd::Stops(None)))
+    }
+
+    /// Shows the board behind a done turn of a key, and tells what comes behind the frame.
+    pub(crate) fn tell_key_turn<B: Board>(
+        &mut self,
+        level: &PlayedLevel<B>,
+        done: &DoneTurn,
+        left: u32,
+    ) -> Result<KeyTold, Memory>
+        ensures game { self.new.game ≡ self.old.game }
+        ensures told { IfOk result (λ told. (script : Script) (play : Play) (turns : Play → Step)
+            → after self.old.text (after (frame self.old.game.names level.now.board)
+            (key_told script play (done_shown done.now level.now.board) left turns))
+            ≡ key_told_step script told play self.new.text turns) }
+    {
+        self.show(level.board())?;
+        self.tell_key(done, left)
+    }
+
+    /// One again turn of a key: one that is blocked, or neither changed the board nor won, is as if not run, and ends
+    /// them; so does a restart.
+    fn key_turn<B: Board, R: Rules<B>>(
+        &mut self,
+        rules: &mut Programs<R>,
+        level: &mut PlayedLevel<B>,
+        left: u32,
+    ) -> Result<KeyTold, Memory>
+        requires { level.old.table ≡ B.table_for self.old.game.names.layers }
+        ensures game { self.new.game ≡ self.old.game }
+        ensures plain { R.meant rules.new.plain ≡ R.meant rules.old.plain }
+        ensures late { R.meant rules.new.late ≡ R.meant rules.old.late }
+        ensures table { level.new.table ≡ level.old.table }
+        ensures told { IfOk result (λ told. (history : List Grid) → after self.old.text
+            (key_turns (script_for B.table_for self.old.game (R.meant rules.old.plain) (R.meant rules.old.late))
+            (suc left) (play_of history level.old))
+            ≡ key_told_step (script_for B.table_for self.old.game (R.meant rules.old.plain) (R.meant rules.old.late))
+            told (play_of history level.new) self.new.text
+            (key_turns (script_for B.table_for self.old.game (R.meant rules.old.plain) (R.meant rules.old.late))
+            left)) }
+    {
+        let turned = level.take_turn(
+            self.alloc,
+            &self.game,
+            rules,
+            None,
+            Counting::IfChangedOrWon,
+        )?;
+        match turned {
+            Turned::Blocked(_) => Ok(KeyTold::Ends(KeyEnd::Stops(None))),
+            Turned::Restarted(message) => Ok(KeyTold::Ends(KeyEnd::Restarts(message))),
+            Turned::Done(done) => {
+                if !Counting::IfChangedOrWon.counts(&done) {
+                    return Ok(KeyTold::Ends(KeyEnd::Stops(None)));
+                }
+                self.tell_key_turn(level, &done, left)
+            }
+        }
+    }
+
+    /// The again turns of a key, so many at most.
+    pub(crate) fn key_turns<B: Board, R: Rules<B>>(
+        &mut self,
+        rules: &mut Programs<R>,
+        level: &mut PlayedLevel<B>,
+        most: u32,
+    ) -> Result<KeyEnd, Memory>
+        requires { level.old.table ≡ B.table_for self.old.game.names.layers }
+        ensures game { self.new.game ≡ self.old.game }
+        ensures plain { R.meant rules.new.plain ≡ R.meant rules.old.plain }
+        ensures late { R.meant rules.new.late ≡ R.meant rules.old.late }
+        ensures table { level.new.table ≡ level.old.table }
+        ensures came { IfOk result (λ end. (history : List Grid) → after self.old.text
+            (key_turns (script_for B.table_for self.old.game (R.meant rules.old.plain) (R.meant rules.old.late)) most
+            (play_of history level.old))
+            ≡ key_end_step (script_for B.table_for self.old.game (R.meant rules.old.plain) (R.meant rules.old.late)) end
+            (play_of history level.new) self.new.text) }
+    {
+        let mut left = most;
+        while left > 0 {
+            left -= 1;
+            match self.key_turn(rules, level, left)? {
+                KeyTold::Ends(end) => return Ok(end),
+                KeyTold::GoesOn => {}
+            }
+        }
+        Ok(KeyEnd::Stops(None))
+    }
+
+    /// The again turns of a key, as many as there may be.
+    pub(crate) fn all_key_turns<B: Board, R: Rules<B>>(
+        &mut self,
+        rules: &mut Programs<R>,
+        level: &mut PlayedLevel<B>,
+    ) -> Result<KeyEnd, Memory>
+        requires { level.old.table ≡ B.table_for self.old.game.names.layers }
+        ensures game { self.new.game ≡ self.old.game }
+        ensures plain { R.meant rules.new.plain ≡ R.meant rules.old.plain }
+        ensures late { R.meant rules.new.late ≡ R.meant rules.old.late }
+        ensures table { level.new.table ≡ level.old.table }
+        ensures came { IfOk result (λ end. (history : List Grid) → after self.old.text
+            (all_key_turns (script_for B.table_for self.old.game (R.meant rules.old.plain) (R.meant rules.old.late))
+            (play_of history level.old))
+            ≡ key_end_step (script_for B.table_for self.old.game (R.meant rules.old.plain) (R.meant rules.old.late)) end
+            (play_of history level.new) self.new.text) }
+    {
+        let most = again_limit();
+        let end = self.key_turns(rules, level, most)?;
+        Ok(end)
+    }
+}

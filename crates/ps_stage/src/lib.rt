@@ -1,0 +1,27 @@
+//! The way of a player through the entries of a game: levels and messages as they begin, turns at the start of a level
+//! and at keys, restarts, and what comes behind a message that is dismissed.
+//!
+//! A [`Stage`] makes the text of a step on the side, and a step leaves the level that it starts from as it is: what
+//! comes of it is a [`Place`] or a [`Change`] with boards of its own. So a step that wants memory has changed nothing
+//! that is seen.
+#![tactic(auto)]
+
+mod changes;
+mod entering;
+mod entries;
+mod game;
+mod keys;
+mod levels;
+mod loading;
+mod places;
+mod stage;
+mod starts;
+
+pub use entries::EntryNumber;
+pub use game::SessionGame;
+pub use levels::PlayedLevel;
+pub use places::{Change, Past, Pending, Place};
+pub use ps_board::Board;
+pub use ps_model::{Ending, Input, Memory, Options};
+pub use ps_turn::{Programs, Rules};
+pub use stage::Stage;

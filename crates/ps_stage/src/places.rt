@@ -1,0 +1,80 @@
+//! Where a player is in a game, and what steps tell.
+
+use crate::entries::EntryNumber;
+use ps_model::Ending;
+use ps_text::Text;
+
+/// What a level's message goes on with once it is dismissed.
+#[derive(Clone, Copy, PartialEq, Eq, Debug)]
+pub enum Pending {
+    /// No turn: the level goes on as it is.
+    Nothing,
+    /// The end of the level.
+    LevelDone,
+    /// So many more again turns of a key.
+    KeyAgain(u32),
+    /// So many more again turns of the start of a level.
+    StartAgain(u32),
+}
+
+/// Where a player is, with levels of some kind.
+#[derive(Drop, Debug)]
+pub enum Place<L> {
+    /// In a level.
+    Playing(L),
+    /// In a level whose message waits.
+    Waiting(L, Pending),
+    /// At a message entry.
+    AtMessage(EntryNumber),
+    /// At the end.
+    Ended(Ending),
+}
+
+/// What a step does to the history, in which the boards stand that undo goes back to.
+#[derive(Clone, Copy, PartialEq, Eq, Debug)]
+pub enum Past {
+    /// It stays as it is.
+    Keeps,
+    /// The board before the step enters it.
+    Remembers,
+    /// It is empty, as at the start of every level.
+    Forgets,
+}
+
+/// What comes of a key in a level.
+#[derive(Drop, Debug)]
+pub enum Change<L> {
+    /// The level stays as it is; a message may wait.
+    Stays(Option<Pending>),
+    /// The player goes to another place, or to another board of the level.
+    Goes(Place<L>, Past),
+}
+
+/// What comes behind a frame of the start of a level.
+#[derive(Clone, Copy, PartialEq, Eq, Debug)]
+pub enum Told {
+    /// No turn: a message waits, or none does.
+    Stops(Option<Pending>),
+    /// Again turns.
+    GoesOn,
+}
+
+/// How the turns of a key end.
+#[derive(Drop, Debug)]
+pub enum KeyEnd {
+    /// In the level, where a message waits, or none does.
+    Stops(Option<Pending>),
+    /// The level is won, and done.
+    Won,
+    /// The level restarts, with a message or without.
+    Restarts(Option<Text>),
+}
+
+/// What comes behind a turn of a key.
+#[derive(Drop, Debug)]
+pub enum KeyTold {
+    /// No further turn.
+    Ends(KeyEnd),
+    /// Again turns.
+    GoesOn,
+}

@@ -1,0 +1,130 @@
+//! A game with the text that is made on the side.
+
+ghost use Rattle.std.specs.Prelude.{◌≡◌, ◌++◌, [], OnOk, IfOk, codes};
+ghost use Rattle.ps_model.specs.game.Outputs.{quit_line};
+ghost use Rattle.ps_model.specs.session.Frames.{frame, written_line};
+ghost use Rattle.ps_levels.specs.EntriesShown.{entries_shown};
+ghost use Rattle.ps_stage.specs.Playable.{ArePlayable};
+
+use crate::game::SessionGame;
+use ps_board::Board;
+use ps_levels::Entry;
+use ps_model::Memory;
+use ps_screen::{Picture, Screen};
+use std::alloc::Global;
+use std::marker::Model;
+
+/// A game in play, its picture, and the text that a key makes. The text goes to the screen when all else is done, so
+/// that a key which fails writes nothing.
+#[derive(Drop)]
+pub struct Stage<'g> {
+    pub(crate) alloc: Global,
+    pub(crate) game: SessionGame<'g>,
+    picture: Picture<'g>,
+    pub(crate) text: Screen,
+}
+
+impl<'g> Model for Stage<'g> {
+    ghost use Rattle.std.specs.Prelude.{◌≡◌};
+    ghost use Rattle.ps_stage.specs.Standings.{StageValue};
+
+    ghost Value = { StageValue };
+
+    ghost view = { λ s. record { game = s.game; text = s.text } };
+
+    ghost invariant = { λ s. s.picture ≡ s.game.names };
+}
+
+impl<'g> Stage<'g> {
+    /// A game without a text.
+    pub fn new(alloc: Global, game: SessionGame<'g>) -> Stage<'g>
+        ensures game { result.game ≡ game.entry }
+        ensures text { result.text ≡ [] }
+    {
+        let picture = Picture::new(alloc, game.names());
+        Stage {
+            alloc,
+            game,
+            picture,
+            text: Screen::new(alloc),
+        }
+    }
+
+    /// The game.
+    pub fn game(&self) -> &SessionGame<'g>
+        ensures { result.now ≡ self.now.game }
+    {
+        &self.game
+    }
+
+    /// The text that was made since it was forgotten.
+    pub fn text(&self) -> &[u8]
+        ensures { result.now ≡ self.now.text }
+    {
+        self.text.bytes()
+    }
+
+    /// Forgets the text, and keeps its room for the next.
+    pub fn forget_text(&mut self)
+        ensures game { self.new.game ≡ self.old.game }
+        ensures text { self.new.text ≡ [] }
+    {
+        self.text.clear();
+    }
+
+    /// The entries of the game.
+    pub(crate) fn entries(&self) -> &'g [Entry]
+        ensures entries { entries_shown result.now ≡ self.now.game.entries }
+        ensures playable { ArePlayable self.now.game.names self.now.game.entries }
+    {
+        self.game.entries()
+    }
+
+    /// Adds the line of the title.
+    ///
+    /// # Errors
+    ///
+    /// `Memory`.
+    pub fn tell_title(&mut self) -> Result<(), Memory>
+        ensures game { self.new.game ≡ self.old.game }
+        ensures told { OnOk result (self.new.text ≡ self.old.text ++ written_line (codes "= ") self.old.game.title) }
+    {
+        self.text.add_line("= ", self.game.title())
+    }
+
+    /// Adds the line that says that the player quit.
+    ///
+    /// # Errors
+    ///
+    /// `Memory`.
+    pub fn tell_quit(&mut self) -> Result<(), Memory>
+        ensures game { self.new.game ≡ self.old.game }
+        ensures told { OnOk result (self.new.text ≡ self.old.text ++ quit_line) }
+    {
+        self.text.add(b"* quit\n")
+    }
+
+    /// Adds a frame.
+    ///
+    /// # Errors
+    ///
+    /// `Memory`.
+    pub fn show<B: Board>(&mut self, board: &B) -> Result<(), Memory>
+        ensures game { self.new.game ≡ self.old.game }
+        ensures shown { OnOk result (self.new.text ≡ self.old.text ++ frame self.old.game.names (B.grid board.now)) }
+    {
+        self.picture.show(board, &mut self.text)
+    }
+
+    /// Adds the line of a message.
+    ///
+    /// # Errors
+    ///
+    /// `Memory`.
+    pub(crate) fn tell(&mut self, message: &str) -> Result<(), Memory>
+        ensures game { self.new.game ≡ self.old.game }
+        ensures told { OnOk result (self.new.text ≡ self.old.text ++ written_line (codes "! ") message.now) }
+    {
+        self.text.add_message(message)
+    }
+}

@@ -1,0 +1,231 @@
+//! The start of a level, at which its first frame is written, and of each restart.
+
+ghost use Rattle.std.specs.Prelude.{◌≡◌, IfOk, OnOk, suc, List, None};
+ghost use Rattle.std.specs.Option.{option_or};
+ghost use Rattle.ps_model.specs.declared.limits.TheConstants.{AGAIN_LIMIT};
+ghost use Rattle.ps_model.specs.board.Grid.{Grid};
+ghost use Rattle.ps_model.specs.session.Sessions.{Play, Step, after, shown};
+ghost use Rattle.ps_model.specs.session.StartSteps.{start_pending, start_told, start_turns, all_start_turns};
+ghost use Rattle.ps_model.specs.session.StartSteps.{started, start_step};
+ghost use Rattle.ps_stage.specs.Standings.{script_for, play_of};
+ghost use Rattle.ps_stage.specs.StepsShown.{told_step, start_shown, came, stands, pending_shown};
+
+use crate::levels::{Counting, PlayedLevel};
+use crate::places::{Pending, Told};
+use crate::stage::Stage;
+use ps_board::Board;
+use ps_model::{AGAIN_LIMIT, Memory};
+use ps_text::Text;
+use ps_turn::{DoneTurn, Programs, Rules, Turned};
+
+/// What the turn of a start leaves to come behind its message.
+fn start_pending(again: bool, left: u32) -> Pending
+    ensures { pending_shown result ≡ start_pending again left }
+{
+    if again {
+        Pending::StartAgain(left)
+    } else {
+        Pending::Nothing
+    }
+}
+
+/// The first of two messages that is there.
+fn first_message(own: Option<Text>, other: Option<Text>) -> Option<Text>
+    ensures { result ≡ option_or own other }
+{
+    match own {
+        Some(message) => Some(message),
+        None => other,
+    }
+}
+
+/// The most again turns, as a number that proofs don't write out.
+pub(crate) fn again_limit() -> u32
+    ensures { result ≡ AGAIN_LIMIT }
+{
+    AGAIN_LIMIT
+}
+
+impl<'g> Stage<'g> {
+    /// Tells what comes behind a frame of a start: a message waits; without one the again turns come, if the turn is to
+    /// come again.
+    fn tell_start(&mut self, message: &Option<Text>, again: bool, left: u32) -> Result<Told, Memory>
+        ensures game { self.new.game ≡ self.old.game }
+        ensures told { IfOk result (λ told. (play : Play) (turns : Play → Step)
+            → after self.old.text (start_told play message.now again left turns)
+            ≡ told_step told play self.new.text turns) }
+    {
+        if let Some(message) = message {
+            self.tell(message.as_str())?;
+            return Ok(Told::Stops(Some(start_pending(again, left))));
+        }
+        if again {
+            return Ok(Told::GoesOn);
+        }
+        Ok(Told::Stops(None))
+    }
+
+    /// Shows the board behind a done turn of a start, if the turn changed it, and tells what comes behind the frame.
+    fn tell_start_turn<B: Board>(
+        &mut self,
+        level: &PlayedLevel<B>,
+        done: &DoneTurn,
+        left: u32,
+    ) -> Result<Told, Memory>
+        ensures game { self.new.game ≡ self.old.game }
+        ensures told { IfOk result (λ told. (history : List Grid) (turns : Play → Step)
+            → after self.old.text (start_shown self.old.game.names (play_of history level.now) done.now left turns)
+            ≡ told_step told (play_of history level.now) self.new.text turns) }
+    {
+        if !done.changed {
+            return Ok(Told::Stops(None));
+        }
+        self.show(level.board())?;
+        self.tell_start(&done.message, done.again, left)
+    }
+
+    /// One again turn of a start: one that leaves the board as it was is as if not run, and ends them.
+    fn start_turn<B: Board, R: Rules<B>>(
+        &mut self,
+        rules: &mut Programs<R>,
+        level: &mut PlayedLevel<B>,
+        left: u32,
+    ) -> Result<Told, Memory>
+        requires { level.old.table ≡ B.table_for self.old.game.names.layers }
+        ensures game { self.new.game ≡ self.old.game }
+        ensures plain { R.meant rules.new.plain ≡ R.meant rules.old.plain }
+        ensures late { R.meant rules.new.late ≡ R.meant rules.old.late }
+        ensures table { level.new.table ≡ level.old.table }
+        ensures told { IfOk result (λ told. (history : List Grid)
+            → after self.old.text (start_turns
+            (script_for B.table_for self.old.game (R.meant rules.old.plain) (R.meant rules.old.late))
+            (suc left) (play_of history level.old))
+            ≡ told_step told (play_of history level.new) self.new.text (start_turns
+            (script_for B.table_for self.old.game (R.meant rules.old.plain) (R.meant rules.old.late)) left)) }
+    {
+        let turned = level.take_turn(self.alloc, &self.game, rules, None, Counting::IfChanged)?;
+        match turned {
+            Turned::Blocked(_) => Ok(Told::Stops(None)),
+            Turned::Restarted(_) => Ok(Told::Stops(None)),
+            Turned::Done(done) => self.tell_start_turn(level, &done, left),
+        }
+    }
+
+    /// The again turns of a start, so many at most.
+    pub(crate) fn start_turns<B: Board, R: Rules<B>>(
+        &mut self,
+        rules: &mut Programs<R>,
+        level: &mut PlayedLevel<B>,
+        most: u32,
+    ) -> Result<Option<Pending>, Memory>
+        requires { level.old.table ≡ B.table_for self.old.game.names.layers }
+        ensures game { self.new.game ≡ self.old.game }
+        ensures plain { R.meant rules.new.plain ≡ R.meant rules.old.plain }
+        ensures late { R.meant rules.new.late ≡ R.meant rules.old.late }
+        ensures table { level.new.table ≡ level.old.table }
+        ensures came { IfOk result (λ pending. (history : List Grid)
+            → after self.old.text (start_turns
+            (script_for B.table_for self.old.game (R.meant rules.old.plain) (R.meant rules.old.late)) most
+            (play_of history level.old))
+            ≡ came (stands pending (play_of history level.new)) self.new.text) }
+    {
+        let mut left = most;
+        while left > 0 {
+            left -= 1;
+            match self.start_turn(rules, level, left)? {
+                Told::Stops(pending) => return Ok(pending),
+                Told::GoesOn => {}
+            }
+        }
+        Ok(None)
+    }
+
+    /// The again turns of a start, as many as there may be.
+    fn all_start_turns<B: Board, R: Rules<B>>(
+        &mut self,
+        rules: &mut Programs<R>,
+        level: &mut PlayedLevel<B>,
+    ) -> Result<Option<Pending>, Memory>
+        requires { level.old.table ≡ B.table_for self.old.game.names.layers }
+        ensures game { self.new.game ≡ self.old.game }
+        ensures plain { R.meant rules.new.plain ≡ R.meant rules.old.plain }
+        ensures late { R.meant rules.new.late ≡ R.meant rules.old.late }
+        ensures table { level.new.table ≡ level.old.table }
+        ensures came { IfOk result (λ pending. (history : List Grid)
+            → after self.old.text (all_start_turns
+            (script_for B.table_for self.old.game (R.meant rules.old.plain) (R.meant rules.old.late))
+            (play_of history level.old))
+            ≡ came (stands pending (play_of history level.new)) self.new.text) }
+    {
+        let most = again_limit();
+        let pending = self.start_turns(rules, level, most)?;
+        Ok(pending)
+    }
+
+    /// A level from its first frame on, with a message or without one, and with again turns or without.
+    fn started<B: Board, R: Rules<B>>(
+        &mut self,
+        rules: &mut Programs<R>,
+        level: &mut PlayedLevel<B>,
+        message: &Option<Text>,
+        again: bool,
+    ) -> Result<Option<Pending>, Memory>
+        requires { level.old.table ≡ B.table_for self.old.game.names.layers }
+        ensures game { self.new.game ≡ self.old.game }
+        ensures plain { R.meant rules.new.plain ≡ R.meant rules.old.plain }
+        ensures late { R.meant rules.new.late ≡ R.meant rules.old.late }
+        ensures table { level.new.table ≡ level.old.table }
+        ensures came { IfOk result (λ pending. (history : List Grid)
+            → after self.old.text (started
+            (script_for B.table_for self.old.game (R.meant rules.old.plain) (R.meant rules.old.late))
+            (play_of history level.old) message.now again)
+            ≡ came (stands pending (play_of history level.new)) self.new.text) }
+    {
+        self.show(level.board())?;
+        match self.tell_start(message, again, AGAIN_LIMIT)? {
+            Told::Stops(pending) => Ok(pending),
+            Told::GoesOn => {
+                let pending = self.all_start_turns(rules, level)?;
+                Ok(pending)
+            }
+        }
+    }
+
+    /// The start of a level, with a message from before or without one. Where an option asks for it a turn without
+    /// input comes first; its message comes before one from before.
+    pub(crate) fn start_step<B: Board, R: Rules<B>>(
+        &mut self,
+        rules: &mut Programs<R>,
+        level: &mut PlayedLevel<B>,
+        message: Option<Text>,
+    ) -> Result<Option<Pending>, Memory>
+        requires { level.old.table ≡ B.table_for self.old.game.names.layers }
+        ensures game { self.new.game ≡ self.old.game }
+        ensures plain { R.meant rules.new.plain ≡ R.meant rules.old.plain }
+        ensures late { R.meant rules.new.late ≡ R.meant rules.old.late }
+        ensures table { level.new.table ≡ level.old.table }
+        ensures came { IfOk result (λ pending. (history : List Grid)
+            → after self.old.text (start_step
+            (script_for B.table_for self.old.game (R.meant rules.old.plain) (R.meant rules.old.late))
+            (play_of history level.old) message)
+            ≡ came (stands pending (play_of history level.new)) self.new.text) }
+    {
+        if !self.game.options().run_rules_on_level_start {
+            return self.started(rules, level, &message, false);
+        }
+        let turned = level.take_turn(self.alloc, &self.game, rules, None, Counting::Always)?;
+        match turned {
+            Turned::Blocked(own) => {
+                self.started(rules, level, &first_message(own, message), false)
+            }
+            Turned::Restarted(own) => {
+                self.started(rules, level, &first_message(own, message), false)
+            }
+            Turned::Done(done) => {
+                let again = done.again;
+                let message = first_message(done.message, message);
+                self.started(rules, level, &message, again)
+            }
+        }
+    }
+}
