@@ -33,10 +33,7 @@ impl fmt::Display for Size {
         write!(
             f,
             "ok: objects {}, layers {}, rules {}, levels {}",
-            self.objects,
-            self.layers,
-            self.rules,
-            self.levels
+            self.objects, self.layers, self.rules, self.levels
         )
     }
 }

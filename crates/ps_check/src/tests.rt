@@ -53,7 +53,10 @@ fn tells_the_first_fault(rt: HostRuntime) -> Result<(), Fail> {
 #[test]
 fn says_that_the_line_was_cut_off(rt: HostRuntime) -> Result<(), Fail> {
     let mut writer = MemoryWriter::new(rt.alloc(), 10, 4)?;
-    assert_eq!(rt; check(rt.alloc(), MIXED_UP, &mut writer), Err(CheckFault::Write));
+    assert_eq!(rt;
+        check(rt.alloc(), MIXED_UP, &mut writer),
+        Err(CheckFault::Write)
+    );
     assert_eq!(rt; writer.bytes(), b"line 2: GM".as_slice());
     Ok(())
 }
