@@ -11,8 +11,9 @@ const VERSION: &str = "0.2.0";
 /// What help says below the arguments.
 const AFTER_HELP: &str =
     "Keys: w, a, s, d or the arrows move, x acts, z undoes, r restarts, q quits.
-Status: 0 where the run ended, 1 at a fault, 2 at a bad command line.
-A fault of the game is told on standard error, as `line 30: RU7 Unbound`.";
+Status: 0 where the run ended or the check accepted, 1 at a fault, 2 at a bad command line.
+A fault of the game is told on standard error, as `line 30: RU7 Unbound`; --check tells it
+on standard output.";
 
 /// What a command line asks for.
 #[derive(Clone, Copy, PartialEq, Eq, Debug)]
@@ -21,6 +22,8 @@ pub enum Asked<'w> {
     Play(&'w str),
     /// That the game in this file be played, with keys from that file.
     PlayFrom(&'w str, &'w str),
+    /// Whether the text in this file is a game.
+    Check(&'w str),
     /// What the fault of this code is.
     Explanation(&'w str),
 }
@@ -32,6 +35,7 @@ pub fn read_command<'w, S: AsStr>(alloc: Global, words: &'w [S]) -> Result<Asked
         .about("Plays a game of PuzzleScript at a terminal")
         .after_help(AFTER_HELP)
         .arg(game_argument(alloc)?)?
+        .arg(check_option(alloc))?
         .arg(keys_option(alloc))?
         .arg(explain_option(alloc)?)?;
     let matches = command.try_get_matches_from(words)?;
@@ -46,6 +50,9 @@ fn asked_by<'w>(matches: &ArgMatches<'w>) -> Result<Asked<'w>, Stop> {
     let Some(path) = matches.get_str("GAME") else {
         return Err(Stop::Game);
     };
+    if matches.get_flag("check") {
+        return Ok(Asked::Check(path));
+    }
     match matches.get_str("keys") {
         Some(file) => Ok(Asked::PlayFrom(path, file)),
         None => Ok(Asked::Play(path)),
@@ -58,6 +65,16 @@ fn game_argument(alloc: Global) -> Result<Arg<'static>, AllocError> {
         .help("The text of a game, which is played: frames go to standard output")
         .action(ArgAction::Set)
         .required_unless_present("explain")
+}
+
+/// `--check`.
+fn check_option(alloc: Global) -> Arg<'static> {
+    Arg::new(alloc, "check")
+        .long("check")
+        .help(
+            "Says whether the text is a game, and how large, or which fault it has; plays nothing",
+        )
+        .action(ArgAction::SetTrue)
 }
 
 /// `--keys FILE`.
@@ -76,5 +93,5 @@ fn explain_option(alloc: Global) -> Result<Arg<'static>, AllocError> {
         .value_name("CODE")
         .help("Says in a sentence what the fault of this code is, as RU7")
         .action(ArgAction::Set)
-        .conflicts_with_all(&["GAME", "keys"])
+        .conflicts_with_all(&["GAME", "check", "keys"])
 }

@@ -7,7 +7,7 @@ use std::process::Abort;
 use std::test::Fail;
 
 /// The words of a command line that asks for something, and what they ask for.
-const LINES: [(&[&str], Asked<'static>); 5] = [
+const LINES: [(&[&str], Asked<'static>); 8] = [
     (&["ps_play", "a.game"], Asked::Play("a.game")),
     (&["ps_play", "--", "--explain"], Asked::Play("--explain")),
     (
@@ -18,14 +18,23 @@ const LINES: [(&[&str], Asked<'static>); 5] = [
         &["ps_play", "--keys=a.keys", "a.game"],
         Asked::PlayFrom("a.game", "a.keys"),
     ),
+    (&["ps_play", "a.game", "--check"], Asked::Check("a.game")),
+    (&["ps_play", "--check", "a.game"], Asked::Check("a.game")),
+    (
+        &["ps_play", "a.game", "--keys", "a.keys", "--check"],
+        Asked::Check("a.game"),
+    ),
     (&["ps_play", "--explain", "RU7"], Asked::Explanation("RU7")),
 ];
 
 /// The words of command lines that aren't right, or ask for help or the version.
-const OTHER_LINES: [&[&str]; 11] = [
+const OTHER_LINES: [&[&str]; 14] = [
+    &["ps_play", "--check"],
     &["ps_play", "--keys", "a.keys"],
     &["ps_play", "a.game", "--keys"],
+    &["ps_play", "a.game", "--check", "--check"],
     &["ps_play", "a.game", "--keys", "a.keys", "--keys", "a.keys"],
+    &["ps_play", "--explain", "RU7", "--check"],
     &["ps_play", "--explain", "RU7", "--keys", "a.keys"],
     &["ps_play"],
     &["ps_play", "a.game", "b.game"],

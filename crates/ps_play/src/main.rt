@@ -1,5 +1,5 @@
 //! Plays a game of PuzzleScript at a terminal: `ps_play GAME`, with keys from standard input and frames to standard
-//! output. `ps_play --explain CODE` says what a fault is.
+//! output. `ps_play GAME --check` says whether a text is a game, `ps_play --explain CODE` what a fault is.
 #![tactic(auto)]
 
 mod command;
@@ -12,6 +12,7 @@ ghost use Rattle.std.specs.Prelude.{◌≡◌, false};
 
 use command::{Asked, read_command};
 use explanations::explanation;
+use ps_check::check;
 use ps_devices::{ByteReader, ByteWriter, FromStd};
 use ps_model::TEXT_LIMIT;
 use ps_run::{RunFault, run};
@@ -34,7 +35,7 @@ fn main(rt: HostRuntime) -> ExitCode {
     ExitCode::from(status)
 }
 
-/// Does what the command line asks for: plays a game, or says what a fault is.
+/// Does what the command line asks for: plays a game, checks one, or says what a fault is.
 fn act<R: Env + Files + AllocGlobal + Print, I: ByteReader, O: ByteWriter>(
     rt: &R,
     keys: &mut I,
@@ -49,6 +50,7 @@ fn act<R: Env + Files + AllocGlobal + Print, I: ByteReader, O: ByteWriter>(
         .map_err(|_| Stop::Run(RunFault::Memory))?;
     match read_command(rt.alloc(), &words)? {
         Asked::Explanation(code) => explain(rt, code),
+        Asked::Check(path) => check_text(rt, path, screen),
         Asked::Play(path) => {
             let text = read_game(rt, path).map_err(|error| stop_for(error, Stop::Game))?;
             play(rt, &text, keys, screen)
@@ -84,6 +86,22 @@ fn play_from<R: Files + AllocGlobal, O: ByteWriter>(
     let file = fs::open(rt, file).map_err(|error| stop_for(error, Stop::Run(RunFault::Read)))?;
     let mut keys = FromStd::new(file);
     play(rt, &text, &mut keys, screen)
+}
+
+/// Says on the screen whether the text of a file is a game.
+fn check_text<R: Files + AllocGlobal, O: ByteWriter>(
+    rt: &R,
+    path: &str,
+    screen: &mut O,
+) -> Result<(), Stop>
+    requires well { O.has_failed screen.old ≡ false }
+{
+    let text = read_game(rt, path).map_err(|error| stop_for(error, Stop::Game))?;
+    if check(rt.alloc(), &text, screen)? {
+        Ok(())
+    } else {
+        Err(Stop::NotAccepted)
+    }
 }
 
 /// Writes what the fault of a code is.

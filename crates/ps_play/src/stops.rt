@@ -1,6 +1,7 @@
 //! Why the program ends in place of a run's end, and how that is told.
 
 use clap::error::ErrorKind;
+use ps_check::CheckFault;
 use ps_model::Memory;
 use ps_run::RunFault;
 use std::alloc::AllocError;
@@ -17,7 +18,9 @@ pub enum Stop {
     NoSuchCode,
     /// The game can't be read.
     Game,
-    /// The run came to a fault, or memory ran out before it.
+    /// The text that was checked is no game, which the check has said already.
+    NotAccepted,
+    /// The run came to a fault, or memory ran out or the screen failed where nothing is played.
     Run(RunFault),
 }
 
@@ -36,6 +39,15 @@ impl From<AllocError> for Stop {
 impl From<RunFault> for Stop {
     fn from(fault: RunFault) -> Stop {
         Stop::Run(fault)
+    }
+}
+
+impl From<CheckFault> for Stop {
+    fn from(fault: CheckFault) -> Stop {
+        match fault {
+            CheckFault::Memory => Stop::Run(RunFault::Memory),
+            CheckFault::Write => Stop::Run(RunFault::Write),
+        }
     }
 }
 
@@ -74,6 +86,7 @@ pub fn tell<R: Print + Eprint>(rt: &R, stop: Stop) -> u8 {
         Stop::Game => {
             let _ = rt.eprintln("cannot read game");
         }
+        Stop::NotAccepted => {}
         Stop::Run(fault) => {
             let _ = rt.eprintln(fault);
         }

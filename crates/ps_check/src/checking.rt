@@ -1,0 +1,40 @@
+//! The check of a text.
+
+ghost use Rattle.std.specs.Prelude.{◌≡◌, ◌≢◌, ◌<◌, ◌≤◌, ◌+◌, false, true, Err, IfOk, OnOk, is_some, length};
+ghost use Rattle.ps_model.specs.game.Games.{game};
+ghost use Rattle.ps_devices.specs.Devices.{Grows};
+ghost use Rattle.ps_check.specs.Checks.{check_line};
+ghost use Rattle.ps_check.specs.CutOffLines.{IsCutOffLine};
+
+use crate::faults::CheckFault;
+use crate::told::told_of;
+use ps_devices::{ByteWriter, write_whole};
+use std::alloc::Global;
+
+/// Writes a line on a text, ended by a line feed, and answers whether the text is a game. Of a game the line is
+/// `ok: objects N, layers N, rules N, levels N`, with numbers in decimal: rules as they are written, without the starts
+/// and ends of loops, and levels without messages. Of any other text it is that of the first fault, as
+/// `line 30: RU7 Unbound`.
+///
+/// # Errors
+///
+/// `Memory` where a growth was refused, and the writer wasn't called. `Write` where the writer failed or took nothing of
+/// what it was given: it has taken a front of the line then, shorter than the whole, and isn't called again.
+pub fn check<W: ByteWriter>(alloc: Global, text: &[u8], writer: &mut W) -> Result<bool, CheckFault>
+    requires well { W.has_failed writer.old ≡ false }
+    ensures accepted { IfOk result (λ accepted. accepted ≡ is_some (game text.now)) }
+    ensures written { OnOk result (Grows (W.contents writer.old) (W.contents writer.new) (check_line text.now)) }
+    ensures called { OnOk result (W.calls writer.old < W.calls writer.new) }
+    ensures calls { OnOk result (W.calls writer.new ≤ W.calls writer.old + length (check_line text.now)) }
+    ensures uncalled { result ≡ Err CheckFault.Memory → writer.new ≡ writer.old }
+    ensures cut { result ≡ Err CheckFault.Write → IsCutOffLine (W.contents writer.old) (W.contents writer.new)
+        (W.calls writer.old) (W.calls writer.new) (check_line text.now) }
+    ensures well { result ≢ Err CheckFault.Write → W.has_failed writer.new ≡ false }
+    ensures told { result ≡ Err CheckFault.Write → W.has_failed writer.new ≡ true }
+{
+    let told = told_of(alloc, text)?;
+    match write_whole(told.line.as_bytes(), writer) {
+        Ok(()) => Ok(told.accepted),
+        Err(_) => Err(CheckFault::Write),
+    }
+}

@@ -1,0 +1,14 @@
+//! Checks texts: whether one is a game of PuzzleScript, and how large, or which fault it has.
+#![tactic(auto)]
+
+mod checking;
+mod faults;
+mod sizes;
+mod told;
+
+pub use checking::check;
+pub use faults::CheckFault;
+pub use ps_devices::ByteWriter;
+
+#[cfg(test)]
+mod tests;

@@ -1,0 +1,62 @@
+//! Texts that are checked, and the lines on them.
+
+use crate::{CheckFault, check};
+use ps_devices::MemoryWriter;
+use std::test::Fail;
+
+/// A game of one rule and one level.
+const PUSHING: &[u8] =
+    b"title T\nOBJECTS\nBackground .\ngreen\nWall #\nbrown\nPlayer P\nwhite\nCrate *\norange\nTarget O\nblue\n\
+A\nred\nB\npink\nC\ngray\nD\nblack\nLEGEND\n@ = Crate and Target\nAT = A or Target\nCOLLISIONLAYERS\nBackground\nTarget\n\
+Player, Wall, Crate\nA B C D\nRULES\n[ > Player | Crate ] -> [ > Player | > Crate ]\nWINCONDITIONS\nAll Target on Crate\n\
+LEVELS\n#P*O#\n";
+
+#[test]
+fn tells_how_large_a_game_is(rt: HostRuntime) -> Result<(), Fail> {
+    let mut writer = MemoryWriter::new(rt.alloc(), 100, 7)?;
+    assert_eq!(rt; check(rt.alloc(), PUSHING, &mut writer), Ok(true));
+    assert_eq!(rt;
+        writer.bytes(),
+        b"ok: objects 9, layers 4, rules 1, levels 1\n".as_slice()
+    );
+    Ok(())
+}
+
+/// A game with two rules in a loop and one below it, and with two levels among three messages.
+const LOOPING: &[u8] =
+    b"OBJECTS\nBackground .\ngreen\nPlayer P\nwhite\nA\nred\nB\npink\nLEGEND\nCOLLISIONLAYERS\nBackground\nPlayer, A, B\n\
+RULES\nstartloop\n[ A ] -> [ B ]\n+ [ B ] -> [ A ]\nendloop\nright [ moving A ] -> [ A ]\nWINCONDITIONS\n\
+LEVELS\nmessage One\n\nPA\n\nmessage Two\nmessage Three\n\nPB\n";
+
+#[test]
+fn counts_neither_loops_nor_messages(rt: HostRuntime) -> Result<(), Fail> {
+    let mut writer = MemoryWriter::new(rt.alloc(), 100, 1)?;
+    assert_eq!(rt; check(rt.alloc(), LOOPING, &mut writer), Ok(true));
+    assert_eq!(rt;
+        writer.bytes(),
+        b"ok: objects 4, layers 2, rules 3, levels 2\n".as_slice()
+    );
+    Ok(())
+}
+
+/// A text whose second header stands too late.
+const MIXED_UP: &[u8] = b"LEGEND\nOBJECTS\n";
+
+#[test]
+fn tells_the_first_fault(rt: HostRuntime) -> Result<(), Fail> {
+    let mut writer = MemoryWriter::new(rt.alloc(), 100, 100)?;
+    assert_eq!(rt; check(rt.alloc(), MIXED_UP, &mut writer), Ok(false));
+    assert_eq!(rt; writer.bytes(), b"line 2: GM1 SectionOrder\n".as_slice());
+    Ok(())
+}
+
+#[test]
+fn says_that_the_line_was_cut_off(rt: HostRuntime) -> Result<(), Fail> {
+    let mut writer = MemoryWriter::new(rt.alloc(), 10, 4)?;
+    assert_eq!(rt;
+        check(rt.alloc(), MIXED_UP, &mut writer),
+        Err(CheckFault::Write)
+    );
+    assert_eq!(rt; writer.bytes(), b"line 2: GM".as_slice());
+    Ok(())
+}

@@ -1,0 +1,42 @@
+//! What is told of a text.
+
+ghost use Rattle.std.specs.Prelude.{◌≡◌, IfOk, is_some, string_bytes};
+ghost use Rattle.ps_model.specs.game.Games.{game};
+ghost use Rattle.ps_check.specs.Checks.{check_line};
+
+use crate::sizes::size_of;
+use ps_game::read_game;
+use ps_model::{Memory, Refusal};
+use std::alloc::Global;
+
+/// Whether a text is a game, and the line that tells of it.
+#[derive(Drop)]
+pub struct Told {
+    pub accepted: bool,
+    pub line: String,
+}
+
+/// What is told of a text.
+pub fn told_of(alloc: Global, text: &[u8]) -> Result<Told, Memory>
+    ensures accepted { IfOk result (λ told. told.accepted ≡ is_some (game text.now)) }
+    ensures line { IfOk result (λ told. string_bytes told.line ≡ check_line text.now) }
+{
+    match read_game(alloc, text) {
+        Ok(game) => {
+            let size = size_of(&game);
+            let line = format!(in alloc; "{size}\n")?;
+            Ok(Told {
+                accepted: true,
+                line,
+            })
+        }
+        Err(Refusal::Refused(fault)) => {
+            let line = format!(in alloc; "{fault}\n")?;
+            Ok(Told {
+                accepted: false,
+                line,
+            })
+        }
+        Err(Refusal::Memory) => Err(Memory),
+    }
+}
