@@ -1,5 +1,5 @@
--- What a check writes of a text: that it is a game, with how many objects, layers, rules and levels it has; or its first
--- fault.
+-- What a check writes of a text: that it is a game, with how many objects, layers, rules and levels it has; or its
+-- first fault.
 use Rattle.std.specs.Prelude.{ℕ, Some, None, List, [], ◌++◌, codes, filter, length}
 use Rattle.std.specs.List.{filter_map}
 use Rattle.std.specs.Fmt.{decimal}

@@ -18,8 +18,8 @@ use std::alloc::Global;
 ///
 /// # Errors
 ///
-/// `Memory` where a growth was refused, and the writer wasn't called. `Write` where the writer failed or took nothing of
-/// what it was given: it has taken a front of the line then, shorter than the whole, and isn't called again.
+/// `Memory` where a growth was refused, and the writer wasn't called. `Write` where the writer failed or took nothing
+/// of what it was given: it has taken a front of the line then, shorter than the whole, and isn't called again.
 pub fn check<W: ByteWriter>(alloc: Global, text: &[u8], writer: &mut W) -> Result<bool, CheckFault>
     requires well { W.has_failed writer.old ≡ false }
     ensures accepted { IfOk result (λ accepted. accepted ≡ is_some (game text.now)) }

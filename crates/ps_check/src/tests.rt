@@ -7,9 +7,9 @@ use std::test::Fail;
 /// A game of one rule and one level.
 const PUSHING: &[u8] =
     b"title T\nOBJECTS\nBackground .\ngreen\nWall #\nbrown\nPlayer P\nwhite\nCrate *\norange\nTarget O\nblue\n\
-A\nred\nB\npink\nC\ngray\nD\nblack\nLEGEND\n@ = Crate and Target\nAT = A or Target\nCOLLISIONLAYERS\nBackground\nTarget\n\
-Player, Wall, Crate\nA B C D\nRULES\n[ > Player | Crate ] -> [ > Player | > Crate ]\nWINCONDITIONS\nAll Target on Crate\n\
-LEVELS\n#P*O#\n";
+A\nred\nB\npink\nC\ngray\nD\nblack\nLEGEND\n@ = Crate and Target\nAT = A or Target\n\
+COLLISIONLAYERS\nBackground\nTarget\nPlayer, Wall, Crate\nA B C D\n\
+RULES\n[ > Player | Crate ] -> [ > Player | > Crate ]\nWINCONDITIONS\nAll Target on Crate\nLEVELS\n#P*O#\n";
 
 #[test]
 fn tells_how_large_a_game_is(rt: HostRuntime) -> Result<(), Fail> {
@@ -23,8 +23,8 @@ fn tells_how_large_a_game_is(rt: HostRuntime) -> Result<(), Fail> {
 }
 
 /// A game with two rules in a loop and one below it, and with two levels among three messages.
-const LOOPING: &[u8] =
-    b"OBJECTS\nBackground .\ngreen\nPlayer P\nwhite\nA\nred\nB\npink\nLEGEND\nCOLLISIONLAYERS\nBackground\nPlayer, A, B\n\
+const LOOPING: &[u8] = b"OBJECTS\nBackground .\ngreen\nPlayer P\nwhite\nA\nred\nB\npink\nLEGEND\n\
+COLLISIONLAYERS\nBackground\nPlayer, A, B\n\
 RULES\nstartloop\n[ A ] -> [ B ]\n+ [ B ] -> [ A ]\nendloop\nright [ moving A ] -> [ A ]\nWINCONDITIONS\n\
 LEVELS\nmessage One\n\nPA\n\nmessage Two\nmessage Three\n\nPB\n";
 
