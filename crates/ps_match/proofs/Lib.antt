@@ -1,1 +1,3 @@
 pub mod Cells
+pub mod ColumnLaws
+pub mod ColumnWords

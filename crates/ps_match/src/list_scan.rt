@@ -1,5 +1,6 @@
 //! A list board, matched and rewritten slot by slot.
 
+use crate::columns::Columns;
 use crate::fitting::fits_cell;
 use crate::scan::Scan;
 use crate::writing::write_cell;
@@ -13,6 +14,16 @@ impl Scan for ListBoard {
             return false;
         }
         fits_cell(self, mask, cell)
+    }
+
+    fn scan(&self, mask: &CellMask, row: u32) -> Columns {
+        let (width, height) = self.size();
+        let mut fitting = Columns::none();
+        for column in 0..width {
+            let fits = self.fits(mask, column * height + row);
+            fitting = fitting.with(column, fits);
+        }
+        fitting
     }
 
     fn write(&mut self, write: &CellWrite, cell: u32, changed: bool) -> bool {
