@@ -1,5 +1,5 @@
 -- Sets of columns by what holds of each column.
-use Rattle.std.proofs.Common.{◌≡◌, ◌∙◌, ℕ, ◌+◌, ◌<◌, ◌≤◌, ◌&&◌, ◌||◌, suc, zero, Bool, true, false, cond, Option, Some, None, List, [], ◌∷◌, length, map, get_or, refl, sym, ap, ap₂, arith}
+use Rattle.std.proofs.Common.{◌≡◌, ◌∙◌, ℕ, ◌+◌, ◌<◌, ◌≤◌, suc, zero, Bool, true, false, cond, Option, Some, None, List, [], ◌∷◌, length, map, get_or, refl, sym, ap, ap₂, arith}
 use Rattle.std.specs.Prelude.{nat_eq, nat_lt, if◌then◌else◌, filter}
 use Rattle.std.specs.List.{range_with_len}
 use Rattle.std.proofs.lemmas.Bool.Decides.{nat_tests}
@@ -11,7 +11,7 @@ use Rattle.ps_match.specs.ColumnSets.{columns_where, column_at, set_columns, wit
 -- a column below the last one, and one beyond
 pub column_at-where : (holds : ℕ → Bool) (x : ℕ) → x < SIDE_LIMIT → column_at (columns_where holds) x ≡ holds x
 unfolding columns_where
-column_at-where holds x low = get_or-map-range_with_len holds 0 SIDE_LIMIT x x false low refl
+column_at-where holds x low = get_or-map-range_with_len holds 0 SIDE_LIMIT x x false low (omega arith)
 
 pub column_at-beyond : (holds : ℕ → Bool) (x : ℕ) → SIDE_LIMIT ≤ x → column_at (columns_where holds) x ≡ false
 unfolding columns_where
@@ -75,3 +75,39 @@ set_columns-first f h k low here gone before more after =
     set_columns-where f
     ∙ first_by f h 0 SIDE_LIMIT k (nat_eq 0 k) refl (omega arith) (omega arith) here gone before after (λ x near far. more x (omega arith) near)
     ∙ ap (λ (xs : List ℕ). k ∷ xs) (sym (set_columns-where h))
+
+-- a set without a column
+in_none_by : (f : ℕ → Bool) (a n x : ℕ) (here same : Bool) → f a ≡ here → nat_eq a x ≡ same → a ≤ x → x < a + n → filter f (range_with_len a n) ≡ [] → f x ≡ false
+in_none_by f a zero x here same e t low high none = absurd (omega arith)
+in_none_by f a (suc n) x true same e t low high none =
+    let some : a ∷ filter f (range_with_len (a + 1) n) ≡ [] = ap (λ (b : Bool). cond b (a ∷ filter f (range_with_len (a + 1) n)) (filter f (range_with_len (a + 1) n))) (sym e) ∙ none in absurd (cc)
+in_none_by f a (suc n) x false true e t low high none = let is : a ≡ x = grind (arith, nat_tests) in ap f (sym is) ∙ e
+in_none_by f a (suc n) x false false e t low high none =
+    let other : a < x = grind (arith, nat_tests) in
+    in_none_by f (a + 1) n x (f (a + 1)) (nat_eq (a + 1) x) refl refl (omega arith) (omega arith)
+    (ap (λ (b : Bool). cond b (a ∷ filter f (range_with_len (a + 1) n)) (filter f (range_with_len (a + 1) n))) (sym e) ∙ none)
+
+pub none_in : (columns : List Bool) (x : ℕ) → set_columns columns ≡ [] → x < SIDE_LIMIT → column_at columns x ≡ false
+unfolding set_columns
+none_in columns x none low = in_none_by (column_at columns) 0 SIDE_LIMIT x (column_at columns 0) (nat_eq 0 x) refl refl (omega arith) (omega (arith, low)) none
+
+-- the first column of a set
+first_in_by : (f : ℕ → Bool) (a n k : ℕ) (ks : List ℕ) (here : Bool) → f a ≡ here → filter f (range_with_len a n) ≡ k ∷ ks → (f k ≡ true) × (k < a + n)
+first_in_by f a zero k ks here e is = absurd (cc)
+first_in_by f a (suc n) k ks true e is =
+    let same : a ∷ filter f (range_with_len (a + 1) n) ≡ k ∷ ks = ap (λ (b : Bool). cond b (a ∷ filter f (range_with_len (a + 1) n)) (filter f (range_with_len (a + 1) n))) (sym e) ∙ is in
+    let first : a ≡ k = cc in
+    (ap f (sym first) ∙ e, omega arith)
+first_in_by f a (suc n) k ks false e is =
+    let more = first_in_by f (a + 1) n k ks (f (a + 1)) refl (ap (λ (b : Bool). cond b (a ∷ filter f (range_with_len (a + 1) n)) (filter f (range_with_len (a + 1) n))) (sym e) ∙ is) in
+    let low : k < a + 1 + n = more.1 in
+    (more.0, omega arith)
+
+pub first_in : (columns : List Bool) (k : ℕ) (ks : List ℕ) → set_columns columns ≡ k ∷ ks → (column_at columns k ≡ true) × (k < SIDE_LIMIT)
+unfolding set_columns
+first_in columns k ks is = let first = first_in_by (column_at columns) 0 SIDE_LIMIT k ks (column_at columns 0) refl is in (first.0, first.1)
+
+-- the numbers of columns of which something holds
+pub set_columns-are : (columns : List Bool) (f : ℕ → Bool) → ((x : ℕ) → x < SIDE_LIMIT → column_at columns x ≡ f x) → set_columns columns ≡ filter f (range_with_len 0 SIDE_LIMIT)
+unfolding set_columns
+set_columns-are columns f e = kept_on (column_at columns) f 0 SIDE_LIMIT (λ x low high. e x (omega arith))

@@ -1,6 +1,6 @@
 //! Sets of columns of one row of a board.
 
-ghost use Rattle.std.specs.Prelude.{◌≡◌, ◌<◌, [], ◌∷◌, None, Some, IfSome, length};
+ghost use Rattle.std.specs.Prelude.{◌≡◌, ◌<◌, [], ◌∷◌, None, IfSome, false, length, true};
 ghost use Rattle.ps_model.specs.declared.limits.TheConstants.{SIDE_LIMIT};
 ghost use Rattle.ps_match.specs.ColumnSets.{both_columns, column_at, columns_behind, columns_below, either_columns};
 ghost use Rattle.ps_match.specs.ColumnSets.{no_columns, set_columns, with_column, word_columns};
@@ -17,7 +17,8 @@ pub struct Columns {
 
 impl Model for Columns {
     ghost use Rattle.std.specs.Prelude.{Bool, List};
-    ghost use Rattle.std.specs.Prelude.{ℕ, ◌<◌, ◌^◌, ap};
+    ghost use Rattle.std.specs.Prelude.{ℕ, ◌<◌, ◌^◌};
+    ghost use Rattle.std.proofs.Common.{ap};
     ghost use Rattle.ps_match.specs.ColumnSets.{columns_word, word_columns};
     ghost use Rattle.ps_match.specs.WordsOfColumns.{columns_word-of};
 
@@ -66,10 +67,11 @@ impl Columns {
     pub fn has(&self, column: u32) -> bool
         ensures { result ≡ column_at self.now column }
     {
+        let bits = self.bits;
         if SIDE_LIMIT <= column {
             return false;
         }
-        (self.bits >> column) & 1 == 1
+        (bits >> column) & 1 == 1
     }
 
     /// Whether no column is in the set.
@@ -119,11 +121,12 @@ impl Columns {
     pub fn behind(self, count: u32) -> Columns
         ensures { result ≡ columns_behind self count }
     {
+        let bits = self.bits;
         if SIDE_LIMIT <= count {
             return Columns { bits: 0 };
         }
         Columns {
-            bits: self.bits >> count,
+            bits: bits >> count,
         }
     }
 

@@ -8,6 +8,7 @@ mod columns;
 mod fitting;
 mod list_scan;
 mod scan;
+mod scanning;
 mod slots;
 mod writing;
 

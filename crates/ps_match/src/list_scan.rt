@@ -3,6 +3,7 @@
 use crate::columns::Columns;
 use crate::fitting::fits_cell;
 use crate::scan::Scan;
+use crate::scanning::scan_row;
 use crate::writing::write_cell;
 use ps_board::{Board, ListBoard};
 use ps_program::{CellMask, CellWrite};
@@ -17,13 +18,7 @@ impl Scan for ListBoard {
     }
 
     fn scan(&self, mask: &CellMask, row: u32) -> Columns {
-        let (width, height) = self.size();
-        let mut fitting = Columns::none();
-        for column in 0..width {
-            let fits = self.fits(mask, column * height + row);
-            fitting = fitting.with(column, fits);
-        }
-        fitting
+        scan_row(self, mask, row)
     }
 
     fn write(&mut self, write: &CellWrite, cell: u32, changed: bool) -> bool {
