@@ -1,12 +1,12 @@
 -- Sets of columns by what holds of each column.
-use Rattle.std.proofs.Common.{◌≡◌, ◌∙◌, ℕ, ◌+◌, ◌<◌, ◌≤◌, suc, zero, Bool, true, false, cond, Option, Some, None, List, [], ◌∷◌, length, map, get_or, refl, sym, ap, ap₂, arith}
-use Rattle.std.specs.Prelude.{nat_eq, nat_lt, if◌then◌else◌, filter}
+use Rattle.std.proofs.Common.{◌≡◌, ◌∙◌, ℕ, ◌+◌, ◌<◌, ◌≤◌, suc, zero, Bool, true, false, cond, List, [], ◌∷◌, map, refl, sym, ap, ap₂, arith}
+use Rattle.std.specs.Prelude.{nat_eq, nat_lt, filter}
 use Rattle.std.specs.List.{range_with_len}
 use Rattle.std.proofs.lemmas.Bool.Decides.{nat_tests}
-use Rattle.std.proofs.lemmas.List.{get_or-past}
+use Rattle.std.proofs.lemmas.List.{get_or_past}
 use Rattle.std.proofs.lemmas.List.FromFn.{length-map-range_with_len, get_or-map-range_with_len}
 use Rattle.ps_model.specs.declared.limits.TheConstants.{SIDE_LIMIT}
-use Rattle.ps_match.specs.ColumnSets.{columns_where, column_at, set_columns, with_column, both_columns, columns_behind, no_columns}
+use Rattle.ps_match.specs.ColumnSets.{columns_where, column_at, set_columns, no_columns}
 
 -- a column below the last one, and one beyond
 pub column_at-where : (holds : ℕ → Bool) (x : ℕ) → x < SIDE_LIMIT → column_at (columns_where holds) x ≡ holds x
@@ -15,7 +15,7 @@ column_at-where holds x low = get_or-map-range_with_len holds 0 SIDE_LIMIT x x f
 
 pub column_at-beyond : (holds : ℕ → Bool) (x : ℕ) → SIDE_LIMIT ≤ x → column_at (columns_where holds) x ≡ false
 unfolding columns_where
-column_at-beyond holds x high = get_or-past (map holds (range_with_len 0 SIDE_LIMIT)) x false (rw (length-map-range_with_len holds 0 SIDE_LIMIT) high)
+column_at-beyond holds x high = get_or_past (map holds (range_with_len 0 SIDE_LIMIT)) x false (rw (length-map-range_with_len holds 0 SIDE_LIMIT) high)
 
 by_side : (holds : ℕ → Bool) (x : ℕ) (low : Bool) → nat_lt x SIDE_LIMIT ≡ low → (SIDE_LIMIT ≤ x → holds x ≡ false) → column_at (columns_where holds) x ≡ holds x
 by_side holds x true t none = column_at-where holds x (grind (arith, nat_tests))

@@ -1,5 +1,5 @@
 -- Sets of columns as the bits of words.
-use Rattle.std.proofs.Common.{◌≡◌, ◌≢◌, ◌∙◌, ℕ, ◌+◌, ◌-◌, ◌*◌, ◌/◌, ◌%◌, ◌^◌, ◌<◌, ◌≤◌, ◌&&◌, ◌||◌, suc, zero, Bool, true, false, List, [], ◌∷◌, length, min, max, refl, sym, ap, ap₂, arith, bit_or, w64}
+use Rattle.std.proofs.Common.{◌≡◌, ◌≢◌, ◌∙◌, ℕ, ◌+◌, ◌-◌, ◌*◌, ◌/◌, ◌%◌, ◌^◌, ◌<◌, ◌≤◌, ◌&&◌, ◌||◌, suc, zero, Bool, true, false, [], ◌∷◌, length, min, max, refl, sym, ap, ap₂, arith, bit_or, w64}
 use Rattle.std.specs.Prelude.{nat_eq, nat_lt, if◌then◌else◌, bit_and}
 use Rattle.std.specs.Int.{bit_at, bit_not, trailing_zeros}
 use Rattle.std.proofs.lemmas.Bool.Decides.{nat_tests}
@@ -7,7 +7,7 @@ use Rattle.std.proofs.lemmas.Nat.{or_lt, pow-add}
 use Rattle.std.proofs.lemmas.Nat.Bits.{bit_at-zero, bit_at-lt, bit_at_and, bit_at_or, bit_at_above, bit_at_ones, bit_at_ones_above, ones_shr, bit_at_set_same, bit_at_set_other, bit_at_clear_same, bit_at_clear_other, bit_at-trailing_zeros, shr_and_one}
 use Rattle.std.proofs.Math.Nat.{div-div-eq-div-mul, mod-lt}
 use Rattle.ps_model.specs.declared.limits.TheConstants.{SIDE_LIMIT}
-use Rattle.ps_match.specs.ColumnSets.{columns_where, column_at, set_columns, bit_is_set, word_columns, with_column, both_columns, either_columns, columns_behind, columns_below, no_columns}
+use Rattle.ps_match.specs.ColumnSets.{column_at, set_columns, bit_is_set, word_columns, with_column, both_columns, either_columns, columns_behind, columns_below, no_columns}
 use Rattle.ps_match.proofs.ColumnLaws.{column_at-where, column_at-beyond, column_at-all, columns-agree, set_columns-first, set_columns-none}
 
 -- the bits of two words, taken together
@@ -136,9 +136,9 @@ pub first_taken : (word : ℕ) → 0 < word → word < 2 ^ 64 →
 first_taken word some within =
     let first : ℕ = trailing_zeros w64 word in
     let says = bit_at-trailing_zeros w64 word some within in
-    let least : (x : ℕ) → x < first → bit_at word x ≡ 0 = says.1.1 in
+    let least : (x : ℕ) → x < first → bit_at word x ≡ 0 = says.2 in
     set_columns-first (bit_is_set word) (bit_is_set (without_bit word first)) first says.0
-    (ap (λ (bit : ℕ). nat_eq bit 1) says.1.0)
+    (ap (λ (bit : ℕ). nat_eq bit 1) says.1)
     (ap (λ (bit : ℕ). nat_eq bit 1) (bit_at_clear_same w64 word first says.0))
     (λ x before. ap (λ (bit : ℕ). nat_eq bit 1) (least x before))
     (λ x low after. sym (ap (λ (bit : ℕ). nat_eq bit 1) (bit_at_clear_other w64 word first says.0 x low (λ e. omega arith))))

@@ -1,10 +1,10 @@
-use Rattle.std.proofs.Common.{◌≡◌, ◌∙◌, ◌<◌, ◌+◌, ◌*◌, ℕ, sym, ap, refl}
+use Rattle.std.proofs.Common.{◌∙◌, ◌<◌, ◌+◌, ◌*◌, ℕ, ap}
 use Rattle.std.specs.Prelude.{slice_get}
 use Rattle.ps_model.specs.board.Grid.{Grid}
 use Rattle.ps_model.specs.board.Places.{fits_there}
 use Rattle.ps_program.specs.ProgramShown.{mask_shown}
 use Rattle.ps_match.specs.InRoom.{meaning_of_mask}
-use Rattle.ps_match.proofs.Scanned.{scanned, scanned-none, scanned-more, row-scanned, cell_below, fits_at}
+use Rattle.ps_match.proofs.Scanned.{scanned-none, scanned-more, row-scanned, cell_below, fits_at}
 use Rattle.ps_match.proofs.scanning.scan_row.Goals as goal
 
 pub loop-column-init : goal.loop-column-init

@@ -1,4 +1,4 @@
-use Rattle.std.proofs.Common.{ℕ, List, Bool, ◌∙◌, ap}
+use Rattle.std.proofs.Common.{List, Bool, ◌∙◌, ap}
 use Rattle.ps_match.specs.ColumnSets.{columns_behind}
 use Rattle.ps_match.proofs.ColumnWords.{moved_word, moved_out}
 use Rattle.ps_match.proofs.columns.Columns.behind.Goals as goal

@@ -1,5 +1,4 @@
-use Rattle.std.proofs.Common.{◌<◌, arith}
-use Rattle.ps_match.specs.ColumnSets.{columns_below}
+use Rattle.std.proofs.Common.{arith}
 use Rattle.ps_match.proofs.ColumnWords.{below_all, below_some}
 use Rattle.ps_match.proofs.columns.Columns.below.Goals as goal
 

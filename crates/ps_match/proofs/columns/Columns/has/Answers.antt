@@ -1,4 +1,4 @@
-use Rattle.std.proofs.Common.{List, Bool, ◌∙◌, ◌<◌, ap, arith}
+use Rattle.std.proofs.Common.{List, Bool, ◌∙◌, ap, arith}
 use Rattle.ps_match.specs.ColumnSets.{column_at}
 use Rattle.ps_match.proofs.ColumnWords.{tested_word, tested_beyond}
 use Rattle.ps_match.proofs.columns.Columns.has.Goals as goal

@@ -1,4 +1,4 @@
-use Rattle.std.proofs.Common.{◌∙◌, ◌<◌, ap, sym, arith, List, Bool, length, subst}
+use Rattle.std.proofs.Common.{◌∙◌, ◌<◌, ap, sym, List, Bool, length, subst}
 use Rattle.ps_match.specs.ColumnSets.{set_columns}
 use Rattle.ps_match.proofs.ColumnWords.{none_tested, some_tested}
 use Rattle.ps_match.proofs.columns.Columns.is_empty.Goals as goal

@@ -1,4 +1,4 @@
-use Rattle.std.proofs.Common.{◌∙◌, ◌<◌, ap, sym, arith}
+use Rattle.std.proofs.Common.{◌∙◌, ap, sym, arith}
 use Rattle.ps_match.specs.ColumnSets.{set_columns}
 use Rattle.ps_match.proofs.ColumnWords.{none_set, first_taken}
 use Rattle.ps_match.proofs.columns.Columns.take_first.Goals as goal

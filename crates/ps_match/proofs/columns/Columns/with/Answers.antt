@@ -1,4 +1,4 @@
-use Rattle.std.proofs.Common.{◌∙◌, ◌<◌, ap, sym, arith, List, Bool, true, false}
+use Rattle.std.proofs.Common.{◌∙◌, ap, sym, arith, List, Bool, true, false}
 use Rattle.ps_match.specs.ColumnSets.{with_column}
 use Rattle.ps_match.proofs.ColumnWords.{kept_word, set_word, cleared_word, set_below}
 use Rattle.ps_match.proofs.columns.Columns.with.Goals as goal
