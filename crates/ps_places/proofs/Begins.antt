@@ -1,6 +1,6 @@
 -- Where rows whose cells lie side by side begin, column by column.
-use Rattle.std.proofs.Common.{◌≡◌, ◌∙◌, ℕ, ◌+◌, ◌-◌, ◌*◌, ◌<◌, ◌≤◌, ◌&&◌, suc, zero, Bool, true, false, cond, Option, Some, None, List, [], ◌∷◌, length, drop, map, refl, sym, ap, ap₂, arith}
-use Rattle.std.specs.Prelude.{nat_le, nat_lt, if◌then◌else◌, slice_get, filter}
+use Rattle.std.proofs.Common.{◌≡◌, ◌∙◌, ℕ, ◌+◌, ◌-◌, ◌*◌, ◌<◌, ◌≤◌, ◌&&◌, Bool, true, false, Option, Some, List, [], length, map, refl, sym, ap, ap₂, arith}
+use Rattle.std.specs.Prelude.{nat_le, nat_lt, if◌then◌else◌, slice_get}
 use Rattle.std.specs.List.{range_with_len}
 use Rattle.std.proofs.lemmas.Bool.Decides.{nat_tests}
 use Rattle.ps_model.specs.declared.limits.TheConstants.{SIDE_LIMIT}
@@ -11,12 +11,12 @@ use Rattle.ps_program.specs.declared.cells.CellMask.{CellMask}
 use Rattle.ps_program.specs.declared.cells.CompiledCell.{CompiledCell}
 use Rattle.ps_program.specs.ProgramShown.{mask_shown}
 use Rattle.ps_match.specs.InRoom.{meaning_of_mask}
-use Rattle.ps_match.specs.ColumnSets.{columns_where, column_at, set_columns, no_columns, columns_below, both_columns, columns_behind, row_fits}
+use Rattle.ps_match.specs.ColumnSets.{column_at, set_columns, no_columns, columns_below, both_columns, columns_behind, row_fits}
 use Rattle.ps_match.proofs.ColumnLaws.{column_at-where, column_at-all, none_in}
 use Rattle.ps_match.proofs.Scanned.{no_cell}
 use Rattle.ps_places.specs.declared.shape.Shape.{Shape}
 use Rattle.ps_places.specs.RowCells.{all_cells}
-use Rattle.ps_places.specs.RowMeanings.{cell_meaning, meanings_of}
+use Rattle.ps_places.specs.RowMeanings.{meanings_of}
 use Rattle.ps_places.specs.Starts.{AreWhere, fits_at, has_room, cell_fits, begins_in, begins_across, begins_down}
 use Rattle.ps_places.specs.Stretches.{cell_of, from_end, with_gap}
 use Rattle.std.proofs.Math.Nat.{add-mul}
@@ -159,7 +159,7 @@ left-all g table parts shape row room starts index whole all left =
 pub across-all : (g : Grid) (table : Option (List ℕ)) (parts : List (List CompiledCell)) (shape : Shape) (row : ℕ) (room starts : List Bool) → AreWhere (has_room g.width shape.size) room →
     AreWhere (begins_in g table parts shape row room) starts → AreWhere (begins_across g table parts shape row) starts
 across-all g table parts shape row room starts has are =
-    record { at = λ x low. are.at x low ∙ ap (λ (b : Bool). b && fits_at g table parts shape (x * g.height + row)) (has.at x low); }
+    record { at = λ x low. are.at x low ∙ ap (λ (b : Bool). b && fits_at g table parts shape (x * g.height + row)) (has.at x low) }
 
 pub down-all : (g : Grid) (table : Option (List ℕ)) (parts : List (List CompiledCell)) (shape : Shape) (row : ℕ) (room starts : List Bool) → room ≡ columns_below g.width → shape.size ≤ g.height - row →
     AreWhere (begins_in g table parts shape row room) starts → AreWhere (begins_down g table parts shape row) starts

@@ -3,22 +3,20 @@ use Rattle.std.proofs.Common.{◌≡◌, ◌≢◌, ◌∙◌, ℕ, ◌+◌, ◌
 use Rattle.std.specs.Prelude.{nat_eq, nat_le, nat_lt, filter, slice_index_or, slice_set, sum}
 use Rattle.std.specs.List.{range_with_len, flat_map}
 use Rattle.std.proofs.lemmas.Bool.Decides.{nat_tests}
-use Rattle.std.proofs.lemmas.List.{map-append, get_or-set_same, get_or-set_other}
+use Rattle.std.proofs.lemmas.List.{get_or-set_same, get_or-set_other}
 use Rattle.std.proofs.lemmas.Nat.{div-mul-add, mod-mul-add, div_below, div-add-mod'}
 use Rattle.std.proofs.Math.Nat.{add-mul, mod-lt}
 use Rattle.ps_model.specs.declared.limits.TheConstants.{SIDE_LIMIT}
 use Rattle.ps_model.specs.board.Grid.{Grid, IsGrid}
-use Rattle.ps_model.specs.board.Places.{fits_along}
 use Rattle.ps_program.specs.declared.cells.CompiledCell.{CompiledCell}
 use Rattle.ps_match.specs.ColumnSets.{column_at, set_columns, either_columns}
 use Rattle.ps_match.proofs.ColumnLaws.{column_at-where, set_columns-are, first_in, none_in}
 use Rattle.ps_match.proofs.Scanned.{cell_below}
 use Rattle.ps_places.specs.declared.shape.Shape.{Shape}
-use Rattle.ps_places.specs.declared.shape.Place.{Place}
 use Rattle.ps_places.specs.Found.{has_one}
-use Rattle.ps_places.specs.RowMeanings.{meanings_of, part_sizes, places_at, horizontal_at, row_places_at, vertical_at}
-use Rattle.ps_places.specs.Starts.{AreWhere, AreStarts, fits_at, has_room, begins_across, begins_down, column_places}
-use Rattle.ps_places.specs.Stretches.{stretch_of, cells_of, gap_count, one_if}
+use Rattle.ps_places.specs.RowMeanings.{part_sizes, places_at, horizontal_at, row_places_at, vertical_at}
+use Rattle.ps_places.specs.Starts.{AreWhere, AreStarts, fits_at, begins_across, begins_down, column_places}
+use Rattle.ps_places.specs.Stretches.{stretch_of, gap_count, one_if}
 use Rattle.ps_places.proofs.FirstOne.{one_found}
 
 -- one list of one element for each index that passes a test
@@ -124,7 +122,7 @@ down-places g table parts shape rows any x few size grid across are =
     agree_from (vertical_at g table parts shape) (λ row. cond (column_at (slice_index_or rows row []) x) (stretch_of shape (x * g.height + row) 0 ∷ []) []) (x * g.height) 0 g.height
     (λ row low.
     let same : 0 + row ≡ row = omega arith in
-    let says : AreWhere (begins_down g table parts shape row) (slice_index_or rows row []) = are.rows row low in
+    let says : AreWhere (begins_down g table parts shape row) (slice_index_or rows row []) = are.each row low in
     vertical-one g table parts shape row x few size low across
     ∙ ap (λ (b : Bool). cond b (stretch_of shape (x * g.height + row) 0 ∷ []) []) (sym (says.at x (omega (arith, across, grid.columns))))
     ∙ ap (λ (r : ℕ). cond (column_at (slice_index_or rows r []) x) (stretch_of shape (x * g.height + r) 0 ∷ []) []) (sym same))
@@ -202,7 +200,7 @@ none_more_by g table parts shape count row x starts false t none are empty low w
 pub none_begins-more : (g : Grid) (table : Option (List ℕ)) (parts : List (List CompiledCell)) (shape : Shape) (count : ℕ) (starts : List Bool) → NoneBegins g table parts shape count →
     AreWhere (begins_down g table parts shape count) starts → set_columns starts ≡ [] → NoneBegins g table parts shape (count + 1)
 none_begins-more g table parts shape count starts none are empty =
-    record { at = λ row x low within. none_more_by g table parts shape count row x starts (nat_eq row count) refl none are empty low within; }
+    record { at = λ row x low within. none_more_by g table parts shape count row x starts (nat_eq row count) refl none are empty low within }
 
 none_at_any : {X : Type 0} (f : ℕ → List X) (a n : ℕ) → ((k : ℕ) → a ≤ k → k < a + n → f k ≡ []) → flat_map f (range_with_len a n) ≡ []
 none_at_any f a zero e = refl
@@ -226,7 +224,7 @@ none_down g table parts shape count few size grid none all =
 
 -- the columns of each row of the board, row by row
 pub record AreSoFar (g : Grid) (table : Option (List ℕ)) (parts : List (List CompiledCell)) (shape : Shape) (rows : List (List Bool)) (any : List Bool) (count : ℕ) : Type 0 where
-  pub rows : (row : ℕ) → row < count → AreWhere (begins_down g table parts shape row) (slice_index_or rows row [])
+  pub each : (row : ℕ) → row < count → AreWhere (begins_down g table parts shape row) (slice_index_or rows row [])
   pub none : (row x : ℕ) → row < count → x < SIDE_LIMIT → column_at any x ≡ false → column_at (slice_index_or rows row []) x ≡ false
 
 rows_by : (g : Grid) (table : Option (List ℕ)) (parts : List (List CompiledCell)) (shape : Shape) (rows : List (List Bool)) (any starts : List Bool) (count row : ℕ) (same : Bool) → nat_eq row count ≡ same →
@@ -236,7 +234,7 @@ rows_by g table parts shape rows any starts count row true t long far are low =
     let is : row ≡ count = grind (arith, nat_tests) in rw (is, get_or-set_same rows count starts [] long) are
 rows_by g table parts shape rows any starts count row false t long far are low =
     let other : row ≢ count = grind (arith, nat_tests) in
-    rw (get_or-set_other rows count row starts [] other) (far.rows row (grind (arith, nat_tests)))
+    rw (get_or-set_other rows count row starts [] other) (far.each row (grind (arith, nat_tests)))
 
 neither : (a b : Bool) → (a || b) ≡ false → (a ≡ false) × (b ≡ false)
 neither true b e = absurd (cc)
@@ -259,7 +257,7 @@ pub one_more_row : (g : Grid) (table : Option (List ℕ)) (parts : List (List Co
     AreSoFar g table parts shape more either (count + 1)
 one_more_row g table parts shape rows more any starts either count long far are is e =
     rw (is, e) (record {
-      rows = λ row low. rows_by g table parts shape rows any starts count row (nat_eq row count) refl long far are low;
+      each = λ row low. rows_by g table parts shape rows any starts count row (nat_eq row count) refl long far are low;
       none = λ row x low within none. none_by_row g table parts shape rows any starts count row x (nat_eq row count) refl long far low within none;
     })
 
@@ -267,12 +265,12 @@ pub all_rows : (g : Grid) (table : Option (List ℕ)) (parts : List (List Compil
     AreSoFar g table parts shape rows any count → AreStarts g table parts shape rows any
 all_rows g table parts shape rows any count all far =
     record {
-      rows = λ row low. far.rows row (omega (arith, low, all));
+      each = λ row low. far.each row (omega (arith, low, all));
       none = λ row x low within none. far.none row x (omega (arith, low, all)) within none;
     }
 
 pub no_rows : (g : Grid) (table : Option (List ℕ)) (parts : List (List CompiledCell)) (shape : Shape) (rows : List (List Bool)) (any : List Bool) → AreSoFar g table parts shape rows any 0
-no_rows g table parts shape rows any = record { rows = λ row low. absurd (omega (arith, low)); none = λ row x low within none. absurd (omega (arith, low)); }
+no_rows g table parts shape rows any = record { each = λ row low. absurd (omega (arith, low)); none = λ row x low within none. absurd (omega (arith, low)) }
 
 pub no_row_begins : (g : Grid) (table : Option (List ℕ)) (parts : List (List CompiledCell)) (shape : Shape) → NoneBegins g table parts shape 0
-no_row_begins g table parts shape = record { at = λ row x low within. absurd (omega (arith, low)); }
+no_row_begins g table parts shape = record { at = λ row x low within. absurd (omega (arith, low)) }

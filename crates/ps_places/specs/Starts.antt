@@ -42,7 +42,7 @@ begins_down g table parts shape row x = (nat_lt x g.width && nat_le shape.size (
 
 -- the columns of each row of the board where parts begin that go up or down; where they begin on any row
 pub record AreStarts (g : Grid) (table : Option (List ℕ)) (parts : List (List CompiledCell)) (shape : Shape) (rows : List (List Bool)) (any : List Bool) : Type 0 where
-  pub rows : (row : ℕ) → row < g.height → AreWhere (begins_down g table parts shape row) (slice_index_or rows row [])
+  pub each : (row : ℕ) → row < g.height → AreWhere (begins_down g table parts shape row) (slice_index_or rows row [])
   pub none : (row x : ℕ) → row < g.height → x < SIDE_LIMIT → column_at any x ≡ false → column_at (slice_index_or rows row []) x ≡ false
 
 -- the places whose ends lie in a column of the board, by the columns of each row

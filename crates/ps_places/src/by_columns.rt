@@ -21,12 +21,7 @@ use ps_text::List;
 
 /// Adds the places whose ends are the columns of a set on a row of the board, from the left. `Memory` if there is no
 /// room for one.
-fn push_row(
-    found: &mut Vec<Place>,
-    starts: Columns,
-    height: u32,
-    row: u32,
-) -> Result<(), Memory>
+fn push_row(found: &mut Vec<Place>, starts: Columns, height: u32, row: u32) -> Result<(), Memory>
     requires height { height ≤ SIDE_LIMIT }
     requires row { row < height }
     ensures { OnOk result ((shape : AnyShape) → map (cells_of shape) found.new.items

@@ -29,8 +29,16 @@ fn board_of(alloc: Global, letters: &[u8]) -> Result<ListBoard, Memory> {
 
 /// A board of so many columns and rows with the same letter in each cell.
 fn full_board(alloc: Global, columns: u32, rows: u32, letter: u8) -> Result<ListBoard, Memory> {
-    let width = if 0 < columns && columns <= SIDE_LIMIT { columns } else { 1 };
-    let height = if 0 < rows && rows <= SIDE_LIMIT { rows } else { 1 };
+    let width = if 0 < columns && columns <= SIDE_LIMIT {
+        columns
+    } else {
+        1
+    };
+    let height = if 0 < rows && rows <= SIDE_LIMIT {
+        rows
+    } else {
+        1
+    };
     let mut board = ListBoard::try_empty(alloc, width, height, 1, &[])?;
     for cell in 0..SIDE_LIMIT * SIDE_LIMIT {
         let (columns, rows) = board.size();

@@ -1,4 +1,4 @@
-use Rattle.std.proofs.Common.{◌≡◌, ◌∙◌, ◌<◌, ◌≤◌, ℕ, length, refl, sym, ap, arith}
+use Rattle.std.proofs.Common.{◌∙◌, ◌<◌, ℕ, length, refl, arith}
 use Rattle.std.proofs.lemmas.List.{length-set}
 use Rattle.ps_places.proofs.ByColumns.{no_rows, one_more_row, all_rows}
 use Rattle.ps_places.proofs.by_columns.find_starts.Goals as goal
@@ -16,7 +16,7 @@ loop-row-preserved g c =
     let low : row < length c.loop-row.rows = rw c.loop-row.invariant.long (omega (arith, c.loop-row-test.true, c.size-width.ensures.height, c.size-width.ensures.shape.rows)) in
     record {
       far = one_more_row (g.B.Board.grid c.args.board.now) (g.B.Board.table c.args.board.now) c.args.parts.now c.args.shape c.loop-row.rows _ c.loop-row.any c.starts_down-starts.result c.either-any.result row
-      low c.loop-row.invariant.far c.starts_down-starts.ensures refl c.either-any.ensures;
+          low c.loop-row.invariant.far c.starts_down-starts.ensures refl c.either-any.ensures;
       long = length-set c.loop-row.rows row c.starts_down-starts.result ∙ c.loop-row.invariant.long;
     }
 

@@ -8,8 +8,8 @@ use Rattle.ps_places.proofs.by_columns.push_row.Given as goal
 abbrev pub invariant-loop-column : goal.invariant-loop-column
 invariant-loop-column l =
     (shape : Shape) →
-        map (cells_of shape) l.found.items ++ map (λ x. stretch_of shape (x * l.height + l.row) 0) (set_columns l.left)
-        ≡ map (cells_of shape) l.fn.found.items ++ map (λ x. stretch_of shape (x * l.height + l.row) 0) (set_columns l.starts)
+    map (cells_of shape) l.found.items ++ map (λ x. stretch_of shape (x * l.height + l.row) 0) (set_columns l.left)
+    ≡ map (cells_of shape) l.fn.found.items ++ map (λ x. stretch_of shape (x * l.height + l.row) 0) (set_columns l.fn.starts)
 
 abbrev pub decreases-loop-column : goal.decreases-loop-column
 decreases-loop-column l = length (set_columns l.left)

@@ -1,4 +1,4 @@
-use Rattle.std.proofs.Common.{◌≡◌, ◌∙◌, ◌<◌, ◌+◌, ◌*◌, ℕ, List, Bool, length, map, sym, ap}
+use Rattle.std.proofs.Common.{◌∙◌, ◌<◌, ◌+◌, ◌*◌, ℕ, List, Bool, length, map, sym, ap}
 use Rattle.ps_match.specs.ColumnSets.{set_columns}
 use Rattle.ps_places.specs.Stretches.{cells_of, stretch_of}
 use Rattle.ps_places.specs.RowMeanings.{part_sizes, row_places_at}

@@ -8,5 +8,5 @@ use Rattle.ps_places.proofs.by_columns.search_down.Given as goal
 abbrev pub invariant-loop-column : goal.invariant-loop-column
 invariant-loop-column g l =
     let grid = g.B.Board.grid l.board in
-    map (cells_of l.shape) l.found.items
-    ≡ map (cells_of l.shape) l.fn.found.items ++ flat_map (vertical_at grid (g.B.Board.table l.board) l.parts l.shape) (range_with_len 0 (l.column * grid.height))
+    map (cells_of l.fn.shape) l.found.items
+    ≡ map (cells_of l.fn.shape) l.fn.found.items ++ flat_map (vertical_at grid (g.B.Board.table l.board) l.parts l.fn.shape) (range_with_len 0 (l.column * grid.height))

@@ -32,11 +32,11 @@ returns-in-Right g c =
 pub search_down-requires-clause-step : goal.search_down-requires-clause-step
 search_down-requires-clause-step g c = c.requires.is.step ∙ ap (step_in (g.B.Board.grid c.args.board.now)) c.in-Up.is
 
-pub search_down-in-Down-requires-clause-step : goal.search_down-in-Down-requires-clause-step
-search_down-in-Down-requires-clause-step g c = c.requires.is.step ∙ ap (step_in (g.B.Board.grid c.args.board.now)) c.in-Down.is
+pub search_down-requires-in-Down-clause-step : goal.search_down-requires-in-Down-clause-step
+search_down-requires-in-Down-clause-step g c = c.requires.is.step ∙ ap (step_in (g.B.Board.grid c.args.board.now)) c.in-Down.is
 
 pub search_across-requires-clause-step : goal.search_across-requires-clause-step
 search_across-requires-clause-step g c = c.requires.is.step ∙ ap (step_in (g.B.Board.grid c.args.board.now)) c.in-Left.is
 
-pub search_across-in-Right-requires-clause-step : goal.search_across-in-Right-requires-clause-step
-search_across-in-Right-requires-clause-step g c = c.requires.is.step ∙ ap (step_in (g.B.Board.grid c.args.board.now)) c.in-Right.is
+pub search_across-requires-in-Right-clause-step : goal.search_across-requires-in-Right-clause-step
+search_across-requires-in-Right-clause-step g c = c.requires.is.step ∙ ap (step_in (g.B.Board.grid c.args.board.now)) c.in-Right.is

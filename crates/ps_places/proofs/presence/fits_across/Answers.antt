@@ -1,4 +1,4 @@
-use Rattle.std.proofs.Common.{◌≡◌, ◌∙◌, ℕ, ◌<◌, ◌+◌, ◌*◌, Bool, true, false, List, length, map, refl, sym, ap, rules}
+use Rattle.std.proofs.Common.{◌≡◌, ◌∙◌, ℕ, ◌<◌, ◌+◌, ◌*◌, Bool, true, false, List, length, refl, sym, ap, rules}
 use Rattle.ps_match.specs.ColumnSets.{set_columns}
 use Rattle.ps_places.specs.Found.{has_one}
 use Rattle.ps_places.specs.RowMeanings.{part_sizes, row_places_at}

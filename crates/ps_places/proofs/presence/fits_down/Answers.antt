@@ -1,4 +1,4 @@
-use Rattle.std.proofs.Common.{◌≡◌, ◌∙◌, ℕ, ◌<◌, Bool, true, false, List, length, refl, sym, ap, rules}
+use Rattle.std.proofs.Common.{◌≡◌, ◌<◌, true, false, length, sym, rules}
 use Rattle.ps_places.specs.RowMeanings.{part_sizes}
 use Rattle.ps_places.proofs.ByColumns.{found_down, none_begins-more, none_down, no_row_begins}
 use Rattle.ps_places.proofs.Closed.{length-all_cells}

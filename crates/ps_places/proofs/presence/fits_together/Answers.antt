@@ -1,4 +1,4 @@
-use Rattle.std.proofs.Common.{◌≡◌, ◌∙◌, ap, arith}
+use Rattle.std.proofs.Common.{◌∙◌, ap, arith}
 use Rattle.ps_places.specs.Found.{has_one}
 use Rattle.ps_places.specs.RowMeanings.{step_in}
 use Rattle.ps_places.proofs.Closed.{places-up, places-down, places-left, places-right}
@@ -27,11 +27,11 @@ returns-in-Right g c =
 pub fits_down-requires-clause-step : goal.fits_down-requires-clause-step
 fits_down-requires-clause-step g c = c.requires.is.step ∙ ap (step_in (g.B.Board.grid c.args.board.now)) c.in-Up.is
 
-pub fits_down-in-Down-requires-clause-step : goal.fits_down-in-Down-requires-clause-step
-fits_down-in-Down-requires-clause-step g c = c.requires.is.step ∙ ap (step_in (g.B.Board.grid c.args.board.now)) c.in-Down.is
+pub fits_down-requires-in-Down-clause-step : goal.fits_down-requires-in-Down-clause-step
+fits_down-requires-in-Down-clause-step g c = c.requires.is.step ∙ ap (step_in (g.B.Board.grid c.args.board.now)) c.in-Down.is
 
 pub fits_across-requires-clause-step : goal.fits_across-requires-clause-step
 fits_across-requires-clause-step g c = c.requires.is.step ∙ ap (step_in (g.B.Board.grid c.args.board.now)) c.in-Left.is
 
-pub fits_across-in-Right-requires-clause-step : goal.fits_across-in-Right-requires-clause-step
-fits_across-in-Right-requires-clause-step g c = c.requires.is.step ∙ ap (step_in (g.B.Board.grid c.args.board.now)) c.in-Right.is
+pub fits_across-requires-in-Right-clause-step : goal.fits_across-requires-in-Right-clause-step
+fits_across-requires-in-Right-clause-step g c = c.requires.is.step ∙ ap (step_in (g.B.Board.grid c.args.board.now)) c.in-Right.is

@@ -1,4 +1,4 @@
-use Rattle.std.proofs.Common.{◌≡◌, ◌∙◌, ap}
+use Rattle.std.proofs.Common.{◌∙◌, ap}
 use Rattle.ps_places.specs.Found.{has_one}
 use Rattle.ps_places.proofs.Closed.{places-up, places-down, places-left, places-right}
 use Rattle.ps_places.proofs.presence.fits_with_gaps.Goals as goal
