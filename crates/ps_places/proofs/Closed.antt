@@ -1,8 +1,7 @@
 -- The places of a row in closed form.
-use Rattle.std.proofs.Common.{◌≡◌, ◌∙◌, ℕ, ◌+◌, ◌-◌, ◌*◌, ◌/◌, ◌%◌, ◌<◌, ◌≤◌, suc, zero, Bool, true, false, Option, List, [], ◌∷◌, ◌++◌, length, map, filter, reverse, refl, sym, ap, ap₂, subst, arith}
-use Rattle.std.specs.Prelude.{nat_le, sum}
+use Rattle.std.proofs.Common.{◌≡◌, ◌∙◌, ℕ, ◌+◌, ◌*◌, ◌<◌, ◌≤◌, Option, List, [], ◌∷◌, ◌++◌, length, map, filter, refl, sym, ap, ap₂, subst, arith}
+use Rattle.std.specs.Prelude.{sum}
 use Rattle.std.specs.List.{range_with_len, flat_map}
-use Rattle.std.proofs.lemmas.Bool.Decides.{nat_tests}
 use Rattle.std.proofs.lemmas.List.{map-append, length-map, length-append}
 use Rattle.std.proofs.lemmas.List.Folds.{flat_map-map}
 use Rattle.std.proofs.lemmas.Grind.{flat_map-append}
@@ -13,7 +12,7 @@ use Rattle.ps_model.specs.board.Grid.{Grid, IsGrid}
 use Rattle.ps_model.specs.board.Places.{places, stretches, fits_along, cells_in, search_order, row_by_row}
 use Rattle.ps_program.specs.declared.cells.CompiledCell.{CompiledCell}
 use Rattle.ps_places.specs.declared.shape.Shape.{Shape}
-use Rattle.ps_places.specs.Stretches.{stretch_of, gap_count, one_if}
+use Rattle.ps_places.specs.Stretches.{gap_count}
 use Rattle.ps_places.specs.RowCells.{all_cells}
 use Rattle.ps_places.specs.RowMeanings.{cell_meaning, parts_meaning, meanings_of, part_sizes, places_at, horizontal_at, vertical_at, row_places_at, IsShapeOf, line_long}
 use Rattle.ps_places.proofs.Lines.{stretches-closed, stretches-past}

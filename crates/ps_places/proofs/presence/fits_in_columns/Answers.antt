@@ -1,4 +1,4 @@
-use Rattle.std.proofs.Common.{◌≡◌, ◌∙◌, ℕ, ◌+◌, ◌-◌, ◌*◌, ◌%◌, ◌<◌, Bool, true, false, List, refl, sym, ap, ap₂, rules}
+use Rattle.std.proofs.Common.{◌≡◌, ◌∙◌, ℕ, ◌-◌, ◌*◌, ◌%◌, ◌<◌, true, false, sym, ap, rules}
 use Rattle.ps_places.specs.Stretches.{gap_count}
 use Rattle.ps_places.specs.RowMeanings.{part_sizes, places_at, vertical_at}
 use Rattle.ps_places.proofs.FirstOne.{none_more, one_found}

@@ -1,4 +1,4 @@
-use Rattle.std.proofs.Common.{ℕ, ◌≡◌, ◌∙◌, ◌-◌, ◌%◌, map, ap}
+use Rattle.std.proofs.Common.{ℕ, ◌∙◌, ◌-◌, ◌%◌, map, ap}
 use Rattle.ps_places.specs.Stretches.{cells_of, gap_count}
 use Rattle.ps_places.specs.RowMeanings.{part_sizes, places_at, vertical_at}
 use Rattle.ps_places.proofs.Gathering.{one_more_list}
