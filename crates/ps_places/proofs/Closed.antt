@@ -37,7 +37,7 @@ as_meant : (g : Grid) (table : Option (List ℕ)) (direction : Direction) (parts
 as_meant g table direction parts =
     ap₂ (λ (cells : List _) (sizes : List ℕ). flat_map (λ end. filter (fits_along g cells) (stretches g direction sizes end)) (search_order g direction)) (cells_in-meant table parts) (sizes-meant table parts)
 
-closed : (g : Grid) (table : Option (List ℕ)) (direction : Direction) (parts : List (List CompiledCell)) (shape : Shape) → length parts ≤ 2 → IsShapeOf g direction (part_sizes parts) shape →
+pub closed : (g : Grid) (table : Option (List ℕ)) (direction : Direction) (parts : List (List CompiledCell)) (shape : Shape) → length parts ≤ 2 → IsShapeOf g direction (part_sizes parts) shape →
     places g direction (parts_meaning table parts) ≡ flat_map (λ end. places_at g table parts shape end (gap_count (part_sizes parts) (line_long g direction end))) (search_order g direction)
 closed g table direction parts shape few is =
     as_meant g table direction parts

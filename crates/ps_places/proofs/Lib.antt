@@ -7,3 +7,4 @@ pub mod Closed
 pub mod FirstOne
 pub mod Begins
 pub mod ByColumns
+pub mod Nowhere

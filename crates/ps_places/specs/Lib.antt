@@ -3,3 +3,4 @@ pub mod RowMeanings
 pub mod Found
 pub mod RowCells
 pub mod Starts
+pub mod Somewhere

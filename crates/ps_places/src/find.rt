@@ -14,6 +14,7 @@ use crate::by_columns::{search_across, search_down};
 use crate::row_places::RowPlaces;
 use crate::search::{search_columns, search_rows};
 use crate::shape::{Place, Shape};
+use crate::somewhere::each_fits;
 use ps_match::Scan;
 use ps_model::{Direction, Memory, SIDE_LIMIT};
 use ps_program::CompiledCell;
@@ -126,6 +127,9 @@ fn search_gaps<B: Scan>(
     ensures { let more = places (B.grid board.now) direction (parts_meaning (B.table board.now) parts.now) in
         OnOk result (map (cells_of shape) found.new.items ≡ map (cells_of shape) found.old.items ++ more) }
 {
+    if !each_fits(board, parts, shape) {
+        return Ok(());
+    }
     match direction {
         Direction::Up => search_columns(board, parts, shape, found),
         Direction::Down => search_columns(board, parts, shape, found),

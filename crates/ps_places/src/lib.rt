@@ -10,6 +10,7 @@ mod row_places;
 mod search;
 mod shape;
 mod shape_cells;
+mod somewhere;
 mod starts;
 
 pub use along::{fits_place, rewrite_place};

@@ -13,6 +13,7 @@ use crate::along::fits_place;
 use crate::find::{first_parts, shape_of};
 use crate::search::gaps;
 use crate::shape::{Place, Shape};
+use crate::somewhere::each_fits;
 use crate::starts::{starts_across, starts_down};
 use ps_match::Scan;
 use ps_model::Direction;
@@ -170,6 +171,9 @@ fn fits_with_gaps<B: Scan>(
     ensures { let all = places (B.grid board.now) direction (parts_meaning (B.table board.now) parts.now) in
         result ≡ has_one all }
 {
+    if !each_fits(board, parts, shape) {
+        return false;
+    }
     match direction {
         Direction::Up => fits_in_columns(board, parts, shape),
         Direction::Down => fits_in_columns(board, parts, shape),

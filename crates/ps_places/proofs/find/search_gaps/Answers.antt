@@ -1,6 +1,8 @@
-use Rattle.std.proofs.Common.{◌≡◌, ◌++◌, List, ℕ, map, subst}
+use Rattle.std.proofs.Common.{◌≡◌, ◌∙◌, ◌++◌, List, ℕ, false, map, sym, ap, subst, rules}
 use Rattle.std.specs.Prelude.{OnOk}
 use Rattle.ps_places.specs.Stretches.{cells_of}
+use Rattle.std.proofs.lemmas.List.{append-nil}
+use Rattle.ps_places.proofs.Nowhere.{places-none}
 use Rattle.ps_places.proofs.Closed.{places-up, places-down, places-left, places-right}
 use Rattle.ps_places.proofs.find.search_gaps.Goals as goal
 
@@ -27,3 +29,10 @@ returns-in-Right g c =
     subst (λ (more : List (List ℕ)). OnOk c.search_rows-in-Right.result (map (cells_of c.args.shape) c.search_rows-in-Right.new.found.items ≡ map (cells_of c.args.shape) c.args.found.now.items ++ more))
     (places-right (g.B.Board.grid c.args.board.now) (g.B.Board.table c.args.board.now) c.args.direction c.args.parts.now c.args.shape c.in-Right.is c.requires.few c.requires.is)
     c.search_rows-in-Right.ensures
+
+pub returns-then-not-each_fits : goal.returns-then-not-each_fits
+returns-then-not-each_fits g c =
+    let none : c.each_fits.result ≡ false = search rules in
+    sym (ap (λ (more : List (List ℕ)). map (cells_of c.args.shape) c.args.found.now.items ++ more)
+    (places-none (g.B.Board.grid c.args.board.now) (g.B.Board.table c.args.board.now) c.args.direction c.args.parts.now c.args.shape c.requires.few c.requires.is (c.each_fits.ensures none))
+    ∙ append-nil (map (cells_of c.args.shape) c.args.found.now.items))

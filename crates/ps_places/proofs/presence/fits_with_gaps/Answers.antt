@@ -1,5 +1,6 @@
-use Rattle.std.proofs.Common.{◌∙◌, ap}
+use Rattle.std.proofs.Common.{◌≡◌, ◌∙◌, false, sym, ap, rules}
 use Rattle.ps_places.specs.Found.{has_one}
+use Rattle.ps_places.proofs.Nowhere.{places-none}
 use Rattle.ps_places.proofs.Closed.{places-up, places-down, places-left, places-right}
 use Rattle.ps_places.proofs.presence.fits_with_gaps.Goals as goal
 
@@ -22,3 +23,8 @@ pub returns-in-Right : goal.returns-in-Right
 returns-in-Right g c =
     c.fits_in_rows-in-Right.ensures
     ∙ ap has_one (places-right (g.B.Board.grid c.args.board.now) (g.B.Board.table c.args.board.now) c.args.direction c.args.parts.now c.args.shape c.in-Right.is c.requires.few c.requires.is)
+
+pub returns-then-not-each_fits : goal.returns-then-not-each_fits
+returns-then-not-each_fits g c =
+    let none : c.each_fits.result ≡ false = search rules in
+    sym (ap has_one (places-none (g.B.Board.grid c.args.board.now) (g.B.Board.table c.args.board.now) c.args.direction c.args.parts.now c.args.shape c.requires.few c.requires.is (c.each_fits.ensures none)))
