@@ -87,7 +87,7 @@ in_row g meaning row x shape =
     column_at-all (λ y. fits_there meaning (slice_get g.cells (y * g.height + row))) x
     (λ far. ap (fits_there meaning) (no_cell g row x shape.cells (omega (arith, far, shape.columns))))
 
-moved_on : (x h row n : ℕ) → (x + n) * h + row ≡ x * h + row + n * h
+pub moved_on : (x h row n : ℕ) → (x + n) * h + row ≡ x * h + row + n * h
 moved_on x h row n = let split : (x + n) * h ≡ x * h + n * h = add-mul x n h in omega (arith, split)
 
 pub cell-across : (g : Grid) (mask : CellMask) (shape : Shape) (row index steps : ℕ) (columns moved : List Bool) → IsGrid g → steps ≡ from_end shape.backwards shape.size index → shape.step ≡ g.height →

@@ -8,3 +8,4 @@ pub mod FirstOne
 pub mod Begins
 pub mod ByColumns
 pub mod Nowhere
+pub mod EndColumns

@@ -1,7 +1,7 @@
 -- Rows that have no place, since one of their cells fits nowhere.
-use Rattle.std.proofs.Common.{◌≡◌, ◌≢◌, ◌∙◌, ℕ, ◌+◌, ◌*◌, ◌/◌, ◌%◌, ◌<◌, ◌≤◌, suc, zero, Bool, true, false, cond, Option, Some, None, List, [], ◌∷◌, ◌++◌, length, map, filter, refl, sym, ap, ap₂, arith}
+use Rattle.std.proofs.Common.{◌≡◌, ◌∙◌, ℕ, ◌+◌, ◌*◌, ◌/◌, ◌%◌, ◌<◌, ◌≤◌, suc, zero, Bool, true, false, cond, Option, Some, List, [], ◌∷◌, length, map, filter, refl, sym, ap, ap₂, arith}
 use Rattle.std.specs.Prelude.{nat_eq, nat_lt, slice_get}
-use Rattle.std.specs.List.{range_with_len, flat_map}
+use Rattle.std.specs.List.{range_with_len}
 use Rattle.std.proofs.lemmas.Bool.Decides.{nat_tests}
 use Rattle.std.proofs.lemmas.Nat.{div_below, div-add-mod'}
 use Rattle.std.proofs.lemmas.Option.{slice_get_past}
@@ -10,7 +10,6 @@ use Rattle.ps_model.specs.declared.limits.TheConstants.{SIDE_LIMIT}
 use Rattle.ps_model.specs.declared.pieces.Direction.{Direction}
 use Rattle.ps_model.specs.board.Grid.{Grid, IsGrid}
 use Rattle.ps_model.specs.board.Places.{fits_along, fits_there, places, search_order}
-use Rattle.ps_model.specs.meaning.RuleMeanings.{CellMeaning}
 use Rattle.ps_program.specs.declared.cells.CellMask.{CellMask}
 use Rattle.ps_program.specs.declared.cells.CompiledCell.{CompiledCell}
 use Rattle.ps_program.specs.ProgramShown.{mask_shown}
@@ -32,7 +31,7 @@ pub record NoneFits (g : Grid) (mask : CellMask) (count : ℕ) : Type 0 where
   pub at : (row x : ℕ) → row < count → x < SIDE_LIMIT → column_at (row_fits g (meaning_of_mask (mask_shown mask)) row) x ≡ false
 
 pub none_fits-init : (g : Grid) (mask : CellMask) → NoneFits g mask 0
-none_fits-init g mask = record { at = λ row x low within. absurd (omega (arith, low)); }
+none_fits-init g mask = record { at = λ row x low within. absurd (omega (arith, low)) }
 
 none_by : (g : Grid) (mask : CellMask) (count row x : ℕ) (columns : List Bool) (same : Bool) → nat_eq row count ≡ same → NoneFits g mask count →
     columns ≡ row_fits g (meaning_of_mask (mask_shown mask)) count → set_columns columns ≡ [] → row < count + 1 → x < SIDE_LIMIT →
@@ -44,7 +43,7 @@ none_by g mask count row x columns false t none is empty low within = none.at ro
 
 pub none_fits-more : (g : Grid) (mask : CellMask) (count : ℕ) (columns : List Bool) → NoneFits g mask count → columns ≡ row_fits g (meaning_of_mask (mask_shown mask)) count → set_columns columns ≡ [] →
     NoneFits g mask (count + 1)
-none_fits-more g mask count columns none is empty = record { at = λ row x low within. none_by g mask count row x columns (nat_eq row count) refl none is empty low within; }
+none_fits-more g mask count columns none is empty = record { at = λ row x low within. none_by g mask count row x columns (nat_eq row count) refl none is empty low within }
 
 nowhere_by : (g : Grid) (mask : CellMask) (count cell : ℕ) (inside : Bool) → nat_lt cell (g.width * g.height) ≡ inside → IsGrid g → NoneFits g mask count → g.height ≤ count →
     fits_there (meaning_of_mask (mask_shown mask)) (slice_get g.cells cell) ≡ false
@@ -62,7 +61,7 @@ nowhere_by g mask count cell false t grid none all =
     ap (fits_there (meaning_of_mask (mask_shown mask))) (slice_get_past g.cells cell (rw grid.cells beyond))
 
 pub nowhere : (g : Grid) (mask : CellMask) (count : ℕ) → IsGrid g → NoneFits g mask count → g.height ≤ count → FitsNowhere g mask
-nowhere g mask count grid none all = record { at = λ cell. nowhere_by g mask count cell (nat_lt cell (g.width * g.height)) refl grid none all; }
+nowhere g mask count grid none all = record { at = λ cell. nowhere_by g mask count cell (nat_lt cell (g.width * g.height)) refl grid none all }
 
 -- a row one of whose cells doesn't fit
 if_rest : (test rest : Bool) → rest ≡ false → (elim test [ true ↦ rest | false ↦ false ]) ≡ false
@@ -96,7 +95,7 @@ fits_not g table parts shape end gap index c e low off =
 
 pub no_place : (g : Grid) (table : Option (List ℕ)) (parts : List (List CompiledCell)) (shape : Shape) (index : ℕ) (c : CompiledCell) → slice_get (all_cells parts) index ≡ Some c → index < shape.size →
     FitsNowhere g c.mask → HasNoPlace g table parts shape
-no_place g table parts shape index c e low nowhere = record { at = λ end gap. fits_not g table parts shape end gap index c e low (nowhere.at (cell_of shape end gap index)); }
+no_place g table parts shape index c e low nowhere = record { at = λ end gap. fits_not g table parts shape end gap index c e low (nowhere.at (cell_of shape end gap index)) }
 
 -- no places with any of so many gaps
 pub none_kept : {X : Type 0} (test : X → Bool) (f : ℕ → X) (a n : ℕ) → ((k : ℕ) → test (f k) ≡ false) → filter test (map f (range_with_len a n)) ≡ []

@@ -4,3 +4,4 @@ pub mod Found
 pub mod RowCells
 pub mod Starts
 pub mod Somewhere
+pub mod Ends

@@ -3,6 +3,7 @@
 
 mod along;
 mod by_columns;
+mod ends;
 mod find;
 mod presence;
 mod row_cells;

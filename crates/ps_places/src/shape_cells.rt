@@ -19,6 +19,18 @@ impl Shape {
         index
     }
 
+    /// The index of the leftmost or topmost cell.
+    pub fn end_index(&self) -> u32
+        requires { 0 < self.now.size }
+        ensures value { from_end self.now.backwards self.now.size result ≡ 0 }
+        ensures within { result < self.now.size }
+    {
+        if self.backwards {
+            return self.size - 1;
+        }
+        0
+    }
+
     /// The steps from the end to a cell.
     fn steps(&self, gap: u32, index: u32) -> u32
         requires index { index < self.now.size }

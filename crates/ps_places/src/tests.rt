@@ -191,3 +191,19 @@ fn downwards_places_come_column_by_column(rt: HostRuntime) -> Result<(), Fail> {
     assert!(&rt; !has_place(&board, Direction::Left, &row(alloc, &[b"AAA"])?));
     Ok(())
 }
+
+#[test]
+fn gaps_lie_downwards_and_leftwards_too(rt: HostRuntime) -> Result<(), Fail> {
+    let alloc = rt.alloc();
+    let sought = row(alloc, &[b"A", b"A"])?;
+    let board = full_board(alloc, 1, 3, b'A')?;
+    let down = find_places(alloc, &board, Direction::Down, &sought)?;
+    check(&rt, &down, &[(0, 0), (0, 1), (1, 0)]);
+    let line = board_of(alloc, b"AO.A")?;
+    let left = find_places(alloc, &line, Direction::Left, &sought)?;
+    check(&rt, &left, &[(0, 2)]);
+    assert!(&rt; has_place(&line, Direction::Left, &sought));
+    assert!(&rt; !has_place(&line, Direction::Left, &row(alloc, &[b"A", b"B"])?));
+    assert!(&rt; !has_place(&line, Direction::Up, &sought));
+    Ok(())
+}

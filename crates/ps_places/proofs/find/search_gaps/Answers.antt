@@ -2,6 +2,7 @@ use Rattle.std.proofs.Common.{◌≡◌, ◌∙◌, ◌++◌, List, ℕ, false, 
 use Rattle.std.specs.Prelude.{OnOk}
 use Rattle.ps_places.specs.Stretches.{cells_of}
 use Rattle.std.proofs.lemmas.List.{append-nil}
+use Rattle.ps_places.specs.RowMeanings.{step_in}
 use Rattle.ps_places.proofs.Nowhere.{places-none}
 use Rattle.ps_places.proofs.Closed.{places-up, places-down, places-left, places-right}
 use Rattle.ps_places.proofs.find.search_gaps.Goals as goal
@@ -36,3 +37,9 @@ returns-then-not-each_fits g c =
     sym (ap (λ (more : List (List ℕ)). map (cells_of c.args.shape) c.args.found.now.items ++ more)
     (places-none (g.B.Board.grid c.args.board.now) (g.B.Board.table c.args.board.now) c.args.direction c.args.parts.now c.args.shape c.requires.few c.requires.is (c.each_fits.ensures none))
     ∙ append-nil (map (cells_of c.args.shape) c.args.found.now.items))
+
+pub search_rows-requires-clause-step : goal.search_rows-requires-clause-step
+search_rows-requires-clause-step g c = c.requires.is.step ∙ ap (step_in (g.B.Board.grid c.args.board.now)) c.in-Left.is
+
+pub search_rows-requires-in-Right-clause-step : goal.search_rows-requires-in-Right-clause-step
+search_rows-requires-in-Right-clause-step g c = c.requires.is.step ∙ ap (step_in (g.B.Board.grid c.args.board.now)) c.in-Right.is

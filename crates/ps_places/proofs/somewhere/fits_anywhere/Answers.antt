@@ -1,4 +1,4 @@
-use Rattle.std.proofs.Common.{◌≡◌, ◌≤◌, true, rules}
+use Rattle.std.proofs.Common.{◌≡◌, true, rules}
 use Rattle.ps_places.proofs.Nowhere.{none_fits-init, none_fits-more, nowhere}
 use Rattle.ps_places.proofs.somewhere.fits_anywhere.Goals as goal
 
