@@ -1,7 +1,6 @@
 -- Words and planes with one bit changed.
-use Rattle.std.proofs.Common.{◌≡◌, ◌≢◌, ℕ, ◌+◌, ◌-◌, ◌*◌, ◌/◌, ◌%◌, ◌^◌, ◌<◌, ◌⊎◌, inl, inr, Bool, true, false, ◌==◌, List, [], ◌∷◌, length, get_or, refl, sym, ap, ◌∙◌, arith, bit_and, bit_or}
-use Rattle.std.specs.Prelude.{slice_set, slice_index}
-use Rattle.std.specs.Int.{bit_at, bit_not, w64}
+use Rattle.std.proofs.Common.{◌≡◌, ◌≢◌, ℕ, ◌+◌, ◌-◌, ◌*◌, ◌/◌, ◌%◌, ◌^◌, ◌<◌, inl, inr, Bool, true, false, ◌==◌, List, length, get_or, refl, sym, ◌∙◌, bit_and, bit_or}
+use Rattle.std.specs.Int.{w64}
 use Rattle.std.proofs.lemmas.Nat.{same_from_place, mod_below}
 use Rattle.std.proofs.lemmas.Nat.Bits.{shr_and_one, bit_at-zero, bit_at_set_same, bit_at_set_other, bit_at_clear_same, bit_at_clear_other}
 use Rattle.std.proofs.Math.Nat.{div-add-mod}
@@ -57,9 +56,9 @@ has_cell-with_other h words cell plane on c p some low under within apart =
     let word : ℕ = with_column (get_or words place 0) (cell / h) on in
     elim (cases_eq (p * h + c % h) place) [
       | inl e ↦
-        let same = same_from_place p (c % h) plane (cell % h) h (mod_below c h some) (mod_below cell h some) e in
-        let columns : c / h ≢ cell / h = λ q. apart (same_cell h c cell same.1 q) same.0 in
-        rw (e, get_or-set_same words place word 0 within) (has_column-with_other (get_or words place 0) (cell / h) on (c / h) low under columns)
+          let same = same_from_place p (c % h) plane (cell % h) h (mod_below c h some) (mod_below cell h some) e in
+          let columns : c / h ≢ cell / h = λ q. apart (same_cell h c cell same.1 q) same.0 in
+          rw (e, get_or-set_same words place word 0 within) (has_column-with_other (get_or words place 0) (cell / h) on (c / h) low under columns)
       | inr n ↦ rw (get_or-set_other words place (p * h + c % h) word 0 n) refl
     ]
 

@@ -1,5 +1,5 @@
 -- Lists of numbers, as what is looked for in them.
-use Rattle.std.proofs.Common.{◌≡◌, ℕ, zero, suc, ◌+◌, ◌<◌, ◌≤◌, ◌⊎◌, inl, inr, Bool, true, false, cond, ◌||◌, Option, Some, None, List, [], ◌∷◌, refl, sym, ap, ◌∙◌, arith, filter}
+use Rattle.std.proofs.Common.{◌≡◌, ℕ, zero, suc, ◌+◌, ◌<◌, ◌≤◌, inl, inr, Bool, true, Option, Some, None, List, [], ◌∷◌, refl, sym, ap, ◌∙◌, arith, filter}
 use Rattle.std.specs.Prelude.{nat_eq, find}
 use Rattle.std.specs.List.{list_any, range_with_len}
 use Rattle.std.proofs.lemmas.Bool.{cases_eq, cases_Bool, eqb-true, eq-eqb, ne_eqb, or_left, or_right, or_cases, false≢true}
@@ -25,11 +25,11 @@ pub listed_passes : (p : ℕ → Bool) (xs : List ℕ) (o : ℕ) → list_any (n
 listed_passes p [] o h = absurd (false≢true h)
 listed_passes p (x ∷ xs) o h = elim (cases_Bool (p x)) [
   | inl pass ↦
-    let listed = rw pass at h in
-    elim (or_cases (nat_eq o x) (list_any (nat_eq o) (filter p xs)) listed) [
-      | inl same ↦ rw (eqb-true o x same) pass
-      | inr later ↦ listed_passes p xs o later
-    ]
+      let listed = rw pass at h in
+      elim (or_cases (nat_eq o x) (list_any (nat_eq o) (filter p xs)) listed) [
+        | inl same ↦ rw (eqb-true o x same) pass
+        | inr later ↦ listed_passes p xs o later
+      ]
   | inr fail ↦ let later = rw fail at h in listed_passes p xs o later
 ]
 
@@ -38,16 +38,16 @@ pub listed_range : (p : ℕ → Bool) (a n o : ℕ) → a ≤ o → o < a + n �
 listed_range p a zero o low high pass = absurd (omega arith)
 listed_range p a (suc n) o low high pass = elim (cases_eq o a) [
   | inl e ↦
-    let here : p a ≡ true = ap p (sym e) ∙ pass in
-    rw here (or_left (nat_eq o a) (list_any (nat_eq o) (filter p (range_with_len (a + 1) n))) (eq-eqb o a e))
+      let here : p a ≡ true = ap p (sym e) ∙ pass in
+      rw here (or_left (nat_eq o a) (list_any (nat_eq o) (filter p (range_with_len (a + 1) n))) (eq-eqb o a e))
   | inr other ↦
-    let above : a + 1 ≤ o = omega arith in
-    let below : o < a + 1 + n = omega arith in
-    let later = listed_range p (a + 1) n o above below pass in
-    elim (cases_Bool (p a)) [
-      | inl here ↦ rw here (or_right (nat_eq o a) (list_any (nat_eq o) (filter p (range_with_len (a + 1) n))) later)
-      | inr fail ↦ rw fail later
-    ]
+      let above : a + 1 ≤ o = omega arith in
+      let below : o < a + 1 + n = omega arith in
+      let later = listed_range p (a + 1) n o above below pass in
+      elim (cases_Bool (p a)) [
+        | inl here ↦ rw here (or_right (nat_eq o a) (list_any (nat_eq o) (filter p (range_with_len (a + 1) n))) later)
+        | inr fail ↦ rw fail later
+      ]
 ]
 
 -- two tests that agree on a list find the same

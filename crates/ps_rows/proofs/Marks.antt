@@ -1,5 +1,5 @@
 -- Several planes with one cell changed.
-use Rattle.std.proofs.Common.{◌≡◌, ◌≢◌, ℕ, zero, suc, ◌+◌, ◌*◌, ◌/◌, ◌%◌, ◌<◌, ◌≤◌, ◌⊎◌, inl, inr, Bool, true, false, ◌||◌, Option, List, [], ◌∷◌, length, get_or, refl, sym, ap, ◌∙◌, arith}
+use Rattle.std.proofs.Common.{◌≡◌, ◌≢◌, ℕ, zero, suc, ◌+◌, ◌*◌, ◌/◌, ◌%◌, ◌<◌, ◌≤◌, inl, inr, Bool, true, false, Option, List, [], ◌∷◌, length, get_or, refl, sym, ◌∙◌, arith}
 use Rattle.std.specs.Prelude.{nat_eq}
 use Rattle.std.specs.List.{list_any}
 use Rattle.std.proofs.lemmas.Bool.{cases_Bool, eqb-true, eq-eqb, or_cases, or_parts, or_left, or_right, false≢true}
@@ -43,7 +43,7 @@ has_cell-in_elsewhere h cell chosen words (q ∷ qs) c p some low under have apa
     let on : Bool = is_number chosen q in
     let other : c ≡ cell → p ≢ q = λ e f. false≢true (sym ((or_parts (nat_eq p q) (list_any (nat_eq p) qs) (apart e)).0) ∙ eq-eqb p q f) in
     has_cell-in_elsewhere h cell chosen (with_cell h words cell q on) qs c p some low under (behind_first h words cell q qs on have)
-      (λ e. (or_parts (nat_eq p q) (list_any (nat_eq p) qs) (apart e)).1)
+    (λ e. (or_parts (nat_eq p q) (list_any (nat_eq p) qs) (apart e)).1)
     ∙ has_cell-with_other h words cell q on c p some low under (place_within h q cell (length words) some (first_of h words q qs have)) other
 
 first_listed : (p q : ℕ) (qs : List ℕ) → list_any (nat_eq p) (q ∷ qs) ≡ true → list_any (nat_eq p) qs ≡ false → p ≡ q
@@ -63,7 +63,7 @@ has_cell-in_there h cell chosen words (q ∷ qs) p some low have listed =
     elim (cases_Bool (list_any (nat_eq p) qs)) [
       | inl among ↦ has_cell-in_there h cell chosen (with_cell h words cell q on) qs p some low behind among
       | inr none ↦
-        let e : p ≡ q = first_listed p q qs listed none in
-        has_cell-in_elsewhere h cell chosen (with_cell h words cell q on) qs cell p some low low behind (λ same. none)
-        ∙ rw e (has_cell-with_same h words cell q on low (place_within h q cell (length words) some (first_of h words q qs have)))
+          let e : p ≡ q = first_listed p q qs listed none in
+          has_cell-in_elsewhere h cell chosen (with_cell h words cell q on) qs cell p some low low behind (λ same. none)
+          ∙ rw e (has_cell-with_same h words cell q on low (place_within h q cell (length words) some (first_of h words q qs have)))
     ]

@@ -1,8 +1,8 @@
 -- The five planes of a layer's motions.
-use Rattle.std.proofs.Common.{◌≡◌, ◌≢◌, ℕ, ◌+◌, ◌<◌, ◌≤◌, ◌⊎◌, inl, inr, Bool, true, false, Option, Some, None, List, [], ◌∷◌, length, get_or, refl, sym, ap, ◌∙◌, arith}
+use Rattle.std.proofs.Common.{◌≡◌, ◌≢◌, ℕ, ◌+◌, ◌<◌, ◌≤◌, ◌⊎◌, inl, inr, Bool, true, false, Some, refl, sym, ◌∙◌, arith}
 use Rattle.std.specs.Prelude.{nat_eq}
 use Rattle.std.specs.List.{list_any}
-use Rattle.std.proofs.lemmas.Bool.{cases_lt, eq-eqb, ne_eqb, false≢true}
+use Rattle.std.proofs.lemmas.Bool.{cases_lt, ne_eqb, false≢true}
 use Rattle.std.proofs.lemmas.Option.{none-some, same_Some}
 use Rattle.ps_model.specs.declared.pieces.Direction.TheVariants.{Up, Down, Left, Right}
 use Rattle.ps_model.specs.declared.pieces.Motion.{Motion}
@@ -96,5 +96,10 @@ first_motion-is passes first Still h =
 pub first_motion-same : (f g : ℕ → Bool) (first : ℕ) → ((q : ℕ) → first ≤ q → q < first + 5 → f q ≡ g q) → first_motion f first ≡ first_motion g first
 unfolding first_motion
 first_motion-same f g first h =
-    rw (h first (omega arith) (omega arith), h (first + 1) (omega arith) (omega arith), h (first + 2) (omega arith) (omega arith), h (first + 3) (omega arith) (omega arith),
-      h (first + 4) (omega arith) (omega arith)) refl
+    rw (
+      h first (omega arith) (omega arith),
+      h (first + 1) (omega arith) (omega arith),
+      h (first + 2) (omega arith) (omega arith),
+      h (first + 3) (omega arith) (omega arith),
+      h (first + 4) (omega arith) (omega arith),
+    ) refl

@@ -1,5 +1,5 @@
 -- The lists of the objects of layers, and how they are made.
-use Rattle.std.proofs.Common.{◌≡◌, ℕ, ◌+◌, ◌-◌, ◌<◌, ◌≤◌, ◌⊎◌, inl, inr, Bool, true, false, cond, Option, Some, None, List, [], ◌∷◌, ◌++◌, length, get_or, take, drop, map, refl, sym, ap, subst, ◌∙◌, arith, filter, append_assoc}
+use Rattle.std.proofs.Common.{◌≡◌, ℕ, ◌+◌, ◌-◌, ◌<◌, ◌≤◌, inl, inr, Bool, true, false, cond, Some, List, [], ◌∷◌, ◌++◌, length, get_or, take, drop, refl, sym, ap, subst, ◌∙◌, arith, filter, append_assoc}
 use Rattle.std.specs.Prelude.{nat_eq, slice_get, slice_range}
 use Rattle.std.specs.List.{list_any, range_with_len}
 use Rattle.std.proofs.lemmas.Bool.{cases_lt, false_from_ne_true}
@@ -68,8 +68,8 @@ span_stays table numbers more layer span s =
     let enough : span.end - span.start ≤ length (drop span.start numbers) = rw length-drop (omega arith) in
     let start : span.start ≤ length numbers = omega arith in
     let cut : slice_range (numbers ++ more) span.start span.end ≡ slice_range numbers span.start span.end =
-      ap (take (span.end - span.start)) (drop-append-le span.start numbers more start)
-      ∙ take-append-le (span.end - span.start) (drop span.start numbers) more enough in
+    ap (take (span.end - span.start)) (drop-append-le span.start numbers more start)
+    ∙ take-append-le (span.end - span.start) (drop span.start numbers) more enough in
     record {
       order = order;
       within = omega arith;
@@ -94,14 +94,14 @@ pub spans_more : (table numbers more : List ℕ) (spans longer : List Span) (lay
     longer ≡ spans ++ span ∷ [] → more ≡ numbers ++ on_layer table layer → span.start ≡ length numbers → span.end ≡ length more → AreSpansOf table more longer
 spans_more table numbers more spans longer layer span each long e f a b =
     rw (e, f) (λ k d below.
-      let total : length (spans ++ span ∷ []) ≡ length spans + 1 = length-append spans (span ∷ []) in
-      elim (cases_lt k (length spans)) [
-        | inl old ↦ rw (get_or_append_left spans (span ∷ []) d k old) (span_stays table numbers (on_layer table layer) k (get_or spans k d) (each k d old))
-        | inr new ↦
+    let total : length (spans ++ span ∷ []) ≡ length spans + 1 = length-append spans (span ∷ []) in
+    elim (cases_lt k (length spans)) [
+      | inl old ↦ rw (get_or_append_left spans (span ∷ []) d k old) (span_stays table numbers (on_layer table layer) k (get_or spans k d) (each k d old))
+      | inr new ↦
           let last : k ≡ layer = omega arith in
           let end : span.end ≡ length (numbers ++ on_layer table layer) = b ∙ ap length f in
           rw (get_or_push spans span d k (omega arith), last) (span_added table numbers layer span a end)
-      ])
+    ])
 
 -- the span of a layer
 pub span_at : (table numbers : List ℕ) (spans : List Span) (n layer : ℕ) (span : Span) → AreSpansOf table numbers spans → n ≡ length spans → layer < n →

@@ -1,5 +1,5 @@
 -- Steps of the loops over planes.
-use Rattle.std.proofs.Common.{◌≡◌, ℕ, ◌+◌, ◌<◌, ◌≤◌, Bool, true, false, Option, Some, None, List, [], ◌∷◌, length, get_or, drop, refl, sym, ap, ◌∙◌}
+use Rattle.std.proofs.Common.{◌≡◌, ℕ, ◌+◌, ◌<◌, ◌≤◌, Bool, true, false, Option, Some, None, List, ◌∷◌, length, get_or, drop, refl, sym, ap, ◌∙◌}
 use Rattle.std.specs.Prelude.{find}
 use Rattle.std.proofs.lemmas.List.{at_drop_more, at_drop_all}
 use Rattle.ps_model.specs.board.Movement.{is_number}
@@ -30,7 +30,7 @@ pub changed_more : (height cell : ℕ) (chosen : Option ℕ) (words more planes 
 unfolding with_cell_in
 changed_more height cell chosen words more planes k all h e so =
     let here : with_cell_in height cell chosen words (drop k planes) ≡ with_cell_in height cell chosen words (get_or planes k 0 ∷ drop (k + 1) planes) =
-      at_drop_more (with_cell_in height cell chosen words) planes k 0 h in
+    at_drop_more (with_cell_in height cell chosen words) planes k 0 h in
     ap (λ (ws : List ℕ). with_cell_in height cell chosen ws (drop (k + 1) planes)) e ∙ sym here ∙ so
 
 -- and then all

@@ -1,5 +1,5 @@
 -- Lists that are made from a function of the place.
-use Rattle.std.proofs.Common.{◌≡◌, ◌≢◌, ℕ, zero, suc, ◌+◌, ◌<◌, ◌⊎◌, inl, inr, List, [], ◌∷◌, length, get_or, map, replicate, refl, sym, ap, ◌∙◌, arith}
+use Rattle.std.proofs.Common.{◌≡◌, ◌≢◌, ℕ, zero, suc, ◌+◌, ◌<◌, inl, inr, List, [], ◌∷◌, length, get_or, map, replicate, refl, sym, ap, ◌∙◌, arith}
 use Rattle.std.specs.Prelude.{slice_set}
 use Rattle.std.specs.List.{range_with_len}
 use Rattle.std.proofs.lemmas.Bool.{cases_eq}
@@ -25,11 +25,11 @@ tabled_set f g n place inside agree =
     same_lists (map f (range_with_len 0 n)) (slice_set before place (f place))
     (length-map-range_with_len f 0 n ∙ sym (length-set before place (f place) ∙ length-map-range_with_len g 0 n))
     (λ k d h.
-      let below : k < n = rw (← length-map-range_with_len f 0 n) h in
-      elim (cases_eq k place) [
-        | inl e ↦ rw e (tabled_at f n place d inside ∙ sym (get_or-set_same before place (f place) d long))
-        | inr other ↦ tabled_at f n k d below ∙ agree k below other ∙ sym (tabled_at g n k d below) ∙ sym (get_or-set_other before place k (f place) d other)
-      ])
+    let below : k < n = rw (← length-map-range_with_len f 0 n) h in
+    elim (cases_eq k place) [
+      | inl e ↦ rw e (tabled_at f n place d inside ∙ sym (get_or-set_same before place (f place) d long))
+      | inr other ↦ tabled_at f n k d below ∙ agree k below other ∙ sym (tabled_at g n k d below) ∙ sym (get_or-set_other before place k (f place) d other)
+    ])
 
 -- a function that is the same everywhere
 pub tabled_alike : {X : Type 0} (f : ℕ → X) (x : X) (a n : ℕ) → ((k : ℕ) → f k ≡ x) → map f (range_with_len a n) ≡ replicate n x

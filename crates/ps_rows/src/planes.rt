@@ -3,7 +3,12 @@
 ghost use Rattle.std.specs.Prelude.{◌≡◌, ◌+◌, ◌*◌, ◌/◌, ◌%◌, ◌<◌, ◌≤◌, ℕ, ◌∷◌, [], find, length};
 ghost use Rattle.ps_model.specs.board.Movement.{is_number};
 ghost use Rattle.ps_rows.specs.Planes.{
-    HavePlanes, has_cell, has_column, with_cell, with_cell_in, with_column
+  HavePlanes,
+  has_cell,
+  has_column,
+  with_cell,
+  with_cell_in,
+  with_column,
 };
 
 /// Whether a word has a column.
@@ -69,13 +74,7 @@ fn is_chosen(chosen: Option<u32>, plane: u32) -> bool
 }
 
 /// Puts a cell into the chosen one of these planes, if one is chosen, and takes it away from the others.
-pub fn choose_plane(
-    words: &mut [u64],
-    height: u32,
-    cell: u32,
-    planes: &[u32],
-    chosen: Option<u32>,
-)
+pub fn choose_plane(words: &mut [u64], height: u32, cell: u32, planes: &[u32], chosen: Option<u32>)
     requires row { 0 < height }
     requires column { cell / height < 64 }
     requires planes { HavePlanes height words.old planes.now }

@@ -178,7 +178,15 @@ impl Board for RowBoard {
         let planes = self.members.of(layer.0);
         let object = number_of(object);
         let height = self.height;
-        put_slot(self.words.as_mut_slice(), height, cell, planes, object, first, motion);
+        put_slot(
+            self.words.as_mut_slice(),
+            height,
+            cell,
+            planes,
+            object,
+            first,
+            motion,
+        );
     }
 
     fn clear_moves(&mut self) {

@@ -1,4 +1,4 @@
-use Rattle.std.proofs.Common.{◌≡◌, ◌∙◌, sym, refl}
+use Rattle.std.proofs.Common.{◌∙◌, sym, refl}
 use Rattle.ps_rows.specs.Showing.{first_motion}
 use Rattle.ps_rows.proofs.motions.first_motion.Goals as goal
 

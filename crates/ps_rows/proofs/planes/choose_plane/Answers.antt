@@ -1,4 +1,4 @@
-use Rattle.std.proofs.Common.{◌≡◌, ◌+◌, ◌*◌, ◌<◌, ◌≤◌, ◌∙◌, ap, length, get_or, arith}
+use Rattle.std.proofs.Common.{◌+◌, ◌*◌, ◌<◌, ◌≤◌, ◌∙◌, ap, length, get_or, arith}
 use Rattle.ps_rows.specs.Planes.{with_cell}
 use Rattle.ps_rows.proofs.Marks.{listed_at}
 use Rattle.ps_rows.proofs.Steps.{changed_more, changed_all}
@@ -8,7 +8,7 @@ pub set_cell-requires-clause-plane : goal.set_cell-requires-clause-plane
 set_cell-requires-clause-plane c =
     let below : c.loop-plane.plane-index < length c.args.planes.now = omega arith in
     let whole : (get_or c.args.planes.now c.loop-plane.plane-index 0 + 1) * c.args.height ≤ length c.args.words.now =
-      c.requires.planes (get_or c.args.planes.now c.loop-plane.plane-index 0) (listed_at c.args.planes.now c.loop-plane.plane-index 0 below) in
+    c.requires.planes (get_or c.args.planes.now c.loop-plane.plane-index 0) (listed_at c.args.planes.now c.loop-plane.plane-index 0 below) in
     omega arith
 
 pub loop-plane-preserved : goal.loop-plane-preserved

@@ -1,4 +1,4 @@
-use Rattle.std.proofs.Common.{◌≡◌, ◌<◌, ◌∙◌, sym, length, get_or, arith}
+use Rattle.std.proofs.Common.{◌<◌, ◌∙◌, sym, length, get_or, arith}
 use Rattle.ps_rows.specs.Planes.{has_cell}
 use Rattle.ps_rows.proofs.Marks.{listed_at}
 use Rattle.ps_rows.proofs.Steps.{found_here, found_behind}

@@ -1,4 +1,4 @@
-use Rattle.std.proofs.Common.{◌≡◌, ℕ, ◌/◌, ◌∙◌, ap, get_or}
+use Rattle.std.proofs.Common.{ℕ, ◌/◌, ◌∙◌, ap, get_or}
 use Rattle.ps_rows.specs.Planes.{has_cell, has_column}
 use Rattle.ps_rows.proofs.planes.has_cell.Goals as goal
 

@@ -1,4 +1,4 @@
-use Rattle.std.proofs.Common.{◌≡◌, refl}
+use Rattle.std.proofs.Common.{refl}
 use Rattle.ps_rows.specs.Planes.{with_cell}
 use Rattle.ps_rows.proofs.planes.set_cell.Goals as goal
 

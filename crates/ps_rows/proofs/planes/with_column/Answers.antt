@@ -1,4 +1,3 @@
-use Rattle.std.proofs.Common.{◌≡◌, true, false, arith}
 use Rattle.ps_rows.proofs.Bits.{with_column-set, with_column-cleared}
 use Rattle.ps_rows.proofs.planes.with_column.Goals as goal
 

@@ -1,4 +1,4 @@
-use Rattle.std.proofs.Common.{◌≡◌, ◌∙◌, sym, refl}
+use Rattle.std.proofs.Common.{◌∙◌, sym, refl}
 use Rattle.ps_rows.specs.Showing.{object_shown}
 use Rattle.ps_rows.proofs.Puts.{planes_whole}
 use Rattle.ps_rows.proofs.row_board.RowBoard.object_number.Goals as goal

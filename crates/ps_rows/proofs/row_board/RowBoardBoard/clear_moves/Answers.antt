@@ -13,7 +13,7 @@ invariant_of-self-clause-objects c =
     let left : List ℕ = c.clear_from.new.words in
     let long : length left ≡ b.words.len = omega (arith, c.clear_from.auto.words, c.as_mut_slice.ensures.len) in
     let made : cleared_from (c.count.result * b.height) c.as_mut_slice.result.now ≡ cleared_from (length table * b.height) b.words.items =
-      rw (c.as_mut_slice.ensures.value, c.count.ensures.value) refl in
+    rw (c.as_mut_slice.ensures.value, c.count.ensures.value) refl in
     let so : (with_items b.words left).items ≡ cleared_from (length table * b.height) b.words.items = with_items_is b.words left long ∙ c.clear_from.ensures ∙ made in
     let P : List ℕ → Type 0 = λ words. AreObjectsShown table b.height words (b.width * b.height) in
     subst P (sym so) (rested_objects table b.layers b.height (b.width * b.height) b.words.items b.some_row (sym b.words.ok.0 ∙ b.whole) b.objects)
@@ -25,7 +25,7 @@ invariant_of-self-clause-motions c =
     let left : List ℕ = c.clear_from.new.words in
     let long : length left ≡ b.words.len = omega (arith, c.clear_from.auto.words, c.as_mut_slice.ensures.len) in
     let made : cleared_from (c.count.result * b.height) c.as_mut_slice.result.now ≡ cleared_from (length table * b.height) b.words.items =
-      rw (c.as_mut_slice.ensures.value, c.count.ensures.value) refl in
+    rw (c.as_mut_slice.ensures.value, c.count.ensures.value) refl in
     let so : (with_items b.words left).items ≡ cleared_from (length table * b.height) b.words.items = with_items_is b.words left long ∙ c.clear_from.ensures ∙ made in
     let P : List ℕ → Type 0 = λ words. AreMotionsShown table b.layers b.height words (b.width * b.height) in
     subst P (sym so) (rested_motions table b.layers b.height (b.width * b.height) b.words.items b.some_row (sym b.words.ok.0 ∙ b.whole))
@@ -37,6 +37,6 @@ returns-clause-grid c =
     let left : List ℕ = c.clear_from.new.words in
     let long : length left ≡ b.words.len = omega (arith, c.clear_from.auto.words, c.as_mut_slice.ensures.len) in
     let made : cleared_from (c.count.result * b.height) c.as_mut_slice.result.now ≡ cleared_from (length table * b.height) b.words.items =
-      rw (c.as_mut_slice.ensures.value, c.count.ensures.value) refl in
+    rw (c.as_mut_slice.ensures.value, c.count.ensures.value) refl in
     let so : (with_items b.words left).items ≡ cleared_from (length table * b.height) b.words.items = with_items_is b.words left long ∙ c.clear_from.ensures ∙ made in
     rest_grid table b.width b.height b.layers b.words.items (with_items b.words left).items b.some_row (sym b.words.ok.0 ∙ b.whole) so

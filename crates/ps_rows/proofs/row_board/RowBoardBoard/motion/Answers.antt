@@ -1,4 +1,4 @@
-use Rattle.std.proofs.Common.{◌≡◌, ◌*◌}
+use Rattle.std.proofs.Common.{◌*◌}
 use Rattle.ps_rows.specs.Showing.{motion_shown}
 use Rattle.ps_rows.proofs.Rests.{motion_read}
 use Rattle.ps_rows.proofs.row_board.RowBoardBoard.motion.Goals as goal

@@ -1,4 +1,4 @@
-use Rattle.std.proofs.Common.{◌≡◌, ◌*◌, ◌∙◌, ap}
+use Rattle.std.proofs.Common.{◌*◌, ◌∙◌, ap}
 use Rattle.std.specs.Prelude.{option_map}
 use Rattle.ps_rows.specs.Showing.{numbered}
 use Rattle.ps_rows.proofs.Rests.{object_read}

@@ -21,13 +21,13 @@ invariant_of-self-clause-objects c =
     let number : Option ℕ = c.number_of-object.result in
     let long : length left ≡ b.words.len = omega (arith, c.put_slot.auto.words, c.as_mut_slice.ensures.len) in
     let made : with_slot_in b.height c.args.cell c.of-planes.result.now number c.motions_from-first.result c.args.motion c.as_mut_slice.result.now
-        ≡ with_slot_in b.height c.args.cell (on_layer table layer) number (motions_from table layer) c.args.motion b.words.items =
-      rw (c.as_mut_slice.ensures.value, c.of-planes.ensures, c.motions_from-first.ensures.first) refl in
+    ≡ with_slot_in b.height c.args.cell (on_layer table layer) number (motions_from table layer) c.args.motion b.words.items =
+    rw (c.as_mut_slice.ensures.value, c.of-planes.ensures, c.motions_from-first.ensures.first) refl in
     let so : (with_items b.words left).items ≡ with_slot_in b.height c.args.cell (on_layer table layer) number (motions_from table layer) c.args.motion b.words.items =
-      with_items_is b.words left long ∙ c.put_slot.ensures ∙ made in
+    with_items_is b.words left long ∙ c.put_slot.ensures ∙ made in
     let put =
-      put_facts table b.width b.height b.layers b.words.items c.args.cell layer number c.args.object c.args.motion b.some_row b.columns c.requires.place.0 c.requires.place.1
-      (sym b.words.ok.0 ∙ b.whole) c.number_of-object.ensures c.requires.still c.requires.room in
+    put_facts table b.width b.height b.layers b.words.items c.args.cell layer number c.args.object c.args.motion b.some_row b.columns c.requires.place.0 c.requires.place.1
+    (sym b.words.ok.0 ∙ b.whole) c.number_of-object.ensures c.requires.still c.requires.room in
     let P : List ℕ → Type 0 = λ words. AreObjectsShown table b.height words (b.width * b.height) in
     subst P (sym so) (objects_kept table b.layers b.height (b.width * b.height) b.words.items c.args.cell layer number c.args.motion put b.objects)
 
@@ -40,13 +40,13 @@ invariant_of-self-clause-motions c =
     let number : Option ℕ = c.number_of-object.result in
     let long : length left ≡ b.words.len = omega (arith, c.put_slot.auto.words, c.as_mut_slice.ensures.len) in
     let made : with_slot_in b.height c.args.cell c.of-planes.result.now number c.motions_from-first.result c.args.motion c.as_mut_slice.result.now
-        ≡ with_slot_in b.height c.args.cell (on_layer table layer) number (motions_from table layer) c.args.motion b.words.items =
-      rw (c.as_mut_slice.ensures.value, c.of-planes.ensures, c.motions_from-first.ensures.first) refl in
+    ≡ with_slot_in b.height c.args.cell (on_layer table layer) number (motions_from table layer) c.args.motion b.words.items =
+    rw (c.as_mut_slice.ensures.value, c.of-planes.ensures, c.motions_from-first.ensures.first) refl in
     let so : (with_items b.words left).items ≡ with_slot_in b.height c.args.cell (on_layer table layer) number (motions_from table layer) c.args.motion b.words.items =
-      with_items_is b.words left long ∙ c.put_slot.ensures ∙ made in
+    with_items_is b.words left long ∙ c.put_slot.ensures ∙ made in
     let put =
-      put_facts table b.width b.height b.layers b.words.items c.args.cell layer number c.args.object c.args.motion b.some_row b.columns c.requires.place.0 c.requires.place.1
-      (sym b.words.ok.0 ∙ b.whole) c.number_of-object.ensures c.requires.still c.requires.room in
+    put_facts table b.width b.height b.layers b.words.items c.args.cell layer number c.args.object c.args.motion b.some_row b.columns c.requires.place.0 c.requires.place.1
+    (sym b.words.ok.0 ∙ b.whole) c.number_of-object.ensures c.requires.still c.requires.room in
     let P : List ℕ → Type 0 = λ words. AreMotionsShown table b.layers b.height words (b.width * b.height) in
     subst P (sym so) (motions_kept table b.layers b.height (b.width * b.height) b.words.items c.args.cell layer number c.args.motion put b.motions)
 
@@ -59,11 +59,11 @@ returns-clause-grid c =
     let number : Option ℕ = c.number_of-object.result in
     let long : length left ≡ b.words.len = omega (arith, c.put_slot.auto.words, c.as_mut_slice.ensures.len) in
     let made : with_slot_in b.height c.args.cell c.of-planes.result.now number c.motions_from-first.result c.args.motion c.as_mut_slice.result.now
-        ≡ with_slot_in b.height c.args.cell (on_layer table layer) number (motions_from table layer) c.args.motion b.words.items =
-      rw (c.as_mut_slice.ensures.value, c.of-planes.ensures, c.motions_from-first.ensures.first) refl in
+    ≡ with_slot_in b.height c.args.cell (on_layer table layer) number (motions_from table layer) c.args.motion b.words.items =
+    rw (c.as_mut_slice.ensures.value, c.of-planes.ensures, c.motions_from-first.ensures.first) refl in
     let so : (with_items b.words left).items ≡ with_slot_in b.height c.args.cell (on_layer table layer) number (motions_from table layer) c.args.motion b.words.items =
-      with_items_is b.words left long ∙ c.put_slot.ensures ∙ made in
+    with_items_is b.words left long ∙ c.put_slot.ensures ∙ made in
     let put =
-      put_facts table b.width b.height b.layers b.words.items c.args.cell layer number c.args.object c.args.motion b.some_row b.columns c.requires.place.0 c.requires.place.1
-      (sym b.words.ok.0 ∙ b.whole) c.number_of-object.ensures c.requires.still c.requires.room in
+    put_facts table b.width b.height b.layers b.words.items c.args.cell layer number c.args.object c.args.motion b.some_row b.columns c.requires.place.0 c.requires.place.1
+    (sym b.words.ok.0 ∙ b.whole) c.number_of-object.ensures c.requires.still c.requires.room in
     put_grid table b.width b.height b.layers b.words.items (with_items b.words left).items c.args.cell layer number c.args.object c.args.motion put c.number_of-object.ensures so
