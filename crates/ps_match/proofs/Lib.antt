@@ -1,1 +1,4 @@
 pub mod Cells
+pub mod ColumnLaws
+pub mod ColumnWords
+pub mod Scanned

@@ -1,8 +1,8 @@
 -- What compiled cells mean on a board: objects without room on a layer aren't put there.
-use Rattle.std.specs.Prelude.{ℕ, Bool, true, Option, Some, None, List, map, filter}
+use Rattle.std.specs.Prelude.{ℕ, true, Option, Some, None, List, filter}
 use Rattle.ps_model.specs.declared.pieces.Slot.{Slot}
 use Rattle.ps_model.specs.meaning.RuleMeanings.{CellMeaning}
-use Rattle.ps_model.specs.meaning.Compiled.{CellMask, CellWrite, CompiledCell, CompiledRule, mask_fits, cell_written, slot_written, slot_freed, write_on}
+use Rattle.ps_model.specs.meaning.Compiled.{CellMask, CellWrite, CompiledCell, mask_fits, cell_written, slot_written, slot_freed, write_on}
 use Rattle.ps_model.specs.board.Grid.{Grid}
 use Rattle.ps_board.specs.Runnable.{has_room_for}
 

@@ -2,3 +2,4 @@ pub mod Stretches
 pub mod RowMeanings
 pub mod Found
 pub mod RowCells
+pub mod Starts

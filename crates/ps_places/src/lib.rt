@@ -2,6 +2,7 @@
 #![tactic(auto)]
 
 mod along;
+mod by_columns;
 mod find;
 mod presence;
 mod row_cells;
@@ -9,6 +10,7 @@ mod row_places;
 mod search;
 mod shape;
 mod shape_cells;
+mod starts;
 
 pub use along::{fits_place, rewrite_place};
 pub use find::find_places;

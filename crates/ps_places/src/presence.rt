@@ -13,6 +13,7 @@ use crate::along::fits_place;
 use crate::find::{first_parts, shape_of};
 use crate::search::gaps;
 use crate::shape::{Place, Shape};
+use crate::starts::{starts_across, starts_down};
 use ps_match::Scan;
 use ps_model::Direction;
 use ps_program::CompiledCell;
@@ -95,8 +96,68 @@ fn fits_in_rows<B: Scan>(board: &B, parts: &[List<CompiledCell>], shape: Shape) 
     false
 }
 
-/// Whether parts have a place.
-fn fits_somewhere<B: Scan>(
+/// Whether parts that lie side by side, left or right, have a place.
+fn fits_across<B: Scan>(board: &B, parts: &[List<CompiledCell>], shape: Shape) -> bool
+    requires one { length parts.now < 2 }
+    requires step { shape.step ≡ (B.grid board.now).height }
+    requires size { sum (part_sizes parts.now) ≡ shape.size }
+    requires whole { length (all_cells parts.now) ≡ shape.size }
+    ensures { let g = B.grid board.now in
+        let at = row_places_at g (B.table board.now) parts.now shape in
+        result ≡ has_one (flat_map at (range_with_len 0 g.height)) }
+{
+    let (_width, height) = board.size();
+    for row in 0..height {
+        if !starts_across(board, parts, shape, row).is_empty() {
+            return true;
+        }
+    }
+    false
+}
+
+/// Whether parts that lie one below the other have a place.
+fn fits_down<B: Scan>(board: &B, parts: &[List<CompiledCell>], shape: Shape) -> bool
+    requires one { length parts.now < 2 }
+    requires step { shape.step ≡ 1 }
+    requires size { sum (part_sizes parts.now) ≡ shape.size }
+    requires whole { length (all_cells parts.now) ≡ shape.size }
+    ensures { let g = B.grid board.now in
+        let at = vertical_at g (B.table board.now) parts.now shape in
+        result ≡ has_one (flat_map at (range_with_len 0 (g.width * g.height))) }
+{
+    let (_width, height) = board.size();
+    for row in 0..height {
+        if !starts_down(board, parts, shape, row).is_empty() {
+            return true;
+        }
+    }
+    false
+}
+
+/// Whether parts have a place that lie side by side.
+fn fits_together<B: Scan>(
+    board: &B,
+    direction: Direction,
+    parts: &[List<CompiledCell>],
+    shape: Shape,
+) -> bool
+    requires one { length parts.now < 2 }
+    requires is { IsShapeOf (B.grid board.now) direction (part_sizes parts.now) shape }
+    requires size { sum (part_sizes parts.now) ≡ shape.size }
+    requires whole { length (all_cells parts.now) ≡ shape.size }
+    ensures { let all = places (B.grid board.now) direction (parts_meaning (B.table board.now) parts.now) in
+        result ≡ has_one all }
+{
+    match direction {
+        Direction::Up => fits_down(board, parts, shape),
+        Direction::Down => fits_down(board, parts, shape),
+        Direction::Left => fits_across(board, parts, shape),
+        Direction::Right => fits_across(board, parts, shape),
+    }
+}
+
+/// Whether parts have a place, with any gap between them.
+fn fits_with_gaps<B: Scan>(
     board: &B,
     direction: Direction,
     parts: &[List<CompiledCell>],
@@ -115,6 +176,26 @@ fn fits_somewhere<B: Scan>(
         Direction::Left => fits_in_rows(board, parts, shape),
         Direction::Right => fits_in_rows(board, parts, shape),
     }
+}
+
+/// Whether parts have a place.
+fn fits_somewhere<B: Scan>(
+    board: &B,
+    direction: Direction,
+    parts: &[List<CompiledCell>],
+    shape: Shape,
+) -> bool
+    requires few { length parts.now ≤ 2 }
+    requires is { IsShapeOf (B.grid board.now) direction (part_sizes parts.now) shape }
+    requires size { sum (part_sizes parts.now) ≡ shape.size }
+    requires whole { length (all_cells parts.now) ≡ shape.size }
+    ensures { let all = places (B.grid board.now) direction (parts_meaning (B.table board.now) parts.now) in
+        result ≡ has_one all }
+{
+    if parts.len() < 2 {
+        return fits_together(board, direction, parts, shape);
+    }
+    fits_with_gaps(board, direction, parts, shape)
 }
 
 /// Whether a row has a place on a board. No memory is taken, and the search ends with the first place.

@@ -32,7 +32,7 @@ pub fn gaps(parts: &[List<CompiledCell>], shape: Shape, long: u32) -> u32
 }
 
 /// Keeps a place, if it fits. `Memory` if there is no room for it.
-fn push_if(found: &mut Vec<Place>, place: Place, fits: bool) -> Result<(), Memory>
+pub fn push_if(found: &mut Vec<Place>, place: Place, fits: bool) -> Result<(), Memory>
     ensures { OnOk result (found.new.items ≡ found.old.items ++ cond fits (place ∷ []) []) }
 {
     if fits {

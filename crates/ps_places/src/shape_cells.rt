@@ -8,7 +8,7 @@ use crate::shape::{Place, Shape};
 
 impl Shape {
     /// The number of a cell from the end.
-    fn from_end(&self, index: u32) -> u32
+    pub fn from_end(&self, index: u32) -> u32
         requires { index < self.now.size }
         ensures value { result ≡ from_end self.now.backwards self.now.size index }
         ensures within { result < self.now.size }

@@ -2,7 +2,7 @@ use Rattle.std.proofs.Common.{◌≡◌, ◌++◌, List, ℕ, map, subst}
 use Rattle.std.specs.Prelude.{OnOk}
 use Rattle.ps_places.specs.Stretches.{cells_of}
 use Rattle.ps_places.proofs.Closed.{places-up, places-down, places-left, places-right}
-use Rattle.ps_places.proofs.find.search.Goals as goal
+use Rattle.ps_places.proofs.find.search_gaps.Goals as goal
 
 pub returns-in-Up : goal.returns-in-Up
 returns-in-Up g c =

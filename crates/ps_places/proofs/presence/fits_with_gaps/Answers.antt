@@ -1,7 +1,7 @@
 use Rattle.std.proofs.Common.{◌≡◌, ◌∙◌, ap}
 use Rattle.ps_places.specs.Found.{has_one}
 use Rattle.ps_places.proofs.Closed.{places-up, places-down, places-left, places-right}
-use Rattle.ps_places.proofs.presence.fits_somewhere.Goals as goal
+use Rattle.ps_places.proofs.presence.fits_with_gaps.Goals as goal
 
 pub returns-in-Up : goal.returns-in-Up
 returns-in-Up g c =
