@@ -8,3 +8,4 @@ pub mod Puts
 pub mod Tables
 pub mod Rests
 pub mod Whole
+pub mod Scans

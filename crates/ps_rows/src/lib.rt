@@ -8,6 +8,7 @@ mod members;
 mod motions;
 mod planes;
 mod row_board;
+mod scanning;
 
 pub use ps_board::Board;
 pub use ps_model::{LayerId, Memory, Motion, ObjectId};

@@ -1,6 +1,7 @@
 //! The objects of each layer.
 
-ghost use Rattle.std.specs.Prelude.{◌≡◌, ◌++◌, ◌+◌, ◌<◌, ◌≤◌, ◌∷◌, [], IfOk, OnOk, cond, length, map, slice_range, vec_len};
+ghost use Rattle.std.specs.Prelude.{◌≡◌, ◌++◌, ◌+◌, ◌<◌, ◌≤◌, ◌∷◌, [], IfOk, OnOk, cond, length, map, slice_get, slice_range, vec_len};
+ghost use Rattle.ps_model.specs.board.Movement.{is_number};
 ghost use Rattle.ps_rows.specs.Members.{AreSpansOf, on_layer};
 ghost use Rattle.ps_rows.specs.declared.members.TheConstants.{TABLE_LIMIT};
 
@@ -124,6 +125,16 @@ impl Members {
         ensures few { result ≤ TABLE_LIMIT }
     {
         self.table.len() as u32
+    }
+
+    /// Whether an object is one of a layer.
+    pub fn is_on(&self, object: u32, layer: u32) -> bool
+        ensures { result ≡ is_number (slice_get self.now.table.items object) layer }
+    {
+        match self.table.get(object as usize) {
+            Some(own) => *own == layer,
+            None => false,
+        }
     }
 
     /// The objects of a layer, the least number first.

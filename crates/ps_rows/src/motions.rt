@@ -8,7 +8,7 @@ use crate::planes::{choose_plane, has_cell};
 use ps_model::{Direction, Motion};
 
 /// The plane of a motion, behind the first plane of its layer; none, of rest.
-fn motion_plane(first: u32, motion: Motion) -> Option<u32>
+pub fn motion_plane(first: u32, motion: Motion) -> Option<u32>
     requires { first + 4 < 2 ^ 32 }
     ensures { result ≡ motion_plane first motion }
 {

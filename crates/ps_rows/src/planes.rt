@@ -1,6 +1,6 @@
 //! Planes of rows of bits, as one flat list of words.
 
-ghost use Rattle.std.specs.Prelude.{◌≡◌, ◌+◌, ◌*◌, ◌/◌, ◌%◌, ◌<◌, ◌≤◌, ℕ, ◌∷◌, [], find, length};
+ghost use Rattle.std.specs.Prelude.{◌≡◌, ◌+◌, ◌*◌, ◌/◌, ◌%◌, ◌<◌, ◌≤◌, ℕ, ◌∷◌, [], find, length, slice_index};
 ghost use Rattle.ps_model.specs.board.Movement.{is_number};
 ghost use Rattle.ps_rows.specs.Planes.{
   HavePlanes,
@@ -12,7 +12,7 @@ ghost use Rattle.ps_rows.specs.Planes.{
 };
 
 /// Whether a word has a column.
-fn has_column(word: u64, column: u32) -> bool
+pub fn has_column(word: u64, column: u32) -> bool
     requires { column < 64 }
     ensures { result ≡ has_column word column }
 {
@@ -50,6 +50,15 @@ pub fn has_cell(words: &[u64], height: u32, cell: u32, plane: u32) -> bool
 {
     let place = place(words, height, cell, plane);
     has_column(words[place], cell / height)
+}
+
+/// The columns of a row that a plane has.
+pub fn plane_row(words: &[u64], height: u32, plane: u32, row: u32) -> u64
+    requires row { row < height }
+    requires plane { (plane + 1) * height ≤ length words.now }
+    ensures { result ≡ slice_index words.now (plane * height + row) }
+{
+    words[plane as usize * height as usize + row as usize]
 }
 
 /// Puts a cell into a plane, or takes it away.

@@ -1,6 +1,8 @@
 //! A board of rows of bits.
 
-ghost use Rattle.std.specs.Prelude.{◌≡◌, ◌+◌, ◌*◌, ◌/◌, ◌^◌, ◌<◌, ◌≤◌, ℕ, Some, List, length, option_map, replicate, vec_len};
+ghost use Rattle.std.specs.Prelude.{◌≡◌, ◌+◌, ◌*◌, ◌/◌, ◌^◌, ◌<◌, ◌≤◌, ◌&&◌, ℕ, Some, List, length, nat_lt};
+ghost use Rattle.std.specs.Prelude.{option_map, replicate, slice_get, slice_index, vec_len};
+ghost use Rattle.ps_model.specs.board.Movement.{is_number};
 ghost use Rattle.ps_model.specs.declared.limits.TheConstants.{LAYER_LIMIT, SIDE_LIMIT};
 ghost use Rattle.ps_rows.specs.Planes.{HavePlanes};
 ghost use Rattle.ps_rows.specs.Showing.{AreMotionsShown, AreObjectsShown, cleared_from, grid_shown};
@@ -8,7 +10,7 @@ ghost use Rattle.ps_rows.specs.Showing.{motions_from, numbered, object_shown, wi
 
 use crate::members::Members;
 use crate::motions::{choose_motion, first_motion};
-use crate::planes::{choose_plane, first_plane};
+use crate::planes::{choose_plane, first_plane, plane_row};
 use ps_board::Board;
 use ps_model::{LayerId, Memory, Motion, ObjectId};
 use std::alloc::Global;
@@ -97,13 +99,30 @@ fn object_of(number: Option<u32>) -> Option<ObjectId>
 
 impl RowBoard {
     /// The first plane of a layer's motions.
-    fn motions_from(&self, layer: u32) -> u32
+    pub(crate) fn motions_from(&self, layer: u32) -> u32
         requires { layer < self.now.layers }
         ensures first { result ≡ motions_from self.now.members.table.items layer }
         ensures few { result + 4 < 2 ^ 32 }
         ensures within { (result + 5) * self.now.height ≤ vec_len self.now.words }
     {
         self.members.count() + 5 * layer
+    }
+
+    /// The columns of a row that a plane has.
+    pub(crate) fn row(&self, plane: u32, row: u32) -> u64
+        requires plane { plane < motions_from self.now.members.table.items self.now.layers }
+        requires row { row < self.now.height }
+        ensures { result ≡ slice_index self.now.words.items (plane * self.now.height + row) }
+    {
+        plane_row(self.words.as_slice(), self.height, plane, row)
+    }
+
+    /// Whether an object is one of a layer that the board has.
+    pub(crate) fn is_on(&self, object: u32, layer: u32) -> bool
+        ensures { let own = is_number (slice_get self.now.members.table.items object) layer in
+            result ≡ (nat_lt layer self.now.layers && own) }
+    {
+        layer < self.layers && self.members.is_on(object, layer)
     }
 
     /// The number of the object that stands on a layer of a cell, if one does.
