@@ -7,6 +7,7 @@
 mod columns;
 mod fitting;
 mod list_scan;
+mod rooms;
 mod scan;
 mod scanning;
 mod slots;
@@ -14,4 +15,6 @@ mod writing;
 
 pub use columns::Columns;
 pub use ps_board::{Board, ListBoard};
+pub use rooms::Rooms;
 pub use scan::Scan;
+pub use writing::write_cell;
