@@ -9,3 +9,4 @@ pub mod Tables
 pub mod Rests
 pub mod Whole
 pub mod Scans
+pub mod Rows

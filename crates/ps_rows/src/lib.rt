@@ -8,8 +8,10 @@ mod members;
 mod motions;
 mod planes;
 mod row_board;
+mod row_scan;
 mod scanning;
 
 pub use ps_board::Board;
+pub use ps_match::{Columns, Rooms, Scan};
 pub use ps_model::{LayerId, Memory, Motion, ObjectId};
 pub use row_board::RowBoard;

@@ -117,6 +117,13 @@ impl RowBoard {
         plane_row(self.words.as_slice(), self.height, plane, row)
     }
 
+    /// Whether an object is one of a layer, by the table.
+    pub(crate) fn is_member(&self, object: u32, layer: u32) -> bool
+        ensures { result ≡ is_number (slice_get self.now.members.table.items object) layer }
+    {
+        self.members.is_on(object, layer)
+    }
+
     /// Whether an object is one of a layer that the board has.
     pub(crate) fn is_on(&self, object: u32, layer: u32) -> bool
         ensures { let own = is_number (slice_get self.now.members.table.items object) layer in
