@@ -1,10 +1,10 @@
 -- What is written to a cell layer by layer.
-use Rattle.std.proofs.Common.{◌≡◌, ◌∙◌, ℕ, ◌+◌, ◌<◌, ◌≤◌, ◌||◌, ◌&&◌, Bool, true, false, not, suc, zero, Option, Some, None, List, [], ◌∷◌, ◌++◌, length, take, drop, get_or, refl, sym, ap, arith}
-use Rattle.std.specs.Prelude.{slice_set, slice_get}
+use Rattle.std.proofs.Common.{◌≡◌, ◌∙◌, ℕ, ◌+◌, ◌<◌, ◌≤◌, ◌||◌, ◌&&◌, Bool, true, false, not, suc, zero, List, [], ◌∷◌, ◌++◌, length, take, drop, get_or, refl, sym, ap, arith}
+use Rattle.std.specs.Prelude.{slice_set}
 use Rattle.std.proofs.lemmas.List.{get_or-set_same, set-set}
 use Rattle.ps_model.specs.declared.pieces.Slot.{Slot}
 use Rattle.ps_model.specs.declared.pieces.Slot.TheVariants.{Bare}
-use Rattle.ps_model.specs.board.Grid.{Grid, cell_at, slot_at, with_slot}
+use Rattle.ps_model.specs.board.Grid.{Grid, slot_at, with_slot}
 use Rattle.ps_model.specs.board.Attempts.{same_cell, same_slot}
 use Rattle.ps_model.specs.meaning.Compiled.{CellWrite, written_from}
 use Rattle.ps_match.specs.InRoom.{slot_after}

@@ -1,1 +1,5 @@
 pub mod Cells
+pub mod ColumnLaws
+pub mod ColumnWords
+pub mod Scanned
+pub mod OwnWrites

@@ -1,1 +1,3 @@
 pub mod InRoom
+pub mod ColumnSets
+pub mod WordsOfColumns

@@ -1,7 +1,9 @@
 //! A list board, matched and rewritten slot by slot.
 
+use crate::columns::Columns;
 use crate::fitting::fits_cell;
 use crate::scan::Scan;
+use crate::scanning::scan_row;
 use crate::writing::write_cell;
 use ps_board::{Board, ListBoard};
 use ps_program::{CellMask, CellWrite};
@@ -13,6 +15,10 @@ impl Scan for ListBoard {
             return false;
         }
         fits_cell(self, mask, cell)
+    }
+
+    fn scan(&self, mask: &CellMask, row: u32) -> Columns {
+        scan_row(self, mask, row)
     }
 
     fn write(&mut self, write: &CellWrite, cell: u32, changed: bool) -> bool {

@@ -1,11 +1,13 @@
 //! What a board does for a rule.
 
-ghost use Rattle.std.specs.Prelude.{◌≡◌, slice_get};
+ghost use Rattle.std.specs.Prelude.{◌≡◌, ◌<◌, slice_get};
 ghost use Rattle.ps_model.specs.board.Places.{fits_there};
 ghost use Rattle.ps_model.specs.board.Attempts.{Rewritten, rewritten_cell};
 ghost use Rattle.ps_program.specs.ProgramShown.{mask_shown, write_shown};
+ghost use Rattle.ps_match.specs.ColumnSets.{row_fits};
 ghost use Rattle.ps_match.specs.InRoom.{meaning_of_mask, meaning_of_write, sides_of, write_in_room};
 
+use crate::columns::Columns;
 use ps_board::Board;
 use ps_program::{CellMask, CellWrite};
 
@@ -16,6 +18,11 @@ pub trait Scan: Board {
     fn fits(&self, mask: &CellMask, cell: u32) -> bool
         ensures { result ≡ fits_there (meaning_of_mask (mask_shown mask.now))
             (slice_get (Self.grid self.now).cells cell) };
+
+    /// The columns of a row of the board whose cells fit a mask; no column beyond the board's width does.
+    fn scan(&self, mask: &CellMask, row: u32) -> Columns
+        requires { row < (Self.grid self.now).height }
+        ensures { result ≡ row_fits (Self.grid self.now) (meaning_of_mask (mask_shown mask.now)) row };
 
     /// Writes a cell, and answers whether it changed, or something had `changed` before. Beyond the board nothing is
     /// written, and an object that has no room on a layer isn't put there.

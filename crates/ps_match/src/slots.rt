@@ -6,8 +6,9 @@ ghost use Rattle.ps_model.specs.board.Attempts.{same_slot};
 ghost use Rattle.ps_model.specs.meaning.Fitting.{motion_number, same_motion};
 ghost use Rattle.ps_model.specs.meaning.Compiled.{is_gone, object_written, slot_freed};
 ghost use Rattle.ps_program.specs.ProgramShown.{write_shown};
-ghost use Rattle.ps_match.specs.InRoom.{slot_after};
+ghost use Rattle.ps_match.specs.InRoom.{is_own_write, own_write, slot_after, write_in_room};
 
+use crate::rooms::Rooms;
 use ps_model::{
     Direction, LayerId, LayerWrite, LayeredObject, Motion, ObjectId, ObjectWrite, Slot,
 };
@@ -108,15 +109,38 @@ fn object_after(write: LayerWrite, slot: Slot) -> Slot
     }
 }
 
-/// The slot of a layer written: first its object goes, if it does, and then the layer's write is made.
-pub fn slot_after(write: &CellWrite, layer: LayerId, slot: Slot) -> Slot
-    ensures { result ≡ slot_after (write_shown write.now) layer.0 slot }
+/// Whether a write is that layer's, and what it puts has room there.
+fn is_own<B: Rooms>(board: &B, write: LayerWrite, layer: LayerId) -> bool
+    ensures { result ≡ is_own_write (B.table board.now) layer.0 write }
 {
-    let slot = freed(write.gone.as_slice(), layer, slot);
-    for each in write.layers.as_slice() {
-        if each.layer.0 == layer.0 {
-            return object_after(*each, slot);
+    let has_room = match write.object {
+        ObjectWrite::Put(object) => board.has_room(object, write.layer),
+        ObjectWrite::Leave => true,
+        ObjectWrite::Clear => true,
+    };
+    has_room && write.layer.0 == layer.0
+}
+
+/// The write of a layer: the first of it whose object has room there.
+fn own_write<B: Rooms>(board: &B, writes: &[LayerWrite], layer: LayerId) -> Option<LayerWrite>
+    ensures { result ≡ own_write (B.table board.now) layer.0 writes.now }
+{
+    for each in writes {
+        if is_own(board, *each, layer) {
+            return Some(*each);
         }
     }
-    slot
+    None
+}
+
+/// The slot of a layer written: first its object goes, if it does, and then the layer's write is made. What has no room
+/// on its layer isn't put there.
+pub fn slot_after<B: Rooms>(board: &B, write: &CellWrite, layer: LayerId, slot: Slot) -> Slot
+    ensures { result ≡ slot_after (write_in_room (B.table board.now) (write_shown write.now)) layer.0 slot }
+{
+    let slot = freed(write.gone.as_slice(), layer, slot);
+    match own_write(board, write.layers.as_slice(), layer) {
+        None => slot,
+        Some(each) => object_after(each, slot),
+    }
 }

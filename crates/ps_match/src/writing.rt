@@ -1,12 +1,13 @@
 //! A cell of a board written, slot by slot.
 
-ghost use Rattle.std.specs.Prelude.{◌≡◌, ◌*◌, ◌<◌, ◌||◌, None, not, slice_set};
+ghost use Rattle.std.specs.Prelude.{◌≡◌, ◌*◌, ◌<◌, ◌||◌, not, slice_set};
 ghost use Rattle.ps_model.specs.board.Grid.{Grid, IsGrid, IsPlace, cell_at, slot_at, with_slot};
 ghost use Rattle.ps_model.specs.board.Attempts.{same_cell, same_slot};
 ghost use Rattle.ps_model.specs.meaning.Compiled.{cell_written};
 ghost use Rattle.ps_program.specs.ProgramShown.{write_shown};
-ghost use Rattle.ps_match.specs.InRoom.{slot_after};
+ghost use Rattle.ps_match.specs.InRoom.{SlotHasRoom, slot_after, write_in_room};
 
+use crate::rooms::Rooms;
 use crate::slots::{same_slots, slot_after};
 use ps_board::Board;
 use ps_model::{LayerId, Motion, Slot};
@@ -15,7 +16,8 @@ use ps_program::CellWrite;
 /// What stands on a layer of a cell.
 fn slot<B: Board>(board: &B, cell: u32, layer: LayerId) -> Slot
     requires { IsPlace (B.grid board.now) cell layer.0 }
-    ensures { result ≡ slot_at (B.grid board.now) cell layer.0 }
+    ensures value { result ≡ slot_at (B.grid board.now) cell layer.0 }
+    ensures room { SlotHasRoom (B.table board.now) layer.0 result }
 {
     match board.object(cell, layer) {
         None => Slot::Bare,
@@ -28,8 +30,8 @@ fn slot<B: Board>(board: &B, cell: u32, layer: LayerId) -> Slot
 
 /// Makes a slot what is given.
 fn put_slot<B: Board>(board: &mut B, cell: u32, layer: LayerId, slot: Slot)
-    requires free { B.table board.old ≡ None }
     requires place { IsPlace (B.grid board.old) cell layer.0 }
+    requires room { SlotHasRoom (B.table board.old) layer.0 slot }
     ensures grid { B.grid board.new ≡ with_slot (B.grid board.old) cell layer.0 slot }
     ensures table { B.table board.new ≡ B.table board.old }
 {
@@ -40,38 +42,39 @@ fn put_slot<B: Board>(board: &mut B, cell: u32, layer: LayerId, slot: Slot)
 }
 
 /// Writes a layer of a cell, and answers whether it changed, or something had `changed` before.
-fn write_slot<B: Board>(
+fn write_slot<B: Rooms>(
     board: &mut B,
     write: &CellWrite,
     cell: u32,
     layer: LayerId,
     changed: bool,
 ) -> bool
-    requires free { B.table board.old ≡ None }
-    requires place { IsPlace (B.grid board.old) cell layer.0 }
+    requires { IsPlace (B.grid board.old) cell layer.0 }
     ensures grid { let before = slot_at (B.grid board.old) cell layer.0 in
         B.grid board.new ≡ with_slot (B.grid board.old) cell layer.0
-        (slot_after (write_shown write.now) layer.0 before) }
+        (slot_after (write_in_room (B.table board.old) (write_shown write.now)) layer.0 before) }
     ensures changed { let before = slot_at (B.grid board.old) cell layer.0 in
-        result ≡ (changed || not (same_slot before (slot_after (write_shown write.now) layer.0 before))) }
+        let write = write_in_room (B.table board.old) (write_shown write.now) in
+        result ≡ (changed || not (same_slot before (slot_after write layer.0 before))) }
     ensures table { B.table board.new ≡ B.table board.old }
 {
     let before = slot(board, cell, layer);
-    let after = slot_after(write, layer, before);
+    let after = slot_after(board, write, layer, before);
     put_slot(board, cell, layer, after);
     changed || !same_slots(before, after)
 }
 
-/// Writes a cell, and answers whether it changed, or something had `changed` before.
-pub fn write_cell<B: Board>(board: &mut B, write: &CellWrite, cell: u32, changed: bool) -> bool
-    requires free { B.table board.old ≡ None }
+/// Writes a cell, and answers whether it changed, or something had `changed` before. What has no room on a layer isn't
+/// put there.
+pub fn write_cell<B: Rooms>(board: &mut B, write: &CellWrite, cell: u32, changed: bool) -> bool
     requires shape { IsGrid (B.grid board.old) }
     requires cell { cell < (B.grid board.old).width * (B.grid board.old).height }
     ensures grid { let g : Grid = B.grid board.old in
-        let after = cell_written (write_shown write.now) (cell_at g cell) in
+        let after = cell_written (write_in_room (B.table board.old) (write_shown write.now)) (cell_at g cell) in
         B.grid board.new ≡ record g { cells = slice_set g.cells cell after } }
     ensures changed { let before = cell_at (B.grid board.old) cell in
-        result ≡ (changed || not (same_cell before (cell_written (write_shown write.now) before))) }
+        let write = write_in_room (B.table board.old) (write_shown write.now) in
+        result ≡ (changed || not (same_cell before (cell_written write before))) }
     ensures table { B.table board.new ≡ B.table board.old }
 {
     let mut any = changed;

@@ -1,8 +1,7 @@
 -- The places of a row in closed form.
-use Rattle.std.proofs.Common.{◌≡◌, ◌∙◌, ℕ, ◌+◌, ◌-◌, ◌*◌, ◌/◌, ◌%◌, ◌<◌, ◌≤◌, suc, zero, Bool, true, false, Option, List, [], ◌∷◌, ◌++◌, length, map, filter, reverse, refl, sym, ap, ap₂, subst, arith}
-use Rattle.std.specs.Prelude.{nat_le, sum}
+use Rattle.std.proofs.Common.{◌≡◌, ◌∙◌, ℕ, ◌+◌, ◌*◌, ◌<◌, ◌≤◌, Option, List, [], ◌∷◌, ◌++◌, length, map, filter, refl, sym, ap, ap₂, subst, arith}
+use Rattle.std.specs.Prelude.{sum}
 use Rattle.std.specs.List.{range_with_len, flat_map}
-use Rattle.std.proofs.lemmas.Bool.Decides.{nat_tests}
 use Rattle.std.proofs.lemmas.List.{map-append, length-map, length-append}
 use Rattle.std.proofs.lemmas.List.Folds.{flat_map-map}
 use Rattle.std.proofs.lemmas.Grind.{flat_map-append}
@@ -13,7 +12,7 @@ use Rattle.ps_model.specs.board.Grid.{Grid, IsGrid}
 use Rattle.ps_model.specs.board.Places.{places, stretches, fits_along, cells_in, search_order, row_by_row}
 use Rattle.ps_program.specs.declared.cells.CompiledCell.{CompiledCell}
 use Rattle.ps_places.specs.declared.shape.Shape.{Shape}
-use Rattle.ps_places.specs.Stretches.{stretch_of, gap_count, one_if}
+use Rattle.ps_places.specs.Stretches.{gap_count}
 use Rattle.ps_places.specs.RowCells.{all_cells}
 use Rattle.ps_places.specs.RowMeanings.{cell_meaning, parts_meaning, meanings_of, part_sizes, places_at, horizontal_at, vertical_at, row_places_at, IsShapeOf, line_long}
 use Rattle.ps_places.proofs.Lines.{stretches-closed, stretches-past}
@@ -38,7 +37,7 @@ as_meant : (g : Grid) (table : Option (List ℕ)) (direction : Direction) (parts
 as_meant g table direction parts =
     ap₂ (λ (cells : List _) (sizes : List ℕ). flat_map (λ end. filter (fits_along g cells) (stretches g direction sizes end)) (search_order g direction)) (cells_in-meant table parts) (sizes-meant table parts)
 
-closed : (g : Grid) (table : Option (List ℕ)) (direction : Direction) (parts : List (List CompiledCell)) (shape : Shape) → length parts ≤ 2 → IsShapeOf g direction (part_sizes parts) shape →
+pub closed : (g : Grid) (table : Option (List ℕ)) (direction : Direction) (parts : List (List CompiledCell)) (shape : Shape) → length parts ≤ 2 → IsShapeOf g direction (part_sizes parts) shape →
     places g direction (parts_meaning table parts) ≡ flat_map (λ end. places_at g table parts shape end (gap_count (part_sizes parts) (line_long g direction end))) (search_order g direction)
 closed g table direction parts shape few is =
     as_meant g table direction parts

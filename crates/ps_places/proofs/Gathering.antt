@@ -27,3 +27,17 @@ pub one_more_list : {X : Type 0} (f : ℕ → List X) (old now more last : List 
 one_more_list f old now more last n inv is e =
     is ∙ ap₂ (λ (xs ys : List _). xs ++ ys) inv e ∙ append_assoc old (flat_map f (range_with_len 0 n)) (f n)
     ∙ ap (λ (xs : List _). old ++ xs) (sym (flat_map-range-more f 0 n n (omega arith)))
+
+-- a place kept in front of those of the columns that are left
+pub one_taken : {P X : Type 0} (shown : P → X) (s : ℕ → X) (found more : List P) (place : P) (k : ℕ) (ks ls : List ℕ) → more ≡ found ++ place ∷ [] → shown place ≡ s k → ls ≡ k ∷ ks →
+    map shown more ++ map s ks ≡ map shown found ++ map s ls
+one_taken shown s found more place k ks ls is same e =
+    ap (λ (xs : List _). map shown xs ++ map s ks) is
+    ∙ ap (λ (xs : List _). xs ++ map s ks) (map-append shown found (place ∷ []))
+    ∙ append_assoc (map shown found) (shown place ∷ []) (map s ks)
+    ∙ ap (λ (x : _). map shown found ++ x ∷ map s ks) same
+    ∙ ap (λ (ns : List ℕ). map shown found ++ map s ns) (sym e)
+
+-- a place kept, if it fits
+pub one_kept : {P X : Type 0} (shown : P → X) (found more : List P) (place : P) (fits : Bool) → more ≡ found ++ cond fits (place ∷ []) [] → map shown more ≡ map shown found ++ cond fits (shown place ∷ []) []
+one_kept shown found more place fits is = ap (map shown) is ∙ map-append shown found (cond fits (place ∷ []) []) ∙ ap (λ (xs : List _). map shown found ++ xs) (one_or_none shown place fits (shown place) refl)

@@ -5,3 +5,7 @@ pub mod Lines
 pub mod Gathering
 pub mod Closed
 pub mod FirstOne
+pub mod Begins
+pub mod ByColumns
+pub mod Nowhere
+pub mod EndColumns

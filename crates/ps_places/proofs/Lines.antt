@@ -1,6 +1,6 @@
 -- The ways along a line, in closed form.
-use Rattle.std.proofs.Common.{◌≡◌, ◌∙◌, ℕ, ◌+◌, ◌-◌, ◌*◌, ◌/◌, ◌%◌, ◌<◌, ◌≤◌, suc, zero, Bool, true, false, List, [], ◌∷◌, ◌++◌, length, map, filter, drop, take, reverse, refl, sym, ap, ap₂, arith}
-use Rattle.std.specs.Prelude.{nat_le, nat_lt, sum}
+use Rattle.std.proofs.Common.{◌≡◌, ◌∙◌, ℕ, ◌+◌, ◌-◌, ◌*◌, ◌/◌, ◌%◌, ◌<◌, ◌≤◌, suc, Bool, true, false, List, [], ◌∷◌, ◌++◌, length, map, drop, take, reverse, refl, sym, ap, ap₂, arith}
+use Rattle.std.specs.Prelude.{nat_le, sum}
 use Rattle.std.specs.List.{range_with_len, flat_map}
 use Rattle.std.proofs.lemmas.Bool.Decides.{nat_tests}
 use Rattle.std.proofs.lemmas.List.{append-nil}
@@ -9,7 +9,7 @@ use Rattle.std.proofs.lemmas.List.FromFn.{length-map-range_with_len, take-map-ra
 use Rattle.ps_model.specs.declared.pieces.Direction.{Direction}
 use Rattle.ps_model.specs.declared.pieces.Direction.TheVariants.{Up, Down, Left, Right}
 use Rattle.ps_model.specs.board.Grid.{Grid}
-use Rattle.ps_model.specs.board.Places.{ways_along, stretches, cells_rightwards, cells_downwards}
+use Rattle.ps_model.specs.board.Places.{ways_along, stretches}
 use Rattle.ps_places.specs.declared.shape.Shape.{Shape}
 use Rattle.ps_places.specs.Stretches.{with_gap, from_end, stretch_of, one_if, gap_count, first_size}
 use Rattle.ps_places.specs.RowMeanings.{IsShapeOf, line_long}

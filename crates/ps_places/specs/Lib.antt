@@ -2,3 +2,6 @@ pub mod Stretches
 pub mod RowMeanings
 pub mod Found
 pub mod RowCells
+pub mod Starts
+pub mod Somewhere
+pub mod Ends

@@ -1,5 +1,5 @@
 -- What a row of a compiled rule means on a board: its first two parts, whose writes put nothing that has no room.
-use Rattle.std.specs.Prelude.{◌≡◌, ℕ, Bool, true, false, Option, List, [], ◌∷◌, map, filter, take, length, sum, ◌+◌, ◌*◌, ◌-◌, ◌/◌, ◌%◌}
+use Rattle.std.specs.Prelude.{◌≡◌, ℕ, Bool, true, false, Option, List, map, filter, length, sum, ◌+◌, ◌*◌, ◌-◌, ◌/◌, ◌%◌}
 use Rattle.std.specs.List.{flat_map, range_with_len}
 use Rattle.ps_model.specs.board.Places.{fits_along}
 use Rattle.ps_model.specs.declared.pieces.Direction.{Direction}

@@ -10,9 +10,11 @@ ghost use Rattle.ps_places.specs.RowCells.{all_cells};
 ghost use Rattle.ps_places.specs.Stretches.{cells_of};
 ghost use Rattle.ps_places.specs.RowMeanings.{IsShapeOf, part_sizes, parts_meaning};
 
+use crate::by_columns::{search_across, search_down};
 use crate::row_places::RowPlaces;
 use crate::search::{search_columns, search_rows};
 use crate::shape::{Place, Shape};
+use crate::somewhere::each_fits;
 use ps_match::Scan;
 use ps_model::{Direction, Memory, SIDE_LIMIT};
 use ps_program::CompiledCell;
@@ -87,6 +89,55 @@ pub fn shape_of<B: Scan>(
     })
 }
 
+/// Adds the places of parts that lie side by side. `Memory` if there is no room for them.
+fn search_together<B: Scan>(
+    board: &B,
+    direction: Direction,
+    parts: &[List<CompiledCell>],
+    shape: Shape,
+    found: &mut Vec<Place>,
+) -> Result<(), Memory>
+    requires one { length parts.now < 2 }
+    requires is { IsShapeOf (B.grid board.now) direction (part_sizes parts.now) shape }
+    requires size { sum (part_sizes parts.now) ≡ shape.size }
+    requires whole { length (all_cells parts.now) ≡ shape.size }
+    ensures { let more = places (B.grid board.now) direction (parts_meaning (B.table board.now) parts.now) in
+        OnOk result (map (cells_of shape) found.new.items ≡ map (cells_of shape) found.old.items ++ more) }
+{
+    match direction {
+        Direction::Up => search_down(board, parts, shape, found),
+        Direction::Down => search_down(board, parts, shape, found),
+        Direction::Left => search_across(board, parts, shape, found),
+        Direction::Right => search_across(board, parts, shape, found),
+    }
+}
+
+/// Adds the places of parts with any gap between them. `Memory` if there is no room for them.
+fn search_gaps<B: Scan>(
+    board: &B,
+    direction: Direction,
+    parts: &[List<CompiledCell>],
+    shape: Shape,
+    found: &mut Vec<Place>,
+) -> Result<(), Memory>
+    requires few { length parts.now ≤ 2 }
+    requires is { IsShapeOf (B.grid board.now) direction (part_sizes parts.now) shape }
+    requires size { sum (part_sizes parts.now) ≡ shape.size }
+    requires whole { length (all_cells parts.now) ≡ shape.size }
+    ensures { let more = places (B.grid board.now) direction (parts_meaning (B.table board.now) parts.now) in
+        OnOk result (map (cells_of shape) found.new.items ≡ map (cells_of shape) found.old.items ++ more) }
+{
+    if !each_fits(board, parts, shape) {
+        return Ok(());
+    }
+    match direction {
+        Direction::Up => search_columns(board, parts, shape, found),
+        Direction::Down => search_columns(board, parts, shape, found),
+        Direction::Left => search_rows(board, parts, shape, found),
+        Direction::Right => search_rows(board, parts, shape, found),
+    }
+}
+
 /// Adds the places of parts. `Memory` if there is no room for them.
 fn search<B: Scan>(
     board: &B,
@@ -102,12 +153,10 @@ fn search<B: Scan>(
     ensures { let more = places (B.grid board.now) direction (parts_meaning (B.table board.now) parts.now) in
         OnOk result (map (cells_of shape) found.new.items ≡ map (cells_of shape) found.old.items ++ more) }
 {
-    match direction {
-        Direction::Up => search_columns(board, parts, shape, found),
-        Direction::Down => search_columns(board, parts, shape, found),
-        Direction::Left => search_rows(board, parts, shape, found),
-        Direction::Right => search_rows(board, parts, shape, found),
+    if parts.len() < 2 {
+        return search_together(board, direction, parts, shape, found);
     }
+    search_gaps(board, direction, parts, shape, found)
 }
 
 /// The places of a row on a board, in their order; nothing, where it has none. `Memory` if there is no room for them.

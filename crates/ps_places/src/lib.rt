@@ -2,6 +2,8 @@
 #![tactic(auto)]
 
 mod along;
+mod by_columns;
+mod ends;
 mod find;
 mod presence;
 mod row_cells;
@@ -9,6 +11,8 @@ mod row_places;
 mod search;
 mod shape;
 mod shape_cells;
+mod somewhere;
+mod starts;
 
 pub use along::{fits_place, rewrite_place};
 pub use find::find_places;

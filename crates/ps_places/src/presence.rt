@@ -10,11 +10,14 @@ ghost use Rattle.ps_places.specs.RowMeanings.{IsShapeOf, part_sizes, parts_meani
 ghost use Rattle.ps_places.specs.RowMeanings.{places_at, row_places_at, vertical_at};
 
 use crate::along::fits_place;
+use crate::ends::{ends_across, find_ends, may_end};
 use crate::find::{first_parts, shape_of};
-use crate::search::gaps;
+use crate::search::gaps_if;
 use crate::shape::{Place, Shape};
-use ps_match::Scan;
-use ps_model::Direction;
+use crate::somewhere::each_fits;
+use crate::starts::{starts_across, starts_down};
+use ps_match::{Columns, Scan};
+use ps_model::{Direction, SIDE_LIMIT};
 use ps_program::CompiledCell;
 use ps_text::List;
 
@@ -49,8 +52,12 @@ fn fits_in_columns<B: Scan>(board: &B, parts: &[List<CompiledCell>], shape: Shap
         result ≡ has_one (flat_map at (range_with_len 0 (g.width * g.height))) }
 {
     let (width, height) = board.size();
+    let mut rows = [Columns::none(); SIDE_LIMIT as usize];
+    find_ends(board, parts, shape, &mut rows);
     for end in 0..width * height {
-        let count = gaps(parts, shape, height - end % height);
+        let row = end % height;
+        let may = may_end(&rows, row, end / height);
+        let count = gaps_if(may, parts, shape, height - row);
         if fits_at_end(board, parts, shape, end, count) {
             return true;
         }
@@ -61,15 +68,17 @@ fn fits_in_columns<B: Scan>(board: &B, parts: &[List<CompiledCell>], shape: Shap
 /// Whether parts that go left or right have a place in a row of the board.
 fn fits_in_row<B: Scan>(board: &B, parts: &[List<CompiledCell>], shape: Shape, row: u32) -> bool
     requires few { length parts.now ≤ 2 }
+    requires step { shape.step ≡ (B.grid board.now).height }
     requires size { sum (part_sizes parts.now) ≡ shape.size }
     requires whole { length (all_cells parts.now) ≡ shape.size }
     requires row { row < (B.grid board.now).height }
     ensures { result ≡ has_one (row_places_at (B.grid board.now) (B.table board.now) parts.now shape row) }
 {
     let (width, height) = board.size();
+    let ends = ends_across(board, parts, shape, row);
     for column in 0..width {
         let end = column * height + row;
-        let count = gaps(parts, shape, width - end / height);
+        let count = gaps_if(ends.has(column), parts, shape, width - end / height);
         if fits_at_end(board, parts, shape, end, count) {
             return true;
         }
@@ -80,6 +89,7 @@ fn fits_in_row<B: Scan>(board: &B, parts: &[List<CompiledCell>], shape: Shape, r
 /// Whether parts that go left or right have a place.
 fn fits_in_rows<B: Scan>(board: &B, parts: &[List<CompiledCell>], shape: Shape) -> bool
     requires few { length parts.now ≤ 2 }
+    requires step { shape.step ≡ (B.grid board.now).height }
     requires size { sum (part_sizes parts.now) ≡ shape.size }
     requires whole { length (all_cells parts.now) ≡ shape.size }
     ensures { let g = B.grid board.now in
@@ -93,6 +103,91 @@ fn fits_in_rows<B: Scan>(board: &B, parts: &[List<CompiledCell>], shape: Shape) 
         }
     }
     false
+}
+
+/// Whether parts that lie side by side, left or right, have a place.
+fn fits_across<B: Scan>(board: &B, parts: &[List<CompiledCell>], shape: Shape) -> bool
+    requires one { length parts.now < 2 }
+    requires step { shape.step ≡ (B.grid board.now).height }
+    requires size { sum (part_sizes parts.now) ≡ shape.size }
+    requires whole { length (all_cells parts.now) ≡ shape.size }
+    ensures { let g = B.grid board.now in
+        let at = row_places_at g (B.table board.now) parts.now shape in
+        result ≡ has_one (flat_map at (range_with_len 0 g.height)) }
+{
+    let (_width, height) = board.size();
+    for row in 0..height {
+        if !starts_across(board, parts, shape, row).is_empty() {
+            return true;
+        }
+    }
+    false
+}
+
+/// Whether parts that lie one below the other have a place.
+fn fits_down<B: Scan>(board: &B, parts: &[List<CompiledCell>], shape: Shape) -> bool
+    requires one { length parts.now < 2 }
+    requires step { shape.step ≡ 1 }
+    requires size { sum (part_sizes parts.now) ≡ shape.size }
+    requires whole { length (all_cells parts.now) ≡ shape.size }
+    ensures { let g = B.grid board.now in
+        let at = vertical_at g (B.table board.now) parts.now shape in
+        result ≡ has_one (flat_map at (range_with_len 0 (g.width * g.height))) }
+{
+    let (_width, height) = board.size();
+    for row in 0..height {
+        if !starts_down(board, parts, shape, row).is_empty() {
+            return true;
+        }
+    }
+    false
+}
+
+/// Whether parts have a place that lie side by side.
+fn fits_together<B: Scan>(
+    board: &B,
+    direction: Direction,
+    parts: &[List<CompiledCell>],
+    shape: Shape,
+) -> bool
+    requires one { length parts.now < 2 }
+    requires is { IsShapeOf (B.grid board.now) direction (part_sizes parts.now) shape }
+    requires size { sum (part_sizes parts.now) ≡ shape.size }
+    requires whole { length (all_cells parts.now) ≡ shape.size }
+    ensures { let all = places (B.grid board.now) direction (parts_meaning (B.table board.now) parts.now) in
+        result ≡ has_one all }
+{
+    match direction {
+        Direction::Up => fits_down(board, parts, shape),
+        Direction::Down => fits_down(board, parts, shape),
+        Direction::Left => fits_across(board, parts, shape),
+        Direction::Right => fits_across(board, parts, shape),
+    }
+}
+
+/// Whether parts have a place, with any gap between them.
+fn fits_with_gaps<B: Scan>(
+    board: &B,
+    direction: Direction,
+    parts: &[List<CompiledCell>],
+    shape: Shape,
+) -> bool
+    requires few { length parts.now ≤ 2 }
+    requires is { IsShapeOf (B.grid board.now) direction (part_sizes parts.now) shape }
+    requires size { sum (part_sizes parts.now) ≡ shape.size }
+    requires whole { length (all_cells parts.now) ≡ shape.size }
+    ensures { let all = places (B.grid board.now) direction (parts_meaning (B.table board.now) parts.now) in
+        result ≡ has_one all }
+{
+    if !each_fits(board, parts, shape) {
+        return false;
+    }
+    match direction {
+        Direction::Up => fits_in_columns(board, parts, shape),
+        Direction::Down => fits_in_columns(board, parts, shape),
+        Direction::Left => fits_in_rows(board, parts, shape),
+        Direction::Right => fits_in_rows(board, parts, shape),
+    }
 }
 
 /// Whether parts have a place.
@@ -109,12 +204,10 @@ fn fits_somewhere<B: Scan>(
     ensures { let all = places (B.grid board.now) direction (parts_meaning (B.table board.now) parts.now) in
         result ≡ has_one all }
 {
-    match direction {
-        Direction::Up => fits_in_columns(board, parts, shape),
-        Direction::Down => fits_in_columns(board, parts, shape),
-        Direction::Left => fits_in_rows(board, parts, shape),
-        Direction::Right => fits_in_rows(board, parts, shape),
+    if parts.len() < 2 {
+        return fits_together(board, direction, parts, shape);
     }
+    fits_with_gaps(board, direction, parts, shape)
 }
 
 /// Whether a row has a place on a board. No memory is taken, and the search ends with the first place.

@@ -8,9 +8,10 @@ ghost use Rattle.ps_places.specs.RowCells.{all_cells};
 ghost use Rattle.ps_places.specs.RowMeanings.{part_sizes, places_at, row_places_at, vertical_at};
 
 use crate::along::fits_place;
+use crate::ends::{ends_across, find_ends, may_end};
 use crate::shape::{Place, Shape};
-use ps_match::Scan;
-use ps_model::Memory;
+use ps_match::{Columns, Scan};
+use ps_model::{Memory, SIDE_LIMIT};
 use ps_program::CompiledCell;
 use ps_text::List;
 
@@ -31,8 +32,22 @@ pub fn gaps(parts: &[List<CompiledCell>], shape: Shape, long: u32) -> u32
     0
 }
 
+/// How many gaps a row with these parts may have on a line so long, if it `may` end there at all.
+pub fn gaps_if(may: bool, parts: &[List<CompiledCell>], shape: Shape, long: u32) -> u32
+    requires few { length parts.now ≤ 2 }
+    requires size { sum (part_sizes parts.now) ≡ shape.size }
+    requires long { long ≤ SIDE_LIMIT }
+    ensures value { result ≡ cond may (gap_count (part_sizes parts.now) long) 0 }
+    ensures few { result ≤ SIDE_LIMIT + 1 }
+{
+    if may {
+        return gaps(parts, shape, long);
+    }
+    0
+}
+
 /// Keeps a place, if it fits. `Memory` if there is no room for it.
-fn push_if(found: &mut Vec<Place>, place: Place, fits: bool) -> Result<(), Memory>
+pub fn push_if(found: &mut Vec<Place>, place: Place, fits: bool) -> Result<(), Memory>
     ensures { OnOk result (found.new.items ≡ found.old.items ++ cond fits (place ∷ []) []) }
 {
     if fits {
@@ -80,8 +95,12 @@ pub fn search_columns<B: Scan>(
         OnOk result (map (cells_of shape) found.new.items ≡ map (cells_of shape) found.old.items ++ more) }
 {
     let (width, height) = board.size();
+    let mut rows = [Columns::none(); SIDE_LIMIT as usize];
+    find_ends(board, parts, shape, &mut rows);
     for end in 0..width * height {
-        let count = gaps(parts, shape, height - end % height);
+        let row = end % height;
+        let may = may_end(&rows, row, end / height);
+        let count = gaps_if(may, parts, shape, height - row);
         search_end(board, parts, shape, end, count, found)?;
     }
     Ok(())
@@ -96,6 +115,7 @@ fn search_row<B: Scan>(
     found: &mut Vec<Place>,
 ) -> Result<(), Memory>
     requires few { length parts.now ≤ 2 }
+    requires step { shape.step ≡ (B.grid board.now).height }
     requires size { sum (part_sizes parts.now) ≡ shape.size }
     requires whole { length (all_cells parts.now) ≡ shape.size }
     requires row { row < (B.grid board.now).height }
@@ -104,9 +124,10 @@ fn search_row<B: Scan>(
         OnOk result (map (cells_of shape) found.new.items ≡ map (cells_of shape) found.old.items ++ places) }
 {
     let (width, height) = board.size();
+    let ends = ends_across(board, parts, shape, row);
     for column in 0..width {
         let end = column * height + row;
-        let count = gaps(parts, shape, width - end / height);
+        let count = gaps_if(ends.has(column), parts, shape, width - end / height);
         search_end(board, parts, shape, end, count, found)?;
     }
     Ok(())
@@ -120,6 +141,7 @@ pub fn search_rows<B: Scan>(
     found: &mut Vec<Place>,
 ) -> Result<(), Memory>
     requires few { length parts.now ≤ 2 }
+    requires step { shape.step ≡ (B.grid board.now).height }
     requires size { sum (part_sizes parts.now) ≡ shape.size }
     requires whole { length (all_cells parts.now) ≡ shape.size }
     ensures { let g = B.grid board.now in

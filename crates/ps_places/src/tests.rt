@@ -1,7 +1,7 @@
 //! Places that were worked out by hand, on boards of one row and one layer; a dot is an empty cell.
 
 use crate::{RowPlaces, find_places, has_place};
-use ps_match::{Board, ListBoard};
+use ps_match::{Board, Columns, ListBoard, Scan};
 use ps_model::{Direction, LayerId, LayeredObject, Memory, Motion, ObjectId, SIDE_LIMIT};
 use ps_program::{CellMask, CellWrite, CompiledCell};
 use ps_text::List;
@@ -27,20 +27,54 @@ fn board_of(alloc: Global, letters: &[u8]) -> Result<ListBoard, Memory> {
     Ok(board)
 }
 
+/// A board of so many columns and rows with the same letter in each cell.
+fn full_board(alloc: Global, columns: u32, rows: u32, letter: u8) -> Result<ListBoard, Memory> {
+    let width = if 0 < columns && columns <= SIDE_LIMIT {
+        columns
+    } else {
+        1
+    };
+    let height = if 0 < rows && rows <= SIDE_LIMIT {
+        rows
+    } else {
+        1
+    };
+    let mut board = ListBoard::try_empty(alloc, width, height, 1, &[])?;
+    for cell in 0..SIDE_LIMIT * SIDE_LIMIT {
+        let (columns, rows) = board.size();
+        if cell < columns * rows && 0 < board.layers() {
+            board.put(cell, LOWEST, Some(ObjectId(letter as u32)), Motion::Still);
+        }
+    }
+    Ok(board)
+}
+
+/// The objects of letters.
+fn objects(alloc: Global, letters: &[u8]) -> Result<List<LayeredObject>, Memory> {
+    let mut all = Vec::new(alloc);
+    for letter in letters {
+        all.push(LayeredObject {
+            object: ObjectId(*letter as u32),
+            layer: LOWEST,
+        })?;
+    }
+    Ok(List::from_vec(all))
+}
+
+/// A mask that needs some objects and bars others.
+fn mask(alloc: Global, needed: &[u8], barred: &[u8]) -> Result<CellMask, Memory> {
+    Ok(CellMask {
+        needed: objects(alloc, needed)?,
+        barred: objects(alloc, barred)?,
+        one_of: List::from_vec(Vec::new(alloc)),
+        motions: List::from_vec(Vec::new(alloc)),
+    })
+}
+
 /// A cell of a rule that needs an object and writes nothing.
 fn needing(alloc: Global, letter: u8) -> Result<CompiledCell, Memory> {
-    let mut needed = Vec::new(alloc);
-    needed.push(LayeredObject {
-        object: ObjectId(letter as u32),
-        layer: LOWEST,
-    })?;
     Ok(CompiledCell {
-        mask: CellMask {
-            needed: List::from_vec(needed),
-            barred: List::from_vec(Vec::new(alloc)),
-            one_of: List::from_vec(Vec::new(alloc)),
-            motions: List::from_vec(Vec::new(alloc)),
-        },
+        mask: mask(alloc, &[letter], &[])?,
         write: CellWrite {
             gone: List::from_vec(Vec::new(alloc)),
             layers: List::from_vec(Vec::new(alloc)),
@@ -116,5 +150,60 @@ fn a_row_longer_than_the_board_has_no_place(rt: HostRuntime) -> Result<(), Fail>
     check(&rt, &found, &[]);
     assert!(&rt; !has_place(&board, Direction::Right, &sought));
     assert!(&rt; !has_place(&board, Direction::Down, &sought));
+    Ok(())
+}
+
+/// The columns of a set, from the left.
+fn check_columns(rt: &impl Abort, columns: Columns, wanted: &[u32]) {
+    let mut left = columns;
+    for column in wanted {
+        assert_eq!(rt; left.take_first(), Some(*column));
+    }
+    assert!(rt; left.is_empty());
+}
+
+#[test]
+fn the_columns_of_a_row_that_fit(rt: HostRuntime) -> Result<(), Fail> {
+    let alloc = rt.alloc();
+    let board = board_of(alloc, b"A.AB")?;
+    let with_a = mask(alloc, b"A", &[])?;
+    let without_a = mask(alloc, &[], b"A")?;
+    if board.size().1 == 1 {
+        check_columns(&rt, board.scan(&with_a, 0), &[0, 2]);
+        check_columns(&rt, board.scan(&without_a, 0), &[1, 3]);
+        check_columns(&rt, board.scan(&with_a, 0).behind(2), &[0]);
+    }
+    Ok(())
+}
+
+#[test]
+fn downwards_places_come_column_by_column(rt: HostRuntime) -> Result<(), Fail> {
+    let alloc = rt.alloc();
+    let sought = row(alloc, &[b"AA"])?;
+    let board = full_board(alloc, 2, 3, b'A')?;
+    let down = find_places(alloc, &board, Direction::Down, &sought)?;
+    check(&rt, &down, &[(0, 0), (1, 0), (3, 0), (4, 0)]);
+    let up = find_places(alloc, &board, Direction::Up, &sought)?;
+    check(&rt, &up, &[(0, 0), (1, 0), (3, 0), (4, 0)]);
+    let right = find_places(alloc, &board, Direction::Right, &sought)?;
+    check(&rt, &right, &[(0, 0), (1, 0), (2, 0)]);
+    assert!(&rt; has_place(&board, Direction::Up, &sought));
+    assert!(&rt; !has_place(&board, Direction::Left, &row(alloc, &[b"AAA"])?));
+    Ok(())
+}
+
+#[test]
+fn gaps_lie_downwards_and_leftwards_too(rt: HostRuntime) -> Result<(), Fail> {
+    let alloc = rt.alloc();
+    let sought = row(alloc, &[b"A", b"A"])?;
+    let board = full_board(alloc, 1, 3, b'A')?;
+    let down = find_places(alloc, &board, Direction::Down, &sought)?;
+    check(&rt, &down, &[(0, 0), (0, 1), (1, 0)]);
+    let line = board_of(alloc, b"AO.A")?;
+    let left = find_places(alloc, &line, Direction::Left, &sought)?;
+    check(&rt, &left, &[(0, 2)]);
+    assert!(&rt; has_place(&line, Direction::Left, &sought));
+    assert!(&rt; !has_place(&line, Direction::Left, &row(alloc, &[b"A", b"B"])?));
+    assert!(&rt; !has_place(&line, Direction::Up, &sought));
     Ok(())
 }

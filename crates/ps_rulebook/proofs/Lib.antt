@@ -1,2 +1,3 @@
 pub mod PlayedGames
+pub mod RowRooms
 pub mod LentPrograms

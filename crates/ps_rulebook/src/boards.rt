@@ -3,6 +3,7 @@
 ghost use Rattle.ps_rulebook.specs.PlayedGames.{GivesRoom};
 
 use ps_engine::{ListBoard, Scan};
+use ps_rows::RowBoard;
 
 /// A kind of board that gives every object room on its own layer.
 pub trait GameBoard: Scan {
@@ -14,6 +15,12 @@ impl GameBoard for ListBoard {
     ghost use Rattle.std.specs.Prelude.{refl};
 
     ghost room = { λ layers object layer own. refl };
+}
+
+impl GameBoard for RowBoard {
+    ghost use Rattle.ps_rulebook.proofs.RowRooms.{rows_give_room};
+
+    ghost room = { rows_give_room };
 }
 
 /// The kind of board gives every object room on its own layer.

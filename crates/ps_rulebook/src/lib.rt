@@ -17,6 +17,7 @@ pub use programs::rules_of;
 pub use ps_compile::Programs as CompiledPrograms;
 pub use ps_engine::{ListBoard, Scan};
 pub use ps_model::Memory;
+pub use ps_rows::RowBoard;
 pub use ps_turn::{Programs, Rules};
 
 #[cfg(test)]

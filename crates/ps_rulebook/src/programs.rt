@@ -1,8 +1,9 @@
 //! The rules of a game's turns.
 
-ghost use Rattle.std.specs.Prelude.{List};
+ghost use Rattle.std.specs.Prelude.{◌≡◌, List};
 ghost use Rattle.ps_model.specs.names.Names.{Names};
 ghost use Rattle.ps_model.specs.rules.SourceRules.{RuleLine};
+ghost use Rattle.ps_program.specs.ProgramShown.{sections_shown};
 ghost use Rattle.ps_rulebook.specs.PlayedGames.{AreCompiled, PlayAsWritten};
 
 use crate::game_rules::GameRules;
@@ -10,7 +11,7 @@ use ps_compile::Programs as CompiledPrograms;
 use ps_turn::Programs;
 use std::alloc::Global;
 
-/// The rules of the turns of a game: its compiled programs, lent. If they are compiled of the names and the rules of
+/// The rules of the turns of a game: its compiled programs, lent, each for its own part of a turn. If they are compiled of the names and the rules of
 /// the game of a text, then that game, played by them, has the runs of the game as it is written.
 ///
 /// What a turn's message needs of memory comes from `alloc`.
@@ -18,7 +19,9 @@ pub fn rules_of<'p, 'r>(
     alloc: Global,
     programs: &'p CompiledPrograms<'r>,
 ) -> Programs<GameRules<'p, 'r>>
-    ensures { (names : Names) (lines : List RuleLine)
+    ensures plain { sections_shown result.plain.sections.now ≡ programs.entry.now.plain }
+    ensures late { sections_shown result.late.sections.now ≡ programs.entry.now.late }
+    ensures played { (names : Names) (lines : List RuleLine)
         → AreCompiled names lines programs.entry.now.plain programs.entry.now.late
         → PlayAsWritten names lines result.plain.sections.now result.late.sections.now }
 {

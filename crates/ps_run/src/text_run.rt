@@ -14,7 +14,7 @@ use ps_compile::{Programs as CompiledPrograms, compile};
 use ps_devices::{ByteReader, ByteWriter};
 use ps_game::{Game, read_game};
 use ps_model::Ending;
-use ps_rulebook::{GameRules, ListBoard, rules_of};
+use ps_rulebook::{GameRules, RowBoard, rules_of};
 use ps_stage::SessionGame;
 use std::alloc::Global;
 
@@ -87,5 +87,5 @@ fn run_compiled<I: ByteReader, W: ByteWriter>(
         &game.wins,
     );
     let rules = rules_of(alloc, compiled);
-    run_game::<ListBoard, GameRules<'_, '_>, I, W>(alloc, parts, rules, reader, writer)
+    run_game::<RowBoard, GameRules<'_, '_>, I, W>(alloc, parts, rules, reader, writer)
 }

@@ -1,4 +1,4 @@
-use Rattle.std.proofs.Common.{◌≡◌, ◌∙◌, ℕ, ◌+◌, Bool, true, false, List, Some, sym, refl, ap, arith, rules}
+use Rattle.std.proofs.Common.{◌≡◌, ◌∙◌, ℕ, true, false, List, Some, sym, ap, rules}
 use Rattle.std.specs.Prelude.{slice_get}
 use Rattle.ps_model.specs.board.Grid.{Grid}
 use Rattle.ps_model.specs.board.Places.{fits_there}

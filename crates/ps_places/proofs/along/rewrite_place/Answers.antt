@@ -1,4 +1,4 @@
-use Rattle.std.proofs.Common.{◌≡◌, ◌∙◌, ℕ, ◌+◌, Option, List, Some, sym, refl, ap, arith, rules}
+use Rattle.std.proofs.Common.{◌≡◌, ◌∙◌, ℕ, ◌+◌, Option, List, Some, sym, ap}
 use Rattle.std.specs.Prelude.{slice_get}
 use Rattle.ps_model.specs.board.Attempts.{Rewritten, rewritten_cell}
 use Rattle.ps_program.specs.declared.cells.CompiledCell.{CompiledCell}

@@ -1,11 +1,7 @@
-use Rattle.std.proofs.Common.{◌≡◌, ◌∙◌, ◌≤◌, ◌<◌, ◌++◌, Option, List, [], ℕ, None, length, map, take, sum, refl, sym, ap, arith, rules}
-use Rattle.std.proofs.lemmas.Grind.{common_steps}
-use Rattle.ps_model.specs.board.Grid.{Grid}
+use Rattle.std.proofs.Common.{◌≡◌, ◌∙◌, List, take, refl, sym, ap}
 use Rattle.ps_model.specs.board.Places.{places}
 use Rattle.ps_program.specs.declared.cells.CompiledCell.{CompiledCell}
-use Rattle.ps_places.specs.Stretches.{cells_of}
-use Rattle.ps_places.specs.RowCells.{all_cells}
-use Rattle.ps_places.specs.RowMeanings.{parts_meaning, part_sizes}
+use Rattle.ps_places.specs.RowMeanings.{parts_meaning}
 use Rattle.ps_places.proofs.Closed.{places-past, all_cells-size}
 use Rattle.ps_places.proofs.find.find_places.Goals as goal
 

@@ -1,4 +1,4 @@
-use Rattle.std.proofs.Common.{◌≡◌, ◌∙◌, ℕ, ◌+◌, Bool, true, false, List, refl, sym, ap, rules}
+use Rattle.std.proofs.Common.{◌≡◌, ◌∙◌, ◌+◌, true, false, refl, sym, ap, rules}
 use Rattle.ps_model.specs.board.Places.{fits_along}
 use Rattle.ps_places.specs.Found.{has_one}
 use Rattle.ps_places.specs.Stretches.{stretch_of}

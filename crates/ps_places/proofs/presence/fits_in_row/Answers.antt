@@ -1,6 +1,7 @@
-use Rattle.std.proofs.Common.{◌≡◌, ◌∙◌, ℕ, ◌+◌, ◌-◌, ◌*◌, ◌/◌, ◌<◌, Bool, true, false, List, refl, sym, ap, rules}
+use Rattle.std.proofs.Common.{◌≡◌, ◌∙◌, ℕ, ◌+◌, ◌-◌, ◌*◌, ◌/◌, ◌<◌, true, false, sym, ap, rules, Bool, cond, arith}
 use Rattle.ps_places.specs.Stretches.{gap_count}
 use Rattle.ps_places.specs.RowMeanings.{part_sizes, places_at, horizontal_at}
+use Rattle.ps_places.proofs.EndColumns.{at_end}
 use Rattle.ps_places.proofs.FirstOne.{none_more, one_found}
 use Rattle.ps_places.proofs.presence.fits_in_row.Goals as goal
 
@@ -9,14 +10,18 @@ returns-then-fits_at_end g c =
     let grid = g.B.Board.grid c.args.board.now in
     let table = g.B.Board.table c.args.board.now in
     let column : ℕ = c.loop-column.column in
+    let may : Bool = c.has.result in
     let end : ℕ = column * c.size-width.result.1 + c.args.row in
     let yes : c.fits_at_end.result ≡ true = search rules in
     let low : column < grid.width = rw (← c.size-width.ensures.width) c.loop-column-test.true in
-    sym (one_found (λ n. horizontal_at grid table c.args.parts.now c.args.shape (n * grid.height + c.args.row)) (places_at grid table c.args.parts.now c.args.shape end c.gaps-count.result) grid.width column low
+    sym (one_found (λ n. horizontal_at grid table c.args.parts.now c.args.shape (n * grid.height + c.args.row)) (places_at grid table c.args.parts.now c.args.shape end c.gaps_if-count.result) grid.width column low
     (ap (places_at grid table c.args.parts.now c.args.shape end)
-    (c.gaps-count.ensures.value ∙ ap (λ (w : ℕ). gap_count (part_sizes c.args.parts.now) (w - end / c.size-width.result.1)) c.size-width.ensures.width)
-    ∙ ap (λ (h : ℕ). places_at grid table c.args.parts.now c.args.shape (column * h + c.args.row) (gap_count (part_sizes c.args.parts.now) (grid.width - (column * h + c.args.row) / h)))
-    c.size-width.ensures.height)
+    (c.gaps_if-count.ensures.value ∙ ap (λ (w : ℕ). cond may (gap_count (part_sizes c.args.parts.now) (w - end / c.size-width.result.1)) 0) c.size-width.ensures.width)
+    ∙ ap
+    (λ (h : ℕ). places_at grid table c.args.parts.now c.args.shape (column * h + c.args.row) (cond may (gap_count (part_sizes c.args.parts.now) (grid.width - (column * h + c.args.row) / h)) 0))
+    c.size-width.ensures.height
+    ∙ at_end grid table c.args.parts.now c.args.shape c.args.row column (gap_count (part_sizes c.args.parts.now) (grid.width - (column * grid.height + c.args.row) / grid.height)) c.ends_across-ends.result may
+    c.ends_across-ends.ensures (omega (arith, c.loop-column-test.true, c.size-width.ensures.width, c.size-width.ensures.shape.columns)) (sym c.has.ensures))
     (sym c.fits_at_end.ensures ∙ yes))
 
 pub loop-column-preserved : goal.loop-column-preserved
@@ -24,11 +29,15 @@ loop-column-preserved g c =
     let grid = g.B.Board.grid c.args.board.now in
     let table = g.B.Board.table c.args.board.now in
     let column : ℕ = c.loop-column.column in
+    let may : Bool = c.has.result in
     let end : ℕ = column * c.size-width.result.1 + c.args.row in
     let no : c.fits_at_end.result ≡ false = search rules in
-    none_more (λ n. horizontal_at grid table c.args.parts.now c.args.shape (n * grid.height + c.args.row)) (places_at grid table c.args.parts.now c.args.shape end c.gaps-count.result) column c.loop-column.invariant
+    none_more (λ n. horizontal_at grid table c.args.parts.now c.args.shape (n * grid.height + c.args.row)) (places_at grid table c.args.parts.now c.args.shape end c.gaps_if-count.result) column c.loop-column.invariant
     (ap (places_at grid table c.args.parts.now c.args.shape end)
-    (c.gaps-count.ensures.value ∙ ap (λ (w : ℕ). gap_count (part_sizes c.args.parts.now) (w - end / c.size-width.result.1)) c.size-width.ensures.width)
-    ∙ ap (λ (h : ℕ). places_at grid table c.args.parts.now c.args.shape (column * h + c.args.row) (gap_count (part_sizes c.args.parts.now) (grid.width - (column * h + c.args.row) / h)))
-    c.size-width.ensures.height)
+    (c.gaps_if-count.ensures.value ∙ ap (λ (w : ℕ). cond may (gap_count (part_sizes c.args.parts.now) (w - end / c.size-width.result.1)) 0) c.size-width.ensures.width)
+    ∙ ap
+    (λ (h : ℕ). places_at grid table c.args.parts.now c.args.shape (column * h + c.args.row) (cond may (gap_count (part_sizes c.args.parts.now) (grid.width - (column * h + c.args.row) / h)) 0))
+    c.size-width.ensures.height
+    ∙ at_end grid table c.args.parts.now c.args.shape c.args.row column (gap_count (part_sizes c.args.parts.now) (grid.width - (column * grid.height + c.args.row) / grid.height)) c.ends_across-ends.result may
+    c.ends_across-ends.ensures (omega (arith, c.loop-column-test.true, c.size-width.ensures.width, c.size-width.ensures.shape.columns)) (sym c.has.ensures))
     (sym c.fits_at_end.ensures ∙ no)

@@ -1,4 +1,4 @@
-use Rattle.std.proofs.Common.{◌≡◌, ◌∙◌, ℕ, ◌<◌, Bool, true, false, List, refl, sym, rules}
+use Rattle.std.proofs.Common.{◌≡◌, ◌∙◌, ◌<◌, true, false, refl, sym, rules}
 use Rattle.ps_places.specs.RowMeanings.{row_places_at}
 use Rattle.ps_places.proofs.FirstOne.{none_more, one_found}
 use Rattle.ps_places.proofs.presence.fits_in_rows.Goals as goal

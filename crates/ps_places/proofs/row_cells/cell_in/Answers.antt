@@ -1,4 +1,4 @@
-use Rattle.std.proofs.Common.{◌≡◌, ◌∙◌, ◌+◌, sym, refl, arith}
+use Rattle.std.proofs.Common.{◌∙◌, ◌+◌, sym, refl}
 use Rattle.ps_places.proofs.Indices.{part_cell, part_rest}
 use Rattle.ps_places.proofs.row_cells.cell_in.Goals as goal
 

@@ -1,4 +1,4 @@
-use Rattle.std.proofs.Common.{◌≡◌, map, refl}
+use Rattle.std.proofs.Common.{map, refl}
 use Rattle.ps_places.specs.Stretches.{cells_of}
 use Rattle.ps_places.specs.RowMeanings.{row_places_at}
 use Rattle.ps_places.proofs.Gathering.{one_more_list}

@@ -1,10 +1,11 @@
-use Rattle.std.proofs.Common.{◌≡◌, ◌∙◌, List, ℕ, Option, None, refl, ap}
+use Rattle.std.proofs.Common.{◌≡◌, ◌∙◌, List, ℕ, Option, Some, refl, ap}
 use Rattle.ps_model.specs.board.Turns.{Script}
 use Rattle.ps_model.specs.game.Games.{Game}
 use Rattle.ps_levels.specs.EntriesShown.{entries_shown}
 use Rattle.ps_levels.specs.WinsShown.{wins_shown}
 use Rattle.ps_stage.specs.Standings.{SessionParts}
 use Rattle.ps_rulebook.specs.PlayedGames.{parts_of, played_by}
+use Rattle.ps_rulebook.proofs.RowRooms.{rows_give_room}
 use Rattle.ps_run.proofs.Rightly.{comes_rightly, true_of_game}
 use Rattle.ps_run.proofs.text_run.run_compiled.Goals as goal
 
@@ -19,7 +20,7 @@ returns g c =
     let read : Game = c.args.game.now in
     let plain = c.rules_of-rules.result.plain.sections.now in
     let late = c.rules_of-rules.result.late.sections.now in
-    let table_for : List ℕ → Option (List ℕ) = λ layers. None in
+    let table_for : List ℕ → Option (List ℕ) = λ layers. Some layers in
     let script : Script = played_by table_for read plain late in
     let parts : c.new-parts.result ≡ parts_of read = same_parts c.new-parts.result read
     (c.new-parts.ensures.title ∙ c.as_str.ensures ∙ ap (λ (r : Game). r.title) c.game.view_is) (c.new-parts.ensures.options ∙ ap (λ (r : Game). r.options) c.game.view_is)
@@ -29,7 +30,7 @@ returns g c =
     let comes = rw parts at c.run_game.ensures.answers in
     record {
       rightly = λ text is made.
-          comes_rightly text read script _ _ _ _ c.run_game.result is (c.rules_of-rules.ensures read.names read.rules made text read is refl refl table_for (λ layers object layer own. refl)) c.requires.heard
+          comes_rightly text read script _ _ _ _ c.run_game.result is (c.rules_of-rules.ensures.played read.names read.rules made text read is refl refl table_for rows_give_room) c.requires.heard
           c.requires.well comes;
       true_of_text = λ text is. true_of_game text read script _ _ _ _ c.run_game.result is comes;
     }

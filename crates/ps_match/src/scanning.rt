@@ -1,0 +1,25 @@
+//! A row of a board against a mask, cell by cell.
+
+ghost use Rattle.std.specs.Prelude.{◌≡◌, ◌<◌};
+ghost use Rattle.ps_program.specs.ProgramShown.{mask_shown};
+ghost use Rattle.ps_match.specs.ColumnSets.{row_fits};
+ghost use Rattle.ps_match.specs.InRoom.{meaning_of_mask};
+
+use crate::columns::Columns;
+use crate::fitting::fits_cell;
+use ps_board::Board;
+use ps_program::CellMask;
+
+/// The columns of a row of a board whose cells fit a mask.
+pub fn scan_row<B: Board>(board: &B, mask: &CellMask, row: u32) -> Columns
+    requires { row < (B.grid board.now).height }
+    ensures { result ≡ row_fits (B.grid board.now) (meaning_of_mask (mask_shown mask.now)) row }
+{
+    let (width, height) = board.size();
+    let mut fitting = Columns::none();
+    for column in 0..width {
+        let fits = fits_cell(board, mask, column * height + row);
+        fitting = fitting.with(column, fits);
+    }
+    fitting
+}

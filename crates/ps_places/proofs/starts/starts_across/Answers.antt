@@ -1,0 +1,9 @@
+use Rattle.std.proofs.Common.{ℕ, subst}
+use Rattle.ps_places.specs.Starts.{AreWhere, has_room}
+use Rattle.ps_places.proofs.Begins.{across-all}
+use Rattle.ps_places.proofs.starts.starts_across.Goals as goal
+
+pub returns : goal.returns
+returns g c =
+    across-all (g.B.Board.grid c.args.board.now) (g.B.Board.table c.args.board.now) c.args.parts.now c.args.shape c.args.row c.with_room-room.result c.starts_in.result
+    (subst (λ (width : ℕ). AreWhere (has_room width c.args.shape.size) c.with_room-room.result) c.size-width.ensures.width c.with_room-room.ensures) c.starts_in.ensures

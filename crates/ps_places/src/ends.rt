@@ -1,0 +1,82 @@
+//! Where the leftmost or topmost cell of a row of a rule may lie on a row of the board, whatever its gap.
+
+ghost use Rattle.std.specs.Prelude.{◌≡◌, ◌<◌, [], length, slice_index_or};
+ghost use Rattle.ps_model.specs.declared.limits.TheConstants.{SIDE_LIMIT};
+ghost use Rattle.ps_match.specs.ColumnSets.{column_at};
+ghost use Rattle.ps_places.specs.Ends.{HasEndsIn, HaveEndsIn};
+ghost use Rattle.ps_places.specs.RowCells.{all_cells};
+
+use crate::row_cells::cell_in;
+use crate::shape::Shape;
+use ps_match::{Columns, Scan};
+use ps_model::SIDE_LIMIT;
+use ps_program::CompiledCell;
+use ps_text::List;
+
+/// The columns of a row of the board where the leftmost or topmost cell fits.
+fn end_columns<B: Scan>(board: &B, parts: &[List<CompiledCell>], shape: Shape, row: u32) -> Columns
+    requires { row < (B.grid board.now).height }
+    ensures { HasEndsIn (B.grid board.now) (B.table board.now) parts.now shape row result }
+{
+    let (_width, _height) = board.size();
+    if shape.first == 0 {
+        return Columns::below(SIDE_LIMIT);
+    }
+    if shape.size == 0 {
+        return Columns::below(SIDE_LIMIT);
+    }
+    let Some(cell) = cell_in(parts, shape.end_index()) else {
+        return Columns::below(SIDE_LIMIT);
+    };
+    board.scan(&cell.mask, row)
+}
+
+/// The columns of a row of the board where the leftmost cell of a row of a rule fits, that goes left or right; none, where
+/// one of its cells fits nowhere on that row.
+pub fn ends_across<B: Scan>(
+    board: &B,
+    parts: &[List<CompiledCell>],
+    shape: Shape,
+    row: u32,
+) -> Columns
+    requires step { shape.step ≡ (B.grid board.now).height }
+    requires row { row < (B.grid board.now).height }
+    ensures { HasEndsIn (B.grid board.now) (B.table board.now) parts.now shape row result }
+{
+    let (_width, _height) = board.size();
+    for index in 0..shape.size {
+        let Some(cell) = cell_in(parts, index) else {
+            return Columns::below(SIDE_LIMIT);
+        };
+        if board.scan(&cell.mask, row).is_empty() {
+            return Columns::none();
+        }
+    }
+    end_columns(board, parts, shape, row)
+}
+
+/// Finds the columns of each row of the board where the topmost cell of a row of a rule fits.
+pub fn find_ends<B: Scan>(
+    board: &B,
+    parts: &[List<CompiledCell>],
+    shape: Shape,
+    rows: &mut [Columns],
+)
+    requires { length rows.old ≡ SIDE_LIMIT }
+    ensures ends { let g = B.grid board.now in HaveEndsIn g (B.table board.now) parts.now shape rows.new g.height }
+    ensures rows { length rows.new ≡ SIDE_LIMIT }
+{
+    let (_width, height) = board.size();
+    for row in 0..height {
+        let ends = end_columns(board, parts, shape, row);
+        rows[row as usize] = ends;
+    }
+}
+
+/// Whether a column is in the set of a row of the board.
+pub fn may_end(rows: &[Columns], row: u32, column: u32) -> bool
+    requires { row < length rows.now }
+    ensures { result ≡ column_at (slice_index_or rows.now row []) column }
+{
+    rows[row as usize].has(column)
+}

@@ -1,0 +1,12 @@
+pub mod Bits
+pub mod Marks
+pub mod Steps
+pub mod Listed
+pub mod Spans
+pub mod Moves
+pub mod Puts
+pub mod Tables
+pub mod Rests
+pub mod Whole
+pub mod Scans
+pub mod Rows

@@ -1,0 +1,112 @@
+-- The lists of the objects of layers, and how they are made.
+use Rattle.std.proofs.Common.{◌≡◌, ℕ, ◌+◌, ◌-◌, ◌<◌, ◌≤◌, inl, inr, Bool, true, false, cond, Some, List, [], ◌∷◌, ◌++◌, length, get_or, take, drop, refl, sym, ap, subst, ◌∙◌, arith, filter, append_assoc}
+use Rattle.std.specs.Prelude.{nat_eq, slice_get, slice_range}
+use Rattle.std.specs.List.{list_any, range_with_len}
+use Rattle.std.proofs.lemmas.Bool.{cases_lt, false_from_ne_true}
+use Rattle.std.proofs.lemmas.List.{map-id, length-append, length-drop, get_or_append_left, get_or_push, drop-append-le, take-append-le, drop_at, take_all}
+use Rattle.std.proofs.lemmas.List.Elements.{filter-append}
+use Rattle.std.proofs.lemmas.List.FromFn.{map-range_with_len_more}
+use Rattle.std.proofs.lemmas.Option.{slice_get_within, slice_get-get_or}
+use Rattle.ps_model.specs.board.Movement.{is_number}
+use Rattle.ps_rows.specs.declared.members.Span.{Span}
+use Rattle.ps_rows.specs.Members.{on_layer, on_layer_below, IsSpanOf, AreSpansOf}
+use Rattle.ps_rows.proofs.Listed.{number_is, is_number-own, listed_passes, listed_range}
+
+-- an object is listed with its layer, and with no other
+pub member_listed : (table : List ℕ) (layer object : ℕ) → slice_get table object ≡ Some layer → list_any (nat_eq object) (on_layer table layer) ≡ true
+unfolding on_layer on_layer_below
+member_listed table layer object h =
+    let below : object < length table = slice_get_within table object layer h in
+    listed_range (λ o. is_number (slice_get table o) layer) 0 (length table) object (omega arith) (omega arith) (is_number-own (slice_get table object) layer h)
+
+pub listed_member : (table : List ℕ) (layer object : ℕ) → list_any (nat_eq object) (on_layer table layer) ≡ true → slice_get table object ≡ Some layer
+unfolding on_layer on_layer_below
+listed_member table layer object h =
+    number_is (slice_get table object) layer (listed_passes (λ o. is_number (slice_get table o) layer) (range_with_len 0 (length table)) object h)
+
+pub not_listed : (table : List ℕ) (layer object : ℕ) → (slice_get table object ≡ Some layer → ⊥) → list_any (nat_eq object) (on_layer table layer) ≡ false
+not_listed table layer object n = false_from_ne_true (list_any (nat_eq object) (on_layer table layer)) (λ h. n (listed_member table layer object h))
+
+-- the list of one object more
+pub below_none : (table : List ℕ) (layer : ℕ) → on_layer_below table layer 0 ≡ []
+unfolding on_layer_below
+below_none table layer = refl
+
+pub below_all : (table : List ℕ) (layer : ℕ) → on_layer_below table layer (length table) ≡ on_layer table layer
+unfolding on_layer
+below_all table layer = refl
+
+range_more : (n : ℕ) → range_with_len 0 (n + 1) ≡ range_with_len 0 n ++ n ∷ []
+range_more n =
+    sym (map-id (range_with_len 0 (n + 1))) ∙ map-range_with_len_more (λ (x : ℕ). x) 0 n n (omega arith) ∙ ap (λ (r : List ℕ). r ++ n ∷ []) (map-id (range_with_len 0 n))
+
+pub below_more : (table : List ℕ) (layer n : ℕ) → n < length table →
+    on_layer_below table layer (n + 1) ≡ on_layer_below table layer n ++ cond (nat_eq (get_or table n 0) layer) (n ∷ []) []
+unfolding on_layer_below
+below_more table layer n h =
+    let passes : ℕ → Bool = λ o. is_number (slice_get table o) layer in
+    let own : is_number (slice_get table n) layer ≡ nat_eq (get_or table n 0) layer = rw (slice_get-get_or table n 0 h) refl in
+    ap (filter passes) (range_more n) ∙ filter-append passes (range_with_len 0 n) (n ∷ [])
+    ∙ ap (λ (b : Bool). filter passes (range_with_len 0 n) ++ cond b (n ∷ []) []) own
+
+-- one step of the loop over the objects
+pub members_more : (numbers old more table : List ℕ) (layer n : ℕ) → more ≡ numbers ++ cond (nat_eq (get_or table n 0) layer) (n ∷ []) [] →
+    numbers ≡ old ++ on_layer_below table layer n → n < length table → more ≡ old ++ on_layer_below table layer (n + 1)
+members_more numbers old more table layer n e f h =
+    let one : List ℕ = cond (nat_eq (get_or table n 0) layer) (n ∷ []) [] in
+    e ∙ ap (λ (ns : List ℕ). ns ++ one) f ∙ append_assoc old (on_layer_below table layer n) one ∙ ap (λ (ns : List ℕ). old ++ ns) (sym (below_more table layer n h))
+
+pub members_all : (numbers old table : List ℕ) (layer n : ℕ) → numbers ≡ old ++ on_layer_below table layer n → n ≡ length table → numbers ≡ old ++ on_layer table layer
+members_all numbers old table layer n f e = f ∙ ap (λ (k : ℕ). old ++ on_layer_below table layer k) e ∙ ap (λ (ns : List ℕ). old ++ ns) (below_all table layer)
+
+-- a span stays one where numbers are added
+span_stays : (table numbers more : List ℕ) (layer : ℕ) (span : Span) → IsSpanOf table numbers layer span → IsSpanOf table (numbers ++ more) layer span
+span_stays table numbers more layer span s =
+    let order : span.start ≤ span.end = s.order in
+    let within : span.end ≤ length numbers = s.within in
+    let long : length (numbers ++ more) ≡ length numbers + length more = length-append numbers more in
+    let enough : span.end - span.start ≤ length (drop span.start numbers) = rw length-drop (omega arith) in
+    let start : span.start ≤ length numbers = omega arith in
+    let cut : slice_range (numbers ++ more) span.start span.end ≡ slice_range numbers span.start span.end =
+    ap (take (span.end - span.start)) (drop-append-le span.start numbers more start)
+    ∙ take-append-le (span.end - span.start) (drop span.start numbers) more enough in
+    record {
+      order = order;
+      within = omega arith;
+      objects = cut ∙ s.objects;
+    }
+
+-- the span of what was added last
+span_added : (table numbers : List ℕ) (layer : ℕ) (span : Span) → span.start ≡ length numbers → span.end ≡ length (numbers ++ on_layer table layer) →
+    IsSpanOf table (numbers ++ on_layer table layer) layer span
+span_added table numbers layer span a b =
+    let added : List ℕ = on_layer table layer in
+    let long : length (numbers ++ added) ≡ length numbers + length added = length-append numbers added in
+    let size : length added ≤ span.end - span.start = omega arith in
+    record {
+      order = omega arith;
+      within = omega arith;
+      objects = ap (take (span.end - span.start)) (drop_at numbers added span.start (sym a)) ∙ take_all (span.end - span.start) added size;
+    }
+
+-- one layer more has its span
+pub spans_more : (table numbers more : List ℕ) (spans longer : List Span) (layer : ℕ) (span : Span) → AreSpansOf table numbers spans → layer ≡ length spans →
+    longer ≡ spans ++ span ∷ [] → more ≡ numbers ++ on_layer table layer → span.start ≡ length numbers → span.end ≡ length more → AreSpansOf table more longer
+spans_more table numbers more spans longer layer span each long e f a b =
+    rw (e, f) (λ k d below.
+    let total : length (spans ++ span ∷ []) ≡ length spans + 1 = length-append spans (span ∷ []) in
+    elim (cases_lt k (length spans)) [
+      | inl old ↦ rw (get_or_append_left spans (span ∷ []) d k old) (span_stays table numbers (on_layer table layer) k (get_or spans k d) (each k d old))
+      | inr new ↦
+          let last : k ≡ layer = omega arith in
+          let end : span.end ≡ length (numbers ++ on_layer table layer) = b ∙ ap length f in
+          rw (get_or_push spans span d k (omega arith), last) (span_added table numbers layer span a end)
+    ])
+
+-- the span of a layer
+pub span_at : (table numbers : List ℕ) (spans : List Span) (n layer : ℕ) (span : Span) → AreSpansOf table numbers spans → n ≡ length spans → layer < n →
+    span ≡ get_or spans layer span → IsSpanOf table numbers layer span
+span_at table numbers spans n layer span each long below is =
+    let P : Span → Type 0 = λ s. IsSpanOf table numbers layer s in
+    let inside : layer < length spans = omega arith in
+    subst P (sym is) (each layer span inside)

@@ -1,0 +1,9 @@
+use Rattle.std.proofs.Common.{take}
+use Rattle.ps_rows.specs.Showing.{grid_shown}
+use Rattle.ps_rows.specs.RowTests.{IsRowOf, moved_all}
+use Rattle.ps_rows.proofs.row_board.RowBoard.motions_row.Given as goal
+
+-- the word of those passed by
+abbrev pub invariant-loop-test : goal.invariant-loop-test
+invariant-loop-test l =
+    IsRowOf (grid_shown l.self.members.table.items l.self.width l.self.height l.self.layers l.self.words.items) l.row l.word (moved_all (take l.test-index l.tests))

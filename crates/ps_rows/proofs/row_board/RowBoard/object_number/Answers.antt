@@ -1,0 +1,13 @@
+use Rattle.std.proofs.Common.{◌∙◌, sym, refl}
+use Rattle.ps_rows.specs.Showing.{object_shown}
+use Rattle.ps_rows.proofs.Puts.{planes_whole}
+use Rattle.ps_rows.proofs.row_board.RowBoard.object_number.Goals as goal
+
+pub first_plane-requires-clause-planes : goal.first_plane-requires-clause-planes
+first_plane-requires-clause-planes c =
+    let b = c.args.self.now in
+    rw (c.as_slice.ensures.value, c.of-planes.ensures) (planes_whole b.members.table.items b.layers b.height b.words.items c.args.layer (sym b.words.ok.0 ∙ b.whole))
+
+pub returns : goal.returns
+unfolding object_shown
+returns c = rw (c.first_plane.ensures, c.as_slice.ensures.value, c.of-planes.ensures) refl

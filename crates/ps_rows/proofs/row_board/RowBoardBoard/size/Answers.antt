@@ -1,0 +1,17 @@
+use Rattle.std.proofs.Common.{◌*◌}
+use Rattle.ps_rows.proofs.Rests.{cells_long, slots_long}
+use Rattle.ps_rows.proofs.row_board.RowBoardBoard.size.Goals as goal
+
+pub returns-clause-shape : goal.returns-clause-shape
+returns-clause-shape c =
+    let b = c.args.self.now in
+    record {
+      some_column = b.some_column;
+      columns = b.columns;
+      some_row = b.some_row;
+      rows = b.rows;
+      some_layer = b.some_layer;
+      few_layers = b.few_layers;
+      cells = cells_long b.members.table.items b.layers b.height b.words.items (b.width * b.height);
+      slots = slots_long b.members.table.items b.layers b.height b.words.items (b.width * b.height);
+    }

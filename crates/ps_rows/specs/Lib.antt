@@ -1,0 +1,4 @@
+pub mod Planes
+pub mod Members
+pub mod Showing
+pub mod RowTests

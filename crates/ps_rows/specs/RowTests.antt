@@ -1,0 +1,42 @@
+-- Words as the cells of a row of a grid that pass a test.
+use Rattle.std.specs.Prelude.{◌≡◌, ◌<◌, ◌≤◌, ◌+◌, ◌*◌, ℕ, Bool, false, List, bit_or, slice_index}
+use Rattle.std.specs.List.{list_all, list_any}
+use Rattle.ps_model.specs.declared.pieces.Slot.{Slot}
+use Rattle.ps_model.specs.declared.compiled.LayeredObject.{LayeredObject}
+use Rattle.ps_model.specs.declared.compiled.MotionTest.{MotionTest}
+use Rattle.ps_model.specs.board.Grid.{Grid, cell_at}
+use Rattle.ps_model.specs.meaning.Compiled.{is_held_in, moves_as_asked}
+use Rattle.ps_rows.specs.Planes.{has_column}
+
+-- the word tells the cells of the row that pass the test
+abbrev pub IsRowOf : Grid → ℕ → ℕ → (List Slot → Bool) → Type 0
+IsRowOf g row word test = (x : ℕ) → x < g.width → has_column word x ≡ test (cell_at g (x * g.height + row))
+
+-- the word has no column beyond the grid
+abbrev pub IsWithin : Grid → ℕ → Type 0
+IsWithin g word = (x : ℕ) → g.width ≤ x → x < 64 → has_column word x ≡ false
+
+-- what a mask asks of a cell, part by part
+abbrev pub held : LayeredObject → List Slot → Bool
+held sought cell = is_held_in cell sought
+
+abbrev pub held_all : List LayeredObject → List Slot → Bool
+held_all objects cell = list_all (is_held_in cell) objects
+
+abbrev pub held_any : List LayeredObject → List Slot → Bool
+held_any objects cell = list_any (is_held_in cell) objects
+
+abbrev pub held_of_each : List (List LayeredObject) → List Slot → Bool
+held_of_each lists cell = list_all (λ objects. list_any (is_held_in cell) objects) lists
+
+abbrev pub moved : MotionTest → List Slot → Bool
+moved test cell = moves_as_asked cell test
+
+abbrev pub moved_all : List MotionTest → List Slot → Bool
+moved_all tests cell = list_all (moves_as_asked cell) tests
+
+-- the columns of a row that one of five planes has
+abbrev pub five_rows : ℕ → List ℕ → ℕ → ℕ → ℕ
+five_rows height words first row =
+    let word : ℕ → ℕ = λ plane. slice_index words (plane * height + row) in
+    bit_or (bit_or (bit_or (bit_or (word first) (word (first + 1))) (word (first + 2))) (word (first + 3))) (word (first + 4))

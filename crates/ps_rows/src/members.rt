@@ -1,0 +1,148 @@
+//! The objects of each layer.
+
+ghost use Rattle.std.specs.Prelude.{◌≡◌, ◌++◌, ◌+◌, ◌<◌, ◌≤◌, ◌∷◌, [], IfOk, OnOk, cond, length, map, slice_get, slice_range, vec_len};
+ghost use Rattle.ps_model.specs.board.Movement.{is_number};
+ghost use Rattle.ps_rows.specs.Members.{AreSpansOf, on_layer};
+ghost use Rattle.ps_rows.specs.declared.members.TheConstants.{TABLE_LIMIT};
+
+use ps_model::{LayerId, Memory};
+use std::alloc::Global;
+
+/// The most objects that a table can have: their planes are numbered by 32 bits.
+pub const TABLE_LIMIT: usize = 2147483648;
+
+/// A stretch of a list.
+#[derive(Clone, Copy)]
+pub struct Span {
+    pub start: usize,
+    pub end: usize,
+}
+
+/// The layer of each object of a game, and for each layer the list of its objects, made once.
+#[derive(Drop)]
+pub struct Members {
+    pub table: Vec<u32>,
+    pub numbers: Vec<u32>,
+    pub spans: Vec<Span>,
+    ghost few: { vec_len table ≤ TABLE_LIMIT },
+    ghost each: { AreSpansOf table.items numbers.items spans.items },
+}
+
+/// Adds an object, if it is wanted.
+fn push_if(numbers: &mut Vec<u32>, wanted: bool, object: u32) -> Result<(), Memory>
+    ensures { OnOk result (numbers.new.items ≡ numbers.old.items ++ cond wanted (object ∷ []) []) }
+{
+    if wanted {
+        numbers.push(object)?;
+    }
+    Ok(())
+}
+
+/// Adds the objects of a layer.
+fn push_members(numbers: &mut Vec<u32>, table: &[u32], layer: u32) -> Result<(), Memory>
+    requires { length table.now ≤ TABLE_LIMIT }
+    ensures { OnOk result (numbers.new.items ≡ numbers.old.items ++ on_layer table.now layer) }
+{
+    for object in 0..table.len() {
+        push_if(numbers, table[object] == layer, object as u32)?;
+    }
+    Ok(())
+}
+
+/// Adds the objects of the next layer, and their span.
+fn push_layer(
+    numbers: &mut Vec<u32>,
+    spans: &mut Vec<Span>,
+    table: &[u32],
+    layer: u32,
+) -> Result<(), Memory>
+    requires few { length table.now ≤ TABLE_LIMIT }
+    requires long { vec_len spans.old ≡ layer }
+    requires each { AreSpansOf table.now numbers.old.items spans.old.items }
+    ensures long { OnOk result (vec_len spans.new ≡ layer + 1) }
+    ensures each { OnOk result (AreSpansOf table.now numbers.new.items spans.new.items) }
+{
+    let start = numbers.len();
+    push_members(numbers, table, layer)?;
+    let span = Span {
+        start,
+        end: numbers.len(),
+    };
+    spans.push(span)?;
+    Ok(())
+}
+
+/// A stretch of a list.
+fn stretch(numbers: &[u32], span: Span) -> &[u32]
+    requires order { span.start ≤ span.end }
+    requires within { span.end ≤ length numbers.now }
+    ensures { result.now ≡ slice_range numbers.now span.start span.end }
+{
+    &numbers[span.start..span.end]
+}
+
+impl Members {
+    /// The members of so many layers, for objects which stand on these. Nothing, where there is no memory, or there are more
+    /// objects than a table can have.
+    pub fn try_new(alloc: Global, layers: u32, own_layers: &[LayerId]) -> Result<Members, Memory>
+        ensures table { IfOk result (λ members. members.table.items ≡ map (λ layer. layer.0) own_layers.now) }
+        ensures layers { IfOk result (λ members. vec_len members.spans ≡ layers) }
+    {
+        if own_layers.len() > TABLE_LIMIT {
+            return Err(Memory);
+        }
+        let table: Vec<u32> = own_layers.iter().map(|layer| layer.0).collect(alloc)?;
+        let mut numbers = Vec::with_capacity(alloc, table.len())?;
+        let mut spans = Vec::with_capacity(alloc, layers as usize)?;
+        for layer in 0..layers {
+            push_layer(&mut numbers, &mut spans, &table, layer)?;
+        }
+        Ok(Members {
+            table,
+            numbers,
+            spans,
+        })
+    }
+
+    /// The same members. Nothing, where there is no memory.
+    pub fn try_copy(&self, alloc: Global) -> Result<Members, Memory>
+        ensures table { IfOk result (λ members. members.table.items ≡ self.now.table.items) }
+        ensures layers { IfOk result (λ members. vec_len members.spans ≡ vec_len self.now.spans) }
+    {
+        let table = Vec::from_slice(alloc, &self.table)?;
+        let numbers = Vec::from_slice(alloc, &self.numbers)?;
+        let spans = Vec::from_slice(alloc, &self.spans)?;
+        Ok(Members {
+            table,
+            numbers,
+            spans,
+        })
+    }
+
+    /// The number of objects.
+    pub fn count(&self) -> u32
+        ensures value { result ≡ length self.now.table.items }
+        ensures few { result ≤ TABLE_LIMIT }
+    {
+        self.table.len() as u32
+    }
+
+    /// Whether an object is one of a layer.
+    pub fn is_on(&self, object: u32, layer: u32) -> bool
+        ensures { result ≡ is_number (slice_get self.now.table.items object) layer }
+    {
+        match self.table.get(object as usize) {
+            Some(own) => *own == layer,
+            None => false,
+        }
+    }
+
+    /// The objects of a layer, the least number first.
+    pub fn of(&self, layer: u32) -> &[u32]
+        requires { layer < vec_len self.now.spans }
+        ensures { result.now ≡ on_layer self.now.table.items layer }
+    {
+        let span = self.spans[layer as usize];
+        stretch(self.numbers.as_slice(), span)
+    }
+}

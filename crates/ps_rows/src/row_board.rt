@@ -1,0 +1,323 @@
+//! A board of rows of bits.
+
+ghost use Rattle.std.specs.Prelude.{◌≡◌, ◌+◌, ◌*◌, ◌/◌, ◌^◌, ◌<◌, ◌≤◌, ◌&&◌, ℕ, Some, List, length, nat_lt};
+ghost use Rattle.std.specs.Prelude.{option_map, replicate, slice_get, slice_index, vec_len};
+ghost use Rattle.ps_model.specs.board.Movement.{is_number};
+ghost use Rattle.ps_model.specs.declared.limits.TheConstants.{LAYER_LIMIT, SIDE_LIMIT};
+ghost use Rattle.ps_rows.specs.Planes.{HavePlanes};
+ghost use Rattle.ps_rows.specs.Showing.{AreMotionsShown, AreObjectsShown, cleared_from, grid_shown};
+ghost use Rattle.ps_rows.specs.Showing.{motions_from, numbered, object_shown, with_slot_in};
+
+use crate::members::Members;
+use crate::motions::{choose_motion, first_motion};
+use crate::planes::{choose_plane, first_plane, plane_row};
+use ps_board::Board;
+use ps_model::{LayerId, Memory, Motion, ObjectId};
+use std::alloc::Global;
+
+/// A board with one plane for each object of its game and, behind them, five for each layer: of the objects there that
+/// are about to go up, down, left or right, or to act. A plane has one word for each row of the board, the highest
+/// first, and in a word bit x stands for column x.
+///
+/// On a layer of a cell stands one object at most, which has one motion at most, and there is no motion without an
+/// object.
+#[derive(Drop)]
+pub struct RowBoard {
+    width: u32,
+    height: u32,
+    layers: u32,
+    members: Members,
+    words: Vec<u64>,
+    ghost some_column: { 0 < width },
+    ghost columns: { width ≤ SIDE_LIMIT },
+    ghost some_row: { 0 < height },
+    ghost rows: { height ≤ SIDE_LIMIT },
+    ghost some_layer: { 0 < layers },
+    ghost few_layers: { layers ≤ LAYER_LIMIT },
+    ghost spans: { vec_len members.spans ≡ layers },
+    ghost whole: { vec_len words ≡ motions_from members.table.items layers * height },
+    ghost objects: { AreObjectsShown members.table.items height words.items (width * height) },
+    ghost motions: { AreMotionsShown members.table.items layers height words.items (width * height) },
+}
+
+/// Puts an object with its motion into a cell of a layer, whose objects have these planes and whose motions have those
+/// from `first` on, in place of what stood there; or clears the layer there.
+fn put_slot(
+    words: &mut [u64],
+    height: u32,
+    cell: u32,
+    planes: &[u32],
+    object: Option<u32>,
+    first: u32,
+    motion: Motion,
+)
+    requires row { 0 < height }
+    requires column { cell / height < 64 }
+    requires planes { HavePlanes height words.old planes.now }
+    requires few { first + 4 < 2 ^ 32 }
+    requires motions { (first + 5) * height ≤ length words.old }
+    ensures { words.new ≡ with_slot_in height cell planes.now object first motion words.old }
+{
+    choose_plane(words, height, cell, planes, object);
+    choose_motion(words, height, cell, first, motion);
+}
+
+/// Clears all words.
+fn clear(words: &mut [u64])
+    ensures { words.new ≡ replicate (length words.old) 0 }
+{
+    words.fill(0);
+}
+
+/// Clears the words from a place on.
+fn clear_from(words: &mut [u64], start: usize)
+    requires { start ≤ length words.old }
+    ensures { words.new ≡ cleared_from start words.old }
+{
+    clear(&mut words[start..]);
+}
+
+/// The number of an object, if there is one.
+fn number_of(object: Option<ObjectId>) -> Option<u32>
+    ensures { option_map numbered result ≡ object }
+{
+    match object {
+        None => None,
+        Some(object) => Some(object.0),
+    }
+}
+
+/// The object of a number, if there is one.
+fn object_of(number: Option<u32>) -> Option<ObjectId>
+    ensures { result ≡ option_map numbered number }
+{
+    match number {
+        None => None,
+        Some(number) => Some(ObjectId(number)),
+    }
+}
+
+impl RowBoard {
+    /// The first plane of a layer's motions.
+    pub(crate) fn motions_from(&self, layer: u32) -> u32
+        requires { layer < self.now.layers }
+        ensures first { result ≡ motions_from self.now.members.table.items layer }
+        ensures few { result + 4 < 2 ^ 32 }
+        ensures within { (result + 5) * self.now.height ≤ vec_len self.now.words }
+    {
+        self.members.count() + 5 * layer
+    }
+
+    /// The columns of a row that a plane has.
+    pub(crate) fn row(&self, plane: u32, row: u32) -> u64
+        requires plane { plane < motions_from self.now.members.table.items self.now.layers }
+        requires row { row < self.now.height }
+        ensures { result ≡ slice_index self.now.words.items (plane * self.now.height + row) }
+    {
+        plane_row(self.words.as_slice(), self.height, plane, row)
+    }
+
+    /// Whether an object is one of a layer, by the table.
+    pub(crate) fn is_member(&self, object: u32, layer: u32) -> bool
+        ensures { result ≡ is_number (slice_get self.now.members.table.items object) layer }
+    {
+        self.members.is_on(object, layer)
+    }
+
+    /// Whether an object is one of a layer that the board has.
+    pub(crate) fn is_on(&self, object: u32, layer: u32) -> bool
+        ensures { let own = is_number (slice_get self.now.members.table.items object) layer in
+            result ≡ (nat_lt layer self.now.layers && own) }
+    {
+        layer < self.layers && self.members.is_on(object, layer)
+    }
+
+    /// The number of the object that stands on a layer of a cell, if one does.
+    fn object_number(&self, cell: u32, layer: u32) -> Option<u32>
+        requires cell { cell < self.now.width * self.now.height }
+        requires layer { layer < self.now.layers }
+        ensures { let b = self.now in result ≡ object_shown b.members.table.items b.height b.words.items cell layer }
+    {
+        let planes = self.members.of(layer);
+        first_plane(self.words.as_slice(), self.height, cell, planes)
+    }
+}
+
+impl Board for RowBoard {
+    ghost grid = { λ b. grid_shown b.members.table.items b.width b.height b.layers b.words.items };
+
+    ghost table = { λ b. Some b.members.table.items };
+
+    ghost table_for = { λ layers. Some layers };
+
+    /// Nothing too, if the game has more objects than 2147483648.
+    fn try_empty(
+        alloc: Global,
+        width: u32,
+        height: u32,
+        layers: u32,
+        own_layers: &[LayerId],
+    ) -> Result<RowBoard, Memory> {
+        let members = Members::try_new(alloc, layers, own_layers)?;
+        let planes = members.count() + 5 * layers;
+        let words = Vec::from_elem(alloc, 0u64, planes as usize * height as usize)?;
+        Ok(RowBoard {
+            width,
+            height,
+            layers,
+            members,
+            words,
+        })
+    }
+
+    fn try_copy(&self, alloc: Global) -> Result<RowBoard, Memory> {
+        let members = self.members.try_copy(alloc)?;
+        let words = Vec::from_slice(alloc, &self.words)?;
+        Ok(RowBoard {
+            width: self.width,
+            height: self.height,
+            layers: self.layers,
+            members,
+            words,
+        })
+    }
+
+    fn size(&self) -> (u32, u32) {
+        (self.width, self.height)
+    }
+
+    fn layers(&self) -> u32 {
+        self.layers
+    }
+
+    fn object(&self, cell: u32, layer: LayerId) -> Option<ObjectId> {
+        object_of(self.object_number(cell, layer.0))
+    }
+
+    fn motion(&self, cell: u32, layer: LayerId) -> Motion {
+        let first = self.motions_from(layer.0);
+        first_motion(self.words.as_slice(), self.height, cell, first)
+    }
+
+    fn put(&mut self, cell: u32, layer: LayerId, object: Option<ObjectId>, motion: Motion) {
+        let first = self.motions_from(layer.0);
+        let planes = self.members.of(layer.0);
+        let object = number_of(object);
+        let height = self.height;
+        put_slot(
+            self.words.as_mut_slice(),
+            height,
+            cell,
+            planes,
+            object,
+            first,
+            motion,
+        );
+    }
+
+    fn clear_moves(&mut self) {
+        let start = self.members.count() as usize * self.height as usize;
+        clear_from(self.words.as_mut_slice(), start);
+    }
+
+    fn copy_into(&self, other: &mut RowBoard) {
+        other.words.copy_from_slice(&self.words);
+    }
+}
+
+#[cfg(test)]
+mod tests {
+    use super::*;
+    use ps_model::Direction;
+    use std::test::Fail;
+
+    const PUSHED: Motion = Motion::Going(Direction::Left);
+
+    /// Three objects: two on the higher of two layers, and one on the lower.
+    const OWN_LAYERS: [LayerId; 3] = [LayerId(1), LayerId(0), LayerId(1)];
+
+    #[test]
+    fn an_empty_board_has_no_object(rt: HostRuntime) -> Result<(), Fail> {
+        let board = RowBoard::try_empty(rt.alloc(), 2, 3, 2, &OWN_LAYERS)?;
+        assert_eq!(rt; board.size(), (2, 3));
+        assert_eq!(rt; board.layers(), 2);
+        for cell in 0..6u32 {
+            for layer in 0..2u32 {
+                assert_eq!(rt; board.object(cell, LayerId(layer)), None);
+                assert_eq!(rt; board.motion(cell, LayerId(layer)), Motion::Still);
+            }
+        }
+        Ok(())
+    }
+
+    #[test]
+    fn put_sets_one_slot_and_no_other(rt: HostRuntime) -> Result<(), Fail> {
+        let mut board = RowBoard::try_empty(rt.alloc(), 2, 3, 2, &OWN_LAYERS)?;
+        board.put(4, LayerId(1), Some(ObjectId(0)), Motion::Still);
+        board.put(4, LayerId(1), Some(ObjectId(2)), PUSHED);
+        for cell in 0..6u32 {
+            for layer in 0..2u32 {
+                let here = cell == 4 && layer == 1;
+                let (object, motion) = if here {
+                    (Some(ObjectId(2)), PUSHED)
+                } else {
+                    (None, Motion::Still)
+                };
+                assert_eq!(rt; board.object(cell, LayerId(layer)), object);
+                assert_eq!(rt; board.motion(cell, LayerId(layer)), motion);
+            }
+        }
+        board.put(4, LayerId(1), None, Motion::Still);
+        assert_eq!(rt; board.object(4, LayerId(1)), None);
+        assert_eq!(rt; board.motion(4, LayerId(1)), Motion::Still);
+        Ok(())
+    }
+
+    #[test]
+    fn a_copy_is_equal_and_apart(rt: HostRuntime) -> Result<(), Fail> {
+        let mut board = RowBoard::try_empty(rt.alloc(), 1, 2, 2, &OWN_LAYERS)?;
+        board.put(1, LayerId(0), Some(ObjectId(1)), Motion::Acting);
+        let copy = board.try_copy(rt.alloc())?;
+        board.put(1, LayerId(0), None, Motion::Still);
+        assert_eq!(rt; copy.size(), (1, 2));
+        assert_eq!(rt; copy.layers(), 2);
+        assert_eq!(rt; copy.object(0, LayerId(0)), None);
+        assert_eq!(rt; copy.object(1, LayerId(0)), Some(ObjectId(1)));
+        assert_eq!(rt; copy.motion(1, LayerId(0)), Motion::Acting);
+        Ok(())
+    }
+
+    #[test]
+    fn copies_into_another_and_rests(rt: HostRuntime) -> Result<(), Fail> {
+        let mut board = RowBoard::try_empty(rt.alloc(), 1, 2, 2, &OWN_LAYERS)?;
+        let mut other = board.try_copy(rt.alloc())?;
+        board.put(1, LayerId(0), Some(ObjectId(1)), PUSHED);
+        board.copy_into(&mut other);
+        board.clear_moves();
+        assert_eq!(rt; board.object(1, LayerId(0)), Some(ObjectId(1)));
+        assert_eq!(rt; board.motion(1, LayerId(0)), Motion::Still);
+        assert_eq!(rt; other.object(0, LayerId(0)), None);
+        assert_eq!(rt; other.object(1, LayerId(0)), Some(ObjectId(1)));
+        assert_eq!(rt; other.motion(1, LayerId(0)), PUSHED);
+        Ok(())
+    }
+
+    #[test]
+    fn the_largest_board_has_its_last_slot(rt: HostRuntime) -> Result<(), Fail> {
+        let mut own_layers = [LayerId(30); 64];
+        own_layers[63] = LayerId(31);
+        let mut board = RowBoard::try_empty(rt.alloc(), 64, 64, 32, &own_layers)?;
+        board.put(4095, LayerId(31), Some(ObjectId(63)), Motion::Acting);
+        for cell in 0..4095u32 {
+            assert_eq!(rt; board.object(cell, LayerId(31)), None);
+            assert_eq!(rt; board.motion(cell, LayerId(31)), Motion::Still);
+        }
+        for layer in 0..31u32 {
+            assert_eq!(rt; board.object(4095, LayerId(layer)), None);
+            assert_eq!(rt; board.motion(4095, LayerId(layer)), Motion::Still);
+        }
+        assert_eq!(rt; board.object(4095, LayerId(31)), Some(ObjectId(63)));
+        assert_eq!(rt; board.motion(4095, LayerId(31)), Motion::Acting);
+        Ok(())
+    }
+}

@@ -1,0 +1,140 @@
+//! A row of the board against a mask, all its cells at once: bit x of a word stands for column x.
+
+ghost use Rattle.std.specs.Prelude.{◌≡◌, ◌+◌, ◌^◌, ◌<◌, ◌≤◌, ℕ, nat_lt};
+ghost use Rattle.ps_model.specs.declared.pieces.Motion.TheVariants.{Still};
+ghost use Rattle.ps_model.specs.meaning.Compiled.{mask_fits};
+ghost use Rattle.ps_model.specs.meaning.Fitting.{same_motion};
+ghost use Rattle.ps_program.specs.ProgramShown.{mask_shown};
+ghost use Rattle.ps_rows.specs.Planes.{has_column};
+ghost use Rattle.ps_rows.specs.RowTests.{IsRowOf, IsWithin, held, held_all, held_any};
+ghost use Rattle.ps_rows.specs.RowTests.{five_rows, held_of_each, moved, moved_all};
+ghost use Rattle.ps_rows.specs.Showing.{motions_from};
+
+use crate::motions::motion_plane;
+use crate::row_board::RowBoard;
+use ps_board::Board;
+use ps_model::{LayeredObject, Motion, MotionTest};
+use ps_program::CellMask;
+use ps_text::List;
+
+/// All columns, where rest is asked for, and else none.
+fn still_row(motion: Motion) -> u64
+    ensures { (x : ℕ) → x < 64 → has_column result x ≡ same_motion motion Still }
+{
+    match motion {
+        Motion::Still => u64::MAX,
+        _ => 0,
+    }
+}
+
+/// The columns of a board of so many.
+fn columns(width: u32) -> u64
+    requires { (0 < width) × (width ≤ 64) }
+    ensures { (x : ℕ) → x < 64 → has_column result x ≡ nat_lt x width }
+{
+    u64::MAX >> (64 - width)
+}
+
+impl RowBoard {
+    /// Where an object stands on its layer.
+    fn object_row(&self, sought: &LayeredObject, row: u32) -> u64
+        requires { row < self.now.height }
+        ensures { IsRowOf (⟦<RowBoard as Board>⟧.grid self.now) row result (held sought.now) }
+    {
+        if self.is_on(sought.object.0, sought.layer.0) {
+            return self.row(sought.object.0, row);
+        }
+        0
+    }
+
+    /// Where each of the objects stands.
+    fn all_row(&self, objects: &[LayeredObject], row: u32) -> u64
+        requires { row < self.now.height }
+        ensures { IsRowOf (⟦<RowBoard as Board>⟧.grid self.now) row result (held_all objects.now) }
+    {
+        let mut word = u64::MAX;
+        for sought in objects {
+            word &= self.object_row(sought, row);
+        }
+        word
+    }
+
+    /// Where one of the objects stands.
+    fn any_row(&self, objects: &[LayeredObject], row: u32) -> u64
+        requires { row < self.now.height }
+        ensures { IsRowOf (⟦<RowBoard as Board>⟧.grid self.now) row result (held_any objects.now) }
+    {
+        let mut word = 0;
+        for sought in objects {
+            word |= self.object_row(sought, row);
+        }
+        word
+    }
+
+    /// Where one object of each list stands.
+    fn lists_row(&self, lists: &[List<LayeredObject>], row: u32) -> u64
+        requires { row < self.now.height }
+        ensures { IsRowOf (⟦<RowBoard as Board>⟧.grid self.now) row result (held_of_each lists.now) }
+    {
+        let mut word = u64::MAX;
+        for objects in lists {
+            word &= self.any_row(objects.as_slice(), row);
+        }
+        word
+    }
+
+    /// The columns of a row that one of a layer's five planes has.
+    fn moving_row(&self, first: u32, row: u32) -> u64
+        requires first { first + 4 < motions_from self.now.members.table.items self.now.layers }
+        requires few { first + 4 < 2 ^ 32 }
+        requires row { row < self.now.height }
+        ensures { result ≡ five_rows self.now.height self.now.words.items first row }
+    {
+        self.row(first, row)
+            | self.row(first + 1, row)
+            | self.row(first + 2, row)
+            | self.row(first + 3, row)
+            | self.row(first + 4, row)
+    }
+
+    /// Where a layer has the motion that is asked for.
+    fn motion_row(&self, test: &MotionTest, row: u32) -> u64
+        requires { row < self.now.height }
+        ensures { IsRowOf (⟦<RowBoard as Board>⟧.grid self.now) row result (moved test.now) }
+    {
+        if self.layers() <= test.layer.0 {
+            return still_row(test.motion);
+        }
+        let first = self.motions_from(test.layer.0);
+        match motion_plane(first, test.motion) {
+            Some(plane) => self.row(plane, row),
+            None => !self.moving_row(first, row),
+        }
+    }
+
+    /// Where each layer has the motion that is asked for.
+    fn motions_row(&self, tests: &[MotionTest], row: u32) -> u64
+        requires { row < self.now.height }
+        ensures { IsRowOf (⟦<RowBoard as Board>⟧.grid self.now) row result (moved_all tests.now) }
+    {
+        let mut word = u64::MAX;
+        for test in tests {
+            word &= self.motion_row(test, row);
+        }
+        word
+    }
+
+    /// The cells of a row that fit a mask.
+    pub(crate) fn mask_row(&self, mask: &CellMask, row: u32) -> u64
+        requires { row < self.now.height }
+        ensures inside { IsRowOf (⟦<RowBoard as Board>⟧.grid self.now) row result (mask_fits (mask_shown mask.now)) }
+        ensures within { IsWithin (⟦<RowBoard as Board>⟧.grid self.now) result }
+    {
+        let needed = self.all_row(mask.needed.as_slice(), row);
+        let barred = self.any_row(mask.barred.as_slice(), row);
+        let listed = self.lists_row(mask.one_of.as_slice(), row);
+        let moving = self.motions_row(mask.motions.as_slice(), row);
+        let (width, _) = self.size();
+        columns(width) & needed & !barred & listed & moving
+    }
+}
