@@ -1,5 +1,5 @@
-//! The places of a row of a rule whose cells lie side by side: the board is looked at row by row, all columns of a row at
-//! once.
+//! The places of a row of a rule whose cells lie side by side: the board is looked at row by row, all columns of a
+//! row at once.
 
 ghost use Rattle.std.specs.Prelude.{◌≡◌, ◌+◌, ◌*◌, ◌<◌, ◌≤◌, ◌++◌, OnOk, false, length, map, slice_index_or, sum, []};
 ghost use Rattle.std.specs.List.{flat_map, range_with_len};
@@ -25,7 +25,8 @@ fn push_row(found: &mut Vec<Place>, starts: Columns, height: u32, row: u32) -> R
     requires height { height ≤ SIDE_LIMIT }
     requires row { row < height }
     ensures { OnOk result ((shape : AnyShape) → map (cells_of shape) found.new.items
-        ≡ map (cells_of shape) found.old.items ++ map (λ x. stretch_of shape (x * height + row) 0) (set_columns starts)) }
+        ≡ map (cells_of shape) found.old.items
+        ++ map (λ x. stretch_of shape (x * height + row) 0) (set_columns starts)) }
 {
     let mut left = starts;
     while let Some(column) = left.take_first() {

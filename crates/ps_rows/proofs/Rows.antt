@@ -23,11 +23,11 @@ row_told table width height layers words row under mask word inside within x low
     let long : length cells ≡ width * height = cells_long table layers height words (width * height) in
     elim (cases_lt x width) [
       | inl h ↦
-        let place : x * height + row < height * width = mul-add-lt x height row width h under in
-        let there : x * height + row < length cells = omega arith in
-        inside x h ∙ sym (ap (fits_there (meaning_of_mask mask)) (slice_get-get_or cells (x * height + row) [] there))
+          let place : x * height + row < height * width = mul-add-lt x height row width h under in
+          let there : x * height + row < length cells = omega arith in
+          inside x h ∙ sym (ap (fits_there (meaning_of_mask mask)) (slice_get-get_or cells (x * height + row) [] there))
       | inr off ↦
-        let more : height * width ≤ height * x = mul-le-mul_left height off in
-        let beyond : length cells ≤ x * height + row = omega arith in
-        within x off low ∙ sym (ap (fits_there (meaning_of_mask mask)) (slice_get_past cells (x * height + row) beyond))
+          let more : height * width ≤ height * x = mul-le-mul_left height off in
+          let beyond : length cells ≤ x * height + row = omega arith in
+          within x off low ∙ sym (ap (fits_there (meaning_of_mask mask)) (slice_get_past cells (x * height + row) beyond))
     ]

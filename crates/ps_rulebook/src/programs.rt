@@ -11,8 +11,9 @@ use ps_compile::Programs as CompiledPrograms;
 use ps_turn::Programs;
 use std::alloc::Global;
 
-/// The rules of the turns of a game: its compiled programs, lent, each for its own part of a turn. If they are compiled of the names and the rules of
-/// the game of a text, then that game, played by them, has the runs of the game as it is written.
+/// The rules of the turns of a game: its compiled programs, lent, each for its own part of a turn. If they are
+/// compiled of the names and the rules of the game of a text, then that game, played by them, has the runs of the
+/// game as it is written.
 ///
 /// What a turn's message needs of memory comes from `alloc`.
 pub fn rules_of<'p, 'r>(

@@ -25,5 +25,5 @@ returns c =
     let b = c.args.self.now in
     let end : length c.args.objects.now ≤ c.loop-sought.sought-index = omega arith in
     let P : List LayeredObject → Type 0 =
-      λ xs. IsRowOf (grid_shown b.members.table.items b.width b.height b.layers b.words.items) c.args.row c.loop-sought.word (held_all xs) in
+    λ xs. IsRowOf (grid_shown b.members.table.items b.width b.height b.layers b.words.items) c.args.row c.loop-sought.word (held_all xs) in
     subst P (take_all c.loop-sought.sought-index c.args.objects.now end) c.loop-sought.invariant
