@@ -18,9 +18,11 @@ impl GameBoard for ListBoard {
 }
 
 impl GameBoard for RowBoard {
-    ghost use Rattle.ps_rulebook.proofs.RowRooms.{rows_give_room};
+    ghost use Rattle.std.specs.Prelude.{refl};
+    ghost use Rattle.ps_board.specs.Rooms.{layer_numbers};
+    ghost use Rattle.ps_rows.proofs.Whole.{have_room};
 
-    ghost room = { rows_give_room };
+    ghost room = { λ layers. have_room (layer_numbers layers) layers refl };
 }
 
 /// The kind of board gives every object room on its own layer.
