@@ -31,8 +31,8 @@ fn end_columns<B: Scan>(board: &B, parts: &[List<CompiledCell>], shape: Shape, r
     board.scan(&cell.mask, row)
 }
 
-/// The columns of a row of the board where the leftmost cell of a row of a rule fits, that goes left or right; none, where
-/// one of its cells fits nowhere on that row.
+/// The columns of a row of the board where the leftmost cell of a row of a rule fits, that goes left or right; none,
+/// where one of its cells fits nowhere on that row.
 pub fn ends_across<B: Scan>(
     board: &B,
     parts: &[List<CompiledCell>],

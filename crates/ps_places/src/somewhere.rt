@@ -1,4 +1,5 @@
-//! Whether each cell of a row of a rule fits somewhere on the board: without that the row has no place, whatever its gaps.
+//! Whether each cell of a row of a rule fits somewhere on the board: without that the row has no place, whatever its
+//! gaps.
 
 ghost use Rattle.std.specs.Prelude.{◌≡◌, ◌≤◌, false, length};
 ghost use Rattle.ps_places.specs.RowCells.{all_cells};
