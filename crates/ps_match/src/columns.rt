@@ -30,8 +30,8 @@ impl Model for Columns {
 
     ghost inverse = { λ columns. record { bits = columns_word columns } };
 
-    ghost inverse_ok = { λ c within. ap (λ (word : ℕ). let same : Inside = record { bits = word } in same)
-        (columns_word-of c.bits within) };
+    ghost inverse_ok = { λ c within.
+        ap (λ (word : ℕ). let same : Inside = record { bits = word } in same) (columns_word-of c.bits within) };
 }
 
 impl Columns {

@@ -1,5 +1,5 @@
-//! The places of a row of a rule whose cells lie side by side: the board is looked at row by row, all columns of a
-//! row at once.
+//! The places of a row of a rule whose cells lie side by side: the board is looked at row by row, all columns of a row
+//! at once.
 
 ghost use Rattle.std.specs.Prelude.{◌≡◌, ◌+◌, ◌*◌, ◌<◌, ◌≤◌, ◌++◌, OnOk, false, length, map, slice_index_or, sum, []};
 ghost use Rattle.std.specs.List.{flat_map, range_with_len};

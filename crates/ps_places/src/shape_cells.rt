@@ -8,7 +8,7 @@ use crate::shape::{Place, Shape};
 
 impl Shape {
     /// The number of a cell from the end.
-    pub fn from_end(&self, index: u32) -> u32
+    pub(crate) fn from_end(&self, index: u32) -> u32
         requires { index < self.now.size }
         ensures value { result ≡ from_end self.now.backwards self.now.size index }
         ensures within { result < self.now.size }
@@ -20,7 +20,7 @@ impl Shape {
     }
 
     /// The index of the leftmost or topmost cell.
-    pub fn end_index(&self) -> u32
+    pub(crate) fn end_index(&self) -> u32
         requires { 0 < self.now.size }
         ensures value { from_end self.now.backwards self.now.size result ≡ 0 }
         ensures within { result < self.now.size }
