@@ -1,12 +1,11 @@
 -- The cells of a row of a grid that fit a mask, by a word.
-use Rattle.std.proofs.Common.{◌≡◌, ℕ, ◌+◌, ◌*◌, ◌<◌, ◌≤◌, ◌⊎◌, inl, inr, Bool, List, [], length, get_or, sym, ap, ◌∙◌, arith}
+use Rattle.std.proofs.Common.{◌≡◌, ℕ, ◌+◌, ◌*◌, ◌<◌, ◌≤◌, inl, inr, List, [], length, sym, ap, ◌∙◌, arith}
 use Rattle.std.specs.Prelude.{slice_get}
 use Rattle.std.proofs.Math.Nat.{mul-le-mul_left}
 use Rattle.std.proofs.lemmas.Bool.{cases_lt}
 use Rattle.std.proofs.lemmas.Nat.{mul-add-lt}
 use Rattle.std.proofs.lemmas.Option.{slice_get-get_or, slice_get_past}
 use Rattle.ps_model.specs.declared.pieces.Slot.{Slot}
-use Rattle.ps_model.specs.board.Grid.{Grid}
 use Rattle.ps_model.specs.board.Places.{fits_there}
 use Rattle.ps_model.specs.meaning.Compiled.{CellMask, mask_fits}
 use Rattle.ps_match.specs.InRoom.{meaning_of_mask}
@@ -23,11 +22,11 @@ row_told table width height layers words row under mask word inside within x low
     let long : length cells ≡ width * height = cells_long table layers height words (width * height) in
     elim (cases_lt x width) [
       | inl h ↦
-        let place : x * height + row < height * width = mul-add-lt x height row width h under in
-        let there : x * height + row < length cells = omega arith in
-        inside x h ∙ sym (ap (fits_there (meaning_of_mask mask)) (slice_get-get_or cells (x * height + row) [] there))
+          let place : x * height + row < height * width = mul-add-lt x height row width h under in
+          let there : x * height + row < length cells = omega arith in
+          inside x h ∙ sym (ap (fits_there (meaning_of_mask mask)) (slice_get-get_or cells (x * height + row) [] there))
       | inr off ↦
-        let more : height * width ≤ height * x = mul-le-mul_left height off in
-        let beyond : length cells ≤ x * height + row = omega arith in
-        within x off low ∙ sym (ap (fits_there (meaning_of_mask mask)) (slice_get_past cells (x * height + row) beyond))
+          let more : height * width ≤ height * x = mul-le-mul_left height off in
+          let beyond : length cells ≤ x * height + row = omega arith in
+          within x off low ∙ sym (ap (fits_there (meaning_of_mask mask)) (slice_get_past cells (x * height + row) beyond))
     ]

@@ -1,8 +1,8 @@
 -- Words of a row against what a mask asks.
-use Rattle.std.proofs.Common.{◌≡◌, ◌≢◌, ℕ, zero, suc, ◌+◌, ◌-◌, ◌*◌, ◌/◌, ◌%◌, ◌^◌, ◌<◌, ◌≤◌, ◌⊎◌, inl, inr, Bool, true, false, not, ◌&&◌, ◌||◌, Option, Some, None, List, [], ◌∷◌, length, get_or, take, map, refl, sym, ap, subst, ◌∙◌, arith, bit_and, bit_or}
-use Rattle.std.specs.Prelude.{nat_eq, nat_lt, slice_get, option_map, min, max}
+use Rattle.std.proofs.Common.{◌≡◌, ℕ, ◌+◌, ◌-◌, ◌*◌, ◌/◌, ◌^◌, ◌<◌, ◌≤◌, ◌⊎◌, inl, inr, Bool, true, false, not, ◌&&◌, ◌||◌, Option, Some, None, List, [], length, get_or, take, map, refl, sym, ap, ◌∙◌, arith, bit_and, bit_or}
+use Rattle.std.specs.Prelude.{nat_lt, slice_get, option_map}
 use Rattle.std.specs.List.{list_all, list_any, range_with_len}
-use Rattle.std.specs.Int.{bit_at, bit_not, w64}
+use Rattle.std.specs.Int.{bit_at, w64}
 use Rattle.std.proofs.lemmas.Bool.{cases_eq, cases_lt, and_parts, false_from_ne_true, false≢true, ltb-true, lt-ltb, le-ltb}
 use Rattle.std.proofs.lemmas.Option.{none-some}
 use Rattle.std.proofs.lemmas.Nat.{mul-add-lt, div-mul-add, mod-mul-add}
@@ -149,7 +149,7 @@ module _ (table : List ℕ) (width height layers : ℕ) (words : List ℕ) (row 
   slot_beyond x layer h off =
       ap (λ (slots : List Slot). get_or slots layer Bare) (tabled_at (cell_shown table layers height words) (width * height) (x * height + row) [] (inside x h))
       ∙ get_or_past (map (slot_shown table height words (x * height + row)) (range_with_len 0 layers)) layer Bare
-        (rw length-map-range_with_len off)
+      (rw length-map-range_with_len off)
 
   shown_holds : (x layer : ℕ) (sought : ObjectId) → slot_holds sought (slot_shown table height words (x * height + row) layer) ≡ is_number (object_shown table height words (x * height + row) layer) sought.0
   unfolding slot_shown
@@ -162,11 +162,11 @@ module _ (table : List ℕ) (width height layers : ℕ) (words : List ℕ) (row 
       let object : ObjectId = sought.object in
       elim (cases_lt layer layers) [
         | inl on ↦
-          let other : is_number (slice_get table object.0) layer ≡ false = rw (lt-ltb layer layers on) at not_on in
-          let none : is_number (object_shown table height words (x * height + row) layer) object.0 ≡ false =
+            let other : is_number (slice_get table object.0) layer ≡ false = rw (lt-ltb layer layers on) at not_on in
+            let none : is_number (object_shown table height words (x * height + row) layer) object.0 ≡ false =
             false_from_ne_true (is_number (object_shown table height words (x * height + row) layer) object.0)
             (λ yes. false≢true (sym other ∙ object_room table height words (x * height + row) layer object.0 (number_is (object_shown table height words (x * height + row) layer) object.0 yes))) in
-          has_column-zero x ∙ sym (ap (slot_holds object) (slot_within x layer h on) ∙ shown_holds x layer object ∙ none)
+            has_column-zero x ∙ sym (ap (slot_holds object) (slot_within x layer h on) ∙ shown_holds x layer object ∙ none)
         | inr off ↦ has_column-zero x ∙ sym (ap (slot_holds object) (slot_beyond x layer h off))
       ]
 
@@ -204,16 +204,19 @@ module _ (table : List ℕ) (width height layers : ℕ) (words : List ℕ) (row 
       let motion : Motion = motion_in (slot_shown table height words (x * height + row) layer) in
       let word : ℕ → ℕ = λ plane. get_or words (plane * height + row) 0 in
       let tells : (m : Motion) (plane : ℕ) → motion_plane first m ≡ Some plane → has_column (word plane) x ≡ same_motion m motion =
-        λ m plane e. column_read plane x ∙ shown (x * height + row) layer m plane (inside x h) on e in
+      λ m plane e. column_read plane x ∙ shown (x * height + row) layer m plane (inside x h) on e in
       let or5 : has_column (five_rows height words first row) x
-          ≡ ((((has_column (word first) x || has_column (word (first + 1)) x) || has_column (word (first + 2)) x) || has_column (word (first + 3)) x) || has_column (word (first + 4)) x) =
-        rw (has_column-or (bit_or (bit_or (bit_or (word first) (word (first + 1))) (word (first + 2))) (word (first + 3))) (word (first + 4)) x,
-          has_column-or (bit_or (bit_or (word first) (word (first + 1))) (word (first + 2))) (word (first + 3)) x,
-          has_column-or (bit_or (word first) (word (first + 1))) (word (first + 2)) x, has_column-or (word first) (word (first + 1)) x) refl in
+      ≡ ((((has_column (word first) x || has_column (word (first + 1)) x) || has_column (word (first + 2)) x) || has_column (word (first + 3)) x) || has_column (word (first + 4)) x) =
+      rw (
+        has_column-or (bit_or (bit_or (bit_or (word first) (word (first + 1))) (word (first + 2))) (word (first + 3))) (word (first + 4)) x,
+        has_column-or (bit_or (bit_or (word first) (word (first + 1))) (word (first + 2))) (word (first + 3)) x,
+        has_column-or (bit_or (word first) (word (first + 1))) (word (first + 2)) x,
+        has_column-or (word first) (word (first + 1)) x,
+      ) refl in
       let told : has_column any x
-          ≡ ((((same_motion (Going Up) motion || same_motion (Going Down) motion) || same_motion (Going Left) motion) || same_motion (Going Right) motion) || same_motion Acting motion) =
-        ap (λ (w : ℕ). has_column w x) so ∙ or5
-        ∙ rw (tells (Going Up) first refl, tells (Going Down) (first + 1) refl, tells (Going Left) (first + 2) refl, tells (Going Right) (first + 3) refl, tells Acting (first + 4) refl) refl in
+      ≡ ((((same_motion (Going Up) motion || same_motion (Going Down) motion) || same_motion (Going Left) motion) || same_motion (Going Right) motion) || same_motion Acting motion) =
+      ap (λ (w : ℕ). has_column w x) so ∙ or5
+      ∙ rw (tells (Going Up) first refl, tells (Going Down) (first + 1) refl, tells (Going Left) (first + 2) refl, tells (Going Right) (first + 3) refl, tells Acting (first + 4) refl) refl in
       let still : test.motion ≡ Still = no_plane first test.motion asked in
       has_column-not any x fits (omega arith) ∙ ap not told ∙ rest_is_none motion ∙ ap (λ (m : Motion). same_motion m motion) (sym still)
       ∙ sym (ap (λ (slot : Slot). same_motion test.motion (motion_in slot)) (slot_within x layer h on))
@@ -233,13 +236,28 @@ mask_inside g row full needed barred listed moving mask narrow fits wide a b c d
     let low : x < 64 = omega arith in
     let cell : List Slot = cell_at g (x * g.height + row) in
     let here : has_column full x ≡ true = wide x low ∙ lt-ltb x g.width h in
-    rw (has_column-and (bit_and (bit_and (bit_and full needed) (18446744073709551615 - barred)) listed) moving x, has_column-and (bit_and (bit_and full needed) (18446744073709551615 - barred)) listed x,
-      has_column-and (bit_and full needed) (18446744073709551615 - barred) x, has_column-and full needed x, has_column-not barred x fits low, here, a x h, b x h, c x h, d x h)
+    rw (
+      has_column-and (bit_and (bit_and (bit_and full needed) (18446744073709551615 - barred)) listed) moving x,
+      has_column-and (bit_and (bit_and full needed) (18446744073709551615 - barred)) listed x,
+      has_column-and (bit_and full needed) (18446744073709551615 - barred) x,
+      has_column-and full needed x,
+      has_column-not barred x fits low,
+      here,
+      a x h,
+      b x h,
+      c x h,
+      d x h,
+    )
     (and4 (held_all mask.needed cell) (not (held_any mask.barred cell)) (held_of_each mask.one_of cell) (moved_all mask.motions cell))
 
 pub mask_within : (g : Grid) (full needed other listed moving : ℕ) → ((x : ℕ) → x < 64 → has_column full x ≡ nat_lt x g.width) →
     IsWithin g (bit_and (bit_and (bit_and (bit_and full needed) other) listed) moving)
 mask_within g full needed other listed moving wide = λ x off low.
     let none : has_column full x ≡ false = wide x low ∙ le-ltb x g.width off in
-    rw (has_column-and (bit_and (bit_and (bit_and full needed) other) listed) moving x, has_column-and (bit_and (bit_and full needed) other) listed x, has_column-and (bit_and full needed) other x,
-      has_column-and full needed x, none) refl
+    rw (
+      has_column-and (bit_and (bit_and (bit_and full needed) other) listed) moving x,
+      has_column-and (bit_and (bit_and full needed) other) listed x,
+      has_column-and (bit_and full needed) other x,
+      has_column-and full needed x,
+      none,
+    ) refl

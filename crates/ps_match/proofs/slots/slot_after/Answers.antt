@@ -1,5 +1,4 @@
 use Rattle.std.proofs.Common.{◌≡◌, ℕ, ◌∙◌, Option, Some, None, List, sym, ap}
-use Rattle.ps_model.specs.declared.pieces.Slot.{Slot}
 use Rattle.ps_model.specs.declared.compiled.LayeredObject.{LayeredObject}
 use Rattle.ps_model.specs.declared.compiled.LayerWrite.{LayerWrite}
 use Rattle.ps_model.specs.meaning.Compiled.{CellWrite, object_written, slot_freed, slot_written}
@@ -25,6 +24,6 @@ returns-in-Some g c =
     let each : LayerWrite = c.in-Some.each in
     let some : Some each ≡ own_write table layer write.layers = c.in-Some.ensures ∙ ap (own_write table layer) c.as_slice-2.ensures in
     let gone : c.freed-slot.result ≡ slot_freed write.gone layer c.args.slot =
-      c.freed-slot.ensures ∙ ap (λ (gone : List LayeredObject). slot_freed gone layer c.args.slot) c.as_slice.ensures in
+    c.freed-slot.ensures ∙ ap (λ (gone : List LayeredObject). slot_freed gone layer c.args.slot) c.as_slice.ensures in
     c.object_after.ensures ∙ ap (object_written each.object each.motion) gone
     ∙ ap (λ (own : Option LayerWrite). slot_written own (slot_freed write.gone layer c.args.slot)) some ∙ sym (after_value table layer write c.args.slot)

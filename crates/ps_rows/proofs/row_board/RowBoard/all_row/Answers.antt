@@ -1,7 +1,6 @@
 use Rattle.std.proofs.Common.{◌<◌, ◌≤◌, List, length, subst, arith}
 use Rattle.std.proofs.lemmas.List.{take_all}
 use Rattle.ps_model.specs.declared.compiled.LayeredObject.{LayeredObject}
-use Rattle.ps_model.specs.board.Grid.{Grid}
 use Rattle.ps_model.specs.meaning.Compiled.{is_held_in}
 use Rattle.ps_rows.specs.Showing.{grid_shown}
 use Rattle.ps_rows.specs.RowTests.{IsRowOf, held_all}
@@ -25,5 +24,5 @@ returns c =
     let b = c.args.self.now in
     let end : length c.args.objects.now ≤ c.loop-sought.sought-index = omega arith in
     let P : List LayeredObject → Type 0 =
-      λ xs. IsRowOf (grid_shown b.members.table.items b.width b.height b.layers b.words.items) c.args.row c.loop-sought.word (held_all xs) in
+    λ xs. IsRowOf (grid_shown b.members.table.items b.width b.height b.layers b.words.items) c.args.row c.loop-sought.word (held_all xs) in
     subst P (take_all c.loop-sought.sought-index c.args.objects.now end) c.loop-sought.invariant

@@ -1,4 +1,4 @@
-use Rattle.std.proofs.Common.{◌≡◌, ◌<◌, ◌≤◌, ◌∙◌, Bool, List, length, get_or, subst, arith}
+use Rattle.std.proofs.Common.{◌<◌, ◌≤◌, ◌∙◌, Bool, List, length, subst, arith}
 use Rattle.std.specs.List.{list_any}
 use Rattle.std.proofs.lemmas.List.{take_all}
 use Rattle.ps_model.specs.declared.pieces.Slot.{Slot}
@@ -34,5 +34,5 @@ returns c =
     let b = c.args.self.now in
     let end : length c.args.lists.now ≤ c.loop-objects.objects-index = omega arith in
     let P : List (List LayeredObject) → Type 0 =
-      λ xs. IsRowOf (grid_shown b.members.table.items b.width b.height b.layers b.words.items) c.args.row c.loop-objects.word (held_of_each xs) in
+    λ xs. IsRowOf (grid_shown b.members.table.items b.width b.height b.layers b.words.items) c.args.row c.loop-objects.word (held_of_each xs) in
     subst P (take_all c.loop-objects.objects-index c.args.lists.now end) c.loop-objects.invariant

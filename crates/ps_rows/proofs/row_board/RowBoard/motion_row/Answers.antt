@@ -16,7 +16,7 @@ returns-in-Some c =
     let test = c.args.test.now in
     let on : (test.layer).0 < b.layers = omega arith in
     let asked : motion_plane (motions_from b.members.table.items (test.layer).0) test.motion ≡ Some c.in-Some.plane =
-      ap (λ (first : ℕ). motion_plane first test.motion) (sym c.motions_from-first.ensures.first) ∙ sym c.in-Some.ensures in
+    ap (λ (first : ℕ). motion_plane first test.motion) (sym c.motions_from-first.ensures.first) ∙ sym c.in-Some.ensures in
     moving_row_is b.members.table.items b.width b.height b.layers b.words.items c.args.row b.some_row b.columns c.requires test c.row.result c.in-Some.plane b.motions on asked c.row.ensures
 
 pub returns-in-None : goal.returns-in-None
@@ -25,8 +25,8 @@ returns-in-None c =
     let test = c.args.test.now in
     let on : (test.layer).0 < b.layers = omega arith in
     let asked : motion_plane (motions_from b.members.table.items (test.layer).0) test.motion ≡ None =
-      ap (λ (first : ℕ). motion_plane first test.motion) (sym c.motions_from-first.ensures.first) ∙ sym c.in-None.ensures in
+    ap (λ (first : ℕ). motion_plane first test.motion) (sym c.motions_from-first.ensures.first) ∙ sym c.in-None.ensures in
     let any : c.moving_row.result ≡ five_rows b.height b.words.items (motions_from b.members.table.items (test.layer).0) c.args.row =
-      c.moving_row.ensures ∙ ap (λ (first : ℕ). five_rows b.height b.words.items first c.args.row) c.motions_from-first.ensures.first in
+    c.moving_row.ensures ∙ ap (λ (first : ℕ). five_rows b.height b.words.items first c.args.row) c.motions_from-first.ensures.first in
     let fits : c.moving_row.result < 2 ^ 64 = search rules in
     resting_row_is b.members.table.items b.width b.height b.layers b.words.items c.args.row b.some_row b.columns c.requires test c.moving_row.result b.motions on asked any fits

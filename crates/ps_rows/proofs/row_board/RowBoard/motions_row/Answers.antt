@@ -1,7 +1,6 @@
 use Rattle.std.proofs.Common.{◌<◌, ◌≤◌, List, length, subst, arith}
 use Rattle.std.proofs.lemmas.List.{take_all}
 use Rattle.ps_model.specs.declared.compiled.MotionTest.{MotionTest}
-use Rattle.ps_model.specs.board.Grid.{Grid}
 use Rattle.ps_model.specs.meaning.Compiled.{moves_as_asked}
 use Rattle.ps_rows.specs.Showing.{grid_shown}
 use Rattle.ps_rows.specs.RowTests.{IsRowOf, moved_all}
@@ -25,5 +24,5 @@ returns c =
     let b = c.args.self.now in
     let end : length c.args.tests.now ≤ c.loop-test.test-index = omega arith in
     let P : List MotionTest → Type 0 =
-      λ xs. IsRowOf (grid_shown b.members.table.items b.width b.height b.layers b.words.items) c.args.row c.loop-test.word (moved_all xs) in
+    λ xs. IsRowOf (grid_shown b.members.table.items b.width b.height b.layers b.words.items) c.args.row c.loop-test.word (moved_all xs) in
     subst P (take_all c.loop-test.test-index c.args.tests.now end) c.loop-test.invariant

@@ -21,5 +21,5 @@ returns c =
     let low : cell / b.height < 64 = columns_low b.width b.height b.some_row b.columns cell within in
     c.has_column.ensures ∙ ap (has_column c.mask_row.result) column
     ∙ row_told b.members.table.items b.width b.height b.layers b.words.items (cell % b.height) (mod_below cell b.height b.some_row) mask c.mask_row.result told c.mask_row.ensures.within
-      (cell / b.height) low
+    (cell / b.height) low
     ∙ ap (λ (n : ℕ). fits_there (meaning_of_mask mask) (slice_get (cells_shown b.members.table.items b.layers b.height b.words.items (b.width * b.height)) n)) (div-add-mod' cell b.height)
