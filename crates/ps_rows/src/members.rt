@@ -82,8 +82,8 @@ fn stretch(numbers: &[u32], span: Span) -> &[u32]
 }
 
 impl Members {
-    /// The members of so many layers, for objects which stand on these. Nothing, where there is no memory, or there are more
-    /// objects than a table can have.
+    /// The members of so many layers, for objects which stand on these. Nothing, where there is no memory, or there are
+    /// more objects than a table can have.
     pub fn try_new(alloc: Global, layers: u32, own_layers: &[LayerId]) -> Result<Members, Memory>
         ensures table { IfOk result (λ members. members.table.items ≡ map (λ layer. layer.0) own_layers.now) }
         ensures layers { IfOk result (λ members. vec_len members.spans ≡ layers) }
