@@ -1,6 +1,6 @@
 //! The system's streams as devices.
 
-ghost use Rattle.std.specs.Prelude.{◌≡◌, ◌+◌, ◌≤◌, ◌<◌, None, true, false, length, take, drop, min, IfOk, OnOk};
+ghost use Rattle.std.specs.Prelude.{◌≡◌, ◌≢◌, ◌+◌, ◌≤◌, ◌<◌, None, true, false, length, take, drop, min, IfOk, OnOk};
 ghost use Rattle.std.specs.Prelude.{OnErr, IsErr};
 ghost use Rattle.std.specs.Io.KnownBytes.{Appends, Consumes, IsAtEnd, Keeps};
 ghost use Rattle.ps_model.specs.declared.limits.TheConstants.{CALL_LIMIT};
@@ -26,6 +26,8 @@ impl<T: Drop> FromStd<T> {
         ensures has_failed { result.stream.failed ≡ false }
         ensures calls { result.stream.calls ≡ 0 }
         ensures last { result.stream.last ≡ 0 }
+        ensures empty_calls { result.stream.empty_calls ≡ 0 }
+        ensures odd_sized_calls { result.stream.odd_sized_calls ≡ 0 }
     {
         FromStd {
             stream: Stream::new(stream),
@@ -41,6 +43,10 @@ impl<T: Read + Drop> ByteReader for FromStd<T> {
     ghost last = { λ device. device.stream.last };
 
     ghost calls = { λ device. device.stream.calls };
+
+    ghost empty_calls = { λ device. device.stream.empty_calls };
+
+    ghost odd_sized_calls = { λ device. device.stream.odd_sized_calls };
 
     /// One read of the stream, of as many bytes as `buffer` has room for and `CALL_LIMIT` allows: what it gives goes
     /// into `buffer`, and nothing of it is lost. std doesn't say that a read leaves the rest of its buffer alone, so
@@ -64,10 +70,21 @@ impl<T: Read + Drop> ByteReader for FromStd<T> {
             → IsAtEnd (T.remaining self.new.stream.stream)) }
         ensures kept { OnErr result
             (Keeps (T.remaining self.old.stream.stream) (T.remaining self.new.stream.stream)) }
+        ensures empty { IfOk result (λ count. count ≡ 0
+            → self.new.stream.empty_calls ≡ self.old.stream.empty_calls + 1) }
+        ensures some { IfOk result (λ count. 0 < count
+            → self.new.stream.empty_calls ≡ self.old.stream.empty_calls) }
+        ensures none { OnErr result (self.new.stream.empty_calls ≡ self.old.stream.empty_calls) }
+        ensures odd_sized { self.old.stream.calls < most_calls → length buffer.old ≢ CALL_LIMIT
+            → self.new.stream.odd_sized_calls ≡ self.old.stream.odd_sized_calls + 1 }
+        ensures even_sized { length buffer.old ≡ CALL_LIMIT
+            → self.new.stream.odd_sized_calls ≡ self.old.stream.odd_sized_calls }
+        ensures unsized { most_calls ≤ self.old.stream.calls
+            → self.new.stream.odd_sized_calls ≡ self.old.stream.odd_sized_calls }
     {
         let mut piece = [0u8; CALL_LIMIT];
         let room = buffer.len().min(CALL_LIMIT);
-        let count = self.stream.read_once(&mut piece[..room])?;
+        let count = self.stream.read_once(&mut piece[..room], buffer.len())?;
         copy_front(&piece, count, buffer);
         Ok(count)
     }
@@ -79,6 +96,8 @@ impl<T: Write + Drop> ByteWriter for FromStd<T> {
     ghost has_failed = { λ device. device.stream.failed };
 
     ghost calls = { λ device. device.stream.calls };
+
+    ghost empty_calls = { λ device. device.stream.empty_calls };
 
     /// One write to the stream, which is handed all of `bytes`, takes a front of them and nothing else.
     fn write_some(&mut self, bytes: &[u8]) -> Result<usize, Failed>
@@ -96,6 +115,11 @@ impl<T: Write + Drop> ByteWriter for FromStd<T> {
         ensures through { IfOk result (λ count. Appends (T.contents self.old.stream.stream)
             (T.contents self.new.stream.stream) (take count bytes.now)) }
         ensures kept { OnErr result (Keeps (T.contents self.old.stream.stream) (T.contents self.new.stream.stream)) }
+        ensures empty { self.old.stream.calls < most_calls → length bytes.now ≡ 0
+            → self.new.stream.empty_calls ≡ self.old.stream.empty_calls + 1 }
+        ensures some { 0 < length bytes.now → self.new.stream.empty_calls ≡ self.old.stream.empty_calls }
+        ensures none { most_calls ≤ self.old.stream.calls
+            → self.new.stream.empty_calls ≡ self.old.stream.empty_calls }
     {
         self.stream.write_once(bytes)
     }

@@ -1,12 +1,13 @@
 //! Devices in memory: they tell their bytes, give and take them in pieces, and fail where they are told to.
 
-ghost use Rattle.std.specs.Prelude.{◌≡◌, ◌+◌, ◌-◌, ◌<◌, ◌≤◌, min, Some, None, IfSome, [], true, false, vec_len};
+ghost use Rattle.std.specs.Prelude.{◌≡◌, ◌≢◌, ◌+◌, ◌-◌, ◌<◌, ◌≤◌, min, Some, None, IfSome, [], true, false, vec_len};
 ghost use Rattle.std.specs.Prelude.{vec_capacity, length, take, drop, IfOk, OnOk, OnErr, IsOk, IsErr};
+ghost use Rattle.ps_model.specs.declared.limits.TheConstants.{CALL_LIMIT};
 ghost use Rattle.ps_devices.specs.Devices.{Grows, Loses, IsSpent, most_calls};
 
 use super::from_std::copy_front;
 use super::traits::{ByteReader, ByteWriter, Failed};
-use ps_model::Memory;
+use ps_model::{CALL_LIMIT, Memory};
 use std::alloc::Global;
 
 /// Reads what lies in memory.
@@ -22,6 +23,10 @@ pub struct MemoryReader<'a> {
     failed: bool,
     calls: u64,
     last: usize,
+    empty_calls: u64,
+    odd_sized_calls: u64,
+    ghost empty: { empty_calls ≤ calls },
+    ghost odd_sized: { odd_sized_calls ≤ calls },
     ghost given: { place ≤ stop },
     ghost within: { stop ≤ length bytes.now },
     ghost ends: { fails ≡ false → stop ≡ length bytes.now },
@@ -37,6 +42,8 @@ impl<'a> MemoryReader<'a> {
         ensures has_failed { ⟦<MemoryReader<'a> as ByteReader>⟧.has_failed result ≡ false }
         ensures last { ⟦<MemoryReader<'a> as ByteReader>⟧.last result ≡ 0 }
         ensures calls { ⟦<MemoryReader<'a> as ByteReader>⟧.calls result ≡ 0 }
+        ensures empty_calls { ⟦<MemoryReader<'a> as ByteReader>⟧.empty_calls result ≡ 0 }
+        ensures odd_sized_calls { ⟦<MemoryReader<'a> as ByteReader>⟧.odd_sized_calls result ≡ 0 }
         ensures given { result.place ≡ 0 }
         ensures piece { result.piece ≡ piece }
         ensures ends { fail_at ≡ None → result.fails ≡ false }
@@ -57,6 +64,8 @@ impl<'a> MemoryReader<'a> {
             failed: false,
             calls: 0,
             last: 0,
+            empty_calls: 0,
+            odd_sized_calls: 0,
         }
     }
 
@@ -76,6 +85,10 @@ impl<'a> ByteReader for MemoryReader<'a> {
     ghost last = { λ device. device.last };
 
     ghost calls = { λ device. device.calls };
+
+    ghost empty_calls = { λ device. device.empty_calls };
+
+    ghost odd_sized_calls = { λ device. device.odd_sized_calls };
 
     /// Gives as many bytes as are left up to where it stops, but no more than a piece and than `buffer` has room for;
     /// it fails where it stops and was told to, and behind the `u64::MAX`th call.
@@ -107,6 +120,13 @@ impl<'a> ByteReader for MemoryReader<'a> {
         ensures edge { self.old.place ≡ self.old.stop → self.old.fails ≡ true → IsErr result }
         ensures gives { self.old.calls < most_calls → self.old.place < self.old.stop → IsOk result }
         ensures ends { self.old.calls < most_calls → self.old.fails ≡ false → IsOk result }
+        ensures empty { IfOk result (λ count. count ≡ 0 → self.new.empty_calls ≡ self.old.empty_calls + 1) }
+        ensures some { IfOk result (λ count. 0 < count → self.new.empty_calls ≡ self.old.empty_calls) }
+        ensures none { OnErr result (self.new.empty_calls ≡ self.old.empty_calls) }
+        ensures odd_sized { self.old.calls < most_calls → length buffer.old ≢ CALL_LIMIT
+            → self.new.odd_sized_calls ≡ self.old.odd_sized_calls + 1 }
+        ensures even_sized { length buffer.old ≡ CALL_LIMIT → self.new.odd_sized_calls ≡ self.old.odd_sized_calls }
+        ensures unsized { most_calls ≤ self.old.calls → self.new.odd_sized_calls ≡ self.old.odd_sized_calls }
     {
         self.last = 0;
         if self.calls == u64::MAX {
@@ -114,6 +134,9 @@ impl<'a> ByteReader for MemoryReader<'a> {
             return Err(Failed);
         }
         self.calls += 1;
+        if buffer.len() != CALL_LIMIT {
+            self.odd_sized_calls += 1;
+        }
         let left = self.stop - self.place;
         if left == 0 && self.fails {
             self.failed = true;
@@ -124,6 +147,9 @@ impl<'a> ByteReader for MemoryReader<'a> {
         copy_front(rest, count, buffer);
         self.place += count;
         self.last = count;
+        if count == 0 {
+            self.empty_calls += 1;
+        }
         Ok(count)
     }
 }
@@ -136,6 +162,8 @@ pub struct MemoryWriter {
     piece: usize,
     failed: bool,
     calls: u64,
+    empty_calls: u64,
+    ghost empty: { empty_calls ≤ calls },
     ghost within: { vec_len bytes ≤ room },
     ghost reserved: { room ≤ vec_capacity bytes },
 }
@@ -151,6 +179,7 @@ impl MemoryWriter {
         ensures contents { IfOk result (λ writer. ⟦<MemoryWriter as ByteWriter>⟧.contents writer ≡ Some []) }
         ensures has_failed { IfOk result (λ writer. ⟦<MemoryWriter as ByteWriter>⟧.has_failed writer ≡ false) }
         ensures calls { IfOk result (λ writer. ⟦<MemoryWriter as ByteWriter>⟧.calls writer ≡ 0) }
+        ensures empty_calls { IfOk result (λ writer. ⟦<MemoryWriter as ByteWriter>⟧.empty_calls writer ≡ 0) }
         ensures room { IfOk result (λ writer. writer.room ≡ room) }
         ensures piece { IfOk result (λ writer. writer.piece ≡ piece) }
     {
@@ -160,6 +189,7 @@ impl MemoryWriter {
             piece,
             failed: false,
             calls: 0,
+            empty_calls: 0,
         })
     }
 
@@ -177,6 +207,8 @@ impl ByteWriter for MemoryWriter {
     ghost has_failed = { λ device. device.failed };
 
     ghost calls = { λ device. device.calls };
+
+    ghost empty_calls = { λ device. device.empty_calls };
 
     /// Takes as much as there is room for, but no more than a piece; it fails where it has no room left for some bytes,
     /// and behind the `u64::MAX`th call.
@@ -199,12 +231,19 @@ impl ByteWriter for MemoryWriter {
         ensures full { vec_len self.old.bytes ≡ self.old.room → 0 < length bytes.now → IsErr result }
         ensures takes { self.old.calls < most_calls → vec_len self.old.bytes < self.old.room → IsOk result }
         ensures nothing { self.old.calls < most_calls → length bytes.now ≡ 0 → IsOk result }
+        ensures empty { self.old.calls < most_calls → length bytes.now ≡ 0
+            → self.new.empty_calls ≡ self.old.empty_calls + 1 }
+        ensures some { 0 < length bytes.now → self.new.empty_calls ≡ self.old.empty_calls }
+        ensures none { most_calls ≤ self.old.calls → self.new.empty_calls ≡ self.old.empty_calls }
     {
         if self.calls == u64::MAX {
             self.failed = true;
             return Err(Failed);
         }
         self.calls += 1;
+        if bytes.is_empty() {
+            self.empty_calls += 1;
+        }
         let left = self.room - self.bytes.len();
         if left == 0 && !bytes.is_empty() {
             self.failed = true;

@@ -3,15 +3,18 @@
 //! This module alone calls a stream, by two steps that are each one call. Whoever holds a `Stream` has no other way to
 //! the stream, so the count is the number of calls that the system saw.
 
-ghost use Rattle.std.specs.Prelude.{◌≡◌, ◌+◌, ◌≤◌, ◌<◌, true, false, length, take, IfOk, OnOk, OnErr, IsErr};
+ghost use Rattle.std.specs.Prelude.{◌≡◌, ◌≢◌, ◌+◌, ◌≤◌, ◌<◌, true, false, length, take, IfOk, OnOk, OnErr, IsErr};
 ghost use Rattle.std.specs.Io.KnownBytes.{Appends, Consumes, IsAtEnd, Keeps};
+ghost use Rattle.ps_model.specs.declared.limits.TheConstants.{CALL_LIMIT};
 ghost use Rattle.ps_devices.specs.Devices.{most_calls};
 
 use super::traits::Failed;
+use ps_model::CALL_LIMIT;
 use std::io::{Read, Write};
 
 /// A stream, whether a call of it failed, how many calls it has had, what the last one was given room for or handed,
-/// and what it moved.
+/// and what it moved; how many calls gave nothing without failing or were handed nothing, and for how many reads the
+/// caller had room for another number of bytes than `CALL_LIMIT`.
 #[derive(Drop)]
 pub(super) struct Stream<T> {
     stream: T,
@@ -19,12 +22,22 @@ pub(super) struct Stream<T> {
     calls: u64,
     asked: usize,
     last: usize,
+    empty_calls: u64,
+    odd_sized_calls: u64,
+    ghost empty: { empty_calls ≤ calls },
+    ghost odd_sized: { odd_sized_calls ≤ calls },
 }
 
 impl<T: Drop> Stream<T> {
     /// The stream before its first call.
     pub(super) fn new(stream: T) -> Stream<T>
-        ensures { result ≡ record { stream = stream; failed = false; calls = 0; asked = 0; last = 0 } }
+        ensures stream { result.stream ≡ stream }
+        ensures failed { result.failed ≡ false }
+        ensures calls { result.calls ≡ 0 }
+        ensures asked { result.asked ≡ 0 }
+        ensures last { result.last ≡ 0 }
+        ensures empty_calls { result.empty_calls ≡ 0 }
+        ensures odd_sized_calls { result.odd_sized_calls ≡ 0 }
     {
         Stream {
             stream,
@@ -32,6 +45,8 @@ impl<T: Drop> Stream<T> {
             calls: 0,
             asked: 0,
             last: 0,
+            empty_calls: 0,
+            odd_sized_calls: 0,
         }
     }
 
@@ -46,6 +61,8 @@ impl<T: Drop> Stream<T> {
         ensures room { OnOk result (self.old.calls < most_calls) }
         ensures worn { OnErr result (most_calls ≤ self.old.calls) }
         ensures held { OnErr result (self.new.calls ≡ self.old.calls) }
+        ensures empty { self.new.empty_calls ≡ self.old.empty_calls }
+        ensures odd_sized { self.new.odd_sized_calls ≡ self.old.odd_sized_calls }
     {
         self.asked = asked;
         self.last = 0;
@@ -59,9 +76,9 @@ impl<T: Drop> Stream<T> {
 }
 
 impl<T: Read + Drop> Stream<T> {
-    /// One read of the stream into `piece`. Whatever error the stream answers, an interruption among them, is a
-    /// failure.
-    pub(super) fn read_once(&mut self, piece: &mut [u8]) -> Result<usize, Failed>
+    /// One read of the stream into `piece`, for a caller that has room for `room` bytes. Whatever error the stream
+    /// answers, an interruption among them, is a failure.
+    pub(super) fn read_once(&mut self, piece: &mut [u8], room: usize) -> Result<usize, Failed>
         requires well { self.old.failed ≡ false }
         ensures count { IfOk result (λ count. count ≤ length piece.old) }
         ensures asked { self.new.asked ≡ length piece.old }
@@ -77,11 +94,24 @@ impl<T: Read + Drop> Stream<T> {
         ensures ended { IfOk result (λ count. count ≡ 0 → 0 < length piece.old
             → IsAtEnd (T.remaining self.new.stream)) }
         ensures kept { OnErr result (Keeps (T.remaining self.old.stream) (T.remaining self.new.stream)) }
+        ensures empty { IfOk result (λ count. count ≡ 0 → self.new.empty_calls ≡ self.old.empty_calls + 1) }
+        ensures some { IfOk result (λ count. 0 < count → self.new.empty_calls ≡ self.old.empty_calls) }
+        ensures none { OnErr result (self.new.empty_calls ≡ self.old.empty_calls) }
+        ensures odd_sized { self.old.calls < most_calls → room ≢ CALL_LIMIT
+            → self.new.odd_sized_calls ≡ self.old.odd_sized_calls + 1 }
+        ensures even_sized { room ≡ CALL_LIMIT → self.new.odd_sized_calls ≡ self.old.odd_sized_calls }
+        ensures unsized { most_calls ≤ self.old.calls → self.new.odd_sized_calls ≡ self.old.odd_sized_calls }
     {
         self.count_call(piece.len())?;
+        if room != CALL_LIMIT {
+            self.odd_sized_calls += 1;
+        }
         match self.stream.read(piece) {
             Ok(count) => {
                 self.last = count;
+                if count == 0 {
+                    self.empty_calls += 1;
+                }
                 Ok(count)
             }
             Err(_) => {
@@ -110,8 +140,15 @@ impl<T: Write + Drop> Stream<T> {
         ensures taken { IfOk result (λ count.
             Appends (T.contents self.old.stream) (T.contents self.new.stream) (take count bytes.now)) }
         ensures kept { OnErr result (Keeps (T.contents self.old.stream) (T.contents self.new.stream)) }
+        ensures empty { self.old.calls < most_calls → length bytes.now ≡ 0
+            → self.new.empty_calls ≡ self.old.empty_calls + 1 }
+        ensures some { 0 < length bytes.now → self.new.empty_calls ≡ self.old.empty_calls }
+        ensures none { most_calls ≤ self.old.calls → self.new.empty_calls ≡ self.old.empty_calls }
     {
         self.count_call(bytes.len())?;
+        if bytes.is_empty() {
+            self.empty_calls += 1;
+        }
         match self.stream.write(bytes) {
             Ok(count) => {
                 self.last = count;

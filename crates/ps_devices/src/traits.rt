@@ -1,7 +1,8 @@
 //! What a run asks of its two devices.
 
-ghost use Rattle.std.specs.Prelude.{◌≡◌, ℕ, ◌+◌, ◌<◌, ◌≤◌, List, length, take, drop, true, false, Bool, Option};
+ghost use Rattle.std.specs.Prelude.{◌≡◌, ◌≢◌, ℕ, ◌+◌, ◌<◌, ◌≤◌, List, length, take, drop, true, false, Bool, Option};
 ghost use Rattle.std.specs.Prelude.{IfOk, OnOk, OnErr, IsErr};
+ghost use Rattle.ps_model.specs.declared.limits.TheConstants.{CALL_LIMIT};
 ghost use Rattle.ps_devices.specs.Devices.{Grows, Loses, IsSpent, most_calls};
 
 use thiserror::Error;
@@ -25,6 +26,12 @@ pub trait ByteReader: Drop {
     /// How many calls it has had, at most `u64::MAX`.
     ghost calls: { Self → ℕ };
 
+    /// How many of its calls gave 0 bytes, without failing.
+    ghost empty_calls: { Self → ℕ };
+
+    /// How many of its calls had room for fewer bytes than `CALL_LIMIT`, or for more.
+    ghost odd_sized_calls: { Self → ℕ };
+
     /// Gives the next bytes, at most as many as `buffer` has room for, at the start of `buffer`, and says
     /// how many. It gives 0 only at its end, or where `buffer` is empty. A device that has failed isn't asked again.
     ///
@@ -46,7 +53,14 @@ pub trait ByteReader: Drop {
         ensures last_none { OnErr result (last self.new ≡ 0) }
         ensures counted { calls self.old < most_calls → calls self.new ≡ calls self.old + 1 }
         ensures worn { most_calls ≤ calls self.old → IsErr result }
-        ensures held { most_calls ≤ calls self.old → calls self.new ≡ calls self.old };
+        ensures held { most_calls ≤ calls self.old → calls self.new ≡ calls self.old }
+        ensures empty { IfOk result (λ count. count ≡ 0 → empty_calls self.new ≡ empty_calls self.old + 1) }
+        ensures some { IfOk result (λ count. 0 < count → empty_calls self.new ≡ empty_calls self.old) }
+        ensures none { OnErr result (empty_calls self.new ≡ empty_calls self.old) }
+        ensures odd_sized { calls self.old < most_calls → length buffer.old ≢ CALL_LIMIT
+            → odd_sized_calls self.new ≡ odd_sized_calls self.old + 1 }
+        ensures even_sized { length buffer.old ≡ CALL_LIMIT → odd_sized_calls self.new ≡ odd_sized_calls self.old }
+        ensures unsized { most_calls ≤ calls self.old → odd_sized_calls self.new ≡ odd_sized_calls self.old };
 }
 
 /// What bytes are written to, a piece at a time.
@@ -59,6 +73,9 @@ pub trait ByteWriter: Drop {
 
     /// How many calls it has had, at most `u64::MAX`.
     ghost calls: { Self → ℕ };
+
+    /// How many of its calls were handed no byte.
+    ghost empty_calls: { Self → ℕ };
 
     /// Takes a front of `bytes` and says how many bytes it has. A writer that takes none, where there
     /// are some, has failed. A device that has failed isn't asked again.
@@ -77,11 +94,15 @@ pub trait ByteWriter: Drop {
         ensures stays { OnErr result (contents self.new ≡ contents self.old) }
         ensures counted { calls self.old < most_calls → calls self.new ≡ calls self.old + 1 }
         ensures worn { most_calls ≤ calls self.old → IsErr result }
-        ensures held { most_calls ≤ calls self.old → calls self.new ≡ calls self.old };
+        ensures held { most_calls ≤ calls self.old → calls self.new ≡ calls self.old }
+        ensures empty { calls self.old < most_calls → length bytes.now ≡ 0
+            → empty_calls self.new ≡ empty_calls self.old + 1 }
+        ensures some { 0 < length bytes.now → empty_calls self.new ≡ empty_calls self.old }
+        ensures none { most_calls ≤ calls self.old → empty_calls self.new ≡ empty_calls self.old };
 }
 
-/// Writes all of `bytes`, in order and nothing else, by as many calls as it takes: each but one that fails takes a byte
-/// or more, and none comes behind a failure or behind the last byte.
+/// Writes all of `bytes`, in order and nothing else, by as many calls as it takes: each is handed some, and takes a byte
+/// or more where it doesn't fail; none comes behind a failure or behind the last byte.
 ///
 /// # Errors
 ///
@@ -98,6 +119,7 @@ pub fn write_whole<W: ByteWriter>(bytes: &[u8], writer: &mut W) -> Result<(), Fa
         × (W.calls writer.new ≤ W.calls writer.old + (count + 1))) }
     ensures told { OnErr result (W.has_failed writer.new ≡ true) }
     ensures counts { W.calls writer.old ≤ W.calls writer.new }
+    ensures none_empty { W.empty_calls writer.new ≡ W.empty_calls writer.old }
 {
     let mut done = 0usize;
     while done < bytes.len() {

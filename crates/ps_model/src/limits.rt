@@ -28,5 +28,5 @@ pub const AGAIN_LIMIT: u32 = 200;
 pub const HISTORY_LIMIT: usize = 1000;
 /// The calls by which a run reads keys.
 pub const READ_LIMIT: u32 = 16777216;
-/// The bytes that one call may ask of a reader, or hand to a writer.
+/// The bytes that a run asks of its reader at each call.
 pub const CALL_LIMIT: usize = 4096;

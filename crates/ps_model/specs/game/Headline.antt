@@ -57,14 +57,14 @@ GoesOn script bytes = (output script bytes).ending ≡ EndOfKeys
 
 -- reading ---------------------------------------------------------------------------------------------------------------
 
--- what a call gives that isn't the last: a byte at least, and no more than one call asks for
+-- what a call gives that isn't the last: a byte at least, and no more than one call may ask for
 pub record IsPiece (piece : List ℕ) : Type 0 where
   pub some : 1 ≤ length piece
   pub few : length piece ≤ CALL_LIMIT
 
 -- a run's calls of its reader, in a game, with what the reader has left behind them
 pub record AsksInTurn (script : Script) (earlier : List (List ℕ)) (last : Call) (left : List ℕ) : Type 0 where
-  -- no call asks for more than one may, none comes behind one that gave nothing, and they are no more than a run makes
+  -- no call gave more than one may ask for, none came behind one that gave nothing, and they are no more than a run makes
   pub pieces : All IsPiece earlier
   pub few : length (given last) ≤ CALL_LIMIT
   pub calls : length earlier < READ_LIMIT

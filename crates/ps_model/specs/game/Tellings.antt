@@ -1,23 +1,28 @@
 -- What the devices of a run tell of it. A reader tells at any time whether a call has failed, how many bytes its last call
--- gave and how many calls it has had, and perhaps the bytes that it still has to give; a writer tells likewise. What they
--- tell before a run and behind it says what the run read and wrote.
-use Rattle.std.specs.Prelude.{◌≡◌, ℕ, ◌+◌, ◌-◌, ◌^◌, ◌≤◌, Bool, true, false, ⊤, ◌⊎◌, Option, Some, None, option_map, List, [], ◌++◌, length}
+-- gave, how many calls it has had and how many of them gave nothing or had another room than a run asks for, and perhaps
+-- the bytes that it still has to give; a writer tells likewise. What they tell before a run and behind it says what the run
+-- read and wrote, and how it called them.
+use Rattle.std.specs.Prelude.{◌≡◌, ℕ, ◌+◌, ◌-◌, ◌^◌, ◌≤◌, Bool, true, false, ⊤, ◌⊎◌, Option, Some, None, option_map, List, [], ◌∷◌, ◌++◌, length}
 use Rattle.std.specs.List.{concat}
 
 -- what a reader tells of itself: the bytes that it has left, or nothing of them; whether a call has failed; how many bytes
--- its last call gave; and how many calls it has counted
+-- its last call gave; how many calls it has counted; and of those how many gave nothing without failing, and how many had
+-- room for fewer bytes than a run asks for at a time, or for more
 pub record ReaderState : Type 0 where
   pub remaining : Option (List ℕ)
   pub has_failed : Bool
   pub last : ℕ
   pub calls : ℕ
+  pub empty_calls : ℕ
+  pub odd_sized_calls : ℕ
 
--- what a writer tells of itself: the bytes that it has taken, or nothing of them; whether a call has failed; and how many
--- calls it has counted
+-- what a writer tells of itself: the bytes that it has taken, or nothing of them; whether a call has failed; how many calls
+-- it has counted; and how many of those were handed no byte
 pub record WriterState : Type 0 where
   pub contents : Option (List ℕ)
   pub has_failed : Bool
   pub calls : ℕ
+  pub empty_calls : ℕ
 
 -- a call of a reader: it gives bytes, none where the reader is at its end, or it fails
 pub data Call : Type 0 where
@@ -80,6 +85,18 @@ CountsCalls before (Asked earlier (Gives piece)) after = after ≡ before + (len
 CountsCalls before (Asked earlier Fails) after =
     (after ≡ before + (length earlier + 1)) ⊎ ((most_calls ≤ after) × (after ≡ before + length earlier))
 
+-- how many of these pieces have no byte
+abbrev pub empty_pieces : List (List ℕ) → ℕ
+empty_pieces [] = 0
+empty_pieces ([] ∷ pieces) = empty_pieces pieces + 1
+empty_pieces ((byte ∷ bytes) ∷ pieces) = empty_pieces pieces
+
+-- how many calls gave nothing, without failing
+abbrev pub empty_reads : Reading → ℕ
+empty_reads Unasked = 0
+empty_reads (Asked earlier (Gives piece)) = empty_pieces earlier + empty_pieces (piece ∷ [])
+empty_reads (Asked earlier Fails) = empty_pieces earlier
+
 -- those bytes are left, as far as the reader tells
 abbrev pub IsLeft : Option (List ℕ) → List ℕ → Type 0
 IsLeft None left = ⊤
@@ -100,10 +117,14 @@ pub record Tells (reader_before reader_after : ReaderState) (writer_before write
   pub left : IsLeft reader_after.remaining told.left
   pub last : reader_after.last ≡ last_behind reader_before.last told.reading
   pub calls : CountsCalls reader_before.calls told.reading reader_after.calls
+  pub empty_reads : reader_after.empty_calls ≡ reader_before.empty_calls + empty_reads told.reading
+  -- each call had room for as many bytes as a run asks for at a time, and no other number
+  pub same_room : reader_after.odd_sized_calls ≡ reader_before.odd_sized_calls
   -- no call of the writer had failed before; one has now exactly if one failed in the run
   pub writer_was_well : writer_before.has_failed ≡ false
   pub writer_failed : writer_after.has_failed ≡ told.writer_failed
-  -- the bytes that the writer has taken are those that it had taken, and then those that were written; each write took one
-  -- or more, but for one that failed
+  -- the bytes that the writer has taken are those that it had taken, and then those that were written; there were no more
+  -- writes than bytes written, but for one that failed, and each of them was handed a byte or more
   pub wrote : writer_after.contents ≡ option_map (λ known. known ++ told.wrote) writer_before.contents
   pub writes : writer_after.calls ≤ writer_before.calls + (length told.wrote + idle_writes told.writer_failed)
+  pub no_empty_write : writer_after.empty_calls ≡ writer_before.empty_calls

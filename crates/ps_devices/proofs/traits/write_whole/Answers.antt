@@ -16,6 +16,7 @@ loop-done-preserved g c =
       calls = omega (arith, one, some, c.loop-done.invariant.calls);
       called = λ more. omega (arith, one, c.loop-done.invariant.counts);
       counts = omega (arith, one, c.loop-done.invariant.counts);
+      none_empty = search (rules, arith);
     }
 
 pub returns-in-Err-clause-front : goal.returns-in-Err-clause-front

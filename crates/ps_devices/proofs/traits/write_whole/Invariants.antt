@@ -11,6 +11,7 @@ invariant-loop-done g l = record {
   calls : g.W.ByteWriter.calls l.writer ≤ g.W.ByteWriter.calls l.initial.writer + l.done;
   called : 0 < l.done → g.W.ByteWriter.calls l.initial.writer < g.W.ByteWriter.calls l.writer;
   counts : g.W.ByteWriter.calls l.initial.writer ≤ g.W.ByteWriter.calls l.writer;
+  none_empty : g.W.ByteWriter.empty_calls l.writer ≡ g.W.ByteWriter.empty_calls l.initial.writer;
 }
 
 abbrev pub decreases-loop-done : goal.decreases-loop-done
