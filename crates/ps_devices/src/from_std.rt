@@ -79,7 +79,7 @@ impl<T: Read + Drop> ByteReader for FromStd<T> {
             → self.new.stream.odd_sized_calls ≡ self.old.stream.odd_sized_calls + 1 }
         ensures even_sized { length buffer.old ≡ CALL_LIMIT
             → self.new.stream.odd_sized_calls ≡ self.old.stream.odd_sized_calls }
-        ensures unsized { most_calls ≤ self.old.stream.calls
+        ensures uncounted { most_calls ≤ self.old.stream.calls
             → self.new.stream.odd_sized_calls ≡ self.old.stream.odd_sized_calls }
     {
         let mut piece = [0u8; CALL_LIMIT];

@@ -126,7 +126,7 @@ impl<'a> ByteReader for MemoryReader<'a> {
         ensures odd_sized { self.old.calls < most_calls → length buffer.old ≢ CALL_LIMIT
             → self.new.odd_sized_calls ≡ self.old.odd_sized_calls + 1 }
         ensures even_sized { length buffer.old ≡ CALL_LIMIT → self.new.odd_sized_calls ≡ self.old.odd_sized_calls }
-        ensures unsized { most_calls ≤ self.old.calls → self.new.odd_sized_calls ≡ self.old.odd_sized_calls }
+        ensures uncounted { most_calls ≤ self.old.calls → self.new.odd_sized_calls ≡ self.old.odd_sized_calls }
     {
         self.last = 0;
         if self.calls == u64::MAX {
@@ -134,9 +134,7 @@ impl<'a> ByteReader for MemoryReader<'a> {
             return Err(Failed);
         }
         self.calls += 1;
-        if buffer.len() != CALL_LIMIT {
-            self.odd_sized_calls += 1;
-        }
+        self.odd_sized_calls = counted(self.odd_sized_calls, buffer.len() != CALL_LIMIT);
         let left = self.stop - self.place;
         if left == 0 && self.fails {
             self.failed = true;
@@ -147,11 +145,19 @@ impl<'a> ByteReader for MemoryReader<'a> {
         copy_front(rest, count, buffer);
         self.place += count;
         self.last = count;
-        if count == 0 {
-            self.empty_calls += 1;
-        }
+        self.empty_calls = counted(self.empty_calls, count == 0);
         Ok(count)
     }
+}
+
+/// A count of calls, with one more where this call is one of them.
+fn counted(count: u64, is_one: bool) -> u64
+    requires room { count < most_calls }
+    ensures one { is_one ≡ true → result ≡ count + 1 }
+    ensures none { is_one ≡ false → result ≡ count }
+    ensures most { result ≤ count + 1 }
+{
+    if is_one { count + 1 } else { count }
 }
 
 /// Keeps what is written to it.

@@ -100,7 +100,7 @@ impl<T: Read + Drop> Stream<T> {
         ensures odd_sized { self.old.calls < most_calls → room ≢ CALL_LIMIT
             → self.new.odd_sized_calls ≡ self.old.odd_sized_calls + 1 }
         ensures even_sized { room ≡ CALL_LIMIT → self.new.odd_sized_calls ≡ self.old.odd_sized_calls }
-        ensures unsized { most_calls ≤ self.old.calls → self.new.odd_sized_calls ≡ self.old.odd_sized_calls }
+        ensures uncounted { most_calls ≤ self.old.calls → self.new.odd_sized_calls ≡ self.old.odd_sized_calls }
     {
         self.count_call(piece.len())?;
         if room != CALL_LIMIT {

@@ -60,7 +60,7 @@ pub trait ByteReader: Drop {
         ensures odd_sized { calls self.old < most_calls → length buffer.old ≢ CALL_LIMIT
             → odd_sized_calls self.new ≡ odd_sized_calls self.old + 1 }
         ensures even_sized { length buffer.old ≡ CALL_LIMIT → odd_sized_calls self.new ≡ odd_sized_calls self.old }
-        ensures unsized { most_calls ≤ calls self.old → odd_sized_calls self.new ≡ odd_sized_calls self.old };
+        ensures uncounted { most_calls ≤ calls self.old → odd_sized_calls self.new ≡ odd_sized_calls self.old };
 }
 
 /// What bytes are written to, a piece at a time.

@@ -27,20 +27,22 @@ use Rattle.ps_run.specs.Played.{HavePlayed, HasTaken, HasTakenAndFailed, IsCutOf
 -- texts taken one after the other
 pub taken_twice :
     (before now later : WriterState) (first second whole : List ℕ) → HasTaken before now first → HasTaken now later second → whole ≡ first ++ second → HasTaken before later whole
-taken_twice before now later first second whole (grows, calls) (grows_more, more_calls) same =
+taken_twice before now later first second whole (grows, calls, none) (grows_more, more_calls, no_more) same =
     let long : length whole ≡ length first + length second = ap length same ∙ length-append first second in
-    (grows_twice before.contents now.contents later.contents first second whole grows grows_more same, omega arith)
+    (grows_twice before.contents now.contents later.contents first second whole grows grows_more same, omega arith, no_more ∙ none)
 
 -- a text taken, and then some of another
 pub taken_and_failed :
     (before now later : WriterState) (first second whole : List ℕ) → HasTaken before now first → HasTakenAndFailed now later second → whole ≡ first ++ second → HasTakenAndFailed before later whole
-taken_and_failed before now later first second whole (grows, calls) (grows_more, more_calls) same =
+taken_and_failed before now later first second whole (grows, calls, none) (grows_more, more_calls, no_more) same =
     let long : length whole ≡ length first + length second = ap length same ∙ length-append first second in
-    (grows_twice before.contents now.contents later.contents first second whole grows grows_more same, omega arith)
+    (grows_twice before.contents now.contents later.contents first second whole grows grows_more same, omega arith, no_more ∙ none)
 
 -- nothing more was taken
-pub taken_no_more : (before now later : WriterState) (text : List ℕ) → HasTaken before now text → later.contents ≡ now.contents → later.calls ≡ now.calls → HasTaken before later text
-taken_no_more before now later text (grows, calls) same same_calls = (same ∙ grows, omega arith)
+pub taken_no_more :
+    (before now later : WriterState) (text : List ℕ) → HasTaken before now text → later.contents ≡ now.contents → later.calls ≡ now.calls → later.empty_calls ≡ now.empty_calls →
+    HasTaken before later text
+taken_no_more before now later text (grows, calls, none) same same_calls no_more = (same ∙ grows, omega arith, no_more ∙ none)
 
 -- a byte that brings no key
 pub silent_byte :
@@ -103,7 +105,7 @@ byte_stops Memory script before now later session kept read byte key brings unen
     record {
       was_well = played.was_well;
       count = 0;
-      wrote = rw same (taken_no_more before now later (whole_front script read) played.wrote stops.0 stops.1);
+      wrote = rw same (taken_no_more before now later (whole_front script read) played.wrote stops.0 stops.1 stops.2);
       goes_on = rw same (ap ending_of (sym played.session) ∙ unended refl);
     }
 byte_stops Write script before now later session kept read byte key brings unended stops played =
@@ -172,8 +174,8 @@ piece_stops Write script before now read piece i within stops =
 -- a writer that failed has taken some of the text, but not all
 pub written_front :
     (old new : WriterState) (bytes text : List ℕ) (count : ℕ) → bytes ≡ text → count < length bytes → Grows old.contents new.contents (take count bytes) → new.calls ≤ old.calls + (count + 1) →
-    IsCutOffAt old new text
-written_front old new bytes text count same within grows calls =
+    new.empty_calls ≡ old.empty_calls → IsCutOffAt old new text
+written_front old new bytes text count same within grows calls none =
     let long : length (take count bytes) ≡ count = grind (arith, common_steps) in
     let short : length (drop count bytes) ≡ length bytes - count = grind (arith, common_steps) in
     record {
@@ -183,7 +185,7 @@ written_front old new bytes text count same within grows calls =
         some = omega arith;
         is = sym same ∙ sym (take-append-drop count bytes);
       };
-      wrote = (grows, omega arith);
+      wrote = (grows, omega arith, none);
     }
 
 -- what follows from two facts of a result that is Ok

@@ -31,7 +31,7 @@ nothing_taken (Some known) = rw (append-nil known) refl
 -- devices that weren't called tell so
 untouched : (had : ReaderState) (before : WriterState) → had.has_failed ≡ false → before.has_failed ≡ false → Tells had had before before (told_of Unasked had.remaining [] false)
 untouched had before heard well =
-    tells_of had had before before Unasked [] false heard heard (nothing_given had.remaining) refl refl well well (nothing_taken before.contents) (omega arith)
+    tells_of had had before before Unasked [] false heard heard (nothing_given had.remaining) refl refl (omega arith) refl well well (nothing_taken before.contents) (omega arith) refl
 
 -- memory was refused before anything was asked for and anything written
 pub wants_memory : (text : List ℕ) (had : ReaderState) (before : WriterState) → had.has_failed ≡ false → before.has_failed ≡ false → RunsRightly text had had before before WantsMemory

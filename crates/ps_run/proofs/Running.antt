@@ -47,6 +47,8 @@ none_asked script had before now session kept played = record {
   given = nothing_given had.remaining had.remaining refl;
   calls = omega arith;
   last = refl;
+  none_empty = refl;
+  same_room = refl;
   played = played;
 }
 
@@ -70,7 +72,9 @@ ended_before script had has before now session kept count ending was_well is_wel
     record {
       told = tells.told_of stands.reading has.remaining (whole_front script bytes) false;
       tells = tells.tells_of had has before now stands.reading (whole_front script bytes) false was_well (is_well ∙ sym (tells.is_well script stands.reading stands.is_asked)) stands.given stands.last
-          (tells.counts_so_far script had.calls has.calls count stands.reading stands.is_asked stands.counted stands.calls) stands.played.was_well writer_well stands.played.wrote.0 (omega arith);
+          (tells.counts_so_far script had.calls has.calls count stands.reading stands.is_asked stands.counted stands.calls)
+          (tells.empty_so_far script had.empty_calls has.empty_calls stands.reading stands.is_asked stands.none_empty) stands.same_room stands.played.was_well writer_well stands.played.wrote.0 (omega arith)
+          stands.played.wrote.2;
       is_so = record {
         reads = tells.asked_so_far script stands.reading left stands.is_asked;
         reader_is_well = tells.is_well script stands.reading stands.is_asked;
@@ -87,8 +91,8 @@ pub call_failed :
     (script : Script) (had mid has : ReaderState) (before now : WriterState) (session : Session) (kept : Held) (count : ℕ) →
     had.has_failed ≡ false → now.has_failed ≡ false → count < READ_LIMIT → (stands : Stands script had mid before now session kept count) → ending_of session ≡ None →
     has.has_failed ≡ true → has.remaining ≡ mid.remaining → has.last ≡ 0 → (mid.calls < most_calls → has.calls ≡ mid.calls + 1) → (most_calls ≤ mid.calls → has.calls ≡ mid.calls) →
-    Comes script had has before now (Err fault.Read)
-call_failed script had mid has before now session kept count was_well writer_well few stands e told same last counted held =
+    has.empty_calls ≡ mid.empty_calls → has.odd_sized_calls ≡ mid.odd_sized_calls → Comes script had has before now (Err fault.Read)
+call_failed script had mid has before now session kept count was_well writer_well few stands e told same last counted held none room =
     let bytes : List ℕ = read stands.reading in
     let pieces : List (List ℕ) = tells.pieces_of stands.reading in
     let on : GoesOn script bytes = tells.goes_on script bytes (unended script before now session kept bytes stands.played e) in
@@ -104,7 +108,8 @@ call_failed script had mid has before now session kept count was_well writer_wel
     record {
       told = tells.told_of (Asked pieces Fails) has.remaining (whole_front script bytes) false;
       tells = tells.tells_of had has before now (Asked pieces Fails) (whole_front script bytes) false was_well told
-          (rw joined (rw same stands.given)) last counts stands.played.was_well writer_well stands.played.wrote.0 (omega arith);
+          (rw joined (rw same stands.given)) last counts (tells.empty_at_failure script had.empty_calls has.empty_calls stands.reading stands.is_asked (none ∙ stands.none_empty)) (room ∙ stands.same_room)
+          stands.played.was_well writer_well stands.played.wrote.0 (omega arith) stands.played.wrote.2;
       is_so = record {
         reads = tells.asks script stands.reading Fails (tells.left_of has.remaining) stands.is_asked on (rw stands.counted few) (omega arith) (λ none. cc);
         writer_is_well = refl;
@@ -122,9 +127,10 @@ pub one_more :
     (script : Script) (had mid has : ReaderState) (before now later : WriterState) (session next : Session) (kept held : Held) (count : ℕ) (piece : List ℕ) →
     count < READ_LIMIT → (stands : Stands script had mid before now session kept count) → ending_of session ≡ None →
     1 ≤ length piece → length piece ≤ CALL_LIMIT → Loses mid.remaining has.remaining piece → has.last ≡ length piece → has.calls ≡ mid.calls + 1 →
+    has.empty_calls ≡ mid.empty_calls → has.odd_sized_calls ≡ mid.odd_sized_calls →
     ((bytes : List ℕ) → HavePlayed script before now session kept bytes → HavePlayed script before later next held (bytes ++ piece)) →
     Stands script had has before later next held (count + 1)
-one_more script had mid has before now later session next kept held count piece few stands e some short gives last calls plays =
+one_more script had mid has before now later session next kept held count piece few stands e some short gives last calls none room plays =
     let bytes : List ℕ = read stands.reading in
     let pieces : List (List ℕ) = tells.pieces_of stands.reading in
     let on : GoesOn script bytes = tells.goes_on script bytes (unended script before now session kept bytes stands.played e) in
@@ -143,6 +149,8 @@ one_more script had mid has before now later session next kept held count piece 
       given = rw joined (loses_twice had.remaining mid.remaining has.remaining bytes piece stands.given gives);
       calls = omega arith;
       last = last;
+      none_empty = none ∙ stands.none_empty;
+      same_room = room ∙ stands.same_room;
       played = rw joined (plays bytes stands.played);
     }
 
@@ -151,35 +159,36 @@ pub limit_reached :
     (script : Script) (had has : ReaderState) (before now : WriterState) (session : Session) (kept : Held) (count : ℕ) →
     had.has_failed ≡ false → has.has_failed ≡ false → now.has_failed ≡ false → count ≡ READ_LIMIT → (reading : Reading) → IsAsked script reading → call_count reading ≡ count →
     Loses had.remaining has.remaining (read reading) → has.calls ≡ had.calls + count → has.last ≡ last_behind had.last reading →
-    HavePlayed script before now session kept (read reading) → ending_of session ≡ None →
+    has.empty_calls ≡ had.empty_calls → has.odd_sized_calls ≡ had.odd_sized_calls → HavePlayed script before now session kept (read reading) → ending_of session ≡ None →
     Comes script had has before now (Err fault.Read)
-limit_reached script had has before now session kept count was_well is_well writer_well all Unasked asked counted given calls last played e =
-    let none : 0 ≡ READ_LIMIT = counted ∙ all in absurd (omega (arith, none))
-limit_reached script had has before now session kept count was_well is_well writer_well all (Asked earlier (Gives piece)) asked counted given calls last played e =
+limit_reached script had has before now session kept count was_well is_well writer_well all Unasked asked counted given calls last none room played e =
+    let never : 0 ≡ READ_LIMIT = counted ∙ all in absurd (omega (arith, never))
+limit_reached script had has before now session kept count was_well is_well writer_well all (Asked earlier (Gives piece)) asked counted given calls last none room played e =
     let bytes : List ℕ = concat earlier ++ piece in
     let left : List ℕ = tells.left_of has.remaining in
     let some_calls : now.calls ≤ before.calls + length (whole_front script bytes) = played.wrote.1 in
     record {
       told = tells.told_of (Asked earlier (Gives piece)) has.remaining (whole_front script bytes) false;
       tells = tells.tells_of had has before now (Asked earlier (Gives piece)) (whole_front script bytes) false was_well is_well given last
-          (tells.counts_so_far script had.calls has.calls count (Asked earlier (Gives piece)) asked counted calls) played.was_well writer_well played.wrote.0 (omega arith);
+          (tells.counts_so_far script had.calls has.calls count (Asked earlier (Gives piece)) asked counted calls)
+          (tells.empty_so_far script had.empty_calls has.empty_calls (Asked earlier (Gives piece)) asked none) room played.was_well writer_well played.wrote.0 (omega arith) played.wrote.2;
       is_so = record {
         reads = tells.asked_so_far script (Asked earlier (Gives piece)) left asked;
         writer_is_well = refl;
-        cause = (counted ∙ all, λ none. let some : 1 ≤ length piece = asked.this.some in let long : length piece ≡ 0 = ap length none in absurd (omega arith));
+        cause = (counted ∙ all, λ same. let some : 1 ≤ length piece = asked.this.some in let long : length piece ≡ 0 = ap length same in absurd (omega arith));
         goes_on = tells.goes_on script bytes (unended script before now session kept bytes played e);
         wrote = tells.whole_is script bytes;
       };
     }
-limit_reached script had has before now session kept count was_well is_well writer_well all (Asked earlier Fails) asked counted given calls last played e = absurd asked
+limit_reached script had has before now session kept count was_well is_well writer_well all (Asked earlier Fails) asked counted given calls last none room played e = absurd asked
 
 -- the keys have ended, and that is written
 pub keys_ended :
     (script : Script) (had mid has : ReaderState) (before now later : WriterState) (session : Session) (kept : Held) (count : ℕ) →
     had.has_failed ≡ false → has.has_failed ≡ false → later.has_failed ≡ false → count < READ_LIMIT → (stands : Stands script had mid before now session kept count) → ending_of session ≡ None →
-    Loses mid.remaining has.remaining [] → IsSpent has.remaining → has.last ≡ 0 → has.calls ≡ mid.calls + 1 → HasTaken now later end_of_keys_line →
-    Comes script had has before later (Ok EndOfKeys)
-keys_ended script had mid has before now later session kept count was_well is_well writer_well few stands e gives spent last calls taken =
+    Loses mid.remaining has.remaining [] → IsSpent has.remaining → has.last ≡ 0 → has.calls ≡ mid.calls + 1 →
+    has.empty_calls ≡ mid.empty_calls + 1 → has.odd_sized_calls ≡ mid.odd_sized_calls → HasTaken now later end_of_keys_line → Comes script had has before later (Ok EndOfKeys)
+keys_ended script had mid has before now later session kept count was_well is_well writer_well few stands e gives spent last calls one room taken =
     let bytes : List ℕ = read stands.reading in
     let pieces : List (List ℕ) = tells.pieces_of stands.reading in
     let left : List ℕ = tells.left_of has.remaining in
@@ -197,7 +206,8 @@ keys_ended script had mid has before now later session kept count was_well is_we
       told = tells.told_of (Asked pieces (Gives [])) has.remaining (whole_front script bytes ++ end_of_keys_line) false;
       tells = tells.tells_of had has before later (Asked pieces (Gives [])) (whole_front script bytes ++ end_of_keys_line) false was_well is_well
           (rw joined (tells.added_nothing had.remaining mid.remaining has.remaining bytes stands.given gives)) last (tells.counted_one had.calls mid.calls has.calls count (length pieces) long so_far calls)
-          stands.played.was_well writer_well wrote.0 (omega arith);
+          (tells.empty_at_end script had.empty_calls mid.empty_calls has.empty_calls stands.reading stands.is_asked stands.none_empty one) (room ∙ stands.same_room)
+          stands.played.was_well writer_well wrote.0 (omega arith) wrote.2;
       is_so = record {
         reads = tells.asks script stands.reading (Gives []) left stands.is_asked on (rw stands.counted few) (omega arith) (λ none. empty);
         reader_is_well = refl;
@@ -214,9 +224,10 @@ pub keys_ended_unwritten :
     (fault : PieceFault) (script : Script) (had mid has : ReaderState) (before now later : WriterState) (session : Session) (kept : Held) (count : ℕ) →
     had.has_failed ≡ false → has.has_failed ≡ false → (fault ≡ piece.Memory → later.has_failed ≡ false) → (fault ≡ piece.Write → later.has_failed ≡ true) → count < READ_LIMIT →
     (stands : Stands script had mid before now session kept count) → ending_of session ≡ None →
-    Loses mid.remaining has.remaining [] → IsSpent has.remaining → has.last ≡ 0 → has.calls ≡ mid.calls + 1 → StopsAtText fault now later end_of_keys_line →
+    Loses mid.remaining has.remaining [] → IsSpent has.remaining → has.last ≡ 0 → has.calls ≡ mid.calls + 1 →
+    has.empty_calls ≡ mid.empty_calls + 1 → has.odd_sized_calls ≡ mid.odd_sized_calls → StopsAtText fault now later end_of_keys_line →
     Comes script had has before later (Err (run_fault_of fault))
-keys_ended_unwritten piece.Memory script had mid has before now later session kept count was_well is_well writer_well writer_failed few stands e gives spent last calls stops =
+keys_ended_unwritten piece.Memory script had mid has before now later session kept count was_well is_well writer_well writer_failed few stands e gives spent last calls one room stops =
     let bytes : List ℕ = read stands.reading in
     let pieces : List (List ℕ) = tells.pieces_of stands.reading in
     let left : List ℕ = tells.left_of has.remaining in
@@ -225,13 +236,14 @@ keys_ended_unwritten piece.Memory script had mid has before now later session ke
     let joined : concat pieces ++ [] ≡ bytes = append-nil (concat pieces) ∙ same in
     let long : length pieces ≡ count = tells.count_pieces script stands.reading stands.is_asked ∙ stands.counted in
     let so_far : mid.calls ≡ had.calls + count = stands.calls in
-    let wrote : HasTaken before later (whole_front script bytes) = taken_no_more before now later (whole_front script bytes) stands.played.wrote stops.0 stops.1 in
+    let wrote : HasTaken before later (whole_front script bytes) = taken_no_more before now later (whole_front script bytes) stands.played.wrote stops.0 stops.1 stops.2 in
     let some_calls : later.calls ≤ before.calls + length (whole_front script bytes) = wrote.1 in
     record {
       told = tells.told_of (Asked pieces (Gives [])) has.remaining (whole_front script bytes) false;
       tells = tells.tells_of had has before later (Asked pieces (Gives [])) (whole_front script bytes) false was_well is_well
           (rw joined (tells.added_nothing had.remaining mid.remaining has.remaining bytes stands.given gives)) last (tells.counted_one had.calls mid.calls has.calls count (length pieces) long so_far calls)
-          stands.played.was_well (writer_well refl) wrote.0 (omega arith);
+          (tells.empty_at_end script had.empty_calls mid.empty_calls has.empty_calls stands.reading stands.is_asked stands.none_empty one) (room ∙ stands.same_room)
+          stands.played.was_well (writer_well refl) wrote.0 (omega arith) wrote.2;
       is_so = record {
         reads = tells.asks script stands.reading (Gives []) left stands.is_asked on (rw stands.counted few) (omega arith) (λ none. tells.left_is_spent has.remaining spent);
         reader_is_well = refl;
@@ -243,7 +255,7 @@ keys_ended_unwritten piece.Memory script had mid has before now later session ke
         wrote = refl;
       };
     }
-keys_ended_unwritten piece.Write script had mid has before now later session kept count was_well is_well writer_well writer_failed few stands e gives spent last calls stops =
+keys_ended_unwritten piece.Write script had mid has before now later session kept count was_well is_well writer_well writer_failed few stands e gives spent last calls one room stops =
     let bytes : List ℕ = read stands.reading in
     let pieces : List (List ℕ) = tells.pieces_of stands.reading in
     let left : List ℕ = tells.left_of has.remaining in
@@ -260,7 +272,8 @@ keys_ended_unwritten piece.Write script had mid has before now later session kep
       told = tells.told_of (Asked pieces (Gives [])) has.remaining taken true;
       tells = tells.tells_of had has before later (Asked pieces (Gives [])) taken true was_well is_well
           (rw joined (tells.added_nothing had.remaining mid.remaining has.remaining bytes stands.given gives)) last (tells.counted_one had.calls mid.calls has.calls count (length pieces) long so_far calls)
-          stands.played.was_well (writer_failed refl) wrote.0 wrote.1;
+          (tells.empty_at_end script had.empty_calls mid.empty_calls has.empty_calls stands.reading stands.is_asked stands.none_empty one) (room ∙ stands.same_room)
+          stands.played.was_well (writer_failed refl) wrote.0 wrote.1 wrote.2;
       is_so = record {
         reads = tells.asks script stands.reading (Gives []) left stands.is_asked on (rw stands.counted few) (omega arith) (λ none. tells.left_is_spent has.remaining spent);
         reader_is_well = refl;
@@ -276,9 +289,10 @@ pub piece_unwritten :
     had.has_failed ≡ false → has.has_failed ≡ false → (fault ≡ piece.Memory → later.has_failed ≡ false) → (fault ≡ piece.Write → later.has_failed ≡ true) → count < READ_LIMIT →
     (stands : Stands script had mid before now session kept count) → ending_of session ≡ None →
     1 ≤ length given → length given ≤ CALL_LIMIT → Loses mid.remaining has.remaining given → has.last ≡ length given → has.calls ≡ mid.calls + 1 →
+    has.empty_calls ≡ mid.empty_calls → has.odd_sized_calls ≡ mid.odd_sized_calls →
     ((bytes : List ℕ) → HavePlayed script before now session kept bytes → StopsAs fault script before later bytes given) →
     Comes script had has before later (Err (run_fault_of fault))
-piece_unwritten piece.Memory script had mid has before now later session kept count given was_well is_well writer_well writer_failed few stands e some short gives last calls stops =
+piece_unwritten piece.Memory script had mid has before now later session kept count given was_well is_well writer_well writer_failed few stands e some short gives last calls none room stops =
     let bytes : List ℕ = read stands.reading in
     let pieces : List (List ℕ) = tells.pieces_of stands.reading in
     let left : List ℕ = tells.left_of has.remaining in
@@ -293,9 +307,10 @@ piece_unwritten piece.Memory script had mid has before now later session kept co
       told = tells.told_of (Asked pieces (Gives given)) has.remaining (whole_front script behind) false;
       tells = tells.tells_of had has before later (Asked pieces (Gives given)) (whole_front script behind) false was_well is_well
           (rw same (loses_twice had.remaining mid.remaining has.remaining bytes given stands.given gives)) last (tells.counted_one had.calls mid.calls has.calls count (length pieces) long so_far calls)
-          stands.played.was_well (writer_well refl) stopped.wrote.0 (omega arith);
+          (tells.empty_at_piece script had.empty_calls has.empty_calls stands.reading given stands.is_asked some (none ∙ stands.none_empty)) (room ∙ stands.same_room)
+          stands.played.was_well (writer_well refl) stopped.wrote.0 (omega arith) stopped.wrote.2;
       is_so = record {
-        reads = tells.asks script stands.reading (Gives given) left stands.is_asked on (rw stands.counted few) short (λ none. absurd (gave_some given none some));
+        reads = tells.asks script stands.reading (Gives given) left stands.is_asked on (rw stands.counted few) short (λ same. absurd (gave_some given same some));
         reader_is_well = refl;
         writer_is_well = refl;
         behind = behind;
@@ -305,7 +320,7 @@ piece_unwritten piece.Memory script had mid has before now later session kept co
         wrote = refl;
       };
     }
-piece_unwritten piece.Write script had mid has before now later session kept count given was_well is_well writer_well writer_failed few stands e some short gives last calls stops =
+piece_unwritten piece.Write script had mid has before now later session kept count given was_well is_well writer_well writer_failed few stands e some short gives last calls none room stops =
     let bytes : List ℕ = read stands.reading in
     let pieces : List (List ℕ) = tells.pieces_of stands.reading in
     let left : List ℕ = tells.left_of has.remaining in
@@ -318,9 +333,10 @@ piece_unwritten piece.Write script had mid has before now later session kept cou
       told = tells.told_of (Asked pieces (Gives given)) has.remaining stopped.taken true;
       tells = tells.tells_of had has before later (Asked pieces (Gives given)) stopped.taken true was_well is_well
           (rw same (loses_twice had.remaining mid.remaining has.remaining bytes given stands.given gives)) last (tells.counted_one had.calls mid.calls has.calls count (length pieces) long so_far calls)
-          stands.played.was_well (writer_failed refl) stopped.wrote.0 stopped.wrote.1;
+          (tells.empty_at_piece script had.empty_calls has.empty_calls stands.reading given stands.is_asked some (none ∙ stands.none_empty)) (room ∙ stands.same_room)
+          stands.played.was_well (writer_failed refl) stopped.wrote.0 stopped.wrote.1 stopped.wrote.2;
       is_so = record {
-        reads = tells.asks script stands.reading (Gives given) left stands.is_asked on (rw stands.counted few) short (λ none. absurd (gave_some given none some));
+        reads = tells.asks script stands.reading (Gives given) left stands.is_asked on (rw stands.counted few) short (λ same. absurd (gave_some given same some));
         reader_is_well = refl;
         cause = refl;
         wrote = inl (rw same (rw (← tells.whole_is script (bytes ++ given)) stopped.cut_off));
@@ -352,7 +368,8 @@ opening_unwritten piece.Write script had before now screen start never reader_we
     let same : screen ≡ texts_of script [] = shown ∙ (ap (λ s. s ++ (opening_step script).text) empty ∙ (sym (opening_is script) ∙ tells.whole_is script [])) in
     record {
       told = tells.told_of Unasked had.remaining stops.taken true;
-      tells = tells.tells_of had had before now Unasked stops.taken true reader_well reader_well (nothing_given had.remaining had.remaining refl) refl refl was_well (failed refl) stops.wrote.0 stops.wrote.1;
+      tells = tells.tells_of had had before now Unasked stops.taken true reader_well reader_well (nothing_given had.remaining had.remaining refl) refl refl (omega arith) refl was_well (failed refl) stops.wrote.0 stops.wrote.1
+          stops.wrote.2;
       is_so = record {
         reads = tt;
         reader_is_well = refl;

@@ -2,13 +2,13 @@
 use Rattle.std.proofs.Common.{◌≡◌, ◌∙◌, ℕ, zero, suc, ◌+◌, ◌<◌, ◌≤◌, Bool, false, true, List, [], ◌∷◌, ◌++◌, length, Option, Some, None, refl, sym, ap, append_assoc, append-nil, arith}
 use Rattle.std.specs.List.{All, concat}
 use Rattle.std.proofs.lemmas.List.{length-append}
-use Rattle.std.proofs.lemmas.List.Elements.{All-append}
+use Rattle.std.proofs.lemmas.List.Elements.{All-append, All-head, All-tail}
 use Rattle.std.proofs.lemmas.List.Folds.{concat-append}
 use Rattle.ps_model.specs.declared.limits.TheConstants.{READ_LIMIT, CALL_LIMIT}
 use Rattle.ps_model.specs.board.Turns.{Script}
 use Rattle.ps_model.specs.game.Outputs.{Output, ending_of}
 use Rattle.ps_model.specs.game.Headline.{IsPiece, GoesOn, AsksInTurn, ReadsInTurn, texts_of}
-use Rattle.ps_model.specs.game.Tellings.{ReaderState, WriterState, Call, Gives, Fails, Reading, Unasked, Asked, Told, Tells, IsLeft, CountsCalls, given, read, has_failing_call, last_behind, idle_writes}
+use Rattle.ps_model.specs.game.Tellings.{ReaderState, WriterState, Call, Gives, Fails, Reading, Unasked, Asked, Told, Tells, IsLeft, CountsCalls, given, read, has_failing_call, last_behind, empty_pieces, empty_reads, idle_writes}
 use Rattle.ps_laws.specs.Fronts.{session_of, whole_front}
 use Rattle.ps_laws.proofs.keys.Fronts.{output_of_unended}
 use Rattle.ps_devices.specs.Devices.{Grows, Loses, IsSpent}
@@ -104,6 +104,49 @@ counts_so_far script before after count Unasked asked counted calls = omega arit
 counts_so_far script before after count (Asked earlier (Gives piece)) asked counted calls = rw counted calls
 counts_so_far script before after count (Asked earlier Fails) asked counted calls = absurd asked
 
+-- no piece is empty
+no_empty_piece : (pieces : List (List ℕ)) → All IsPiece pieces → empty_pieces pieces ≡ 0
+no_empty_piece [] all = refl
+no_empty_piece ([] ∷ pieces) all = let piece : IsPiece [] = All-head IsPiece [] pieces all in let none : 1 ≤ 0 = piece.some in absurd (omega (arith, none))
+no_empty_piece ((byte ∷ bytes) ∷ pieces) all = no_empty_piece pieces (All-tail IsPiece (byte ∷ bytes) pieces all)
+
+not_empty : (piece : List ℕ) → 1 ≤ length piece → empty_pieces (piece ∷ []) ≡ 0
+not_empty [] some = let none : 1 ≤ 0 = some in absurd (omega (arith, none))
+not_empty (byte ∷ bytes) some = refl
+
+-- the calls so far all gave something
+pub empty_so_far : (script : Script) (before after : ℕ) (reading : Reading) → IsAsked script reading → after ≡ before → after ≡ before + empty_reads reading
+empty_so_far script before after Unasked asked same = omega arith
+empty_so_far script before after (Asked earlier (Gives piece)) asked same =
+    let first : empty_pieces earlier ≡ 0 = no_empty_piece earlier asked.pieces in
+    let this : empty_pieces (piece ∷ []) ≡ 0 = not_empty piece asked.this.some in
+    rw (first, this) (omega (arith, same))
+empty_so_far script before after (Asked earlier Fails) asked same = absurd asked
+
+-- and a call more failed
+pub empty_at_failure :
+    (script : Script) (before after : ℕ) (reading : Reading) → IsAsked script reading → after ≡ before → after ≡ before + empty_reads (Asked (pieces_of reading) Fails)
+empty_at_failure script before after reading asked same =
+    let first : empty_pieces (pieces_of reading) ≡ 0 = no_empty_piece (pieces_of reading) (are_pieces script reading asked) in
+    rw first (omega (arith, same))
+
+-- or it gave something, too
+pub empty_at_piece :
+    (script : Script) (before after : ℕ) (reading : Reading) (piece : List ℕ) → IsAsked script reading → 1 ≤ length piece → after ≡ before →
+    after ≡ before + empty_reads (Asked (pieces_of reading) (Gives piece))
+empty_at_piece script before after reading piece asked some same =
+    let first : empty_pieces (pieces_of reading) ≡ 0 = no_empty_piece (pieces_of reading) (are_pieces script reading asked) in
+    let this : empty_pieces (piece ∷ []) ≡ 0 = not_empty piece some in
+    rw (first, this) (omega (arith, same))
+
+-- or it gave nothing
+pub empty_at_end :
+    (script : Script) (before mid after : ℕ) (reading : Reading) → IsAsked script reading → mid ≡ before → after ≡ mid + 1 →
+    after ≡ before + empty_reads (Asked (pieces_of reading) (Gives []))
+empty_at_end script before mid after reading asked same more =
+    let first : empty_pieces (pieces_of reading) ≡ 0 = no_empty_piece (pieces_of reading) (are_pieces script reading asked) in
+    rw first (omega (arith, same, more))
+
 -- a run, by its calls and its writes
 abbrev pub told_of : Reading → Option (List ℕ) → List ℕ → Bool → Told
 told_of reading remaining wrote failed = record { reading = reading; left = left_of remaining; wrote = wrote; writer_failed = failed }
@@ -111,19 +154,23 @@ told_of reading remaining wrote failed = record { reading = reading; left = left
 pub tells_of :
     (had has : ReaderState) (before now : WriterState) (reading : Reading) (wrote : List ℕ) (failed : Bool) → had.has_failed ≡ false → has.has_failed ≡ has_failing_call reading →
     Loses had.remaining has.remaining (read reading) → has.last ≡ last_behind had.last reading → CountsCalls had.calls reading has.calls →
+    has.empty_calls ≡ had.empty_calls + empty_reads reading → has.odd_sized_calls ≡ had.odd_sized_calls →
     before.has_failed ≡ false → now.has_failed ≡ failed → Grows before.contents now.contents wrote → now.calls ≤ before.calls + (length wrote + idle_writes failed) →
-    Tells had has before now (told_of reading has.remaining wrote failed)
-tells_of had has before now reading wrote failed was_well is gives last counts writer_well writer_is grows calls = record {
+    now.empty_calls ≡ before.empty_calls → Tells had has before now (told_of reading has.remaining wrote failed)
+tells_of had has before now reading wrote failed was_well is gives last counts empty room writer_well writer_is grows calls none = record {
   reader_was_well = was_well;
   reader_failed = is;
   read = gives;
   left = is_left has.remaining;
   last = last;
   calls = counts;
+  empty_reads = empty;
+  same_room = room;
   writer_was_well = writer_well;
   writer_failed = writer_is;
   wrote = grows;
   writes = calls;
+  no_empty_write = none;
 }
 
 -- nothing is left of a reader that has come to its end

@@ -13,20 +13,23 @@ use Rattle.ps_run.specs.declared.faults.PieceFault.{PieceFault}
 use Rattle.ps_run.specs.declared.faults.PieceFault.TheVariants.{Memory, Write}
 
 -- what a reader tells
-abbrev pub reader_told : Option (List ℕ) → Bool → ℕ → ℕ → ReaderState
-reader_told remaining has_failed last calls = record { remaining = remaining; has_failed = has_failed; last = last; calls = calls }
+abbrev pub reader_told : Option (List ℕ) → Bool → ℕ → ℕ → ℕ → ℕ → ReaderState
+reader_told remaining has_failed last calls empty_calls odd_sized_calls =
+    record { remaining = remaining; has_failed = has_failed; last = last; calls = calls; empty_calls = empty_calls; odd_sized_calls = odd_sized_calls }
 
 -- what a writer tells
-abbrev pub writer_told : Option (List ℕ) → Bool → ℕ → WriterState
-writer_told contents has_failed calls = record { contents = contents; has_failed = has_failed; calls = calls }
+abbrev pub writer_told : Option (List ℕ) → Bool → ℕ → ℕ → WriterState
+writer_told contents has_failed calls empty_calls = record { contents = contents; has_failed = has_failed; calls = calls; empty_calls = empty_calls }
 
--- a writer has taken the text, by calls that each took some of it
+-- a writer has taken the text, by no more calls than it has bytes, each of which was handed some
 abbrev pub HasTaken : WriterState → WriterState → List ℕ → Type 0
-HasTaken before now text = Grows before.contents now.contents text × (now.calls ≤ before.calls + length text)
+HasTaken before now text =
+    Grows before.contents now.contents text × (now.calls ≤ before.calls + length text) × (now.empty_calls ≡ before.empty_calls)
 
 -- a writer has taken the text, and then a call failed
 abbrev pub HasTakenAndFailed : WriterState → WriterState → List ℕ → Type 0
-HasTakenAndFailed before now text = Grows before.contents now.contents text × (now.calls ≤ before.calls + (length text + 1))
+HasTakenAndFailed before now text =
+    Grows before.contents now.contents text × (now.calls ≤ before.calls + (length text + 1)) × (now.empty_calls ≡ before.empty_calls)
 
 -- the keys of these bytes are played: the session is theirs, what they leave of an arrow is held, and the writer, which was
 -- well before, has taken the front that is theirs
@@ -67,5 +70,5 @@ pub record IsCutOffAt (before now : WriterState) (text : List ℕ) : Type 0 wher
 -- a text was to be written, and wasn't: memory was refused before it was whole, and nothing is written; or the writer
 -- failed, and took some of it, but not all
 abbrev pub StopsAtText : PieceFault → WriterState → WriterState → List ℕ → Type 0
-StopsAtText Memory before now text = (now.contents ≡ before.contents) × (now.calls ≡ before.calls)
+StopsAtText Memory before now text = (now.contents ≡ before.contents) × (now.calls ≡ before.calls) × (now.empty_calls ≡ before.empty_calls)
 StopsAtText Write before now text = IsCutOffAt before now text

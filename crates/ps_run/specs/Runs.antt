@@ -40,6 +40,8 @@ pub record Stands (script : Script) (had has : ReaderState) (before now : Writer
   pub given : Loses had.remaining has.remaining (read reading)
   pub calls : has.calls ≡ had.calls + count
   pub last : has.last ≡ last_behind had.last reading
+  pub none_empty : has.empty_calls ≡ had.empty_calls
+  pub same_room : has.odd_sized_calls ≡ had.odd_sized_calls
   pub played : HavePlayed script before now session kept (read reading)
 
 -- memory was refused in play: the texts of the keys of some bytes are written, whole; of all that were read before the last

@@ -10,10 +10,10 @@ use Rattle.ps_run.proofs.play.Play.play.Given as goal
 abbrev pub invariant-loop-call : goal.invariant-loop-call
 invariant-loop-call g l =
     let script : Script = script_for g.B.Board.table_for l.fn.self.session.game (g.R.Rules.meant l.fn.self.rules.plain) (g.R.Rules.meant l.fn.self.rules.late) in
-    let had : ReaderState = reader_told (g.I.ByteReader.remaining l.fn.reader) (g.I.ByteReader.has_failed l.fn.reader) (g.I.ByteReader.last l.fn.reader) (g.I.ByteReader.calls l.fn.reader) in
-    let has : ReaderState = reader_told (g.I.ByteReader.remaining l.reader) (g.I.ByteReader.has_failed l.reader) (g.I.ByteReader.last l.reader) (g.I.ByteReader.calls l.reader) in
-    let from : WriterState = writer_told (g.W.ByteWriter.contents l.fn.writer) (g.W.ByteWriter.has_failed l.fn.writer) (g.W.ByteWriter.calls l.fn.writer) in
-    let now : WriterState = writer_told (g.W.ByteWriter.contents l.writer) (g.W.ByteWriter.has_failed l.writer) (g.W.ByteWriter.calls l.writer) in
+    let had : ReaderState = reader_told (g.I.ByteReader.remaining l.fn.reader) (g.I.ByteReader.has_failed l.fn.reader) (g.I.ByteReader.last l.fn.reader) (g.I.ByteReader.calls l.fn.reader) (g.I.ByteReader.empty_calls l.fn.reader) (g.I.ByteReader.odd_sized_calls l.fn.reader) in
+    let has : ReaderState = reader_told (g.I.ByteReader.remaining l.reader) (g.I.ByteReader.has_failed l.reader) (g.I.ByteReader.last l.reader) (g.I.ByteReader.calls l.reader) (g.I.ByteReader.empty_calls l.reader) (g.I.ByteReader.odd_sized_calls l.reader) in
+    let from : WriterState = writer_told (g.W.ByteWriter.contents l.fn.writer) (g.W.ByteWriter.has_failed l.fn.writer) (g.W.ByteWriter.calls l.fn.writer) (g.W.ByteWriter.empty_calls l.fn.writer) in
+    let now : WriterState = writer_told (g.W.ByteWriter.contents l.writer) (g.W.ByteWriter.has_failed l.writer) (g.W.ByteWriter.calls l.writer) (g.W.ByteWriter.empty_calls l.writer) in
     record {
       game : l.self.session.game ≡ l.fn.self.session.game;
       plain : g.R.Rules.meant l.self.rules.plain ≡ g.R.Rules.meant l.fn.self.rules.plain;

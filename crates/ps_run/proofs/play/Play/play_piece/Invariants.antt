@@ -9,8 +9,8 @@ use Rattle.ps_run.proofs.play.Play.play_piece.Given as goal
 abbrev pub invariant-loop-byte : goal.invariant-loop-byte
 invariant-loop-byte g l =
     let script : Script = script_for g.B.Board.table_for l.fn.self.session.game (g.R.Rules.meant l.fn.self.rules.plain) (g.R.Rules.meant l.fn.self.rules.late) in
-    let from : WriterState = writer_told (g.W.ByteWriter.contents l.fn.writer) (g.W.ByteWriter.has_failed l.fn.writer) (g.W.ByteWriter.calls l.fn.writer) in
-    let now : WriterState = writer_told (g.W.ByteWriter.contents l.writer) (g.W.ByteWriter.has_failed l.writer) (g.W.ByteWriter.calls l.writer) in
+    let from : WriterState = writer_told (g.W.ByteWriter.contents l.fn.writer) (g.W.ByteWriter.has_failed l.fn.writer) (g.W.ByteWriter.calls l.fn.writer) (g.W.ByteWriter.empty_calls l.fn.writer) in
+    let now : WriterState = writer_told (g.W.ByteWriter.contents l.writer) (g.W.ByteWriter.has_failed l.writer) (g.W.ByteWriter.calls l.writer) (g.W.ByteWriter.empty_calls l.writer) in
     record {
       game : l.self.session.game ≡ l.fn.self.session.game;
       plain : g.R.Rules.meant l.self.rules.plain ≡ g.R.Rules.meant l.fn.self.rules.plain;
