@@ -1,6 +1,6 @@
 -- Runs that aren't right, whatever the game: what a run may answer leaves no room for them. Each law says of one of them
 -- that it isn't allowed.
-use Rattle.std.specs.Prelude.{◌≡◌, ◌≢◌, ℕ, ◌<◌, ◌≤◌, true, false, Some, List, [], ◌∷◌, ◌++◌, length, ◌⊎◌}
+use Rattle.std.specs.Prelude.{◌≡◌, ◌≢◌, ℕ, ◌+◌, ◌<◌, ◌≤◌, true, false, Some, List, [], ◌∷◌, ◌++◌, length, ◌⊎◌}
 use Rattle.std.specs.List.{concat}
 use Rattle.ps_model.specs.declared.play.Ending.TheVariants.{EndOfKeys}
 use Rattle.ps_model.specs.declared.limits.TheConstants.{READ_LIMIT, CALL_LIMIT}
@@ -52,6 +52,27 @@ NoCallBehindEnd =
     (text : List ℕ) (told : Told) (answer : Answer) (before behind : List (List ℕ)) (last : Call) →
     told.reading ≡ Asked (before ++ [] ∷ behind) last → Answers text told answer → ⊥
 
+-- a call of the reader had room for fewer bytes than a run asks for at a time, or for more: so no run asks for a byte at a
+-- time, not even one that stops at the last call that it makes, and none asks for 5,000 and tells of two calls
+abbrev pub NoOddSizedCall : Type 0
+NoOddSizedCall =
+    (text : List ℕ) (reader_before reader_after : ReaderState) (writer_before writer_after : WriterState) (answer : Answer) →
+    reader_before.odd_sized_calls < reader_after.odd_sized_calls → RunsRightly text reader_before reader_after writer_before writer_after answer → ⊥
+
+-- two calls of the reader gave nothing: however the bytes of the others are cut into pieces, one of the two was behind the
+-- end of the keys, or had no room
+abbrev pub NoSecondEmptyCall : Type 0
+NoSecondEmptyCall =
+    (text : List ℕ) (reader_before reader_after : ReaderState) (writer_before writer_after : WriterState) (answer : Answer) →
+    reader_before.empty_calls + 1 < reader_after.empty_calls → RunsRightly text reader_before reader_after writer_before writer_after answer → ⊥
+
+-- a call of the reader gave nothing, and the last one gave bytes, or failed
+abbrev pub NoCallBehindEmptyOne : Type 0
+NoCallBehindEmptyOne =
+    (text : List ℕ) (reader_before reader_after : ReaderState) (writer_before writer_after : WriterState) (answer : Answer) →
+    reader_before.empty_calls < reader_after.empty_calls → (0 < reader_after.last) ⊎ (reader_after.has_failed ≡ true) →
+    RunsRightly text reader_before reader_after writer_before writer_after answer → ⊥
+
 -- what was read isn't a part of what the reader had
 abbrev pub ReadsWhatWasThere : Type 0
 ReadsWhatWasThere =
@@ -94,6 +115,12 @@ abbrev pub NoWritingUnasked : Type 0
 NoWritingUnasked =
     (text : List ℕ) (told : Told) (script : Script) →
     script_of_text text ≡ Some script → told.reading ≡ Unasked → IsFront (texts_of script []) told.wrote → Answers text told CannotWrite → ⊥
+
+-- a write was handed no byte
+abbrev pub NoEmptyWrite : Type 0
+NoEmptyWrite =
+    (text : List ℕ) (reader_before reader_after : ReaderState) (writer_before writer_after : WriterState) (answer : Answer) →
+    writer_before.empty_calls < writer_after.empty_calls → RunsRightly text reader_before reader_after writer_before writer_after answer → ⊥
 
 -- what a run that can't write has written isn't a front of the output of all bytes
 abbrev pub WritesFronts : Type 0

@@ -10,6 +10,7 @@ ghost use Rattle.ps_laws.specs.Fronts.{OutputOfUnended, OutputOnceEnded, EndIsQu
 ghost use Rattle.ps_laws.specs.Fronts.{WrittenByEnding};
 ghost use Rattle.ps_laws.specs.RunsNotAllowed.{NoCallBehindEnding, NoReadFaultBehindEnding, NoWantBehindEnding};
 ghost use Rattle.ps_laws.specs.RunsNotAllowed.{NoMoreCalls, NoLongCall, NoCallBehindEnd, ReadsWhatWasThere};
+ghost use Rattle.ps_laws.specs.RunsNotAllowed.{NoOddSizedCall, NoSecondEmptyCall, NoCallBehindEmptyOne, NoEmptyWrite};
 ghost use Rattle.ps_laws.specs.RunsNotAllowed.{ReadFaultIsTold, WriteFaultIsTold, NoReadFaultUnasked};
 ghost use Rattle.ps_laws.specs.RunsNotAllowed.{NoWriteFaultUnfailed, NoRunOnFailedDevices, NoWritingUnasked};
 ghost use Rattle.ps_laws.specs.RunsNotAllowed.{WritesFronts, AnswersAreTrueOfTexts};
@@ -67,8 +68,8 @@ pub fn ends_of_output()
 {}
 
 /// Runs that aren't allowed, whatever the game: calls of the reader behind the ending, behind its end, too many or too
-/// long; answers that tell of a failure that wasn't, or don't tell of one that was; and writing what isn't to be
-/// written.
+/// long, or with room for more or fewer bytes than a run asks for; writes of nothing; answers that tell of a failure
+/// that wasn't, or don't tell of one that was; and writing what isn't to be written.
 pub fn runs_not_allowed()
     ensures no_call_behind_ending { NoCallBehindEnding }
     ensures no_read_fault_behind_ending { NoReadFaultBehindEnding }
@@ -76,6 +77,10 @@ pub fn runs_not_allowed()
     ensures no_more_calls { NoMoreCalls }
     ensures no_long_call { NoLongCall }
     ensures no_call_behind_end { NoCallBehindEnd }
+    ensures no_odd_sized_call { NoOddSizedCall }
+    ensures no_second_empty_call { NoSecondEmptyCall }
+    ensures no_call_behind_empty_one { NoCallBehindEmptyOne }
+    ensures no_empty_write { NoEmptyWrite }
     ensures reads_what_was_there { ReadsWhatWasThere }
     ensures read_fault_is_told { ReadFaultIsTold }
     ensures write_fault_is_told { WriteFaultIsTold }

@@ -1,14 +1,14 @@
 -- Runs that aren't right.
-use Rattle.std.proofs.Common.{◌≡◌, ℕ, ◌<◌, ◌≤◌, ◌⊎◌, inl, inr, true, false, Bool, Option, Some, None, option_map, List, [], ◌∷◌, ◌++◌, length, refl, sym, ◌∙◌, ap, arith, append_assoc}
+use Rattle.std.proofs.Common.{◌≡◌, ℕ, ◌+◌, ◌<◌, ◌≤◌, ◌⊎◌, inl, inr, true, false, Bool, Option, Some, None, option_map, List, [], ◌∷◌, ◌++◌, length, refl, sym, ◌∙◌, ap, arith, append_assoc}
 use Rattle.std.specs.List.{All}
 use Rattle.std.proofs.lemmas.List.{length-append, append-nil}
 use Rattle.std.proofs.lemmas.List.Elements.{All-head, All-tail}
 use Rattle.ps_model.specs.board.Turns.{Script}
 use Rattle.ps_model.specs.game.Outputs.{output, front}
-use Rattle.ps_model.specs.game.Tellings.{Call, Gives, Reading, Unasked, Asked, Told, read, all_bytes, has_failing_call}
+use Rattle.ps_model.specs.game.Tellings.{Call, Gives, Fails, Reading, Unasked, Asked, Told, read, all_bytes, has_failing_call, last_behind, empty_pieces, empty_reads}
 use Rattle.ps_model.specs.game.Headline.{Answer, Ends, Refuses, WantsMemory, CannotRead, CannotWrite, Answers, IsFront, IsCutOff, IsPiece, AsksInTurn, ReadsInTurn, GaveNothing, IsTrueOfText, script_of_text, texts_of}
 use Rattle.ps_laws.specs.Fronts.{whole_front}
-use Rattle.ps_laws.specs.RunsNotAllowed.{NoCallBehindEnding, NoReadFaultBehindEnding, NoWantBehindEnding, NoMoreCalls, NoLongCall, NoCallBehindEnd, ReadsWhatWasThere, ReadFaultIsTold, WriteFaultIsTold, NoReadFaultUnasked, NoWriteFaultUnfailed, NoRunOnFailedDevices, NoWritingUnasked, WritesFronts, AnswersAreTrueOfTexts}
+use Rattle.ps_laws.specs.RunsNotAllowed.{NoCallBehindEnding, NoReadFaultBehindEnding, NoWantBehindEnding, NoMoreCalls, NoLongCall, NoCallBehindEnd, NoOddSizedCall, NoSecondEmptyCall, NoCallBehindEmptyOne, NoEmptyWrite, ReadsWhatWasThere, ReadFaultIsTold, WriteFaultIsTold, NoReadFaultUnasked, NoWriteFaultUnfailed, NoRunOnFailedDevices, NoWritingUnasked, WritesFronts, AnswersAreTrueOfTexts}
 use Rattle.ps_laws.proofs.keys.Fronts.{front_of_more}
 use Rattle.ps_laws.proofs.runs.LeftToWrite.{some_output, left_to_write}
 
@@ -56,6 +56,77 @@ no_empty (piece ∷ before) behind all = no_empty before behind (All-tail IsPiec
 pub no_call_behind_end : NoCallBehindEnd
 no_call_behind_end text told answer before behind last is right =
     no_empty before behind (asked_in_turn text told answer (before ++ [] ∷ behind) last is right).2.pieces
+
+same_count : (before after : ℕ) → after ≡ before → before < after → ⊥
+same_count before after same more = omega arith
+
+pub no_odd_sized_call : NoOddSizedCall
+no_odd_sized_call text reader_before reader_after writer_before writer_after answer more right =
+    same_count reader_before.odd_sized_calls reader_after.odd_sized_calls right.tells.same_room more
+
+pub no_empty_write : NoEmptyWrite
+no_empty_write text reader_before reader_after writer_before writer_after answer more right =
+    same_count writer_before.empty_calls writer_after.empty_calls right.tells.no_empty_write more
+
+-- pieces that aren't empty
+no_empty_piece : (pieces : List (List ℕ)) → All IsPiece pieces → empty_pieces pieces ≡ 0
+no_empty_piece [] all = refl
+no_empty_piece ([] ∷ pieces) all = let piece : IsPiece [] = All-head IsPiece [] pieces all in let no : 1 ≤ 0 = piece.some in absurd (omega (arith, no))
+no_empty_piece ((byte ∷ bytes) ∷ pieces) all = no_empty_piece pieces (All-tail IsPiece (byte ∷ bytes) pieces all)
+
+-- a piece that has bytes isn't empty
+some_byte : (piece : List ℕ) → 0 < length piece → empty_pieces (piece ∷ []) ≡ 0
+some_byte [] some = let no : 0 < 0 = some in absurd (omega (arith, no))
+some_byte (byte ∷ bytes) some = refl
+
+at_most_one : (piece : List ℕ) → empty_pieces (piece ∷ []) ≤ 1
+at_most_one [] = omega arith
+at_most_one (byte ∷ bytes) = omega arith
+
+-- of the calls of a right run one at most gave nothing; none did if the last one gave bytes, or failed
+one_empty : (text : List ℕ) (told : Told) (answer : Answer) (reading : Reading) → told.reading ≡ reading → Answers text told answer → empty_reads reading ≤ 1
+one_empty text told answer Unasked is right = omega arith
+one_empty text told answer (Asked earlier (Gives piece)) is right =
+    let none : empty_pieces earlier ≡ 0 = no_empty_piece earlier (asked_in_turn text told answer earlier (Gives piece) is right).2.pieces in
+    let one : empty_pieces (piece ∷ []) ≤ 1 = at_most_one piece in
+    rw none (omega (arith, one))
+one_empty text told answer (Asked earlier Fails) is right =
+    let none : empty_pieces earlier ≡ 0 = no_empty_piece earlier (asked_in_turn text told answer earlier Fails is right).2.pieces in
+    rw none (omega arith)
+
+none_empty_before : (text : List ℕ) (told : Told) (answer : Answer) (reading : Reading) (last : ℕ) (failed : Bool) → told.reading ≡ reading → Answers text told answer →
+    ((reading ≡ Unasked → ⊥) → last ≡ last_behind last reading) → failed ≡ has_failing_call reading → (0 < last) ⊎ (failed ≡ true) → empty_reads reading ≡ 0
+none_empty_before text told answer Unasked last failed is right gave told_failed other = refl
+none_empty_before text told answer (Asked earlier Fails) last failed is right gave told_failed other =
+    no_empty_piece earlier (asked_in_turn text told answer earlier Fails is right).2.pieces
+none_empty_before text told answer (Asked earlier (Gives piece)) last failed is right gave told_failed (inr fails) = let no : true ≡ false = cc in absurd (cc)
+none_empty_before text told answer (Asked earlier (Gives piece)) last failed is right gave told_failed (inl some) =
+    let none : empty_pieces earlier ≡ 0 = no_empty_piece earlier (asked_in_turn text told answer earlier (Gives piece) is right).2.pieces in
+    let long : last ≡ length piece = gave (λ e. cc) in
+    let one : empty_pieces (piece ∷ []) ≡ 0 = some_byte piece (rw (← long) some) in
+    rw (none, one) refl
+
+too_many : (before after extra : ℕ) → after ≡ before + extra → extra ≤ 1 → before + 1 < after → ⊥
+too_many before after extra is few more = omega arith
+
+pub no_second_empty_call : NoSecondEmptyCall
+no_second_empty_call text reader_before reader_after writer_before writer_after answer more right =
+    too_many reader_before.empty_calls reader_after.empty_calls (empty_reads right.told.reading) right.tells.empty_reads
+    (one_empty text right.told answer right.told.reading refl right.answers) more
+
+one_too_many : (before after extra : ℕ) → after ≡ before + extra → extra ≡ 0 → before < after → ⊥
+one_too_many before after extra is none more = omega arith
+
+-- what the reader tells of its last call, where it was called
+last_told : (before after : ℕ) (reading : Reading) → after ≡ last_behind before reading → (reading ≡ Unasked → ⊥) → after ≡ last_behind after reading
+last_told before after Unasked is asked = absurd (asked refl)
+last_told before after (Asked earlier last) is asked = is
+
+pub no_call_behind_empty_one : NoCallBehindEmptyOne
+no_call_behind_empty_one text reader_before reader_after writer_before writer_after answer more other right =
+    one_too_many reader_before.empty_calls reader_after.empty_calls (empty_reads right.told.reading) right.tells.empty_reads
+    (none_empty_before text right.told answer right.told.reading reader_after.last reader_after.has_failed refl right.answers
+    (last_told reader_before.last reader_after.last right.told.reading right.tells.last) right.tells.reader_failed other) more
 
 -- failures -------------------------------------------------------------------------------------------------------------
 
