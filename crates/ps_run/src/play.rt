@@ -165,9 +165,9 @@ impl<'g, B: Board, R: Rules<B> + Drop> Play<'g, B, R> {
         write_screen(&self.screen, writer)
     }
 
-    /// Plays the keys of a reader to an ending, where nothing is read yet: a piece at a time, at most `CALL_LIMIT`
-    /// bytes, and the text of each key of a piece is written before the next piece is asked for. Behind the end of
-    /// the game nothing more is asked for.
+    /// Plays the keys of a reader to an ending, where nothing is read yet: a piece at a time, of the `CALL_LIMIT` bytes
+    /// that each call asks for, and the text of each key of a piece is written before the next piece is asked for.
+    /// Behind the end of the game or of the keys nothing more is asked for.
     ///
     /// # Errors
     ///

@@ -22,7 +22,7 @@ use std::alloc::Global;
 /// ended, the player quits or the keys end.
 ///
 /// The opening is written before the first key is read, and the text of each key of a piece before the next piece is
-/// read. At most `CALL_LIMIT` bytes are asked for at a time, and nothing behind the end of the game.
+/// read. Each call asks for exactly `CALL_LIMIT` bytes, and none comes behind the end of the game or of the keys.
 ///
 /// # Errors
 ///

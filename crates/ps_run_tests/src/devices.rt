@@ -63,6 +63,10 @@ impl<D: ByteReader> ByteReader for Watched<D> {
 
     ghost calls = { λ watched. D.calls watched.device };
 
+    ghost empty_calls = { λ watched. D.empty_calls watched.device };
+
+    ghost odd_sized_calls = { λ watched. D.odd_sized_calls watched.device };
+
     fn read_some(&mut self, buffer: &mut [u8]) -> Result<usize, Failed> {
         self.count(buffer.len());
         let result = self.device.read_some(buffer);
@@ -77,6 +81,8 @@ impl<D: ByteWriter> ByteWriter for Watched<D> {
     ghost has_failed = { λ watched. D.has_failed watched.device };
 
     ghost calls = { λ watched. D.calls watched.device };
+
+    ghost empty_calls = { λ watched. D.empty_calls watched.device };
 
     fn write_some(&mut self, bytes: &[u8]) -> Result<usize, Failed> {
         self.count(bytes.len());
@@ -309,7 +315,11 @@ struct Endless<'a> {
     bytes: &'a [u8; 3],
     calls: u64,
     last: usize,
+    empty_calls: u64,
+    odd_sized_calls: u64,
     has_failed: bool,
+    ghost empty: { empty_calls ≤ calls },
+    ghost odd_sized: { odd_sized_calls ≤ calls },
 }
 
 impl<'a> ByteReader for Endless<'a> {
@@ -321,6 +331,10 @@ impl<'a> ByteReader for Endless<'a> {
 
     ghost calls = { λ reader. reader.calls };
 
+    ghost empty_calls = { λ reader. reader.empty_calls };
+
+    ghost odd_sized_calls = { λ reader. reader.odd_sized_calls };
+
     fn read_some(&mut self, buffer: &mut [u8]) -> Result<usize, Failed> {
         self.last = 0;
         if self.calls == u64::MAX {
@@ -330,10 +344,16 @@ impl<'a> ByteReader for Endless<'a> {
         let bytes = self.bytes;
         let (_, turn) = bytes.split_at((self.calls % 3) as usize);
         self.calls += 1;
+        if buffer.len() != CALL_LIMIT {
+            self.odd_sized_calls += 1;
+        }
         let mut once = MemoryReader::new(turn, 1, None);
         match once.read_some(buffer) {
             Ok(count) => {
                 self.last = count;
+                if count == 0 {
+                    self.empty_calls += 1;
+                }
                 Ok(count)
             }
             Err(Failed) => {
@@ -353,6 +373,8 @@ fn keys_without_end_are_read_up_to_the_limit(rt: HostRuntime) {
             bytes,
             calls: 0,
             last: 0,
+            empty_calls: 0,
+            odd_sized_calls: 0,
             has_failed: false,
         };
         let mut writer = MemoryWriter::new(rt.alloc(), 100, 100).expect(

@@ -16,8 +16,8 @@ use Rattle.ps_model.specs.session.KeySteps.{all_key_turns}
 use Rattle.ps_model.specs.text.Lines.{lines_of}
 use Rattle.ps_model.specs.game.Games.{game_read}
 use Rattle.ps_model.specs.game.Outputs.{opening_step}
-use Rattle.ps_model.specs.game.Tellings.{Gives, Fails, Unasked, Asked}
-use Rattle.ps_model.specs.game.Headline.{Ends, Refuses, WantsMemory, CannotRead, CannotWrite, Answers, IsPiece, script_of_text}
+use Rattle.ps_model.specs.game.Tellings.{Gives, Fails, Unasked, Asked, ReaderState, WriterState}
+use Rattle.ps_model.specs.game.Headline.{Ends, Refuses, WantsMemory, CannotRead, CannotWrite, Answers, IsPiece, RunsRightly, script_of_text}
 use Rattle.ps_examples.proofs.games.BaseText.{base_text}
 
 -- a level with a player and two cells to the right
@@ -74,6 +74,41 @@ keys_end = (
     silent = λ e. refl;
   },
 )
+
+-- the same run by what its devices tell: the reader had been called before, and tells of two calls more, of which one gave
+-- nothing; the writer took the last of three texts by two calls
+abbrev reader_before : ReaderState
+reader_before = record { remaining = Some (codes "d"); has_failed = false; last = 2; calls = 3; empty_calls = 1; odd_sized_calls = 2 }
+
+abbrev reader_after : ReaderState
+reader_after = record { remaining = Some []; has_failed = false; last = 0; calls = 5; empty_calls = 2; odd_sized_calls = 2 }
+
+abbrev writer_before : WriterState
+writer_before = record { contents = Some (codes "?"); has_failed = false; calls = 1; empty_calls = 0 }
+
+abbrev writer_after : WriterState
+writer_after = record { contents = Some (codes "?= T\n# level 1\nP..\n\n.P.\n\n* end of keys\n"); has_failed = false; calls = 5; empty_calls = 0 }
+
+keys_end_as_told : RunsRightly walk reader_before reader_after writer_before writer_after (Ends EndOfKeys)
+keys_end_as_told = record {
+  told = record { reading = Asked ((100 ∷ []) ∷ []) (Gives []); left = []; wrote = codes "= T\n# level 1\nP..\n\n.P.\n\n* end of keys\n"; writer_failed = false };
+  tells = record {
+    reader_was_well = refl;
+    reader_failed = refl;
+    read = refl;
+    left = refl;
+    last = refl;
+    calls = refl;
+    empty_reads = refl;
+    same_room = refl;
+    writer_was_well = refl;
+    writer_failed = refl;
+    wrote = refl;
+    writes = omega arith;
+    no_empty_write = refl;
+  };
+  answers = keys_end;
+}
 
 -- the writer fails within the second key's frame
 cut_off : Answers walk (record { reading = Asked ((100 ∷ []) ∷ []) (Gives (codes "dd")); left = codes "q"; wrote = codes "= T\n# level 1\nP..\n\n.P.\n\n.."; writer_failed = true }) CannotWrite
