@@ -24,7 +24,7 @@ pub returns-in_default-read_some-clause-answers : goal.returns-in_default-read_s
 returns-in_default-read_some-clause-answers g c = λ before started.
     runs.call_failed _ _ _ _ before _ _ _ _ c.requires.heard c.loop-call.invariant.well c.loop-call-test.true (c.loop-call.invariant.stands before started) (sym c.in_default.ensures)
     c.in_default-read_some.ensures.told c.in_default-read_some.ensures.stays c.in_default-read_some.ensures.last_none c.read_some.ensures.counted c.read_some.ensures.held
-    c.in_default-read_some.ensures.none (c.read_some.ensures.even_sized refl)
+    c.in_default-read_some.ensures.none (c.read_some.ensures.even_sized (search rules))
 
 pub returns-in-Ok-end_keys-clause-answers : goal.returns-in-Ok-end_keys-clause-answers
 returns-in-Ok-end_keys-clause-answers g c = λ before started.
@@ -33,7 +33,7 @@ returns-in-Ok-end_keys-clause-answers g c = λ before started.
     let gives : Loses (g.I.ByteReader.remaining c.loop-call.reader) (g.I.ByteReader.remaining c.read_some.new.self) [] = rw none at c.in-Ok.ensures.given in
     runs.keys_ended _ _ _ _ before _ _ _ _ _ c.requires.heard (c.in-Ok.ensures.well ∙ c.loop-call.invariant.heard) (c.in-Ok-end_keys.ensures.well (λ e. cc)) c.loop-call-test.true
     (c.loop-call.invariant.stands before started) (sym c.in_default.ensures) gives (c.in-Ok.ensures.end c.if-count-eq0.true (search rules)) (c.in-Ok.ensures.last_count ∙ c.if-count-eq0.true) counted
-    (c.in-Ok.ensures.empty c.if-count-eq0.true) (c.in-Ok.ensures.even_sized refl) c.in-Ok-end_keys.ensures.written
+    (c.in-Ok.ensures.empty c.if-count-eq0.true) (c.in-Ok.ensures.even_sized (search rules)) c.in-Ok-end_keys.ensures.written
 
 pub returns-in-Err-clause-answers : goal.returns-in-Err-clause-answers
 returns-in-Err-clause-answers g c = λ before started.
@@ -44,7 +44,7 @@ returns-in-Err-clause-answers g c = λ before started.
     (runs.keys_ended_unwritten c.in-Err.fault _ _ _ _ before _ _ _ _ _ c.requires.heard (c.in-Ok.ensures.well ∙ c.loop-call.invariant.heard)
     (λ memory. c.in-Err.ensures.well (λ e. cc)) (λ write. c.in-Err.ensures.told (ap Err write)) c.loop-call-test.true
     (c.loop-call.invariant.stands before started) (sym c.in_default.ensures) gives (c.in-Ok.ensures.end c.if-count-eq0.true (search rules)) (c.in-Ok.ensures.last_count ∙ c.if-count-eq0.true) counted
-    (c.in-Ok.ensures.empty c.if-count-eq0.true) (c.in-Ok.ensures.even_sized refl) c.in-Err.ensures.stops)
+    (c.in-Ok.ensures.empty c.if-count-eq0.true) (c.in-Ok.ensures.even_sized (search rules)) c.in-Err.ensures.stops)
 
 pub returns-in-Err-play_piece-clause-answers : goal.returns-in-Err-play_piece-clause-answers
 returns-in-Err-play_piece-clause-answers g c = λ before started.
@@ -55,7 +55,7 @@ returns-in-Err-play_piece-clause-answers g c = λ before started.
     (runs.piece_unwritten c.in-Err-play_piece.fault _ _ _ _ before _ _ _ _ _ (take c.in-Ok.count c.read_some.new.buffer) c.requires.heard (c.in-Ok.ensures.well ∙ c.loop-call.invariant.heard)
     (λ memory. c.in-Err-play_piece.ensures.well (λ e. cc)) (λ write. c.in-Err-play_piece.ensures.told (ap Err write)) c.loop-call-test.true
     (c.loop-call.invariant.stands before started) (sym c.in_default.ensures) (rw long (search rules)) (rw long (search rules)) c.in-Ok.ensures.given
-    (c.in-Ok.ensures.last_count ∙ sym long) counted (c.in-Ok.ensures.some (search rules)) (c.in-Ok.ensures.even_sized refl) (λ bytes played. stops before bytes played))
+    (c.in-Ok.ensures.last_count ∙ sym long) counted (c.in-Ok.ensures.some (search rules)) (c.in-Ok.ensures.even_sized (search rules)) (λ bytes played. stops before bytes played))
 
 pub loop-call-preserved : goal.loop-call-preserved
 loop-call-preserved g c =
@@ -71,7 +71,7 @@ loop-call-preserved g c =
       stands = λ before started.
           runs.one_more _ _ _ _ before _ _ _ _ _ _ _ (take c.in-Ok.count c.read_some.new.buffer) c.loop-call-test.true
           (c.loop-call.invariant.stands before started) (sym c.in_default.ensures) (rw long (search rules)) (rw long (search rules)) c.in-Ok.ensures.given
-          (c.in-Ok.ensures.last_count ∙ sym long) counted (c.in-Ok.ensures.some (search rules)) (c.in-Ok.ensures.even_sized refl) (λ bytes played. plays before bytes played);
+          (c.in-Ok.ensures.last_count ∙ sym long) counted (c.in-Ok.ensures.some (search rules)) (c.in-Ok.ensures.even_sized (search rules)) (λ bytes played. plays before bytes played);
     }
 
 pub returns-in-Some-ending-clause-answers : goal.returns-in-Some-ending-clause-answers
