@@ -37,8 +37,10 @@ pub fn run_game<'g, B: Board, R: Rules<B> + Drop, I: ByteReader, W: ByteWriter>(
         (I.last reader.old) (I.calls reader.old) (I.empty_calls reader.old) (I.odd_sized_calls reader.old) in
         let has = reader_told (I.remaining reader.new) (I.has_failed reader.new)
         (I.last reader.new) (I.calls reader.new) (I.empty_calls reader.new) (I.odd_sized_calls reader.new) in
-        let before = writer_told (W.contents writer.old) (W.has_failed writer.old) (W.calls writer.old) (W.empty_calls writer.old) in
-        let now = writer_told (W.contents writer.new) (W.has_failed writer.new) (W.calls writer.new) (W.empty_calls writer.new) in
+        let before = writer_told (W.contents writer.old) (W.has_failed writer.old)
+        (W.calls writer.old) (W.empty_calls writer.old) in
+        let now = writer_told (W.contents writer.new) (W.has_failed writer.new)
+        (W.calls writer.new) (W.empty_calls writer.new) in
         ComesOrStops script had has before now result }
 {
     let mut rules = rules;

@@ -29,11 +29,15 @@ pub struct Play<'g, B: Board, R> {
 /// Writes what the screen has.
 pub fn write_screen<W: ByteWriter>(screen: &Screen, writer: &mut W) -> Result<(), PieceFault>
     requires { W.has_failed writer.old ≡ false }
-    ensures written { let before = writer_told (W.contents writer.old) (W.has_failed writer.old) (W.calls writer.old) (W.empty_calls writer.old) in
-        let now = writer_told (W.contents writer.new) (W.has_failed writer.new) (W.calls writer.new) (W.empty_calls writer.new) in
+    ensures written { let before = writer_told (W.contents writer.old) (W.has_failed writer.old)
+        (W.calls writer.old) (W.empty_calls writer.old) in
+        let now = writer_told (W.contents writer.new) (W.has_failed writer.new)
+        (W.calls writer.new) (W.empty_calls writer.new) in
         OnOk result (HasTaken before now screen.now) }
-    ensures stops { let before = writer_told (W.contents writer.old) (W.has_failed writer.old) (W.calls writer.old) (W.empty_calls writer.old) in
-        let now = writer_told (W.contents writer.new) (W.has_failed writer.new) (W.calls writer.new) (W.empty_calls writer.new) in
+    ensures stops { let before = writer_told (W.contents writer.old) (W.has_failed writer.old)
+        (W.calls writer.old) (W.empty_calls writer.old) in
+        let now = writer_told (W.contents writer.new) (W.has_failed writer.new)
+        (W.calls writer.new) (W.empty_calls writer.new) in
         IfErr result (λ fault. StopsAtText fault before now screen.now) }
     ensures well { result ≢ Err PieceFault.Write → W.has_failed writer.new ≡ false }
     ensures told { result ≡ Err PieceFault.Write → W.has_failed writer.new ≡ true }
@@ -58,13 +62,17 @@ impl<'g, B: Board, R: Rules<B> + Drop> Play<'g, B, R> {
             OnOk result (self.new.session.session ≡ (key_step script self.old.session.session key).session) }
         ensures written { let script = script_for B.table_for self.old.session.game
             (R.meant self.old.rules.plain) (R.meant self.old.rules.late) in
-            let before = writer_told (W.contents writer.old) (W.has_failed writer.old) (W.calls writer.old) (W.empty_calls writer.old) in
-            let now = writer_told (W.contents writer.new) (W.has_failed writer.new) (W.calls writer.new) (W.empty_calls writer.new) in
+            let before = writer_told (W.contents writer.old) (W.has_failed writer.old)
+            (W.calls writer.old) (W.empty_calls writer.old) in
+            let now = writer_told (W.contents writer.new) (W.has_failed writer.new)
+            (W.calls writer.new) (W.empty_calls writer.new) in
             OnOk result (HasTaken before now (key_step script self.old.session.session key).text) }
         ensures stops { let script = script_for B.table_for self.old.session.game
             (R.meant self.old.rules.plain) (R.meant self.old.rules.late) in
-            let before = writer_told (W.contents writer.old) (W.has_failed writer.old) (W.calls writer.old) (W.empty_calls writer.old) in
-            let now = writer_told (W.contents writer.new) (W.has_failed writer.new) (W.calls writer.new) (W.empty_calls writer.new) in
+            let before = writer_told (W.contents writer.old) (W.has_failed writer.old)
+            (W.calls writer.old) (W.empty_calls writer.old) in
+            let now = writer_told (W.contents writer.new) (W.has_failed writer.new)
+            (W.calls writer.new) (W.empty_calls writer.new) in
             IfErr result (λ fault. StopsAtText fault before now (key_step script self.old.session.session key).text) }
         ensures unended { result ≡ Err PieceFault.Memory → ending_of self.old.session.session ≡ None }
         ensures well { result ≢ Err PieceFault.Write → W.has_failed writer.new ≡ false }
@@ -85,15 +93,19 @@ impl<'g, B: Board, R: Rules<B> + Drop> Play<'g, B, R> {
         ensures late { R.meant self.new.rules.late ≡ R.meant self.old.rules.late }
         ensures played { let script = script_for B.table_for self.old.session.game
             (R.meant self.old.rules.plain) (R.meant self.old.rules.late) in
-            let from = writer_told (W.contents writer.old) (W.has_failed writer.old) (W.calls writer.old) (W.empty_calls writer.old) in
-            let now = writer_told (W.contents writer.new) (W.has_failed writer.new) (W.calls writer.new) (W.empty_calls writer.new) in
+            let from = writer_told (W.contents writer.old) (W.has_failed writer.old)
+            (W.calls writer.old) (W.empty_calls writer.old) in
+            let now = writer_told (W.contents writer.new) (W.has_failed writer.new)
+            (W.calls writer.new) (W.empty_calls writer.new) in
             OnOk result ((before : WriterState) (read : List ℕ)
             → HavePlayed script before from self.old.session.session self.old.keys read
             → HavePlayed script before now self.new.session.session self.new.keys (read ++ byte ∷ [])) }
         ensures stops { let script = script_for B.table_for self.old.session.game
             (R.meant self.old.rules.plain) (R.meant self.old.rules.late) in
-            let from = writer_told (W.contents writer.old) (W.has_failed writer.old) (W.calls writer.old) (W.empty_calls writer.old) in
-            let now = writer_told (W.contents writer.new) (W.has_failed writer.new) (W.calls writer.new) (W.empty_calls writer.new) in
+            let from = writer_told (W.contents writer.old) (W.has_failed writer.old)
+            (W.calls writer.old) (W.empty_calls writer.old) in
+            let now = writer_told (W.contents writer.new) (W.has_failed writer.new)
+            (W.calls writer.new) (W.empty_calls writer.new) in
             IfErr result (λ fault. (before : WriterState) (read : List ℕ)
             → HavePlayed script before from self.old.session.session self.old.keys read
             → StopsAs fault script before now read (byte ∷ [])) }
@@ -123,15 +135,19 @@ impl<'g, B: Board, R: Rules<B> + Drop> Play<'g, B, R> {
         ensures late { R.meant self.new.rules.late ≡ R.meant self.old.rules.late }
         ensures played { let script = script_for B.table_for self.old.session.game
             (R.meant self.old.rules.plain) (R.meant self.old.rules.late) in
-            let from = writer_told (W.contents writer.old) (W.has_failed writer.old) (W.calls writer.old) (W.empty_calls writer.old) in
-            let now = writer_told (W.contents writer.new) (W.has_failed writer.new) (W.calls writer.new) (W.empty_calls writer.new) in
+            let from = writer_told (W.contents writer.old) (W.has_failed writer.old)
+            (W.calls writer.old) (W.empty_calls writer.old) in
+            let now = writer_told (W.contents writer.new) (W.has_failed writer.new)
+            (W.calls writer.new) (W.empty_calls writer.new) in
             OnOk result ((before : WriterState) (read : List ℕ)
             → HavePlayed script before from self.old.session.session self.old.keys read
             → HavePlayed script before now self.new.session.session self.new.keys (read ++ piece.now)) }
         ensures stops { let script = script_for B.table_for self.old.session.game
             (R.meant self.old.rules.plain) (R.meant self.old.rules.late) in
-            let from = writer_told (W.contents writer.old) (W.has_failed writer.old) (W.calls writer.old) (W.empty_calls writer.old) in
-            let now = writer_told (W.contents writer.new) (W.has_failed writer.new) (W.calls writer.new) (W.empty_calls writer.new) in
+            let from = writer_told (W.contents writer.old) (W.has_failed writer.old)
+            (W.calls writer.old) (W.empty_calls writer.old) in
+            let now = writer_told (W.contents writer.new) (W.has_failed writer.new)
+            (W.calls writer.new) (W.empty_calls writer.new) in
             IfErr result (λ fault. (before : WriterState) (read : List ℕ)
             → HavePlayed script before from self.old.session.session self.old.keys read
             → StopsAs fault script before now read piece.now) }
@@ -151,11 +167,13 @@ impl<'g, B: Board, R: Rules<B> + Drop> Play<'g, B, R> {
         requires { W.has_failed writer.old ≡ false }
         ensures written { let before = writer_told (W.contents writer.old) (W.has_failed writer.old)
             (W.calls writer.old) (W.empty_calls writer.old) in
-            let now = writer_told (W.contents writer.new) (W.has_failed writer.new) (W.calls writer.new) (W.empty_calls writer.new) in
+            let now = writer_told (W.contents writer.new) (W.has_failed writer.new)
+            (W.calls writer.new) (W.empty_calls writer.new) in
             OnOk result (HasTaken before now end_of_keys_line) }
         ensures stops { let before = writer_told (W.contents writer.old) (W.has_failed writer.old)
             (W.calls writer.old) (W.empty_calls writer.old) in
-            let now = writer_told (W.contents writer.new) (W.has_failed writer.new) (W.calls writer.new) (W.empty_calls writer.new) in
+            let now = writer_told (W.contents writer.new) (W.has_failed writer.new)
+            (W.calls writer.new) (W.empty_calls writer.new) in
             IfErr result (λ fault. StopsAtText fault before now end_of_keys_line) }
         ensures well { result ≢ Err PieceFault.Write → W.has_failed writer.new ≡ false }
         ensures told { result ≡ Err PieceFault.Write → W.has_failed writer.new ≡ true }
@@ -189,8 +207,10 @@ impl<'g, B: Board, R: Rules<B> + Drop> Play<'g, B, R> {
             (I.last reader.old) (I.calls reader.old) (I.empty_calls reader.old) (I.odd_sized_calls reader.old) in
             let has = reader_told (I.remaining reader.new) (I.has_failed reader.new)
             (I.last reader.new) (I.calls reader.new) (I.empty_calls reader.new) (I.odd_sized_calls reader.new) in
-            let from = writer_told (W.contents writer.old) (W.has_failed writer.old) (W.calls writer.old) (W.empty_calls writer.old) in
-            let now = writer_told (W.contents writer.new) (W.has_failed writer.new) (W.calls writer.new) (W.empty_calls writer.new) in
+            let from = writer_told (W.contents writer.old) (W.has_failed writer.old)
+            (W.calls writer.old) (W.empty_calls writer.old) in
+            let now = writer_told (W.contents writer.new) (W.has_failed writer.new)
+            (W.calls writer.new) (W.empty_calls writer.new) in
             (before : WriterState) → HavePlayed script before from self.old.session.session self.old.keys []
             → Comes script had has before now result }
     {

@@ -41,8 +41,10 @@ pub fn run<I: ByteReader, W: ByteWriter>(
         (I.last reader.old) (I.calls reader.old) (I.empty_calls reader.old) (I.odd_sized_calls reader.old) in
         let has = reader_told (I.remaining reader.new) (I.has_failed reader.new)
         (I.last reader.new) (I.calls reader.new) (I.empty_calls reader.new) (I.odd_sized_calls reader.new) in
-        let before = writer_told (W.contents writer.old) (W.has_failed writer.old) (W.calls writer.old) (W.empty_calls writer.old) in
-        let now = writer_told (W.contents writer.new) (W.has_failed writer.new) (W.calls writer.new) (W.empty_calls writer.new) in
+        let before = writer_told (W.contents writer.old) (W.has_failed writer.old)
+        (W.calls writer.old) (W.empty_calls writer.old) in
+        let now = writer_told (W.contents writer.new) (W.has_failed writer.new)
+        (W.calls writer.new) (W.empty_calls writer.new) in
         RunsRightly text.now had has before now (answer_of result) }
     ensures true_of_text { IsTrueOfText text.now (answer_of result) }
 {
@@ -72,8 +74,10 @@ fn run_compiled<I: ByteReader, W: ByteWriter>(
         (I.calls reader.old) (I.empty_calls reader.old) (I.odd_sized_calls reader.old) in
         let has = reader_told (I.remaining reader.new) (I.has_failed reader.new) (I.last reader.new)
         (I.calls reader.new) (I.empty_calls reader.new) (I.odd_sized_calls reader.new) in
-        let before = writer_told (W.contents writer.old) (W.has_failed writer.old) (W.calls writer.old) (W.empty_calls writer.old) in
-        let now = writer_told (W.contents writer.new) (W.has_failed writer.new) (W.calls writer.new) (W.empty_calls writer.new) in
+        let before = writer_told (W.contents writer.old) (W.has_failed writer.old)
+        (W.calls writer.old) (W.empty_calls writer.old) in
+        let now = writer_told (W.contents writer.new) (W.has_failed writer.new)
+        (W.calls writer.new) (W.empty_calls writer.new) in
         (text : List ℕ) → game_in text ≡ Some game.now
         → AreCompiled game.now.names game.now.rules compiled.now.plain compiled.now.late
         → RunsRightly text had has before now (answer_of result) }
