@@ -3,6 +3,7 @@
 ghost use Rattle.std.specs.Prelude.{◌≡◌, ℕ, ◌+◌, ◌*◌, ◌<◌, ◌≤◌, IfOk, IfSome, List, None, Option};
 ghost use Rattle.ps_model.specs.board.Grid.{Grid, IsGrid, IsPlace, at_rest, empty_grid, with_slot};
 ghost use Rattle.ps_model.specs.board.Grid.{motion_in, object_in, slot_at, slot_of};
+ghost use Rattle.ps_model.specs.board.Turns.{same_cells};
 ghost use Rattle.ps_model.specs.declared.limits.TheConstants.{LAYER_LIMIT, SIDE_LIMIT};
 ghost use Rattle.ps_model.specs.declared.pieces.Motion.TheVariants.{Still};
 ghost use Rattle.ps_board.specs.Rooms.{HasRoom, HaveRoom, layer_numbers};
@@ -92,4 +93,12 @@ pub trait Board: Drop {
         requires table { table other.old ≡ table self.now }
         ensures grid { grid other.new ≡ grid self.now }
         ensures table { table other.new ≡ table self.now };
+
+    /// Whether another board of the same size, with as many layers and the same room, shows the same.
+    fn same(&self, other: &Self) -> bool
+        requires width { (grid other.now).width ≡ (grid self.now).width }
+        requires height { (grid other.now).height ≡ (grid self.now).height }
+        requires layers { (grid other.now).layers ≡ (grid self.now).layers }
+        requires table { table other.now ≡ table self.now }
+        ensures { result ≡ same_cells (grid self.now).cells (grid other.now).cells };
 }

@@ -5,6 +5,7 @@
 
 mod board;
 mod list_board;
+mod slots;
 
 pub use board::Board;
 pub use list_board::ListBoard;

@@ -6,6 +6,7 @@ ghost use Rattle.ps_model.specs.board.Grid.{slot_at, slot_at_rest, slot_of};
 ghost use Rattle.ps_model.specs.declared.limits.TheConstants.{LAYER_LIMIT, SIDE_LIMIT};
 
 use crate::board::Board;
+use crate::slots::same_slots;
 use ps_model::{LayerId, Memory, Motion, ObjectId, Slot};
 use std::alloc::Global;
 
@@ -146,6 +147,10 @@ impl Board for ListBoard {
     fn copy_into(&self, other: &mut ListBoard) {
         other.slots.copy_from_slice(&self.slots);
     }
+
+    fn same(&self, other: &ListBoard) -> bool {
+        same_slots(self.slots.as_slice(), other.slots.as_slice())
+    }
 }
 
 #[cfg(test)]
@@ -210,8 +215,11 @@ mod tests {
         let mut board = ListBoard::try_empty(rt.alloc(), 1, 2, 1, &[])?;
         let mut other = ListBoard::try_empty(rt.alloc(), 1, 2, 1, &[])?;
         board.put(1, LayerId(0), Some(CRATE), PUSHED);
+        assert!(rt; !board.same(&other));
         board.copy_into(&mut other);
+        assert!(rt; board.same(&other));
         board.clear_moves();
+        assert!(rt; !board.same(&other));
         assert_eq!(rt; board.object(1, LayerId(0)), Some(CRATE));
         assert_eq!(rt; board.motion(1, LayerId(0)), Motion::Still);
         assert_eq!(rt; other.object(0, LayerId(0)), None);
