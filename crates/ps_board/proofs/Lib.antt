@@ -1,2 +1,5 @@
 mod Cells
 mod SameSlots
+pub mod ColumnLaws
+pub mod ColumnWords
+pub mod PassedColumns

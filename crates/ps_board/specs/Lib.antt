@@ -1,2 +1,4 @@
 pub mod Rooms
 pub mod Runnable
+pub mod ColumnSets
+pub mod WordsOfColumns

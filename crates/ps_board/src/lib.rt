@@ -4,9 +4,11 @@
 #![tactic(auto)]
 
 mod board;
+mod columns;
 mod list_board;
 mod slots;
 
 pub use board::Board;
+pub use columns::Columns;
 pub use list_board::ListBoard;
 pub use ps_model::{Direction, LayerId, Memory, Motion, ObjectId, Slot};

@@ -1,3 +1,1 @@
 pub mod InRoom
-pub mod ColumnSets
-pub mod WordsOfColumns

@@ -4,7 +4,6 @@
 //! of the grid that the board shows. [`ListBoard`](ps_board::ListBoard) answers slot by slot.
 #![tactic(auto)]
 
-mod columns;
 mod fitting;
 mod list_scan;
 mod rooms;
@@ -13,8 +12,7 @@ mod scanning;
 mod slots;
 mod writing;
 
-pub use columns::Columns;
-pub use ps_board::{Board, ListBoard};
+pub use ps_board::{Board, Columns, ListBoard};
 pub use rooms::Rooms;
 pub use scan::Scan;
 pub use writing::write_cell;

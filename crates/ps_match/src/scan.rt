@@ -4,11 +4,10 @@ ghost use Rattle.std.specs.Prelude.{◌≡◌, ◌<◌, slice_get};
 ghost use Rattle.ps_model.specs.board.Places.{fits_there};
 ghost use Rattle.ps_model.specs.board.Attempts.{Rewritten, rewritten_cell};
 ghost use Rattle.ps_program.specs.ProgramShown.{mask_shown, write_shown};
-ghost use Rattle.ps_match.specs.ColumnSets.{row_fits};
+ghost use Rattle.ps_board.specs.ColumnSets.{row_fits};
 ghost use Rattle.ps_match.specs.InRoom.{meaning_of_mask, meaning_of_write, sides_of, write_in_room};
 
-use crate::columns::Columns;
-use ps_board::Board;
+use ps_board::{Board, Columns};
 use ps_program::{CellMask, CellWrite};
 
 /// A board whose cells are matched against masks and rewritten by writes. What runs rules touches a board through

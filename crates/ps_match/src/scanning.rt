@@ -2,12 +2,11 @@
 
 ghost use Rattle.std.specs.Prelude.{◌≡◌, ◌<◌};
 ghost use Rattle.ps_program.specs.ProgramShown.{mask_shown};
-ghost use Rattle.ps_match.specs.ColumnSets.{row_fits};
+ghost use Rattle.ps_board.specs.ColumnSets.{row_fits};
 ghost use Rattle.ps_match.specs.InRoom.{meaning_of_mask};
 
-use crate::columns::Columns;
 use crate::fitting::fits_cell;
-use ps_board::Board;
+use ps_board::{Board, Columns};
 use ps_program::CellMask;
 
 /// The columns of a row of a board whose cells fit a mask.

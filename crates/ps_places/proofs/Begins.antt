@@ -11,9 +11,9 @@ use Rattle.ps_program.specs.declared.cells.CellMask.{CellMask}
 use Rattle.ps_program.specs.declared.cells.CompiledCell.{CompiledCell}
 use Rattle.ps_program.specs.ProgramShown.{mask_shown}
 use Rattle.ps_match.specs.InRoom.{meaning_of_mask}
-use Rattle.ps_match.specs.ColumnSets.{column_at, set_columns, no_columns, columns_below, both_columns, columns_behind, row_fits}
-use Rattle.ps_match.proofs.ColumnLaws.{column_at-where, column_at-all, none_in}
-use Rattle.ps_match.proofs.Scanned.{no_cell}
+use Rattle.ps_board.specs.ColumnSets.{column_at, set_columns, no_columns, columns_below, both_columns, columns_behind, row_fits}
+use Rattle.ps_board.proofs.ColumnLaws.{column_at-where, column_at-all, none_in}
+use Rattle.ps_board.proofs.PassedColumns.{no_cell}
 use Rattle.ps_places.specs.declared.shape.Shape.{Shape}
 use Rattle.ps_places.specs.RowCells.{all_cells}
 use Rattle.ps_places.specs.RowMeanings.{meanings_of}

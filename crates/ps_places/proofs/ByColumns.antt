@@ -9,9 +9,9 @@ use Rattle.std.proofs.Math.Nat.{add-mul, mod-lt}
 use Rattle.ps_model.specs.declared.limits.TheConstants.{SIDE_LIMIT}
 use Rattle.ps_model.specs.board.Grid.{Grid, IsGrid}
 use Rattle.ps_program.specs.declared.cells.CompiledCell.{CompiledCell}
-use Rattle.ps_match.specs.ColumnSets.{column_at, set_columns, either_columns}
-use Rattle.ps_match.proofs.ColumnLaws.{column_at-where, set_columns-are, first_in, none_in}
-use Rattle.ps_match.proofs.Scanned.{cell_below}
+use Rattle.ps_board.specs.ColumnSets.{column_at, set_columns, either_columns}
+use Rattle.ps_board.proofs.ColumnLaws.{column_at-where, set_columns-are, first_in, none_in}
+use Rattle.ps_board.proofs.PassedColumns.{cell_below}
 use Rattle.ps_places.specs.declared.shape.Shape.{Shape}
 use Rattle.ps_places.specs.Found.{has_one}
 use Rattle.ps_places.specs.RowMeanings.{part_sizes, places_at, horizontal_at, row_places_at, vertical_at}

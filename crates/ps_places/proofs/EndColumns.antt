@@ -11,8 +11,8 @@ use Rattle.ps_model.specs.board.Places.{fits_along, fits_there}
 use Rattle.ps_program.specs.declared.cells.CompiledCell.{CompiledCell}
 use Rattle.ps_program.specs.ProgramShown.{mask_shown}
 use Rattle.ps_match.specs.InRoom.{meaning_of_mask}
-use Rattle.ps_match.specs.ColumnSets.{column_at, set_columns, columns_below, row_fits}
-use Rattle.ps_match.proofs.ColumnLaws.{column_at-where, column_at-beyond, none_in}
+use Rattle.ps_board.specs.ColumnSets.{column_at, set_columns, columns_below, row_fits}
+use Rattle.ps_board.proofs.ColumnLaws.{column_at-where, column_at-beyond, none_in}
 use Rattle.ps_places.specs.declared.shape.Shape.{Shape}
 use Rattle.ps_places.specs.Ends.{HasEndsIn, HaveEndsIn}
 use Rattle.ps_places.specs.RowCells.{all_cells}

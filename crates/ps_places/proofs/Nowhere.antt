@@ -14,8 +14,8 @@ use Rattle.ps_program.specs.declared.cells.CellMask.{CellMask}
 use Rattle.ps_program.specs.declared.cells.CompiledCell.{CompiledCell}
 use Rattle.ps_program.specs.ProgramShown.{mask_shown}
 use Rattle.ps_match.specs.InRoom.{meaning_of_mask}
-use Rattle.ps_match.specs.ColumnSets.{column_at, set_columns, row_fits}
-use Rattle.ps_match.proofs.ColumnLaws.{none_in}
+use Rattle.ps_board.specs.ColumnSets.{column_at, set_columns, row_fits}
+use Rattle.ps_board.proofs.ColumnLaws.{none_in}
 use Rattle.ps_places.specs.declared.shape.Shape.{Shape}
 use Rattle.ps_places.specs.RowCells.{all_cells}
 use Rattle.ps_places.specs.RowMeanings.{cell_meaning, parts_meaning, meanings_of, part_sizes, places_at, IsShapeOf, line_long}

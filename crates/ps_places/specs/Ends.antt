@@ -4,7 +4,7 @@ use Rattle.ps_model.specs.declared.limits.TheConstants.{SIDE_LIMIT}
 use Rattle.ps_model.specs.board.Grid.{Grid}
 use Rattle.ps_model.specs.board.Places.{fits_along}
 use Rattle.ps_program.specs.declared.cells.CompiledCell.{CompiledCell}
-use Rattle.ps_match.specs.ColumnSets.{column_at}
+use Rattle.ps_board.specs.ColumnSets.{column_at}
 use Rattle.ps_places.specs.declared.shape.Shape.{Shape}
 use Rattle.ps_places.specs.RowMeanings.{meanings_of}
 use Rattle.ps_places.specs.Stretches.{stretch_of}

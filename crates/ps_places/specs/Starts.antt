@@ -8,7 +8,7 @@ use Rattle.ps_program.specs.declared.cells.CellMask.{CellMask}
 use Rattle.ps_program.specs.declared.cells.CompiledCell.{CompiledCell}
 use Rattle.ps_program.specs.ProgramShown.{mask_shown}
 use Rattle.ps_match.specs.InRoom.{meaning_of_mask}
-use Rattle.ps_match.specs.ColumnSets.{column_at}
+use Rattle.ps_board.specs.ColumnSets.{column_at}
 use Rattle.ps_places.specs.declared.shape.Shape.{Shape}
 use Rattle.ps_places.specs.RowMeanings.{meanings_of}
 use Rattle.ps_places.specs.Stretches.{cell_of, stretch_of}

@@ -4,7 +4,7 @@
 ghost use Rattle.std.specs.Prelude.{◌≡◌, ◌+◌, ◌*◌, ◌<◌, ◌≤◌, ◌++◌, OnOk, false, length, map, slice_index_or, sum, []};
 ghost use Rattle.std.specs.List.{flat_map, range_with_len};
 ghost use Rattle.ps_model.specs.declared.limits.TheConstants.{SIDE_LIMIT};
-ghost use Rattle.ps_match.specs.ColumnSets.{column_at, set_columns};
+ghost use Rattle.ps_board.specs.ColumnSets.{column_at, set_columns};
 ghost use Rattle.ps_places.specs.declared.shape.Shape.{Shape as AnyShape};
 ghost use Rattle.ps_places.specs.RowCells.{all_cells};
 ghost use Rattle.ps_places.specs.RowMeanings.{part_sizes, row_places_at, vertical_at};

@@ -2,7 +2,7 @@
 
 ghost use Rattle.std.specs.Prelude.{◌≡◌, ◌<◌, [], length, slice_index_or};
 ghost use Rattle.ps_model.specs.declared.limits.TheConstants.{SIDE_LIMIT};
-ghost use Rattle.ps_match.specs.ColumnSets.{column_at};
+ghost use Rattle.ps_board.specs.ColumnSets.{column_at};
 ghost use Rattle.ps_places.specs.Ends.{HasEndsIn, HaveEndsIn};
 ghost use Rattle.ps_places.specs.RowCells.{all_cells};
 

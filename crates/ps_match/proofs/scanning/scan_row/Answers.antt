@@ -4,7 +4,8 @@ use Rattle.ps_model.specs.board.Grid.{Grid}
 use Rattle.ps_model.specs.board.Places.{fits_there}
 use Rattle.ps_program.specs.ProgramShown.{mask_shown}
 use Rattle.ps_match.specs.InRoom.{meaning_of_mask}
-use Rattle.ps_match.proofs.Scanned.{scanned-none, scanned-more, row-scanned, cell_below, fits_at}
+use Rattle.ps_board.proofs.PassedColumns.{scanned-none, scanned-more, cell_below}
+use Rattle.ps_match.proofs.Scanned.{row-scanned, fits_at}
 use Rattle.ps_match.proofs.scanning.scan_row.Goals as goal
 
 pub loop-column-init : goal.loop-column-init

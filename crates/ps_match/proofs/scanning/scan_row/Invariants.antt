@@ -3,7 +3,7 @@ use Rattle.std.specs.Prelude.{slice_get}
 use Rattle.ps_model.specs.board.Places.{fits_there}
 use Rattle.ps_program.specs.ProgramShown.{mask_shown}
 use Rattle.ps_match.specs.InRoom.{meaning_of_mask}
-use Rattle.ps_match.proofs.Scanned.{scanned}
+use Rattle.ps_board.proofs.PassedColumns.{scanned}
 use Rattle.ps_match.proofs.scanning.scan_row.Given as goal
 
 -- the cells that fit, of the columns passed by

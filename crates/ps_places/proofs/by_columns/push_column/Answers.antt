@@ -1,7 +1,7 @@
 use Rattle.std.proofs.Common.{◌∙◌, ◌+◌, ◌*◌, ◌<◌, Bool, List, [], ◌∷◌, cond, length, map, ap, arith}
 use Rattle.std.specs.Prelude.{slice_index_or}
 use Rattle.std.proofs.lemmas.List.{get_or_default}
-use Rattle.ps_match.specs.ColumnSets.{column_at}
+use Rattle.ps_board.specs.ColumnSets.{column_at}
 use Rattle.ps_places.specs.Stretches.{cells_of, stretch_of}
 use Rattle.ps_places.proofs.Gathering.{one_kept, one_more_list}
 use Rattle.ps_places.proofs.by_columns.push_column.Goals as goal

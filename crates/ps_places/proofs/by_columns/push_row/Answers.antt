@@ -1,6 +1,6 @@
 use Rattle.std.proofs.Common.{◌≡◌, ◌∙◌, ◌++◌, ◌+◌, ◌*◌, ℕ, List, [], map, refl, sym, ap}
 use Rattle.std.proofs.lemmas.List.{append-nil}
-use Rattle.ps_match.specs.ColumnSets.{set_columns}
+use Rattle.ps_board.specs.ColumnSets.{set_columns}
 use Rattle.ps_places.specs.Stretches.{cells_of, stretch_of}
 use Rattle.ps_places.proofs.Gathering.{one_taken}
 use Rattle.ps_places.proofs.by_columns.push_row.Goals as goal

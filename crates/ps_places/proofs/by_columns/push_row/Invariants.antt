@@ -1,5 +1,5 @@
 use Rattle.std.proofs.Common.{◌≡◌, ◌++◌, ◌+◌, ◌*◌, length, map}
-use Rattle.ps_match.specs.ColumnSets.{set_columns}
+use Rattle.ps_board.specs.ColumnSets.{set_columns}
 use Rattle.ps_places.specs.declared.shape.Shape.{Shape}
 use Rattle.ps_places.specs.Stretches.{cells_of, stretch_of}
 use Rattle.ps_places.proofs.by_columns.push_row.Given as goal

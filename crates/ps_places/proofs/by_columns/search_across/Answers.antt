@@ -1,5 +1,5 @@
 use Rattle.std.proofs.Common.{◌∙◌, ◌<◌, ◌+◌, ◌*◌, ℕ, List, Bool, length, map, sym, ap}
-use Rattle.ps_match.specs.ColumnSets.{set_columns}
+use Rattle.ps_board.specs.ColumnSets.{set_columns}
 use Rattle.ps_places.specs.Stretches.{cells_of, stretch_of}
 use Rattle.ps_places.specs.RowMeanings.{part_sizes, row_places_at}
 use Rattle.ps_places.proofs.ByColumns.{across-places}

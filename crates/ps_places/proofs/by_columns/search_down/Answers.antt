@@ -2,7 +2,7 @@ use Rattle.std.proofs.Common.{◌≡◌, ◌∙◌, ◌<◌, ◌*◌, ◌++◌, 
 use Rattle.std.specs.List.{flat_map, range_with_len}
 use Rattle.std.proofs.lemmas.List.{append-nil}
 use Rattle.ps_model.specs.declared.limits.TheConstants.{SIDE_LIMIT}
-use Rattle.ps_match.specs.ColumnSets.{column_at}
+use Rattle.ps_board.specs.ColumnSets.{column_at}
 use Rattle.ps_places.specs.declared.shape.Place.{Place}
 use Rattle.ps_places.specs.Stretches.{cells_of}
 use Rattle.ps_places.specs.RowMeanings.{vertical_at, part_sizes}

@@ -1,6 +1,6 @@
 use Rattle.std.proofs.Common.{List, Bool, [], ◌∙◌, ap}
 use Rattle.std.proofs.lemmas.List.{get_or_default}
-use Rattle.ps_match.specs.ColumnSets.{column_at}
+use Rattle.ps_board.specs.ColumnSets.{column_at}
 use Rattle.ps_places.proofs.ends.may_end.Goals as goal
 
 pub returns : goal.returns

@@ -1,5 +1,5 @@
 use Rattle.std.proofs.Common.{◌≡◌, ◌∙◌, ℕ, ◌<◌, ◌+◌, ◌*◌, Bool, true, false, List, length, refl, sym, ap, rules}
-use Rattle.ps_match.specs.ColumnSets.{set_columns}
+use Rattle.ps_board.specs.ColumnSets.{set_columns}
 use Rattle.ps_places.specs.Found.{has_one}
 use Rattle.ps_places.specs.RowMeanings.{part_sizes, row_places_at}
 use Rattle.ps_places.specs.Stretches.{stretch_of}

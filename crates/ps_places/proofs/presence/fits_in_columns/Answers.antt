@@ -1,6 +1,6 @@
 use Rattle.std.proofs.Common.{◌≡◌, ◌∙◌, ℕ, ◌-◌, ◌*◌, ◌%◌, ◌<◌, true, false, sym, ap, rules, ◌/◌, Bool, [], cond}
 use Rattle.std.specs.Prelude.{slice_index_or}
-use Rattle.ps_match.specs.ColumnSets.{column_at}
+use Rattle.ps_board.specs.ColumnSets.{column_at}
 use Rattle.ps_places.specs.Stretches.{gap_count}
 use Rattle.ps_places.specs.RowMeanings.{part_sizes, places_at, vertical_at}
 use Rattle.ps_places.proofs.EndColumns.{at_cell}

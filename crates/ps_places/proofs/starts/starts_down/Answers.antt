@@ -1,5 +1,5 @@
 use Rattle.std.proofs.Common.{◌∙◌, ap, arith}
-use Rattle.ps_match.specs.ColumnSets.{columns_below}
+use Rattle.ps_board.specs.ColumnSets.{columns_below}
 use Rattle.ps_places.proofs.Begins.{down-none, down-all}
 use Rattle.ps_places.proofs.starts.starts_down.Goals as goal
 

@@ -1,5 +1,5 @@
 use Rattle.std.proofs.Common.{◌∙◌, ap₂, sym, subst, arith}
-use Rattle.ps_match.specs.ColumnSets.{both_columns}
+use Rattle.ps_board.specs.ColumnSets.{both_columns}
 use Rattle.ps_places.specs.Starts.{AreWhere, has_room}
 use Rattle.ps_places.proofs.Begins.{room-none, room-some}
 use Rattle.ps_places.proofs.starts.with_room.Goals as goal

@@ -1,4 +1,4 @@
-use Rattle.std.proofs.Common.{◌≡◌, ◌*◌, ◌∙◌, length, sym}
+use Rattle.std.proofs.Common.{◌∙◌, sym}
 use Rattle.ps_board.proofs.SameSlots.{same_boards}
 use Rattle.ps_board.proofs.list_board.ListBoardBoard.same.Goals as goal
 

@@ -2,9 +2,9 @@ use Rattle.std.proofs.Common.{◌≡◌, ◌+◌, ◌*◌, ◌<◌, ◌∙◌, �
 use Rattle.std.specs.Prelude.{slice_get}
 use Rattle.ps_model.specs.board.Places.{fits_there}
 use Rattle.ps_program.specs.ProgramShown.{mask_shown}
-use Rattle.ps_match.specs.ColumnSets.{bit_is_set}
+use Rattle.ps_board.specs.ColumnSets.{bit_is_set}
 use Rattle.ps_match.specs.InRoom.{meaning_of_mask}
-use Rattle.ps_match.proofs.ColumnLaws.{columns-agree}
+use Rattle.ps_board.proofs.ColumnLaws.{columns-agree}
 use Rattle.ps_rows.specs.Planes.{has_column}
 use Rattle.ps_rows.specs.Showing.{cells_shown}
 use Rattle.ps_rows.proofs.Rows.{row_told}

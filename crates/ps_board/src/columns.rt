@@ -2,8 +2,8 @@
 
 ghost use Rattle.std.specs.Prelude.{◌≡◌, ◌<◌, [], ◌∷◌, None, IfSome, false, length, true};
 ghost use Rattle.ps_model.specs.declared.limits.TheConstants.{SIDE_LIMIT};
-ghost use Rattle.ps_match.specs.ColumnSets.{both_columns, column_at, columns_behind, columns_below, either_columns};
-ghost use Rattle.ps_match.specs.ColumnSets.{no_columns, set_columns, with_column, word_columns};
+ghost use Rattle.ps_board.specs.ColumnSets.{both_columns, column_at, columns_behind, columns_below, either_columns};
+ghost use Rattle.ps_board.specs.ColumnSets.{no_columns, set_columns, with_column, word_columns};
 
 use ps_model::SIDE_LIMIT;
 use std::marker::Model;
@@ -19,8 +19,8 @@ impl Model for Columns {
     ghost use Rattle.std.specs.Prelude.{Bool, List};
     ghost use Rattle.std.specs.Prelude.{ℕ, ◌<◌, ◌^◌};
     ghost use Rattle.std.proofs.Common.{ap};
-    ghost use Rattle.ps_match.specs.ColumnSets.{columns_word, word_columns};
-    ghost use Rattle.ps_match.specs.WordsOfColumns.{columns_word-of};
+    ghost use Rattle.ps_board.specs.ColumnSets.{columns_word, word_columns};
+    ghost use Rattle.ps_board.specs.WordsOfColumns.{columns_word-of};
 
     ghost Value = { List Bool };
 

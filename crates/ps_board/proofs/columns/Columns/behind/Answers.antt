@@ -1,7 +1,7 @@
 use Rattle.std.proofs.Common.{List, Bool, ◌∙◌, ap}
-use Rattle.ps_match.specs.ColumnSets.{columns_behind}
-use Rattle.ps_match.proofs.ColumnWords.{moved_word, moved_out}
-use Rattle.ps_match.proofs.columns.Columns.behind.Goals as goal
+use Rattle.ps_board.specs.ColumnSets.{columns_behind}
+use Rattle.ps_board.proofs.ColumnWords.{moved_word, moved_out}
+use Rattle.ps_board.proofs.columns.Columns.behind.Goals as goal
 
 pub returns-then-count-ge-SIDE_LIMIT : goal.returns-then-count-ge-SIDE_LIMIT
 returns-then-count-ge-SIDE_LIMIT c =

@@ -6,7 +6,7 @@ use Rattle.std.specs.Int.{bit_at}
 use Rattle.std.proofs.Math.Nat.{mod-one, mod-eq_of_lt, div-one, div-div-eq-div-mul}
 use Rattle.std.proofs.lemmas.Nat.{pow-add, mod-pow-add}
 use Rattle.ps_model.specs.declared.limits.TheConstants.{SIDE_LIMIT}
-use Rattle.ps_match.specs.ColumnSets.{bit_is_set, columns_where, columns_word, word_columns}
+use Rattle.ps_board.specs.ColumnSets.{bit_is_set, columns_where, columns_word, word_columns}
 
 -- a bit is 0 or 1
 bit_again : (bit : ℕ) → bit < 2 → (if nat_eq bit 1 then 1 else 0) ≡ bit

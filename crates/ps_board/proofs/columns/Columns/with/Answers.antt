@@ -1,7 +1,7 @@
 use Rattle.std.proofs.Common.{◌∙◌, ap, sym, arith, List, Bool, true, false}
-use Rattle.ps_match.specs.ColumnSets.{with_column}
-use Rattle.ps_match.proofs.ColumnWords.{kept_word, set_word, cleared_word, set_below}
-use Rattle.ps_match.proofs.columns.Columns.with.Goals as goal
+use Rattle.ps_board.specs.ColumnSets.{with_column}
+use Rattle.ps_board.proofs.ColumnWords.{kept_word, set_word, cleared_word, set_below}
+use Rattle.ps_board.proofs.columns.Columns.with.Goals as goal
 
 pub returns-then-column-ge-SIDE_LIMIT : goal.returns-then-column-ge-SIDE_LIMIT
 returns-then-column-ge-SIDE_LIMIT c =

@@ -1,7 +1,7 @@
 use Rattle.std.proofs.Common.{List, Bool, ◌∙◌, ap, arith}
-use Rattle.ps_match.specs.ColumnSets.{column_at}
-use Rattle.ps_match.proofs.ColumnWords.{tested_word, tested_beyond}
-use Rattle.ps_match.proofs.columns.Columns.has.Goals as goal
+use Rattle.ps_board.specs.ColumnSets.{column_at}
+use Rattle.ps_board.proofs.ColumnWords.{tested_word, tested_beyond}
+use Rattle.ps_board.proofs.columns.Columns.has.Goals as goal
 
 pub returns-then-column-ge-SIDE_LIMIT : goal.returns-then-column-ge-SIDE_LIMIT
 returns-then-column-ge-SIDE_LIMIT c =

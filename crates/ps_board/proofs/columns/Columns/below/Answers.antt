@@ -1,6 +1,6 @@
 use Rattle.std.proofs.Common.{arith}
-use Rattle.ps_match.proofs.ColumnWords.{below_all, below_some}
-use Rattle.ps_match.proofs.columns.Columns.below.Goals as goal
+use Rattle.ps_board.proofs.ColumnWords.{below_all, below_some}
+use Rattle.ps_board.proofs.columns.Columns.below.Goals as goal
 
 pub returns-then-count-ge-SIDE_LIMIT : goal.returns-then-count-ge-SIDE_LIMIT
 returns-then-count-ge-SIDE_LIMIT c = below_all c.args.count c.if-count-ge-SIDE_LIMIT.true

@@ -6,7 +6,7 @@ use Rattle.std.proofs.lemmas.Bool.Decides.{nat_tests}
 use Rattle.std.proofs.lemmas.List.{get_or_past}
 use Rattle.std.proofs.lemmas.List.FromFn.{length-map-range_with_len, get_or-map-range_with_len}
 use Rattle.ps_model.specs.declared.limits.TheConstants.{SIDE_LIMIT}
-use Rattle.ps_match.specs.ColumnSets.{columns_where, column_at, set_columns, no_columns}
+use Rattle.ps_board.specs.ColumnSets.{columns_where, column_at, set_columns, no_columns}
 
 -- a column below the last one, and one beyond
 pub column_at-where : (holds : ℕ → Bool) (x : ℕ) → x < SIDE_LIMIT → column_at (columns_where holds) x ≡ holds x

@@ -7,8 +7,8 @@ use Rattle.std.proofs.lemmas.Nat.{or_lt, pow-add}
 use Rattle.std.proofs.lemmas.Nat.Bits.{bit_at-zero, bit_at-lt, bit_at_and, bit_at_or, bit_at_above, bit_at_ones, bit_at_ones_above, ones_shr, bit_at_set_same, bit_at_set_other, bit_at_clear_same, bit_at_clear_other, bit_at-trailing_zeros, shr_and_one}
 use Rattle.std.proofs.Math.Nat.{div-div-eq-div-mul, mod-lt}
 use Rattle.ps_model.specs.declared.limits.TheConstants.{SIDE_LIMIT}
-use Rattle.ps_match.specs.ColumnSets.{column_at, set_columns, bit_is_set, word_columns, with_column, both_columns, either_columns, columns_behind, columns_below, no_columns}
-use Rattle.ps_match.proofs.ColumnLaws.{column_at-where, column_at-beyond, column_at-all, columns-agree, set_columns-first, set_columns-none}
+use Rattle.ps_board.specs.ColumnSets.{column_at, set_columns, bit_is_set, word_columns, with_column, both_columns, either_columns, columns_behind, columns_below, no_columns}
+use Rattle.ps_board.proofs.ColumnLaws.{column_at-where, column_at-beyond, column_at-all, columns-agree, set_columns-first, set_columns-none}
 
 -- the bits of two words, taken together
 min_bits : (p q : ℕ) → p < 2 → q < 2 → nat_eq (min p q) 1 ≡ (nat_eq p 1 && nat_eq q 1)

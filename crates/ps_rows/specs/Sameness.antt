@@ -1,0 +1,24 @@
+-- Two boards of the same size for the same game: where their words have the same cells.
+use Rattle.std.specs.Prelude.{◌≡◌, ◌<◌, ◌+◌, ◌*◌, ℕ, nat_eq, true, List, slice_index}
+
+use Rattle.std.specs.List.{list_any}
+use Rattle.ps_rows.specs.Planes.{has_column}
+use Rattle.ps_rows.specs.Showing.{slot_shown}
+
+-- two words have the same columns, of so many from the left on
+abbrev pub AreSameRows : ℕ → ℕ → ℕ → Type 0
+AreSameRows width first second = (x : ℕ) → x < width → has_column first x ≡ has_column second x
+
+-- a plane has the same cells in both
+abbrev pub IsSamePlane : ℕ → ℕ → List ℕ → List ℕ → ℕ → Type 0
+IsSamePlane width height first second plane = (row : ℕ) → row < height →
+    AreSameRows width (slice_index first (plane * height + row)) (slice_index second (plane * height + row))
+
+-- each of these planes has
+abbrev pub AreSamePlanes : ℕ → ℕ → List ℕ → List ℕ → List ℕ → Type 0
+AreSamePlanes width height first second planes = (plane : ℕ) → list_any (nat_eq plane) planes ≡ true → IsSamePlane width height first second plane
+
+-- a layer shows the same in each cell
+abbrev pub IsSameLayer : List ℕ → ℕ → ℕ → List ℕ → List ℕ → ℕ → Type 0
+IsSameLayer table width height first second layer = (cell : ℕ) → cell < width * height →
+    slot_shown table height first cell layer ≡ slot_shown table height second cell layer
