@@ -1,11 +1,10 @@
 //! A list board, matched and rewritten slot by slot.
 
-use crate::columns::Columns;
 use crate::fitting::fits_cell;
 use crate::scan::Scan;
 use crate::scanning::scan_row;
 use crate::writing::write_cell;
-use ps_board::{Board, ListBoard};
+use ps_board::{Board, Columns, ListBoard};
 use ps_program::{CellMask, CellWrite};
 
 impl Scan for ListBoard {

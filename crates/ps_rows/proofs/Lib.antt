@@ -10,3 +10,4 @@ pub mod Rests
 pub mod Whole
 pub mod Scans
 pub mod Rows
+pub mod Alike

@@ -32,7 +32,7 @@ use Rattle.ps_rows.proofs.Tables.{tabled_at}
 
 -- bits -------------------------------------------------------------------------------------------------------------------
 
-bit_cases : (n i : ℕ) → (bit_at n i ≡ 0) ⊎ (bit_at n i ≡ 1)
+pub bit_cases : (n i : ℕ) → (bit_at n i ≡ 0) ⊎ (bit_at n i ≡ 1)
 bit_cases n i = let low : bit_at n i < 2 = bit_at-lt n i in elim (cases_eq (bit_at n i) 0) [ inl e ↦ inl e | inr e ↦ inr (omega arith) ]
 
 pub has_column-and : (a b x : ℕ) → has_column (bit_and a b) x ≡ (has_column a x && has_column b x)

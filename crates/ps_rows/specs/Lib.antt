@@ -2,3 +2,4 @@ pub mod Planes
 pub mod Members
 pub mod Showing
 pub mod RowTests
+pub mod Sameness

@@ -1,6 +1,5 @@
 -- Two boards of the same size for the same game: where their words have the same cells.
 use Rattle.std.specs.Prelude.{◌≡◌, ◌<◌, ◌+◌, ◌*◌, ℕ, nat_eq, true, List, slice_index}
-
 use Rattle.std.specs.List.{list_any}
 use Rattle.ps_rows.specs.Planes.{has_column}
 use Rattle.ps_rows.specs.Showing.{slot_shown}

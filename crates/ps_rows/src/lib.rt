@@ -9,6 +9,7 @@ mod motions;
 mod planes;
 mod row_board;
 mod row_scan;
+mod sameness;
 mod scanning;
 
 pub use ps_board::Board;

@@ -1,16 +1,18 @@
 //! A board of rows of bits.
 
-ghost use Rattle.std.specs.Prelude.{◌≡◌, ◌+◌, ◌*◌, ◌/◌, ◌^◌, ◌<◌, ◌≤◌, ◌&&◌, ℕ, Some, List, length, nat_lt};
+ghost use Rattle.std.specs.Prelude.{◌≡◌, ◌+◌, ◌*◌, ◌/◌, ◌^◌, ◌<◌, ◌≤◌, ◌&&◌, ℕ, Some, List, length, nat_lt, true};
 ghost use Rattle.std.specs.Prelude.{option_map, replicate, slice_get, slice_index, vec_len};
 ghost use Rattle.ps_model.specs.board.Movement.{is_number};
 ghost use Rattle.ps_model.specs.declared.limits.TheConstants.{LAYER_LIMIT, SIDE_LIMIT};
 ghost use Rattle.ps_rows.specs.Planes.{HavePlanes};
+ghost use Rattle.ps_rows.specs.Sameness.{IsSameLayer};
 ghost use Rattle.ps_rows.specs.Showing.{AreMotionsShown, AreObjectsShown, cleared_from, grid_shown};
 ghost use Rattle.ps_rows.specs.Showing.{motions_from, numbered, object_shown, with_slot_in};
 
 use crate::members::Members;
 use crate::motions::{choose_motion, first_motion};
 use crate::planes::{choose_plane, first_plane, plane_row};
+use crate::sameness::same_planes;
 use ps_board::Board;
 use ps_model::{LayerId, Memory, Motion, ObjectId};
 use std::alloc::Global;
@@ -141,6 +143,30 @@ impl RowBoard {
         let planes = self.members.of(layer);
         first_plane(self.words.as_slice(), self.height, cell, planes)
     }
+
+    /// Whether a layer shows the same on another board of the same size for the same game.
+    fn same_layer(&self, other: &RowBoard, layer: u32) -> bool
+        requires layer { layer < self.now.layers }
+        requires width { other.now.width ≡ self.now.width }
+        requires height { other.now.height ≡ self.now.height }
+        requires layers { other.now.layers ≡ self.now.layers }
+        requires table { other.now.members.table.items ≡ self.now.members.table.items }
+        ensures same { let b = self.now in result ≡ true →
+            IsSameLayer b.members.table.items b.width b.height b.words.items other.now.words.items layer }
+        ensures other { let b = self.now in
+            IsSameLayer b.members.table.items b.width b.height b.words.items other.now.words.items layer →
+            result ≡ true }
+    {
+        let here = self.words.as_slice();
+        let there = other.words.as_slice();
+        let objects = self.members.of(layer);
+        if !same_planes(here, there, self.width, self.height, objects) {
+            return false;
+        }
+        let first = self.motions_from(layer);
+        let motions = [first, first + 1, first + 2, first + 3, first + 4];
+        same_planes(here, there, self.width, self.height, &motions)
+    }
 }
 
 impl Board for RowBoard {
@@ -223,6 +249,15 @@ impl Board for RowBoard {
     fn copy_into(&self, other: &mut RowBoard) {
         other.words.copy_from_slice(&self.words);
     }
+
+    fn same(&self, other: &RowBoard) -> bool {
+        for layer in 0..self.layers {
+            if !self.same_layer(other, layer) {
+                return false;
+            }
+        }
+        true
+    }
 }
 
 #[cfg(test)]
@@ -292,8 +327,11 @@ mod tests {
         let mut board = RowBoard::try_empty(rt.alloc(), 1, 2, 2, &OWN_LAYERS)?;
         let mut other = board.try_copy(rt.alloc())?;
         board.put(1, LayerId(0), Some(ObjectId(1)), PUSHED);
+        assert!(rt; !board.same(&other));
         board.copy_into(&mut other);
+        assert!(rt; board.same(&other));
         board.clear_moves();
+        assert!(rt; !board.same(&other));
         assert_eq!(rt; board.object(1, LayerId(0)), Some(ObjectId(1)));
         assert_eq!(rt; board.motion(1, LayerId(0)), Motion::Still);
         assert_eq!(rt; other.object(0, LayerId(0)), None);

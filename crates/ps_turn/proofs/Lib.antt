@@ -1,3 +1,2 @@
-mod SameBoards
 mod Stayed
 mod Sweeps

@@ -1,11 +1,10 @@
 -- How an input is given, slot by slot, to a board at rest.
-use Rattle.std.specs.Prelude.{ℕ, if◌then◌else◌, Bool, true, false, ◌&&◌, Option, Some, None, List, slice_set}
+use Rattle.std.specs.Prelude.{ℕ, if◌then◌else◌, List, slice_set}
 use Rattle.ps_model.specs.declared.pieces.Motion.{Motion}
 use Rattle.ps_model.specs.declared.pieces.ObjectId.{ObjectId}
 use Rattle.ps_model.specs.declared.pieces.Slot.{Slot}
 use Rattle.ps_model.specs.declared.pieces.Slot.TheVariants.{Bare, Holds}
-use Rattle.ps_model.specs.names.Names.{is_among, same_object}
-use Rattle.ps_model.specs.meaning.Fitting.{same_motion}
+use Rattle.ps_model.specs.names.Names.{is_among}
 use Rattle.ps_model.specs.board.Grid.{Grid}
 
 -- a slot whose object, if it is one of these, gets the motion, and else keeps its own
@@ -20,10 +19,3 @@ grid_with_cell g cell slots = record g { cells = slice_set g.cells cell slots }
 -- the grid with other cells
 abbrev pub grid_with_cells : Grid → List (List Slot) → Grid
 grid_with_cells g cells = record g { cells = cells }
-
--- two slots, by their objects and motions, hold the same
-abbrev pub same_parts : Option ObjectId → Motion → Option ObjectId → Motion → Bool
-same_parts None motion None other = true
-same_parts None motion (Some second) other = false
-same_parts (Some first) motion None other = false
-same_parts (Some first) motion (Some second) other = same_object first second && same_motion motion other

@@ -8,7 +8,6 @@ ghost use Rattle.ps_levels.specs.WinsShown.{wins_shown};
 ghost use Rattle.ps_turn.specs.States.{HaveSameSides, queue_shown, state_of, script_with, done_shown, outcome_shown};
 ghost use Rattle.ps_turn.specs.States.{is_done};
 
-use crate::boards::same_cells;
 use crate::inputs::{give_motion, motion_for};
 use crate::outcomes::{DoneTurn, Turned};
 use crate::players::stayed;
@@ -124,12 +123,13 @@ fn message_of(queue: Queue) -> Option<Text>
 
 /// A done turn, by the boards before and after it.
 fn done<B: Board>(game: &TurnGame<'_>, before: &B, after: &B, queue: Queue) -> DoneTurn
-    requires { HaveSameSides (B.grid after.now) (B.grid before.now) }
+    requires sides { HaveSameSides (B.grid after.now) (B.grid before.now) }
+    requires table { B.table after.now ≡ B.table before.now }
     ensures { done_shown result (B.grid after.now)
         ≡ done_with (script_with game.now [] []) (state_of (B.grid after.now) (queue_shown queue)) (not (same_cells
         (B.grid before.now).cells (B.grid after.now).cells)) }
 {
-    let changed = !same_cells(before, after);
+    let changed = !before.same(after);
     DoneTurn {
         changed,
         checkpoint: queue.checkpoint,

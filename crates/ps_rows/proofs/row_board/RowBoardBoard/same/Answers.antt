@@ -1,0 +1,22 @@
+use Rattle.std.proofs.Common.{◌≡◌, ◌<◌, ◌≤◌, ℕ, List, arith}
+use Rattle.std.proofs.lemmas.Option.{same_Some}
+use Rattle.ps_rows.proofs.Alike.{board_same, board_other}
+use Rattle.ps_rows.proofs.row_board.RowBoardBoard.same.Goals as goal
+
+pub returns-then-not-same_layer : goal.returns-then-not-same_layer
+returns-then-not-same_layer c =
+    let b = c.args.self.now in
+    let o = c.args.other.now in
+    let tables : o.members.table.items ≡ b.members.table.items = same_Some o.members.table.items b.members.table.items c.requires.table in
+    let on : c.loop-layer.layer < b.layers = c.loop-layer-test.true in
+    rw (tables, c.requires.layers, c.requires.height, c.requires.width)
+    (board_other b.members.table.items b.width b.height b.layers b.words.items o.words.items c.loop-layer.layer c.same_layer.result on c.if-not-same_layer.true c.same_layer.ensures.other)
+
+pub returns : goal.returns
+returns c =
+    let b = c.args.self.now in
+    let o = c.args.other.now in
+    let tables : o.members.table.items ≡ b.members.table.items = same_Some o.members.table.items b.members.table.items c.requires.table in
+    let end : b.layers ≤ c.loop-layer.layer = c.loop-layer-test.false in
+    rw (tables, c.requires.layers, c.requires.height, c.requires.width)
+    (board_same b.members.table.items b.width b.height b.layers b.words.items o.words.items (λ layer low. c.loop-layer.invariant layer (omega arith)))

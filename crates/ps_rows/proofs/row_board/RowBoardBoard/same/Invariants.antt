@@ -1,0 +1,8 @@
+use Rattle.std.proofs.Common.{ℕ, ◌<◌}
+use Rattle.ps_rows.specs.Sameness.{IsSameLayer}
+use Rattle.ps_rows.proofs.row_board.RowBoardBoard.same.Given as goal
+
+-- the layers passed by are the same
+abbrev pub invariant-loop-layer : goal.invariant-loop-layer
+invariant-loop-layer l =
+    (layer : ℕ) → layer < l.layer → IsSameLayer l.self.members.table.items l.self.width l.self.height l.self.words.items l.other.words.items layer

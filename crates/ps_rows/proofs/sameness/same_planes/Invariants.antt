@@ -1,0 +1,7 @@
+use Rattle.std.proofs.Common.{take}
+use Rattle.ps_rows.specs.Sameness.{AreSamePlanes}
+use Rattle.ps_rows.proofs.sameness.same_planes.Given as goal
+
+-- the planes passed by are the same
+abbrev pub invariant-loop-plane : goal.invariant-loop-plane
+invariant-loop-plane l = AreSamePlanes l.width l.height l.first l.second (take l.plane-index l.planes)
