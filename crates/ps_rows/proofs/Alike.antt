@@ -4,7 +4,6 @@ use Rattle.std.specs.Prelude.{nat_eq, nat_lt, slice_get, option_map}
 use Rattle.std.specs.List.{list_any}
 use Rattle.std.specs.Int.{bit_at}
 use Rattle.std.proofs.lemmas.Bool.{cases_eq, cases_lt, cases_Bool, eqb-true, eq-eqb, or_cases, and_parts, false≢true, lt-ltb, le-ltb}
-use Rattle.std.proofs.Math.Nat.{mul-le-mul_right}
 use Rattle.std.proofs.lemmas.Nat.{mul-add-lt, div-mul-add, mod-mul-add, mod_below, div_below}
 use Rattle.std.proofs.lemmas.Nat.Bits.{same_from_bits, bit_at_xor, bit_at-zero}
 use Rattle.ps_model.specs.declared.pieces.ObjectId.{ObjectId}
@@ -154,13 +153,6 @@ five_motion first q low high = elim (cases_eq q first) [
     ]
 ]
 
--- the words hold the five planes of a layer's motions
-pub five_whole : (first height long : ℕ) → (first + 5) * height ≤ long → (plane : ℕ) → list_any (nat_eq plane) (motion_planes first) ≡ true → (plane + 1) * height ≤ long
-five_whole first height long whole plane listed =
-    let low : plane + 1 ≤ first + 5 = five_high first plane listed in
-    let within : (plane + 1) * height ≤ (first + 5) * height = mul-le-mul_right height low in
-    omega (arith, whole, within)
-
 -- the words of another board of the same size for the same game are as many
 pub other_whole : (table table' : List ℕ) (layers layers' height height' long : ℕ) → table' ≡ table → layers' ≡ layers → height' ≡ height → long ≡ motions_from table' layers' * height' →
     long ≡ motions_from table layers * height
@@ -307,11 +299,11 @@ layer_of_board table width height layers first second layer on same = λ cell in
 
 pub board_other : (table : List ℕ) (width height layers : ℕ) (first second : List ℕ) (layer : ℕ) (told : Bool) → layer < layers → told ≡ false →
     (IsSameLayer table width height first second layer → told ≡ true) → false ≡ shown_same table width height layers first second
-board_other table width height layers first second layer told on fails yes = elim (cases_Bool (shown_same table width height layers first second)) [
+board_other table width height layers first second layer told on fails tells = elim (cases_Bool (shown_same table width height layers first second)) [
   | inl h ↦
       absurd (false≢true
         (sym fails
-        ∙ yes (layer_of_board table width height layers first second layer on
+        ∙ tells (layer_of_board table width height layers first second layer on
           (cells_known (cells_shown table layers height first (width * height)) (cells_shown table layers height second (width * height)) h))))
   | inr h ↦ sym h
 ]
