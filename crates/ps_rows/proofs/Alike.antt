@@ -47,25 +47,25 @@ bit_off word x h = elim (bit_cases word x) [ inl e ↦ e | inr e ↦ absurd (fal
 differ_not : (a b x : ℕ) → has_column a x ≡ has_column b x → has_column (bit_xor a b) x ≡ false
 differ_not a b x same = elim (bit_cases a x) [
   | inl e ↦ elim (bit_cases b x) [
-      | inl f ↦ column_off (bit_xor a b) x (rw (bit_at_xor, e, f) refl)
-      | inr f ↦ absurd (false≢true (sym (column_off a x e) ∙ same ∙ column_on b x f))
-    ]
+    | inl f ↦ column_off (bit_xor a b) x (rw (bit_at_xor, e, f) refl)
+    | inr f ↦ absurd (false≢true (sym (column_off a x e) ∙ same ∙ column_on b x f))
+  ]
   | inr e ↦ elim (bit_cases b x) [
-      | inl f ↦ absurd (false≢true (sym (column_off b x f) ∙ sym same ∙ column_on a x e))
-      | inr f ↦ column_off (bit_xor a b) x (rw (bit_at_xor, e, f) refl)
-    ]
+    | inl f ↦ absurd (false≢true (sym (column_off b x f) ∙ sym same ∙ column_on a x e))
+    | inr f ↦ column_off (bit_xor a b) x (rw (bit_at_xor, e, f) refl)
+  ]
 ]
 
 not_differ : (a b x : ℕ) → has_column (bit_xor a b) x ≡ false → has_column a x ≡ has_column b x
 not_differ a b x none = elim (bit_cases a x) [
   | inl e ↦ elim (bit_cases b x) [
-      | inl f ↦ column_off a x e ∙ sym (column_off b x f)
-      | inr f ↦ absurd (false≢true (sym none ∙ column_on (bit_xor a b) x (rw (bit_at_xor, e, f) refl)))
-    ]
+    | inl f ↦ column_off a x e ∙ sym (column_off b x f)
+    | inr f ↦ absurd (false≢true (sym none ∙ column_on (bit_xor a b) x (rw (bit_at_xor, e, f) refl)))
+  ]
   | inr e ↦ elim (bit_cases b x) [
-      | inl f ↦ absurd (false≢true (sym none ∙ column_on (bit_xor a b) x (rw (bit_at_xor, e, f) refl)))
-      | inr f ↦ column_on a x e ∙ sym (column_on b x f)
-    ]
+    | inl f ↦ absurd (false≢true (sym none ∙ column_on (bit_xor a b) x (rw (bit_at_xor, e, f) refl)))
+    | inr f ↦ column_on a x e ∙ sym (column_on b x f)
+  ]
 ]
 
 and_true : (b : Bool) → (b && true) ≡ b
@@ -127,30 +127,30 @@ five_in : (first q : ℕ) → first ≤ q → q < first + 5 → list_any (nat_eq
 five_in first q low high = elim (cases_eq q first) [
   | inl e ↦ five_true first (Going Up) q (ap Some (sym e))
   | inr a ↦ elim (cases_eq q (first + 1)) [
-      | inl e ↦ five_true first (Going Down) q (ap Some (sym e))
-      | inr b ↦ elim (cases_eq q (first + 2)) [
-          | inl e ↦ five_true first (Going Left) q (ap Some (sym e))
-          | inr d ↦ elim (cases_eq q (first + 3)) [
-              | inl e ↦ five_true first (Going Right) q (ap Some (sym e))
-              | inr f ↦ let e : first + 4 ≡ q = omega arith in five_true first Acting q (ap Some e)
-            ]
-        ]
+    | inl e ↦ five_true first (Going Down) q (ap Some (sym e))
+    | inr b ↦ elim (cases_eq q (first + 2)) [
+      | inl e ↦ five_true first (Going Left) q (ap Some (sym e))
+      | inr d ↦ elim (cases_eq q (first + 3)) [
+        | inl e ↦ five_true first (Going Right) q (ap Some (sym e))
+        | inr f ↦ let e : first + 4 ≡ q = omega arith in five_true first Acting q (ap Some e)
+      ]
     ]
+  ]
 ]
 
 five_motion : (first q : ℕ) → first ≤ q → q < first + 5 → (m : Motion) × (motion_plane first m ≡ Some q)
 five_motion first q low high = elim (cases_eq q first) [
   | inl e ↦ (Going Up, ap Some (sym e))
   | inr a ↦ elim (cases_eq q (first + 1)) [
-      | inl e ↦ (Going Down, ap Some (sym e))
-      | inr b ↦ elim (cases_eq q (first + 2)) [
-          | inl e ↦ (Going Left, ap Some (sym e))
-          | inr d ↦ elim (cases_eq q (first + 3)) [
-              | inl e ↦ (Going Right, ap Some (sym e))
-              | inr f ↦ let e : first + 4 ≡ q = omega arith in (Acting, ap Some e)
-            ]
-        ]
+    | inl e ↦ (Going Down, ap Some (sym e))
+    | inr b ↦ elim (cases_eq q (first + 2)) [
+      | inl e ↦ (Going Left, ap Some (sym e))
+      | inr d ↦ elim (cases_eq q (first + 3)) [
+        | inl e ↦ (Going Right, ap Some (sym e))
+        | inr f ↦ let e : first + 4 ≡ q = omega arith in (Acting, ap Some e)
+      ]
     ]
+  ]
 ]
 
 -- the words of another board of the same size for the same game are as many
@@ -198,10 +198,10 @@ pub same_objects : (table : List ℕ) (width height : ℕ) (first second : List 
 same_objects table width height first second layer shown showing same = λ plane listed.
     let own : slice_get table plane ≡ Some layer = listed_member table layer plane listed in
     plane_of_cells width height first second plane (λ cell inside.
-      shown cell plane layer inside own
-      ∙ ap (λ (object : Option ℕ). is_number object plane)
-      (sym (slot_object table height first cell layer) ∙ ap (λ (slot : Slot). back (object_in slot)) (same cell inside) ∙ slot_object table height second cell layer)
-      ∙ sym (showing cell plane layer inside own))
+    shown cell plane layer inside own
+    ∙ ap (λ (object : Option ℕ). is_number object plane)
+    (sym (slot_object table height first cell layer) ∙ ap (λ (slot : Slot). back (object_in slot)) (same cell inside) ∙ slot_object table height second cell layer)
+    ∙ sym (showing cell plane layer inside own))
 
 five_low : (first q : ℕ) → list_any (nat_eq q) (motion_planes first) ≡ true → first ≤ q
 five_low first q h = elim (cases_lt q first) [ inl a ↦ absurd (false≢true (sym (five_false first q (inl a)) ∙ h)) | inr b ↦ b ]
@@ -212,9 +212,9 @@ pub same_moves : (table : List ℕ) (width height layers : ℕ) (first second : 
 same_moves table width height layers first second layer on shown showing same = λ plane listed.
     let found = five_motion (motions_from table layer) plane (five_low (motions_from table layer) plane listed) (five_high (motions_from table layer) plane listed) in
     plane_of_cells width height first second plane (λ cell inside.
-      shown cell layer found.0 plane inside on found.1
-      ∙ ap (λ (slot : Slot). same_motion found.0 (motion_in slot)) (same cell inside)
-      ∙ sym (showing cell layer found.0 plane inside on found.1))
+    shown cell layer found.0 plane inside on found.1
+    ∙ ap (λ (slot : Slot). same_motion found.0 (motion_in slot)) (same cell inside)
+    ∙ sym (showing cell layer found.0 plane inside on found.1))
 
 -- boards -----------------------------------------------------------------------------------------------------------------
 
@@ -302,8 +302,8 @@ pub board_other : (table : List ℕ) (width height layers : ℕ) (first second :
 board_other table width height layers first second layer told on fails tells = elim (cases_Bool (shown_same table width height layers first second)) [
   | inl h ↦
       absurd (false≢true
-        (sym fails
-        ∙ tells (layer_of_board table width height layers first second layer on
-          (cells_known (cells_shown table layers height first (width * height)) (cells_shown table layers height second (width * height)) h))))
+      (sym fails
+      ∙ tells (layer_of_board table width height layers first second layer on
+      (cells_known (cells_shown table layers height first (width * height)) (cells_shown table layers height second (width * height)) h))))
   | inr h ↦ sym h
 ]

@@ -17,7 +17,7 @@ same_planes-requires-clause-second c =
     let o = c.args.other.now in
     rw (c.as_slice-there.ensures.value, c.of-objects.ensures)
     (planes_whole b.members.table.items b.layers b.height o.words.items c.args.layer
-      (other_whole b.members.table.items o.members.table.items b.layers o.layers b.height o.height _ c.requires.table c.requires.layers c.requires.height (sym o.words.ok.0 ∙ o.whole)))
+    (other_whole b.members.table.items o.members.table.items b.layers o.layers b.height o.height _ c.requires.table c.requires.layers c.requires.height (sym o.words.ok.0 ∙ o.whole)))
 
 pub returns-then-not-same_planes-clause-other : goal.returns-then-not-same_planes-clause-other
 returns-then-not-same_planes-clause-other c = λ same.
