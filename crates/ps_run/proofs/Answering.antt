@@ -13,7 +13,7 @@ use Rattle.ps_model.specs.session.HeldKeys.{held, before_held}
 use Rattle.ps_model.specs.game.Games.{Game, game}
 use Rattle.ps_model.specs.game.Outputs.{Output, output, front, output_of_keys, opening_step, ending_of, texts_of_keys}
 use Rattle.ps_model.specs.game.Headline.{Answer, Answers, GoesOn, IsFront, IsCutOff, ReadsInTurn, IsCutOffWriting, IsWholeBefore, texts_of, ending_behind, script_of_text, StopsForMemory}
-use Rattle.ps_model.specs.game.Tellings.{Reading, Unasked, Asked, Told, Call, read, read_before}
+use Rattle.ps_model.specs.game.Tellings.{ReaderCalls, Unasked, Asked, Told, Call, read, read_before}
 use Rattle.ps_laws.specs.AlikeScripts.{SameRuns}
 use Rattle.ps_laws.specs.Fronts.{whole_front}
 use Rattle.ps_laws.proofs.keys.KeysInPieces.{keys_in_pieces, held_is_silent}
@@ -26,7 +26,7 @@ use Rattle.ps_run.proofs.Telling.{whole_is}
 same_going_on : (a b : Script) → SameRuns a b → (bytes : List ℕ) → GoesOn a bytes → GoesOn b bytes
 same_going_on a b same bytes on = sym (ap (λ (out : Output). out.ending) (same.outputs bytes)) ∙ on
 
-same_reading : (a b : Script) → SameRuns a b → (reading : Reading) (left : List ℕ) → ReadsInTurn a reading left → ReadsInTurn b reading left
+same_reading : (a b : Script) → SameRuns a b → (reading : ReaderCalls) (left : List ℕ) → ReadsInTurn a reading left → ReadsInTurn b reading left
 same_reading a b same Unasked left reads = tt
 same_reading a b same (Asked earlier last) left reads = record {
   pieces = reads.pieces;
@@ -54,7 +54,7 @@ same_cut a b same told (inr (none, cut)) = inr (
   },
 )
 
-same_whole : (a b : Script) → SameRuns a b → (reading : Reading) (wrote : List ℕ) → IsWholeBefore a reading wrote → IsWholeBefore b reading wrote
+same_whole : (a b : Script) → SameRuns a b → (reading : ReaderCalls) (wrote : List ℕ) → IsWholeBefore a reading wrote → IsWholeBefore b reading wrote
 same_whole a b same Unasked wrote whole = tt
 same_whole a b same (Asked earlier last) wrote (rest, is) = (rest, is ∙ ap (λ text. text ++ rest) (same_texts a b same (concat earlier)))
 

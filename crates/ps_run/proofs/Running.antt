@@ -13,7 +13,7 @@ use Rattle.ps_model.specs.game.Headline.{IsFront, IsCutOff, IsPiece, GoesOn, Ask
 use Rattle.ps_model.specs.game.Outputs.{Output, ending_of, output, opening_step, end_of_keys_line}
 use Rattle.ps_model.specs.declared.held.Held.TheVariants.{Nothing}
 use Rattle.ps_laws.proofs.sessions.SessionSteps.{fronts_are_texts}
-use Rattle.ps_model.specs.game.Tellings.{ReaderState, WriterState, Gives, Fails, Reading, Unasked, Asked, read, last_behind, most_calls}
+use Rattle.ps_model.specs.game.Tellings.{ReaderState, WriterState, Gives, Fails, ReaderCalls, Unasked, Asked, read, last_behind, most_calls}
 use Rattle.ps_laws.specs.Fronts.{session_of, whole_front}
 use Rattle.ps_laws.proofs.keys.Endings.{ends_otherwise}
 use Rattle.ps_laws.proofs.keys.Fronts.{output_of_ended, output_of_unended, output_once_ended}
@@ -157,7 +157,7 @@ one_more script had mid has before now later session next kept held count piece 
 -- the last call that may be has given a piece, and the game goes on
 pub limit_reached :
     (script : Script) (had has : ReaderState) (before now : WriterState) (session : Session) (kept : Held) (count : ℕ) →
-    had.has_failed ≡ false → has.has_failed ≡ false → now.has_failed ≡ false → count ≡ READ_LIMIT → (reading : Reading) → IsAsked script reading → call_count reading ≡ count →
+    had.has_failed ≡ false → has.has_failed ≡ false → now.has_failed ≡ false → count ≡ READ_LIMIT → (reading : ReaderCalls) → IsAsked script reading → call_count reading ≡ count →
     Loses had.remaining has.remaining (read reading) → has.calls ≡ had.calls + count → has.last ≡ last_behind had.last reading →
     has.empty_calls ≡ had.empty_calls → has.odd_sized_calls ≡ had.odd_sized_calls → HavePlayed script before now session kept (read reading) → ending_of session ≡ None →
     Comes script had has before now (Err fault.Read)

@@ -8,7 +8,7 @@ use Rattle.ps_model.specs.declared.limits.TheConstants.{READ_LIMIT, CALL_LIMIT}
 use Rattle.ps_model.specs.board.Turns.{Script}
 use Rattle.ps_model.specs.game.Outputs.{Output, ending_of}
 use Rattle.ps_model.specs.game.Headline.{IsPiece, GoesOn, AsksInTurn, ReadsInTurn, texts_of}
-use Rattle.ps_model.specs.game.Tellings.{ReaderState, WriterState, Call, Gives, Fails, Reading, Unasked, Asked, Told, Tells, IsLeft, CountsCalls, given, read, has_failing_call, last_behind, empty_pieces, empty_reads, idle_writes}
+use Rattle.ps_model.specs.game.Tellings.{ReaderState, WriterState, Call, Gives, Fails, ReaderCalls, Unasked, Asked, Told, Tells, IsLeft, CountsCalls, bytes_of_call, read, has_failing_call, last_behind, empty_pieces, empty_reads, idle_writes}
 use Rattle.ps_laws.specs.Fronts.{session_of, whole_front}
 use Rattle.ps_laws.proofs.keys.Fronts.{output_of_unended}
 use Rattle.ps_devices.specs.Devices.{Grows, Loses, IsSpent}
@@ -16,7 +16,7 @@ use Rattle.ps_devices.proofs.Pieces.{loses_twice}
 use Rattle.ps_run.specs.Runs.{HasAsked, IsAsked, call_count}
 
 -- the pieces of calls that are behind
-abbrev pub pieces_of : Reading → List (List ℕ)
+abbrev pub pieces_of : ReaderCalls → List (List ℕ)
 pieces_of Unasked = []
 pieces_of (Asked earlier (Gives piece)) = earlier ++ piece ∷ []
 pieces_of (Asked earlier Fails) = earlier
@@ -31,13 +31,13 @@ is_left None = tt
 is_left (Some known) = refl
 
 -- what the pieces hold is what was read
-pub concat_pieces : (script : Script) (reading : Reading) → IsAsked script reading → concat (pieces_of reading) ≡ read reading
+pub concat_pieces : (script : Script) (reading : ReaderCalls) → IsAsked script reading → concat (pieces_of reading) ≡ read reading
 concat_pieces script Unasked asked = refl
 concat_pieces script (Asked earlier (Gives piece)) asked =
     concat-append earlier (piece ∷ []) ∙ ap (λ bytes. concat earlier ++ bytes) (append-nil piece)
 concat_pieces script (Asked earlier Fails) asked = absurd asked
 
-pub count_pieces : (script : Script) (reading : Reading) → IsAsked script reading → length (pieces_of reading) ≡ call_count reading
+pub count_pieces : (script : Script) (reading : ReaderCalls) → IsAsked script reading → length (pieces_of reading) ≡ call_count reading
 count_pieces script Unasked asked = refl
 count_pieces script (Asked earlier (Gives piece)) asked = length-append earlier (piece ∷ [])
 count_pieces script (Asked earlier Fails) asked = absurd asked
@@ -49,12 +49,12 @@ one_piece : (piece : List ℕ) → IsPiece piece → All IsPiece (piece ∷ [])
 one_piece piece is zero d within = is
 one_piece piece is (suc k) d within = absurd (omega arith)
 
-pub are_pieces : (script : Script) (reading : Reading) → IsAsked script reading → All IsPiece (pieces_of reading)
+pub are_pieces : (script : Script) (reading : ReaderCalls) → IsAsked script reading → All IsPiece (pieces_of reading)
 are_pieces script Unasked asked = no_pieces
 are_pieces script (Asked earlier (Gives piece)) asked = All-append IsPiece earlier (piece ∷ []) asked.pieces (one_piece piece asked.this)
 are_pieces script (Asked earlier Fails) asked = absurd asked
 
-pub is_well : (script : Script) (reading : Reading) → IsAsked script reading → has_failing_call reading ≡ false
+pub is_well : (script : Script) (reading : ReaderCalls) → IsAsked script reading → has_failing_call reading ≡ false
 is_well script Unasked asked = refl
 is_well script (Asked earlier (Gives piece)) asked = refl
 is_well script (Asked earlier Fails) asked = absurd asked
@@ -70,8 +70,8 @@ whole_is script bytes = refl
 
 -- a call more, of which this is told
 pub asks :
-    (script : Script) (reading : Reading) (call : Call) (left : List ℕ) → IsAsked script reading → GoesOn script (read reading) → call_count reading < READ_LIMIT →
-    length (given call) ≤ CALL_LIMIT → (call ≡ Gives [] → left ≡ []) → AsksInTurn script (pieces_of reading) call left
+    (script : Script) (reading : ReaderCalls) (call : Call) (left : List ℕ) → IsAsked script reading → GoesOn script (read reading) → call_count reading < READ_LIMIT →
+    length (bytes_of_call call) ≤ CALL_LIMIT → (call ≡ Gives [] → left ≡ []) → AsksInTurn script (pieces_of reading) call left
 asks script reading call left asked on few short spent = record {
   pieces = are_pieces script reading asked;
   few = short;
@@ -81,7 +81,7 @@ asks script reading call left asked on few short spent = record {
 }
 
 -- the calls so far were in turn
-pub asked_so_far : (script : Script) (reading : Reading) (left : List ℕ) → IsAsked script reading → ReadsInTurn script reading left
+pub asked_so_far : (script : Script) (reading : ReaderCalls) (left : List ℕ) → IsAsked script reading → ReadsInTurn script reading left
 asked_so_far script Unasked left asked = tt
 asked_so_far script (Asked earlier (Gives piece)) left asked =
     let bound : length earlier + 1 ≤ READ_LIMIT = asked.few in
@@ -99,7 +99,7 @@ asked_so_far script (Asked earlier (Gives piece)) left asked =
 asked_so_far script (Asked earlier Fails) left asked = absurd asked
 
 -- the calls so far were counted
-pub counts_so_far : (script : Script) (before after count : ℕ) (reading : Reading) → IsAsked script reading → call_count reading ≡ count → after ≡ before + count → CountsCalls before reading after
+pub counts_so_far : (script : Script) (before after count : ℕ) (reading : ReaderCalls) → IsAsked script reading → call_count reading ≡ count → after ≡ before + count → CountsCalls before reading after
 counts_so_far script before after count Unasked asked counted calls = omega arith
 counts_so_far script before after count (Asked earlier (Gives piece)) asked counted calls = rw counted calls
 counts_so_far script before after count (Asked earlier Fails) asked counted calls = absurd asked
@@ -115,7 +115,7 @@ not_empty [] some = let none : 1 ≤ 0 = some in absurd (omega (arith, none))
 not_empty (byte ∷ bytes) some = refl
 
 -- the calls so far all gave something
-pub empty_so_far : (script : Script) (before after : ℕ) (reading : Reading) → IsAsked script reading → after ≡ before → after ≡ before + empty_reads reading
+pub empty_so_far : (script : Script) (before after : ℕ) (reading : ReaderCalls) → IsAsked script reading → after ≡ before → after ≡ before + empty_reads reading
 empty_so_far script before after Unasked asked same = omega arith
 empty_so_far script before after (Asked earlier (Gives piece)) asked same =
     let first : empty_pieces earlier ≡ 0 = no_empty_piece earlier asked.pieces in
@@ -125,14 +125,14 @@ empty_so_far script before after (Asked earlier Fails) asked same = absurd asked
 
 -- and a call more failed
 pub empty_at_failure :
-    (script : Script) (before after : ℕ) (reading : Reading) → IsAsked script reading → after ≡ before → after ≡ before + empty_reads (Asked (pieces_of reading) Fails)
+    (script : Script) (before after : ℕ) (reading : ReaderCalls) → IsAsked script reading → after ≡ before → after ≡ before + empty_reads (Asked (pieces_of reading) Fails)
 empty_at_failure script before after reading asked same =
     let first : empty_pieces (pieces_of reading) ≡ 0 = no_empty_piece (pieces_of reading) (are_pieces script reading asked) in
     rw first (omega (arith, same))
 
 -- or it gave something, too
 pub empty_at_piece :
-    (script : Script) (before after : ℕ) (reading : Reading) (piece : List ℕ) → IsAsked script reading → 1 ≤ length piece → after ≡ before →
+    (script : Script) (before after : ℕ) (reading : ReaderCalls) (piece : List ℕ) → IsAsked script reading → 1 ≤ length piece → after ≡ before →
     after ≡ before + empty_reads (Asked (pieces_of reading) (Gives piece))
 empty_at_piece script before after reading piece asked some same =
     let first : empty_pieces (pieces_of reading) ≡ 0 = no_empty_piece (pieces_of reading) (are_pieces script reading asked) in
@@ -141,18 +141,18 @@ empty_at_piece script before after reading piece asked some same =
 
 -- or it gave nothing
 pub empty_at_end :
-    (script : Script) (before mid after : ℕ) (reading : Reading) → IsAsked script reading → mid ≡ before → after ≡ mid + 1 →
+    (script : Script) (before mid after : ℕ) (reading : ReaderCalls) → IsAsked script reading → mid ≡ before → after ≡ mid + 1 →
     after ≡ before + empty_reads (Asked (pieces_of reading) (Gives []))
 empty_at_end script before mid after reading asked same more =
     let first : empty_pieces (pieces_of reading) ≡ 0 = no_empty_piece (pieces_of reading) (are_pieces script reading asked) in
     rw first (omega (arith, same, more))
 
 -- a run, by its calls and its writes
-abbrev pub told_of : Reading → Option (List ℕ) → List ℕ → Bool → Told
+abbrev pub told_of : ReaderCalls → Option (List ℕ) → List ℕ → Bool → Told
 told_of reading remaining wrote failed = record { reading = reading; left = left_of remaining; wrote = wrote; writer_failed = failed }
 
 pub tells_of :
-    (had has : ReaderState) (before now : WriterState) (reading : Reading) (wrote : List ℕ) (failed : Bool) → had.has_failed ≡ false → has.has_failed ≡ has_failing_call reading →
+    (had has : ReaderState) (before now : WriterState) (reading : ReaderCalls) (wrote : List ℕ) (failed : Bool) → had.has_failed ≡ false → has.has_failed ≡ has_failing_call reading →
     Loses had.remaining has.remaining (read reading) → has.last ≡ last_behind had.last reading → CountsCalls had.calls reading has.calls →
     has.empty_calls ≡ had.empty_calls + empty_reads reading → has.odd_sized_calls ≡ had.odd_sized_calls →
     before.has_failed ≡ false → now.has_failed ≡ failed → Grows before.contents now.contents wrote → now.calls ≤ before.calls + (length wrote + idle_writes failed) →

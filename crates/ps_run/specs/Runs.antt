@@ -7,7 +7,7 @@ use Rattle.ps_model.specs.declared.play.Ending.{Ending}
 use Rattle.ps_model.specs.board.Turns.{Script}
 use Rattle.ps_model.specs.session.Sessions.{Session}
 use Rattle.ps_model.specs.game.Headline.{IsFront, IsPiece, GoesOn, ReadsInTurn, ReaderIsWell, WriterIsWell, EndsAsMeant, CannotReadRightly, CannotWriteRightly}
-use Rattle.ps_model.specs.game.Tellings.{ReaderState, WriterState, Gives, Fails, Reading, Unasked, Asked, Told, Tells, read, read_before, last_behind}
+use Rattle.ps_model.specs.game.Tellings.{ReaderState, WriterState, Gives, Fails, ReaderCalls, Unasked, Asked, Told, Tells, read, read_before, last_behind}
 use Rattle.ps_laws.specs.Fronts.{whole_front}
 use Rattle.ps_devices.specs.Devices.{Loses}
 use Rattle.ps_run.specs.declared.faults.RunFault.{RunFault}
@@ -22,19 +22,19 @@ pub record HasAsked (script : Script) (earlier : List (List ℕ)) (piece : List 
   pub goes_on : GoesOn script (concat earlier)
 
 -- all calls so far gave a piece
-abbrev pub IsAsked : Script → Reading → Type 0
+abbrev pub IsAsked : Script → ReaderCalls → Type 0
 IsAsked script Unasked = ⊤
 IsAsked script (Asked earlier (Gives piece)) = HasAsked script earlier piece
 IsAsked script (Asked earlier Fails) = ⊥
 
 -- how many calls there were
-abbrev pub call_count : Reading → ℕ
+abbrev pub call_count : ReaderCalls → ℕ
 call_count Unasked = 0
 call_count (Asked earlier last) = length earlier + 1
 
 -- a run between two calls
 pub record Stands (script : Script) (had has : ReaderState) (before now : WriterState) (session : Session) (kept : Held) (count : ℕ) : Type 0 where
-  pub reading : Reading
+  pub reading : ReaderCalls
   pub is_asked : IsAsked script reading
   pub counted : call_count reading ≡ count
   pub given : Loses had.remaining has.remaining (read reading)

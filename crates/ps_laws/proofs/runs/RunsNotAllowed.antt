@@ -5,7 +5,7 @@ use Rattle.std.proofs.lemmas.List.{length-append, append-nil}
 use Rattle.std.proofs.lemmas.List.Elements.{All-head, All-tail}
 use Rattle.ps_model.specs.board.Turns.{Script}
 use Rattle.ps_model.specs.game.Outputs.{output, front}
-use Rattle.ps_model.specs.game.Tellings.{Call, Gives, Fails, Reading, Unasked, Asked, Told, read, all_bytes, has_failing_call, last_behind, empty_pieces, empty_reads}
+use Rattle.ps_model.specs.game.Tellings.{Call, Gives, Fails, ReaderCalls, Unasked, Asked, Told, read, all_bytes, has_failing_call, last_behind, empty_pieces, empty_reads}
 use Rattle.ps_model.specs.game.Headline.{Answer, Ends, Refuses, WantsMemory, CannotRead, CannotWrite, Answers, IsFront, IsCutOff, IsPiece, AsksInTurn, ReadsInTurn, GaveNothing, IsTrueOfText, script_of_text, texts_of}
 use Rattle.ps_laws.specs.Fronts.{whole_front}
 use Rattle.ps_laws.specs.RunsNotAllowed.{NoCallBehindEnding, NoReadFaultBehindEnding, NoWantBehindEnding, NoMoreCalls, NoLongCall, NoCallBehindEnd, NoOddSizedCall, NoSecondEmptyCall, NoCallBehindEmptyOne, NoEmptyWrite, ReadsWhatWasThere, ReadFaultIsTold, WriteFaultIsTold, NoReadFaultUnasked, NoWriteFaultUnfailed, NoRunOnFailedDevices, NoWritingUnasked, WritesFronts, AnswersAreTrueOfTexts}
@@ -84,7 +84,7 @@ at_most_one [] = omega arith
 at_most_one (byte ∷ bytes) = omega arith
 
 -- of the calls of a right run one at most gave nothing; none did if the last one gave bytes, or failed
-one_empty : (text : List ℕ) (told : Told) (answer : Answer) (reading : Reading) → told.reading ≡ reading → Answers text told answer → empty_reads reading ≤ 1
+one_empty : (text : List ℕ) (told : Told) (answer : Answer) (reading : ReaderCalls) → told.reading ≡ reading → Answers text told answer → empty_reads reading ≤ 1
 one_empty text told answer Unasked is right = omega arith
 one_empty text told answer (Asked earlier (Gives piece)) is right =
     let none : empty_pieces earlier ≡ 0 = no_empty_piece earlier (asked_in_turn text told answer earlier (Gives piece) is right).2.pieces in
@@ -94,7 +94,7 @@ one_empty text told answer (Asked earlier Fails) is right =
     let none : empty_pieces earlier ≡ 0 = no_empty_piece earlier (asked_in_turn text told answer earlier Fails is right).2.pieces in
     rw none (omega arith)
 
-none_empty_before : (text : List ℕ) (told : Told) (answer : Answer) (reading : Reading) (last : ℕ) (failed : Bool) → told.reading ≡ reading → Answers text told answer →
+none_empty_before : (text : List ℕ) (told : Told) (answer : Answer) (reading : ReaderCalls) (last : ℕ) (failed : Bool) → told.reading ≡ reading → Answers text told answer →
     ((reading ≡ Unasked → ⊥) → last ≡ last_behind last reading) → failed ≡ has_failing_call reading → (0 < last) ⊎ (failed ≡ true) → empty_reads reading ≡ 0
 none_empty_before text told answer Unasked last failed is right gave told_failed other = refl
 none_empty_before text told answer (Asked earlier Fails) last failed is right gave told_failed other =
@@ -118,7 +118,7 @@ one_too_many : (before after extra : ℕ) → after ≡ before + extra → extra
 one_too_many before after extra is none more = omega arith
 
 -- what the reader tells of its last call, where it was called
-last_told : (before after : ℕ) (reading : Reading) → after ≡ last_behind before reading → (reading ≡ Unasked → ⊥) → after ≡ last_behind after reading
+last_told : (before after : ℕ) (reading : ReaderCalls) → after ≡ last_behind before reading → (reading ≡ Unasked → ⊥) → after ≡ last_behind after reading
 last_told before after Unasked is asked = absurd (asked refl)
 last_told before after (Asked earlier last) is asked = is
 
@@ -130,7 +130,7 @@ no_call_behind_empty_one text reader_before reader_after writer_before writer_af
 
 -- failures -------------------------------------------------------------------------------------------------------------
 
-well_unasked : (reading : Reading) → reading ≡ Unasked → has_failing_call reading ≡ true → ⊥
+well_unasked : (reading : ReaderCalls) → reading ≡ Unasked → has_failing_call reading ≡ true → ⊥
 well_unasked reading is failed = let no : false ≡ true = rw is at failed in absurd (cc)
 
 not_both : (b : Bool) → b ≡ true → b ≡ false → ⊥
@@ -188,7 +188,7 @@ no_writing_unasked text told script found is whole (own, own_found, right) =
     by_cases same (inr (nothing, cut)) = absurd nothing
 
 -- where the last call gave nothing, nothing is left
-nothing_left : (script : Script) (reading : Reading) (left : List ℕ) → ReadsInTurn script reading left → GaveNothing reading → left ≡ []
+nothing_left : (script : Script) (reading : ReaderCalls) (left : List ℕ) → ReadsInTurn script reading left → GaveNothing reading → left ≡ []
 nothing_left script Unasked left reads nothing = absurd nothing
 nothing_left script (Asked earlier last) left reads nothing = reads.spent nothing
 

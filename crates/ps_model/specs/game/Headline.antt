@@ -14,7 +14,7 @@ use Rattle.ps_model.specs.text.Faults.{first_fault}
 use Rattle.ps_model.specs.game.Games.{faults, game}
 use Rattle.ps_model.specs.board.Turns.{Script, script_of}
 use Rattle.ps_model.specs.game.Outputs.{output, opening_step, output_of_keys, ending_of, front}
-use Rattle.ps_model.specs.game.Tellings.{ReaderState, WriterState, Call, Gives, Fails, Reading, Unasked, Asked, Told, Tells, given, read_before, read, all_bytes, has_failing_call}
+use Rattle.ps_model.specs.game.Tellings.{ReaderState, WriterState, Call, Gives, Fails, ReaderCalls, Unasked, Asked, Told, Tells, bytes_of_call, read_before, read, all_bytes, has_failing_call}
 
 -- the game of a text as it is played
 abbrev pub script_of_text : List ℕ → Option Script
@@ -66,7 +66,7 @@ pub record IsPiece (piece : List ℕ) : Type 0 where
 pub record AsksInTurn (script : Script) (earlier : List (List ℕ)) (last : Call) (left : List ℕ) : Type 0 where
   -- no call gave more than one may ask for, none came behind one that gave nothing, and they are no more than a run makes
   pub pieces : All IsPiece earlier
-  pub few : length (given last) ≤ CALL_LIMIT
+  pub few : length (bytes_of_call last) ≤ CALL_LIMIT
   pub calls : length earlier < READ_LIMIT
   -- the game went on behind the keys that were read before the last call: so no call comes behind the ending
   pub goes_on : GoesOn script (concat earlier)
@@ -74,12 +74,12 @@ pub record AsksInTurn (script : Script) (earlier : List (List ℕ)) (last : Call
   pub spent : last ≡ Gives [] → left ≡ []
 
 -- if a run asks for keys at all, it does so in turn
-abbrev pub ReadsInTurn : Script → Reading → List ℕ → Type 0
+abbrev pub ReadsInTurn : Script → ReaderCalls → List ℕ → Type 0
 ReadsInTurn script Unasked left = ⊤
 ReadsInTurn script (Asked earlier last) left = AsksInTurn script earlier last left
 
 -- the last call gave nothing: there are no more keys
-abbrev pub GaveNothing : Reading → Type 0
+abbrev pub GaveNothing : ReaderCalls → Type 0
 GaveNothing Unasked = ⊥
 GaveNothing (Asked earlier last) = last ≡ Gives []
 
@@ -133,7 +133,7 @@ WantsMemoryRightly text told =
     StopsAtOnce told ⊎ ((script : Script) × (script_of_text text ≡ Some script) × StopsForMemory script told)
 
 -- why no more keys can be read: the last call failed, or it gave some and is the last that a run makes
-abbrev pub ReadsNoMore : Reading → Type 0
+abbrev pub ReadsNoMore : ReaderCalls → Type 0
 ReadsNoMore Unasked = ⊥
 ReadsNoMore (Asked earlier (Gives piece)) = (length earlier + 1 ≡ READ_LIMIT) × (piece ≢ [])
 ReadsNoMore (Asked earlier Fails) = ⊤
@@ -154,7 +154,7 @@ IsCutOffWriting script told =
     ⊎ (GaveNothing told.reading × IsCutOff told.wrote (output script (read told.reading)).written)
 
 -- what was written has the texts of all keys that were read before the last call, if there was a call
-abbrev pub IsWholeBefore : Script → Reading → List ℕ → Type 0
+abbrev pub IsWholeBefore : Script → ReaderCalls → List ℕ → Type 0
 IsWholeBefore script Unasked wrote = ⊤
 IsWholeBefore script (Asked earlier last) wrote = IsFront (texts_of script (concat earlier)) wrote
 

@@ -31,55 +31,55 @@ pub data Call : Type 0 where
 
 -- what a run asks of its reader: nothing at all; or a call and more calls, which are told by the pieces that all but the
 -- last one gave, in order, and by the last one
-pub data Reading : Type 0 where
-  Unasked : Reading
-  Asked : List (List ℕ) → Call → Reading
+pub data ReaderCalls : Type 0 where
+  Unasked : ReaderCalls
+  Asked : List (List ℕ) → Call → ReaderCalls
 
 -- a run, as its devices tell it
 pub record Told : Type 0 where
   -- what it asked of the reader, and the bytes that the reader has left behind it
-  pub reading : Reading
+  pub reading : ReaderCalls
   pub left : List ℕ
   -- the bytes that the writer took in it, and whether a write failed in it
   pub wrote : List ℕ
   pub writer_failed : Bool
 
 -- the bytes that a call gave
-abbrev pub given : Call → List ℕ
-given (Gives piece) = piece
-given Fails = []
+abbrev pub bytes_of_call : Call → List ℕ
+bytes_of_call (Gives piece) = piece
+bytes_of_call Fails = []
 
 -- the bytes that were read before the last call
-abbrev pub read_before : Reading → List ℕ
+abbrev pub read_before : ReaderCalls → List ℕ
 read_before Unasked = []
 read_before (Asked earlier last) = concat earlier
 
 -- all bytes that were read
-abbrev pub read : Reading → List ℕ
+abbrev pub read : ReaderCalls → List ℕ
 read Unasked = []
-read (Asked earlier last) = concat earlier ++ given last
+read (Asked earlier last) = concat earlier ++ bytes_of_call last
 
 -- all bytes that the reader had when the run began: those that were read, and those that are left
 abbrev pub all_bytes : Told → List ℕ
 all_bytes told = read told.reading ++ told.left
 
 -- whether a call failed
-abbrev pub has_failing_call : Reading → Bool
+abbrev pub has_failing_call : ReaderCalls → Bool
 has_failing_call Unasked = false
 has_failing_call (Asked earlier (Gives piece)) = false
 has_failing_call (Asked earlier Fails) = true
 
 -- how many bytes the reader's last call gave, where it gave so many before the run
-abbrev pub last_behind : ℕ → Reading → ℕ
+abbrev pub last_behind : ℕ → ReaderCalls → ℕ
 last_behind before Unasked = before
-last_behind before (Asked earlier last) = length (given last)
+last_behind before (Asked earlier last) = length (bytes_of_call last)
 
 -- how many calls a device can count
 abbrev pub most_calls : ℕ
 most_calls = 2 ^ 64 - 1
 
 -- the reader has counted the calls of the run: each one, but for a last one that failed as it could count no more
-abbrev pub CountsCalls : ℕ → Reading → ℕ → Type 0
+abbrev pub CountsCalls : ℕ → ReaderCalls → ℕ → Type 0
 CountsCalls before Unasked after = after ≡ before
 CountsCalls before (Asked earlier (Gives piece)) after = after ≡ before + (length earlier + 1)
 CountsCalls before (Asked earlier Fails) after =
@@ -92,7 +92,7 @@ empty_pieces ([] ∷ pieces) = empty_pieces pieces + 1
 empty_pieces ((byte ∷ bytes) ∷ pieces) = empty_pieces pieces
 
 -- how many calls gave nothing, without failing
-abbrev pub empty_reads : Reading → ℕ
+abbrev pub empty_reads : ReaderCalls → ℕ
 empty_reads Unasked = 0
 empty_reads (Asked earlier (Gives piece)) = empty_pieces earlier + empty_pieces (piece ∷ [])
 empty_reads (Asked earlier Fails) = empty_pieces earlier
