@@ -7,7 +7,7 @@ pub mod Rows
 pub mod Words
 pub mod Repeats
 pub mod Founds
-pub mod Tallies
+pub mod Adds
 pub mod LooseProperties
 pub mod RuleSteps
 pub mod FormSteps

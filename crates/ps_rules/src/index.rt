@@ -32,7 +32,7 @@ pub struct Index {
 
 impl Index {
     /// Nothing is found.
-    #[tactic(auto, using(crate::proofs::Tallies::nothing_found))]
+    #[tactic(auto, using(crate::proofs::Adds::nothing_found))]
     fn new(alloc: Global) -> Index
         ensures { (key : Key) → found_at result key ≡ Nothing }
     {
@@ -63,7 +63,7 @@ impl Index {
     }
 
     /// Adds an occurrence of a name.
-    #[tactic(auto, using(crate::proofs::Tallies::object_added, crate::proofs::Tallies::aggregate_added, crate::proofs::Tallies::property_added))]
+    #[tactic(auto, using(crate::proofs::Adds::object, crate::proofs::Adds::aggregate, crate::proofs::Adds::property))]
     fn add_name(&mut self, meaning: &Meaning, at: u32) -> Result<(), Memory>
         ensures { OnOk result ((key : Key) → found_at self.new key
             ≡ with_if (is_name_key key (meaning_shown meaning.now)) (found_at self.old key) at) }
@@ -85,7 +85,7 @@ impl Index {
     }
 
     /// Adds an occurrence of a movement word, if there is one.
-    #[tactic(auto, using(crate::proofs::Tallies::word_added, crate::proofs::Tallies::no_word_added))]
+    #[tactic(auto, using(crate::proofs::Adds::word_added, crate::proofs::Adds::no_word_added))]
     fn add_word(&mut self, word: Option<MovementWord>, at: u32) -> Result<(), Memory>
         ensures { OnOk result ((key : Key) → found_at self.new key
             ≡ with_if (is_word_key key word) (found_at self.old key) at) }
@@ -98,7 +98,7 @@ impl Index {
     }
 
     /// Adds an item, if it is an occurrence.
-    #[tactic(auto, using(crate::proofs::Tallies::item_added, crate::proofs::Tallies::no_item_added))]
+    #[tactic(auto, using(crate::proofs::Adds::item_added, crate::proofs::Adds::no_item_added))]
     fn add_item(&mut self, item: &Item) -> Result<(), Memory>
         ensures { OnOk result ((key : Key) → (rest : Sequence TheItem)
             → found_from (found_at self.new key) (numbers (filter (has_key key) rest))

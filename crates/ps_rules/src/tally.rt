@@ -45,7 +45,7 @@ impl Tally {
     }
 
     /// Adds an occurrence of a number, at a byte of the text.
-    #[tactic(auto, using(crate::proofs::Tallies::added))]
+    #[tactic(auto, using(crate::proofs::Adds::added))]
     pub fn add(&mut self, number: u32, at: u32) -> Result<(), Memory>
         ensures { OnOk result ((other : ℕ) → found_of self.new other
             ≡ with_if (nat_eq other number) (found_of self.old other) at) }

@@ -35,26 +35,26 @@ nothing_found index a b c d (Named (AnyOf line objects)) = ap (λ es. found_of e
 nothing_found index a b c d (Moving word) = ap (λ es. found_of es (word_number word)) d
 
 module _ (old new : Index) (at : ℕ) where
-  pub object_added : (object : ObjectId) → ((n : ℕ) → found_of new.objects n ≡ with_if (nat_eq n object.0) (found_of old.objects n) at)
+  pub object : (object : ObjectId) → ((n : ℕ) → found_of new.objects n ≡ with_if (nat_eq n object.0) (found_of old.objects n) at)
       → new.aggregates ≡ old.aggregates → new.properties ≡ old.properties → new.words ≡ old.words → (key : Key) → found_at new key ≡ with_if (is_name_key key (One object)) (found_at old key) at
-  object_added object h b c d (Named (One other)) = h other.0
-  object_added object h b c d (Named (AllOf line objects)) = ap (λ es. found_of es line) b
-  object_added object h b c d (Named (AnyOf line objects)) = ap (λ es. found_of es line) c
-  object_added object h b c d (Moving word) = ap (λ es. found_of es (word_number word)) d
+  object object h b c d (Named (One other)) = h other.0
+  object object h b c d (Named (AllOf line objects)) = ap (λ es. found_of es line) b
+  object object h b c d (Named (AnyOf line objects)) = ap (λ es. found_of es line) c
+  object object h b c d (Moving word) = ap (λ es. found_of es (word_number word)) d
 
-  pub aggregate_added : (line : ℕ) (objects : List ObjectId) → ((n : ℕ) → found_of new.aggregates n ≡ with_if (nat_eq n line) (found_of old.aggregates n) at)
+  pub aggregate : (line : ℕ) (objects : List ObjectId) → ((n : ℕ) → found_of new.aggregates n ≡ with_if (nat_eq n line) (found_of old.aggregates n) at)
       → new.objects ≡ old.objects → new.properties ≡ old.properties → new.words ≡ old.words → (key : Key) → found_at new key ≡ with_if (is_name_key key (AllOf line objects)) (found_at old key) at
-  aggregate_added line objects h a c d (Named (One other)) = ap (λ es. found_of es other.0) a
-  aggregate_added line objects h a c d (Named (AllOf other others)) = h other
-  aggregate_added line objects h a c d (Named (AnyOf other others)) = ap (λ es. found_of es other) c
-  aggregate_added line objects h a c d (Moving word) = ap (λ es. found_of es (word_number word)) d
+  aggregate line objects h a c d (Named (One other)) = ap (λ es. found_of es other.0) a
+  aggregate line objects h a c d (Named (AllOf other others)) = h other
+  aggregate line objects h a c d (Named (AnyOf other others)) = ap (λ es. found_of es other) c
+  aggregate line objects h a c d (Moving word) = ap (λ es. found_of es (word_number word)) d
 
-  pub property_added : (line : ℕ) (objects : List ObjectId) → ((n : ℕ) → found_of new.properties n ≡ with_if (nat_eq n line) (found_of old.properties n) at)
+  pub property : (line : ℕ) (objects : List ObjectId) → ((n : ℕ) → found_of new.properties n ≡ with_if (nat_eq n line) (found_of old.properties n) at)
       → new.objects ≡ old.objects → new.aggregates ≡ old.aggregates → new.words ≡ old.words → (key : Key) → found_at new key ≡ with_if (is_name_key key (AnyOf line objects)) (found_at old key) at
-  property_added line objects h a b d (Named (One other)) = ap (λ es. found_of es other.0) a
-  property_added line objects h a b d (Named (AllOf other others)) = ap (λ es. found_of es other) b
-  property_added line objects h a b d (Named (AnyOf other others)) = h other
-  property_added line objects h a b d (Moving word) = ap (λ es. found_of es (word_number word)) d
+  property line objects h a b d (Named (One other)) = ap (λ es. found_of es other.0) a
+  property line objects h a b d (Named (AllOf other others)) = ap (λ es. found_of es other) b
+  property line objects h a b d (Named (AnyOf other others)) = h other
+  property line objects h a b d (Moving word) = ap (λ es. found_of es (word_number word)) d
 
   pub word_added : (word : MovementWord) → ((n : ℕ) → found_of new.words n ≡ with_if (nat_eq n (word_number word)) (found_of old.words n) at)
       → new.objects ≡ old.objects → new.aggregates ≡ old.aggregates → new.properties ≡ old.properties → (key : Key) → found_at new key ≡ with_if (is_word_key key (Some word)) (found_at old key) at
