@@ -14,6 +14,3 @@ mod writes;
 pub use program::{Programs, compile};
 pub use ps_model::{Memory, Part};
 pub use ps_program::{CompiledRule, CompiledSection, Program};
-
-#[cfg(test)]
-mod tests;

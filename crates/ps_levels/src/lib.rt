@@ -14,6 +14,3 @@ mod wins;
 pub use level::Level;
 pub use levels::{Entry, read_levels};
 pub use wins::{Win, read_wins};
-
-#[cfg(test)]
-mod tests;

@@ -5,6 +5,10 @@
 #[cfg(test)]
 mod game;
 #[cfg(test)]
+mod levels;
+#[cfg(test)]
 mod names;
 #[cfg(test)]
 mod rules;
+#[cfg(test)]
+mod texts;

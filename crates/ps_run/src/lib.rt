@@ -12,6 +12,3 @@ pub use laws::answers_carry_over;
 pub use ps_devices::{ByteReader, ByteWriter};
 pub use ps_model::{Ending, Fault, FaultKind};
 pub use text_run::run;
-
-#[cfg(test)]
-mod tests;

@@ -12,3 +12,5 @@ mod large;
 mod memory;
 #[cfg(test)]
 mod sessions;
+#[cfg(test)]
+mod whole;

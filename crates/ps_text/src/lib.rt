@@ -25,6 +25,3 @@ pub use ps_model::{Cut, Fault, FaultKind, Memory, Refusal, Section, Span};
 pub use regions::{blank_end, without_blank_ends};
 pub use sources::Source;
 pub use texts::Text;
-
-#[cfg(test)]
-mod tests;

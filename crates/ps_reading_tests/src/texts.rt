@@ -1,7 +1,7 @@
 //! Texts with values worked by hand.
 
-use crate::{Cut, Fault, FaultKind, List, Section, Source, Span, Text, Word, same_name, words};
 use ps_model::{Refusal, TEXT_LIMIT};
+use ps_text::{Cut, Fault, FaultKind, List, Section, Source, Span, Text, Word, same_name, words};
 use std::alloc::{AllocError, Global};
 use std::process::Abort;
 use std::test::Fail;

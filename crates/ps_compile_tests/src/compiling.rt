@@ -1,6 +1,6 @@
 //! Rules of a small game, compiled.
 
-use crate::{CompiledRule, CompiledSection, Program, compile};
+use ps_compile::{CompiledRule, CompiledSection, Program, compile};
 use ps_model::Refusal;
 use ps_names::{Names, read_names};
 use ps_rules::{RuleText, read_rules};

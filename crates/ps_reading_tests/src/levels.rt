@@ -1,6 +1,6 @@
 //! Win conditions and levels of small games, with values worked by hand, and lines that are refused.
 
-use crate::{Entry, Win, read_levels, read_wins};
+use ps_levels::{Entry, Win, read_levels, read_wins};
 use ps_model::{Fault, FaultKind, Quantifier, Refusal};
 use ps_names::{Meaning, Names, ObjectId, read_names};
 use ps_text::{List, Source};

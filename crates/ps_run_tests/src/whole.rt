@@ -1,8 +1,8 @@
 //! Games played whole, their outputs worked by hand.
 
-use crate::run;
 use ps_devices::{MemoryReader, MemoryWriter};
 use ps_model::{CALL_LIMIT, Ending};
+use ps_run::run;
 use std::test::Fail;
 
 /// A game of pushing.
