@@ -80,7 +80,7 @@ impl<'g, B: Board, R: Rules<B> + Drop> Play<'g, B, R> {
     {
         self.screen.clear();
         match self.session.key(&mut self.rules, key, &mut self.screen) {
-            Ok(()) => write_screen(&self.screen, writer),
+            Ok(_phase) => write_screen(&self.screen, writer),
             Err(Memory) => Err(PieceFault::Memory),
         }
     }

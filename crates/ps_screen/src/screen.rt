@@ -46,6 +46,13 @@ impl Screen {
         self.text.clear();
     }
 
+    /// Keeps the first `count` bytes, or all where there are no more, and the room of all.
+    pub fn cut(&mut self, count: usize)
+        ensures { self.new ≡ take count self.old }
+    {
+        self.text.truncate(count);
+    }
+
     /// Adds bytes.
     ///
     /// # Errors
@@ -84,7 +91,7 @@ impl Screen {
     {
         let before = self.text.len();
         if let Err(Memory) = self.add_parts(mark, text) {
-            self.text.truncate(before);
+            self.cut(before);
             return Err(Memory);
         }
         Ok(())

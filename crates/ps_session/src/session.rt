@@ -81,8 +81,8 @@ impl<'g, B: Board> Session<'g, B> {
         })
     }
 
-    /// Does what a key does, and adds its text to the screen. A key that is ignored, or that comes after the end,
-    /// changes nothing and takes no memory.
+    /// Does what a key does, adds its text to the screen, and answers what a player may do next. A key that is ignored,
+    /// or that comes after the end, changes nothing and takes no memory.
     ///
     /// # Errors
     ///
@@ -92,8 +92,9 @@ impl<'g, B: Board> Session<'g, B> {
         rules: &mut Programs<R>,
         key: Key,
         screen: &mut Screen,
-    ) -> Result<(), Memory>
+    ) -> Result<Phase, Memory>
         ensures game { self.new.game ≡ self.old.game }
+        ensures phase { IfOk result (λ phase. phase ≡ phase_of self.new.session) }
         ensures session { OnOk result (self.new.session
             ≡ (key_step (script_for B.table_for self.old.game (R.meant rules.old.plain) (R.meant rules.old.late))
             self.old.session key).session) }
@@ -116,11 +117,11 @@ impl<'g, B: Board> Session<'g, B> {
             key,
         )?;
         let Some(next) = next else {
-            return Ok(());
+            return Ok(self.phase());
         };
         screen.add(self.stage.text())?;
         commit(&mut self.place, &mut self.history, next);
-        Ok(())
+        Ok(self.phase())
     }
 
     /// What a player may do next.
