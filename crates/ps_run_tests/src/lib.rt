@@ -10,5 +10,12 @@ mod games;
 mod large;
 #[cfg(test)]
 mod memory;
+mod playable;
+#[cfg(test)]
+mod refusals;
+#[cfg(test)]
+mod refused_keys;
 #[cfg(test)]
 mod sessions;
+#[cfg(test)]
+mod watched;
