@@ -3,8 +3,9 @@
 ghost use Rattle.std.specs.Prelude.{◌≡◌, ◌≤◌, None};
 
 use crate::games::{NAMES, PUSH, PUSHED};
-use ps_devices::{ByteReader, ByteWriter, Failed, MemoryReader, MemoryWriter};
-use ps_model::{CALL_LIMIT, Ending, Fault, FaultKind, READ_LIMIT};
+use crate::watched::Watched;
+use ps_devices::{ByteReader, Failed, MemoryReader, MemoryWriter};
+use ps_model::{CALL_LIMIT, Ending, READ_LIMIT};
 use ps_run::{RunFault, run};
 use std::process::Abort;
 
@@ -15,90 +16,6 @@ const WALK: &str = "RULES\nWINCONDITIONS\nLEVELS\nP..\n";
 const BEGUN: &str = "= T\n# level 1\nP..\n\n";
 
 const WALKED: &str = "= T\n# level 1\nP..\n\n.P.\n\n..P\n\n";
-
-/// A device that counts its calls.
-#[derive(Drop)]
-struct Watched<D> {
-    device: D,
-    calls: u32,
-    /// The most bytes that a call had room for, or brought.
-    most: usize,
-    /// Whether a call has failed, or moved nothing.
-    is_over: bool,
-    /// The calls behind that.
-    late: u32,
-}
-
-impl<D: Drop> Watched<D> {
-    fn new(device: D) -> Watched<D>
-        ensures { result.device ≡ device }
-    {
-        Watched {
-            device,
-            calls: 0,
-            most: 0,
-            is_over: false,
-            late: 0,
-        }
-    }
-
-    /// Counts a call of so many bytes.
-    fn count(&mut self, bytes: usize)
-        ensures { self.new.device ≡ self.old.device }
-    {
-        self.calls = self.calls.saturating_add(1);
-        self.most = self.most.max(bytes);
-        if self.is_over {
-            self.late = self.late.saturating_add(1);
-        }
-    }
-}
-
-impl<D: ByteReader> ByteReader for Watched<D> {
-    ghost remaining = { λ watched. D.remaining watched.device };
-
-    ghost has_failed = { λ watched. D.has_failed watched.device };
-
-    ghost last = { λ watched. D.last watched.device };
-
-    ghost calls = { λ watched. D.calls watched.device };
-
-    ghost empty_calls = { λ watched. D.empty_calls watched.device };
-
-    ghost odd_sized_calls = { λ watched. D.odd_sized_calls watched.device };
-
-    fn read_some(&mut self, buffer: &mut [u8]) -> Result<usize, Failed> {
-        self.count(buffer.len());
-        let result = self.device.read_some(buffer);
-        self.is_over = moved_nothing(result);
-        result
-    }
-}
-
-impl<D: ByteWriter> ByteWriter for Watched<D> {
-    ghost contents = { λ watched. D.contents watched.device };
-
-    ghost has_failed = { λ watched. D.has_failed watched.device };
-
-    ghost calls = { λ watched. D.calls watched.device };
-
-    ghost empty_calls = { λ watched. D.empty_calls watched.device };
-
-    fn write_some(&mut self, bytes: &[u8]) -> Result<usize, Failed> {
-        self.count(bytes.len());
-        let result = self.device.write_some(bytes);
-        self.is_over = moved_nothing(result);
-        result
-    }
-}
-
-/// Whether a call failed, or moved nothing.
-fn moved_nothing(answer: Result<usize, Failed>) -> bool {
-    match answer {
-        Ok(count) => count == 0,
-        Err(Failed) => true,
-    }
-}
 
 /// The devices of a run: the most bytes that a call of the reader gives, where it fails, if it does, the most bytes
 /// that a call of the writer takes, and for how many it has room.
@@ -292,23 +209,6 @@ fn a_reader_that_fails_leaves_the_texts_before(rt: HostRuntime) {
     );
 }
 
-/// A text with a fault is refused before any device is called.
-#[test]
-fn no_device_is_called_for_a_fault(rt: HostRuntime) {
-    let seen = watch(&rt, "RULES\n[ A ] ->\nLEVELS\nP\n", b"d", well(1, 1), b"");
-    let fault = Fault {
-        kind: FaultKind::NothingRight,
-        line: 30,
-    };
-    let wanted = Seen {
-        answer: Err(RunFault::Refused(fault)),
-        given: 0,
-        reads: 0,
-        writes: 0,
-    };
-    assert_eq!(rt; seen, wanted);
-}
-
 /// A reader that gives three bytes by turns, for ever.
 #[derive(Drop)]
 struct Endless<'a> {
@@ -341,49 +241,46 @@ impl<'a> ByteReader for Endless<'a> {
             self.has_failed = true;
             return Err(Failed);
         }
-        let bytes = self.bytes;
-        let (_, turn) = bytes.split_at((self.calls % 3) as usize);
+        let byte = self.bytes[(self.calls % 3) as usize];
         self.calls += 1;
         if buffer.len() != CALL_LIMIT {
             self.odd_sized_calls += 1;
         }
-        let mut once = MemoryReader::new(turn, 1, None);
-        match once.read_some(buffer) {
-            Ok(count) => {
-                self.last = count;
-                if count == 0 {
-                    self.empty_calls += 1;
-                }
-                Ok(count)
-            }
-            Err(Failed) => {
-                self.has_failed = true;
-                Err(Failed)
-            }
+        if buffer.is_empty() {
+            self.empty_calls += 1;
+            return Ok(0);
         }
+        buffer[0] = byte;
+        self.last = 1;
+        Ok(1)
     }
 }
 
-/// Neither a letter that is no key nor an arrow that never comes writes anything.
+/// Plays the walk by three bytes by turns, which are no key, and looks that nothing is written for them.
+fn expect_read_up_to_the_limit(rt: &(impl Abort + AllocGlobal), bytes: &[u8; 3]) {
+    let text = format!(in rt.alloc(); "title T\n{NAMES}{WALK}").expect(rt, "memory for the text");
+    let mut reader = Endless {
+        bytes,
+        calls: 0,
+        last: 0,
+        empty_calls: 0,
+        odd_sized_calls: 0,
+        has_failed: false,
+    };
+    let writer = MemoryWriter::new(rt.alloc(), 100, 100);
+    let mut writer = writer.expect(rt, "memory for the output");
+    let answer = run(rt.alloc(), text.as_bytes(), &mut reader, &mut writer);
+    assert_eq!(rt; answer, Err(RunFault::Read));
+    assert_eq!(rt; reader.calls, u64::from(READ_LIMIT));
+    assert_eq!(rt; writer.bytes(), BEGUN.as_bytes());
+}
+
 #[test]
-fn keys_without_end_are_read_up_to_the_limit(rt: HostRuntime) {
-    let text = format!(in rt.alloc(); "title T\n{NAMES}{WALK}").expect(&rt, "memory for the text");
-    for bytes in [b"kkk", b"\x1b[k"] {
-        let mut reader = Endless {
-            bytes,
-            calls: 0,
-            last: 0,
-            empty_calls: 0,
-            odd_sized_calls: 0,
-            has_failed: false,
-        };
-        let mut writer = MemoryWriter::new(rt.alloc(), 100, 100).expect(
-            &rt,
-            "memory for the output",
-        );
-        let answer = run(rt.alloc(), text.as_bytes(), &mut reader, &mut writer);
-        assert_eq!(rt; answer, Err(RunFault::Read));
-        assert_eq!(rt; reader.calls, u64::from(READ_LIMIT));
-        assert_eq!(rt; writer.bytes(), BEGUN.as_bytes());
-    }
+fn a_letter_without_end_is_read_up_to_the_limit(rt: HostRuntime) {
+    expect_read_up_to_the_limit(&rt, b"kkk");
+}
+
+#[test]
+fn an_arrow_that_never_comes_is_read_up_to_the_limit(rt: HostRuntime) {
+    expect_read_up_to_the_limit(&rt, b"\x1b[k");
 }

@@ -1,9 +1,7 @@
 //! Runs at the limits of the language, and texts with little in them.
 
 use crate::games::{Lines, NAMES, expect, expect_of_text, repeated, ruled};
-use ps_devices::{MemoryReader, MemoryWriter};
-use ps_model::{CALL_LIMIT, Fault, FaultKind};
-use ps_run::{RunFault, run};
+use ps_model::CALL_LIMIT;
 
 /// A frame of 64 rows of 64 cells has more bytes than a call of a device moves.
 #[test]
@@ -26,20 +24,6 @@ fn a_game_needs_no_title(rt: HostRuntime) {
         "= \n# level 1\nP.\n\n.P\n\n* end of keys\n",
         CALL_LIMIT,
     );
-}
-
-#[test]
-fn an_empty_text_is_refused(rt: HostRuntime) {
-    let mut reader = MemoryReader::new(b"d", 1, None);
-    let mut writer = MemoryWriter::new(rt.alloc(), 100, 100).expect(&rt, "memory for the output");
-    let answer = run(rt.alloc(), b"", &mut reader, &mut writer);
-    let fault = Fault {
-        kind: FaultKind::NoSection,
-        line: 1,
-    };
-    assert_eq!(rt; answer, Err(RunFault::Refused(fault)));
-    assert_eq!(rt; reader.given(), 0);
-    assert_eq!(rt; writer.bytes().len(), 0);
 }
 
 /// A rule of twelve rows of forty cells, each with five items, which asks for everything.

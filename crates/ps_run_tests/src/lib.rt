@@ -11,6 +11,14 @@ mod large;
 #[cfg(test)]
 mod memory;
 #[cfg(test)]
+mod playable;
+#[cfg(test)]
+mod refusals;
+#[cfg(test)]
+mod refused_keys;
+#[cfg(test)]
 mod sessions;
+#[cfg(test)]
+mod watched;
 #[cfg(test)]
 mod whole;

@@ -1,0 +1,119 @@
+//! What is done for a command line.
+
+ghost use Rattle.std.specs.Prelude.{◌≡◌, ◌≤◌, false};
+
+use crate::command::{Asked, read_command};
+use crate::explanations::explanation;
+use crate::stops::{Stop, stop_for, tell};
+use ps_check::check;
+use ps_devices::{ByteReader, ByteWriter, FromStd};
+use ps_model::TEXT_LIMIT;
+use ps_run::{RunFault, run};
+use std::io::Read;
+use std::rt::{Env, Files};
+use std::{env, fs, io};
+
+/// How many bytes of a game are read at most: one more than a game may have, so that a longer one is known.
+const MOST_READ: u64 = TEXT_LIMIT as u64 + 1;
+
+/// Does what the command line asks for, with keys from `keys`, unless it names a file of keys, and frames to `screen`.
+/// Gives the status to end with: 0 where a run ended, a text was accepted or what was asked for was told, 1 at a
+/// fault, and 2 at a bad command line. A fault and a bad command line are told on standard error.
+pub fn run_command_line<
+    R: Env + Files + AllocGlobal + Print + Eprint,
+    I: ByteReader,
+    O: ByteWriter,
+>(rt: &R, keys: &mut I, screen: &mut O) -> u8
+    requires heard { I.has_failed keys.old ≡ false }
+    requires well { O.has_failed screen.old ≡ false }
+    ensures { result ≤ 2 }
+{
+    match act(rt, keys, screen) {
+        Ok(()) => 0,
+        Err(stop) => tell(rt, stop),
+    }
+}
+
+/// Does what the command line asks for: plays a game, checks one, or says what a fault is.
+fn act<R: Env + Files + AllocGlobal + Print, I: ByteReader, O: ByteWriter>(
+    rt: &R,
+    keys: &mut I,
+    screen: &mut O,
+) -> Result<(), Stop>
+    requires heard { I.has_failed keys.old ≡ false }
+    requires well { O.has_failed screen.old ≡ false }
+{
+    let words = env::args(rt)
+        .map_err(|error| stop_for(error, Stop::NotText))?
+        .collect::<Vec<String>>(rt.alloc())
+        .map_err(|_| Stop::Run(RunFault::Memory))?;
+    match read_command(rt.alloc(), &words)? {
+        Asked::Explanation(code) => explain(rt, code),
+        Asked::Check(path) => check_text(rt, path, screen),
+        Asked::Play(path) => {
+            let text = read_game(rt, path).map_err(|error| stop_for(error, Stop::Game))?;
+            play(rt, &text, keys, screen)
+        }
+        Asked::PlayFrom(path, file) => play_from(rt, path, file, screen),
+    }
+}
+
+/// Plays a game with keys from a reader.
+fn play<R: AllocGlobal, I: ByteReader, O: ByteWriter>(
+    rt: &R,
+    text: &[u8],
+    keys: &mut I,
+    screen: &mut O,
+) -> Result<(), Stop>
+    requires heard { I.has_failed keys.old ≡ false }
+    requires well { O.has_failed screen.old ≡ false }
+{
+    let _ending = run(rt.alloc(), text, keys, screen)?;
+    Ok(())
+}
+
+/// Plays a game with keys from a file, which is opened once the game's text was read.
+fn play_from<R: Files + AllocGlobal, O: ByteWriter>(
+    rt: &R,
+    path: &str,
+    file: &str,
+    screen: &mut O,
+) -> Result<(), Stop>
+    requires well { O.has_failed screen.old ≡ false }
+{
+    let text = read_game(rt, path).map_err(|error| stop_for(error, Stop::Game))?;
+    let file = fs::open(rt, file).map_err(|error| stop_for(error, Stop::Run(RunFault::Read)))?;
+    let mut keys = FromStd::new(file);
+    play(rt, &text, &mut keys, screen)
+}
+
+/// Says on the screen whether the text of a file is a game.
+fn check_text<R: Files + AllocGlobal, O: ByteWriter>(
+    rt: &R,
+    path: &str,
+    screen: &mut O,
+) -> Result<(), Stop>
+    requires well { O.has_failed screen.old ≡ false }
+{
+    let text = read_game(rt, path).map_err(|error| stop_for(error, Stop::Game))?;
+    if check(rt.alloc(), &text, screen)? {
+        Ok(())
+    } else {
+        Err(Stop::NotAccepted)
+    }
+}
+
+/// Writes what the fault of a code is.
+fn explain<R: Print>(rt: &R, code: &str) -> Result<(), Stop> {
+    let Some(sentence) = explanation(code) else {
+        return Err(Stop::NoSuchCode);
+    };
+    rt.println(sentence).map_err(|_| Stop::Run(RunFault::Write))
+}
+
+/// The first bytes of a file, at most `MOST_READ`.
+fn read_game<R: Files + AllocGlobal>(rt: &R, path: &str) -> io::Result<Vec<u8>> {
+    let mut text = Vec::new(rt.alloc());
+    fs::open(rt, path)?.take(MOST_READ).read_to_end(&mut text)?;
+    Ok(text)
+}

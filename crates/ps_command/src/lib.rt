@@ -1,0 +1,14 @@
+//! What a command line asks for and how that ends: a game is played or checked, or it is said what a fault is.
+//!
+//! [`run_command_line`] is all of the player but its devices. It stands apart from the program, so that other programs
+//! are the player too, and are stored with a command line and the status that it ends with.
+#![tactic(auto)]
+
+mod acts;
+mod command;
+#[cfg(test)]
+mod command_tests;
+mod explanations;
+mod stops;
+
+pub use acts::run_command_line;

@@ -1,0 +1,147 @@
+//! Sessions of which a key is refused a growth: session and screen are as before the key then, and the same key does,
+//! when it is tried again, what it does where nothing is refused. As the tests run by themselves nothing is refused;
+//! `tools/refuse_growths` plays them with each growth refused in turn.
+
+use crate::games::NAMES;
+use crate::playable::playable_game;
+use ps_compile::compile;
+use ps_model::{Ending, Input, Key, Memory};
+use ps_rulebook::{RowBoard, rules_of};
+use ps_session::{Phase, Screen, Session, SessionGame};
+use std::alloc::Global;
+use std::process::Abort;
+
+const LEFT: Key = Key::Move(Input::Left);
+
+const RIGHT: Key = Key::Move(Input::Right);
+
+const ACTION: Key = Key::Move(Input::Action);
+
+/// A key, what it writes, and what the player may do behind it.
+type Step<'a> = (Key, &'a str, Phase);
+
+/// Whether bytes are an opening and the texts of these steps, and nothing else.
+fn are_texts(bytes: &[u8], opening: &str, steps: &[Step<'_>]) -> bool {
+    let Some(mut rest) = bytes.strip_prefix(opening.as_bytes()) else {
+        return false;
+    };
+    for (_, text, _) in steps {
+        let Some(behind) = rest.strip_prefix(text.as_bytes()) else {
+            return false;
+        };
+        rest = behind;
+    }
+    rest.is_empty()
+}
+
+/// Whether memory is refused now.
+fn is_refused(alloc: Global) -> bool {
+    Vec::<u8>::with_capacity(alloc, 1).is_err()
+}
+
+/// Plays a game by keys, each of which is tried again where it was refused a growth. Nothing is looked at where memory
+/// is refused before the first key.
+fn expect_keys_again(
+    rt: &(impl Abort + AllocGlobal),
+    lines: &str,
+    opening: &str,
+    steps: &[Step<'_>],
+) {
+    let Ok(text) = format!(in rt.alloc(); "title T\n{NAMES}{lines}") else {
+        return;
+    };
+    let Ok(game) = playable_game(rt.alloc(), text.as_bytes()) else {
+        return;
+    };
+    let Ok(programs) = compile(rt.alloc(), &game.names, &game.rules) else {
+        return;
+    };
+    let title = game.title.as_str();
+    let parts = SessionGame::new(title, game.options, &game.names, &game.entries, &game.wins);
+    let mut rules = rules_of(rt.alloc(), &programs);
+    let mut screen = Screen::new(rt.alloc());
+    let started = Session::<RowBoard>::start(rt.alloc(), parts, &mut rules, &mut screen);
+    let Ok(mut session) = started else {
+        assert!(rt; screen.bytes().is_empty());
+        return;
+    };
+    for number in 0..steps.len() {
+        let (before, _) = steps.split_at(number);
+        let (through, _) = steps.split_at(number + 1);
+        let (key, _, phase) = steps[number];
+        let was = session.phase();
+        let mut answer = session.key(&mut rules, key, &mut screen);
+        if let Err(Memory) = answer {
+            assert_eq!(rt; session.phase(), was);
+            assert!(rt; are_texts(screen.bytes(), opening, before));
+            answer = session.key(&mut rules, key, &mut screen);
+        }
+        if let Err(Memory) = answer {
+            assert_eq!(rt; session.phase(), was);
+            assert!(rt; are_texts(screen.bytes(), opening, before));
+            assert!(rt; is_refused(rt.alloc()));
+            return;
+        }
+        assert_eq!(rt; session.phase(), phase);
+        assert!(rt; are_texts(screen.bytes(), opening, through));
+    }
+}
+
+#[test]
+fn keys_of_a_push_are_tried_again(rt: HostRuntime) {
+    let lines =
+        "RULES\n[ > Player | Crate ] -> [ > Player | > Crate ]\nWINCONDITIONS\nAll Target on Crate\nLEVELS\n\
+        message Push!\n#P*.O#\nmessage Pushed\nP.\n";
+    let steps = [
+        (ACTION, "# level 1\n#P*.O#\n\n", Phase::Playing),
+        (RIGHT, "#.P*O#\n\n", Phase::Playing),
+        (LEFT, "#P.*O#\n\n", Phase::Playing),
+        (Key::Undo, "#.P*O#\n\n", Phase::Playing),
+        (Key::Restart, "#P*.O#\n\n", Phase::Playing),
+        (Key::Undo, "#.P*O#\n\n", Phase::Playing),
+        (
+            RIGHT,
+            "#..P@#\n\n* level 1 done\n! Pushed\n",
+            Phase::Message,
+        ),
+        (ACTION, "# level 2\nP.\n\n", Phase::Playing),
+        (
+            RIGHT,
+            ".P\n\n* level 2 done\n* the end\n",
+            Phase::Ended(Ending::TheEnd),
+        ),
+    ];
+    expect_keys_again(&rt, lines, "= T\n! Push!\n", &steps);
+}
+
+#[test]
+fn keys_of_again_turns_are_tried_again(rt: HostRuntime) {
+    let lines =
+        "RULES\nstartloop\nright [ AT | ... | B ] -> [ AT | ... | C ]\nendloop\nlate [ C ] -> [ D ]\n\
+        [ action Player ] [ A ] -> [ Player ] [ B ] again message Two\nLEVELS\nOPA\n";
+    let steps = [
+        (ACTION, "OPB\n\n! Two\n", Phase::Message),
+        (ACTION, "OPD\n\n", Phase::Playing),
+        (Key::Undo, "OPA\n\n", Phase::Playing),
+        (ACTION, "OPB\n\n! Two\n", Phase::Message),
+        (ACTION, "OPD\n\n", Phase::Playing),
+        (Key::Quit, "* quit\n", Phase::Ended(Ending::Quit)),
+    ];
+    expect_keys_again(&rt, lines, "= T\n# level 1\nOPA\n\n", &steps);
+}
+
+#[test]
+fn keys_of_checkpoints_are_tried_again(rt: HostRuntime) {
+    let lines = "RULES\n[ action Player ] -> checkpoint\nLEVELS\nP...\n";
+    let steps = [
+        (RIGHT, ".P..\n\n", Phase::Playing),
+        (ACTION, ".P..\n\n", Phase::Playing),
+        (RIGHT, "..P.\n\n", Phase::Playing),
+        (Key::Restart, ".P..\n\n", Phase::Playing),
+        (Key::Undo, "..P.\n\n", Phase::Playing),
+        (Key::Undo, ".P..\n\n", Phase::Playing),
+        (RIGHT, "..P.\n\n", Phase::Playing),
+        (Key::Quit, "* quit\n", Phase::Ended(Ending::Quit)),
+    ];
+    expect_keys_again(&rt, lines, "= T\n# level 1\nP...\n\n", &steps);
+}
