@@ -10,7 +10,6 @@ mod games;
 mod large;
 #[cfg(test)]
 mod memory;
-#[cfg(test)]
 mod playable;
 #[cfg(test)]
 mod refusals;
