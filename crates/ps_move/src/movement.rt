@@ -13,7 +13,7 @@ ghost use Rattle.ps_model.specs.declared.limits.TheConstants.{LAYER_LIMIT, SIDE_
 ghost use Rattle.ps_move.specs.Visits.{way, visited, going_count};
 ghost use Rattle.ps_move.specs.Parts.{IsPart};
 
-use ps_board::{Board, Direction, LayerId, Motion};
+use ps_board::{Board, Columns, Direction, LayerId, Motion};
 use std::marker::Model;
 
 /// How a movement went. A contract sees the number of its passes.
@@ -72,11 +72,26 @@ fn pass<B: Board>(board: &mut B) -> bool
     ensures table { B.table board.new ≡ B.table board.old }
 {
     let (width, height) = board.size();
+    let moving = movers(board);
     let mut went = false;
     for cell in 0..width * height {
-        went |= visit_cell(board, cell);
+        if moving[(cell % height) as usize].has(cell / height) {
+            went |= visit_cell(board, cell);
+        }
     }
     went
+}
+
+/// The columns of each row of a board in which an object is about to do something, on whatever layer.
+fn movers<B: Board>(board: &B) -> [Columns; 64] {
+    let (_, height) = board.size();
+    let mut moving = [Columns::none(); 64];
+    for row in 0..height {
+        for layer in 0..board.layers() {
+            moving[row as usize] = moving[row as usize].either(board.movers(LayerId(layer), row));
+        }
+    }
+    moving
 }
 
 /// Visits each layer of a cell, and tells whether any object went.
