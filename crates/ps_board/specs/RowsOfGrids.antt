@@ -11,7 +11,7 @@ use Rattle.ps_board.specs.ColumnSets.{columns_where}
 
 -- the object of the slot is about to do something
 abbrev pub is_moving : Slot → Bool
-is_moving slot = not (same_motion (motion_in slot) Still)
+is_moving slot = not (same_motion Still (motion_in slot))
 
 -- the columns of a row in which the slot of a layer passes a test
 abbrev pub row_slots : (Slot → Bool) → Grid → ℕ → ℕ → List Bool

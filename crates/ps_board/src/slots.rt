@@ -75,7 +75,7 @@ pub fn is_moving(slot: Slot) -> bool
 {
     match slot {
         Slot::Bare => false,
-        Slot::Holds { motion, .. } => !same_motion(motion, Motion::Still),
+        Slot::Holds { motion, .. } => !same_motion(Motion::Still, motion),
     }
 }
 
