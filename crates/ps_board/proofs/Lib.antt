@@ -4,3 +4,4 @@ mod RowsPassed
 pub mod ColumnLaws
 pub mod ColumnWords
 pub mod PassedColumns
+pub mod CellLaws

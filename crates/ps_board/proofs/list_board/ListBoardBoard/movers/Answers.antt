@@ -1,5 +1,4 @@
-use Rattle.std.proofs.Common.{◌≡◌, ◌∙◌, ◌+◌, ◌*◌, ◌<◌, ◌≤◌, ℕ, Bool, ap, refl}
-use Rattle.ps_model.specs.declared.pieces.Slot.{Slot}
+use Rattle.std.proofs.Common.{◌∙◌, ◌+◌, ◌*◌, ℕ, Bool, ap, refl}
 use Rattle.ps_board.specs.RowsOfGrids.{is_moving}
 use Rattle.ps_board.proofs.PassedColumns.{scanned-none, scanned-more, cell_below}
 use Rattle.ps_board.proofs.RowsPassed.{slot_in, row-passed}
@@ -11,8 +10,8 @@ loop-column-init c =
     let passes : ℕ → Bool = λ (x : ℕ). is_moving (slot_in b.layers (b.width * b.height) b.slots.items (x * b.height + c.args.row) c.args.layer.0) in
     c.none-moving.ensures ∙ scanned-none passes
 
-pub slot-requires-clause-cell : goal.slot-requires-clause-cell
-slot-requires-clause-cell c =
+pub slot-slot-requires-clause-cell : goal.slot-slot-requires-clause-cell
+slot-slot-requires-clause-cell c =
     let b = c.args.self.now in cell_below b.width b.height c.loop-column.column c.args.row c.loop-column-test.true c.requires.row
 
 pub loop-column-preserved : goal.loop-column-preserved
