@@ -1,13 +1,13 @@
 -- Sets of columns as the bits of words.
-use Rattle.std.proofs.Common.{◌≡◌, ◌≢◌, ◌∙◌, ℕ, ◌+◌, ◌-◌, ◌*◌, ◌/◌, ◌%◌, ◌^◌, ◌<◌, ◌≤◌, ◌&&◌, ◌||◌, suc, zero, Bool, true, false, [], ◌∷◌, length, min, max, refl, sym, ap, ap₂, arith, bit_or, w64}
+use Rattle.std.proofs.Common.{◌≡◌, ◌≢◌, ◌∙◌, ℕ, ◌+◌, ◌-◌, ◌*◌, ◌/◌, ◌%◌, ◌^◌, ◌<◌, ◌≤◌, ◌&&◌, ◌||◌, ◌⊎◌, inl, inr, not, suc, zero, Bool, true, false, [], ◌∷◌, length, min, max, refl, sym, ap, ap₂, arith, bit_or, w64}
 use Rattle.std.specs.Prelude.{nat_eq, nat_lt, if◌then◌else◌, bit_and}
 use Rattle.std.specs.Int.{bit_at, bit_not, trailing_zeros}
 use Rattle.std.proofs.lemmas.Bool.Decides.{nat_tests}
 use Rattle.std.proofs.lemmas.Nat.{or_lt, pow-add}
-use Rattle.std.proofs.lemmas.Nat.Bits.{bit_at-zero, bit_at-lt, bit_at_and, bit_at_or, bit_at_above, bit_at_ones, bit_at_ones_above, ones_shr, bit_at_set_same, bit_at_set_other, bit_at_clear_same, bit_at_clear_other, bit_at-trailing_zeros, shr_and_one}
+use Rattle.std.proofs.lemmas.Nat.Bits.{bit_at-zero, bit_at-lt, bit_at_and, bit_at_or, bit_at_not, bit_at_above, bit_at_ones, bit_at_ones_above, ones_shr, bit_at_set_same, bit_at_set_other, bit_at_clear_same, bit_at_clear_other, bit_at-trailing_zeros, shr_and_one}
 use Rattle.std.proofs.Math.Nat.{div-div-eq-div-mul, mod-lt}
 use Rattle.ps_model.specs.declared.limits.TheConstants.{SIDE_LIMIT}
-use Rattle.ps_board.specs.ColumnSets.{column_at, set_columns, bit_is_set, word_columns, with_column, both_columns, either_columns, columns_behind, columns_below, no_columns}
+use Rattle.ps_board.specs.ColumnSets.{column_at, set_columns, bit_is_set, word_columns, with_column, both_columns, either_columns, columns_behind, columns_below, columns_without, no_columns}
 use Rattle.ps_board.proofs.ColumnLaws.{column_at-where, column_at-beyond, column_at-all, columns-agree, set_columns-first, set_columns-none}
 
 -- the bits of two words, taken together
@@ -155,6 +155,25 @@ none_tested word e = none_set word (grind (arith, nat_tests))
 
 pub some_tested : (word : ℕ) → nat_eq word 0 ≡ false → word < 2 ^ 64 → 0 < length (set_columns (word_columns word))
 some_tested word e within = some_set word (grind (arith, nat_tests)) within
+
+-- the bits of a word turned round
+bit_value : (bit : ℕ) → bit < 2 → (bit ≡ 0) ⊎ (bit ≡ 1)
+bit_value zero low = inl refl
+bit_value (suc zero) low = inr refl
+bit_value (suc (suc bit)) low = absurd (omega arith)
+
+flipped : (word x : ℕ) → word < 2 ^ 64 → x < 64 → bit_is_set (18446744073709551615 - word) x ≡ not (bit_is_set word x)
+flipped word x fits low = elim (bit_value (bit_at word x) (bit_at-lt word x)) [
+  | inl e ↦ rw (bit_at_not w64 word x fits low, e) refl
+  | inr e ↦ rw (bit_at_not w64 word x fits low, e) refl
+]
+
+pub minus_word : (a b : ℕ) → b < 2 ^ 64 → word_columns (bit_and a (18446744073709551615 - b)) ≡ columns_without (word_columns a) (word_columns b)
+minus_word a b fits =
+    and_word a (18446744073709551615 - b)
+    ∙ columns-agree (λ x. column_at (word_columns a) x && column_at (word_columns (18446744073709551615 - b)) x) (λ x. column_at (word_columns a) x && not (column_at (word_columns b) x))
+    (λ x low. ap (λ (set : Bool). column_at (word_columns a) x && set)
+    (column_at-where (bit_is_set (18446744073709551615 - b)) x low ∙ flipped b x fits low ∙ ap not (sym (column_at-where (bit_is_set b) x low))))
 
 -- a word with more bits is still a word
 pub or_below : (a b : ℕ) → a < 2 ^ 64 → b < 2 ^ 64 → bit_or a b < 2 ^ 64

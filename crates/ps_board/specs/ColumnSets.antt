@@ -1,6 +1,6 @@
 -- A set of columns of one row of a board, as a list of truth values: value x tells whether column x is in the set.
 -- There are as many values as a board has columns at most.
-use Rattle.std.specs.Prelude.{ℕ, ◌+◌, ◌*◌, ◌^◌, nat_eq, nat_lt, if◌then◌else◌, ◌&&◌, ◌||◌, Bool, false, List, [], ◌∷◌, map, filter, slice_get, slice_index_or}
+use Rattle.std.specs.Prelude.{ℕ, ◌+◌, ◌*◌, ◌^◌, nat_eq, nat_lt, if◌then◌else◌, ◌&&◌, ◌||◌, not, Bool, false, List, [], ◌∷◌, map, filter, slice_get, slice_index_or}
 use Rattle.std.specs.List.{range_with_len}
 use Rattle.std.specs.Int.{bit_at}
 use Rattle.ps_model.specs.declared.limits.TheConstants.{SIDE_LIMIT}
@@ -49,6 +49,10 @@ both_columns columns others = columns_where (λ x. column_at columns x && column
 
 abbrev pub either_columns : List Bool → List Bool → List Bool
 either_columns columns others = columns_where (λ x. column_at columns x || column_at others x)
+
+-- the columns of one set that aren't in another
+abbrev pub columns_without : List Bool → List Bool → List Bool
+columns_without columns others = columns_where (λ x. column_at columns x && not (column_at others x))
 
 -- the columns so many of whose neighbours to the right on is one of the set
 abbrev pub columns_behind : List Bool → ℕ → List Bool

@@ -7,7 +7,9 @@ ghost use Rattle.ps_model.specs.board.Turns.{same_cells};
 ghost use Rattle.ps_model.specs.declared.limits.TheConstants.{LAYER_LIMIT, SIDE_LIMIT};
 ghost use Rattle.ps_model.specs.declared.pieces.Motion.TheVariants.{Still};
 ghost use Rattle.ps_board.specs.Rooms.{HasRoom, HaveRoom, layer_numbers};
+ghost use Rattle.ps_board.specs.RowsOfGrids.{row_holders, row_movers};
 
+use crate::columns::Columns;
 use ps_model::{LayerId, Memory, Motion, ObjectId};
 use std::alloc::Global;
 
@@ -101,4 +103,16 @@ pub trait Board: Drop {
         requires layers { (grid other.now).layers ≡ (grid self.now).layers }
         requires table { table other.now ≡ table self.now }
         ensures { result ≡ same_cells (grid self.now).cells (grid other.now).cells };
+
+    /// The columns of a row in which the object on a layer is about to do something.
+    fn movers(&self, layer: LayerId, row: u32) -> Columns
+        requires layer { layer.0 < (grid self.now).layers }
+        requires row { row < (grid self.now).height }
+        ensures { result ≡ row_movers (grid self.now) layer.0 row };
+
+    /// The columns of a row in which an object stands on a layer.
+    fn holders(&self, object: ObjectId, layer: LayerId, row: u32) -> Columns
+        requires layer { layer.0 < (grid self.now).layers }
+        requires row { row < (grid self.now).height }
+        ensures { result ≡ row_holders (grid self.now) object layer.0 row };
 }

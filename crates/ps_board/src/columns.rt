@@ -2,7 +2,8 @@
 
 ghost use Rattle.std.specs.Prelude.{◌≡◌, ◌<◌, [], ◌∷◌, None, IfSome, false, length, true};
 ghost use Rattle.ps_model.specs.declared.limits.TheConstants.{SIDE_LIMIT};
-ghost use Rattle.ps_board.specs.ColumnSets.{both_columns, column_at, columns_behind, columns_below, either_columns};
+ghost use Rattle.ps_board.specs.ColumnSets.{both_columns, column_at, columns_behind, columns_below};
+ghost use Rattle.ps_board.specs.ColumnSets.{columns_without, either_columns};
 ghost use Rattle.ps_board.specs.ColumnSets.{no_columns, set_columns, with_column, word_columns};
 
 use ps_model::SIDE_LIMIT;
@@ -115,6 +116,15 @@ impl Columns {
     {
         Columns {
             bits: self.bits | other.bits,
+        }
+    }
+
+    /// The columns of the set that aren't in another.
+    pub fn without(self, other: Columns) -> Columns
+        ensures { result ≡ columns_without self other }
+    {
+        Columns {
+            bits: self.bits & !other.bits,
         }
     }
 

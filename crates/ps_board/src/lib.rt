@@ -4,11 +4,13 @@
 #![tactic(auto)]
 
 mod board;
+mod cell_sets;
 mod columns;
 mod list_board;
 mod slots;
 
 pub use board::Board;
+pub use cell_sets::CellSet;
 pub use columns::Columns;
 pub use list_board::ListBoard;
 pub use ps_model::{Direction, LayerId, Memory, Motion, ObjectId, Slot};

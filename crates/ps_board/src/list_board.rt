@@ -6,7 +6,8 @@ ghost use Rattle.ps_model.specs.board.Grid.{slot_at, slot_at_rest, slot_of};
 ghost use Rattle.ps_model.specs.declared.limits.TheConstants.{LAYER_LIMIT, SIDE_LIMIT};
 
 use crate::board::Board;
-use crate::slots::same_slots;
+use crate::columns::Columns;
+use crate::slots::{is_moving, same_slots, slot_holds};
 use ps_model::{LayerId, Memory, Motion, ObjectId, Slot};
 use std::alloc::Global;
 
@@ -150,6 +151,24 @@ impl Board for ListBoard {
 
     fn same(&self, other: &ListBoard) -> bool {
         same_slots(self.slots.as_slice(), other.slots.as_slice())
+    }
+
+    fn movers(&self, layer: LayerId, row: u32) -> Columns {
+        let mut moving = Columns::none();
+        for column in 0..self.width {
+            let slot = self.slot(column * self.height + row, layer);
+            moving = moving.with(column, is_moving(slot));
+        }
+        moving
+    }
+
+    fn holders(&self, object: ObjectId, layer: LayerId, row: u32) -> Columns {
+        let mut holding = Columns::none();
+        for column in 0..self.width {
+            let slot = self.slot(column * self.height + row, layer);
+            holding = holding.with(column, slot_holds(object, slot));
+        }
+        holding
     }
 }
 

@@ -3,9 +3,11 @@
 ghost use Rattle.std.specs.Prelude.{◌≡◌, length};
 ghost use Rattle.ps_model.specs.board.Attempts.{same_cell, same_slot};
 ghost use Rattle.ps_model.specs.meaning.Fitting.{direction_number, motion_number, same_motion};
+ghost use Rattle.ps_model.specs.meaning.Compiled.{slot_holds};
 ghost use Rattle.ps_model.specs.names.Names.{same_object};
+ghost use Rattle.ps_board.specs.RowsOfGrids.{is_moving};
 
-use ps_model::{Direction, Motion, Slot};
+use ps_model::{Direction, Motion, ObjectId, Slot};
 
 /// A number for each direction.
 fn direction_number(direction: Direction) -> u32
@@ -65,4 +67,24 @@ pub fn same_slots(first: &[Slot], second: &[Slot]) -> bool
         }
     }
     true
+}
+
+/// Whether the object of a slot is about to do something.
+pub fn is_moving(slot: Slot) -> bool
+    ensures { result ≡ is_moving slot }
+{
+    match slot {
+        Slot::Bare => false,
+        Slot::Holds { motion, .. } => !same_motion(Motion::Still, motion),
+    }
+}
+
+/// Whether a slot holds an object.
+pub fn slot_holds(object: ObjectId, slot: Slot) -> bool
+    ensures { result ≡ slot_holds object slot }
+{
+    match slot {
+        Slot::Bare => false,
+        Slot::Holds { object: held, .. } => object.0 == held.0,
+    }
 }

@@ -2,3 +2,4 @@ mod Steps
 mod Order
 mod Ends
 mod Parts
+mod StillCells

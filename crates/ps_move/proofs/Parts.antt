@@ -1,6 +1,7 @@
 -- The parts of a movement: a visit, one part after another, and the rest at the end.
-use Rattle.std.proofs.Common.{◌≡◌, ℕ, ◌+◌, ◌*◌, ◌<◌, ◌≤◌, ◌||◌, Bool, true, false, cond, Option, Some, None, is_some, List, length, get_or, refl, sym, ◌∙◌, ap, subst, arith}
-use Rattle.std.specs.Prelude.{count_by}
+use Rattle.std.proofs.Common.{◌≡◌, ◌≢◌, ℕ, ◌+◌, ◌*◌, ◌<◌, ◌≤◌, ◌||◌, Bool, true, false, cond, Option, Some, None, is_some, List, length, get_or, refl, sym, ◌∙◌, ap, subst, arith}
+use Rattle.std.specs.Prelude.{nat_eq, count_by}
+use Rattle.std.proofs.lemmas.Bool.Decides.{nat_tests}
 use Rattle.std.proofs.Math.Bool.{or-false, or-true, or_assoc}
 use Rattle.std.proofs.Math.Nat.{mul-le-mul}
 use Rattle.std.proofs.lemmas.List.Sums.{sum_by-le, count_by-le-length}
@@ -14,15 +15,35 @@ use Rattle.ps_model.specs.declared.limits.TheConstants.{SIDE_LIMIT, LAYER_LIMIT}
 use Rattle.ps_model.specs.board.Grid.{Grid, IsGrid, IsPlace, slot_at, slot_at_rest, at_rest, with_slot, neighbour}
 use Rattle.ps_model.specs.board.Movement.{target, aim_of, is_bare, is_bare_slot}
 use Rattle.ps_model.specs.board.WeakMovement.{IsWeaklySlid, landing}
-use Rattle.ps_laws.proofs.common.Slots.{slot_at-at_rest, IsGrid-with_slot}
+use Rattle.ps_laws.proofs.common.Slots.{slot_at-at_rest, slot_at-with_same, slot_at-with_other_cell, slot_at-with_other_layer, IsGrid-with_slot}
 use Rattle.ps_laws.proofs.common.Counts.{count_of-at_rest}
 use Rattle.ps_laws.proofs.common.Neighbours.{neighbour-within}
+use Rattle.ps_board.specs.RowsOfGrids.{is_moving}
 use Rattle.ps_move.specs.Visits.{way, if_bare, gone, visited, is_going, going_count}
 use Rattle.ps_move.specs.Midway.{IsMidway}
 use Rattle.ps_move.specs.Order.{IsInOrder}
 use Rattle.ps_move.specs.Parts.{IsPart}
 use Rattle.ps_move.proofs.Steps.{Goes, stepped, half_shape, step_fewer}
 use Rattle.ps_move.proofs.Order.{way_some, time_stays, step_order, next_cell, next_first}
+
+-- a slot that is still was put in place of another
+put_by : (g : Grid) (cell layer : ℕ) (slot : Slot) → IsGrid g → IsPlace g cell layer → is_moving slot ≡ false → (c l : ℕ) (same_c same_l : Bool) →
+    nat_eq c cell ≡ same_c → nat_eq l layer ≡ same_l → is_moving (slot_at g c l) ≡ false → is_moving (slot_at (with_slot g cell layer slot) c l) ≡ false
+put_by g cell layer slot shape place still c l true true a b was =
+    let e : c ≡ cell = grind (arith, nat_tests) in
+    let f : l ≡ layer = grind (arith, nat_tests) in
+    rw (e, f) (ap is_moving (slot_at-with_same g cell layer slot shape place) ∙ still)
+put_by g cell layer slot shape place still c l true false a b was =
+    let e : c ≡ cell = grind (arith, nat_tests) in
+    let f : l ≢ layer = grind (arith, nat_tests) in
+    let here : is_moving (slot_at g cell l) ≡ false = subst (λ (n : ℕ). is_moving (slot_at g n l) ≡ false) e was in
+    rw e (ap is_moving (slot_at-with_other_layer g cell layer l slot shape place f) ∙ here)
+put_by g cell layer slot shape place still c l false same a b was =
+    let e : c ≢ cell = grind (arith, nat_tests) in ap is_moving (slot_at-with_other_cell g cell layer c l slot e) ∙ was
+
+put_still : (g : Grid) (cell layer : ℕ) (slot : Slot) → IsGrid g → IsPlace g cell layer → is_moving slot ≡ false → (c l : ℕ) →
+    is_moving (slot_at g c l) ≡ false → is_moving (slot_at (with_slot g cell layer slot) c l) ≡ false
+put_still g cell layer slot shape place still c l was = put_by g cell layer slot shape place still c l (nat_eq c cell) (nat_eq l layer) refl refl was
 
 -- nothing at all
 pub part_none : (g : Grid) (place : ℕ × ℕ) → IsPart false g g place place
@@ -34,6 +55,7 @@ part_none g place = record {
   order = λ before moved o. subst (λ (b : Bool). IsInOrder before g b place) (sym (or-false moved)) o;
   fewer = omega arith;
   same = λ e. refl;
+  still = λ cell layer still. still;
 }
 
 any_of : (a b : Bool) (m n o : ℕ) → n + cond a 1 0 ≤ m → o + cond b 1 0 ≤ n → o + cond (a || b) 1 0 ≤ m
@@ -54,10 +76,11 @@ part_then a b old now new first next last p q = record {
   order = λ before moved o. subst (λ (c : Bool). IsInOrder before new c last) (or_assoc moved a b) (q.order before (moved || a) (p.order before moved o));
   fewer = any_of a b (going_count old) (going_count now) (going_count new) p.fewer q.fewer;
   same = λ e. let none = none_of a b e in q.same none.1 ∙ p.same none.0;
+  still = λ cell layer still. q.still cell layer (p.still cell layer still);
 }
 
 -- a visit in which nothing goes
-part_stays : (g : Grid) (layer cell : ℕ) → way g layer cell ≡ None → IsPart false g g (cell, layer) (cell, layer + 1)
+pub part_stays : (g : Grid) (layer cell : ℕ) → way g layer cell ≡ None → IsPart false g g (cell, layer) (cell, layer + 1)
 part_stays g layer cell none = record {
   shape = λ shape. shape;
   width = refl;
@@ -67,6 +90,7 @@ part_stays g layer cell none = record {
       (record { midway = o.midway; won = o.won; time = time_stays before g moved layer cell none o.time });
   fewer = omega arith;
   same = λ e. refl;
+  still = λ other l still. still;
 }
 
 -- a visit in which one object goes
@@ -81,6 +105,8 @@ part_goes g layer cell object direction to h = record {
       (step_order before g moved layer cell object direction to o h);
   fewer = let less = step_fewer g layer cell object direction to h in omega arith;
   same = λ e. absurd (cc);
+  still = λ other l still. put_still (with_slot g to layer (Holds object Still)) cell layer Bare (half_shape g layer cell object direction to h) h.here refl other l
+      (put_still g to layer (Holds object Still) h.shape h.there refl other l still);
 }
 
 -- what a visit does, by what stands there and where it can go
@@ -118,6 +144,7 @@ part_cell went old new first cell layer end p = record {
   order = λ before moved o. next_cell before new (moved || went) cell layer end (p.order before moved o);
   fewer = p.fewer;
   same = p.same;
+  still = p.still;
 }
 
 -- how many objects there can be

@@ -11,9 +11,9 @@ ghost use Rattle.ps_model.specs.board.Movement.{slid};
 ghost use Rattle.ps_model.specs.board.WeakMovement.{IsWeaklySlid};
 ghost use Rattle.ps_model.specs.declared.limits.TheConstants.{LAYER_LIMIT, SIDE_LIMIT};
 ghost use Rattle.ps_move.specs.Visits.{way, visited, going_count};
-ghost use Rattle.ps_move.specs.Parts.{IsPart};
+ghost use Rattle.ps_move.specs.Parts.{IsPart, IsStillBeside};
 
-use ps_board::{Board, Direction, LayerId, Motion};
+use ps_board::{Board, CellSet, Direction, LayerId, Motion};
 use std::marker::Model;
 
 /// How a movement went. A contract sees the number of its passes.
@@ -56,27 +56,70 @@ pub fn slide<B: Board>(board: &mut B) -> Slid
     ensures few_passes { result ≤ going_count (B.grid board.old) + 1 }
     ensures table { B.table board.new ≡ B.table board.old }
 {
+    let moving = CellSet::moving(board);
     let mut passes = 1;
-    while pass(board) {
+    while pass(board, &moving) {
         passes += 1;
     }
     board.clear_moves();
     Slid { passes }
 }
 
-/// Visits each cell in the order of the numbers, and tells whether any object went.
-fn pass<B: Board>(board: &mut B) -> bool
+/// Visits those cells in which an object may be about to do something, in the order of their numbers, and tells
+/// whether any object went. In no other cell an object may be.
+fn pass<B: Board>(board: &mut B, moving: &CellSet) -> bool
+    requires still { IsStillBeside (B.grid board.old) moving.now }
     ensures shape { IsGrid (B.grid board.old) }
     ensures part { let old = B.grid board.old in
         IsPart result old (B.grid board.new) (0, 0) (old.width * old.height, 0) }
+    ensures still { IsStillBeside (B.grid board.new) moving.now }
     ensures table { B.table board.new ≡ B.table board.old }
 {
-    let (width, height) = board.size();
+    let (width, _) = board.size();
     let mut went = false;
-    for cell in 0..width * height {
-        went |= visit_cell(board, cell);
+    for column in 0..width {
+        went |= visit_column(board, column, moving);
     }
     went
+}
+
+/// Visits those cells of a column in which an object may be about to do something, from the top, and tells whether any
+/// object went.
+fn visit_column<B: Board>(board: &mut B, column: u32, moving: &CellSet) -> bool
+    requires still { IsStillBeside (B.grid board.old) moving.now }
+    requires column { column < (B.grid board.old).width }
+    ensures part { let old = B.grid board.old in
+        IsPart result old (B.grid board.new) (column * old.height, 0) ((column + 1) * old.height, 0) }
+    ensures table { B.table board.new ≡ B.table board.old }
+{
+    let (_, height) = board.size();
+    if !moving.has_column(column) {
+        return false;
+    }
+    let mut went = false;
+    for row in 0..height {
+        went |= visit_row(board, column, row, moving);
+    }
+    went
+}
+
+/// Visits the cell of a column and a row, if an object may be about to do something there, and tells whether any
+/// object went.
+fn visit_row<B: Board>(board: &mut B, column: u32, row: u32, moving: &CellSet) -> bool
+    requires still { IsStillBeside (B.grid board.old) moving.now }
+    requires shape { IsGrid (B.grid board.old) }
+    requires column { column < (B.grid board.old).width }
+    requires row { row < (B.grid board.old).height }
+    ensures part { let old = B.grid board.old in
+        let cell = column * old.height + row in
+        IsPart result old (B.grid board.new) (cell, 0) (cell + 1, 0) }
+    ensures table { B.table board.new ≡ B.table board.old }
+{
+    let (_, height) = board.size();
+    if !moving.has(column, row) {
+        return false;
+    }
+    visit_cell(board, column * height + row)
 }
 
 /// Visits each layer of a cell, and tells whether any object went.

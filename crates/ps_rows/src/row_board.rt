@@ -13,8 +13,9 @@ use crate::members::Members;
 use crate::motions::{choose_motion, first_motion};
 use crate::planes::{choose_plane, first_plane, plane_row};
 use crate::sameness::same_planes;
-use ps_board::Board;
-use ps_model::{LayerId, Memory, Motion, ObjectId};
+use crate::scanning::columns;
+use ps_board::{Board, Columns};
+use ps_model::{LayerId, LayeredObject, Memory, Motion, ObjectId};
 use std::alloc::Global;
 
 /// A board with one plane for each object of its game and, behind them, five for each layer: of the objects there that
@@ -248,6 +249,16 @@ impl Board for RowBoard {
 
     fn copy_into(&self, other: &mut RowBoard) {
         other.words.copy_from_slice(&self.words);
+    }
+
+    fn movers(&self, layer: LayerId, row: u32) -> Columns {
+        let first = self.motions_from(layer.0);
+        Columns::from_word(columns(self.width) & self.moving_row(first, row))
+    }
+
+    fn holders(&self, object: ObjectId, layer: LayerId, row: u32) -> Columns {
+        let sought = LayeredObject { object, layer };
+        Columns::from_word(columns(self.width) & self.object_row(&sought, row))
     }
 
     fn same(&self, other: &RowBoard) -> bool {

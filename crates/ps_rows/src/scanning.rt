@@ -28,7 +28,7 @@ fn still_row(motion: Motion) -> u64
 }
 
 /// The columns of a board of so many.
-fn columns(width: u32) -> u64
+pub(crate) fn columns(width: u32) -> u64
     requires { (0 < width) × (width ≤ 64) }
     ensures { (x : ℕ) → x < 64 → has_column result x ≡ nat_lt x width }
 {
@@ -37,7 +37,7 @@ fn columns(width: u32) -> u64
 
 impl RowBoard {
     /// Where an object stands on its layer.
-    fn object_row(&self, sought: &LayeredObject, row: u32) -> u64
+    pub(crate) fn object_row(&self, sought: &LayeredObject, row: u32) -> u64
         requires { row < self.now.height }
         ensures { IsRowOf (⟦<RowBoard as Board>⟧.grid self.now) row result (held sought.now) }
     {
@@ -84,7 +84,7 @@ impl RowBoard {
     }
 
     /// The columns of a row that one of a layer's five planes has.
-    fn moving_row(&self, first: u32, row: u32) -> u64
+    pub(crate) fn moving_row(&self, first: u32, row: u32) -> u64
         requires first { first + 4 < motions_from self.now.members.table.items self.now.layers }
         requires few { first + 4 < 2 ^ 32 }
         requires row { row < self.now.height }

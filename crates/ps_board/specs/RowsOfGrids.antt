@@ -1,0 +1,26 @@
+-- Rows of a grid, layer by layer: the columns in which something holds of the slot there. No column beyond the width is in such a
+-- set, since there the slot is bare.
+use Rattle.std.specs.Prelude.{ℕ, ◌+◌, ◌*◌, Bool, not, List}
+use Rattle.ps_model.specs.declared.pieces.ObjectId.{ObjectId}
+use Rattle.ps_model.specs.declared.pieces.Motion.TheVariants.{Still}
+use Rattle.ps_model.specs.declared.pieces.Slot.{Slot}
+use Rattle.ps_model.specs.board.Grid.{Grid, motion_in, slot_at}
+use Rattle.ps_model.specs.meaning.Compiled.{slot_holds}
+use Rattle.ps_model.specs.meaning.Fitting.{same_motion}
+use Rattle.ps_board.specs.ColumnSets.{columns_where}
+
+-- the object of the slot is about to do something
+abbrev pub is_moving : Slot → Bool
+is_moving slot = not (same_motion Still (motion_in slot))
+
+-- the columns of a row in which the slot of a layer passes a test
+abbrev pub row_slots : (Slot → Bool) → Grid → ℕ → ℕ → List Bool
+row_slots passes g layer row = columns_where (λ x. passes (slot_at g (x * g.height + row) layer))
+
+-- the columns of a row in which the object of a layer is about to do something
+abbrev pub row_movers : Grid → ℕ → ℕ → List Bool
+row_movers g layer row = row_slots is_moving g layer row
+
+-- the columns of a row in which an object stands on a layer
+abbrev pub row_holders : Grid → ObjectId → ℕ → ℕ → List Bool
+row_holders g object layer row = row_slots (slot_holds object) g layer row
