@@ -1,4 +1,9 @@
 pub mod BoundNames
+pub mod CountedProducts
+pub mod MotionsAside
 pub mod Pieces
-pub mod WayByWay
+pub mod Quantified
+pub mod ReadingProducts
+pub mod TriedChoices
 pub mod TurnedReadings
+pub mod WayByWay

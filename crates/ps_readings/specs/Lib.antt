@@ -1,8 +1,11 @@
 pub mod BoundMotions
+pub mod Counted
+pub mod ItemWays
 pub mod LeftItems
 pub mod ReadingsLeft
 pub mod ReadingsShown
-pub mod TurnsMade
+pub mod TriedReadings
 pub mod TurnsLeft
+pub mod TurnsMade
 pub mod WantedShown
 pub mod Wheels
