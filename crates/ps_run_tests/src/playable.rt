@@ -15,6 +15,8 @@ use std::alloc::Global;
 pub fn playable_game(alloc: Global, text: &[u8]) -> Result<Game, Refusal>
     ensures { IfOk result (λ game. ArePlayable game.names game.entries) }
 {
-    let game = read_game(alloc, text)?;
-    Ok(game)
+    match read_game(alloc, text) {
+        Ok(game) => Ok(game),
+        Err(refusal) => Err(refusal),
+    }
 }

@@ -1,0 +1,16 @@
+use Rattle.std.proofs.Common.{◌≡◌, ◌<◌, Some, arith}
+use Rattle.ps_model.specs.names.Names.{object_count}
+use Rattle.ps_model.specs.game.Games.{game}
+use Rattle.ps_laws.proofs.texts.BoundedNames.{game-bounded}
+use Rattle.ps_laws.proofs.texts.ObjectsThere.{game-has}
+use Rattle.ps_run_tests.proofs.playable.playable_game.Goals as goal
+
+pub returns-in-Ok : goal.returns-in-Ok
+returns-in-Ok c =
+    let is : game c.args.text.now ≡ Some c.in-Ok.game = c.in-Ok.ensures.read.0 in
+    let some : 0 < object_count c.in-Ok.game.names = (game-has c.args.text.now c.in-Ok.game is).0 in
+    record {
+      bounded = game-bounded c.args.text.now c.in-Ok.game is;
+      some_object = omega arith;
+      sized = c.in-Ok.ensures.sized;
+    }
