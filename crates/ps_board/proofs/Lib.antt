@@ -1,6 +1,7 @@
 mod Cells
 mod SameSlots
 mod RowsPassed
+mod SameRows
 pub mod ColumnLaws
 pub mod ColumnWords
 pub mod PassedColumns

@@ -4,3 +4,4 @@ pub mod ColumnSets
 pub mod CellSets
 pub mod WordsOfColumns
 pub mod RowsOfGrids
+pub mod Rows

@@ -1,6 +1,6 @@
 //! What any board can do.
 
-ghost use Rattle.std.specs.Prelude.{◌≡◌, ℕ, ◌+◌, ◌*◌, ◌<◌, ◌≤◌, IfOk, IfSome, List, None, Option};
+ghost use Rattle.std.specs.Prelude.{◌≡◌, ℕ, ◌+◌, ◌*◌, ◌<◌, ◌≤◌, IfOk, IfSome, List, None, Option, true};
 ghost use Rattle.ps_model.specs.board.Grid.{Grid, IsGrid, IsPlace, at_rest, empty_grid, with_slot};
 ghost use Rattle.ps_model.specs.board.Grid.{motion_in, object_in, slot_at, slot_of};
 ghost use Rattle.ps_model.specs.board.Turns.{same_cells};
@@ -8,6 +8,7 @@ ghost use Rattle.ps_model.specs.declared.limits.TheConstants.{LAYER_LIMIT, SIDE_
 ghost use Rattle.ps_model.specs.declared.pieces.Motion.TheVariants.{Still};
 ghost use Rattle.ps_board.specs.Rooms.{HasRoom, HaveRoom, layer_numbers};
 ghost use Rattle.ps_board.specs.RowsOfGrids.{row_holders, row_movers};
+ghost use Rattle.ps_board.specs.Rows.{HaveSameRow};
 
 use crate::columns::Columns;
 use ps_model::{LayerId, Memory, Motion, ObjectId};
@@ -115,4 +116,21 @@ pub trait Board: Drop {
         requires layer { layer.0 < (grid self.now).layers }
         requires row { row < (grid self.now).height }
         ensures { result ≡ row_holders (grid self.now) object layer.0 row };
+
+    /// Whether another board has the same size, as many layers and the same room.
+    fn is_alike(&self, other: &Self) -> bool
+        ensures width { result ≡ true → (grid other.now).width ≡ (grid self.now).width }
+        ensures height { result ≡ true → (grid other.now).height ≡ (grid self.now).height }
+        ensures layers { result ≡ true → (grid other.now).layers ≡ (grid self.now).layers }
+        ensures table { result ≡ true → table other.now ≡ table self.now };
+
+    /// Whether a row shows the same objects, at rest or not, on another board of the same size, with as many layers and
+    /// the same room. A board may answer `false` of a row that does.
+    fn same_row(&self, other: &Self, row: u32) -> bool
+        requires row { row < (grid self.now).height }
+        requires width { (grid other.now).width ≡ (grid self.now).width }
+        requires height { (grid other.now).height ≡ (grid self.now).height }
+        requires layers { (grid other.now).layers ≡ (grid self.now).layers }
+        requires table { table other.now ≡ table self.now }
+        ensures { result ≡ true → HaveSameRow (grid self.now) (grid other.now) row };
 }

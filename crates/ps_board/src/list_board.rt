@@ -1,9 +1,11 @@
 //! A board that keeps its slots in one list.
 
-ghost use Rattle.std.specs.Prelude.{◌≡◌, ℕ, ◌+◌, ◌*◌, ◌<◌, ◌≤◌, IfOk, None, vec_len};
+ghost use Rattle.std.specs.Prelude.{◌≡◌, ℕ, ◌+◌, ◌*◌, ◌<◌, ◌≤◌, IfOk, None, drop, length, take};
+ghost use Rattle.std.specs.Prelude.{true, vec_len};
 ghost use Rattle.std.specs.Simd.{first_chunks};
-ghost use Rattle.ps_model.specs.board.Grid.{slot_at, slot_at_rest, slot_of};
+ghost use Rattle.ps_model.specs.board.Grid.{cell_at, slot_at, slot_at_rest, slot_of};
 ghost use Rattle.ps_model.specs.declared.limits.TheConstants.{LAYER_LIMIT, SIDE_LIMIT};
+ghost use Rattle.ps_model.specs.session.Frames.{objects_in};
 
 use crate::board::Board;
 use crate::columns::Columns;
@@ -47,6 +49,37 @@ impl ListBoard {
     {
         self.slots[self.place(cell, layer)]
     }
+
+    /// The slots of a cell.
+    fn cell_slots(&self, cell: u32) -> &[Slot]
+        requires { cell < self.now.width * self.now.height }
+        ensures cell { result.now ≡ cell_at (⟦<ListBoard as Board>⟧.grid self.now) cell }
+        ensures whole { length result.now ≡ self.now.layers }
+    {
+        let start = self.place(cell, LayerId(0));
+        stretch(self.slots.as_slice(), start, self.layers as usize)
+    }
+
+    /// Whether a cell has the same slots on another board of the same size with as many layers.
+    fn same_cell(&self, other: &ListBoard, cell: u32) -> bool
+        requires cell { cell < self.now.width * self.now.height }
+        requires width { other.now.width ≡ self.now.width }
+        requires height { other.now.height ≡ self.now.height }
+        requires layers { other.now.layers ≡ self.now.layers }
+        ensures { result ≡ true → objects_in (cell_at (⟦<ListBoard as Board>⟧.grid self.now) cell)
+            ≡ objects_in (cell_at (⟦<ListBoard as Board>⟧.grid other.now) cell) }
+    {
+        same_slots(self.cell_slots(cell), other.cell_slots(cell))
+    }
+}
+
+/// So many slots, from a place on.
+fn stretch(slots: &[Slot], start: usize, count: usize) -> &[Slot]
+    requires { start + count ≤ length slots.now }
+    ensures stretch { result.now ≡ take count (drop start slots.now) }
+    ensures whole { length result.now ≡ count }
+{
+    &slots[start..start + count]
 }
 
 /// The same slot, its object at rest.
@@ -170,6 +203,19 @@ impl Board for ListBoard {
         }
         holding
     }
+
+    fn is_alike(&self, other: &ListBoard) -> bool {
+        self.width == other.width && self.height == other.height && self.layers == other.layers
+    }
+
+    fn same_row(&self, other: &ListBoard, row: u32) -> bool {
+        for column in 0..self.width {
+            if !self.same_cell(other, column * self.height + row) {
+                return false;
+            }
+        }
+        true
+    }
 }
 
 #[cfg(test)]
@@ -244,6 +290,20 @@ mod tests {
         assert_eq!(rt; other.object(0, LayerId(0)), None);
         assert_eq!(rt; other.object(1, LayerId(0)), Some(CRATE));
         assert_eq!(rt; other.motion(1, LayerId(0)), PUSHED);
+        Ok(())
+    }
+
+    #[test]
+    fn tells_which_rows_are_the_same(rt: HostRuntime) -> Result<(), Fail> {
+        let mut board = ListBoard::try_empty(rt.alloc(), 2, 3, 1, &[])?;
+        let other = board.try_copy(rt.alloc())?;
+        board.put(4, LayerId(0), Some(CRATE), Motion::Still);
+        assert!(rt; board.is_alike(&other));
+        assert!(rt; board.same_row(&other, 0));
+        assert!(rt; !board.same_row(&other, 1));
+        assert!(rt; board.same_row(&other, 2));
+        let wider = ListBoard::try_empty(rt.alloc(), 3, 3, 1, &[])?;
+        assert!(rt; !board.is_alike(&wider));
         Ok(())
     }
 }

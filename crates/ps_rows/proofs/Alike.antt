@@ -112,7 +112,7 @@ cell_of_plane : (width height : ℕ) (first second : List ℕ) (plane cell : ℕ
 unfolding has_cell
 cell_of_plane width height first second plane cell some inside same = same (cell % height) (mod_below cell height some) (cell / height) (div_below cell height width some inside)
 
-column_read : (height : ℕ) (words : List ℕ) (row plane x : ℕ) → row < height → has_column (get_or words (plane * height + row) 0) x ≡ has_cell height words (x * height + row) plane
+pub column_read : (height : ℕ) (words : List ℕ) (row plane x : ℕ) → row < height → has_column (get_or words (plane * height + row) 0) x ≡ has_cell height words (x * height + row) plane
 unfolding has_cell
 column_read height words row plane x under = rw (mod-mul-add x height row under, div-mul-add x height row under) refl
 

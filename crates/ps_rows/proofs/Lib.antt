@@ -12,3 +12,4 @@ pub mod Scans
 pub mod Rows
 pub mod Alike
 pub mod RowSets
+pub mod SameRows

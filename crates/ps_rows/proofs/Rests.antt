@@ -26,7 +26,7 @@ use Rattle.ps_rows.proofs.Tables.{tabled_at, tabled_same, tabled_alike, mapped_t
 
 -- reading ----------------------------------------------------------------------------------------------------------------
 
-object_of_slot : (object : Option ℕ) (motion : Motion) → object_in (slot_of (option_map numbered object) motion) ≡ option_map numbered object
+pub object_of_slot : (object : Option ℕ) (motion : Motion) → object_in (slot_of (option_map numbered object) motion) ≡ option_map numbered object
 object_of_slot None motion = refl
 object_of_slot (Some o) motion = refl
 

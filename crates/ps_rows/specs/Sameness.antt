@@ -21,3 +21,8 @@ AreSamePlanes width height first second planes = (plane : ℕ) → list_any (nat
 abbrev pub IsSameLayer : List ℕ → ℕ → ℕ → List ℕ → List ℕ → ℕ → Type 0
 IsSameLayer table width height first second layer = (cell : ℕ) → cell < width * height →
     slot_shown table height first cell layer ≡ slot_shown table height second cell layer
+
+-- the first planes, so many, have the same word for a row
+abbrev pub AreSameWords : ℕ → ℕ → ℕ → List ℕ → List ℕ → Type 0
+AreSameWords height row planes first second = (plane : ℕ) → plane < planes →
+    slice_index first (plane * height + row) ≡ slice_index second (plane * height + row)

@@ -1,6 +1,6 @@
 //! The objects of each layer.
 
-ghost use Rattle.std.specs.Prelude.{◌≡◌, ◌++◌, ◌+◌, ◌<◌, ◌≤◌, ◌∷◌, [], IfOk, OnOk, cond, length, map, slice_get};
+ghost use Rattle.std.specs.Prelude.{◌≡◌, ◌++◌, ◌+◌, ◌<◌, ◌≤◌, ◌∷◌, [], IfOk, OnOk, cond, length, map, slice_get, true};
 ghost use Rattle.std.specs.Prelude.{slice_range, vec_len};
 ghost use Rattle.ps_model.specs.board.Movement.{is_number};
 ghost use Rattle.ps_rows.specs.Members.{AreSpansOf, on_layer};
@@ -126,6 +126,13 @@ impl Members {
         ensures few { result ≤ TABLE_LIMIT }
     {
         self.table.len() as u32
+    }
+
+    /// Whether others are made from the same table.
+    pub fn has_table_of(&self, other: &Members) -> bool
+        ensures { result ≡ true → other.now.table.items ≡ self.now.table.items }
+    {
+        self.table.as_slice() == other.table.as_slice()
     }
 
     /// Whether an object is one of a layer.

@@ -12,7 +12,7 @@ ghost use Rattle.ps_rows.specs.Showing.{motions_from, numbered, object_shown, wi
 use crate::members::Members;
 use crate::motions::{choose_motion, first_motion};
 use crate::planes::{choose_plane, first_plane, plane_row};
-use crate::sameness::same_planes;
+use crate::sameness::{same_planes, same_words};
 use crate::scanning::columns;
 use ps_board::{Board, Columns};
 use ps_model::{LayerId, LayeredObject, Memory, Motion, ObjectId};
@@ -269,6 +269,21 @@ impl Board for RowBoard {
         }
         true
     }
+
+    fn is_alike(&self, other: &RowBoard) -> bool {
+        self.width == other.width
+            && self.height == other.height
+            && self.layers == other.layers
+            && self.members.has_table_of(&other.members)
+    }
+
+    /// The words of the row are compared, in the planes of all objects.
+    fn same_row(&self, other: &RowBoard, row: u32) -> bool {
+        let objects = self.members.count();
+        let here = self.words.as_slice();
+        let there = other.words.as_slice();
+        same_words(here, there, self.height, row, objects)
+    }
 }
 
 #[cfg(test)]
@@ -348,6 +363,24 @@ mod tests {
         assert_eq!(rt; other.object(0, LayerId(0)), None);
         assert_eq!(rt; other.object(1, LayerId(0)), Some(ObjectId(1)));
         assert_eq!(rt; other.motion(1, LayerId(0)), PUSHED);
+        Ok(())
+    }
+
+    #[test]
+    fn tells_which_rows_are_the_same(rt: HostRuntime) -> Result<(), Fail> {
+        let mut board = RowBoard::try_empty(rt.alloc(), 2, 3, 2, &OWN_LAYERS)?;
+        let other = board.try_copy(rt.alloc())?;
+        board.put(4, LayerId(1), Some(ObjectId(2)), Motion::Still);
+        board.put(5, LayerId(1), Some(ObjectId(2)), Motion::Still);
+        board.put(5, LayerId(1), None, Motion::Still);
+        assert!(rt; board.is_alike(&other));
+        assert!(rt; board.same_row(&other, 0));
+        assert!(rt; !board.same_row(&other, 1));
+        assert!(rt; board.same_row(&other, 2));
+        let turned = RowBoard::try_empty(rt.alloc(), 3, 2, 2, &OWN_LAYERS)?;
+        assert!(rt; !board.is_alike(&turned));
+        let fewer = RowBoard::try_empty(rt.alloc(), 2, 3, 2, &[LayerId(1)])?;
+        assert!(rt; !board.is_alike(&fewer));
         Ok(())
     }
 

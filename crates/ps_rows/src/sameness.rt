@@ -2,7 +2,7 @@
 
 ghost use Rattle.std.specs.Prelude.{◌≡◌, ◌+◌, ◌*◌, ◌<◌, ◌≤◌, length, true};
 ghost use Rattle.ps_rows.specs.Planes.{HavePlanes};
-ghost use Rattle.ps_rows.specs.Sameness.{AreSamePlanes, AreSameRows, IsSamePlane};
+ghost use Rattle.ps_rows.specs.Sameness.{AreSamePlanes, AreSameRows, AreSameWords, IsSamePlane};
 
 use crate::planes::plane_row;
 
@@ -43,6 +43,21 @@ pub fn same_planes(first: &[u64], second: &[u64], width: u32, height: u32, plane
 {
     for plane in planes {
         if !same_plane(first, second, width, height, *plane) {
+            return false;
+        }
+    }
+    true
+}
+
+/// Whether so many planes, the first ones, have the same word for a row on two boards of so many rows.
+pub fn same_words(first: &[u64], second: &[u64], height: u32, row: u32, planes: u32) -> bool
+    requires row { row < height }
+    requires first { planes * height ≤ length first.now }
+    requires second { planes * height ≤ length second.now }
+    ensures { result ≡ true → AreSameWords height row planes first.now second.now }
+{
+    for plane in 0..planes {
+        if plane_row(first, height, plane, row) != plane_row(second, height, plane, row) {
             return false;
         }
     }
