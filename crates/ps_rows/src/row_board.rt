@@ -15,7 +15,7 @@ use crate::planes::{choose_plane, first_plane, plane_row};
 use crate::sameness::{same_planes, same_words};
 use crate::scanning::columns;
 use ps_board::{Board, Columns};
-use ps_model::{LayerId, LayeredObject, Memory, Motion, ObjectId};
+use ps_model::{LayerId, LayeredObject, Memory, Motion, MotionTest, ObjectId};
 use std::alloc::Global;
 
 /// A board with one plane for each object of its game and, behind them, five for each layer: of the objects there that
@@ -252,8 +252,11 @@ impl Board for RowBoard {
     }
 
     fn movers(&self, layer: LayerId, row: u32) -> Columns {
-        let first = self.motions_from(layer.0);
-        Columns::from_word(columns(self.width) & self.moving_row(first, row))
+        let still = MotionTest {
+            layer,
+            motion: Motion::Still,
+        };
+        Columns::from_word(columns(self.width) & !self.motion_row(&still, row))
     }
 
     fn holders(&self, object: ObjectId, layer: LayerId, row: u32) -> Columns {

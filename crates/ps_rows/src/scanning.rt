@@ -84,7 +84,7 @@ impl RowBoard {
     }
 
     /// The columns of a row that one of a layer's five planes has.
-    pub(crate) fn moving_row(&self, first: u32, row: u32) -> u64
+    fn moving_row(&self, first: u32, row: u32) -> u64
         requires first { first + 4 < motions_from self.now.members.table.items self.now.layers }
         requires few { first + 4 < 2 ^ 32 }
         requires row { row < self.now.height }
@@ -98,7 +98,7 @@ impl RowBoard {
     }
 
     /// Where a layer has the motion that is asked for.
-    fn motion_row(&self, test: &MotionTest, row: u32) -> u64
+    pub(crate) fn motion_row(&self, test: &MotionTest, row: u32) -> u64
         requires { row < self.now.height }
         ensures { IsRowOf (⟦<RowBoard as Board>⟧.grid self.now) row result (moved test.now) }
     {

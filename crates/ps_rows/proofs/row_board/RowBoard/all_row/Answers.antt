@@ -1,7 +1,6 @@
 use Rattle.std.proofs.Common.{◌<◌, ◌≤◌, List, length, subst, arith}
 use Rattle.std.proofs.lemmas.List.{take_all}
 use Rattle.ps_model.specs.declared.compiled.LayeredObject.{LayeredObject}
-use Rattle.ps_model.specs.board.Grid.{Grid}
 use Rattle.ps_model.specs.meaning.Compiled.{is_held_in}
 use Rattle.ps_rows.specs.Showing.{grid_shown}
 use Rattle.ps_rows.specs.RowTests.{IsRowOf, held_all}

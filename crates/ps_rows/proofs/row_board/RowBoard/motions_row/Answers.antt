@@ -1,7 +1,6 @@
 use Rattle.std.proofs.Common.{◌<◌, ◌≤◌, List, length, subst, arith}
 use Rattle.std.proofs.lemmas.List.{take_all}
 use Rattle.ps_model.specs.declared.compiled.MotionTest.{MotionTest}
-use Rattle.ps_model.specs.board.Grid.{Grid}
 use Rattle.ps_model.specs.meaning.Compiled.{moves_as_asked}
 use Rattle.ps_rows.specs.Showing.{grid_shown}
 use Rattle.ps_rows.specs.RowTests.{IsRowOf, moved_all}

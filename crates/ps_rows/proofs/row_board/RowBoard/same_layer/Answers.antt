@@ -1,4 +1,4 @@
-use Rattle.std.proofs.Common.{◌≡◌, ◌*◌, ◌∙◌, ℕ, List, sym}
+use Rattle.std.proofs.Common.{◌*◌, ◌∙◌, ℕ, List, sym}
 use Rattle.ps_rows.specs.Members.{on_layer}
 use Rattle.ps_rows.specs.Showing.{motion_planes, motions_from, AreObjectsShown, AreMotionsShown}
 use Rattle.ps_rows.specs.Sameness.{AreSamePlanes}

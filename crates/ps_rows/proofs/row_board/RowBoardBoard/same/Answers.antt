@@ -1,4 +1,4 @@
-use Rattle.std.proofs.Common.{◌≡◌, ◌<◌, ◌≤◌, ℕ, List, arith}
+use Rattle.std.proofs.Common.{◌≡◌, ◌<◌, ◌≤◌, arith}
 use Rattle.std.proofs.lemmas.Option.{same_Some}
 use Rattle.ps_rows.proofs.Alike.{board_same, board_other}
 use Rattle.ps_rows.proofs.row_board.RowBoardBoard.same.Goals as goal

@@ -1,0 +1,20 @@
+use Rattle.std.proofs.Common.{◌∙◌, ◌+◌, ◌*◌, bit_and, refl}
+use Rattle.ps_model.specs.board.Grid.{Grid, slot_at}
+use Rattle.ps_model.specs.meaning.Compiled.{slot_holds}
+use Rattle.ps_board.specs.ColumnSets.{bit_is_set}
+use Rattle.ps_board.proofs.ColumnLaws.{columns-agree}
+use Rattle.ps_rows.specs.Planes.{has_column}
+use Rattle.ps_rows.specs.Showing.{grid_shown}
+use Rattle.ps_rows.proofs.Rests.{cells_long}
+use Rattle.ps_rows.proofs.RowSets.{row_cut}
+use Rattle.ps_rows.proofs.row_board.RowBoardBoard.holders.Goals as goal
+
+pub returns : goal.returns
+unfolding has_column
+returns c =
+    let b = c.args.self.now in
+    let g : Grid = grid_shown b.members.table.items b.width b.height b.layers b.words.items in
+    c.from_word.ensures
+    ∙ columns-agree (bit_is_set (bit_and c.columns.result c.object_row.result)) (λ x. slot_holds c.args.object (slot_at g (x * b.height + c.args.row) c.args.layer.0))
+    (row_cut g c.args.row c.args.layer.0 c.columns.result c.object_row.result (slot_holds c.args.object)
+    (cells_long b.members.table.items b.layers b.height b.words.items (b.width * b.height)) c.columns.ensures c.object_row.ensures refl)
