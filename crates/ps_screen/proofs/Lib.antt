@@ -1,2 +1,3 @@
+mod KeptRows
 mod Objects
 mod Painting

@@ -1,11 +1,13 @@
 //! Frames, asked of a picture.
 
-ghost use Rattle.std.specs.Prelude.{◌≡◌, ◌++◌, OnOk, OnErr};
+ghost use Rattle.std.specs.Prelude.{◌≡◌, ◌++◌, ◌≤◌, IfOk, IfSome, OnOk, OnErr, vec_len};
+ghost use Rattle.ps_model.specs.board.Levels.{background_layer};
 ghost use Rattle.ps_model.specs.session.Frames.{frame};
+ghost use Rattle.ps_screen.specs.KeptRows.{AreRowsOf};
 
 use crate::cells::Room;
 use crate::meanings::ground_layer;
-use crate::rows::add_frame;
+use crate::rows::{draw_rows, patch_rows};
 use crate::screen::Screen;
 use ps_board::Board;
 use ps_model::{LayerId, Memory};
@@ -13,38 +15,44 @@ use ps_names::Names;
 use std::alloc::Global;
 use std::marker::Model;
 
-/// The frames of a game: what they need of its names, made ready once, and the bytes of the last frame. Contracts see
-/// the names.
+/// The frames of a game: what they need of its names, made ready once, the rows of the last frame, and a board that
+/// shows what that frame does, if there was one and the rows are those of its frame. Contracts see the names.
 #[derive(Drop)]
-pub struct Picture<'g> {
+pub struct Picture<'g, B: Board> {
+    alloc: Global,
     names: &'g Names,
     ground: LayerId,
     room: Room,
-    last: Screen,
+    rows: Vec<Screen>,
+    shown: Option<B>,
 }
 
-impl<'g> Model for Picture<'g> {
-    ghost use Rattle.std.specs.Prelude.{◌≡◌};
+impl<'g, B: Board> Model for Picture<'g, B> {
+    ghost use Rattle.std.specs.Prelude.{◌≡◌, IfSome};
     ghost use Rattle.ps_model.specs.names.Names.{Names as Meant};
     ghost use Rattle.ps_model.specs.board.Levels.{background_layer};
+    ghost use Rattle.ps_screen.specs.KeptRows.{AreRowsOf};
 
     ghost Value = { Meant };
 
     ghost view = { λ p. p.names.now };
 
-    ghost invariant = { λ p. p.ground.0 ≡ background_layer p.names.now };
+    ghost invariant = { λ p. (p.ground.0 ≡ background_layer p.names.now)
+        × IfSome p.shown (λ board. AreRowsOf p.names.now (B.grid board) p.rows.items) };
 }
 
-impl<'g> Picture<'g> {
+impl<'g, B: Board> Picture<'g, B> {
     /// A picture for the game of these names, which has shown nothing.
-    pub fn new(alloc: Global, names: &'g Names) -> Picture<'g>
+    pub fn new(alloc: Global, names: &'g Names) -> Picture<'g, B>
         ensures { result ≡ names.entry.now }
     {
         Picture {
+            alloc,
             names,
             ground: ground_layer(names),
             room: Room::new(alloc),
-            last: Screen::new(alloc),
+            rows: Vec::new(alloc),
+            shown: None,
         }
     }
 
@@ -53,19 +61,69 @@ impl<'g> Picture<'g> {
     /// # Errors
     ///
     /// `Memory`, and the screen is as before.
-    pub fn show<B: Board>(&mut self, board: &B, screen: &mut Screen) -> Result<(), Memory>
+    pub fn show(&mut self, board: &B, screen: &mut Screen) -> Result<(), Memory>
         ensures names { self.new ≡ self.old }
         ensures shown { OnOk result (screen.new ≡ screen.old ++ frame self.old (B.grid board.now)) }
         ensures kept { OnErr result (screen.new ≡ screen.old) }
     {
-        self.last.clear();
-        add_frame(
+        let (_, height) = board.size();
+        let shown = redraw(
+            self.alloc,
             self.names,
             self.ground,
+            self.shown.take(),
             board,
             &mut self.room,
-            &mut self.last,
+            &mut self.rows,
         )?;
-        screen.add(self.last.bytes())
+        self.shown = Some(shown);
+        screen.add_frame(&self.rows[..height as usize])
     }
+}
+
+/// Makes these texts the rows of a board's frame, and gives a board that shows the same. If they were the rows of
+/// another board alike, takes over those that show the same, and gives that board.
+///
+/// # Errors
+///
+/// `Memory`, and some of the texts may have been made.
+fn redraw<B: Board>(
+    alloc: Global,
+    names: &Names,
+    ground: LayerId,
+    shown: Option<B>,
+    board: &B,
+    room: &mut Room,
+    texts: &mut Vec<Screen>,
+) -> Result<B, Memory>
+    requires ground { ground.0 ≡ background_layer names.now }
+    requires texts { IfSome shown (λ before. AreRowsOf names.now (B.grid before) texts.old.items) }
+    ensures grid { IfOk result (λ same. B.grid same ≡ B.grid board.now) }
+    ensures texts { OnOk result (AreRowsOf names.now (B.grid board.now) texts.new.items) }
+{
+    if let Some(mut before) = shown {
+        if board.is_alike(&before) {
+            patch_rows(names, ground, &before, board, room, texts.as_mut_slice())?;
+            board.copy_into(&mut before);
+            return Ok(before);
+        }
+    }
+    let (_, height) = board.size();
+    make_room(alloc, height as usize, texts)?;
+    draw_rows(names, ground, board, room, texts.as_mut_slice())?;
+    board.try_copy(alloc)
+}
+
+/// Adds texts without bytes, until there are so many texts or more.
+///
+/// # Errors
+///
+/// `Memory`, and some of the texts may have been added.
+fn make_room(alloc: Global, count: usize, texts: &mut Vec<Screen>) -> Result<(), Memory>
+    ensures { OnOk result (count ≤ vec_len texts.new) }
+{
+    for _text in texts.len()..count {
+        texts.push(Screen::new(alloc))?;
+    }
+    Ok(())
 }

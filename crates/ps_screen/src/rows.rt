@@ -1,8 +1,9 @@
-//! The rows of a frame.
+//! The rows of a frame, each a text of its own.
 
-ghost use Rattle.std.specs.Prelude.{◌≡◌, ◌++◌, ◌<◌, OnOk};
+ghost use Rattle.std.specs.Prelude.{◌≡◌, ◌++◌, ◌<◌, ◌≤◌, OnOk, length};
 ghost use Rattle.ps_model.specs.board.Levels.{background_layer};
-ghost use Rattle.ps_model.specs.session.Frames.{frame_row, frame};
+ghost use Rattle.ps_model.specs.session.Frames.{frame_row};
+ghost use Rattle.ps_screen.specs.KeptRows.{AreRowsOf};
 
 use crate::cells::{Room, cell_character};
 use crate::screen::Screen;
@@ -10,26 +11,100 @@ use ps_board::Board;
 use ps_model::{LayerId, Memory};
 use ps_names::Names;
 
-/// Adds a frame of a board: its rows from the top, then an empty line.
+/// Makes these texts the rows of a board's frame.
 ///
 /// # Errors
 ///
-/// `Memory`, and a part of the frame may have been added.
-pub fn add_frame<B: Board>(
+/// `Memory`, and some of the texts may have been made.
+pub fn draw_rows<B: Board>(
     names: &Names,
     ground: LayerId,
     board: &B,
     room: &mut Room,
-    screen: &mut Screen,
+    texts: &mut [Screen],
 ) -> Result<(), Memory>
     requires ground { ground.0 ≡ background_layer names.now }
-    ensures { OnOk result (screen.new ≡ screen.old ++ frame names.now (B.grid board.now)) }
+    requires long { (B.grid board.now).height ≤ length texts.old }
+    ensures { OnOk result (AreRowsOf names.now (B.grid board.now) texts.new) }
 {
     let (_, height) = board.size();
     for row in 0..height {
-        add_row(names, ground, board, row, room, screen)?;
+        let text = &mut texts[row as usize];
+        draw_row(names, ground, board, row, room, text)?;
     }
-    screen.add(b"\n")
+    Ok(())
+}
+
+/// Makes these texts, the rows of the frame of one board, those of another board alike: takes over each row that shows
+/// the same, and makes the others.
+///
+/// # Errors
+///
+/// `Memory`, and some of the texts may have been made.
+pub fn patch_rows<B: Board>(
+    names: &Names,
+    ground: LayerId,
+    shown: &B,
+    board: &B,
+    room: &mut Room,
+    texts: &mut [Screen],
+) -> Result<(), Memory>
+    requires ground { ground.0 ≡ background_layer names.now }
+    requires width { (B.grid shown.now).width ≡ (B.grid board.now).width }
+    requires height { (B.grid shown.now).height ≡ (B.grid board.now).height }
+    requires layers { (B.grid shown.now).layers ≡ (B.grid board.now).layers }
+    requires table { B.table shown.now ≡ B.table board.now }
+    requires texts { AreRowsOf names.now (B.grid shown.now) texts.old }
+    ensures { OnOk result (AreRowsOf names.now (B.grid board.now) texts.new) }
+{
+    let (_, height) = board.size();
+    for row in 0..height {
+        let text = &mut texts[row as usize];
+        patch_row(names, ground, shown, board, row, room, text)?;
+    }
+    Ok(())
+}
+
+/// Makes a text, a row of the frame of one board, that of another board alike: leaves it, if the row shows the same.
+fn patch_row<B: Board>(
+    names: &Names,
+    ground: LayerId,
+    shown: &B,
+    board: &B,
+    row: u32,
+    room: &mut Room,
+    text: &mut Screen,
+) -> Result<(), Memory>
+    requires ground { ground.0 ≡ background_layer names.now }
+    requires row { row < (B.grid board.now).height }
+    requires width { (B.grid shown.now).width ≡ (B.grid board.now).width }
+    requires height { (B.grid shown.now).height ≡ (B.grid board.now).height }
+    requires layers { (B.grid shown.now).layers ≡ (B.grid board.now).layers }
+    requires table { B.table shown.now ≡ B.table board.now }
+    requires text { text.old ≡ frame_row names.now (B.grid shown.now) row }
+    ensures { OnOk result (text.new ≡ frame_row names.now (B.grid board.now) row) }
+{
+    if board.same_row(shown, row) {
+        return Ok(());
+    }
+    draw_row(names, ground, board, row, room, text)
+}
+
+/// Makes a text a row of a board's frame.
+fn draw_row<B: Board>(
+    names: &Names,
+    ground: LayerId,
+    board: &B,
+    row: u32,
+    room: &mut Room,
+    text: &mut Screen,
+) -> Result<(), Memory>
+    requires ground { ground.0 ≡ background_layer names.now }
+    requires row { row < (B.grid board.now).height }
+    ensures { OnOk result (text.new ≡ frame_row names.now (B.grid board.now) row) }
+{
+    text.clear();
+    add_row(names, ground, board, row, room, text)
 }
 
 /// Adds a row of a frame.

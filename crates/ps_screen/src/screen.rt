@@ -2,6 +2,7 @@
 
 ghost use Rattle.std.specs.Prelude.{◌≡◌, ◌≤◌, [], ◌++◌, OnOk, OnErr, encode_utf8, length, take, codes};
 ghost use Rattle.std.specs.Fmt.{decimal};
+ghost use Rattle.std.specs.List.{flat_map};
 ghost use Rattle.ps_model.specs.session.Frames.{written_line};
 
 use ps_model::Memory;
@@ -104,6 +105,34 @@ impl Screen {
     {
         self.add(mark.as_bytes())?;
         self.add(text.as_bytes())?;
+        self.add(b"\n")
+    }
+
+    /// Adds a frame of these rows, then an empty line.
+    ///
+    /// # Errors
+    ///
+    /// `Memory`, and the bytes are as before.
+    pub fn add_frame(&mut self, rows: &[Screen]) -> Result<(), Memory>
+        ensures added { OnOk result (self.new ≡ self.old ++ (flat_map (λ row. row) rows.now ++ codes "\n")) }
+        ensures kept { OnErr result (self.new ≡ self.old) }
+    {
+        let start = self.text.len();
+        if let Err(Memory) = self.add_rows(rows) {
+            self.text.truncate(start);
+            return Err(Memory);
+        }
+        Ok(())
+    }
+
+    /// Adds the rows of a frame one after the other, and an empty line; without memory, some of them.
+    fn add_rows(&mut self, rows: &[Screen]) -> Result<(), Memory>
+        ensures added { OnOk result (self.new ≡ self.old ++ (flat_map (λ row. row) rows.now ++ codes "\n")) }
+        ensures front { OnErr result (take (length self.old) self.new ≡ self.old) }
+    {
+        for row in rows {
+            self.add(row.bytes())?;
+        }
         self.add(b"\n")
     }
 

@@ -27,7 +27,7 @@ use std::alloc::Global;
 /// # Errors
 ///
 /// `Memory`.
-pub fn quits<B: Board>(stage: &mut Stage<'_>) -> Result<Next<PlayedLevel<B>>, Memory>
+pub fn quits<B: Board>(stage: &mut Stage<'_, B>) -> Result<Next<PlayedLevel<B>>, Memory>
     requires empty { stage.old.text ≡ [] }
     ensures game { stage.new.game ≡ stage.old.game }
     ensures came { IfOk result (λ next. (history : List Grid) (place : MeantPlace Standing)
@@ -44,7 +44,7 @@ pub fn quits<B: Board>(stage: &mut Stage<'_>) -> Result<Next<PlayedLevel<B>>, Me
 ///
 /// `Memory`, and the level is as before.
 fn moves<B: Board, R: Rules<B>>(
-    stage: &mut Stage<'_>,
+    stage: &mut Stage<'_, B>,
     rules: &mut Programs<R>,
     level: &mut PlayedLevel<B>,
     input: Input,
@@ -72,7 +72,7 @@ fn moves<B: Board, R: Rules<B>>(
 /// `Memory`.
 fn undoes<B: Board>(
     alloc: Global,
-    stage: &mut Stage<'_>,
+    stage: &mut Stage<'_, B>,
     level: &PlayedLevel<B>,
     history: &HeapCircularBuffer<B>,
 ) -> Result<Next<PlayedLevel<B>>, Memory>
@@ -100,7 +100,7 @@ fn undoes<B: Board>(
 ///
 /// `Memory`.
 fn restarts<B: Board, R: Rules<B>>(
-    stage: &mut Stage<'_>,
+    stage: &mut Stage<'_, B>,
     rules: &mut Programs<R>,
     level: &PlayedLevel<B>,
 ) -> Result<Next<PlayedLevel<B>>, Memory>
@@ -126,7 +126,7 @@ fn restarts<B: Board, R: Rules<B>>(
 /// `Memory`, and the level is as before.
 pub fn key_in_level<B: Board, R: Rules<B>>(
     alloc: Global,
-    stage: &mut Stage<'_>,
+    stage: &mut Stage<'_, B>,
     rules: &mut Programs<R>,
     level: &mut PlayedLevel<B>,
     history: &HeapCircularBuffer<B>,

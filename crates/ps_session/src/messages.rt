@@ -24,7 +24,7 @@ use ps_turn::{Programs, Rules};
 ///
 /// `Memory`.
 pub fn key_at_level_message<B: Board, R: Rules<B>>(
-    stage: &mut Stage<'_>,
+    stage: &mut Stage<'_, B>,
     rules: &mut Programs<R>,
     level: &PlayedLevel<B>,
     pending: Pending,
@@ -60,7 +60,7 @@ pub fn key_at_level_message<B: Board, R: Rules<B>>(
 ///
 /// `Memory`.
 pub fn key_at_entry<B: Board, R: Rules<B>>(
-    stage: &mut Stage<'_>,
+    stage: &mut Stage<'_, B>,
     rules: &mut Programs<R>,
     entry: &EntryNumber,
     key: Key,

@@ -25,7 +25,7 @@ use std::alloc::Global;
 /// `Memory`, and the place is as before.
 pub fn next_at<B: Board, R: Rules<B>>(
     alloc: Global,
-    stage: &mut Stage<'_>,
+    stage: &mut Stage<'_, B>,
     rules: &mut Programs<R>,
     place: &mut Place<PlayedLevel<B>>,
     history: &HeapCircularBuffer<B>,

@@ -23,7 +23,7 @@ use std::marker::Model;
 #[derive(Drop)]
 pub struct Session<'g, B: Board> {
     alloc: Global,
-    stage: Stage<'g>,
+    stage: Stage<'g, B>,
     place: Place<PlayedLevel<B>>,
     history: HeapCircularBuffer<B>,
 }

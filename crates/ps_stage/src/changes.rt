@@ -33,9 +33,9 @@ fn past_if(changed: bool) -> Past
     }
 }
 
-impl<'g> Stage<'g> {
+impl<'g, B: Board> Stage<'g, B> {
     /// Shows the level of a blocked turn, and its message, if it has one.
-    fn tell_blocked<B: Board>(
+    fn tell_blocked(
         &mut self,
         level: &PlayedLevel<B>,
         message: &Option<Text>,
@@ -54,7 +54,7 @@ impl<'g> Stage<'g> {
     }
 
     /// Goes where the turns of a key have ended, with the history as it is then.
-    fn finish_key<B: Board, R: Rules<B>>(
+    fn finish_key<R: Rules<B>>(
         &mut self,
         rules: &mut Programs<R>,
         level: PlayedLevel<B>,
@@ -86,7 +86,7 @@ impl<'g> Stage<'g> {
 
     /// What follows a done turn of a key, of which this level came: its frame, its message, the end of the level or
     /// again turns.
-    fn follow_key<B: Board, R: Rules<B>>(
+    fn follow_key<R: Rules<B>>(
         &mut self,
         rules: &mut Programs<R>,
         mut level: PlayedLevel<B>,
@@ -122,7 +122,7 @@ impl<'g> Stage<'g> {
     /// # Errors
     ///
     /// `Memory`, and a part of the text may have been made.
-    pub fn take_input<B: Board, R: Rules<B>>(
+    pub fn take_input<R: Rules<B>>(
         &mut self,
         rules: &mut Programs<R>,
         level: &mut PlayedLevel<B>,
@@ -161,7 +161,7 @@ impl<'g> Stage<'g> {
     /// # Errors
     ///
     /// `Memory`, and a part of the text may have been made.
-    pub fn go_on<B: Board, R: Rules<B>>(
+    pub fn go_on<R: Rules<B>>(
         &mut self,
         rules: &mut Programs<R>,
         level: &PlayedLevel<B>,

@@ -68,9 +68,9 @@ pub(crate) fn placed<B: Board>(
     }
 }
 
-impl<'g> Stage<'g> {
+impl<'g, B: Board> Stage<'g, B> {
     /// A level begins: its line, and its start.
-    fn enter_level<B: Board, R: Rules<B>>(
+    fn enter_level<R: Rules<B>>(
         &mut self,
         rules: &mut Programs<R>,
         number: usize,
@@ -104,7 +104,7 @@ impl<'g> Stage<'g> {
     /// # Errors
     ///
     /// `Memory`, and a part of the text may have been made.
-    pub fn enter<B: Board, R: Rules<B>>(
+    pub fn enter<R: Rules<B>>(
         &mut self,
         rules: &mut Programs<R>,
         entry: usize,
@@ -141,7 +141,7 @@ impl<'g> Stage<'g> {
     /// # Errors
     ///
     /// `Memory`, and a part of the text may have been made.
-    pub fn level_done<B: Board, R: Rules<B>>(
+    pub fn level_done<R: Rules<B>>(
         &mut self,
         rules: &mut Programs<R>,
         level: &PlayedLevel<B>,
@@ -168,7 +168,7 @@ impl<'g> Stage<'g> {
     /// # Errors
     ///
     /// `Memory`, and a part of the text may have been made.
-    pub fn restart<B: Board, R: Rules<B>>(
+    pub fn restart<R: Rules<B>>(
         &mut self,
         rules: &mut Programs<R>,
         level: &PlayedLevel<B>,

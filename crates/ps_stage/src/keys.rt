@@ -32,7 +32,7 @@ fn key_pending(win: bool, again: bool, left: u32) -> Pending
     Pending::Nothing
 }
 
-impl<'g> Stage<'g> {
+impl<'g, B: Board> Stage<'g, B> {
     /// Tells what comes behind a frame of a key: a message waits; without one the level ends on a win; otherwise the
     /// again turns come, if the turn is to come again.
     fn tell_key(&mut self, done: &DoneTurn, left: u32) -> Result<KeyTold, Memory>
@@ -55,7 +55,7 @@ impl<'g> Stage<'g> {
     }
 
     /// Shows the board behind a done turn of a key, and tells what comes behind the frame.
-    pub(crate) fn tell_key_turn<B: Board>(
+    pub(crate) fn tell_key_turn(
         &mut self,
         level: &PlayedLevel<B>,
         done: &DoneTurn,
@@ -73,7 +73,7 @@ impl<'g> Stage<'g> {
 
     /// One again turn of a key: one that is blocked, or neither changed the board nor won, is as if not run, and ends
     /// them; so does a restart.
-    fn key_turn<B: Board, R: Rules<B>>(
+    fn key_turn<R: Rules<B>>(
         &mut self,
         rules: &mut Programs<R>,
         level: &mut PlayedLevel<B>,
@@ -112,7 +112,7 @@ impl<'g> Stage<'g> {
     }
 
     /// The again turns of a key, so many at most.
-    pub(crate) fn key_turns<B: Board, R: Rules<B>>(
+    pub(crate) fn key_turns<R: Rules<B>>(
         &mut self,
         rules: &mut Programs<R>,
         level: &mut PlayedLevel<B>,
@@ -141,7 +141,7 @@ impl<'g> Stage<'g> {
     }
 
     /// The again turns of a key, as many as there may be.
-    pub(crate) fn all_key_turns<B: Board, R: Rules<B>>(
+    pub(crate) fn all_key_turns<R: Rules<B>>(
         &mut self,
         rules: &mut Programs<R>,
         level: &mut PlayedLevel<B>,

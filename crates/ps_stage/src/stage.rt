@@ -17,14 +17,14 @@ use std::marker::Model;
 /// A game in play, its picture, and the text that a key makes. The text goes to the screen when all else is done, so
 /// that a key which fails writes nothing.
 #[derive(Drop)]
-pub struct Stage<'g> {
+pub struct Stage<'g, B: Board> {
     pub(crate) alloc: Global,
     pub(crate) game: SessionGame<'g>,
-    picture: Picture<'g>,
+    picture: Picture<'g, B>,
     pub(crate) text: Screen,
 }
 
-impl<'g> Model for Stage<'g> {
+impl<'g, B: Board> Model for Stage<'g, B> {
     ghost use Rattle.std.specs.Prelude.{◌≡◌};
     ghost use Rattle.ps_stage.specs.Standings.{StageValue};
 
@@ -35,9 +35,9 @@ impl<'g> Model for Stage<'g> {
     ghost invariant = { λ s. s.picture ≡ s.game.names };
 }
 
-impl<'g> Stage<'g> {
+impl<'g, B: Board> Stage<'g, B> {
     /// A game without a text.
-    pub fn new(alloc: Global, game: SessionGame<'g>) -> Stage<'g>
+    pub fn new(alloc: Global, game: SessionGame<'g>) -> Stage<'g, B>
         ensures game { result.game ≡ game.entry }
         ensures text { result.text ≡ [] }
     {
@@ -109,7 +109,7 @@ impl<'g> Stage<'g> {
     /// # Errors
     ///
     /// `Memory`.
-    pub fn show<B: Board>(&mut self, board: &B) -> Result<(), Memory>
+    pub fn show(&mut self, board: &B) -> Result<(), Memory>
         ensures game { self.new.game ≡ self.old.game }
         ensures shown { OnOk result (self.new.text ≡ self.old.text ++ frame self.old.game.names (B.grid board.now)) }
     {

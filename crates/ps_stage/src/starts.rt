@@ -46,7 +46,7 @@ pub(crate) fn again_limit() -> u32
     AGAIN_LIMIT
 }
 
-impl<'g> Stage<'g> {
+impl<'g, B: Board> Stage<'g, B> {
     /// Tells what comes behind a frame of a start: a message waits; without one the again turns come, if the turn is to
     /// come again.
     fn tell_start(&mut self, message: &Option<Text>, again: bool, left: u32) -> Result<Told, Memory>
@@ -66,7 +66,7 @@ impl<'g> Stage<'g> {
     }
 
     /// Shows the board behind a done turn of a start, if the turn changed it, and tells what comes behind the frame.
-    fn tell_start_turn<B: Board>(
+    fn tell_start_turn(
         &mut self,
         level: &PlayedLevel<B>,
         done: &DoneTurn,
@@ -85,7 +85,7 @@ impl<'g> Stage<'g> {
     }
 
     /// One again turn of a start: one that leaves the board as it was is as if not run, and ends them.
-    fn start_turn<B: Board, R: Rules<B>>(
+    fn start_turn<R: Rules<B>>(
         &mut self,
         rules: &mut Programs<R>,
         level: &mut PlayedLevel<B>,
@@ -112,7 +112,7 @@ impl<'g> Stage<'g> {
     }
 
     /// The again turns of a start, so many at most.
-    pub(crate) fn start_turns<B: Board, R: Rules<B>>(
+    pub(crate) fn start_turns<R: Rules<B>>(
         &mut self,
         rules: &mut Programs<R>,
         level: &mut PlayedLevel<B>,
@@ -141,7 +141,7 @@ impl<'g> Stage<'g> {
     }
 
     /// The again turns of a start, as many as there may be.
-    fn all_start_turns<B: Board, R: Rules<B>>(
+    fn all_start_turns<R: Rules<B>>(
         &mut self,
         rules: &mut Programs<R>,
         level: &mut PlayedLevel<B>,
@@ -163,7 +163,7 @@ impl<'g> Stage<'g> {
     }
 
     /// A level from its first frame on, with a message or without one, and with again turns or without.
-    fn started<B: Board, R: Rules<B>>(
+    fn started<R: Rules<B>>(
         &mut self,
         rules: &mut Programs<R>,
         level: &mut PlayedLevel<B>,
@@ -193,7 +193,7 @@ impl<'g> Stage<'g> {
 
     /// The start of a level, with a message from before or without one. Where an option asks for it a turn without
     /// input comes first; its message comes before one from before.
-    pub(crate) fn start_step<B: Board, R: Rules<B>>(
+    pub(crate) fn start_step<R: Rules<B>>(
         &mut self,
         rules: &mut Programs<R>,
         level: &mut PlayedLevel<B>,

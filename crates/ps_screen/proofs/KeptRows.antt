@@ -1,0 +1,56 @@
+-- Rows of frames: which are the same, and what they make together.
+use Rattle.std.proofs.Common.{◌≡◌, ℕ, zero, suc, ◌+◌, ◌*◌, ◌<◌, ◌≤◌, List, [], ◌∷◌, ◌++◌, length, length-take, take, map, refl, sym, ap, ap₂, ◌∙◌, arith}
+use Rattle.std.specs.Prelude.{encode_utf8, codes}
+use Rattle.std.specs.List.{flat_map, range_with_len}
+use Rattle.std.proofs.lemmas.List.{same_lists, get_or-take, get_or_default}
+use Rattle.std.proofs.lemmas.List.FromFn.{length-map-range_with_len, get_or-map-range_with_len}
+use Rattle.ps_model.specs.declared.pieces.ObjectId.{ObjectId}
+use Rattle.ps_model.specs.board.Grid.{Grid, cell_at}
+use Rattle.ps_model.specs.names.Names.{Names}
+use Rattle.ps_model.specs.session.Frames.{objects_in, character_of, glyph_of_objects, frame, frame_row, shown_character}
+use Rattle.ps_board.specs.Rows.{HaveSameRow}
+use Rattle.ps_screen.specs.KeptRows.{AreRowsOf}
+
+-- two functions that agree on a range
+flat_map_same : {X : Type 0} (f g : ℕ → List X) (a n : ℕ) → ((k : ℕ) → k < a + n → f k ≡ g k) → flat_map f (range_with_len a n) ≡ flat_map g (range_with_len a n)
+flat_map_same f g a zero agree = refl
+flat_map_same f g a (suc n) agree =
+    let here : a < a + suc n = omega arith in
+    ap₂ (λ (x y : List _). x ++ y) (agree a here) (flat_map_same f g (a + 1) n (λ k h. let below : k < a + suc n = omega arith in agree k below))
+
+-- what a cell with the same objects is written as
+same_character : (names : Names) (g h : Grid) (a b : ℕ) → objects_in (cell_at g a) ≡ objects_in (cell_at h b) →
+    encode_utf8 (shown_character names (cell_at g a)) ≡ encode_utf8 (shown_character names (cell_at h b))
+same_character names g h a b e = ap (λ (objects : List ObjectId). encode_utf8 (character_of (glyph_of_objects names objects))) e
+
+-- rows with the same objects are written the same
+pub same_frame_row : (names : Names) (g h : Grid) (row : ℕ) → h.width ≡ g.width → h.height ≡ g.height → HaveSameRow g h row → frame_row names h row ≡ frame_row names g row
+same_frame_row names g h row wide high same =
+    ap (λ (text : List ℕ). text ++ codes "\n")
+    (ap (λ (n : ℕ). flat_map (λ column. encode_utf8 (shown_character names (cell_at h (column * h.height + row)))) (range_with_len 0 n)) wide
+    ∙ flat_map_same (λ column. encode_utf8 (shown_character names (cell_at h (column * h.height + row)))) (λ column. encode_utf8 (shown_character names (cell_at g (column * g.height + row)))) 0 g.width
+    (λ column inside.
+    let below : column < g.width = omega arith in
+    ap (λ (n : ℕ). encode_utf8 (shown_character names (cell_at h (column * n + row)))) high
+    ∙ sym (same_character names g h (column * g.height + row) (column * g.height + row) (same column below))))
+
+flat_map-map : {X Y : Type 0} (f : X → List Y) (xs : List X) → flat_map (λ row. row) (map f xs) ≡ flat_map f xs
+flat_map-map f [] = refl
+flat_map-map f (x ∷ xs) = ap (λ r. f x ++ r) (flat_map-map f xs)
+
+-- the rows one after the other, and an empty line, are the frame
+pub rows_joined : (names : Names) (g : Grid) (texts : List (List ℕ)) → AreRowsOf names g texts → flat_map (λ row. row) (take g.height texts) ++ codes "\n" ≡ frame names g
+rows_joined names g texts rows =
+    let rows_long : g.height ≤ length texts = rows.long in
+    let drawn : List (List ℕ) = map (frame_row names g) (range_with_len 0 g.height) in
+    let long : length (take g.height texts) ≡ g.height = rw length-take (omega arith) in
+    let each : take g.height texts ≡ drawn =
+    same_lists (take g.height texts) drawn (long ∙ sym (length-map-range_with_len (frame_row names g) 0 g.height))
+    (λ k d h.
+    let below : k < g.height = rw (← long) h in
+    let inside : k < length texts = omega arith in
+    get_or-take g.height texts k d below
+    ∙ get_or_default texts k d [] inside
+    ∙ rows.each k below
+    ∙ sym (get_or-map-range_with_len (frame_row names g) 0 g.height k k d below (omega arith))) in
+    ap (λ (text : List ℕ). text ++ codes "\n") (ap (flat_map (λ row. row)) each ∙ flat_map-map (frame_row names g) (range_with_len 0 g.height))
