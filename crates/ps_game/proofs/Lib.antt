@@ -1,13 +1,6 @@
-pub mod ChoiceSteps
-pub mod ClaimSteps
-pub mod ClaimedLayers
-pub mod CountedProducts
 pub mod HeadingsTold
-pub mod Items
+pub mod ImpossibleLines
 pub mod LineSteps
-pub mod PossibleRules
-pub mod Quantified
-pub mod ReadingProducts
 pub mod SectionEnds
 pub mod SectionLines
 pub mod SectionsTold

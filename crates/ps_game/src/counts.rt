@@ -7,23 +7,21 @@ ghost use Rattle.ps_model.specs.meaning.Readings.{reading_count};
 ghost use Rattle.ps_model.specs.rules.ReadingFaults.{too_many_readings};
 ghost use Rattle.ps_model.specs.board.RulePrograms.{rule_in};
 ghost use Rattle.ps_rules.specs.RulesShown.{rule_shown};
-ghost use Rattle.ps_game.specs.Counted.{counted};
+ghost use Rattle.ps_readings.specs.Counted.{counted};
 
-use crate::counted::times;
-use crate::directions::direction_count;
-use crate::item_ways::left_ways;
 use ps_model::{Fault, FaultKind, Memory, READINGS_LIMIT, RULE_READINGS_LIMIT};
 use ps_names::Names;
+use ps_readings::reading_count;
 use ps_rules::{Occurrences, RuleLine, RuleText, SourceRule};
 use std::alloc::Global;
 
 /// How many readings a rule has, as far as they are counted.
-fn reading_count(alloc: Global, names: &Names, rule: &SourceRule) -> Result<u32, Memory>
+fn readings_of(alloc: Global, names: &Names, rule: &SourceRule) -> Result<u32, Memory>
     ensures { IfOk result (λ count. count ≡ counted (reading_count names.now (rule_shown rule.now))) }
 {
     let occurrences = Occurrences::of(alloc, rule)?;
-    let directions = direction_count(rule, occurrences.cells());
-    Ok(times(directions, left_ways(names, &occurrences)))
+    let count = reading_count(alloc, names, &occurrences)?;
+    Ok(count)
 }
 
 /// The fault of the first rule with more than 4,096 readings, or with which the readings of the rules down to it are
@@ -41,7 +39,7 @@ pub fn first_too_many(
         let RuleLine::Rule(rule) = line else {
             continue;
         };
-        let count = reading_count(alloc, names, rule)?;
+        let count = readings_of(alloc, names, rule)?;
         if count > RULE_READINGS_LIMIT || before + count > READINGS_LIMIT {
             return Ok(Some(Fault {
                 kind: FaultKind::TooManyReadings,

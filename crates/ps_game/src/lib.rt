@@ -2,16 +2,9 @@
 //! conditions.
 #![tactic(auto)]
 
-mod apart;
-mod choices;
-mod claims;
-mod counted;
 mod counts;
-mod directions;
-mod fixed;
 mod game;
 mod headings;
-mod item_ways;
 mod parts;
 mod possible;
 mod prelude;

@@ -1,46 +1,37 @@
 //! Which rules have no possible reading.
 
-ghost use Rattle.std.specs.Prelude.{◌≡◌, ◌≤◌, IfOk, []};
+ghost use Rattle.std.specs.Prelude.{◌≡◌, IfOk};
 ghost use Rattle.std.specs.List.{filter_map};
 ghost use Rattle.ps_model.specs.text.Faults.{first_fault};
-ghost use Rattle.ps_model.specs.declared.limits.TheConstants.{RULE_READINGS_LIMIT};
-ghost use Rattle.ps_model.specs.meaning.Readings.{reading_count};
-ghost use Rattle.ps_model.specs.rules.ReadingFaults.{too_many_readings, impossible_rules};
+ghost use Rattle.ps_model.specs.rules.ReadingFaults.{impossible_rules};
 ghost use Rattle.ps_model.specs.meaning.ReadingMeanings.{has_possible};
 ghost use Rattle.ps_model.specs.board.RulePrograms.{rule_in};
 ghost use Rattle.ps_rules.specs.RulesShown.{rule_shown, line_shown, lines_shown};
-ghost use Rattle.ps_game.specs.Possible.{HasFewReadings, HaveFewReadings, impossible_at, first_impossible_of};
+ghost use Rattle.ps_game.specs.ImpossibleRules.{impossible_at, first_impossible_of};
 
-use crate::choices::has_apart_choice;
-use crate::claims::sides_of;
-use crate::fixed::fixed_of;
 use ps_model::{Fault, FaultKind, Memory};
 use ps_names::Names;
+use ps_readings::has_possible;
 use ps_rules::{Occurrences, RuleLine, RuleText, SourceRule};
 use std::alloc::Global;
 
-/// Whether some reading of the rule is possible. Directions and moves make no difference to that, so that only the
-/// choices of members are tried; a rule with more of them than it may have readings isn't, and counts as possible.
-fn has_possible(alloc: Global, names: &Names, rule: &SourceRule) -> Result<bool, Memory>
-    ensures { IfOk result (λ yes. reading_count names.now (rule_shown rule.now) ≤ RULE_READINGS_LIMIT
-        → yes ≡ has_possible names.now (rule_shown rule.now)) }
+/// Whether some reading of the rule is possible.
+fn is_some_possible(alloc: Global, names: &Names, rule: &SourceRule) -> Result<bool, Memory>
+    ensures { IfOk result (λ yes. yes ≡ has_possible names.now (rule_shown rule.now)) }
 {
     let occurrences = Occurrences::of(alloc, rule)?;
-    let fixed = fixed_of(alloc, names, &occurrences)?;
-    let sides = sides_of(alloc, names, &occurrences, &fixed, occurrences.cells())?;
-    let found = has_apart_choice(alloc, names, &fixed, &sides)?;
+    let found = has_possible(alloc, names, &occurrences)?;
     Ok(found)
 }
 
 /// The fault of a line, if it is a rule without a possible reading.
 fn line_fault(alloc: Global, names: &Names, line: &RuleLine) -> Result<Option<Fault>, Memory>
-    ensures { IfOk result (λ fault. HasFewReadings names.now (line_shown line.now)
-        → fault ≡ impossible_at names.now (line_shown line.now)) }
+    ensures { IfOk result (λ fault. fault ≡ impossible_at names.now (line_shown line.now)) }
 {
     let RuleLine::Rule(rule) = line else {
         return Ok(None);
     };
-    if has_possible(alloc, names, rule)? {
+    if is_some_possible(alloc, names, rule)? {
         return Ok(None);
     }
     Ok(Some(Fault {
@@ -49,14 +40,13 @@ fn line_fault(alloc: Global, names: &Names, line: &RuleLine) -> Result<Option<Fa
     }))
 }
 
-/// The fault of the first of the lines that is a rule without a possible reading, where no rule has too many readings.
+/// The fault of the first of the lines that is a rule without a possible reading.
 pub fn first_line_fault(
     alloc: Global,
     names: &Names,
     lines: &[RuleLine],
 ) -> Result<Option<Fault>, Memory>
-    ensures { IfOk result (λ fault. HaveFewReadings names.now (lines_shown lines.now)
-        → fault ≡ first_impossible_of names.now (lines_shown lines.now)) }
+    ensures { IfOk result (λ fault. fault ≡ first_impossible_of names.now (lines_shown lines.now)) }
 {
     for line in lines {
         let fault = line_fault(alloc, names, line)?;
@@ -68,13 +58,12 @@ pub fn first_line_fault(
 }
 
 /// The fault of the first rule of which every reading is impossible, as in some cell one side has two names of one
-/// layer.
+/// layer. Rules with too many readings are to be refused before, since of an impossible one all are tried.
 pub fn first_impossible(
     alloc: Global,
     names: &Names,
     rules: &RuleText,
 ) -> Result<Option<Fault>, Memory>
-    requires few { too_many_readings names.now 0 (filter_map rule_in rules.now) ≡ [] }
     ensures { IfOk result (λ fault. fault ≡ first_fault (impossible_rules names.now (filter_map rule_in rules.now))) }
 {
     let fault = first_line_fault(alloc, names, rules.lines())?;

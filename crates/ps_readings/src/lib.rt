@@ -1,5 +1,5 @@
-//! What a rule may mean: how many readings it has, its readings in their one order, what each item asks under a reading,
-//! what is claimed of layers, and whether a reading is possible.
+//! What a rule may mean: how many readings it has, its readings in their one order, what each item asks under a
+//! reading, what is claimed of layers, and whether a reading is possible.
 #![tactic(auto)]
 
 mod choices;

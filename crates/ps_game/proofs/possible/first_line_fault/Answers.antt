@@ -2,7 +2,7 @@ use Rattle.std.proofs.Common.{arith, ◌≡◌, ◌∙◌, ◌∷◌, ◌+◌, s
 use Rattle.ps_rules.specs.declared.tree.RuleLine.{RuleLine}
 use Rattle.ps_rules.specs.RulesShown.{line_shown, lines_shown}
 use Rattle.ps_rules.proofs.Loops.{drop-at}
-use Rattle.ps_game.proofs.PossibleRules.{told_here, not_told_here}
+use Rattle.ps_game.proofs.ImpossibleLines.{fault_here, none_here}
 use Rattle.ps_game.proofs.possible.first_line_fault.Goals as goal
 
 pub returns-then-is_some : goal.returns-then-is_some
@@ -11,7 +11,7 @@ returns-then-is_some c =
     let lines : List RuleLine = c.args.lines.now in
     let next : i + 1 ≡ suc i = omega arith in
     let here : drop i lines ≡ c.line-item.result ∷ drop (i + 1) lines = drop-at c.line-item.result lines i (i + 1) c.loop-line-test.true c.line-item.is next in
-    told_here c.in_ok-fault.fault c.args.names.now (line_shown c.line-item.result) (lines_shown (drop (i + 1) lines)) (lines_shown (drop i lines)) (lines_shown lines) (ap lines_shown here)
+    fault_here c.in_ok-fault.fault c.args.names.now (line_shown c.line-item.result) (lines_shown (drop (i + 1) lines)) (lines_shown (drop i lines)) _ (ap lines_shown here)
     c.in_ok-fault.ensures (sym c.is_some.ensures ∙ c.if-is_some.true) c.loop-line.invariant
 
 pub loop-line-preserved : goal.loop-line-preserved
@@ -20,5 +20,5 @@ loop-line-preserved c =
     let lines : List RuleLine = c.args.lines.now in
     let next : i + 1 ≡ suc i = omega arith in
     let here : drop i lines ≡ c.line-item.result ∷ drop (i + 1) lines = drop-at c.line-item.result lines i (i + 1) c.loop-line-test.true c.line-item.is next in
-    not_told_here c.in_ok-fault.fault c.args.names.now (line_shown c.line-item.result) (lines_shown (drop (i + 1) lines)) (lines_shown (drop i lines)) (lines_shown lines) (ap lines_shown here)
+    none_here c.in_ok-fault.fault c.args.names.now (line_shown c.line-item.result) (lines_shown (drop (i + 1) lines)) (lines_shown (drop i lines)) _ (ap lines_shown here)
     c.in_ok-fault.ensures (sym c.is_some.ensures ∙ c.if-is_some.false) c.loop-line.invariant
