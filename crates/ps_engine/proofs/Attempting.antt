@@ -34,3 +34,11 @@ pub attempt_asked : (direction : Direction) (rows : List (List (List CellMeaning
     (let r : Result = record { state = record { grid = g; queue = after }; changed = false } in r) ≡ attempt_by (rule_of direction rows rewrites commands) (record { grid = g; queue = queue }) all
 attempt_asked direction rows rewrites commands g queue after [] idle one e = absurd (cc)
 attempt_asked direction rows rewrites commands g queue after (first ∷ others) idle one e = rw (e, idle) refl
+
+-- or all of some are applied
+pub attempt_written : (direction : Direction) (rows : List (List (List CellMeaning))) (rewrites : Bool) (commands : Commands) (g : Grid) (queue : Commands) (all : List (List (List ℕ))) (r : Rewritten) →
+    rewrites ≡ true → has_one all ≡ true → r ≡ fold (applied rows) (unchanged g) all →
+    (let s : Result = record { state = record { grid = r.grid; queue = queued queue commands }; changed = r.changed } in s) ≡ attempt_by (rule_of direction rows rewrites commands) (record { grid = g; queue = queue }) all
+attempt_written direction rows rewrites commands g queue [] r does one made = absurd (cc)
+attempt_written direction rows rewrites commands g queue (first ∷ others) r does one made =
+    attempt_walked direction rows rewrites commands g queue (first ∷ others) first others r refl does made

@@ -5,3 +5,5 @@ pub mod Odometer
 pub mod Attempting
 pub mod Sequences
 pub mod AsTheyAre
+pub mod OneByOne
+pub mod RowsWritten

@@ -1,3 +1,4 @@
 pub mod Choices
 pub mod RulesInRoom
 pub mod Unfit
+pub mod OneCell

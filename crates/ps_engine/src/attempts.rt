@@ -8,6 +8,7 @@ ghost use Rattle.ps_places.specs.Found.{has_one, row_meaning};
 ghost use Rattle.ps_engine.specs.RulesInRoom.{AreRowsFound, rule_meaning};
 ghost use Rattle.ps_match.specs.InRoom.{sides_of};
 
+use crate::one_cell::{attempt_cell, only_cell};
 use crate::queue::Queue;
 use crate::walking::walk;
 use ps_match::Scan;
@@ -37,7 +38,7 @@ fn find_rows<'r, B: Scan>(
 }
 
 /// Whether each row of a rule has a place. No memory is taken.
-fn has_places<B: Scan>(board: &B, rule: &CompiledRule) -> bool
+pub fn has_places<B: Scan>(board: &B, rule: &CompiledRule) -> bool
     ensures { let at = places (B.grid board.now) rule.now.direction in
         result ≡ list_all (λ row. has_one (at (row_meaning (B.table board.now) row))) rule.now.rows }
 {
@@ -82,6 +83,9 @@ pub fn attempt<'r, B: Scan>(
     if !rule.rewrites {
         ask(board, rule, queue);
         return Ok(false);
+    }
+    if let Some(cell) = only_cell(rule.rows.as_slice()) {
+        return Ok(attempt_cell(rule, cell, board, queue));
     }
     // Of several rows the first may have places and another none: nothing is kept before that is known.
     if 1 < rule.rows.as_slice().len() && !has_places(board, rule) {

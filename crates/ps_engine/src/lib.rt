@@ -2,6 +2,7 @@
 #![tactic(auto)]
 
 mod attempts;
+mod one_cell;
 mod programs;
 mod queue;
 mod rounds;

@@ -162,6 +162,24 @@ fn a_combination_is_looked_at_again(rt: HostRuntime) -> Result<(), Fail> {
 }
 
 #[test]
+fn a_rule_of_one_cell_writes_each_cell_that_fits(rt: HostRuntime) -> Result<(), Fail> {
+    let alloc = rt.alloc();
+    let commands = nothing();
+    let mut rows = Vec::new(alloc);
+    rows.push(row(alloc, &[&[(b'A', b'B')]])?)?;
+    let written = rule(Direction::Down, rows, &commands);
+    let mut board = board_of(alloc, b"A.ACB")?;
+    let mut queue = Queue::empty();
+    let changed = attempt(alloc, &written, &mut board, &mut queue)?;
+    assert!(&rt; changed);
+    check(&rt, &board, b"B.BCB");
+    let changed = attempt(alloc, &written, &mut board, &mut queue)?;
+    assert!(&rt; !changed);
+    check(&rt, &board, b"B.BCB");
+    Ok(())
+}
+
+#[test]
 fn places_are_found_once(rt: HostRuntime) -> Result<(), Fail> {
     let alloc = rt.alloc();
     let commands = nothing();

@@ -79,7 +79,7 @@ changed_more a (x ∷ xs) (y ∷ ys) zero next e h n = let m : next ≡ 1 = omeg
 changed_more a (x ∷ xs) (y ∷ ys) (suc i) next e h n =
     let m : next ≡ suc (suc i) = omega arith in rw m (changed_more a xs ys i (suc i) (omega arith) (omega arith) (omega arith))
 
-or_none : (a : Bool) → (a || not true) ≡ a
+pub or_none : (a : Bool) → (a || not true) ≡ a
 or_none true = refl
 or_none false = refl
 

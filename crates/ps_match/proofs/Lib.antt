@@ -1,3 +1,6 @@
 pub mod Cells
 pub mod Scanned
 pub mod OwnWrites
+pub mod Chosen
+pub mod RowWritten
+pub mod LeftAlone

@@ -1,1 +1,3 @@
 pub mod InRoom
+pub mod Together
+pub mod Touches

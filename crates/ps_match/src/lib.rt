@@ -6,6 +6,7 @@
 
 mod fitting;
 mod list_scan;
+mod rewriting;
 mod rooms;
 mod scan;
 mod scanning;
@@ -13,6 +14,7 @@ mod slots;
 mod writing;
 
 pub use ps_board::{Board, Columns, ListBoard};
+pub use rewriting::rewrite_row;
 pub use rooms::Rooms;
 pub use scan::Scan;
 pub use writing::write_cell;

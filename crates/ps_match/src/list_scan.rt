@@ -1,6 +1,7 @@
 //! A list board, matched and rewritten slot by slot.
 
 use crate::fitting::fits_cell;
+use crate::rewriting::rewrite_row;
 use crate::scan::Scan;
 use crate::scanning::scan_row;
 use crate::writing::write_cell;
@@ -26,5 +27,9 @@ impl Scan for ListBoard {
             return changed;
         }
         write_cell(self, write, cell, changed)
+    }
+
+    fn rewrite(&mut self, write: &CellWrite, row: u32, columns: Columns) -> bool {
+        rewrite_row(self, write, row, columns)
     }
 }

@@ -5,7 +5,9 @@ ghost use Rattle.ps_model.specs.board.Places.{fits_there};
 ghost use Rattle.ps_model.specs.board.Attempts.{Rewritten, rewritten_cell};
 ghost use Rattle.ps_program.specs.ProgramShown.{mask_shown, write_shown};
 ghost use Rattle.ps_board.specs.ColumnSets.{row_fits};
+ghost use Rattle.ps_model.specs.meaning.Compiled.{cell_written};
 ghost use Rattle.ps_match.specs.InRoom.{meaning_of_mask, meaning_of_write, sides_of, write_in_room};
+ghost use Rattle.ps_match.specs.Together.{is_on_row, rewritten_where};
 
 use ps_board::{Board, Columns};
 use ps_program::{CellMask, CellWrite};
@@ -30,6 +32,18 @@ pub trait Scan: Board {
             let meaning = meaning_of_write (write_in_room (Self.table self.old) (write_shown write.now)) in
             record { grid = Self.grid self.new; changed = result }
             ≡ rewritten_cell before meaning cell (slice_get before.grid.cells cell) }
+        ensures table { Self.table self.new ≡ Self.table self.old }
+        ensures sides { sides_of (Self.grid self.new) ≡ sides_of (Self.grid self.old) };
+
+    /// Writes the cells of a row of the board whose columns are in a set, and no other cell, and answers whether one of
+    /// them changed. Beyond the board's width nothing is written, and an object that has no room on a layer isn't put
+    /// there.
+    fn rewrite(&mut self, write: &CellWrite, row: u32, columns: Columns) -> bool
+        requires { row < (Self.grid self.old).height }
+        ensures rewritten { let before = Self.grid self.old in
+            let becomes = cell_written (write_in_room (Self.table self.old) (write_shown write.now)) in
+            record { grid = Self.grid self.new; changed = result }
+            ≡ rewritten_where before becomes (is_on_row before.height row columns) }
         ensures table { Self.table self.new ≡ Self.table self.old }
         ensures sides { sides_of (Self.grid self.new) ≡ sides_of (Self.grid self.old) };
 }

@@ -1,16 +1,18 @@
 //! A cell of a board written, slot by slot.
 
-ghost use Rattle.std.specs.Prelude.{◌≡◌, ◌*◌, ◌<◌, ◌||◌, not, slice_set};
+ghost use Rattle.std.specs.Prelude.{◌≡◌, ◌*◌, ◌<◌, ◌||◌, nat_eq, not, slice_set};
+ghost use Rattle.std.specs.List.{list_any};
 ghost use Rattle.ps_model.specs.board.Grid.{Grid, IsGrid, IsPlace, cell_at, slot_at, with_slot};
 ghost use Rattle.ps_model.specs.board.Attempts.{same_cell, same_slot};
 ghost use Rattle.ps_model.specs.meaning.Compiled.{cell_written};
 ghost use Rattle.ps_program.specs.ProgramShown.{write_shown};
 ghost use Rattle.ps_match.specs.InRoom.{SlotHasRoom, slot_after, write_in_room};
+ghost use Rattle.ps_match.specs.Touches.{touches};
 
 use crate::rooms::Rooms;
 use crate::slots::{same_slots, slot_after};
 use ps_board::Board;
-use ps_model::{LayerId, Motion, Slot};
+use ps_model::{LayerId, LayerWrite, LayeredObject, Motion, Slot};
 use ps_program::CellWrite;
 
 /// What stands on a layer of a cell.
@@ -41,6 +43,27 @@ fn put_slot<B: Board>(board: &mut B, cell: u32, layer: LayerId, slot: Slot)
     }
 }
 
+/// Whether one of the objects goes from a layer.
+fn loses_one(gone: &[LayeredObject], layer: LayerId) -> bool
+    ensures { result ≡ list_any (λ each. nat_eq (each.layer).0 layer.0) gone.now }
+{
+    gone.iter().any(|each| each.layer.0 == layer.0)
+}
+
+/// Whether one of the writes is a layer's.
+fn is_written(writes: &[LayerWrite], layer: LayerId) -> bool
+    ensures { result ≡ list_any (λ each. nat_eq (each.layer).0 layer.0) writes.now }
+{
+    writes.iter().any(|each| each.layer.0 == layer.0)
+}
+
+/// Whether a write has something for a layer.
+fn touches(write: &CellWrite, layer: LayerId) -> bool
+    ensures { result ≡ touches (write_shown write.now) layer.0 }
+{
+    loses_one(write.gone.as_slice(), layer) || is_written(write.layers.as_slice(), layer)
+}
+
 /// Writes a layer of a cell, and answers whether it changed, or something had `changed` before.
 fn write_slot<B: Rooms>(
     board: &mut B,
@@ -58,6 +81,9 @@ fn write_slot<B: Rooms>(
         result ≡ (changed || not (same_slot before (slot_after write layer.0 before))) }
     ensures table { B.table board.new ≡ B.table board.old }
 {
+    if !touches(write, layer) {
+        return changed;
+    }
     let before = slot(board, cell, layer);
     let after = slot_after(board, write, layer, before);
     put_slot(board, cell, layer, after);

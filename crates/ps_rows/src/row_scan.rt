@@ -3,7 +3,7 @@
 use crate::planes::has_column;
 use crate::row_board::RowBoard;
 use ps_board::Board;
-use ps_match::{Columns, Rooms, Scan, write_cell};
+use ps_match::{Columns, Rooms, Scan, rewrite_row, write_cell};
 use ps_model::{LayerId, ObjectId};
 use ps_program::{CellMask, CellWrite};
 
@@ -32,5 +32,9 @@ impl Scan for RowBoard {
             return changed;
         }
         write_cell(self, write, cell, changed)
+    }
+
+    fn rewrite(&mut self, write: &CellWrite, row: u32, columns: Columns) -> bool {
+        rewrite_row(self, write, row, columns)
     }
 }

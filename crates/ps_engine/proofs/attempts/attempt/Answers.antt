@@ -29,8 +29,8 @@ returns-clause-attempt g c =
     let grid : Grid = g.B.Board.grid c.args.board.now in
     let table : Option (List ℕ) = g.B.Board.table c.args.board.now in
     let rule = c.args.rule.now in
-    let rows = c.in-Some.rows.items in
-    let found : AreRowsOf grid table rule rows = rw c.in-Some.is at c.in_ok-rows.ensures in
+    let rows = c.in-Some-2.rows.items in
+    let found : AreRowsOf grid table rule rows = rw c.in-Some-2.is at c.in_ok-rows.ensures in
     let does : rule.rewrites ≡ true = search rules in
     let zeros : List ℕ = replicate (length (all_places rows)) 0 in
     let meant : List (List (List CellMeaning)) = map (row_meaning table) rule.rows in
@@ -39,7 +39,7 @@ returns-clause-attempt g c =
     let after : Rewritten = record { grid = g.B.Board.grid c.walk.new.board; changed = c.in_ok-changed.changed } in
     let walked : after ≡ fold (applied meant) (unchanged grid) (combinations (map (places grid rule.direction) meant)) =
     c.in_ok-changed.ensures.rewritten
-    ∙ ap (λ (rs : List RowPlaces). fold (applied (rows_found table rs)) (unchanged grid) (combinations (all_places rs))) c.as_slice-2.ensures.value
+    ∙ ap (λ (rs : List RowPlaces). fold (applied (rows_found table rs)) (unchanged grid) (combinations (all_places rs))) c.as_slice-3.ensures.value
     ∙ ap (λ (ms : List (List (List CellMeaning))). fold (applied ms) (unchanged grid) (combinations (all_places rows))) found.meanings
     ∙ ap (λ (ps : List (List (List ℕ))). fold (applied meant) (unchanged grid) (combinations ps)) found.places in
     ap (λ (q : Commands). let r : Result = record { state = record { grid = after.grid; queue = q }; changed = after.changed } in r) c.enter.ensures

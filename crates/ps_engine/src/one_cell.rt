@@ -1,0 +1,77 @@
+//! An attempt of a rule of one row of one cell. Each of its places is a cell of the board by itself, so that none
+//! touches another: no place is kept, and the cells that fit are written row by row of the board.
+
+ghost use Rattle.std.specs.Prelude.{◌≡◌, IfSome, true};
+ghost use Rattle.ps_model.specs.board.Attempts.{Result as Meant, State, attempt};
+ghost use Rattle.ps_places.specs.RowMeanings.{cell_meaning};
+ghost use Rattle.ps_engine.specs.OneCell.{fits_cell, one_cell};
+ghost use Rattle.ps_engine.specs.RulesInRoom.{rule_meaning};
+ghost use Rattle.ps_match.specs.InRoom.{sides_of};
+ghost use Rattle.ps_match.specs.Together.{rewritten_where};
+
+use crate::attempts::has_places;
+use crate::queue::Queue;
+use ps_match::Scan;
+use ps_program::{CompiledCell, CompiledRule};
+use ps_text::List;
+
+/// The cell of rows that are one row of one part of one cell; nothing, where there is more or less.
+pub fn only_cell(rows: &[List<List<CompiledCell>>]) -> Option<&CompiledCell>
+    ensures { IfSome result (λ cell. rows.entry.now ≡ one_cell cell.now) }
+{
+    if rows.len() != 1 {
+        return None;
+    }
+    let parts = rows[0].as_slice();
+    if parts.len() != 1 {
+        return None;
+    }
+    let cells = parts[0].as_slice();
+    if cells.len() != 1 {
+        return None;
+    }
+    Some(&cells[0])
+}
+
+/// Writes each cell of the board that fits, and answers whether one changed.
+fn write_all<B: Scan>(board: &mut B, cell: &CompiledCell) -> bool
+    ensures rewritten { let before = B.grid board.old in
+        let meaning = cell_meaning (B.table board.old) cell.now in
+        record { grid = B.grid board.new; changed = result }
+        ≡ rewritten_where before meaning.rewritten (fits_cell before meaning) }
+    ensures table { B.table board.new ≡ B.table board.old }
+    ensures sides { sides_of (B.grid board.new) ≡ sides_of (B.grid board.old) }
+{
+    let (_width, height) = board.size();
+    let mut changed = false;
+    for row in 0..height {
+        let columns = board.scan(&cell.mask, row);
+        changed |= board.rewrite(&cell.write, row, columns);
+    }
+    changed
+}
+
+/// An attempt of a rule whose only cell this is: each cell of the board that fits is written, and if there is one, the
+/// rule's commands enter the queue. Answers whether a cell changed. No memory is taken.
+pub fn attempt_cell<'r, B: Scan>(
+    rule: &CompiledRule<'r>,
+    cell: &CompiledCell,
+    board: &mut B,
+    queue: &mut Queue<'r>,
+) -> bool
+    requires only { rule.now.rows ≡ one_cell cell.now }
+    requires rewrites { rule.now.rewrites ≡ true }
+    ensures attempt { let before : State = record { grid = B.grid board.old; queue = queue.old } in
+        let after : State = record { grid = B.grid board.new; queue = queue.new } in
+        let all : Meant = record { state = after; changed = result } in
+        all ≡ attempt (rule_meaning (B.table board.old) rule.now) before }
+    ensures table { B.table board.new ≡ B.table board.old }
+    ensures sides { sides_of (B.grid board.new) ≡ sides_of (B.grid board.old) }
+{
+    let (_width, _height) = board.size();
+    if !has_places(board, rule) {
+        return false;
+    }
+    queue.enter(rule.commands);
+    write_all(board, cell)
+}
