@@ -1,2 +1,3 @@
 mod Stayed
 mod Sweeps
+mod WhereObjectsStand

@@ -1,5 +1,7 @@
 -- How an input is given, slot by slot, to a board at rest.
-use Rattle.std.specs.Prelude.{ℕ, if◌then◌else◌, List, slice_set}
+use Rattle.std.specs.Prelude.{ℕ, Bool, if◌then◌else◌, List, slice_set}
+use Rattle.std.specs.List.{list_any}
+use Rattle.ps_model.specs.meaning.Compiled.{slot_holds}
 use Rattle.ps_model.specs.declared.pieces.Motion.{Motion}
 use Rattle.ps_model.specs.declared.pieces.ObjectId.{ObjectId}
 use Rattle.ps_model.specs.declared.pieces.Slot.{Slot}
@@ -19,3 +21,7 @@ grid_with_cell g cell slots = record g { cells = slice_set g.cells cell slots }
 -- the grid with other cells
 abbrev pub grid_with_cells : Grid → List (List Slot) → Grid
 grid_with_cells g cells = record g { cells = cells }
+
+-- the slot holds one of these objects
+abbrev pub holds_any : List ObjectId → Slot → Bool
+holds_any objects slot = list_any (λ object. slot_holds object slot) objects

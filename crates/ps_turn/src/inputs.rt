@@ -1,12 +1,15 @@
 //! What an input does to a board.
 
-ghost use Rattle.std.specs.Prelude.{◌≡◌, ◌*◌, ◌<◌, slice_set, map};
+ghost use Rattle.std.specs.Prelude.{◌≡◌, ◌*◌, ◌/◌, ◌%◌, ◌<◌, slice_set, map};
 ghost use Rattle.ps_model.specs.board.Grid.{IsGrid, IsPlace, cell_at, slot_at, with_slot, cell_count};
 ghost use Rattle.ps_model.specs.board.Inputs.{motion_of, with_motion};
-ghost use Rattle.ps_turn.specs.Sweeps.{slot_set_moving, grid_with_cell};
+ghost use Rattle.ps_turn.specs.Sweeps.{slot_set_moving, grid_with_cell, holds_any};
+ghost use Rattle.ps_board.specs.CellSets.{cell_in};
+ghost use Rattle.std.specs.List.{list_any};
 
 use crate::meanings::has_object;
-use ps_board::Board;
+use crate::standing::cells_with;
+use ps_board::{Board, CellSet};
 use ps_model::{Direction, Input, LayerId, Motion, ObjectId};
 
 /// The motion that an input gives to a Player.
@@ -28,10 +31,34 @@ pub fn give_motion<B: Board>(board: &mut B, moved: &[ObjectId], motion: Motion)
     ensures table { B.table board.new ≡ B.table board.old }
 {
     board.clear_moves();
+    let standing = cells_with(board, moved);
     let (width, height) = board.size();
     for cell in 0..width * height {
-        give_cell(board, cell, moved, motion);
+        give_if_there(board, cell, &standing, moved, motion);
     }
+}
+
+/// Gives the motion to those of the objects that stand in a cell, if the cell is one of those in which one stands.
+fn give_if_there<B: Board>(
+    board: &mut B,
+    cell: u32,
+    standing: &CellSet,
+    moved: &[ObjectId],
+    motion: Motion,
+)
+    requires cell { cell < cell_count (B.grid board.old) }
+    requires shape { IsGrid (B.grid board.old) }
+    requires standing { let g = B.grid board.old in cell_in standing.now (cell / g.height) (cell % g.height)
+        ≡ list_any (holds_any moved.now) (cell_at g cell) }
+    ensures moved { B.grid board.new ≡ grid_with_cell (B.grid board.old) cell
+        (map (slot_set_moving moved.now motion) (cell_at (B.grid board.old) cell)) }
+    ensures table { B.table board.new ≡ B.table board.old }
+{
+    let (_, height) = board.size();
+    if !standing.has(cell / height, cell % height) {
+        return;
+    }
+    give_cell(board, cell, moved, motion);
 }
 
 /// Gives the motion to those of the objects that stand in a cell.

@@ -11,6 +11,7 @@ mod outcomes;
 mod players;
 mod queue;
 mod rules;
+mod standing;
 mod turns;
 mod winning;
 

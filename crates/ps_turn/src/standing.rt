@@ -1,0 +1,51 @@
+//! Where objects stand, row by row.
+
+ghost use Rattle.std.specs.Prelude.{◌≡◌, ◌+◌, ◌*◌, ◌<◌, ℕ};
+ghost use Rattle.std.specs.List.{list_any};
+ghost use Rattle.ps_model.specs.board.Grid.{IsGrid, cell_at};
+ghost use Rattle.ps_board.specs.ColumnSets.{column_at};
+ghost use Rattle.ps_board.specs.CellSets.{IsSetOf};
+ghost use Rattle.ps_board.specs.RowsOfGrids.{row_slots};
+ghost use Rattle.ps_turn.specs.Sweeps.{holds_any};
+
+use ps_board::{Board, CellSet, Columns};
+use ps_model::{LayerId, ObjectId};
+
+/// The columns of a row in which one of the objects stands on a layer.
+fn layer_columns<B: Board>(board: &B, objects: &[ObjectId], layer: LayerId, row: u32) -> Columns
+    requires layer { layer.0 < (B.grid board.now).layers }
+    requires row { row < (B.grid board.now).height }
+    ensures { result ≡ row_slots (holds_any objects.now) (B.grid board.now) layer.0 row }
+{
+    let mut holding = Columns::none();
+    for index in 0..objects.len() {
+        holding = holding.either(board.holders(objects[index], layer, row));
+    }
+    holding
+}
+
+/// The columns of a row in which one of the objects stands.
+fn row_columns<B: Board>(board: &B, objects: &[ObjectId], row: u32) -> Columns
+    requires shape { IsGrid (B.grid board.now) }
+    requires row { row < (B.grid board.now).height }
+    ensures { let g = B.grid board.now in (x : ℕ) → x < g.width →
+        column_at result x ≡ list_any (holds_any objects.now) (cell_at g (x * g.height + row)) }
+{
+    let mut holding = Columns::none();
+    for layer in 0..board.layers() {
+        holding = holding.either(layer_columns(board, objects, LayerId(layer), row));
+    }
+    holding
+}
+
+/// The cells in which one of the objects stands.
+pub fn cells_with<B: Board>(board: &B, objects: &[ObjectId]) -> CellSet
+    ensures { IsSetOf (list_any (holds_any objects.now)) (B.grid board.now) result }
+{
+    let (_, height) = board.size();
+    let mut rows = [Columns::none(); 64];
+    for row in 0..height {
+        rows[row as usize] = row_columns(board, objects, row);
+    }
+    CellSet::from_rows(rows)
+}
