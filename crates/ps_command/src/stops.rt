@@ -1,5 +1,7 @@
 //! Why the program ends in place of a run's end, and how that is told.
 
+ghost use Rattle.std.specs.Prelude.{◌≤◌};
+
 use clap::error::ErrorKind;
 use ps_check::CheckFault;
 use ps_model::Memory;
@@ -72,7 +74,9 @@ pub fn stop_for(error: io::Error, other: Stop) -> Stop {
 
 /// Says why the program ends, and gives its status: 0 after help or the version, 2 for a bad command line, 1 for a
 /// fault. What standard error doesn't take is lost.
-pub fn tell<R: Print + Eprint>(rt: &R, stop: Stop) -> u8 {
+pub fn tell<R: Print + Eprint>(rt: &R, stop: Stop) -> u8
+    ensures { result ≤ 2 }
+{
     match stop {
         Stop::CommandLine(error) => return tell_command_line(rt, &error),
         Stop::NotText => {
@@ -95,7 +99,9 @@ pub fn tell<R: Print + Eprint>(rt: &R, stop: Stop) -> u8 {
 }
 
 /// Says what is wrong with a command line, or the help or the version that it asks for, and gives the status.
-fn tell_command_line<R: Print + Eprint>(rt: &R, error: &clap::Error) -> u8 {
+fn tell_command_line<R: Print + Eprint>(rt: &R, error: &clap::Error) -> u8
+    ensures { result ≤ 2 }
+{
     if error.use_stderr() {
         let _ = rt.eprint(error);
         return 2;
