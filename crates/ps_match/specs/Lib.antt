@@ -1,1 +1,2 @@
 pub mod InRoom
+pub mod Nowhere

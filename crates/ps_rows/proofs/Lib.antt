@@ -11,3 +11,4 @@ pub mod Whole
 pub mod Scans
 pub mod Rows
 pub mod Alike
+pub mod Absent
