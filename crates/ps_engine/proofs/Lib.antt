@@ -5,3 +5,4 @@ pub mod Odometer
 pub mod Attempting
 pub mod Sequences
 pub mod AsTheyAre
+pub mod Absent

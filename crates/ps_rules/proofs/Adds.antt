@@ -37,10 +37,10 @@ nothing_found index a b c d (Moving word) = ap (λ es. found_of es (word_number 
 module _ (old new : Index) (at : ℕ) where
   pub object : (object : ObjectId) → ((n : ℕ) → found_of new.objects n ≡ with_if (nat_eq n object.0) (found_of old.objects n) at)
       → new.aggregates ≡ old.aggregates → new.properties ≡ old.properties → new.words ≡ old.words → (key : Key) → found_at new key ≡ with_if (is_name_key key (One object)) (found_at old key) at
-  object object h b c d (Named (One other)) = h other.0
-  object object h b c d (Named (AllOf line objects)) = ap (λ es. found_of es line) b
-  object object h b c d (Named (AnyOf line objects)) = ap (λ es. found_of es line) c
-  object object h b c d (Moving word) = ap (λ es. found_of es (word_number word)) d
+  object here h b c d (Named (One other)) = h other.0
+  object here h b c d (Named (AllOf line objects)) = ap (λ es. found_of es line) b
+  object here h b c d (Named (AnyOf line objects)) = ap (λ es. found_of es line) c
+  object here h b c d (Moving word) = ap (λ es. found_of es (word_number word)) d
 
   pub aggregate : (line : ℕ) (objects : List ObjectId) → ((n : ℕ) → found_of new.aggregates n ≡ with_if (nat_eq n line) (found_of old.aggregates n) at)
       → new.objects ≡ old.objects → new.properties ≡ old.properties → new.words ≡ old.words → (key : Key) → found_at new key ≡ with_if (is_name_key key (AllOf line objects)) (found_at old key) at
