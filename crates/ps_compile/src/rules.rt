@@ -151,12 +151,9 @@ fn rule_by<'r>(
         rule.rows.as_slice(),
         backwards,
     )?;
-    Ok(CompiledRule {
-        direction: facing_forwards(reading.direction),
-        rows,
-        rewrites: rule.rewrites,
-        commands: &rule.commands,
-    })
+    let direction = facing_forwards(reading.direction);
+    let made = CompiledRule::try_new(alloc, direction, rows, rule.rewrites, &rule.commands)?;
+    Ok(made)
 }
 
 /// Puts a compiled rule last, unless it can do nothing.

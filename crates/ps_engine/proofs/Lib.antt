@@ -7,3 +7,4 @@ pub mod Sequences
 pub mod AsTheyAre
 pub mod OneByOne
 pub mod RowsWritten
+pub mod Absent

@@ -1,9 +1,9 @@
 //! An attempt of a rule.
 
-ghost use Rattle.std.specs.Prelude.{◌≡◌, IfOk, false, option_map};
+ghost use Rattle.std.specs.Prelude.{◌≡◌, [], IfOk, false, option_map, true};
 ghost use Rattle.std.specs.List.{list_all};
 ghost use Rattle.ps_model.specs.board.Places.{places};
-ghost use Rattle.ps_model.specs.board.Attempts.{Result as Meant, State, attempt};
+ghost use Rattle.ps_model.specs.board.Attempts.{Result as Meant, State, attempt, combinations_on};
 ghost use Rattle.ps_places.specs.Found.{has_one, row_meaning};
 ghost use Rattle.ps_engine.specs.RulesInRoom.{AreRowsFound, rule_meaning};
 ghost use Rattle.ps_match.specs.InRoom.{sides_of};
@@ -16,6 +16,20 @@ use ps_model::Memory;
 use ps_places::{RowPlaces, find_places, has_place};
 use ps_program::CompiledRule;
 use std::alloc::Global;
+
+/// Whether the board knows that an object which a rule needs is nowhere; then the rule has no combination. No memory is
+/// taken.
+fn lacks_needed<B: Scan>(board: &B, rule: &CompiledRule) -> bool
+    ensures { result ≡ true →
+        combinations_on (B.grid board.now) (rule_meaning (B.table board.now) rule.now) ≡ [] }
+{
+    for object in rule.needed.as_slice() {
+        if board.lacks(object) {
+            return true;
+        }
+    }
+    false
+}
 
 /// The rows of a rule with their places, which are those of the board as it is; nothing, where a row has none.
 /// `Memory` if there is no room for them.
@@ -80,6 +94,9 @@ pub fn attempt<'r, B: Scan>(
     ensures table { B.table board.new ≡ B.table board.old }
     ensures sides { sides_of (B.grid board.new) ≡ sides_of (B.grid board.old) }
 {
+    if lacks_needed(board, rule) {
+        return Ok(false);
+    }
     if !rule.rewrites {
         ask(board, rule, queue);
         return Ok(false);

@@ -109,16 +109,12 @@ fn row(alloc: Global, parts: &[&[(u8, u8)]]) -> Result<List<List<CompiledCell>>,
 }
 
 fn rule<'r>(
+    alloc: Global,
     direction: Direction,
     rows: Vec<List<List<CompiledCell>>>,
     commands: &'r Commands,
-) -> CompiledRule<'r> {
-    CompiledRule {
-        direction,
-        rows: List::from_vec(rows),
-        rewrites: true,
-        commands,
-    }
+) -> Result<CompiledRule<'r>, Memory> {
+    CompiledRule::try_new(alloc, direction, List::from_vec(rows), true, commands)
 }
 
 #[test]
@@ -132,7 +128,7 @@ fn a_rule_that_changes_nothing_in_the_end_has_changed(rt: HostRuntime) -> Result
     let mut queue = Queue::empty();
     let changed = attempt(
         alloc,
-        &rule(Direction::Right, rows, &commands),
+        &rule(alloc, Direction::Right, rows, &commands)?,
         &mut board,
         &mut queue,
     )?;
@@ -152,7 +148,7 @@ fn a_combination_is_looked_at_again(rt: HostRuntime) -> Result<(), Fail> {
     let mut queue = Queue::empty();
     let changed = attempt(
         alloc,
-        &rule(Direction::Right, rows, &commands),
+        &rule(alloc, Direction::Right, rows, &commands)?,
         &mut board,
         &mut queue,
     )?;
@@ -188,8 +184,8 @@ fn places_are_found_once(rt: HostRuntime) -> Result<(), Fail> {
     let mut turn = Vec::new(alloc);
     turn.push(row(alloc, &[&[(b'A', b'C')]])?)?;
     let mut rules = Vec::new(alloc);
-    rules.push(rule(Direction::Right, swap, &commands))?;
-    rules.push(rule(Direction::Right, turn, &commands))?;
+    rules.push(rule(alloc, Direction::Right, swap, &commands)?)?;
+    rules.push(rule(alloc, Direction::Right, turn, &commands)?)?;
     let mut sections = Vec::new(alloc);
     sections.push(CompiledSection::Group(List::from_vec(rules)))?;
     let mut board = board_of(alloc, b"ABB")?;
@@ -209,7 +205,7 @@ fn the_smaller_gap_comes_first(rt: HostRuntime) -> Result<(), Fail> {
     let mut queue = Queue::empty();
     let changed = attempt(
         alloc,
-        &rule(Direction::Left, rows, &commands),
+        &rule(alloc, Direction::Left, rows, &commands)?,
         &mut board,
         &mut queue,
     )?;

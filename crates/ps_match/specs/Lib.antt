@@ -1,3 +1,4 @@
 pub mod InRoom
 pub mod Together
 pub mod Touches
+pub mod Nowhere

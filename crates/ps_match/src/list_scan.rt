@@ -6,6 +6,7 @@ use crate::scan::Scan;
 use crate::scanning::scan_row;
 use crate::writing::write_cell;
 use ps_board::{Board, Columns, ListBoard};
+use ps_model::LayeredObject;
 use ps_program::{CellMask, CellWrite};
 
 impl Scan for ListBoard {
@@ -19,6 +20,11 @@ impl Scan for ListBoard {
 
     fn scan(&self, mask: &CellMask, row: u32) -> Columns {
         scan_row(self, mask, row)
+    }
+
+    /// Never: to know it, this board would have to look at each cell.
+    fn lacks(&self, _object: &LayeredObject) -> bool {
+        false
     }
 
     fn write(&mut self, write: &CellWrite, cell: u32, changed: bool) -> bool {

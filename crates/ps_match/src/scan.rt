@@ -1,6 +1,6 @@
 //! What a board does for a rule.
 
-ghost use Rattle.std.specs.Prelude.{◌≡◌, ◌<◌, slice_get};
+ghost use Rattle.std.specs.Prelude.{◌≡◌, ◌<◌, slice_get, true};
 ghost use Rattle.ps_model.specs.board.Places.{fits_there};
 ghost use Rattle.ps_model.specs.board.Attempts.{Rewritten, rewritten_cell};
 ghost use Rattle.ps_program.specs.ProgramShown.{mask_shown, write_shown};
@@ -8,8 +8,10 @@ ghost use Rattle.ps_board.specs.ColumnSets.{row_fits};
 ghost use Rattle.ps_model.specs.meaning.Compiled.{cell_written};
 ghost use Rattle.ps_match.specs.InRoom.{meaning_of_mask, meaning_of_write, sides_of, write_in_room};
 ghost use Rattle.ps_match.specs.Together.{is_on_row, rewritten_where};
+ghost use Rattle.ps_match.specs.Nowhere.{IsNowhere};
 
 use ps_board::{Board, Columns};
+use ps_model::LayeredObject;
 use ps_program::{CellMask, CellWrite};
 
 /// A board whose cells are matched against masks and rewritten by writes. What runs rules touches a board through
@@ -24,6 +26,11 @@ pub trait Scan: Board {
     fn scan(&self, mask: &CellMask, row: u32) -> Columns
         requires { row < (Self.grid self.now).height }
         ensures { result ≡ row_fits (Self.grid self.now) (meaning_of_mask (mask_shown mask.now)) row };
+
+    /// Whether the board knows that no cell has an object on its layer. Where some cell has it, the answer is no; where
+    /// none has, it may be no too, as a board needn't look for it.
+    fn lacks(&self, object: &LayeredObject) -> bool
+        ensures { result ≡ true → IsNowhere (Self.grid self.now) object.now };
 
     /// Writes a cell, and answers whether it changed, or something had `changed` before. Beyond the board nothing is
     /// written, and an object that has no room on a layer isn't put there.

@@ -17,20 +17,9 @@ use crate::shape::{Place, Shape};
 use crate::somewhere::each_fits;
 use ps_match::Scan;
 use ps_model::{Direction, Memory, SIDE_LIMIT};
-use ps_program::CompiledCell;
+use ps_program::{CompiledCell, first_parts};
 use ps_text::List;
 use std::alloc::Global;
-
-/// The first two parts of a row. A rule has no more: a row has one ellipsis at most.
-pub fn first_parts(row: &[List<CompiledCell>]) -> &[List<CompiledCell>]
-    ensures parts { result.now ≡ take 2 row.entry.now }
-    ensures few { length result.now ≤ 2 }
-{
-    if row.len() <= 2 {
-        return row;
-    }
-    &row[..2]
-}
 
 /// How many cells a part has.
 fn size_of(parts: &[List<CompiledCell>], number: usize) -> usize

@@ -11,14 +11,14 @@ ghost use Rattle.ps_places.specs.RowMeanings.{places_at, row_places_at, vertical
 
 use crate::along::fits_place;
 use crate::ends::{ends_across, find_ends, may_end};
-use crate::find::{first_parts, shape_of};
+use crate::find::shape_of;
 use crate::search::gaps_if;
 use crate::shape::{Place, Shape};
 use crate::somewhere::each_fits;
 use crate::starts::{starts_across, starts_down};
 use ps_match::{Columns, Scan};
 use ps_model::{Direction, SIDE_LIMIT};
-use ps_program::CompiledCell;
+use ps_program::{CompiledCell, first_parts};
 use ps_text::List;
 
 /// Whether parts have a place whose leftmost or topmost cell is `end`.

@@ -2,10 +2,12 @@
 #![tactic(auto)]
 
 mod cells;
+mod needs;
 mod program;
 mod rules;
 
 pub use cells::{CellMask, CellWrite, CompiledCell};
+pub use needs::first_parts;
 pub use program::{CompiledSection, Program};
 pub use ps_model::{Direction, LayerWrite, LayeredObject, MotionTest, ObjectWrite};
 pub use ps_rules::Commands;

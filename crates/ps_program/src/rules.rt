@@ -1,9 +1,14 @@
 //! A compiled rule.
 
+ghost use Rattle.std.specs.Prelude.{◌≡◌, IfOk};
+ghost use Rattle.ps_program.specs.Needs.{rows_need};
+
 use crate::cells::CompiledCell;
-use ps_model::Direction;
+use crate::needs::needs_of;
+use ps_model::{Direction, LayeredObject, Memory};
 use ps_rules::Commands;
 use ps_text::List;
+use std::alloc::Global;
 
 /// One reading of a rule, compiled. Its commands are lent by the rule: a copy for each reading would be one of its
 /// message too.
@@ -16,4 +21,33 @@ pub struct CompiledRule<'r> {
     /// It rewrites cells; else its right is commands alone.
     pub rewrites: bool,
     pub commands: &'r Commands,
+    /// The objects that its cells need, those of all cells one after the other: where a board has not all of them, the
+    /// rule has no place there.
+    pub needed: List<LayeredObject>,
+    ghost needs: { needed ≡ rows_need rows },
+}
+
+impl<'r> CompiledRule<'r> {
+    /// The rule of these rows. `Memory` if there is no room for the objects that it needs.
+    pub fn try_new(
+        alloc: Global,
+        direction: Direction,
+        rows: List<List<List<CompiledCell>>>,
+        rewrites: bool,
+        commands: &'r Commands,
+    ) -> Result<CompiledRule<'r>, Memory>
+        ensures direction { IfOk result (λ rule. rule.direction ≡ direction) }
+        ensures rows { IfOk result (λ rule. rule.rows ≡ rows) }
+        ensures rewrites { IfOk result (λ rule. rule.rewrites ≡ rewrites) }
+        ensures commands { IfOk result (λ rule. rule.commands.now ≡ commands.entry.now) }
+    {
+        let needed = needs_of(alloc, rows.as_slice())?;
+        Ok(CompiledRule {
+            direction,
+            rows,
+            rewrites,
+            commands,
+            needed,
+        })
+    }
 }

@@ -13,3 +13,4 @@ pub mod Rows
 pub mod Alike
 pub mod RowSets
 pub mod SameRows
+pub mod Absent

@@ -1,6 +1,6 @@
 -- Planes of rows of bits, as one flat list of words: row y of a plane is the word at plane * height + y, and its bit x says
 -- whether the plane has the cell in column x of that row.
-use Rattle.std.specs.Prelude.{ℕ, ◌+◌, ◌*◌, ◌/◌, ◌%◌, ◌^◌, ◌==◌, ◌≡◌, ◌≤◌, nat_eq, length, Bool, true, false, Option, List, [], ◌∷◌, slice_index, slice_set, bit_and, bit_or}
+use Rattle.std.specs.Prelude.{ℕ, ◌+◌, ◌*◌, ◌/◌, ◌%◌, ◌^◌, ◌==◌, ◌≡◌, ◌<◌, ◌≤◌, nat_eq, length, Bool, true, false, Option, List, [], ◌∷◌, slice_index, slice_set, bit_and, bit_or}
 use Rattle.std.specs.List.{list_any}
 use Rattle.std.specs.Int.{bit_at, bit_not, w64}
 use Rattle.ps_model.specs.board.Movement.{is_number}
@@ -28,6 +28,10 @@ unfoldable pub with_cell_in : ℕ → ℕ → Option ℕ → List ℕ → List �
 with_cell_in height cell chosen words [] = words
 with_cell_in height cell chosen words (plane ∷ planes) =
     with_cell_in height cell chosen (with_cell height words cell plane (is_number chosen plane)) planes
+
+-- no row of the plane has a column
+abbrev pub IsBare : ℕ → List ℕ → ℕ → Type 0
+IsBare height words plane = (row : ℕ) → row < height → slice_index words (plane * height + row) ≡ 0
 
 -- the words hold each of these planes whole
 abbrev pub HavePlanes : ℕ → List ℕ → List ℕ → Type 0

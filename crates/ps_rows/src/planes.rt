@@ -1,9 +1,10 @@
 //! Planes of rows of bits, as one flat list of words.
 
-ghost use Rattle.std.specs.Prelude.{◌≡◌, ◌+◌, ◌*◌, ◌/◌, ◌%◌, ◌<◌, ◌≤◌, ℕ, ◌∷◌, [], find, length, slice_index};
+ghost use Rattle.std.specs.Prelude.{◌≡◌, ◌+◌, ◌*◌, ◌/◌, ◌%◌, ◌<◌, ◌≤◌, ℕ, ◌∷◌, [], find, length, slice_index, true};
 ghost use Rattle.ps_model.specs.board.Movement.{is_number};
 ghost use Rattle.ps_rows.specs.Planes.{
   HavePlanes,
+  IsBare,
   has_cell,
   has_column,
   with_cell,
@@ -59,6 +60,19 @@ pub fn plane_row(words: &[u64], height: u32, plane: u32, row: u32) -> u64
     ensures { result ≡ slice_index words.now (plane * height + row) }
 {
     words[plane as usize * height as usize + row as usize]
+}
+
+/// Whether a plane has no cell.
+pub fn is_bare(words: &[u64], height: u32, plane: u32) -> bool
+    requires { (plane + 1) * height ≤ length words.now }
+    ensures { result ≡ true → IsBare height words.now plane }
+{
+    for row in 0..height {
+        if plane_row(words, height, plane, row) != 0 {
+            return false;
+        }
+    }
+    true
 }
 
 /// Puts a cell into a plane, or takes it away.

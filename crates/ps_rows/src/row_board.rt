@@ -4,14 +4,14 @@ ghost use Rattle.std.specs.Prelude.{◌≡◌, ◌+◌, ◌*◌, ◌/◌, ◌^�
 ghost use Rattle.std.specs.Prelude.{option_map, replicate, slice_get, slice_index, vec_len};
 ghost use Rattle.ps_model.specs.board.Movement.{is_number};
 ghost use Rattle.ps_model.specs.declared.limits.TheConstants.{LAYER_LIMIT, SIDE_LIMIT};
-ghost use Rattle.ps_rows.specs.Planes.{HavePlanes};
+ghost use Rattle.ps_rows.specs.Planes.{HavePlanes, IsBare};
 ghost use Rattle.ps_rows.specs.Sameness.{IsSameLayer};
 ghost use Rattle.ps_rows.specs.Showing.{AreMotionsShown, AreObjectsShown, cleared_from, grid_shown};
 ghost use Rattle.ps_rows.specs.Showing.{motions_from, numbered, object_shown, with_slot_in};
 
 use crate::members::Members;
 use crate::motions::{choose_motion, first_motion};
-use crate::planes::{choose_plane, first_plane, plane_row};
+use crate::planes::{choose_plane, first_plane, is_bare, plane_row};
 use crate::sameness::{same_planes, same_words};
 use crate::scanning::columns;
 use ps_board::{Board, Columns};
@@ -118,6 +118,14 @@ impl RowBoard {
         ensures { result ≡ slice_index self.now.words.items (plane * self.now.height + row) }
     {
         plane_row(self.words.as_slice(), self.height, plane, row)
+    }
+
+    /// Whether a plane has no cell.
+    pub(crate) fn is_bare(&self, plane: u32) -> bool
+        requires { plane < motions_from self.now.members.table.items self.now.layers }
+        ensures { result ≡ true → IsBare self.now.height self.now.words.items plane }
+    {
+        is_bare(self.words.as_slice(), self.height, plane)
     }
 
     /// Whether an object is one of a layer, by the table.

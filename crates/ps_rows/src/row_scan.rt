@@ -4,7 +4,7 @@ use crate::planes::has_column;
 use crate::row_board::RowBoard;
 use ps_board::Board;
 use ps_match::{Columns, Rooms, Scan, rewrite_row, write_cell};
-use ps_model::{LayerId, ObjectId};
+use ps_model::{LayerId, LayeredObject, ObjectId};
 use ps_program::{CellMask, CellWrite};
 
 impl Rooms for RowBoard {
@@ -24,6 +24,13 @@ impl Scan for RowBoard {
 
     fn scan(&self, mask: &CellMask, row: u32) -> Columns {
         Columns::from_word(self.mask_row(mask, row))
+    }
+
+    fn lacks(&self, object: &LayeredObject) -> bool {
+        if !self.is_on(object.object.0, object.layer.0) {
+            return true;
+        }
+        self.is_bare(object.object.0)
     }
 
     fn write(&mut self, write: &CellWrite, cell: u32, changed: bool) -> bool {

@@ -131,6 +131,9 @@ impl RowBoard {
         ensures within { IsWithin (⟦<RowBoard as Board>⟧.grid self.now) result }
     {
         let needed = self.all_row(mask.needed.as_slice(), row);
+        if needed == 0 {
+            return 0;
+        }
         let barred = self.any_row(mask.barred.as_slice(), row);
         let listed = self.lists_row(mask.one_of.as_slice(), row);
         let moving = self.motions_row(mask.motions.as_slice(), row);

@@ -49,12 +49,9 @@ fn program_of<'r>(alloc: Global, commands: &'r Commands) -> Result<Program<'r>, 
     let mut rows = Vec::new(alloc);
     rows.push(List::from_vec(parts))?;
     let mut rules = Vec::new(alloc);
-    rules.push(CompiledRule {
-        direction: Direction::Right,
-        rows: List::from_vec(rows),
-        rewrites: false,
-        commands,
-    })?;
+    let rows = List::from_vec(rows);
+    let rule = CompiledRule::try_new(alloc, Direction::Right, rows, false, commands)?;
+    rules.push(rule)?;
     let mut sections = Vec::new(alloc);
     sections.push(CompiledSection::Group(List::from_vec(rules)))?;
     Ok(Program::from_sections(sections))

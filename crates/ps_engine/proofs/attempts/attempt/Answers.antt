@@ -14,6 +14,14 @@ use Rattle.ps_engine.proofs.RowByRow.{some_places}
 use Rattle.ps_engine.proofs.Attempting.{attempt_none, attempt_walked, unchanged}
 use Rattle.ps_engine.proofs.attempts.attempt.Goals as goal
 
+pub returns-then-lacks_needed-clause-attempt : goal.returns-then-lacks_needed-clause-attempt
+returns-then-lacks_needed-clause-attempt g c =
+    let grid : Grid = g.B.Board.grid c.args.board.now in
+    let table : Option (List ℕ) = g.B.Board.table c.args.board.now in
+    let rule = c.args.rule.now in
+    attempt_none rule.direction (map (row_meaning table) rule.rows) rule.rewrites (commands_shown rule.commands.now) grid c.args.queue.now
+    (combinations (map (places grid rule.direction) (map (row_meaning table) rule.rows))) (c.lacks_needed.ensures c.if-lacks_needed.true)
+
 pub returns-then-not-has_places-clause-attempt : goal.returns-then-not-has_places-clause-attempt
 returns-then-not-has_places-clause-attempt g c =
     let grid : Grid = g.B.Board.grid c.args.board.now in

@@ -7,8 +7,22 @@ use Rattle.ps_program.specs.ProgramShown.{mask_shown}
 use Rattle.ps_rows.specs.Planes.{has_column}
 use Rattle.ps_rows.specs.Showing.{grid_shown}
 use Rattle.ps_rows.specs.RowTests.{IsRowOf, held_all, held_any, held_of_each, moved_all}
+use Rattle.ps_rows.proofs.Absent.{mask_nowhere, none_within}
 use Rattle.ps_rows.proofs.Scans.{mask_inside, mask_within}
 use Rattle.ps_rows.proofs.row_board.RowBoard.mask_row.Goals as goal
+
+pub returns-then-needed-eq0-clause-inside : goal.returns-then-needed-eq0-clause-inside
+returns-then-needed-eq0-clause-inside c =
+    let b = c.args.self.now in
+    let g : Grid = grid_shown b.members.table.items b.width b.height b.layers b.words.items in
+    let Needed : ℕ → Type 0 = λ word. IsRowOf g c.args.row word (held_all (mask_shown c.args.mask.now).needed) in
+    let Listed : List LayeredObject → Type 0 = λ xs. IsRowOf g c.args.row c.all_row-needed.result (held_all xs) in
+    mask_nowhere g c.args.row (mask_shown c.args.mask.now) (subst Needed c.if-needed-eq0.true (subst Listed c.as_slice.ensures c.all_row-needed.ensures))
+
+pub returns-then-needed-eq0-clause-within : goal.returns-then-needed-eq0-clause-within
+returns-then-needed-eq0-clause-within c =
+    let b = c.args.self.now in
+    none_within (grid_shown b.members.table.items b.width b.height b.layers b.words.items)
 
 pub returns-clause-inside : goal.returns-clause-inside
 returns-clause-inside c =
