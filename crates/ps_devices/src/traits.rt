@@ -101,8 +101,8 @@ pub trait ByteWriter: Drop {
         ensures none { most_calls ≤ calls self.old → empty_calls self.new ≡ empty_calls self.old };
 }
 
-/// Writes all of `bytes`, in order and nothing else, by as many calls as it takes: each is handed some, and takes a byte
-/// or more where it doesn't fail; none comes behind a failure or behind the last byte.
+/// Writes all of `bytes`, in order and nothing else, by as many calls as it takes: each is handed some, and takes a
+/// byte or more where it doesn't fail; none comes behind a failure or behind the last byte.
 ///
 /// # Errors
 ///
