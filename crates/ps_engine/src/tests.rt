@@ -163,7 +163,7 @@ fn a_rule_of_one_cell_writes_each_cell_that_fits(rt: HostRuntime) -> Result<(), 
     let commands = nothing();
     let mut rows = Vec::new(alloc);
     rows.push(row(alloc, &[&[(b'A', b'B')]])?)?;
-    let written = rule(Direction::Down, rows, &commands);
+    let written = rule(alloc, Direction::Down, rows, &commands)?;
     let mut board = board_of(alloc, b"A.ACB")?;
     let mut queue = Queue::empty();
     let changed = attempt(alloc, &written, &mut board, &mut queue)?;
