@@ -183,9 +183,11 @@ fn places_are_found_once(rt: HostRuntime) -> Result<(), Fail> {
     swap.push(row(alloc, &[&[(b'A', b'B'), (b'B', b'A')]])?)?;
     let mut turn = Vec::new(alloc);
     turn.push(row(alloc, &[&[(b'A', b'C')]])?)?;
+    let first = rule(alloc, Direction::Right, swap, &commands)?;
+    let second = rule(alloc, Direction::Right, turn, &commands)?;
     let mut rules = Vec::new(alloc);
-    rules.push(rule(alloc, Direction::Right, swap, &commands)?)?;
-    rules.push(rule(alloc, Direction::Right, turn, &commands)?)?;
+    rules.push(first)?;
+    rules.push(second)?;
     let mut sections = Vec::new(alloc);
     sections.push(CompiledSection::Group(List::from_vec(rules)))?;
     let mut board = board_of(alloc, b"ABB")?;
