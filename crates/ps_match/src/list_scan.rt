@@ -6,7 +6,7 @@ use crate::scan::Scan;
 use crate::scanning::scan_row;
 use crate::writing::write_cell;
 use ps_board::{Board, Columns, ListBoard};
-use ps_model::LayeredObject;
+use ps_model::{LayeredObject, SIDE_LIMIT};
 use ps_program::{CellMask, CellWrite};
 
 impl Scan for ListBoard {
@@ -25,6 +25,11 @@ impl Scan for ListBoard {
     /// Never: to know it, this board would have to look at each cell.
     fn lacks(&self, _object: &LayeredObject) -> bool {
         false
+    }
+
+    /// All rows: to know which, this board would have to look at each cell.
+    fn rows_with(&self, _object: &LayeredObject) -> Columns {
+        Columns::below(SIDE_LIMIT)
     }
 
     fn write(&mut self, write: &CellWrite, cell: u32, changed: bool) -> bool {

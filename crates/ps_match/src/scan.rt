@@ -8,7 +8,7 @@ ghost use Rattle.ps_board.specs.ColumnSets.{row_fits};
 ghost use Rattle.ps_model.specs.meaning.Compiled.{cell_written};
 ghost use Rattle.ps_match.specs.InRoom.{meaning_of_mask, meaning_of_write, sides_of, write_in_room};
 ghost use Rattle.ps_match.specs.Together.{is_on_row, rewritten_where};
-ghost use Rattle.ps_match.specs.Nowhere.{IsNowhere};
+ghost use Rattle.ps_match.specs.Nowhere.{HasRowsIn, IsNowhere};
 
 use ps_board::{Board, Columns};
 use ps_model::LayeredObject;
@@ -31,6 +31,11 @@ pub trait Scan: Board {
     /// none has, it may be no too, as a board needn't look for it.
     fn lacks(&self, object: &LayeredObject) -> bool
         ensures { result ≡ true → IsNowhere (Self.grid self.now) object.now };
+
+    /// Rows of the board, as a set of their numbers, without which no cell has an object on its layer. There may be more
+    /// of them than have it, and all of them, as a board needn't look for it.
+    fn rows_with(&self, object: &LayeredObject) -> Columns
+        ensures { HasRowsIn (Self.grid self.now) object.now result };
 
     /// Writes a cell, and answers whether it changed, or something had `changed` before. Beyond the board nothing is
     /// written, and an object that has no room on a layer isn't put there.
