@@ -1,3 +1,4 @@
+pub mod Histories
 pub mod IgnoredKeys
 pub mod Nexts
 pub mod Phases

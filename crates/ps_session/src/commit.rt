@@ -1,16 +1,18 @@
 //! What comes next is put in the place of what was. Nothing here takes memory.
 
-ghost use Rattle.std.specs.Prelude.{◌≡◌, ◌++◌, ℕ, [], ◌∷◌, List, Option, map};
+ghost use Rattle.std.specs.Prelude.{◌≡◌, ◌++◌, ℕ, [], ◌∷◌, List, Option};
 ghost use Rattle.ps_model.specs.board.Grid.{Grid};
 ghost use Rattle.ps_model.specs.declared.limits.TheConstants.{HISTORY_LIMIT};
 ghost use Rattle.ps_stage.specs.Places.{place_shown, IsOnTable};
 ghost use Rattle.ps_stage.specs.Standings.{play_of};
 ghost use Rattle.ps_stage.specs.StepsShown.{stands};
 ghost use Rattle.ps_model.specs.session.Sessions.{kept};
+ghost use Rattle.ps_session.specs.Histories.{AreOnTable, grids_of};
 ghost use Rattle.ps_session.specs.Nexts.{next_shown, past_at, stood};
-ghost use Rattle.ps_session.specs.Tables.{AreOnTable, ComesOnTable};
+ghost use Rattle.ps_session.specs.Tables.{ComesOnTable};
 
 use crate::nexts::Next;
+use crate::past_boards::PastBoard;
 use circular_buffer::HeapCircularBuffer;
 use ps_board::Board;
 use ps_model::Ending;
@@ -42,23 +44,27 @@ fn stood<B: Board>(place: Place<PlayedLevel<B>>, pending: Option<Pending>) -> Pl
 }
 
 /// The board of a level enters the history. Of a full one the oldest board goes.
-fn remember<B: Board>(history: &mut HeapCircularBuffer<B>, level: PlayedLevel<B>)
+fn remember<B: Board>(history: &mut HeapCircularBuffer<PastBoard<B>>, level: PlayedLevel<B>)
     requires limit { history.old.capacity ≡ HISTORY_LIMIT }
     ensures limit { history.new.capacity ≡ HISTORY_LIMIT }
-    ensures shown { map B.grid history.new.items ≡ kept (map B.grid history.old.items ++ level.board ∷ []) }
-    ensures boards { (table : Option (List ℕ)) → AreOnTable B.table table history.old.items → level.table ≡ table
-        → AreOnTable B.table table history.new.items }
+    ensures shown { grids_of history.new.items ≡ kept (grids_of history.old.items ++ level.board ∷ []) }
+    ensures boards { (table : Option (List ℕ)) → AreOnTable table history.old.items → level.table ≡ table
+        → AreOnTable table history.new.items }
 {
-    let _ = history.push_back(level.into_board());
+    let _ = history.push_back(PastBoard::of(level));
 }
 
 /// The history behind a place that is left.
-fn leave<B: Board>(history: &mut HeapCircularBuffer<B>, place: Place<PlayedLevel<B>>, past: Past)
+fn leave<B: Board>(
+    history: &mut HeapCircularBuffer<PastBoard<B>>,
+    place: Place<PlayedLevel<B>>,
+    past: Past,
+)
     requires limit { history.old.capacity ≡ HISTORY_LIMIT }
     ensures limit { history.new.capacity ≡ HISTORY_LIMIT }
-    ensures shown { map B.grid history.new.items ≡ past_at past (map B.grid history.old.items) place }
-    ensures boards { (table : Option (List ℕ)) → AreOnTable B.table table history.old.items → IsOnTable table place
-        → AreOnTable B.table table history.new.items }
+    ensures shown { grids_of history.new.items ≡ past_at past (grids_of history.old.items) place }
+    ensures boards { (table : Option (List ℕ)) → AreOnTable table history.old.items → IsOnTable table place
+        → AreOnTable table history.new.items }
 {
     match past {
         Past::Keeps => {}
@@ -75,17 +81,17 @@ fn leave<B: Board>(history: &mut HeapCircularBuffer<B>, place: Place<PlayedLevel
 /// What comes next becomes the place and the history.
 pub fn commit<B: Board>(
     place: &mut Place<PlayedLevel<B>>,
-    history: &mut HeapCircularBuffer<B>,
+    history: &mut HeapCircularBuffer<PastBoard<B>>,
     next: Next<PlayedLevel<B>>,
 )
     requires limit { history.old.capacity ≡ HISTORY_LIMIT }
     ensures limit { history.new.capacity ≡ HISTORY_LIMIT }
-    ensures shown { place_shown (map B.grid history.new.items) place.new
-        ≡ next_shown (map B.grid history.old.items) place.old next }
+    ensures shown { place_shown (grids_of history.new.items) place.new
+        ≡ next_shown (grids_of history.old.items) place.old next }
     ensures place { (table : Option (List ℕ)) → IsOnTable table place.old → ComesOnTable table next
         → IsOnTable table place.new }
-    ensures boards { (table : Option (List ℕ)) → AreOnTable B.table table history.old.items → IsOnTable table place.old
-        → AreOnTable B.table table history.new.items }
+    ensures boards { (table : Option (List ℕ)) → AreOnTable table history.old.items → IsOnTable table place.old
+        → AreOnTable table history.new.items }
 {
     match next {
         Next::Stands(pending) => {

@@ -1,6 +1,6 @@
 //! Keys in a level.
 
-ghost use Rattle.std.specs.Prelude.{◌≡◌, ℕ, [], true, IfOk, List, None, Ok, Option, Some, map};
+ghost use Rattle.std.specs.Prelude.{◌≡◌, ℕ, [], true, IfOk, List, None, Ok, Option, Some};
 ghost use Rattle.ps_model.specs.board.Grid.{Grid};
 ghost use Rattle.ps_model.specs.board.Programs.{Section};
 ghost use Rattle.ps_model.specs.session.KeySteps.{input_taken, key_in_level, quit, undone};
@@ -9,12 +9,14 @@ ghost use Rattle.ps_model.specs.session.StartSteps.{restarted};
 ghost use Rattle.ps_stage.specs.Standings.{play_of, script_of, script_for, Standing};
 ghost use Rattle.ps_stage.specs.declared.places.Place.{Place as MeantPlace};
 ghost use Rattle.ps_stage.specs.declared.places.Place.TheVariants.{Playing};
+ghost use Rattle.ps_session.specs.Histories.{AreOnTable, grids_of};
 ghost use Rattle.ps_session.specs.IgnoredKeys.{is_ignored_in_level};
 ghost use Rattle.ps_session.specs.Nexts.{next_step};
-ghost use Rattle.ps_session.specs.Tables.{AnswersOnTable, AreOnTable, ComesOnTable};
+ghost use Rattle.ps_session.specs.Tables.{AnswersOnTable, ComesOnTable};
 
 use crate::ignored::is_ignored_in_level;
 use crate::nexts::{Next, next_of};
+use crate::past_boards::PastBoard;
 use circular_buffer::HeapCircularBuffer;
 use ps_board::Board;
 use ps_model::{Ending, Input, Key, Memory};
@@ -74,22 +76,22 @@ fn undoes<B: Board>(
     alloc: Global,
     stage: &mut Stage<'_, B>,
     level: &PlayedLevel<B>,
-    history: &HeapCircularBuffer<B>,
+    history: &HeapCircularBuffer<PastBoard<B>>,
 ) -> Result<Next<PlayedLevel<B>>, Memory>
     requires empty { stage.old.text ≡ [] }
     requires table { level.now.table ≡ B.table_for stage.old.game.names.layers }
-    requires boards { AreOnTable B.table (B.table_for stage.old.game.names.layers) history.now.items }
+    requires boards { AreOnTable (B.table_for stage.old.game.names.layers) history.now.items }
     ensures game { stage.new.game ≡ stage.old.game }
     ensures came { IfOk result (λ next. (plain late : List Section)
-        → undone (script_of stage.old.game plain late) (play_of (map B.grid history.now.items) level.now)
-        ≡ next_step (map B.grid history.now.items) (Playing level.now) (Some next) stage.new.text) }
+        → undone (script_of stage.old.game plain late) (play_of (grids_of history.now.items) level.now)
+        ≡ next_step (grids_of history.now.items) (Playing level.now) (Some next) stage.new.text) }
     ensures table { IfOk result (λ next. ComesOnTable (B.table_for stage.old.game.names.layers) next) }
 {
     let Some(latest) = history.back() else {
         stage.show(level.board())?;
         return Ok(Next::Stands(None));
     };
-    let back = level.with_board(alloc, latest)?;
+    let back = level.with_board(alloc, latest.board())?;
     stage.show(back.board())?;
     Ok(Next::Undoes(back))
 }
@@ -129,20 +131,20 @@ pub fn key_in_level<B: Board, R: Rules<B>>(
     stage: &mut Stage<'_, B>,
     rules: &mut Programs<R>,
     level: &mut PlayedLevel<B>,
-    history: &HeapCircularBuffer<B>,
+    history: &HeapCircularBuffer<PastBoard<B>>,
     key: Key,
 ) -> Result<Option<Next<PlayedLevel<B>>>, Memory>
     requires empty { stage.old.text ≡ [] }
     requires table { level.old.table ≡ B.table_for stage.old.game.names.layers }
-    requires boards { AreOnTable B.table (B.table_for stage.old.game.names.layers) history.now.items }
+    requires boards { AreOnTable (B.table_for stage.old.game.names.layers) history.now.items }
     ensures game { stage.new.game ≡ stage.old.game }
     ensures plain { R.meant rules.new.plain ≡ R.meant rules.old.plain }
     ensures late { R.meant rules.new.late ≡ R.meant rules.old.late }
     ensures same { level.new ≡ level.old }
     ensures came { IfOk result (λ next.
         key_in_level (script_for B.table_for stage.old.game (R.meant rules.old.plain) (R.meant rules.old.late))
-        (play_of (map B.grid history.now.items) level.old) key
-        ≡ next_step (map B.grid history.now.items) (Playing level.old) next stage.new.text) }
+        (play_of (grids_of history.now.items) level.old) key
+        ≡ next_step (grids_of history.now.items) (Playing level.old) next stage.new.text) }
     ensures table { IfOk result (λ next. AnswersOnTable (B.table_for stage.old.game.names.layers) next) }
     ensures ignored { is_ignored_in_level stage.old.game.options key ≡ true → result ≡ Ok None }
 {

@@ -9,6 +9,7 @@ mod ignored;
 mod levels;
 mod messages;
 mod nexts;
+mod past_boards;
 mod phase;
 mod places;
 mod session;

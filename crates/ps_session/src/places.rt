@@ -1,16 +1,18 @@
 //! Keys wherever a player is.
 
-ghost use Rattle.std.specs.Prelude.{◌≡◌, [], true, IfOk, None, Ok, map};
+ghost use Rattle.std.specs.Prelude.{◌≡◌, [], true, IfOk, None, Ok};
 ghost use Rattle.ps_model.specs.session.KeySteps.{key_step};
 ghost use Rattle.ps_stage.specs.Places.{place_shown, IsOnTable};
 ghost use Rattle.ps_stage.specs.Standings.{script_for};
+ghost use Rattle.ps_session.specs.Histories.{AreOnTable, grids_of};
 ghost use Rattle.ps_session.specs.IgnoredKeys.{is_ignored};
 ghost use Rattle.ps_session.specs.Nexts.{next_step};
-ghost use Rattle.ps_session.specs.Tables.{AnswersOnTable, AreOnTable};
+ghost use Rattle.ps_session.specs.Tables.{AnswersOnTable};
 
 use crate::levels::key_in_level;
 use crate::messages::{key_at_entry, key_at_level_message};
 use crate::nexts::Next;
+use crate::past_boards::PastBoard;
 use circular_buffer::HeapCircularBuffer;
 use ps_board::Board;
 use ps_model::{Key, Memory};
@@ -28,22 +30,22 @@ pub fn next_at<B: Board, R: Rules<B>>(
     stage: &mut Stage<'_, B>,
     rules: &mut Programs<R>,
     place: &mut Place<PlayedLevel<B>>,
-    history: &HeapCircularBuffer<B>,
+    history: &HeapCircularBuffer<PastBoard<B>>,
     key: Key,
 ) -> Result<Option<Next<PlayedLevel<B>>>, Memory>
     requires empty { stage.old.text ≡ [] }
     requires table { IsOnTable (B.table_for stage.old.game.names.layers) place.old }
-    requires boards { AreOnTable B.table (B.table_for stage.old.game.names.layers) history.now.items }
+    requires boards { AreOnTable (B.table_for stage.old.game.names.layers) history.now.items }
     ensures game { stage.new.game ≡ stage.old.game }
     ensures plain { R.meant rules.new.plain ≡ R.meant rules.old.plain }
     ensures late { R.meant rules.new.late ≡ R.meant rules.old.late }
     ensures same { place.new ≡ place.old }
     ensures came { IfOk result (λ next.
         key_step (script_for B.table_for stage.old.game (R.meant rules.old.plain) (R.meant rules.old.late))
-        (place_shown (map B.grid history.now.items) place.old) key
-        ≡ next_step (map B.grid history.now.items) place.old next stage.new.text) }
+        (place_shown (grids_of history.now.items) place.old) key
+        ≡ next_step (grids_of history.now.items) place.old next stage.new.text) }
     ensures table { IfOk result (λ next. AnswersOnTable (B.table_for stage.old.game.names.layers) next) }
-    ensures ignored { is_ignored stage.old.game.options (place_shown (map B.grid history.now.items) place.old) key
+    ensures ignored { is_ignored stage.old.game.options (place_shown (grids_of history.now.items) place.old) key
         ≡ true → result ≡ Ok None }
 {
     match place {

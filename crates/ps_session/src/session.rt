@@ -8,6 +8,7 @@ ghost use Rattle.ps_session.specs.IgnoredKeys.{is_ignored};
 ghost use Rattle.ps_session.specs.Phases.{phase_of};
 
 use crate::commit::commit;
+use crate::past_boards::PastBoard;
 use crate::phase::Phase;
 use crate::places::next_at;
 use circular_buffer::HeapCircularBuffer;
@@ -25,23 +26,23 @@ pub struct Session<'g, B: Board> {
     alloc: Global,
     stage: Stage<'g, B>,
     place: Place<PlayedLevel<B>>,
-    history: HeapCircularBuffer<B>,
+    history: HeapCircularBuffer<PastBoard<B>>,
 }
 
 impl<'g, B: Board> Model for Session<'g, B> {
-    ghost use Rattle.std.specs.Prelude.{◌≡◌, map};
+    ghost use Rattle.std.specs.Prelude.{◌≡◌};
     ghost use Rattle.ps_model.specs.declared.limits.TheConstants.{HISTORY_LIMIT};
     ghost use Rattle.ps_stage.specs.Places.{place_shown, IsOnTable};
     ghost use Rattle.ps_stage.specs.Standings.{SessionValue};
-    ghost use Rattle.ps_session.specs.Tables.{AreOnTable};
+    ghost use Rattle.ps_session.specs.Histories.{AreOnTable, grids_of};
 
     ghost Value = { SessionValue };
 
-    ghost view = { λ s. record { game = s.stage.game; session = place_shown (map B.grid s.history.items) s.place } };
+    ghost view = { λ s. record { game = s.stage.game; session = place_shown (grids_of s.history.items) s.place } };
 
     ghost invariant = { λ s. (s.history.capacity ≡ HISTORY_LIMIT)
         × (IsOnTable (B.table_for s.stage.game.names.layers) s.place
-        × AreOnTable B.table (B.table_for s.stage.game.names.layers) s.history.items) };
+        × AreOnTable (B.table_for s.stage.game.names.layers) s.history.items) };
 }
 
 impl<'g, B: Board> Session<'g, B> {

@@ -11,7 +11,7 @@ returns-in-Stands-clause-place g c = λ table here comes. c.stood.ensures.table 
 pub returns-in-Undoes-clause-shown : goal.returns-in-Undoes-clause-shown
 returns-in-Undoes-clause-shown g c =
     rw (c.in-Undoes.is, c.pop_back.ensures.items)
-    (ap (λ (history : List Grid). Playing (play_of history c.in-Undoes.level)) (map-earlier g.B.Board.grid c.args.history.now.items))
+    (ap (λ (history : List Grid). Playing (play_of history c.in-Undoes.level)) (map-earlier (λ past. past.grid) c.args.history.now.items))
 
 pub returns-in-Goes-clause-boards : goal.returns-in-Goes-clause-boards
 returns-in-Goes-clause-boards g c = λ table boards here. c.leave.ensures.boards table boards (rw c.replace-before-in-Goes.ensures.value here)

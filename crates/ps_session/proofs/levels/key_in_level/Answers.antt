@@ -1,10 +1,11 @@
-use Rattle.std.proofs.Common.{◌≡◌, ◌∙◌, false, map, sym, ap}
+use Rattle.std.proofs.Common.{◌≡◌, ◌∙◌, false, sym, ap}
 use Rattle.ps_model.specs.declared.options.Options.{Options}
 use Rattle.ps_model.specs.declared.play.Key.{Key}
 use Rattle.ps_model.specs.board.Turns.{Script}
 use Rattle.ps_model.specs.session.KeySteps.{key_in_level}
 use Rattle.ps_model.specs.session.Sessions.{Play}
 use Rattle.ps_stage.specs.Standings.{SessionParts, play_of, script_for}
+use Rattle.ps_session.specs.Histories.{grids_of}
 use Rattle.ps_session.specs.IgnoredKeys.{is_ignored_in_level}
 use Rattle.ps_session.proofs.Heeded.{undo_heeded}
 use Rattle.ps_session.proofs.levels.key_in_level.Goals as goal
@@ -13,7 +14,7 @@ pub returns-in_ok-next-in-Undo-clause-came : goal.returns-in_ok-next-in-Undo-cla
 returns-in_ok-next-in-Undo-clause-came g c =
     let game : SessionParts = c.args.stage.now.game in
     let script : Script = script_for g.B.Board.table_for game (g.R.Rules.meant c.args.rules.now.plain) (g.R.Rules.meant c.args.rules.now.late) in
-    let play : Play = play_of (map g.B.Board.grid c.args.history.now.items) c.args.level.now in
+    let play : Play = play_of (grids_of c.args.history.now.items) c.args.level.now in
     let heeded : game.options.no_undo ≡ false =
     ap (λ (key : Key). is_ignored_in_level game.options key) (sym c.in-Undo.is)
     ∙ ap (λ (options : Options). is_ignored_in_level options c.args.key) (sym (c.options.ensures ∙ ap (λ (parts : SessionParts). parts.options) c.game.ensures))
