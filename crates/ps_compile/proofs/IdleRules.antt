@@ -1,24 +1,23 @@
 -- Compiled rules that can do nothing do nothing on their game.
-use Rattle.std.proofs.Common.{◌≡◌, ℕ, suc, zero, ◌+◌, ◌<◌, Bool, true, false, ◌&&◌, ◌||◌, not, cond, Option, Some, None, List, [], ◌∷◌, ◌++◌, length, map, get_or, refl, sym, subst, ap, ap₂, ◌∙◌, arith}
+use Rattle.std.proofs.Common.{◌≡◌, ℕ, suc, zero, Bool, true, false, ◌&&◌, ◌||◌, not, cond, Option, Some, None, List, [], ◌∷◌, ◌++◌, map, refl, sym, subst, ap, ap₂, ◌∙◌, arith}
 use Rattle.std.specs.Prelude.{All, is_some}
 use Rattle.std.specs.Option.{option_or}
 use Rattle.std.specs.List.{list_all, list_any, Contains}
-use Rattle.std.proofs.lemmas.Bool.{and_parts, or_parts}
-use Rattle.std.proofs.lemmas.List.{length-map}
-use Rattle.std.proofs.lemmas.List.Elements.{All-nil, All-cons}
-use Rattle.ps_model.specs.declared.pieces.Slot.{Slot}
+use Rattle.std.proofs.lemmas.Bool.{and_parts}
 use Rattle.ps_model.specs.names.Names.{Names}
-use Rattle.ps_model.specs.board.GameGrids.{IsCellOf}
 use Rattle.ps_model.specs.board.Places.{cells_in}
-use Rattle.ps_model.specs.board.Attempts.{State, Result, Rewritten, both, queued, queue_after, all_applied, attempt_by, combinations_on, attempt}
+use Rattle.ps_model.specs.board.Attempts.{Result, Rewritten, both, queued, queue_after, all_applied, combinations_on}
 use Rattle.ps_model.specs.rules.SourceRules.{Commands, no_commands}
 use Rattle.ps_model.specs.meaning.RuleMeanings.{CellMeaning, RuleMeaning}
 use Rattle.ps_model.specs.meaning.Compiled.{CompiledCell, CompiledRule, meaning_of_cell, meaning_of_rule}
-use Rattle.ps_laws.specs.IdleRules.{nothing_done, IsIdle, IsCellIn, FitsNone, LeavesAll}
+use Rattle.ps_laws.specs.IdleRules.{IsIdle, LeavesAll}
 use Rattle.ps_laws.proofs.common.Everywhere.{All-mapped}
 use Rattle.ps_laws.proofs.alike.IdleRules.{idle-fitting_none, idle-leaving_all}
-use Rattle.ps_compile.specs.IdleRules.{is_void_cell, leaves, asks, has_void_cell, leaves_all, is_idle}
-use Rattle.ps_compile.proofs.IdleCells.{Sought, found-in, all-true, void-fits, leaves-cell}
+use Rattle.ps_program.specs.Leaving.{leaves}
+use Rattle.ps_program.proofs.FittingMasks.{Sought, found-in, all-true}
+use Rattle.ps_program.proofs.LeavingCells.{leaves-cell}
+use Rattle.ps_compile.specs.IdleRules.{is_void_cell, asks, has_void_cell, leaves_all, is_idle}
+use Rattle.ps_compile.proofs.IdleCells.{void-fits}
 
 -- commands -----------------------------------------------------------------------------------------------------------------
 

@@ -29,7 +29,7 @@ pub fn cell_by(
 {
     let mask = mask_of(alloc, names, left)?;
     let write = write_of(alloc, names, left, right)?;
-    Ok(CompiledCell { mask, write })
+    Ok(CompiledCell::new(mask, write))
 }
 
 /// The compiled cell of a rule's cell under a reading.

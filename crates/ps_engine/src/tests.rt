@@ -81,18 +81,17 @@ fn cell(alloc: Global, left: u8, right: u8) -> Result<CompiledCell, Memory> {
         object,
         motion: None,
     })?;
-    Ok(CompiledCell {
-        mask: CellMask {
-            needed: List::from_vec(needed),
-            barred: List::from_vec(Vec::new(alloc)),
-            one_of: List::from_vec(Vec::new(alloc)),
-            motions: List::from_vec(Vec::new(alloc)),
-        },
-        write: CellWrite {
-            gone: List::from_vec(Vec::new(alloc)),
-            layers: List::from_vec(layers),
-        },
-    })
+    let mask = CellMask {
+        needed: List::from_vec(needed),
+        barred: List::from_vec(Vec::new(alloc)),
+        one_of: List::from_vec(Vec::new(alloc)),
+        motions: List::from_vec(Vec::new(alloc)),
+    };
+    let write = CellWrite {
+        gone: List::from_vec(Vec::new(alloc)),
+        layers: List::from_vec(layers),
+    };
+    Ok(CompiledCell::new(mask, write))
 }
 
 /// A row: its parts by their cells, each the letter on the left and the one on the right.

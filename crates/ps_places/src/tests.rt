@@ -73,13 +73,11 @@ fn mask(alloc: Global, needed: &[u8], barred: &[u8]) -> Result<CellMask, Memory>
 
 /// A cell of a rule that needs an object and writes nothing.
 fn needing(alloc: Global, letter: u8) -> Result<CompiledCell, Memory> {
-    Ok(CompiledCell {
-        mask: mask(alloc, &[letter], &[])?,
-        write: CellWrite {
-            gone: List::from_vec(Vec::new(alloc)),
-            layers: List::from_vec(Vec::new(alloc)),
-        },
-    })
+    let write = CellWrite {
+        gone: List::from_vec(Vec::new(alloc)),
+        layers: List::from_vec(Vec::new(alloc)),
+    };
+    Ok(CompiledCell::new(mask(alloc, &[letter], &[])?, write))
 }
 
 /// A row: its parts by the letters that their cells need.

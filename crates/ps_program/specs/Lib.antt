@@ -1,2 +1,5 @@
+pub mod CellsShown
+pub mod Leaving
+pub mod LeavingCells
 pub mod Needs
 pub mod ProgramShown

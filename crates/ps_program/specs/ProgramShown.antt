@@ -2,19 +2,13 @@
 use Rattle.std.specs.Prelude.{List, map}
 use Rattle.ps_model.specs.meaning.Compiled as model
 use Rattle.ps_rules.specs.RulesShown.{commands_shown}
-use Rattle.ps_program.specs.declared.cells.CellMask.{CellMask}
-use Rattle.ps_program.specs.declared.cells.CellWrite.{CellWrite}
 use Rattle.ps_program.specs.declared.cells.CompiledCell.{CompiledCell}
 use Rattle.ps_program.specs.declared.rules.CompiledRule.{CompiledRule}
 use Rattle.ps_program.specs.declared.program.CompiledSection.{CompiledSection}
 use Rattle.ps_program.specs.declared.program.CompiledSection.TheVariants.{Group, Loop}
+pub use Rattle.ps_program.specs.CellsShown.{mask_shown, write_shown}
 
-abbrev pub mask_shown : CellMask → model.CellMask
-mask_shown mask = record { needed = mask.needed; barred = mask.barred; one_of = mask.one_of; motions = mask.motions }
-
-abbrev pub write_shown : CellWrite → model.CellWrite
-write_shown write = record { gone = write.gone; layers = write.layers }
-
+-- a cell of a rule: its mask and its write
 abbrev pub cell_shown : CompiledCell → model.CompiledCell
 cell_shown cell = record { mask = mask_shown cell.mask; write = write_shown cell.write }
 

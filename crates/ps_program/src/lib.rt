@@ -2,11 +2,13 @@
 #![tactic(auto)]
 
 mod cells;
+mod leaving;
 mod needs;
 mod program;
 mod rules;
 
 pub use cells::{CellMask, CellWrite, CompiledCell};
+pub use leaving::{all_listed, is_listed, leaving_cells};
 pub use needs::first_parts;
 pub use program::{CompiledSection, Program};
 pub use ps_model::{Direction, LayerWrite, LayeredObject, MotionTest, ObjectWrite};

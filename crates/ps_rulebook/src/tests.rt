@@ -26,18 +26,17 @@ fn won_with(alloc: Global, message: &str) -> Result<Commands, Memory> {
 
 /// A cell of a rule that fits each cell and leaves it as it is.
 fn any_cell(alloc: Global) -> CompiledCell {
-    CompiledCell {
-        mask: CellMask {
-            needed: List::from_vec(Vec::new(alloc)),
-            barred: List::from_vec(Vec::new(alloc)),
-            one_of: List::from_vec(Vec::new(alloc)),
-            motions: List::from_vec(Vec::new(alloc)),
-        },
-        write: CellWrite {
-            gone: List::from_vec(Vec::new(alloc)),
-            layers: List::from_vec(Vec::new(alloc)),
-        },
-    }
+    let mask = CellMask {
+        needed: List::from_vec(Vec::new(alloc)),
+        barred: List::from_vec(Vec::new(alloc)),
+        one_of: List::from_vec(Vec::new(alloc)),
+        motions: List::from_vec(Vec::new(alloc)),
+    };
+    let write = CellWrite {
+        gone: List::from_vec(Vec::new(alloc)),
+        layers: List::from_vec(Vec::new(alloc)),
+    };
+    CompiledCell::new(mask, write)
 }
 
 /// A program of one rule, which has these commands wherever a cell is.

@@ -1,7 +1,7 @@
-use Rattle.std.proofs.Common.{◌≡◌, drop, map}
-use Rattle.std.specs.List.{list_all, list_any}
+use Rattle.std.proofs.Common.{◌≡◌, drop}
+use Rattle.std.specs.List.{list_all}
 use Rattle.ps_program.specs.ProgramShown.{rows_shown}
-use Rattle.ps_compile.specs.IdleRules.{leaves}
+use Rattle.ps_program.specs.Leaving.{leaves}
 use Rattle.ps_compile.proofs.idle.leaves_all.Given as goal
 
 abbrev pub invariant-loop-row : goal.invariant-loop-row

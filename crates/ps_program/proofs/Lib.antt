@@ -1,0 +1,2 @@
+pub mod FittingMasks
+pub mod LeavingCells
