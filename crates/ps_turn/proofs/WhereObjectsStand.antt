@@ -34,11 +34,11 @@ layer_more g objects layer row count all more object within is so_far told =
     ∙ sym (list_any_more (λ o. slot_holds o (slot_at g (x * g.height + row) layer)) objects count object within))
 
 -- the same object either way round
-same_by : (m n : ℕ) (b : Bool) → nat_eq m n ≡ b → nat_eq n m ≡ b
+pub same_by : (m n : ℕ) (b : Bool) → nat_eq m n ≡ b → nat_eq n m ≡ b
 same_by m n true e = grind (arith, nat_tests)
 same_by m n false e = grind (arith, nat_tests)
 
-among_by : (moved : List ObjectId) (object : ObjectId) → list_any (λ o. same_object o object) moved ≡ is_among moved object
+pub among_by : (moved : List ObjectId) (object : ObjectId) → list_any (λ o. same_object o object) moved ≡ is_among moved object
 among_by [] object = refl
 among_by (o ∷ moved) object = ap₂ (λ (a b : Bool). a || b) (sym (same_by o.0 object.0 (nat_eq o.0 object.0) refl)) (among_by moved object)
 

@@ -10,6 +10,7 @@ mod meanings;
 mod outcomes;
 mod players;
 mod queue;
+mod rows;
 mod rules;
 mod standing;
 mod turns;
