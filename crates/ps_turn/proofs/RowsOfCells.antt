@@ -1,9 +1,9 @@
 -- Rows of a grid, cell by cell: what their sets of columns tell of all cells.
 use Rattle.std.proofs.Common.{◌≡◌, ◌∙◌, ℕ, suc, zero, ◌+◌, ◌*◌, ◌/◌, ◌%◌, ◌<◌, ◌≤◌, ◌||◌, ◌&&◌, Bool, true, false, cond, List, [], ◌∷◌, length, take, get_or, filter, mod-lt, refl, sym, ap, ap₂, arith}
-use Rattle.std.specs.Prelude.{nat_eq, nat_lt, not, All}
+use Rattle.std.specs.Prelude.{nat_eq, nat_lt, not}
 use Rattle.std.specs.List.{list_any, list_all, range_with_len}
 use Rattle.std.proofs.lemmas.Bool.Decides.{nat_tests}
-use Rattle.std.proofs.lemmas.List.{get_or_default, take_all}
+use Rattle.std.proofs.lemmas.List.{get_or_default}
 use Rattle.std.proofs.lemmas.List.Folds.{list_any_at, list_any_none, list_all_more}
 use Rattle.std.proofs.lemmas.Nat.{div_below, div-add-mod'}
 use Rattle.ps_model.specs.declared.limits.TheConstants.{SIDE_LIMIT}

@@ -1,4 +1,4 @@
-use Rattle.std.proofs.Common.{◌∙◌, ℕ, ◌+◌, ◌*◌, List, Bool, ap, ap₂}
+use Rattle.std.proofs.Common.{◌∙◌, ℕ, ◌+◌, ◌*◌, List, Bool, ap}
 use Rattle.std.specs.List.{list_any}
 use Rattle.ps_model.specs.board.Grid.{Grid, cell_at}
 use Rattle.ps_board.specs.ColumnSets.{both_columns, columns_below}

@@ -1,4 +1,4 @@
-use Rattle.std.proofs.Common.{◌∙◌, List, Option, option_map}
+use Rattle.std.proofs.Common.{◌∙◌, Option, option_map}
 use Rattle.ps_model.specs.names.Names.{Meaning}
 use Rattle.ps_model.specs.board.Grid.{Grid}
 use Rattle.ps_model.specs.board.Winning.{is_in, is_place}
