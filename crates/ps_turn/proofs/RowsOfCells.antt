@@ -4,6 +4,7 @@ use Rattle.std.specs.Prelude.{nat_eq, nat_lt, not}
 use Rattle.std.specs.List.{list_any, list_all, range_with_len}
 use Rattle.std.proofs.lemmas.Bool.Decides.{nat_tests}
 use Rattle.std.proofs.lemmas.List.{get_or_default}
+use Rattle.std.proofs.lemmas.List.FromFn.{length-range_with_len, get_or-range_with_len}
 use Rattle.std.proofs.lemmas.List.Folds.{list_any_at, list_any_none, list_all_more}
 use Rattle.std.proofs.lemmas.Nat.{div_below, div-add-mod'}
 use Rattle.ps_model.specs.declared.limits.TheConstants.{SIDE_LIMIT}
@@ -187,19 +188,54 @@ row_passes passes g shape row columns down is some =
     cell_passes passes g shape found.number row found.below down found.is
 
 -- one more row without one
-one_row_by : (passes : List Slot → Bool) (g : Grid) → IsGrid g → (count : ℕ) → set_columns (row_cells passes g count) ≡ [] →
-    ((x row : ℕ) → x < g.width → row < count → passes (cell_at g (x * g.height + row)) ≡ false) →
-    (x row : ℕ) (last : Bool) → nat_eq row count ≡ last → x < g.width → row < count + 1 → passes (cell_at g (x * g.height + row)) ≡ false
-one_row_by passes g shape count none so_far x row true t across down =
+one_row_by : (test : ℕ → Bool) (width height count : ℕ) → width ≤ SIDE_LIMIT → set_columns (columns_within width (λ x. test (x * height + count))) ≡ [] →
+    ((x row : ℕ) → x < width → row < count → test (x * height + row) ≡ false) →
+    (x row : ℕ) (last : Bool) → nat_eq row count ≡ last → x < width → row < count + 1 → test (x * height + row) ≡ false
+one_row_by test width height count narrow none so_far x row true t across down =
     let is : row ≡ count = grind (arith, nat_tests) in
-    ap (λ (r : ℕ). passes (cell_at g (x * g.height + r))) is ∙ within-none g.width x (λ y. passes (cell_at g (y * g.height + count))) shape.columns across none
-one_row_by passes g shape count none so_far x row false t across down = so_far x row across (grind (arith, nat_tests))
+    ap (λ (r : ℕ). test (x * height + r)) is ∙ within-none width x (λ y. test (y * height + count)) narrow across none
+one_row_by test width height count narrow none so_far x row false t across down = so_far x row across (grind (arith, nat_tests))
+
+pub one_number_row : (test : ℕ → Bool) (width height count : ℕ) (columns : List Bool) → width ≤ SIDE_LIMIT → columns ≡ columns_within width (λ x. test (x * height + count)) → set_columns columns ≡ [] →
+    ((x row : ℕ) → x < width → row < count → test (x * height + row) ≡ false) →
+    (x row : ℕ) → x < width → row < count + 1 → test (x * height + row) ≡ false
+one_number_row test width height count columns narrow is none so_far x row across down =
+    one_row_by test width height count narrow (ap set_columns (sym is) ∙ none) so_far x row (nat_eq row count) refl across down
 
 pub one_row_more : (passes : List Slot → Bool) (g : Grid) → IsGrid g → (count : ℕ) (columns : List Bool) → columns ≡ row_cells passes g count → set_columns columns ≡ [] →
     ((x row : ℕ) → x < g.width → row < count → passes (cell_at g (x * g.height + row)) ≡ false) →
     (x row : ℕ) → x < g.width → row < count + 1 → passes (cell_at g (x * g.height + row)) ≡ false
-one_row_more passes g shape count columns is none so_far x row across down =
-    one_row_by passes g shape count (ap set_columns (sym is) ∙ none) so_far x row (nat_eq row count) refl across down
+one_row_more passes g shape count columns is none so_far =
+    one_number_row (λ cell. passes (cell_at g cell)) g.width g.height count columns shape.columns is none so_far
+
+-- the same of the numbers of cells
+zero_plus : (n : ℕ) → 0 + n ≡ n
+zero_plus n = omega arith
+
+below_end : (n k : ℕ) → k < length (range_with_len 0 n) → k < n
+below_end n k within = let long : length (range_with_len 0 n) ≡ n = length-range_with_len 0 n in omega (arith, within, long)
+
+before_end : (n k : ℕ) → k < n → k < length (range_with_len 0 n)
+before_end n k within = let long : length (range_with_len 0 n) ≡ n = length-range_with_len 0 n in omega (arith, within, long)
+
+pub no_number_passes : (test : ℕ → Bool) (width height : ℕ) → 0 < height → ((x row : ℕ) → x < width → row < height → test (x * height + row) ≡ false) →
+    list_any test (range_with_len 0 (width * height)) ≡ false
+no_number_passes test width height some none =
+    list_any_none test (range_with_len 0 (width * height))
+    (λ k d within.
+    let low : k < width * height = below_end (width * height) k within in
+    ap test (get_or-range_with_len 0 (width * height) k d low ∙ zero_plus k) ∙ none-below test width height k some none low)
+
+number_passes : (test : ℕ → Bool) (count n : ℕ) → n < count → test n ≡ true → list_any test (range_with_len 0 count) ≡ true
+number_passes test count n low is =
+    list_any_at test (range_with_len 0 count) n 0 (before_end count n low) (ap test (get_or-range_with_len 0 count n 0 low ∙ zero_plus n) ∙ is)
+
+pub row_number_passes : (test : ℕ → Bool) (width height row : ℕ) (columns : List Bool) → row < height → columns ≡ columns_within width (λ x. test (x * height + row)) →
+    0 < length (set_columns columns) → list_any test (range_with_len 0 (width * height)) ≡ true
+row_number_passes test width height row columns down is some =
+    let found : IsFound (λ x. test (x * height + row)) width =
+    within-some width (λ x. test (x * height + row)) (set_as columns (columns_within width (λ x. test (x * height + row))) is some) in
+    number_passes test (width * height) (found.number * height + row) (cell_below width height found.number row found.below down) found.is
 
 -- some cell that is kept passes, and all that are kept do
 any_by : {X : Type 0} (kept passes : X → Bool) (x : X) (xs : List X) (here : Bool) → list_any passes (filter kept xs) ≡ list_any (λ y. kept y && passes y) xs →
@@ -269,6 +305,11 @@ cell_has_some objects [] = sym (no_objects objects)
 cell_has_some objects (Bare ∷ cell) = ap (λ (b : Bool). b || list_any (holds_any objects) cell) (bare_has_none objects) ∙ cell_has_some objects cell
 cell_has_some objects (Holds held motion ∷ cell) =
     ap₂ (λ (a b : Bool). a || b) (among_by objects held) (cell_has_some objects cell) ∙ sym (one_in_front held (objects_in cell) objects)
+
+pub cell_has_any_of : (objects : List ObjectId) (cell : List Slot) → list_any (holds_any objects) cell ≡ list_any (is_among objects) (objects_in cell)
+cell_has_any_of objects [] = refl
+cell_has_any_of objects (Bare ∷ cell) = ap (λ (b : Bool). b || list_any (holds_any objects) cell) (bare_has_none objects) ∙ cell_has_any_of objects cell
+cell_has_any_of objects (Holds held motion ∷ cell) = ap₂ (λ (a b : Bool). a || b) (among_by objects held) (cell_has_any_of objects cell)
 
 -- one object more that has to stand in a cell
 pub each_more : (objects : List ObjectId) (count : ℕ) (object : ObjectId) → count < length objects → object ≡ get_or objects count object → (cell : List Slot) →

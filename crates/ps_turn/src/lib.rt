@@ -4,7 +4,6 @@
 //! takes no memory for boards; without memory, and where a turn is blocked or restarts, both are equal again.
 #![tactic(auto)]
 
-mod cells;
 mod inputs;
 mod meanings;
 mod outcomes;
