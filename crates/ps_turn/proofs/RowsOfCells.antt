@@ -247,10 +247,6 @@ pub any_kept : {X : Type 0} (kept passes : X → Bool) (xs : List X) → list_an
 any_kept kept passes [] = refl
 any_kept kept passes (x ∷ xs) = any_by kept passes x xs (kept x) (any_kept kept passes xs)
 
-not_or : (a b : Bool) → (not a && not b) ≡ not (a || b)
-not_or true b = refl
-not_or false b = refl
-
 all_by : {X : Type 0} (kept passes : X → Bool) (x : X) (xs : List X) (here there : Bool) → passes x ≡ there → list_all passes (filter kept xs) ≡ not (list_any (λ y. kept y && not (passes y)) xs) →
     list_all passes (cond here (x ∷ filter kept xs) (filter kept xs)) ≡ not ((here && not there) || list_any (λ y. kept y && not (passes y)) xs)
 all_by kept passes x xs true true p e = rw p e

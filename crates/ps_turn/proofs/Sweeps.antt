@@ -59,10 +59,6 @@ pub one_more_there : (f : List Slot → List Slot) (g : Grid) (first count : ℕ
 one_more_there f g first count within =
     ap (grid_with_cells g) (one_more_from f g.cells first count (omega (arith, within)) (behind_long g.cells first count within))
 
--- none of them
-pub none_from : (f : List Slot → List Slot) (first : ℕ) (cells : List (List Slot)) → cells ≡ changed_from f first 0 cells
-none_from f first cells = sym (take-append-drop first cells)
-
 -- those behind others that are changed already
 pub changed_behind : (f : List Slot → List Slot) (cells : List (List Slot)) (first count next : ℕ) → first + count ≡ next → first ≤ length cells →
     changed_from f first count (map f (take first cells) ++ drop first cells) ≡ map f (take next cells) ++ drop next cells
