@@ -1,3 +1,4 @@
+mod RowsOfCells
 mod Stayed
 mod Sweeps
 mod WhereObjectsStand

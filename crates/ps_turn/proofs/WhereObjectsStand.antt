@@ -1,24 +1,21 @@
 -- Where objects stand, and what a motion given to them leaves as it is.
-use Rattle.std.proofs.Common.{◌≡◌, ◌∙◌, ℕ, ◌+◌, ◌*◌, ◌/◌, ◌%◌, ◌<◌, ◌||◌, Bool, true, false, cond, List, [], ◌∷◌, ◌++◌, ◌-◌, length, map, take, drop, get_or, mod-lt, refl, sym, ap, ap₂, arith}
+use Rattle.std.proofs.Common.{◌≡◌, ◌∙◌, ℕ, ◌+◌, ◌*◌, ◌<◌, ◌||◌, Bool, true, false, cond, List, [], ◌∷◌, ◌++◌, ◌-◌, length, map, take, drop, get_or, refl, sym, ap, ap₂, arith}
 use Rattle.std.specs.Prelude.{nat_eq}
 use Rattle.std.specs.List.{list_any}
-use Rattle.std.proofs.lemmas.List.{set-get_or, length-map, length-take-le, get_or-append_right, get_or-drop}
-use Rattle.std.proofs.lemmas.Nat.{div_below}
-use Rattle.std.proofs.lemmas.Nat.{div-add-mod'}
+use Rattle.std.proofs.lemmas.List.{set-get_or, length-map, length-take-le, length-drop, get_or-append_right, get_or-drop}
 use Rattle.std.proofs.lemmas.List.Folds.{list_any_more}
 use Rattle.std.proofs.lemmas.Bool.Decides.{nat_tests}
 use Rattle.ps_model.specs.declared.pieces.ObjectId.{ObjectId}
 use Rattle.ps_model.specs.declared.pieces.Motion.{Motion}
 use Rattle.ps_model.specs.declared.pieces.Slot.{Slot}
 use Rattle.ps_model.specs.declared.pieces.Slot.TheVariants.{Bare, Holds}
-use Rattle.ps_model.specs.board.Grid.{Grid, IsGrid, cell_at, slot_at}
+use Rattle.ps_model.specs.board.Grid.{Grid, cell_at, slot_at}
 use Rattle.ps_model.specs.meaning.Compiled.{slot_holds}
 use Rattle.ps_model.specs.names.Names.{is_among, same_object}
 use Rattle.ps_board.specs.ColumnSets.{column_at, either_columns}
-use Rattle.ps_board.specs.CellSets.{IsSetOf, cell_in}
 use Rattle.ps_board.specs.RowsOfGrids.{row_holders, row_slots}
 use Rattle.ps_board.proofs.ColumnLaws.{column_at-where, columns-agree}
-use Rattle.ps_turn.specs.Sweeps.{grid_with_cell, grid_with_cells, holds_any, slot_set_moving}
+use Rattle.ps_turn.specs.Sweeps.{grid_with_cell, grid_with_cells, changed_from, holds_any, slot_set_moving}
 
 -- one object more
 pub layer_more : (g : Grid) (objects : List ObjectId) (layer row count : ℕ) (all more : List Bool) (object : ObjectId) → count < length objects → object ≡ get_or objects count object →
@@ -34,11 +31,11 @@ layer_more g objects layer row count all more object within is so_far told =
     ∙ sym (list_any_more (λ o. slot_holds o (slot_at g (x * g.height + row) layer)) objects count object within))
 
 -- the same object either way round
-same_by : (m n : ℕ) (b : Bool) → nat_eq m n ≡ b → nat_eq n m ≡ b
+pub same_by : (m n : ℕ) (b : Bool) → nat_eq m n ≡ b → nat_eq n m ≡ b
 same_by m n true e = grind (arith, nat_tests)
 same_by m n false e = grind (arith, nat_tests)
 
-among_by : (moved : List ObjectId) (object : ObjectId) → list_any (λ o. same_object o object) moved ≡ is_among moved object
+pub among_by : (moved : List ObjectId) (object : ObjectId) → list_any (λ o. same_object o object) moved ≡ is_among moved object
 among_by [] object = refl
 among_by (o ∷ moved) object = ap₂ (λ (a b : Bool). a || b) (sym (same_by o.0 object.0 (nat_eq o.0 object.0) refl)) (among_by moved object)
 
@@ -55,7 +52,7 @@ none_of : (a b : Bool) → (a || b) ≡ false → (a ≡ false) × (b ≡ false)
 none_of true b e = absurd (cc)
 none_of false b e = (refl, e)
 
-slots_kept : (moved : List ObjectId) (motion : Motion) (slots : List Slot) → list_any (holds_any moved) slots ≡ false → map (slot_set_moving moved motion) slots ≡ slots
+pub slots_kept : (moved : List ObjectId) (motion : Motion) (slots : List Slot) → list_any (holds_any moved) slots ≡ false → map (slot_set_moving moved motion) slots ≡ slots
 slots_kept moved motion [] none = refl
 slots_kept moved motion (slot ∷ slots) none =
     let parts = none_of (holds_any moved slot) (list_any (holds_any moved) slots) none in
@@ -77,13 +74,17 @@ next_cell f cells n within =
     ∙ get_or-drop n cells (n - n) []
     ∙ ap (λ (m : ℕ). get_or cells m []) same
 
--- and stands in the set, if one of the objects stands in it
-pub next_told : (moved : List ObjectId) (f : List Slot → List Slot) (g : Grid) (standing : List (List Bool)) (cell : ℕ) → IsGrid g → IsSetOf (list_any (holds_any moved)) g standing →
-    cell < g.width * g.height →
-    cell_in standing (cell / g.height) (cell % g.height) ≡ list_any (holds_any moved) (cell_at (grid_with_cells g (map f (take cell g.cells) ++ drop cell g.cells)) cell)
-next_told moved f g standing cell shape told within =
-    let there : cell < length g.cells = rw shape.cells within in
-    let place : cell / g.height * g.height + cell % g.height ≡ cell = div-add-mod' cell g.height in
-    told (cell / g.height) (cell % g.height) (div_below cell g.height g.width shape.some_row within) (mod-lt cell shape.some_row)
-    ∙ ap (λ (n : ℕ). list_any (holds_any moved) (cell_at g n)) place
-    ∙ ap (list_any (holds_any moved)) (sym (next_cell f g.cells cell there))
+-- and so is the next one of those from one on
+pub next_from : (f : List Slot → List Slot) (g : Grid) (first count : ℕ) → first + count < length g.cells →
+    cell_at (grid_with_cells g (changed_from f first count g.cells)) (first + count) ≡ cell_at g (first + count)
+next_from f g first count within =
+    let front : List (List Slot) = take first g.cells in
+    let behind : List (List Slot) = drop first g.cells in
+    let changed : List (List Slot) = map f (take count behind) ++ drop count behind in
+    let long : length front ≡ first = length-take-le first g.cells (omega (arith, within)) in
+    let left : length behind ≡ length g.cells - first = length-drop first g.cells in
+    let same : first + count - first ≡ count = omega arith in
+    get_or-append_right front changed first (first + count) [] long (omega arith)
+    ∙ ap (λ (n : ℕ). get_or changed n []) same
+    ∙ next_cell f behind count (omega (arith, within, left))
+    ∙ get_or-drop first g.cells count []

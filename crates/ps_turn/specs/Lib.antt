@@ -1,2 +1,3 @@
+pub mod RowsOfCells
 pub mod States
 pub mod Sweeps

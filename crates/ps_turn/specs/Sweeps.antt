@@ -1,5 +1,5 @@
 -- How an input is given, slot by slot, to a board at rest.
-use Rattle.std.specs.Prelude.{ℕ, Bool, if◌then◌else◌, List, slice_set}
+use Rattle.std.specs.Prelude.{ℕ, Bool, if◌then◌else◌, List, ◌++◌, map, take, drop, slice_set}
 use Rattle.std.specs.List.{list_any}
 use Rattle.ps_model.specs.meaning.Compiled.{slot_holds}
 use Rattle.ps_model.specs.declared.pieces.Motion.{Motion}
@@ -21,6 +21,10 @@ grid_with_cell g cell slots = record g { cells = slice_set g.cells cell slots }
 -- the grid with other cells
 abbrev pub grid_with_cells : Grid → List (List Slot) → Grid
 grid_with_cells g cells = record g { cells = cells }
+
+-- the cells, so many of them from one on changed
+abbrev pub changed_from : (List Slot → List Slot) → ℕ → ℕ → List (List Slot) → List (List Slot)
+changed_from change first count cells = take first cells ++ (map change (take count (drop first cells)) ++ drop count (drop first cells))
 
 -- the slot holds one of these objects
 abbrev pub holds_any : List ObjectId → Slot → Bool

@@ -1,9 +1,9 @@
 //! What an input does to a board.
 
-ghost use Rattle.std.specs.Prelude.{◌≡◌, ◌*◌, ◌/◌, ◌%◌, ◌<◌, slice_set, map};
+ghost use Rattle.std.specs.Prelude.{◌≡◌, ◌+◌, ◌*◌, ◌<◌, ℕ, slice_set, map};
 ghost use Rattle.ps_model.specs.board.Grid.{IsGrid, IsPlace, cell_at, slot_at, with_slot, cell_count};
 ghost use Rattle.ps_model.specs.board.Inputs.{motion_of, with_motion};
-ghost use Rattle.ps_turn.specs.Sweeps.{slot_set_moving, grid_with_cell, holds_any};
+ghost use Rattle.ps_turn.specs.Sweeps.{slot_set_moving, grid_with_cell, grid_with_cells, changed_from, holds_any};
 ghost use Rattle.ps_board.specs.CellSets.{cell_in};
 ghost use Rattle.std.specs.List.{list_any};
 
@@ -32,33 +32,58 @@ pub fn give_motion<B: Board>(board: &mut B, moved: &[ObjectId], motion: Motion)
 {
     board.clear_moves();
     let standing = cells_with(board, moved);
-    let (width, height) = board.size();
-    for cell in 0..width * height {
-        give_if_there(board, cell, &standing, moved, motion);
+    let (width, _) = board.size();
+    for column in 0..width {
+        give_column(board, column, &standing, moved, motion);
+    }
+}
+
+/// Gives the motion to those of the objects that stand in the cells of a column, `standing` telling in which.
+fn give_column<B: Board>(
+    board: &mut B,
+    column: u32,
+    standing: &CellSet,
+    moved: &[ObjectId],
+    motion: Motion,
+)
+    requires column { column < (B.grid board.old).width }
+    requires standing { let g = B.grid board.old in (row : ℕ) → row < g.height → cell_in standing.now column row
+        ≡ list_any (holds_any moved.now) (cell_at g (column * g.height + row)) }
+    ensures moved { let g = B.grid board.old in B.grid board.new ≡ grid_with_cells g (changed_from
+        (map (slot_set_moving moved.now motion)) (column * g.height) g.height g.cells) }
+    ensures table { B.table board.new ≡ B.table board.old }
+{
+    let (_, height) = board.size();
+    if !standing.has_column(column) {
+        return;
+    }
+    for row in 0..height {
+        give_if_there(board, column, row, standing, moved, motion);
     }
 }
 
 /// Gives the motion to those of the objects that stand in a cell, if the cell is one of those in which one stands.
 fn give_if_there<B: Board>(
     board: &mut B,
-    cell: u32,
+    column: u32,
+    row: u32,
     standing: &CellSet,
     moved: &[ObjectId],
     motion: Motion,
 )
-    requires cell { cell < cell_count (B.grid board.old) }
-    requires shape { IsGrid (B.grid board.old) }
-    requires standing { let g = B.grid board.old in cell_in standing.now (cell / g.height) (cell % g.height)
-        ≡ list_any (holds_any moved.now) (cell_at g cell) }
-    ensures moved { B.grid board.new ≡ grid_with_cell (B.grid board.old) cell
-        (map (slot_set_moving moved.now motion) (cell_at (B.grid board.old) cell)) }
+    requires column { column < (B.grid board.old).width }
+    requires row { row < (B.grid board.old).height }
+    requires standing { let g = B.grid board.old in cell_in standing.now column row
+        ≡ list_any (holds_any moved.now) (cell_at g (column * g.height + row)) }
+    ensures moved { let g = B.grid board.old in let cell = column * g.height + row in
+        B.grid board.new ≡ grid_with_cell g cell (map (slot_set_moving moved.now motion) (cell_at g cell)) }
     ensures table { B.table board.new ≡ B.table board.old }
 {
     let (_, height) = board.size();
-    if !standing.has(cell / height, cell % height) {
+    if !standing.has(column, row) {
         return;
     }
-    give_cell(board, cell, moved, motion);
+    give_cell(board, column * height + row, moved, motion);
 }
 
 /// Gives the motion to those of the objects that stand in a cell.

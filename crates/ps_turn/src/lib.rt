@@ -4,12 +4,12 @@
 //! takes no memory for boards; without memory, and where a turn is blocked or restarts, both are equal again.
 #![tactic(auto)]
 
-mod cells;
 mod inputs;
 mod meanings;
 mod outcomes;
 mod players;
 mod queue;
+mod rows;
 mod rules;
 mod standing;
 mod turns;

@@ -1,42 +1,63 @@
 //! Whether Player has moved.
 
-ghost use Rattle.std.specs.Prelude.{◌≡◌, ◌<◌, ◌&&◌, ◌||◌, not};
-ghost use Rattle.ps_model.specs.board.Grid.{IsGrid, cell_at, cell_count};
+ghost use Rattle.std.specs.Prelude.{◌≡◌, ◌<◌};
+ghost use Rattle.std.specs.List.{list_any, range_with_len};
+ghost use Rattle.ps_model.specs.board.Grid.{cell_count};
 ghost use Rattle.ps_model.specs.board.Turns.{has_player, player_cells, stayed};
+ghost use Rattle.ps_turn.specs.RowsOfCells.{row_cells, row_left, has_player_at, is_left};
 ghost use Rattle.ps_turn.specs.States.{HaveSameSides};
 
-use crate::cells::cell_has_any;
+use crate::standing::columns_with;
 use crate::turns::TurnGame;
-use ps_board::Board;
+use ps_board::{Board, Columns};
 
-/// Whether a Player stands in a cell.
-fn has_player<B: Board>(game: &TurnGame<'_>, board: &B, cell: u32) -> bool
-    requires cell { cell < cell_count (B.grid board.now) }
-    requires shape { IsGrid (B.grid board.now) }
-    ensures { result ≡ has_player game.now.names (cell_at (B.grid board.now) cell) }
+/// The columns of a row in whose cells a Player stands.
+fn player_columns<B: Board>(game: &TurnGame<'_>, board: &B, row: u32) -> Columns
+    requires { row < (B.grid board.now).height }
+    ensures { result ≡ row_cells (has_player game.now.names) (B.grid board.now) row }
 {
-    cell_has_any(board, cell, game.players())
+    columns_with(board, game.players(), row)
+}
+
+/// The columns of a row whose cells had a Player and have none now.
+fn left_columns<B: Board>(game: &TurnGame<'_>, before: &B, after: &B, row: u32) -> Columns
+    requires sides { HaveSameSides (B.grid after.now) (B.grid before.now) }
+    requires row { row < (B.grid before.now).height }
+    requires there { row < (B.grid after.now).height }
+    ensures { result ≡ row_left game.now.names (B.grid before.now) (B.grid after.now) row }
+{
+    let standing = player_columns(game, before, row);
+    let staying = player_columns(game, after, row);
+    standing.without(staying)
+}
+
+/// Whether there is a Player.
+fn is_there<B: Board>(game: &TurnGame<'_>, board: &B) -> bool
+    ensures { result ≡ list_any (has_player_at game.now.names (B.grid board.now)) (range_with_len 0 (cell_count
+        (B.grid board.now))) }
+{
+    let (_, height) = board.size();
+    for row in 0..height {
+        if !player_columns(game, board, row).is_empty() {
+            return true;
+        }
+    }
+    false
 }
 
 /// Whether a cell had a Player and has none now.
-fn is_left<B: Board>(game: &TurnGame<'_>, before: &B, after: &B, cell: u32) -> bool
-    requires sides { HaveSameSides (B.grid after.now) (B.grid before.now) }
-    requires cell { cell < cell_count (B.grid before.now) }
-    requires before { IsGrid (B.grid before.now) }
-    requires after { IsGrid (B.grid after.now) }
-    ensures { result ≡ (has_player game.now.names (cell_at (B.grid before.now) cell)
-        && not (has_player game.now.names (cell_at (B.grid after.now) cell))) }
+fn has_left<B: Board>(game: &TurnGame<'_>, before: &B, after: &B) -> bool
+    requires { HaveSameSides (B.grid after.now) (B.grid before.now) }
+    ensures { result ≡ list_any (is_left game.now.names (B.grid before.now) (B.grid after.now)) (range_with_len 0
+        (cell_count (B.grid before.now))) }
 {
-    has_player(game, before, cell) && !has_player(game, after, cell)
-}
-
-/// Whether a Player was found, or stands in a cell.
-fn found<B: Board>(game: &TurnGame<'_>, board: &B, cell: u32, some: bool) -> bool
-    requires cell { cell < cell_count (B.grid board.now) }
-    requires shape { IsGrid (B.grid board.now) }
-    ensures { result ≡ (some || has_player game.now.names (cell_at (B.grid board.now) cell)) }
-{
-    some || has_player(game, board, cell)
+    let (_, height) = before.size();
+    for row in 0..height {
+        if !left_columns(game, before, after, row).is_empty() {
+            return true;
+        }
+    }
+    false
 }
 
 /// Whether there was a Player, and each cell that had one still has one.
@@ -44,14 +65,5 @@ pub fn stayed<B: Board>(game: &TurnGame<'_>, before: &B, after: &B) -> bool
     requires { HaveSameSides (B.grid after.now) (B.grid before.now) }
     ensures { result ≡ stayed game.now.names (B.grid after.now) (player_cells game.now.names (B.grid before.now)) }
 {
-    let (width, height) = before.size();
-    let (_, _) = after.size();
-    let mut some = false;
-    for cell in 0..width * height {
-        if is_left(game, before, after, cell) {
-            return false;
-        }
-        some = found(game, before, cell, some);
-    }
-    some
+    is_there(game, before) && !has_left(game, before, after)
 }

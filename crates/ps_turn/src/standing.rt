@@ -6,6 +6,7 @@ ghost use Rattle.ps_model.specs.board.Grid.{IsGrid, cell_at};
 ghost use Rattle.ps_board.specs.ColumnSets.{column_at};
 ghost use Rattle.ps_board.specs.CellSets.{IsSetOf};
 ghost use Rattle.ps_board.specs.RowsOfGrids.{row_slots};
+ghost use Rattle.ps_turn.specs.RowsOfCells.{row_cells};
 ghost use Rattle.ps_turn.specs.Sweeps.{holds_any};
 
 use ps_board::{Board, CellSet, Columns};
@@ -36,6 +37,15 @@ fn row_columns<B: Board>(board: &B, objects: &[ObjectId], row: u32) -> Columns
         holding = holding.either(layer_columns(board, objects, LayerId(layer), row));
     }
     holding
+}
+
+/// The columns of a row in whose cells one of the objects stands, and no column beyond the board's last one.
+pub fn columns_with<B: Board>(board: &B, objects: &[ObjectId], row: u32) -> Columns
+    requires { row < (B.grid board.now).height }
+    ensures { result ≡ row_cells (list_any (holds_any objects.now)) (B.grid board.now) row }
+{
+    let (width, _) = board.size();
+    Columns::below(width).both(row_columns(board, objects, row))
 }
 
 /// The cells in which one of the objects stands.

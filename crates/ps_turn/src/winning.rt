@@ -1,36 +1,43 @@
 //! When a level is won by its win conditions.
 
-ghost use Rattle.std.specs.Prelude.{◌≡◌, ◌<◌, ◌&&◌, not, option_map, filter};
+ghost use Rattle.std.specs.Prelude.{◌≡◌, ◌<◌, option_map, filter};
 ghost use Rattle.std.specs.List.{list_any, list_all};
-ghost use Rattle.ps_model.specs.board.Grid.{IsGrid, cell_at, cell_count};
+ghost use Rattle.ps_model.specs.board.Grid.{IsGrid};
 ghost use Rattle.ps_model.specs.board.Turns.{is_won};
 ghost use Rattle.ps_model.specs.board.Winning.{is_in, is_place, holds, won};
 ghost use Rattle.ps_names.specs.Shown.{meaning_shown};
 ghost use Rattle.ps_levels.specs.WinsShown.{win_shown, wins_shown};
+ghost use Rattle.ps_turn.specs.RowsOfCells.{row_cells, is_met, is_missed};
 
-use crate::cells::{is_in, is_place};
-use ps_board::Board;
+use crate::rows::{columns_meant, columns_of_place};
+use ps_board::{Board, Columns};
 use ps_levels::Win;
 use ps_model::Quantifier;
 
-/// Whether a cell has the subject of a win condition and is a place of it.
-fn is_met<B: Board>(board: &B, cell: u32, win: &Win) -> bool
-    requires cell { cell < cell_count (B.grid board.now) }
-    requires shape { IsGrid (B.grid board.now) }
-    ensures { result ≡ (is_in (meaning_shown win.now.subject) (cell_at (B.grid board.now) cell)
-        && is_place (option_map meaning_shown win.now.place) (cell_at (B.grid board.now) cell)) }
+/// The columns of a row whose cells have the subject of a win condition and are places of it.
+fn columns_met<B: Board>(board: &B, win: &Win, row: u32) -> Columns
+    requires { row < (B.grid board.now).height }
+    ensures { result ≡ row_cells (is_met (meaning_shown win.now.subject) (option_map meaning_shown win.now.place))
+        (B.grid board.now) row }
 {
-    is_in(board, cell, &win.subject) && is_place(board, cell, &win.place)
+    let with_subject = columns_meant(board, &win.subject, row);
+    if with_subject.is_empty() {
+        return with_subject;
+    }
+    with_subject.both(columns_of_place(board, &win.place, row))
 }
 
-/// Whether a cell has the subject of a win condition and is no place of it.
-fn is_missed<B: Board>(board: &B, cell: u32, win: &Win) -> bool
-    requires cell { cell < cell_count (B.grid board.now) }
-    requires shape { IsGrid (B.grid board.now) }
-    ensures { result ≡ (is_in (meaning_shown win.now.subject) (cell_at (B.grid board.now) cell)
-        && not (is_place (option_map meaning_shown win.now.place) (cell_at (B.grid board.now) cell))) }
+/// The columns of a row whose cells have the subject of a win condition and are no places of it.
+fn columns_missed<B: Board>(board: &B, win: &Win, row: u32) -> Columns
+    requires { row < (B.grid board.now).height }
+    ensures { result ≡ row_cells (is_missed (meaning_shown win.now.subject) (option_map meaning_shown win.now.place))
+        (B.grid board.now) row }
 {
-    is_in(board, cell, &win.subject) && !is_place(board, cell, &win.place)
+    let with_subject = columns_meant(board, &win.subject, row);
+    if with_subject.is_empty() {
+        return with_subject;
+    }
+    with_subject.without(columns_of_place(board, &win.place, row))
 }
 
 /// Whether some cell with the subject of a win condition is a place of it.
@@ -38,9 +45,9 @@ fn some_met<B: Board>(board: &B, win: &Win) -> bool
     ensures { result ≡ list_any (is_place (option_map meaning_shown win.now.place))
         (filter (is_in (meaning_shown win.now.subject)) (B.grid board.now).cells) }
 {
-    let (width, height) = board.size();
-    for cell in 0..width * height {
-        if is_met(board, cell, win) {
+    let (_, height) = board.size();
+    for row in 0..height {
+        if !columns_met(board, win, row).is_empty() {
             return true;
         }
     }
@@ -52,9 +59,9 @@ fn all_met<B: Board>(board: &B, win: &Win) -> bool
     ensures { result ≡ list_all (is_place (option_map meaning_shown win.now.place))
         (filter (is_in (meaning_shown win.now.subject)) (B.grid board.now).cells) }
 {
-    let (width, height) = board.size();
-    for cell in 0..width * height {
-        if is_missed(board, cell, win) {
+    let (_, height) = board.size();
+    for row in 0..height {
+        if !columns_missed(board, win, row).is_empty() {
             return false;
         }
     }

@@ -1,11 +1,11 @@
-use Rattle.std.proofs.Common.{◌≡◌, drop, filter, option_map}
-use Rattle.std.specs.List.{list_any}
-use Rattle.ps_model.specs.board.Winning.{is_in, is_place}
+use Rattle.std.proofs.Common.{◌≡◌, ◌+◌, ◌*◌, ◌<◌, ℕ, false, option_map}
+use Rattle.ps_model.specs.board.Grid.{Grid, cell_at}
 use Rattle.ps_names.specs.Shown.{meaning_shown}
+use Rattle.ps_turn.specs.RowsOfCells.{is_met}
 use Rattle.ps_turn.proofs.winning.some_met.Given as goal
 
--- it rests on the cells behind those passed by
-abbrev pub invariant-loop-cell : goal.invariant-loop-cell
-invariant-loop-cell g l =
-    list_any (is_place (option_map meaning_shown l.win.place)) (filter (is_in (meaning_shown l.win.subject)) (g.B.Board.grid l.board).cells)
-    ≡ list_any (is_place (option_map meaning_shown l.win.place)) (filter (is_in (meaning_shown l.win.subject)) (drop l.cell (g.B.Board.grid l.board).cells))
+-- no cell of the rows passed by decides it
+abbrev pub invariant-loop-row : goal.invariant-loop-row
+invariant-loop-row g l =
+    let grid : Grid = g.B.Board.grid l.board in
+    (x row : ℕ) → x < grid.width → row < l.row → is_met (meaning_shown l.win.subject) (option_map meaning_shown l.win.place) (cell_at grid (x * grid.height + row)) ≡ false
