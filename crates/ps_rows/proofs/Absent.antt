@@ -1,19 +1,28 @@
 -- Objects that are nowhere on a board, and masks that fit nothing on a row.
-use Rattle.std.proofs.Common.{◌≡◌, ◌∙◌, ℕ, ◌+◌, ◌*◌, ◌/◌, ◌%◌, ◌<◌, ◌≤◌, ◌&&◌, ◌⊎◌, inl, inr, Bool, false, List, [], get_or, sym, ap, arith}
+use Rattle.std.proofs.Common.{◌≡◌, ◌∙◌, ℕ, ◌+◌, ◌*◌, ◌/◌, ◌%◌, ◌<◌, ◌≤◌, ◌&&◌, ◌⊎◌, inl, inr, Bool, true, false, List, [], length, get_or, sym, ap, arith}
 use Rattle.std.specs.List.{list_any, list_all}
-use Rattle.std.proofs.lemmas.Bool.{cases_lt}
+use Rattle.std.proofs.lemmas.Bool.{cases_lt, and_parts}
 use Rattle.std.proofs.lemmas.List.{get_or_past}
 use Rattle.std.proofs.lemmas.Nat.{div_below, div-add-mod', mod_below}
-use Rattle.std.specs.Prelude.{not}
+use Rattle.std.specs.Prelude.{nat_lt, not, slice_get}
+use Rattle.std.proofs.Math.Nat.{mul-le-mul_left}
+use Rattle.std.proofs.lemmas.Option.{slice_get_within}
 use Rattle.ps_model.specs.declared.pieces.Slot.{Slot}
 use Rattle.ps_model.specs.declared.compiled.LayeredObject.{LayeredObject}
 use Rattle.ps_model.specs.board.Grid.{Grid, cell_at}
 use Rattle.ps_model.specs.meaning.Compiled.{CellMask, is_held_in, mask_fits, moves_as_asked}
-use Rattle.ps_match.specs.Nowhere.{IsNowhere}
+use Rattle.ps_board.specs.ColumnSets.{bit_is_set, column_at, word_columns}
+use Rattle.ps_board.proofs.ColumnLaws.{column_at-where}
+use Rattle.ps_match.specs.Nowhere.{IsNotOnRow, IsNowhere}
+use Rattle.ps_model.specs.board.Movement.{is_number}
+use Rattle.ps_rows.specs.Planes.{has_column}
+use Rattle.ps_rows.specs.RowIndex.{AreRowsMarked}
 use Rattle.ps_rows.specs.RowTests.{IsRowOf, IsWithin, held, held_all}
-use Rattle.ps_rows.specs.Showing.{cells_shown, grid_shown}
+use Rattle.ps_rows.specs.Showing.{cells_shown, grid_shown, AreObjectsShown}
 use Rattle.ps_rows.proofs.Bits.{has_column-zero}
 use Rattle.ps_rows.proofs.Rests.{cells_long}
+use Rattle.ps_rows.proofs.Listed.{number_is}
+use Rattle.ps_rows.proofs.Scans.{own_row}
 
 -- no row has it
 pub nowhere_by_rows : (table : List ℕ) (width height layers : ℕ) (words : List ℕ) (object : LayeredObject) → 0 < height →
@@ -30,6 +39,36 @@ nowhere_by_rows table width height layers words object some rows = λ cell.
       | inr beyond ↦
           ap (λ (slots : List Slot). is_held_in slots object) (get_or_past (cells_shown table layers height words (width * height)) cell [] (rw long beyond))
     ]
+
+-- a row that has it nowhere among its columns
+pub not_on_row : (table : List ℕ) (width height layers : ℕ) (words : List ℕ) (row : ℕ) (object : LayeredObject) → IsRowOf (grid_shown table width height layers words) row 0 (held object) →
+    IsNotOnRow (grid_shown table width height layers words) object row
+not_on_row table width height layers words row object rows = λ x.
+    let long = cells_long table layers height words (width * height) in
+    elim (cases_lt x width) [
+      | inl across ↦ sym (rows x across) ∙ has_column-zero x
+      | inr far ↦
+          let more : height * width ≤ height * x = mul-le-mul_left height far in
+          let beyond : width * height ≤ x * height + row = omega arith in
+          ap (λ (slots : List Slot). is_held_in slots object) (get_or_past (cells_shown table layers height words (width * height)) (x * height + row) [] (rw long beyond))
+    ]
+
+-- a row that isn't marked
+pub not_marked : (table : List ℕ) (width height layers : ℕ) (words index : List ℕ) (row : ℕ) (object : LayeredObject) → 0 < height → width ≤ 64 → row < height →
+    AreObjectsShown table height words (width * height) → AreRowsMarked (length table) height words index →
+    (nat_lt (object.layer).0 layers && is_number (slice_get table (object.object).0) (object.layer).0) ≡ true → has_column (get_or index (object.object).0 0) row ≡ false →
+    IsRowOf (grid_shown table width height layers words) row 0 (held object)
+not_marked table width height layers words index row object some narrow under shown marked both clear =
+    let layer : ℕ = (object.layer).0 in
+    let parts = and_parts (nat_lt layer layers) (is_number (slice_get table (object.object).0) layer) both in
+    let below : (object.object).0 < length table =
+    slice_get_within table (object.object).0 layer (number_is (slice_get table (object.object).0) layer parts.1) in
+    own_row table width height layers words row some narrow under object 0 shown both (sym (marked (object.object).0 row below under clear))
+
+-- a column that isn't in a word's set
+pub column_clear : (word x : ℕ) → x < 64 → column_at (word_columns word) x ≡ false → has_column word x ≡ false
+unfolding has_column
+column_clear word x low none = sym (column_at-where (bit_is_set word) x low) ∙ none
 
 -- on a row where what a mask needs is nowhere, nothing fits it
 pub mask_nowhere : (g : Grid) (row : ℕ) (mask : CellMask) → IsRowOf g row 0 (held_all mask.needed) → IsRowOf g row 0 (mask_fits mask)

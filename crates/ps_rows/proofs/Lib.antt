@@ -14,3 +14,4 @@ pub mod Alike
 pub mod RowSets
 pub mod SameRows
 pub mod Absent
+pub mod Marked

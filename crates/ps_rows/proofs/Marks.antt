@@ -25,7 +25,7 @@ listed_at (p ∷ ps) (suc k) d h = or_right (nat_eq (get_or ps k d) p) (list_any
 pub behind_first : (h : ℕ) (words : List ℕ) (cell p : ℕ) (ps : List ℕ) (on : Bool) → HavePlanes h words (p ∷ ps) → HavePlanes h (with_cell h words cell p on) ps
 behind_first h words cell p ps on have = λ q a. rw length-with_cell (have q (or_right (nat_eq q p) (list_any (nat_eq q) ps) a))
 
-first_of : (h : ℕ) (words : List ℕ) (p : ℕ) (ps : List ℕ) → HavePlanes h words (p ∷ ps) → (p + 1) * h ≤ length words
+pub first_of : (h : ℕ) (words : List ℕ) (p : ℕ) (ps : List ℕ) → HavePlanes h words (p ∷ ps) → (p + 1) * h ≤ length words
 first_of h words p ps have = have p (or_left (nat_eq p p) (list_any (nat_eq p) ps) (eq-eqb p p refl))
 
 pub length-with_cell_in : (h cell : ℕ) (chosen : Option ℕ) (words planes : List ℕ) → length (with_cell_in h cell chosen words planes) ≡ length words
@@ -46,7 +46,7 @@ has_cell-in_elsewhere h cell chosen words (q ∷ qs) c p some low under have apa
     (λ e. (or_parts (nat_eq p q) (list_any (nat_eq p) qs) (apart e)).1)
     ∙ has_cell-with_other h words cell q on c p some low under (place_within h q cell (length words) some (first_of h words q qs have)) other
 
-first_listed : (p q : ℕ) (qs : List ℕ) → list_any (nat_eq p) (q ∷ qs) ≡ true → list_any (nat_eq p) qs ≡ false → p ≡ q
+pub first_listed : (p q : ℕ) (qs : List ℕ) → list_any (nat_eq p) (q ∷ qs) ≡ true → list_any (nat_eq p) qs ≡ false → p ≡ q
 first_listed p q qs listed none = elim (or_cases (nat_eq p q) (list_any (nat_eq p) qs) listed) [
   | inl same ↦ eqb-true p q same
   | inr among ↦ absurd (false≢true (sym none ∙ among))

@@ -80,7 +80,7 @@ still_slot : (object : Option ℕ) → motion_in (slot_of (option_map numbered o
 still_slot None = refl
 still_slot (Some o) = refl
 
-blank_word : (n i : ℕ) → get_or (replicate n zero) i zero ≡ zero
+pub blank_word : (n i : ℕ) → get_or (replicate n zero) i zero ≡ zero
 blank_word n i = elim (cases_lt i n) [
   | inl h ↦ get_or-replicate n i zero zero h
   | inr h ↦ get_or_past (replicate n zero) i zero (rw length-replicate h)

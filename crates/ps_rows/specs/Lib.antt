@@ -3,3 +3,4 @@ pub mod Members
 pub mod Showing
 pub mod RowTests
 pub mod Sameness
+pub mod RowIndex

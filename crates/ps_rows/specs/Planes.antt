@@ -29,10 +29,6 @@ with_cell_in height cell chosen words [] = words
 with_cell_in height cell chosen words (plane ∷ planes) =
     with_cell_in height cell chosen (with_cell height words cell plane (is_number chosen plane)) planes
 
--- no row of the plane has a column
-abbrev pub IsBare : ℕ → List ℕ → ℕ → Type 0
-IsBare height words plane = (row : ℕ) → row < height → slice_index words (plane * height + row) ≡ 0
-
 -- the words hold each of these planes whole
 abbrev pub HavePlanes : ℕ → List ℕ → List ℕ → Type 0
 HavePlanes height words planes = (plane : ℕ) → list_any (nat_eq plane) planes ≡ true → (plane + 1) * height ≤ length words

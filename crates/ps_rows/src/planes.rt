@@ -1,16 +1,16 @@
 //! Planes of rows of bits, as one flat list of words.
 
-ghost use Rattle.std.specs.Prelude.{◌≡◌, ◌+◌, ◌*◌, ◌/◌, ◌%◌, ◌<◌, ◌≤◌, ℕ, ◌∷◌, [], find, length, slice_index, true};
+ghost use Rattle.std.specs.Prelude.{◌≡◌, ◌+◌, ◌*◌, ◌/◌, ◌%◌, ◌<◌, ◌≤◌, ℕ, ◌∷◌, [], find, length, slice_index};
 ghost use Rattle.ps_model.specs.board.Movement.{is_number};
 ghost use Rattle.ps_rows.specs.Planes.{
   HavePlanes,
-  IsBare,
   has_cell,
   has_column,
   with_cell,
   with_cell_in,
   with_column,
 };
+ghost use Rattle.ps_rows.specs.RowIndex.{with_marks};
 
 /// Whether a word has a column.
 pub fn has_column(word: u64, column: u32) -> bool
@@ -62,19 +62,6 @@ pub fn plane_row(words: &[u64], height: u32, plane: u32, row: u32) -> u64
     words[plane as usize * height as usize + row as usize]
 }
 
-/// Whether a plane has no cell.
-pub fn is_bare(words: &[u64], height: u32, plane: u32) -> bool
-    requires { (plane + 1) * height ≤ length words.now }
-    ensures { result ≡ true → IsBare height words.now plane }
-{
-    for row in 0..height {
-        if plane_row(words, height, plane, row) != 0 {
-            return false;
-        }
-    }
-    true
-}
-
 /// Puts a cell into a plane, or takes it away.
 fn set_cell(words: &mut [u64], height: u32, cell: u32, plane: u32, on: bool)
     requires row { 0 < height }
@@ -105,6 +92,21 @@ pub fn choose_plane(words: &mut [u64], height: u32, cell: u32, planes: &[u32], c
 {
     for plane in planes {
         set_cell(words, height, cell, *plane, is_chosen(chosen, *plane));
+    }
+}
+
+/// Marks a row of each of these planes in an index, where the plane has a column there, and else takes the mark away.
+pub fn mark_rows(index: &mut [u64], words: &[u64], height: u32, row: u32, planes: &[u32])
+    requires row { row < height }
+    requires low { row < 64 }
+    requires planes { HavePlanes height words.now planes.now }
+    requires marks { HavePlanes 1 index.old planes.now }
+    ensures { index.new ≡ with_marks height row words.now index.old planes.now }
+{
+    for plane in planes {
+        let some = plane_row(words, height, *plane, row) != 0;
+        let place = *plane as usize;
+        index[place] = with_column(index[place], row, some);
     }
 }
 

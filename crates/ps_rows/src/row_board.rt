@@ -4,14 +4,15 @@ ghost use Rattle.std.specs.Prelude.{◌≡◌, ◌+◌, ◌*◌, ◌/◌, ◌^�
 ghost use Rattle.std.specs.Prelude.{option_map, replicate, slice_get, slice_index, vec_len};
 ghost use Rattle.ps_model.specs.board.Movement.{is_number};
 ghost use Rattle.ps_model.specs.declared.limits.TheConstants.{LAYER_LIMIT, SIDE_LIMIT};
-ghost use Rattle.ps_rows.specs.Planes.{HavePlanes, IsBare};
+ghost use Rattle.ps_rows.specs.Planes.{HavePlanes};
+ghost use Rattle.ps_rows.specs.RowIndex.{AreRowsMarked};
 ghost use Rattle.ps_rows.specs.Sameness.{IsSameLayer};
 ghost use Rattle.ps_rows.specs.Showing.{AreMotionsShown, AreObjectsShown, cleared_from, grid_shown};
 ghost use Rattle.ps_rows.specs.Showing.{motions_from, numbered, object_shown, with_slot_in};
 
 use crate::members::Members;
 use crate::motions::{choose_motion, first_motion};
-use crate::planes::{choose_plane, first_plane, is_bare, plane_row};
+use crate::planes::{choose_plane, first_plane, mark_rows, plane_row};
 use crate::sameness::{same_planes, same_words};
 use crate::scanning::columns;
 use ps_board::{Board, Columns};
@@ -24,6 +25,8 @@ use std::alloc::Global;
 ///
 /// On a layer of a cell stands one object at most, which has one motion at most, and there is no motion without an
 /// object.
+///
+/// For each object's plane the index has one word, whose bit y is set where row y of the plane has a column.
 #[derive(Drop)]
 pub struct RowBoard {
     width: u32,
@@ -31,6 +34,7 @@ pub struct RowBoard {
     layers: u32,
     members: Members,
     words: Vec<u64>,
+    index: Vec<u64>,
     ghost some_column: { 0 < width },
     ghost columns: { width ≤ SIDE_LIMIT },
     ghost some_row: { 0 < height },
@@ -41,6 +45,8 @@ pub struct RowBoard {
     ghost whole: { vec_len words ≡ motions_from members.table.items layers * height },
     ghost objects: { AreObjectsShown members.table.items height words.items (width * height) },
     ghost motions: { AreMotionsShown members.table.items layers height words.items (width * height) },
+    ghost indexed: { vec_len index ≡ length members.table.items },
+    ghost marked: { AreRowsMarked (length members.table.items) height words.items index.items },
 }
 
 /// Puts an object with its motion into a cell of a layer, whose objects have these planes and whose motions have those
@@ -120,12 +126,12 @@ impl RowBoard {
         plane_row(self.words.as_slice(), self.height, plane, row)
     }
 
-    /// Whether a plane has no cell.
-    pub(crate) fn is_bare(&self, plane: u32) -> bool
-        requires { plane < motions_from self.now.members.table.items self.now.layers }
-        ensures { result ≡ true → IsBare self.now.height self.now.words.items plane }
+    /// The rows of an object's plane that may have a column: bit y stands for row y.
+    pub(crate) fn rows_of(&self, object: u32) -> u64
+        requires { object < length self.now.members.table.items }
+        ensures { result ≡ slice_index self.now.index.items object }
     {
-        is_bare(self.words.as_slice(), self.height, plane)
+        self.index[object as usize]
     }
 
     /// Whether an object is one of a layer, by the table.
@@ -196,24 +202,28 @@ impl Board for RowBoard {
         let members = Members::try_new(alloc, layers, own_layers)?;
         let planes = members.count() + 5 * layers;
         let words = Vec::from_elem(alloc, 0u64, planes as usize * height as usize)?;
+        let index = Vec::from_elem(alloc, 0u64, members.count() as usize)?;
         Ok(RowBoard {
             width,
             height,
             layers,
             members,
             words,
+            index,
         })
     }
 
     fn try_copy(&self, alloc: Global) -> Result<RowBoard, Memory> {
         let members = self.members.try_copy(alloc)?;
         let words = Vec::from_slice(alloc, &self.words)?;
+        let index = Vec::from_slice(alloc, &self.index)?;
         Ok(RowBoard {
             width: self.width,
             height: self.height,
             layers: self.layers,
             members,
             words,
+            index,
         })
     }
 
@@ -248,6 +258,14 @@ impl Board for RowBoard {
             first,
             motion,
         );
+        let words = self.words.as_slice();
+        mark_rows(
+            self.index.as_mut_slice(),
+            words,
+            height,
+            cell % height,
+            planes,
+        );
     }
 
     fn clear_moves(&mut self) {
@@ -257,6 +275,7 @@ impl Board for RowBoard {
 
     fn copy_into(&self, other: &mut RowBoard) {
         other.words.copy_from_slice(&self.words);
+        other.index.copy_from_slice(&self.index);
     }
 
     fn movers(&self, layer: LayerId, row: u32) -> Columns {

@@ -4,7 +4,7 @@ use crate::planes::has_column;
 use crate::row_board::RowBoard;
 use ps_board::Board;
 use ps_match::{Columns, Rooms, Scan, rewrite_row, write_cell};
-use ps_model::{LayerId, LayeredObject, ObjectId, SIDE_LIMIT};
+use ps_model::{LayerId, LayeredObject, ObjectId};
 use ps_program::{CellMask, CellWrite};
 
 impl Rooms for RowBoard {
@@ -30,11 +30,15 @@ impl Scan for RowBoard {
         if !self.is_on(object.object.0, object.layer.0) {
             return true;
         }
-        self.is_bare(object.object.0)
+        self.rows_of(object.object.0) == 0
     }
 
-    fn rows_with(&self, _object: &LayeredObject) -> Columns {
-        Columns::below(SIDE_LIMIT)
+    /// The rows that have it, by the index.
+    fn rows_with(&self, object: &LayeredObject) -> Columns {
+        if !self.is_on(object.object.0, object.layer.0) {
+            return Columns::none();
+        }
+        Columns::from_word(self.rows_of(object.object.0))
     }
 
     fn write(&mut self, write: &CellWrite, cell: u32, changed: bool) -> bool {
@@ -47,5 +51,50 @@ impl Scan for RowBoard {
 
     fn rewrite(&mut self, write: &CellWrite, row: u32, columns: Columns) -> bool {
         rewrite_row(self, write, row, columns)
+    }
+}
+
+#[cfg(test)]
+mod tests {
+    use super::*;
+    use ps_model::Motion;
+    use std::test::Fail;
+
+    /// Three objects: two on the higher of two layers, and one on the lower.
+    const OWN_LAYERS: [LayerId; 3] = [LayerId(1), LayerId(0), LayerId(1)];
+
+    const SOUGHT: LayeredObject = LayeredObject {
+        object: ObjectId(2),
+        layer: LayerId(1),
+    };
+
+    const ELSEWHERE: LayeredObject = LayeredObject {
+        object: ObjectId(2),
+        layer: LayerId(0),
+    };
+
+    #[test]
+    fn tells_the_rows_that_have_an_object(rt: HostRuntime) -> Result<(), Fail> {
+        let mut board = RowBoard::try_empty(rt.alloc(), 2, 3, 2, &OWN_LAYERS)?;
+        assert!(rt; board.lacks(&SOUGHT));
+        board.put(2, LayerId(1), Some(ObjectId(2)), Motion::Still);
+        board.put(4, LayerId(1), Some(ObjectId(2)), Motion::Acting);
+        assert!(rt; !board.lacks(&SOUGHT));
+        let copy = board.try_copy(rt.alloc())?;
+        board.put(2, LayerId(1), Some(ObjectId(0)), Motion::Still);
+        board.clear_moves();
+        for row in 0..3u32 {
+            assert_eq!(rt; board.rows_with(&SOUGHT).has(row), row == 1);
+            assert_eq!(rt; copy.rows_with(&SOUGHT).has(row), row != 0);
+            assert!(rt; !copy.rows_with(&ELSEWHERE).has(row));
+        }
+        copy.copy_into(&mut board);
+        for row in 0..3u32 {
+            assert_eq!(rt; board.rows_with(&SOUGHT).has(row), row != 0);
+        }
+        board.put(2, LayerId(1), None, Motion::Still);
+        board.put(4, LayerId(1), None, Motion::Still);
+        assert!(rt; board.lacks(&SOUGHT));
+        Ok(())
     }
 }

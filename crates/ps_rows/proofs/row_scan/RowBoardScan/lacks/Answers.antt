@@ -1,6 +1,9 @@
-use Rattle.std.proofs.Common.{◌∙◌, sym}
-use Rattle.ps_rows.proofs.Absent.{nowhere_by_rows}
-use Rattle.ps_rows.proofs.Scans.{other_row, own_row}
+use Rattle.std.proofs.Common.{◌≡◌, ◌∙◌, ℕ, get_or, sym, ap}
+use Rattle.std.proofs.lemmas.Bool.{eqb-true}
+use Rattle.ps_rows.specs.Planes.{has_column}
+use Rattle.ps_rows.proofs.Absent.{not_marked, nowhere_by_rows}
+use Rattle.ps_rows.proofs.Bits.{has_column-zero}
+use Rattle.ps_rows.proofs.Scans.{other_row}
 use Rattle.ps_rows.proofs.row_scan.RowBoardScan.lacks.Goals as goal
 
 pub returns-then-not-is_on : goal.returns-then-not-is_on
@@ -12,6 +15,8 @@ returns-then-not-is_on c = λ e.
 pub returns : goal.returns
 returns c = λ e.
     let b = c.args.self.now in
+    let object : ℕ = (c.args.object.now.object).0 in
+    let zero : get_or b.index.items object 0 ≡ 0 = sym c.rows_of.ensures ∙ eqb-true c.rows_of.result 0 e in
     nowhere_by_rows b.members.table.items b.width b.height b.layers b.words.items c.args.object.now b.some_row
-    (λ row low. own_row b.members.table.items b.width b.height b.layers b.words.items row b.some_row b.columns low c.args.object.now 0 b.objects
-    (sym c.is_on.ensures ∙ c.if-not-is_on.false) (sym (c.is_bare.ensures e row low)))
+    (λ row low. not_marked b.members.table.items b.width b.height b.layers b.words.items b.index.items row c.args.object.now b.some_row b.columns low b.objects b.marked
+    (sym c.is_on.ensures ∙ c.if-not-is_on.false) (ap (λ (word : ℕ). has_column word row) zero ∙ has_column-zero row))
