@@ -9,3 +9,4 @@ pub mod Begins
 pub mod ByColumns
 pub mod Nowhere
 pub mod EndColumns
+pub mod OnlyOn

@@ -14,9 +14,9 @@ use Rattle.ps_program.specs.declared.cells.CellMask.{CellMask}
 use Rattle.ps_program.specs.declared.cells.CompiledCell.{CompiledCell}
 use Rattle.ps_program.specs.ProgramShown.{mask_shown}
 use Rattle.ps_match.specs.InRoom.{meaning_of_mask}
-use Rattle.ps_board.specs.ColumnSets.{column_at, set_columns, row_fits}
-use Rattle.ps_board.proofs.ColumnLaws.{none_in}
+use Rattle.ps_board.specs.ColumnSets.{column_at, row_fits}
 use Rattle.ps_places.specs.declared.shape.Shape.{Shape}
+use Rattle.ps_places.specs.Candidates.{FitsNotOn}
 use Rattle.ps_places.specs.RowCells.{all_cells}
 use Rattle.ps_places.specs.RowMeanings.{cell_meaning, parts_meaning, meanings_of, part_sizes, places_at, IsShapeOf, line_long}
 use Rattle.ps_places.specs.Somewhere.{FitsNowhere, HasNoPlace}
@@ -33,17 +33,15 @@ pub record NoneFits (g : Grid) (mask : CellMask) (count : ℕ) : Type 0 where
 pub none_fits-init : (g : Grid) (mask : CellMask) → NoneFits g mask 0
 none_fits-init g mask = record { at = λ row x low within. absurd (omega (arith, low)) }
 
-none_by : (g : Grid) (mask : CellMask) (count row x : ℕ) (columns : List Bool) (same : Bool) → nat_eq row count ≡ same → NoneFits g mask count →
-    columns ≡ row_fits g (meaning_of_mask (mask_shown mask)) count → set_columns columns ≡ [] → row < count + 1 → x < SIDE_LIMIT →
+none_by : (g : Grid) (mask : CellMask) (count row x : ℕ) (same : Bool) → nat_eq row count ≡ same → NoneFits g mask count → FitsNotOn g mask count → row < count + 1 → x < SIDE_LIMIT →
     column_at (row_fits g (meaning_of_mask (mask_shown mask)) row) x ≡ false
-none_by g mask count row x columns true t none is empty low within =
+none_by g mask count row x true t none off low within =
     let here : row ≡ count = grind (arith, nat_tests) in
-    ap (λ (r : ℕ). column_at (row_fits g (meaning_of_mask (mask_shown mask)) r) x) here ∙ ap (λ (cs : List Bool). column_at cs x) (sym is) ∙ none_in columns x empty within
-none_by g mask count row x columns false t none is empty low within = none.at row x (grind (arith, nat_tests)) within
+    ap (λ (r : ℕ). column_at (row_fits g (meaning_of_mask (mask_shown mask)) r) x) here ∙ off.at x within
+none_by g mask count row x false t none off low within = none.at row x (grind (arith, nat_tests)) within
 
-pub none_fits-more : (g : Grid) (mask : CellMask) (count : ℕ) (columns : List Bool) → NoneFits g mask count → columns ≡ row_fits g (meaning_of_mask (mask_shown mask)) count → set_columns columns ≡ [] →
-    NoneFits g mask (count + 1)
-none_fits-more g mask count columns none is empty = record { at = λ row x low within. none_by g mask count row x columns (nat_eq row count) refl none is empty low within }
+pub none_fits-more : (g : Grid) (mask : CellMask) (count : ℕ) → NoneFits g mask count → FitsNotOn g mask count → NoneFits g mask (count + 1)
+none_fits-more g mask count none off = record { at = λ row x low within. none_by g mask count row x (nat_eq row count) refl none off low within }
 
 nowhere_by : (g : Grid) (mask : CellMask) (count cell : ℕ) (inside : Bool) → nat_lt cell (g.width * g.height) ≡ inside → IsGrid g → NoneFits g mask count → g.height ≤ count →
     fits_there (meaning_of_mask (mask_shown mask)) (slice_get g.cells cell) ≡ false

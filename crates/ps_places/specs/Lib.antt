@@ -5,3 +5,4 @@ pub mod RowCells
 pub mod Starts
 pub mod Somewhere
 pub mod Ends
+pub mod Candidates

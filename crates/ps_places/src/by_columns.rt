@@ -11,6 +11,7 @@ ghost use Rattle.ps_places.specs.RowMeanings.{part_sizes, row_places_at, vertica
 ghost use Rattle.ps_places.specs.Starts.{AreStarts, column_places};
 ghost use Rattle.ps_places.specs.Stretches.{cells_of, stretch_of};
 
+use crate::candidates::rows_of_begin;
 use crate::search::push_if;
 use crate::shape::{Place, Shape};
 use crate::starts::{starts_across, starts_down};
@@ -54,8 +55,9 @@ pub fn search_across<B: Scan>(
         OnOk result (map (cells_of shape) found.new.items ≡ map (cells_of shape) found.old.items ++ more) }
 {
     let (_width, height) = board.size();
+    let rows = rows_of_begin(board, parts, shape, false);
     for row in 0..height {
-        let starts = starts_across(board, parts, shape, row);
+        let starts = starts_across(board, parts, shape, rows, row);
         push_row(found, starts, height, row)?;
     }
     Ok(())
@@ -76,9 +78,10 @@ fn find_starts<B: Scan>(
     ensures rows { length rows.new ≡ SIDE_LIMIT }
 {
     let (_width, height) = board.size();
+    let worth = rows_of_begin(board, parts, shape, true);
     let mut any = Columns::none();
     for row in 0..height {
-        let starts = starts_down(board, parts, shape, row);
+        let starts = starts_down(board, parts, shape, worth, row);
         rows[row as usize] = starts;
         any = any.either(starts);
     }

@@ -1,11 +1,13 @@
 //! Where the leftmost or topmost cell of a row of a rule may lie on a row of the board, whatever its gap.
 
-ghost use Rattle.std.specs.Prelude.{◌≡◌, ◌<◌, [], length, slice_index_or};
+ghost use Rattle.std.specs.Prelude.{◌≡◌, ◌<◌, [], false, length, slice_index_or, true};
 ghost use Rattle.ps_model.specs.declared.limits.TheConstants.{SIDE_LIMIT};
 ghost use Rattle.ps_board.specs.ColumnSets.{column_at};
+ghost use Rattle.ps_places.specs.Candidates.{BeginsOnlyOn};
 ghost use Rattle.ps_places.specs.Ends.{HasEndsIn, HaveEndsIn};
 ghost use Rattle.ps_places.specs.RowCells.{all_cells};
 
+use crate::candidates::rows_of_begin;
 use crate::row_cells::cell_in;
 use crate::shape::Shape;
 use ps_match::{Columns, Scan};
@@ -32,18 +34,23 @@ fn end_columns<B: Scan>(board: &B, parts: &[List<CompiledCell>], shape: Shape, r
 }
 
 /// The columns of a row of the board where the leftmost cell of a row of a rule fits, that goes left or right; none,
-/// where one of its cells fits nowhere on that row.
+/// where one of its cells fits nowhere on that row, or the row isn't one of those on which it may begin.
 pub fn ends_across<B: Scan>(
     board: &B,
     parts: &[List<CompiledCell>],
     shape: Shape,
+    rows: Columns,
     row: u32,
 ) -> Columns
+    requires worth { BeginsOnlyOn (B.grid board.now) (B.table board.now) parts.now shape false rows }
     requires step { shape.step ≡ (B.grid board.now).height }
     requires row { row < (B.grid board.now).height }
     ensures { HasEndsIn (B.grid board.now) (B.table board.now) parts.now shape row result }
 {
     let (_width, _height) = board.size();
+    if !rows.has(row) {
+        return Columns::none();
+    }
     for index in 0..shape.size {
         let Some(cell) = cell_in(parts, index) else {
             return Columns::below(SIDE_LIMIT);
@@ -55,6 +62,27 @@ pub fn ends_across<B: Scan>(
     end_columns(board, parts, shape, row)
 }
 
+/// The columns of a row of the board where the topmost cell of a row of a rule may lie; none, where the row isn't one of
+/// those on which it may begin.
+fn ends_down<B: Scan>(
+    board: &B,
+    parts: &[List<CompiledCell>],
+    shape: Shape,
+    rows: Columns,
+    row: u32,
+) -> Columns
+    requires worth { BeginsOnlyOn (B.grid board.now) (B.table board.now) parts.now shape true rows }
+    requires row { row < (B.grid board.now).height }
+    ensures { HasEndsIn (B.grid board.now) (B.table board.now) parts.now shape row result }
+{
+    let (_width, height) = board.size();
+    // Further below it has no room, whatever fits there.
+    if shape.size <= height - row && !rows.has(row) {
+        return Columns::none();
+    }
+    end_columns(board, parts, shape, row)
+}
+
 /// Finds the columns of each row of the board where the topmost cell of a row of a rule fits.
 pub fn find_ends<B: Scan>(
     board: &B,
@@ -62,13 +90,15 @@ pub fn find_ends<B: Scan>(
     shape: Shape,
     rows: &mut [Columns],
 )
-    requires { length rows.old ≡ SIDE_LIMIT }
+    requires rows { length rows.old ≡ SIDE_LIMIT }
+    requires step { shape.step ≡ 1 }
     ensures ends { let g = B.grid board.now in HaveEndsIn g (B.table board.now) parts.now shape rows.new g.height }
     ensures rows { length rows.new ≡ SIDE_LIMIT }
 {
     let (_width, height) = board.size();
+    let worth = rows_of_begin(board, parts, shape, true);
     for row in 0..height {
-        let ends = end_columns(board, parts, shape, row);
+        let ends = ends_down(board, parts, shape, worth, row);
         rows[row as usize] = ends;
     }
 }

@@ -3,6 +3,7 @@
 
 mod along;
 mod by_columns;
+mod candidates;
 mod ends;
 mod find;
 mod presence;
@@ -15,6 +16,7 @@ mod somewhere;
 mod starts;
 
 pub use along::{fits_place, rewrite_place};
+pub use candidates::rows_of_mask;
 pub use find::find_places;
 pub use presence::has_place;
 pub use row_places::RowPlaces;

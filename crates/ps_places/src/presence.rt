@@ -1,15 +1,17 @@
 //! Whether a row of a rule has a place on a board: the search stops at the first one, and keeps none.
 
-ghost use Rattle.std.specs.Prelude.{◌≡◌, ◌+◌, ◌*◌, ◌<◌, ◌≤◌, length, sum};
+ghost use Rattle.std.specs.Prelude.{◌≡◌, ◌+◌, ◌*◌, ◌<◌, ◌≤◌, false, length, sum};
 ghost use Rattle.std.specs.List.{flat_map, range_with_len};
 ghost use Rattle.ps_model.specs.declared.limits.TheConstants.{SIDE_LIMIT};
 ghost use Rattle.ps_model.specs.board.Places.{places};
+ghost use Rattle.ps_places.specs.Candidates.{BeginsOnlyOn};
 ghost use Rattle.ps_places.specs.Found.{has_one, row_meaning};
 ghost use Rattle.ps_places.specs.RowCells.{all_cells};
 ghost use Rattle.ps_places.specs.RowMeanings.{IsShapeOf, part_sizes, parts_meaning};
 ghost use Rattle.ps_places.specs.RowMeanings.{places_at, row_places_at, vertical_at};
 
 use crate::along::fits_place;
+use crate::candidates::rows_of_begin;
 use crate::ends::{ends_across, find_ends, may_end};
 use crate::find::shape_of;
 use crate::search::gaps_if;
@@ -45,6 +47,7 @@ fn fits_at_end<B: Scan>(
 /// Whether parts that go up or down have a place.
 fn fits_in_columns<B: Scan>(board: &B, parts: &[List<CompiledCell>], shape: Shape) -> bool
     requires few { length parts.now ≤ 2 }
+    requires step { shape.step ≡ 1 }
     requires size { sum (part_sizes parts.now) ≡ shape.size }
     requires whole { length (all_cells parts.now) ≡ shape.size }
     ensures { let g = B.grid board.now in
@@ -66,8 +69,15 @@ fn fits_in_columns<B: Scan>(board: &B, parts: &[List<CompiledCell>], shape: Shap
 }
 
 /// Whether parts that go left or right have a place in a row of the board.
-fn fits_in_row<B: Scan>(board: &B, parts: &[List<CompiledCell>], shape: Shape, row: u32) -> bool
+fn fits_in_row<B: Scan>(
+    board: &B,
+    parts: &[List<CompiledCell>],
+    shape: Shape,
+    rows: Columns,
+    row: u32,
+) -> bool
     requires few { length parts.now ≤ 2 }
+    requires worth { BeginsOnlyOn (B.grid board.now) (B.table board.now) parts.now shape false rows }
     requires step { shape.step ≡ (B.grid board.now).height }
     requires size { sum (part_sizes parts.now) ≡ shape.size }
     requires whole { length (all_cells parts.now) ≡ shape.size }
@@ -75,7 +85,7 @@ fn fits_in_row<B: Scan>(board: &B, parts: &[List<CompiledCell>], shape: Shape, r
     ensures { result ≡ has_one (row_places_at (B.grid board.now) (B.table board.now) parts.now shape row) }
 {
     let (width, height) = board.size();
-    let ends = ends_across(board, parts, shape, row);
+    let ends = ends_across(board, parts, shape, rows, row);
     for column in 0..width {
         let end = column * height + row;
         let count = gaps_if(ends.has(column), parts, shape, width - end / height);
@@ -97,8 +107,9 @@ fn fits_in_rows<B: Scan>(board: &B, parts: &[List<CompiledCell>], shape: Shape) 
         result ≡ has_one (flat_map at (range_with_len 0 g.height)) }
 {
     let (_width, height) = board.size();
+    let rows = rows_of_begin(board, parts, shape, false);
     for row in 0..height {
-        if fits_in_row(board, parts, shape, row) {
+        if fits_in_row(board, parts, shape, rows, row) {
             return true;
         }
     }
@@ -116,8 +127,9 @@ fn fits_across<B: Scan>(board: &B, parts: &[List<CompiledCell>], shape: Shape) -
         result ≡ has_one (flat_map at (range_with_len 0 g.height)) }
 {
     let (_width, height) = board.size();
+    let rows = rows_of_begin(board, parts, shape, false);
     for row in 0..height {
-        if !starts_across(board, parts, shape, row).is_empty() {
+        if !starts_across(board, parts, shape, rows, row).is_empty() {
             return true;
         }
     }
@@ -135,8 +147,9 @@ fn fits_down<B: Scan>(board: &B, parts: &[List<CompiledCell>], shape: Shape) -> 
         result ≡ has_one (flat_map at (range_with_len 0 (g.width * g.height))) }
 {
     let (_width, height) = board.size();
+    let rows = rows_of_begin(board, parts, shape, true);
     for row in 0..height {
-        if !starts_down(board, parts, shape, row).is_empty() {
+        if !starts_down(board, parts, shape, rows, row).is_empty() {
             return true;
         }
     }

@@ -1,13 +1,15 @@
 //! The places of a row on a board, in their order.
 
-ghost use Rattle.std.specs.Prelude.{◌≡◌, ◌+◌, ◌*◌, ◌<◌, ◌≤◌, ◌++◌, [], ◌∷◌, OnOk, cond, length, map, sum};
+ghost use Rattle.std.specs.Prelude.{◌≡◌, ◌+◌, ◌*◌, ◌<◌, ◌≤◌, ◌++◌, [], ◌∷◌, OnOk, cond, false, length, map, sum};
 ghost use Rattle.std.specs.List.{flat_map, range_with_len};
 ghost use Rattle.ps_model.specs.declared.limits.TheConstants.{SIDE_LIMIT};
+ghost use Rattle.ps_places.specs.Candidates.{BeginsOnlyOn};
 ghost use Rattle.ps_places.specs.Stretches.{cells_of, gap_count};
 ghost use Rattle.ps_places.specs.RowCells.{all_cells};
 ghost use Rattle.ps_places.specs.RowMeanings.{part_sizes, places_at, row_places_at, vertical_at};
 
 use crate::along::fits_place;
+use crate::candidates::rows_of_begin;
 use crate::ends::{ends_across, find_ends, may_end};
 use crate::shape::{Place, Shape};
 use ps_match::{Columns, Scan};
@@ -87,6 +89,7 @@ pub fn search_columns<B: Scan>(
     found: &mut Vec<Place>,
 ) -> Result<(), Memory>
     requires few { length parts.now ≤ 2 }
+    requires step { shape.step ≡ 1 }
     requires size { sum (part_sizes parts.now) ≡ shape.size }
     requires whole { length (all_cells parts.now) ≡ shape.size }
     ensures { let g = B.grid board.now in
@@ -111,10 +114,12 @@ fn search_row<B: Scan>(
     board: &B,
     parts: &[List<CompiledCell>],
     shape: Shape,
+    rows: Columns,
     row: u32,
     found: &mut Vec<Place>,
 ) -> Result<(), Memory>
     requires few { length parts.now ≤ 2 }
+    requires worth { BeginsOnlyOn (B.grid board.now) (B.table board.now) parts.now shape false rows }
     requires step { shape.step ≡ (B.grid board.now).height }
     requires size { sum (part_sizes parts.now) ≡ shape.size }
     requires whole { length (all_cells parts.now) ≡ shape.size }
@@ -124,7 +129,7 @@ fn search_row<B: Scan>(
         OnOk result (map (cells_of shape) found.new.items ≡ map (cells_of shape) found.old.items ++ places) }
 {
     let (width, height) = board.size();
-    let ends = ends_across(board, parts, shape, row);
+    let ends = ends_across(board, parts, shape, rows, row);
     for column in 0..width {
         let end = column * height + row;
         let count = gaps_if(ends.has(column), parts, shape, width - end / height);
@@ -149,8 +154,9 @@ pub fn search_rows<B: Scan>(
         OnOk result (map (cells_of shape) found.new.items ≡ map (cells_of shape) found.old.items ++ more) }
 {
     let (_width, height) = board.size();
+    let rows = rows_of_begin(board, parts, shape, false);
     for row in 0..height {
-        search_row(board, parts, shape, row, found)?;
+        search_row(board, parts, shape, rows, row, found)?;
     }
     Ok(())
 }

@@ -2,6 +2,7 @@
 
 ghost use Rattle.std.specs.Prelude.{◌≡◌, ◌+◌, ◌<◌, ◌≤◌, false, length, true};
 ghost use Rattle.ps_model.specs.declared.limits.TheConstants.{SIDE_LIMIT};
+ghost use Rattle.ps_places.specs.Candidates.{BeginsOnlyOn};
 ghost use Rattle.ps_places.specs.RowCells.{all_cells};
 ghost use Rattle.ps_places.specs.Starts.{AreWhere, begins_across, begins_down, begins_in, cell_fits, has_room};
 
@@ -76,30 +77,39 @@ fn starts_in<B: Scan>(
     starts
 }
 
-/// The columns where a row of a rule begins on a row of the board, that goes left or right.
+/// The columns where a row of a rule begins on a row of the board, that goes left or right, and begins on certain rows
+/// alone.
 pub fn starts_across<B: Scan>(
     board: &B,
     parts: &[List<CompiledCell>],
     shape: Shape,
+    rows: Columns,
     row: u32,
 ) -> Columns
+    requires worth { BeginsOnlyOn (B.grid board.now) (B.table board.now) parts.now shape false rows }
     requires whole { length (all_cells parts.now) ≡ shape.size }
     requires step { shape.step ≡ (B.grid board.now).height }
     requires row { row < (B.grid board.now).height }
     ensures { AreWhere (begins_across (B.grid board.now) (B.table board.now) parts.now shape row) result }
 {
     let (width, _height) = board.size();
+    if !rows.has(row) {
+        return Columns::none();
+    }
     let room = with_room(shape.size, width);
     starts_in(board, parts, shape, row, false, room)
 }
 
-/// The columns where a row of a rule begins on a row of the board, that goes up or down.
+/// The columns where a row of a rule begins on a row of the board, that goes up or down, and begins on certain rows
+/// alone.
 pub fn starts_down<B: Scan>(
     board: &B,
     parts: &[List<CompiledCell>],
     shape: Shape,
+    rows: Columns,
     row: u32,
 ) -> Columns
+    requires worth { BeginsOnlyOn (B.grid board.now) (B.table board.now) parts.now shape true rows }
     requires whole { length (all_cells parts.now) ≡ shape.size }
     requires step { shape.step ≡ 1 }
     requires row { row < (B.grid board.now).height }
@@ -107,6 +117,9 @@ pub fn starts_down<B: Scan>(
 {
     let (width, height) = board.size();
     if height - row < shape.size {
+        return Columns::none();
+    }
+    if !rows.has(row) {
         return Columns::none();
     }
     starts_in(board, parts, shape, row, true, Columns::below(width))

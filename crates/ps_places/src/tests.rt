@@ -205,3 +205,57 @@ fn gaps_lie_downwards_and_leftwards_too(rt: HostRuntime) -> Result<(), Fail> {
     assert!(&rt; !has_place(&line, Direction::Up, &sought));
     Ok(())
 }
+
+/// A board of two columns and four rows, with an `A` above a `B` at the foot of the second column alone.
+fn board_with_a_foot(alloc: Global) -> Result<ListBoard, Memory> {
+    let mut board = ListBoard::try_empty(alloc, 2, 4, 1, &[])?;
+    let (columns, rows) = board.size();
+    if columns == 2 && rows == 4 && 0 < board.layers() {
+        board.put(6, LOWEST, Some(ObjectId(b'A' as u32)), Motion::Still);
+        board.put(7, LOWEST, Some(ObjectId(b'B' as u32)), Motion::Still);
+    }
+    Ok(board)
+}
+
+#[test]
+fn what_stands_on_the_last_rows_is_found(rt: HostRuntime) -> Result<(), Fail> {
+    let alloc = rt.alloc();
+    let board = board_with_a_foot(alloc)?;
+    let sought = row(alloc, &[b"AB"])?;
+    check(
+        &rt,
+        &find_places(alloc, &board, Direction::Down, &sought)?,
+        &[(6, 0)],
+    );
+    check(
+        &rt,
+        &find_places(alloc, &board, Direction::Up, &sought)?,
+        &[],
+    );
+    let turned = row(alloc, &[b"BA"])?;
+    check(
+        &rt,
+        &find_places(alloc, &board, Direction::Up, &turned)?,
+        &[(6, 0)],
+    );
+    let last = row(alloc, &[b"B"])?;
+    check(
+        &rt,
+        &find_places(alloc, &board, Direction::Down, &last)?,
+        &[(7, 0)],
+    );
+    check(
+        &rt,
+        &find_places(alloc, &board, Direction::Right, &last)?,
+        &[(7, 0)],
+    );
+    let apart = row(alloc, &[b"A", b"B"])?;
+    check(
+        &rt,
+        &find_places(alloc, &board, Direction::Down, &apart)?,
+        &[(6, 0)],
+    );
+    assert!(&rt; has_place(&board, Direction::Down, &apart));
+    assert!(&rt; has_place(&board, Direction::Up, &turned));
+    Ok(())
+}

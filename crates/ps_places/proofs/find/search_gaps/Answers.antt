@@ -43,3 +43,9 @@ search_rows-requires-clause-step g c = c.requires.is.step ∙ ap (step_in (g.B.B
 
 pub search_rows-requires-in-Right-clause-step : goal.search_rows-requires-in-Right-clause-step
 search_rows-requires-in-Right-clause-step g c = c.requires.is.step ∙ ap (step_in (g.B.Board.grid c.args.board.now)) c.in-Right.is
+
+pub search_columns-requires-clause-step : goal.search_columns-requires-clause-step
+search_columns-requires-clause-step g c = c.requires.is.step ∙ ap (step_in (g.B.Board.grid c.args.board.now)) c.in-Up.is
+
+pub search_columns-requires-in-Down-clause-step : goal.search_columns-requires-in-Down-clause-step
+search_columns-requires-in-Down-clause-step g c = c.requires.is.step ∙ ap (step_in (g.B.Board.grid c.args.board.now)) c.in-Down.is

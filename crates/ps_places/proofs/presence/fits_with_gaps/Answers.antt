@@ -35,3 +35,9 @@ fits_in_rows-requires-clause-step g c = c.requires.is.step ∙ ap (step_in (g.B.
 
 pub fits_in_rows-requires-in-Right-clause-step : goal.fits_in_rows-requires-in-Right-clause-step
 fits_in_rows-requires-in-Right-clause-step g c = c.requires.is.step ∙ ap (step_in (g.B.Board.grid c.args.board.now)) c.in-Right.is
+
+pub fits_in_columns-requires-clause-step : goal.fits_in_columns-requires-clause-step
+fits_in_columns-requires-clause-step g c = c.requires.is.step ∙ ap (step_in (g.B.Board.grid c.args.board.now)) c.in-Up.is
+
+pub fits_in_columns-requires-in-Down-clause-step : goal.fits_in_columns-requires-in-Down-clause-step
+fits_in_columns-requires-in-Down-clause-step g c = c.requires.is.step ∙ ap (step_in (g.B.Board.grid c.args.board.now)) c.in-Down.is

@@ -1,4 +1,4 @@
-use Rattle.std.proofs.Common.{◌≡◌, true, rules}
+use Rattle.std.proofs.Common.{◌≡◌, false, rules}
 use Rattle.ps_places.proofs.Nowhere.{none_fits-init, none_fits-more, nowhere}
 use Rattle.ps_places.proofs.somewhere.fits_anywhere.Goals as goal
 
@@ -7,8 +7,8 @@ loop-row-init g c = none_fits-init (g.B.Board.grid c.args.board.now) c.args.mask
 
 pub loop-row-preserved : goal.loop-row-preserved
 loop-row-preserved g c =
-    let none : c.is_empty.result ≡ true = search rules in
-    none_fits-more (g.B.Board.grid c.args.board.now) c.args.mask.now c.loop-row.row c.scan.result c.loop-row.invariant c.scan.ensures (c.is_empty.ensures.none none)
+    let none : c.fits_on_row.result ≡ false = search rules in
+    none_fits-more (g.B.Board.grid c.args.board.now) c.args.mask.now c.loop-row.row c.loop-row.invariant (c.fits_on_row.ensures none)
 
 pub returns : goal.returns
 returns g c =
