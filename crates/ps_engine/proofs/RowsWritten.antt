@@ -1,5 +1,5 @@
 -- The cells of a board that fit, written row by row.
-use Rattle.std.proofs.Common.{◌≡◌, ◌≢◌, ◌∙◌, ℕ, ◌+◌, ◌*◌, ◌/◌, ◌%◌, ◌<◌, ◌≤◌, ◌||◌, ◌&&◌, inl, inr, Bool, true, false, Option, Some, List, [], length, refl, sym, ap, arith}
+use Rattle.std.proofs.Common.{◌≡◌, ◌≢◌, ◌∙◌, ℕ, ◌+◌, ◌*◌, ◌/◌, ◌%◌, ◌<◌, ◌≤◌, ◌||◌, ◌&&◌, inl, inr, Bool, true, false, Option, Some, List, [], length, refl, sym, ap, ap₂, arith}
 use Rattle.std.specs.Prelude.{nat_eq, nat_lt, slice_get}
 use Rattle.std.proofs.Math.Nat.{div-add-mod}
 use Rattle.std.proofs.lemmas.Bool.{and_parts, cases_eq, eqb-true, eq-eqb, ne_eqb, lt-ltb, le-ltb}
@@ -11,11 +11,15 @@ use Rattle.ps_model.specs.board.Grid.{Grid, IsGrid, cell_at}
 use Rattle.ps_model.specs.board.Places.{fits_there}
 use Rattle.ps_model.specs.board.Attempts.{Rewritten}
 use Rattle.ps_model.specs.meaning.RuleMeanings.{CellMeaning}
+use Rattle.ps_program.specs.declared.cells.CellMask.{CellMask}
+use Rattle.ps_program.specs.ProgramShown.{mask_shown}
 use Rattle.ps_board.specs.ColumnSets.{column_at, row_fits}
 use Rattle.ps_board.proofs.ColumnLaws.{column_at-where}
+use Rattle.ps_match.specs.InRoom.{meaning_of_mask}
 use Rattle.ps_match.specs.Together.{is_on_row, rewritten_where}
 use Rattle.ps_match.proofs.Chosen.{cell_at-where, length-where, or_nothing, where-agree, where-none}
 use Rattle.ps_match.proofs.RowWritten.{height-where, lt_next, told, told-more}
+use Rattle.ps_places.specs.Candidates.{FitsOnlyOn}
 use Rattle.ps_engine.specs.OneCell.{fits_cell}
 
 -- the rows above one are written, where a cell fits
@@ -91,4 +95,20 @@ one_row_more start now next m mask row columns any more shape alike so scanned g
       | inr other ↦
           ap (λ (b : Bool). b && fits_cell start m n) (lt_next (n % start.height) row other)
           ∙ sym (ap (λ (b : Bool). fits_above start m row n || (b && column_at columns (n / start.height))) (ne_eqb (n % start.height) row other) ∙ or_nothing (fits_above start m row n))
+    ])
+
+-- a row without a cell that fits
+pub row_left_out : (start : Grid) (m : CellMeaning) (mask : CellMask) (row : ℕ) (rows : List Bool) (made : Rewritten) → row < start.height →
+    ((cell : Option (List Slot)) → fits_there (meaning_of_mask (mask_shown mask)) cell ≡ fits_there m cell) → FitsOnlyOn start mask rows → column_at rows row ≡ false → made ≡ above_written start m row →
+    made ≡ above_written start m (row + 1)
+row_left_out start m mask row rows made under alike only out so =
+    so ∙ where-agree start m.rewritten (fits_above start m row) (fits_above start m (row + 1))
+    (λ n low. elim (cases_eq (n % start.height) row) [
+      | inl r ↦
+          let place : n / start.height * start.height + row ≡ n = (let back : start.height * (n / start.height) + n % start.height ≡ n = div-add-mod n start.height in omega arith) in
+          let off : fits_cell start m n ≡ false =
+          sym (alike (slice_get start.cells n)) ∙ ap (λ (k : ℕ). fits_there (meaning_of_mask (mask_shown mask)) (slice_get start.cells k)) (sym place) ∙ only.at row (n / start.height) under out in
+          let below : n % start.height < row + 1 = omega arith in
+          not_written start m row n r ∙ sym (ap₂ (λ (a b : Bool). a && b) (lt-ltb (n % start.height) (row + 1) below) off)
+      | inr other ↦ sym (ap (λ (b : Bool). b && fits_cell start m n) (lt_next (n % start.height) row other))
     ])

@@ -12,6 +12,7 @@ ghost use Rattle.ps_match.specs.Together.{rewritten_where};
 use crate::attempts::has_places;
 use crate::queue::Queue;
 use ps_match::Scan;
+use ps_places::rows_of_mask;
 use ps_program::{CompiledCell, CompiledRule};
 use ps_text::List;
 
@@ -33,7 +34,8 @@ pub fn only_cell(rows: &[List<List<CompiledCell>>]) -> Option<&CompiledCell>
     Some(&cells[0])
 }
 
-/// Writes each cell of the board that fits, and answers whether one changed.
+/// Writes each cell of the board that fits, and answers whether one changed. Rows of the board that lack an object which
+/// the cell needs aren't looked at.
 fn write_all<B: Scan>(board: &mut B, cell: &CompiledCell) -> bool
     ensures rewritten { let before = B.grid board.old in
         let meaning = cell_meaning (B.table board.old) cell.now in
@@ -43,10 +45,13 @@ fn write_all<B: Scan>(board: &mut B, cell: &CompiledCell) -> bool
     ensures sides { sides_of (B.grid board.new) ≡ sides_of (B.grid board.old) }
 {
     let (_width, height) = board.size();
+    let rows = rows_of_mask(board, &cell.mask);
     let mut changed = false;
     for row in 0..height {
-        let columns = board.scan(&cell.mask, row);
-        changed |= board.rewrite(&cell.write, row, columns);
+        if rows.has(row) {
+            let columns = board.scan(&cell.mask, row);
+            changed |= board.rewrite(&cell.write, row, columns);
+        }
     }
     changed
 }
