@@ -32,8 +32,8 @@ pub trait Scan: Board {
     fn lacks(&self, object: &LayeredObject) -> bool
         ensures { result ≡ true → IsNowhere (Self.grid self.now) object.now };
 
-    /// Rows of the board, as a set of their numbers, without which no cell has an object on its layer. There may be more
-    /// of them than have it, and all of them, as a board needn't look for it.
+    /// Rows of the board, as a set of their numbers, without which no cell has an object on its layer. There may be
+    /// more of them than have it, and all of them, as a board needn't look for it.
     fn rows_with(&self, object: &LayeredObject) -> Columns
         ensures { HasRowsIn (Self.grid self.now) object.now result };
 
