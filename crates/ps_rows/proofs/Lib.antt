@@ -13,5 +13,6 @@ pub mod Rows
 pub mod Alike
 pub mod RowSets
 pub mod SameRows
+pub mod PlaneRows
 pub mod Absent
 pub mod Marked

@@ -5,7 +5,7 @@ ghost use Rattle.std.specs.Prelude.{option_map, replicate, slice_get, slice_inde
 ghost use Rattle.ps_model.specs.board.Movement.{is_number};
 ghost use Rattle.ps_model.specs.declared.limits.TheConstants.{LAYER_LIMIT, SIDE_LIMIT};
 ghost use Rattle.ps_rows.specs.Planes.{HavePlanes};
-ghost use Rattle.ps_rows.specs.RowIndex.{AreRowsMarked};
+ghost use Rattle.ps_rows.specs.RowIndex.{AreRowsIn, AreRowsMarked};
 ghost use Rattle.ps_rows.specs.Sameness.{IsSameLayer};
 ghost use Rattle.ps_rows.specs.Showing.{AreMotionsShown, AreObjectsShown, cleared_from, grid_shown};
 ghost use Rattle.ps_rows.specs.Showing.{motions_from, numbered, object_shown, with_slot_in};
@@ -132,6 +132,19 @@ impl RowBoard {
         ensures { result ≡ slice_index self.now.index.items object }
     {
         self.index[object as usize]
+    }
+
+    /// The rows of a plane that have a column, as a set of their numbers.
+    pub(crate) fn rows_of_plane(&self, plane: u32) -> Columns
+        requires { plane < motions_from self.now.members.table.items self.now.layers }
+        ensures { AreRowsIn self.now.height self.now.words.items plane result }
+    {
+        let mut rows = Columns::none();
+        for row in 0..self.height {
+            let some = self.row(plane, row) != 0;
+            rows = rows.with(row, some);
+        }
+        rows
     }
 
     /// Whether an object is one of a layer, by the table.

@@ -1,10 +1,11 @@
 //! The board of rows, matched by words and rewritten slot by slot.
 
+use crate::motions::motion_plane;
 use crate::planes::has_column;
 use crate::row_board::RowBoard;
 use ps_board::Board;
 use ps_match::{Columns, Rooms, Scan, rewrite_row, write_cell};
-use ps_model::{LayerId, LayeredObject, ObjectId};
+use ps_model::{LayerId, LayeredObject, MotionTest, ObjectId};
 use ps_program::{CellMask, CellWrite};
 
 impl Rooms for RowBoard {
@@ -39,6 +40,19 @@ impl Scan for RowBoard {
             return Columns::none();
         }
         Columns::from_word(self.rows_of(object.object.0))
+    }
+
+    /// The rows that have a column in the plane of the motion; of rest, all.
+    fn rows_moving(&self, test: &MotionTest) -> Columns {
+        let (_width, height) = self.size();
+        if self.layers() <= test.layer.0 {
+            return Columns::below(height);
+        }
+        let first = self.motions_from(test.layer.0);
+        match motion_plane(first, test.motion) {
+            Some(plane) => self.rows_of_plane(plane),
+            None => Columns::below(height),
+        }
     }
 
     fn write(&mut self, write: &CellWrite, cell: u32, changed: bool) -> bool {
