@@ -15,3 +15,7 @@ pub mod RowSets
 pub mod SameRows
 pub mod Absent
 pub mod Marked
+pub mod SpreadWords
+pub mod SpreadLayers
+pub mod Groups
+pub mod GroupsWritten
