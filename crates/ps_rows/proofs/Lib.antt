@@ -16,3 +16,7 @@ pub mod SameRows
 pub mod PlaneRows
 pub mod Absent
 pub mod Marked
+pub mod SpreadWords
+pub mod SpreadLayers
+pub mod Groups
+pub mod GroupsWritten

@@ -1,10 +1,10 @@
-//! The board of rows, matched by words and rewritten slot by slot.
+//! The board of rows, matched and rewritten by words.
 
 use crate::motions::motion_plane;
 use crate::planes::has_column;
 use crate::row_board::RowBoard;
 use ps_board::Board;
-use ps_match::{Columns, Rooms, Scan, rewrite_row, write_cell};
+use ps_match::{Columns, Rooms, Scan, write_cell};
 use ps_model::{LayerId, LayeredObject, MotionTest, ObjectId};
 use ps_program::{CellMask, CellWrite};
 
@@ -64,7 +64,7 @@ impl Scan for RowBoard {
     }
 
     fn rewrite(&mut self, write: &CellWrite, row: u32, columns: Columns) -> bool {
-        rewrite_row(self, write, row, columns)
+        self.rewrite_groups(write, row, columns)
     }
 }
 
