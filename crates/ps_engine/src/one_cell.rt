@@ -34,8 +34,8 @@ pub fn only_cell(rows: &[List<List<CompiledCell>>]) -> Option<&CompiledCell>
     Some(&cells[0])
 }
 
-/// Writes each cell of the board that fits, and answers whether one changed. Rows of the board that lack an object which
-/// the cell needs aren't looked at.
+/// Writes each cell of the board that fits, and answers whether one changed. Rows of the board that lack an object
+/// which the cell needs aren't looked at.
 fn write_all<B: Scan>(board: &mut B, cell: &CompiledCell) -> bool
     ensures rewritten { let before = B.grid board.old in
         let meaning = cell_meaning (B.table board.old) cell.now in

@@ -62,8 +62,8 @@ pub fn ends_across<B: Scan>(
     end_columns(board, parts, shape, row)
 }
 
-/// The columns of a row of the board where the topmost cell of a row of a rule may lie; none, where the row isn't one of
-/// those on which it may begin.
+/// The columns of a row of the board where the topmost cell of a row of a rule may lie; none, where the row isn't one
+/// of those on which it may begin.
 fn ends_down<B: Scan>(
     board: &B,
     parts: &[List<CompiledCell>],
