@@ -7,4 +7,4 @@ pub loop-row-preserved : goal.loop-row-preserved
 loop-row-preserved c =
     let b = c.args.self.now in
     let low : c.loop-row.row < SIDE_LIMIT = omega (arith, c.loop-row-test.true, b.rows) in
-    rw c.with-rows.ensures (one_row_more b.height c.args.plane c.loop-row.row c.row.result b.words.items c.loop-row.rows low c.row.ensures c.loop-row.invariant)
+    rw c.with-rows.ensures (one_row_more b.height c.args.plane c.loop-row.row c.row-some.result b.words.items c.loop-row.rows low c.row-some.ensures c.loop-row.invariant)

@@ -5,7 +5,7 @@ use Rattle.ps_rows.proofs.PlaneRows.{none_moves}
 use Rattle.ps_rows.proofs.row_scan.RowBoardScan.rows_moving.Goals as goal
 
 pub returns-then-layers-test : goal.returns-then-layers-test
-returns-then-layers-test c = all_moving _ c.args.test.now c.size-height.result.1 c.below.result c.size-height.ensures.shape c.size-height.ensures.height c.below.ensures
+returns-then-layers-test c = all_moving _ c.args.test.now c.size-width.result.1 c.below.result c.size-width.ensures.shape c.size-width.ensures.height c.below.ensures
 
 pub returns-in-Some : goal.returns-in-Some
 returns-in-Some c =
@@ -19,4 +19,4 @@ returns-in-Some c =
     c.rows_of_plane.ensures none
 
 pub returns-in-None : goal.returns-in-None
-returns-in-None c = all_moving _ c.args.test.now c.size-height.result.1 c.below.result c.size-height.ensures.shape c.size-height.ensures.height c.below.ensures
+returns-in-None c = all_moving _ c.args.test.now c.size-width.result.1 c.below-in-None.result c.size-width.ensures.shape c.size-width.ensures.height c.below-in-None.ensures
