@@ -111,4 +111,25 @@ mod tests {
         assert!(rt; board.lacks(&SOUGHT));
         Ok(())
     }
+
+    #[test]
+    fn tells_the_rows_in_which_something_moves(rt: HostRuntime) -> Result<(), Fail> {
+        let mut board = RowBoard::try_empty(rt.alloc(), 2, 3, 2, &OWN_LAYERS)?;
+        let acts = MotionTest {
+            layer: LayerId(1),
+            motion: Motion::Acting,
+        };
+        let rests = MotionTest {
+            layer: LayerId(1),
+            motion: Motion::Still,
+        };
+        board.put(4, LayerId(1), Some(ObjectId(2)), Motion::Acting);
+        for row in 0..3u32 {
+            assert_eq!(rt; board.rows_moving(&acts).has(row), row == 1);
+            assert!(rt; board.rows_moving(&rests).has(row));
+        }
+        board.clear_moves();
+        assert!(rt; board.rows_moving(&acts).is_empty());
+        Ok(())
+    }
 }
