@@ -5,4 +5,5 @@ mod SameRows
 pub mod ColumnLaws
 pub mod ColumnWords
 pub mod PassedColumns
+mod Differing
 pub mod CellLaws

@@ -8,7 +8,7 @@ ghost use Rattle.ps_model.specs.declared.limits.TheConstants.{LAYER_LIMIT, SIDE_
 ghost use Rattle.ps_model.specs.declared.pieces.Motion.TheVariants.{Still};
 ghost use Rattle.ps_board.specs.Rooms.{HasRoom, HaveRoom, layer_numbers};
 ghost use Rattle.ps_board.specs.RowsOfGrids.{row_holders, row_movers};
-ghost use Rattle.ps_board.specs.Rows.{HaveSameRow};
+ghost use Rattle.ps_board.specs.Rows.{DifferOnlyIn};
 
 use crate::columns::Columns;
 use ps_model::{LayerId, Memory, Motion, ObjectId};
@@ -124,13 +124,14 @@ pub trait Board: Drop {
         ensures layers { result ≡ true → (grid other.now).layers ≡ (grid self.now).layers }
         ensures table { result ≡ true → table other.now ≡ table self.now };
 
-    /// Whether a row shows the same objects, at rest or not, on another board of the same size, with as many layers and
-    /// the same room. A board may answer `false` of a row that does.
-    fn same_row(&self, other: &Self, row: u32) -> bool
+    /// The columns of a row whose cells may show other objects, at rest or not, than on another board of the same size,
+    /// with as many layers and the same room. The cells of all other columns show the same; a board may name columns
+    /// that do.
+    fn differing(&self, other: &Self, row: u32) -> Columns
         requires row { row < (grid self.now).height }
         requires width { (grid other.now).width ≡ (grid self.now).width }
         requires height { (grid other.now).height ≡ (grid self.now).height }
         requires layers { (grid other.now).layers ≡ (grid self.now).layers }
         requires table { table other.now ≡ table self.now }
-        ensures { result ≡ true → HaveSameRow (grid self.now) (grid other.now) row };
+        ensures { DifferOnlyIn result (grid self.now) (grid other.now) row };
 }
