@@ -4,3 +4,4 @@ pub mod OwnWrites
 pub mod Chosen
 pub mod RowWritten
 pub mod LeftAlone
+pub mod AllRows

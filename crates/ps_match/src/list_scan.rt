@@ -6,7 +6,7 @@ use crate::scan::Scan;
 use crate::scanning::scan_row;
 use crate::writing::write_cell;
 use ps_board::{Board, Columns, ListBoard};
-use ps_model::{LayeredObject, SIDE_LIMIT};
+use ps_model::LayeredObject;
 use ps_program::{CellMask, CellWrite};
 
 impl Scan for ListBoard {
@@ -29,7 +29,8 @@ impl Scan for ListBoard {
 
     /// All rows: to know which, this board would have to look at each cell.
     fn rows_with(&self, _object: &LayeredObject) -> Columns {
-        Columns::below(SIDE_LIMIT)
+        let (_width, height) = self.size();
+        Columns::below(height)
     }
 
     fn write(&mut self, write: &CellWrite, cell: u32, changed: bool) -> bool {

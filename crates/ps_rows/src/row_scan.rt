@@ -4,7 +4,7 @@ use crate::planes::has_column;
 use crate::row_board::RowBoard;
 use ps_board::Board;
 use ps_match::{Columns, Rooms, Scan, rewrite_row, write_cell};
-use ps_model::{LayerId, LayeredObject, ObjectId, SIDE_LIMIT};
+use ps_model::{LayerId, LayeredObject, ObjectId};
 use ps_program::{CellMask, CellWrite};
 
 impl Rooms for RowBoard {
@@ -34,7 +34,8 @@ impl Scan for RowBoard {
     }
 
     fn rows_with(&self, _object: &LayeredObject) -> Columns {
-        Columns::below(SIDE_LIMIT)
+        let (_width, height) = self.size();
+        Columns::below(height)
     }
 
     fn write(&mut self, write: &CellWrite, cell: u32, changed: bool) -> bool {
