@@ -1,13 +1,13 @@
 -- Sets of columns as the bits of words.
 use Rattle.std.proofs.Common.{◌≡◌, ◌≢◌, ◌∙◌, ℕ, ◌+◌, ◌-◌, ◌*◌, ◌/◌, ◌%◌, ◌^◌, ◌<◌, ◌≤◌, ◌&&◌, ◌||◌, ◌⊎◌, inl, inr, not, suc, zero, Bool, true, false, [], ◌∷◌, length, min, max, refl, sym, ap, ap₂, arith, bit_or, w64}
-use Rattle.std.specs.Prelude.{nat_eq, nat_lt, if◌then◌else◌, bit_and}
+use Rattle.std.specs.Prelude.{nat_eq, nat_le, nat_lt, if◌then◌else◌, bit_and}
 use Rattle.std.specs.Int.{bit_at, bit_not, trailing_zeros}
 use Rattle.std.proofs.lemmas.Bool.Decides.{nat_tests}
-use Rattle.std.proofs.lemmas.Nat.{or_lt, pow-add}
-use Rattle.std.proofs.lemmas.Nat.Bits.{bit_at-zero, bit_at-lt, bit_at_and, bit_at_or, bit_at_not, bit_at_above, bit_at_ones, bit_at_ones_above, ones_shr, bit_at_set_same, bit_at_set_other, bit_at_clear_same, bit_at_clear_other, bit_at-trailing_zeros, shr_and_one}
+use Rattle.std.proofs.lemmas.Nat.{or_lt, pow-add, pow_pos, shr_split}
+use Rattle.std.proofs.lemmas.Nat.Bits.{bit_at-zero, bit_at-lt, bit_at_cat_low, bit_at_cat_high, bit_at_and, bit_at_or, bit_at_not, bit_at_above, bit_at_ones, bit_at_ones_above, ones_shr, bit_at_set_same, bit_at_set_other, bit_at_clear_same, bit_at_clear_other, bit_at-trailing_zeros, shr_and_one}
 use Rattle.std.proofs.Math.Nat.{div-div-eq-div-mul, mod-lt}
 use Rattle.ps_model.specs.declared.limits.TheConstants.{SIDE_LIMIT}
-use Rattle.ps_board.specs.ColumnSets.{column_at, set_columns, bit_is_set, word_columns, with_column, both_columns, either_columns, columns_behind, columns_below, columns_without, no_columns}
+use Rattle.ps_board.specs.ColumnSets.{column_at, set_columns, bit_is_set, word_columns, with_column, both_columns, either_columns, columns_ahead, columns_behind, columns_below, columns_without, no_columns}
 use Rattle.ps_board.proofs.ColumnLaws.{column_at-where, column_at-beyond, column_at-all, columns-agree, set_columns-first, set_columns-none}
 
 -- the bits of two words, taken together
@@ -63,6 +63,33 @@ pub moved_out : (word count : ℕ) → SIDE_LIMIT ≤ count → word_columns 0 �
 moved_out word count far =
     zero_word
     ∙ columns-agree (λ x. false) (λ x. column_at (word_columns word) (x + count)) (λ x low. sym (column_at-beyond (bit_is_set word) (x + count) (omega (arith, far))))
+
+-- the bits of a word moved up, and what leaves the word
+kept_bit : (word x : ℕ) → x < 64 → bit_at (word % 2 ^ 64) x ≡ bit_at word x
+kept_bit word x low = sym (bit_at_cat_low (word / 2 ^ 64) 64 (word % 2 ^ 64) x low) ∙ ap (λ (n : ℕ). bit_at n x) (shr_split word 64)
+
+raised_bit : (word count x : ℕ) (behind : Bool) → nat_le count x ≡ behind → x < SIDE_LIMIT →
+    nat_eq (bit_at (word * 2 ^ count) x) 1 ≡ (behind && column_at (word_columns word) (x - count))
+raised_bit word count x true t low =
+    let far : count ≤ x = grind (arith, nat_tests) in
+    let plain : word * 2 ^ count + 0 ≡ word * 2 ^ count = omega arith in
+    ap (λ (bit : ℕ). nat_eq bit 1) (ap (λ (n : ℕ). bit_at n x) (sym plain) ∙ bit_at_cat_high word count 0 x (pow_pos count) far)
+    ∙ sym (column_at-where (bit_is_set word) (x - count) (omega (arith, low)))
+raised_bit word count x false t low =
+    let near : x < count = grind (arith, nat_tests) in
+    let plain : word * 2 ^ count + 0 ≡ word * 2 ^ count = omega arith in
+    ap (λ (bit : ℕ). nat_eq bit 1) (ap (λ (n : ℕ). bit_at n x) (sym plain) ∙ bit_at_cat_low word count 0 x near ∙ bit_at-zero x)
+
+pub raised_word : (word count : ℕ) → word_columns (word * 2 ^ count % 2 ^ 64) ≡ columns_ahead (word_columns word) count
+raised_word word count =
+    columns-agree (bit_is_set (word * 2 ^ count % 2 ^ 64)) (λ x. nat_le count x && column_at (word_columns word) (x - count))
+    (λ x low. ap (λ (bit : ℕ). nat_eq bit 1) (kept_bit (word * 2 ^ count) x low) ∙ raised_bit word count x (nat_le count x) refl low)
+
+pub raised_out : (word count : ℕ) → SIDE_LIMIT ≤ count → word_columns 0 ≡ columns_ahead (word_columns word) count
+raised_out word count far =
+    zero_word
+    ∙ columns-agree (λ x. false) (λ x. nat_le count x && column_at (word_columns word) (x - count))
+    (λ x low. let short : nat_le count x ≡ false = grind (arith, nat_tests, far, low) in sym (ap (λ (b : Bool). b && column_at (word_columns word) (x - count)) short))
 
 -- the lowest bits
 pub below_none : (count : ℕ) → count ≡ 0 → word_columns 0 ≡ columns_below count

@@ -5,4 +5,7 @@ mod SameRows
 pub mod ColumnLaws
 pub mod ColumnWords
 pub mod PassedColumns
+mod Differing
+pub mod OneColumn
+pub mod AllRows
 pub mod CellLaws

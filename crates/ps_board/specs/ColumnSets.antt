@@ -1,6 +1,6 @@
 -- A set of columns of one row of a board, as a list of truth values: value x tells whether column x is in the set.
 -- There are as many values as a board has columns at most.
-use Rattle.std.specs.Prelude.{ℕ, ◌+◌, ◌*◌, ◌^◌, nat_eq, nat_lt, if◌then◌else◌, ◌&&◌, ◌||◌, not, Bool, false, List, [], ◌∷◌, map, filter, slice_get, slice_index_or}
+use Rattle.std.specs.Prelude.{ℕ, ◌+◌, ◌-◌, ◌*◌, ◌^◌, nat_eq, nat_le, nat_lt, if◌then◌else◌, ◌&&◌, ◌||◌, not, Bool, false, List, [], ◌∷◌, map, filter, slice_get, slice_index_or}
 use Rattle.std.specs.List.{range_with_len}
 use Rattle.std.specs.Int.{bit_at}
 use Rattle.ps_model.specs.declared.limits.TheConstants.{SIDE_LIMIT}
@@ -57,6 +57,10 @@ columns_without columns others = columns_where (λ x. column_at columns x && not
 -- the columns so many of whose neighbours to the right on is one of the set
 abbrev pub columns_behind : List Bool → ℕ → List Bool
 columns_behind columns count = columns_where (λ x. column_at columns (x + count))
+
+-- the columns so many of whose neighbours to the left on is one of the set
+abbrev pub columns_ahead : List Bool → ℕ → List Bool
+columns_ahead columns count = columns_where (λ x. nat_le count x && column_at columns (x - count))
 
 -- the cells of a row of a grid that fit
 abbrev pub row_fits : Grid → CellMeaning → ℕ → List Bool

@@ -1,13 +1,14 @@
 -- Rows of a grid, layer by layer: the columns in which something holds of the slot there. No column beyond the width is in such a
 -- set, since there the slot is bare.
-use Rattle.std.specs.Prelude.{ℕ, ◌+◌, ◌*◌, Bool, not, List}
+use Rattle.std.specs.Prelude.{◌≡◌, ◌<◌, ℕ, ◌+◌, ◌*◌, Bool, false, not, List}
+use Rattle.std.specs.List.{list_any}
 use Rattle.ps_model.specs.declared.pieces.ObjectId.{ObjectId}
 use Rattle.ps_model.specs.declared.pieces.Motion.TheVariants.{Still}
 use Rattle.ps_model.specs.declared.pieces.Slot.{Slot}
-use Rattle.ps_model.specs.board.Grid.{Grid, motion_in, slot_at}
+use Rattle.ps_model.specs.board.Grid.{Grid, cell_at, motion_in, slot_at}
 use Rattle.ps_model.specs.meaning.Compiled.{slot_holds}
 use Rattle.ps_model.specs.meaning.Fitting.{same_motion}
-use Rattle.ps_board.specs.ColumnSets.{columns_where}
+use Rattle.ps_board.specs.ColumnSets.{column_at, columns_where}
 
 -- the object of the slot is about to do something
 abbrev pub is_moving : Slot → Bool
@@ -24,3 +25,8 @@ row_movers g layer row = row_slots is_moving g layer row
 -- the columns of a row in which an object stands on a layer
 abbrev pub row_holders : Grid → ObjectId → ℕ → ℕ → List Bool
 row_holders g object layer row = row_slots (slot_holds object) g layer row
+
+-- on the rows whose numbers aren't in a set no slot passes a test
+abbrev pub PassOnlyOn : (Slot → Bool) → Grid → List Bool → Type 0
+PassOnlyOn passes g rows =
+    (row : ℕ) → row < g.height → column_at rows row ≡ false → (x : ℕ) → x < g.width → list_any passes (cell_at g (x * g.height + row)) ≡ false

@@ -6,9 +6,11 @@ ghost use Rattle.ps_model.specs.board.Grid.{motion_in, object_in, slot_at, slot_
 ghost use Rattle.ps_model.specs.board.Turns.{same_cells};
 ghost use Rattle.ps_model.specs.declared.limits.TheConstants.{LAYER_LIMIT, SIDE_LIMIT};
 ghost use Rattle.ps_model.specs.declared.pieces.Motion.TheVariants.{Still};
+ghost use Rattle.ps_model.specs.meaning.Compiled.{slot_holds};
 ghost use Rattle.ps_board.specs.Rooms.{HasRoom, HaveRoom, layer_numbers};
-ghost use Rattle.ps_board.specs.RowsOfGrids.{row_holders, row_movers};
-ghost use Rattle.ps_board.specs.Rows.{HaveSameRow};
+ghost use Rattle.ps_board.specs.ColumnSets.{column_at};
+ghost use Rattle.ps_board.specs.RowsOfGrids.{PassOnlyOn, is_moving, row_holders, row_movers};
+ghost use Rattle.ps_board.specs.Rows.{AreAlike, DifferOnlyIn, DifferOnlyOn};
 
 use crate::columns::Columns;
 use ps_model::{LayerId, Memory, Motion, ObjectId};
@@ -117,6 +119,24 @@ pub trait Board: Drop {
         requires row { row < (grid self.now).height }
         ensures { result ≡ row_holders (grid self.now) object layer.0 row };
 
+    /// Rows, as a set of their numbers, without which nothing on the board is about to move or to act. There may be more
+    /// of them, and all of them, as a board needn't look for it.
+    fn rows_moving_any(&self) -> Columns
+        ensures { PassOnlyOn is_moving (grid self.now) result };
+
+    /// Rows, as a set of their numbers, without which an object stands nowhere, on whatever layer. There may be more of
+    /// them, and all of them, as a board needn't look for it.
+    fn rows_holding(&self, object: ObjectId) -> Columns
+        ensures { PassOnlyOn (slot_holds object) (grid self.now) result };
+
+    /// Columns of a row whose cells show the same objects, at rest or not, as one of them does, itself among them. There
+    /// may be others, as a board needn't look for them.
+    fn alike(&self, row: u32, column: u32) -> Columns
+        requires row { row < (grid self.now).height }
+        requires column { column < (grid self.now).width }
+        ensures own { column_at result column ≡ true }
+        ensures alike { AreAlike result (grid self.now) row column };
+
     /// Whether another board has the same size, as many layers and the same room.
     fn is_alike(&self, other: &Self) -> bool
         ensures width { result ≡ true → (grid other.now).width ≡ (grid self.now).width }
@@ -124,13 +144,35 @@ pub trait Board: Drop {
         ensures layers { result ≡ true → (grid other.now).layers ≡ (grid self.now).layers }
         ensures table { result ≡ true → table other.now ≡ table self.now };
 
-    /// Whether a row shows the same objects, at rest or not, on another board of the same size, with as many layers and
-    /// the same room. A board may answer `false` of a row that does.
-    fn same_row(&self, other: &Self, row: u32) -> bool
+    /// The columns of a row whose cells may show other objects, at rest or not, than on another board of the same size,
+    /// with as many layers and the same room. The cells of all other columns show the same; a board may name columns
+    /// that do.
+    fn differing(&self, other: &Self, row: u32) -> Columns
         requires row { row < (grid self.now).height }
         requires width { (grid other.now).width ≡ (grid self.now).width }
         requires height { (grid other.now).height ≡ (grid self.now).height }
         requires layers { (grid other.now).layers ≡ (grid self.now).layers }
         requires table { table other.now ≡ table self.now }
-        ensures { result ≡ true → HaveSameRow (grid self.now) (grid other.now) row };
+        ensures { DifferOnlyIn result (grid self.now) (grid other.now) row };
+
+    /// Rows, as a set of their numbers, outside of which another board of the same size, with as many layers and the same
+    /// room, shows the same objects, at rest or not. There may be more of them, and all of them, as a board needn't look
+    /// for it.
+    fn rows_differing(&self, other: &Self) -> Columns
+        requires width { (grid other.now).width ≡ (grid self.now).width }
+        requires height { (grid other.now).height ≡ (grid self.now).height }
+        requires layers { (grid other.now).layers ≡ (grid self.now).layers }
+        requires table { table other.now ≡ table self.now }
+        ensures { DifferOnlyOn result (grid self.now) (grid other.now) };
+
+    /// Makes another board of the same size, with as many layers and the same room, show what this one does, at rest.
+    /// Outside of these rows the other board shows the same objects already.
+    fn copy_rows(&self, other: &mut Self, rows: Columns)
+        requires width { (grid other.old).width ≡ (grid self.now).width }
+        requires height { (grid other.old).height ≡ (grid self.now).height }
+        requires layers { (grid other.old).layers ≡ (grid self.now).layers }
+        requires table { table other.old ≡ table self.now }
+        requires same { DifferOnlyOn rows (grid self.now) (grid other.old) }
+        ensures grid { grid other.new ≡ at_rest (grid self.now) }
+        ensures table { table other.new ≡ table self.now };
 }

@@ -2,7 +2,8 @@
 
 ghost use Rattle.std.specs.Prelude.{◌≡◌, ◌<◌, [], ◌∷◌, None, IfSome, false, length, true};
 ghost use Rattle.ps_model.specs.declared.limits.TheConstants.{SIDE_LIMIT};
-ghost use Rattle.ps_board.specs.ColumnSets.{both_columns, column_at, columns_behind, columns_below};
+ghost use Rattle.ps_board.specs.ColumnSets.{both_columns, column_at, columns_ahead, columns_behind};
+ghost use Rattle.ps_board.specs.ColumnSets.{columns_below};
 ghost use Rattle.ps_board.specs.ColumnSets.{columns_without, either_columns};
 ghost use Rattle.ps_board.specs.ColumnSets.{no_columns, set_columns, with_column, word_columns};
 
@@ -139,6 +140,27 @@ impl Columns {
         Columns {
             bits: bits >> count,
         }
+    }
+
+    /// The columns so many of whose neighbours to the left on is in the set: each one moves right by `count`, and none
+    /// stays that would move beyond the last one.
+    pub fn ahead(self, count: u32) -> Columns
+        ensures { result ≡ columns_ahead self count }
+    {
+        let bits = self.bits;
+        if SIDE_LIMIT <= count {
+            return Columns { bits: 0 };
+        }
+        Columns {
+            bits: bits << count,
+        }
+    }
+
+    /// The word whose set bits are the columns, column 0 its lowest bit.
+    pub fn word(self) -> u64
+        ensures { word_columns result ≡ self }
+    {
+        self.bits
     }
 
     /// Takes the leftmost column out of the set; nothing, where there is none.

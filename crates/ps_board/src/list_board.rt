@@ -204,17 +204,43 @@ impl Board for ListBoard {
         holding
     }
 
+    /// All rows: to know which, this board would have to look at each cell.
+    fn rows_moving_any(&self) -> Columns {
+        Columns::below(self.height)
+    }
+
+    /// All rows, likewise.
+    fn rows_holding(&self, _object: ObjectId) -> Columns {
+        Columns::below(self.height)
+    }
+
+    /// That column alone.
+    fn alike(&self, _row: u32, column: u32) -> Columns {
+        Columns::none().with(column, true)
+    }
+
     fn is_alike(&self, other: &ListBoard) -> bool {
         self.width == other.width && self.height == other.height && self.layers == other.layers
     }
 
-    fn same_row(&self, other: &ListBoard, row: u32) -> bool {
+    fn differing(&self, other: &ListBoard, row: u32) -> Columns {
+        let mut differing = Columns::none();
         for column in 0..self.width {
-            if !self.same_cell(other, column * self.height + row) {
-                return false;
-            }
+            let same = self.same_cell(other, column * self.height + row);
+            differing = differing.with(column, !same);
         }
-        true
+        differing
+    }
+
+    /// All rows, likewise.
+    fn rows_differing(&self, _other: &ListBoard) -> Columns {
+        Columns::below(self.height)
+    }
+
+    /// The whole board is copied.
+    fn copy_rows(&self, other: &mut ListBoard, _rows: Columns) {
+        self.copy_into(other);
+        other.clear_moves();
     }
 }
 
@@ -294,14 +320,15 @@ mod tests {
     }
 
     #[test]
-    fn tells_which_rows_are_the_same(rt: HostRuntime) -> Result<(), Fail> {
+    fn tells_which_columns_differ(rt: HostRuntime) -> Result<(), Fail> {
         let mut board = ListBoard::try_empty(rt.alloc(), 2, 3, 1, &[])?;
         let other = board.try_copy(rt.alloc())?;
         board.put(4, LayerId(0), Some(CRATE), Motion::Still);
         assert!(rt; board.is_alike(&other));
-        assert!(rt; board.same_row(&other, 0));
-        assert!(rt; !board.same_row(&other, 1));
-        assert!(rt; board.same_row(&other, 2));
+        assert!(rt; board.differing(&other, 0).is_empty());
+        assert!(rt; !board.differing(&other, 1).has(0));
+        assert!(rt; board.differing(&other, 1).has(1));
+        assert!(rt; board.differing(&other, 2).is_empty());
         let wider = ListBoard::try_empty(rt.alloc(), 3, 3, 1, &[])?;
         assert!(rt; !board.is_alike(&wider));
         Ok(())

@@ -6,7 +6,7 @@ use crate::scan::Scan;
 use crate::scanning::scan_row;
 use crate::writing::write_cell;
 use ps_board::{Board, Columns, ListBoard};
-use ps_model::LayeredObject;
+use ps_model::{LayeredObject, MotionTest};
 use ps_program::{CellMask, CellWrite};
 
 impl Scan for ListBoard {
@@ -29,6 +29,12 @@ impl Scan for ListBoard {
 
     /// All rows: to know which, this board would have to look at each cell.
     fn rows_with(&self, _object: &LayeredObject) -> Columns {
+        let (_width, height) = self.size();
+        Columns::below(height)
+    }
+
+    /// All rows, likewise.
+    fn rows_moving(&self, _test: &MotionTest) -> Columns {
         let (_width, height) = self.size();
         Columns::below(height)
     }

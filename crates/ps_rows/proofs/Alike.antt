@@ -56,7 +56,7 @@ differ_not a b x same = elim (bit_cases a x) [
   ]
 ]
 
-not_differ : (a b x : ℕ) → has_column (bit_xor a b) x ≡ false → has_column a x ≡ has_column b x
+pub not_differ : (a b x : ℕ) → has_column (bit_xor a b) x ≡ false → has_column a x ≡ has_column b x
 not_differ a b x none = elim (bit_cases a x) [
   | inl e ↦ elim (bit_cases b x) [
     | inl f ↦ column_off a x e ∙ sym (column_off b x f)

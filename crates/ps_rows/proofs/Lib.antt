@@ -12,6 +12,7 @@ pub mod Scans
 pub mod Rows
 pub mod Alike
 pub mod RowSets
+pub mod Differences
 pub mod SameRows
 pub mod Absent
 pub mod Marked

@@ -1,5 +1,5 @@
 -- Two boards of the same size for the same game: where their words have the same cells.
-use Rattle.std.specs.Prelude.{◌≡◌, ◌<◌, ◌+◌, ◌*◌, ℕ, nat_eq, true, List, slice_index}
+use Rattle.std.specs.Prelude.{◌≡◌, ◌<◌, ◌+◌, ◌*◌, ℕ, nat_eq, true, false, List, slice_index}
 use Rattle.std.specs.List.{list_any}
 use Rattle.ps_rows.specs.Planes.{has_column}
 use Rattle.ps_rows.specs.Showing.{slot_shown}
@@ -22,7 +22,7 @@ abbrev pub IsSameLayer : List ℕ → ℕ → ℕ → List ℕ → List ℕ → 
 IsSameLayer table width height first second layer = (cell : ℕ) → cell < width * height →
     slot_shown table height first cell layer ≡ slot_shown table height second cell layer
 
--- the first planes, so many, have the same word for a row
-abbrev pub AreSameWords : ℕ → ℕ → ℕ → List ℕ → List ℕ → Type 0
-AreSameWords height row planes first second = (plane : ℕ) → plane < planes →
-    slice_index first (plane * height + row) ≡ slice_index second (plane * height + row)
+-- a word has each column in which the words of a row differ, in so many planes, the first ones
+abbrev pub HasDifferences : ℕ → ℕ → ℕ → List ℕ → List ℕ → ℕ → Type 0
+HasDifferences height row planes first second word = (plane x : ℕ) → plane < planes → has_column word x ≡ false →
+    has_column (slice_index first (plane * height + row)) x ≡ has_column (slice_index second (plane * height + row)) x

@@ -13,7 +13,7 @@ ghost use Rattle.ps_rows.specs.Showing.{motions_from, numbered, object_shown, wi
 use crate::members::Members;
 use crate::motions::{choose_motion, first_motion};
 use crate::planes::{choose_plane, first_plane, mark_rows, plane_row};
-use crate::sameness::{same_planes, same_words};
+use crate::sameness::{differing_row, same_planes};
 use crate::scanning::columns;
 use ps_board::{Board, Columns};
 use ps_model::{LayerId, LayeredObject, Memory, Motion, MotionTest, ObjectId};
@@ -300,6 +300,21 @@ impl Board for RowBoard {
         true
     }
 
+    /// All rows.
+    fn rows_moving_any(&self) -> Columns {
+        Columns::below(self.height)
+    }
+
+    /// All rows.
+    fn rows_holding(&self, _object: ObjectId) -> Columns {
+        Columns::below(self.height)
+    }
+
+    /// That column alone.
+    fn alike(&self, _row: u32, column: u32) -> Columns {
+        Columns::none().with(column, true)
+    }
+
     fn is_alike(&self, other: &RowBoard) -> bool {
         self.width == other.width
             && self.height == other.height
@@ -308,11 +323,22 @@ impl Board for RowBoard {
     }
 
     /// The words of the row are compared, in the planes of all objects.
-    fn same_row(&self, other: &RowBoard, row: u32) -> bool {
+    fn differing(&self, other: &RowBoard, row: u32) -> Columns {
         let objects = self.members.count();
         let here = self.words.as_slice();
         let there = other.words.as_slice();
-        same_words(here, there, self.height, row, objects)
+        Columns::from_word(differing_row(here, there, self.height, row, objects))
+    }
+
+    /// All rows.
+    fn rows_differing(&self, _other: &RowBoard) -> Columns {
+        Columns::below(self.height)
+    }
+
+    /// The whole board is copied.
+    fn copy_rows(&self, other: &mut RowBoard, _rows: Columns) {
+        self.copy_into(other);
+        other.clear_moves();
     }
 }
 
@@ -397,16 +423,17 @@ mod tests {
     }
 
     #[test]
-    fn tells_which_rows_are_the_same(rt: HostRuntime) -> Result<(), Fail> {
+    fn tells_which_columns_differ(rt: HostRuntime) -> Result<(), Fail> {
         let mut board = RowBoard::try_empty(rt.alloc(), 2, 3, 2, &OWN_LAYERS)?;
         let other = board.try_copy(rt.alloc())?;
         board.put(4, LayerId(1), Some(ObjectId(2)), Motion::Still);
         board.put(5, LayerId(1), Some(ObjectId(2)), Motion::Still);
         board.put(5, LayerId(1), None, Motion::Still);
         assert!(rt; board.is_alike(&other));
-        assert!(rt; board.same_row(&other, 0));
-        assert!(rt; !board.same_row(&other, 1));
-        assert!(rt; board.same_row(&other, 2));
+        assert!(rt; board.differing(&other, 0).is_empty());
+        assert!(rt; !board.differing(&other, 1).has(0));
+        assert!(rt; board.differing(&other, 1).has(1));
+        assert!(rt; board.differing(&other, 2).is_empty());
         let turned = RowBoard::try_empty(rt.alloc(), 3, 2, 2, &OWN_LAYERS)?;
         assert!(rt; !board.is_alike(&turned));
         let fewer = RowBoard::try_empty(rt.alloc(), 2, 3, 2, &[LayerId(1)])?;

@@ -4,7 +4,7 @@ use crate::planes::has_column;
 use crate::row_board::RowBoard;
 use ps_board::Board;
 use ps_match::{Columns, Rooms, Scan, rewrite_row, write_cell};
-use ps_model::{LayerId, LayeredObject, ObjectId};
+use ps_model::{LayerId, LayeredObject, MotionTest, ObjectId};
 use ps_program::{CellMask, CellWrite};
 
 impl Rooms for RowBoard {
@@ -39,6 +39,12 @@ impl Scan for RowBoard {
             return Columns::none();
         }
         Columns::from_word(self.rows_of(object.object.0))
+    }
+
+    /// All rows.
+    fn rows_moving(&self, _test: &MotionTest) -> Columns {
+        let (_width, height) = self.size();
+        Columns::below(height)
     }
 
     fn write(&mut self, write: &CellWrite, cell: u32, changed: bool) -> bool {

@@ -2,7 +2,7 @@
 
 ghost use Rattle.std.specs.Prelude.{◌≡◌, ◌+◌, ◌*◌, ◌<◌, ◌≤◌, length, true};
 ghost use Rattle.ps_rows.specs.Planes.{HavePlanes};
-ghost use Rattle.ps_rows.specs.Sameness.{AreSamePlanes, AreSameRows, AreSameWords, IsSamePlane};
+ghost use Rattle.ps_rows.specs.Sameness.{AreSamePlanes, AreSameRows, HasDifferences, IsSamePlane};
 
 use crate::planes::plane_row;
 
@@ -49,17 +49,16 @@ pub fn same_planes(first: &[u64], second: &[u64], width: u32, height: u32, plane
     true
 }
 
-/// Whether so many planes, the first ones, have the same word for a row on two boards of so many rows.
-pub fn same_words(first: &[u64], second: &[u64], height: u32, row: u32, planes: u32) -> bool
+/// The columns of a row in which so many planes, the first ones, differ on two boards of so many rows.
+pub fn differing_row(first: &[u64], second: &[u64], height: u32, row: u32, planes: u32) -> u64
     requires row { row < height }
     requires first { planes * height ≤ length first.now }
     requires second { planes * height ≤ length second.now }
-    ensures { result ≡ true → AreSameWords height row planes first.now second.now }
+    ensures { HasDifferences height row planes first.now second.now result }
 {
+    let mut differing = 0;
     for plane in 0..planes {
-        if plane_row(first, height, plane, row) != plane_row(second, height, plane, row) {
-            return false;
-        }
+        differing |= plane_row(first, height, plane, row) ^ plane_row(second, height, plane, row);
     }
-    true
+    differing
 }

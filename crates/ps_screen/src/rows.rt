@@ -84,7 +84,7 @@ fn patch_row<B: Board>(
     requires text { text.old ≡ frame_row names.now (B.grid shown.now) row }
     ensures { OnOk result (text.new ≡ frame_row names.now (B.grid board.now) row) }
 {
-    if board.same_row(shown, row) {
+    if board.differing(shown, row).is_empty() {
         return Ok(());
     }
     draw_row(names, ground, board, row, room, text)
