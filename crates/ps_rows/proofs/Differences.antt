@@ -1,5 +1,5 @@
 -- One plane more, whose differences come to those of the planes before it.
-use Rattle.std.proofs.Common.{◌≡◌, ◌∙◌, ℕ, ◌+◌, ◌*◌, ◌<◌, inl, inr, ◌||◌, Bool, true, false, List, refl, sym, ap, arith, get_or, bit_or, bit_xor}
+use Rattle.std.proofs.Common.{◌≡◌, ◌∙◌, ℕ, ◌+◌, ◌*◌, inl, inr, ◌||◌, Bool, true, false, List, refl, sym, arith, get_or, bit_or, bit_xor}
 use Rattle.std.proofs.lemmas.Bool.{cases_eq, false≢true}
 use Rattle.ps_rows.specs.Planes.{has_column}
 use Rattle.ps_rows.specs.Sameness.{HasDifferences}

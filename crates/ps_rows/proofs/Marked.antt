@@ -1,9 +1,9 @@
 -- The index of the rows of objects' planes, behind a change of the planes.
-use Rattle.std.proofs.Common.{◌≡◌, ◌≢◌, ◌∙◌, ℕ, zero, ◌+◌, ◌-◌, ◌*◌, ◌/◌, ◌%◌, ◌<◌, ◌≤◌, inl, inr, Bool, true, false, not, Option, List, [], ◌∷◌, length, get_or, take, drop, replicate, refl, sym, ap, subst, arith}
+use Rattle.std.proofs.Common.{◌≡◌, ◌≢◌, ◌∙◌, ℕ, ◌+◌, ◌-◌, ◌*◌, ◌/◌, ◌%◌, ◌<◌, ◌≤◌, inl, inr, true, false, not, Option, List, [], ◌∷◌, length, get_or, take, drop, replicate, refl, sym, ap, subst, arith}
 use Rattle.std.specs.Prelude.{nat_eq, slice_set}
 use Rattle.std.specs.List.{list_any}
 use Rattle.std.proofs.Math.Nat.{mul-le-mul_left}
-use Rattle.std.proofs.lemmas.Bool.{cases_Bool, cases_eq, eq-eqb, eqb-true, ne_eqb, or_parts, or_right, false≢true}
+use Rattle.std.proofs.lemmas.Bool.{cases_Bool, cases_eq, eq-eqb, ne_eqb, or_parts, or_right, false≢true}
 use Rattle.std.proofs.lemmas.Nat.{same_from_place, mod_below}
 use Rattle.std.proofs.lemmas.List.{get_or-set_same, get_or-set_other, length-set, at_drop_more, at_drop_all, length-take-le, get_or_append_left, get_or-take}
 use Rattle.std.proofs.lemmas.Option.{slice_get_within}
@@ -14,7 +14,7 @@ use Rattle.ps_rows.specs.RowIndex.{AreRowsMarked, has_some, with_mark, with_mark
 use Rattle.ps_rows.specs.Members.{on_layer}
 use Rattle.ps_rows.specs.Showing.{motions_from, motion_plane, motion_planes, with_slot_in, cleared_from}
 use Rattle.ps_rows.proofs.Bits.{has_column-with_same, has_column-with_other}
-use Rattle.ps_rows.proofs.Marks.{behind_first, first_listed, first_of}
+use Rattle.ps_rows.proofs.Marks.{first_listed, first_of}
 use Rattle.ps_rows.proofs.Spans.{listed_member}
 use Rattle.ps_rows.proofs.Moves.{five_false}
 use Rattle.ps_rows.proofs.Rests.{blank_word}

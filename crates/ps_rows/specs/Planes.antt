@@ -1,6 +1,6 @@
 -- Planes of rows of bits, as one flat list of words: row y of a plane is the word at plane * height + y, and its bit x says
 -- whether the plane has the cell in column x of that row.
-use Rattle.std.specs.Prelude.{ℕ, ◌+◌, ◌*◌, ◌/◌, ◌%◌, ◌^◌, ◌==◌, ◌≡◌, ◌<◌, ◌≤◌, nat_eq, length, Bool, true, false, Option, List, [], ◌∷◌, slice_index, slice_set, bit_and, bit_or}
+use Rattle.std.specs.Prelude.{ℕ, ◌+◌, ◌*◌, ◌/◌, ◌%◌, ◌^◌, ◌==◌, ◌≡◌, ◌≤◌, nat_eq, length, Bool, true, false, Option, List, [], ◌∷◌, slice_index, slice_set, bit_and, bit_or}
 use Rattle.std.specs.List.{list_any}
 use Rattle.std.specs.Int.{bit_at, bit_not, w64}
 use Rattle.ps_model.specs.board.Movement.{is_number}

@@ -1,7 +1,4 @@
-use Rattle.std.proofs.Common.{◌≡◌, ◌+◌, ◌*◌, ◌<◌, ◌≤◌, ◌∙◌, ap, length, get_or, arith, refl}
-use Rattle.std.specs.Prelude.{not, nat_eq, slice_set}
-use Rattle.ps_rows.specs.Planes.{with_column}
-use Rattle.ps_rows.specs.RowIndex.{with_mark}
+use Rattle.std.proofs.Common.{◌<◌, ◌≤◌, length, get_or, arith}
 use Rattle.ps_rows.proofs.Marks.{listed_at}
 use Rattle.ps_rows.proofs.Marked.{marked_more, marked_all, marks_within, mark_made}
 use Rattle.ps_rows.proofs.planes.mark_rows.Goals as goal

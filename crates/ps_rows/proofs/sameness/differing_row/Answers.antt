@@ -1,4 +1,3 @@
-use Rattle.std.proofs.Common.{◌∙◌}
 use Rattle.ps_rows.proofs.Differences.{one_plane_more}
 use Rattle.ps_rows.proofs.sameness.differing_row.Goals as goal
 
