@@ -1,5 +1,5 @@
 -- Rows of frames: which are the same, and what they make together.
-use Rattle.std.proofs.Common.{◌≡◌, ℕ, zero, suc, ◌+◌, ◌*◌, ◌<◌, ◌≤◌, List, [], ◌∷◌, ◌++◌, length, length-take, take, map, refl, sym, ap, ap₂, ◌∙◌, arith}
+use Rattle.std.proofs.Common.{◌≡◌, ℕ, zero, suc, ◌+◌, ◌*◌, ◌<◌, ◌≤◌, Bool, List, [], ◌∷◌, ◌++◌, length, length-take, take, map, refl, sym, ap, ap₂, ◌∙◌, arith}
 use Rattle.std.specs.Prelude.{encode_utf8, codes}
 use Rattle.std.specs.List.{flat_map, range_with_len}
 use Rattle.std.proofs.lemmas.List.{same_lists, get_or-take, get_or_default}
@@ -8,7 +8,10 @@ use Rattle.ps_model.specs.declared.pieces.ObjectId.{ObjectId}
 use Rattle.ps_model.specs.board.Grid.{Grid, cell_at}
 use Rattle.ps_model.specs.names.Names.{Names}
 use Rattle.ps_model.specs.session.Frames.{objects_in, character_of, glyph_of_objects, frame, frame_row, shown_character}
-use Rattle.ps_board.specs.Rows.{HaveSameRow}
+use Rattle.ps_model.specs.declared.limits.TheConstants.{SIDE_LIMIT}
+use Rattle.ps_board.specs.ColumnSets.{set_columns}
+use Rattle.ps_board.specs.Rows.{DifferOnlyIn, HaveSameRow}
+use Rattle.ps_board.proofs.ColumnLaws.{none_in}
 use Rattle.ps_screen.specs.KeptRows.{AreRowsOf}
 
 -- two functions that agree on a range
@@ -33,6 +36,10 @@ same_frame_row names g h row wide high same =
     let below : column < g.width = omega arith in
     ap (λ (n : ℕ). encode_utf8 (shown_character names (cell_at h (column * n + row)))) high
     ∙ sym (same_character names g h (column * g.height + row) (column * g.height + row) (same column below))))
+
+-- no column that differs
+pub none_differs : (columns : List Bool) (g h : Grid) (row : ℕ) → g.width ≤ SIDE_LIMIT → set_columns columns ≡ [] → DifferOnlyIn columns g h row → HaveSameRow g h row
+none_differs columns g h row narrow none only = λ column inside. only column inside (none_in columns column none (omega (arith, inside, narrow)))
 
 flat_map-map : {X Y : Type 0} (f : X → List Y) (xs : List X) → flat_map (λ row. row) (map f xs) ≡ flat_map f xs
 flat_map-map f [] = refl

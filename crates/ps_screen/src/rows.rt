@@ -84,6 +84,7 @@ fn patch_row<B: Board>(
     requires text { text.old ≡ frame_row names.now (B.grid shown.now) row }
     ensures { OnOk result (text.new ≡ frame_row names.now (B.grid board.now) row) }
 {
+    let (_width, _height) = board.size();
     if board.differing(shown, row).is_empty() {
         return Ok(());
     }
