@@ -2,10 +2,13 @@
 use Rattle.std.proofs.Common.{◌≡◌, ℕ, zero, suc, ◌+◌, ◌*◌, ◌<◌, ◌≤◌, Bool, List, [], ◌∷◌, ◌++◌, length, length-take, take, map, refl, sym, ap, ap₂, ◌∙◌, arith}
 use Rattle.std.specs.Prelude.{encode_utf8, codes}
 use Rattle.std.specs.List.{flat_map, range_with_len}
+use Rattle.std.proofs.Math.ListN.{get_or-map}
 use Rattle.std.proofs.lemmas.List.{same_lists, get_or-take, get_or_default}
 use Rattle.std.proofs.lemmas.List.FromFn.{length-map-range_with_len, get_or-map-range_with_len}
 use Rattle.ps_model.specs.declared.pieces.ObjectId.{ObjectId}
-use Rattle.ps_model.specs.board.Grid.{Grid, cell_at}
+use Rattle.ps_model.specs.declared.pieces.Slot.{Slot}
+use Rattle.ps_model.specs.declared.pieces.Slot.TheVariants.{Bare, Holds}
+use Rattle.ps_model.specs.board.Grid.{Grid, at_rest, cell_at, slot_at_rest}
 use Rattle.ps_model.specs.names.Names.{Names}
 use Rattle.ps_model.specs.session.Frames.{objects_in, character_of, glyph_of_objects, frame, frame_row, shown_character}
 use Rattle.ps_model.specs.declared.limits.TheConstants.{SIDE_LIMIT}
@@ -22,7 +25,7 @@ flat_map_same f g a (suc n) agree =
     ap₂ (λ (x y : List _). x ++ y) (agree a here) (flat_map_same f g (a + 1) n (λ k h. let below : k < a + suc n = omega arith in agree k below))
 
 -- what a cell with the same objects is written as
-same_character : (names : Names) (g h : Grid) (a b : ℕ) → objects_in (cell_at g a) ≡ objects_in (cell_at h b) →
+pub same_character : (names : Names) (g h : Grid) (a b : ℕ) → objects_in (cell_at g a) ≡ objects_in (cell_at h b) →
     encode_utf8 (shown_character names (cell_at g a)) ≡ encode_utf8 (shown_character names (cell_at h b))
 same_character names g h a b e = ap (λ (objects : List ObjectId). encode_utf8 (character_of (glyph_of_objects names objects))) e
 
@@ -61,3 +64,22 @@ rows_joined names g texts rows =
     ∙ rows.each k below
     ∙ sym (get_or-map-range_with_len (frame_row names g) 0 g.height k k d below (omega arith))) in
     ap (λ (text : List ℕ). text ++ codes "\n") (ap (flat_map (λ row. row)) each ∙ flat_map-map (frame_row names g) (range_with_len 0 g.height))
+
+-- objects at rest are the same objects
+same_at_rest : (cell : List Slot) → objects_in (map slot_at_rest cell) ≡ objects_in cell
+same_at_rest [] = refl
+same_at_rest (Bare ∷ cell) = same_at_rest cell
+same_at_rest (Holds object motion ∷ cell) = ap (λ (objects : List ObjectId). object ∷ objects) (same_at_rest cell)
+
+cell_at_rest : (g : Grid) (n : ℕ) → cell_at (at_rest g) n ≡ map slot_at_rest (cell_at g n)
+cell_at_rest g n = get_or-map (map slot_at_rest) g.cells n []
+
+-- so a board at rest has the same frame
+pub rows_at_rest : (names : Names) (g h : Grid) (texts : List (List ℕ)) → h ≡ at_rest g → AreRowsOf names g texts → AreRowsOf names h texts
+rows_at_rest names g h texts rest rows =
+    rw rest
+    record {
+      long = rows.long;
+      each = λ row under. rows.each row under ∙ same_frame_row names (at_rest g) g row refl refl (λ column inside.
+          ap objects_in (cell_at_rest g (column * g.height + row)) ∙ same_at_rest (cell_at g (column * g.height + row)));
+    }

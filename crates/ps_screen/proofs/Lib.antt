@@ -1,3 +1,6 @@
 mod KeptRows
 mod Objects
 mod Painting
+mod Taken
+mod PlainRows
+mod Groups

@@ -6,6 +6,7 @@
 mod cells;
 mod glyphs;
 mod meanings;
+mod patching;
 mod picture;
 mod rows;
 mod screen;

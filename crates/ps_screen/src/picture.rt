@@ -81,8 +81,8 @@ impl<'g, B: Board> Picture<'g, B> {
     }
 }
 
-/// Makes these texts the rows of a board's frame, and gives a board that shows the same. If they were the rows of
-/// another board alike, takes over those that show the same, and gives that board.
+/// Makes these texts the rows of a board's frame, and gives a board with the same frame. If they were the rows of
+/// another board alike, takes over what shows the same, and gives that board, which has what changed then.
 ///
 /// # Errors
 ///
@@ -98,13 +98,22 @@ fn redraw<B: Board>(
 ) -> Result<B, Memory>
     requires ground { ground.0 ≡ background_layer names.now }
     requires texts { IfSome shown (λ before. AreRowsOf names.now (B.grid before) texts.old.items) }
-    ensures grid { IfOk result (λ same. B.grid same ≡ B.grid board.now) }
     ensures texts { OnOk result (AreRowsOf names.now (B.grid board.now) texts.new.items) }
+    ensures kept { IfOk result (λ same. AreRowsOf names.now (B.grid same) texts.new.items) }
 {
     if let Some(mut before) = shown {
         if board.is_alike(&before) {
-            patch_rows(names, ground, &before, board, room, texts.as_mut_slice())?;
-            board.copy_into(&mut before);
+            let rows = board.rows_differing(&before);
+            patch_rows(
+                names,
+                ground,
+                &before,
+                board,
+                rows,
+                room,
+                texts.as_mut_slice(),
+            )?;
+            board.copy_rows(&mut before, rows);
             return Ok(before);
         }
     }

@@ -3,11 +3,13 @@
 ghost use Rattle.std.specs.Prelude.{◌≡◌, ◌++◌, ◌<◌, ◌≤◌, OnOk, length};
 ghost use Rattle.ps_model.specs.board.Levels.{background_layer};
 ghost use Rattle.ps_model.specs.session.Frames.{frame_row};
+ghost use Rattle.ps_board.specs.Rows.{DifferOnlyOn};
 ghost use Rattle.ps_screen.specs.KeptRows.{AreRowsOf};
 
 use crate::cells::{Room, cell_character};
+use crate::patching::patch_columns;
 use crate::screen::Screen;
-use ps_board::Board;
+use ps_board::{Board, Columns};
 use ps_model::{LayerId, Memory};
 use ps_names::Names;
 
@@ -35,8 +37,8 @@ pub fn draw_rows<B: Board>(
     Ok(())
 }
 
-/// Makes these texts, the rows of the frame of one board, those of another board alike: takes over each row that shows
-/// the same, and makes the others.
+/// Makes these texts, the rows of the frame of one board, those of another board alike, which shows the same objects
+/// outside of these rows: takes over what shows the same, and draws the rest.
 ///
 /// # Errors
 ///
@@ -46,6 +48,7 @@ pub fn patch_rows<B: Board>(
     ground: LayerId,
     shown: &B,
     board: &B,
+    rows: Columns,
     room: &mut Room,
     texts: &mut [Screen],
 ) -> Result<(), Memory>
@@ -54,18 +57,25 @@ pub fn patch_rows<B: Board>(
     requires height { (B.grid shown.now).height ≡ (B.grid board.now).height }
     requires layers { (B.grid shown.now).layers ≡ (B.grid board.now).layers }
     requires table { B.table shown.now ≡ B.table board.now }
+    requires rows { DifferOnlyOn rows (B.grid board.now) (B.grid shown.now) }
     requires texts { AreRowsOf names.now (B.grid shown.now) texts.old }
     ensures { OnOk result (AreRowsOf names.now (B.grid board.now) texts.new) }
 {
     let (_, height) = board.size();
-    for row in 0..height {
+    let mut left = rows.both(Columns::below(height));
+    while let Some(row) = left.take_first() {
         let text = &mut texts[row as usize];
         patch_row(names, ground, shown, board, row, room, text)?;
     }
     Ok(())
 }
 
-/// Makes a text, a row of the frame of one board, that of another board alike: leaves it, if the row shows the same.
+/// Makes a text, a row of the frame of one board, that of another board alike: where its bytes are its columns, those
+/// alone are drawn that differ.
+///
+/// # Errors
+///
+/// `Memory`, and the text is of no use.
 fn patch_row<B: Board>(
     names: &Names,
     ground: LayerId,
@@ -84,8 +94,16 @@ fn patch_row<B: Board>(
     requires text { text.old ≡ frame_row names.now (B.grid shown.now) row }
     ensures { OnOk result (text.new ≡ frame_row names.now (B.grid board.now) row) }
 {
-    let (_width, _height) = board.size();
-    if board.differing(shown, row).is_empty() {
+    let (width, _height) = board.size();
+    let differing = board.differing(shown, row).both(Columns::below(width));
+    if differing.is_empty() {
+        return Ok(());
+    }
+    if text.bytes().len() != width as usize + 1 {
+        return draw_row(names, ground, board, row, room, text);
+    }
+    let plain = patch_columns(names, ground, board, row, room, differing, text)?;
+    if plain {
         return Ok(());
     }
     draw_row(names, ground, board, row, room, text)

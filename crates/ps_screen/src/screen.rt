@@ -1,6 +1,7 @@
 //! What is to be written: bytes gathered before they go out.
 
-ghost use Rattle.std.specs.Prelude.{◌≡◌, ◌≤◌, [], ◌++◌, OnOk, OnErr, encode_utf8, length, take, codes};
+ghost use Rattle.std.specs.Prelude.{◌≡◌, ◌<◌, ◌≤◌, [], ◌++◌, OnOk, OnErr, encode_utf8, length, take, codes};
+ghost use Rattle.std.specs.Prelude.{slice_set};
 ghost use Rattle.std.specs.Fmt.{decimal};
 ghost use Rattle.std.specs.List.{flat_map};
 ghost use Rattle.ps_model.specs.session.Frames.{written_line};
@@ -45,6 +46,14 @@ impl Screen {
         ensures { self.new ≡ [] }
     {
         self.text.clear();
+    }
+
+    /// Puts a byte in the place of one of the bytes.
+    pub fn put(&mut self, at: usize, byte: u8)
+        requires { at < length self.old }
+        ensures { self.new ≡ slice_set self.old at byte }
+    {
+        self.text[at] = byte;
     }
 
     /// Keeps the first `count` bytes, or all where there are no more, and the room of all.

@@ -1,0 +1,137 @@
+-- Plain rows are rows of a frame, and rows of a frame with as many bytes as columns, and a line feed, are plain.
+use Rattle.std.proofs.Common.{◌≡◌, ◌∙◌, ℕ, suc, zero, ◌+◌, ◌*◌, ◌<◌, ◌≤◌, ◌&&◌, Bool, true, false, List, [], ◌∷◌, ◌++◌, length, get_or, take, append_assoc, refl, sym, ap, ap₂, arith}
+use Rattle.std.specs.Prelude.{encode_utf8, codes, nat_lt}
+use Rattle.std.specs.List.{flat_map, range_with_len}
+use Rattle.std.proofs.Math.Bool.{and-true}
+use Rattle.std.proofs.lemmas.Bool.{and_parts, lt-ltb}
+use Rattle.std.proofs.lemmas.Bool.Decides.{nat_tests}
+use Rattle.std.proofs.lemmas.List.{length-append}
+use Rattle.std.proofs.lemmas.Str.{length-encode, len_utf8_bounds}
+use Rattle.ps_model.specs.board.Grid.{Grid}
+use Rattle.ps_model.specs.names.Names.{Names}
+use Rattle.ps_model.specs.session.Frames.{frame_row, shown_character}
+use Rattle.ps_model.specs.board.Grid.{cell_at}
+use Rattle.ps_model.specs.declared.limits.TheConstants.{SIDE_LIMIT}
+use Rattle.ps_board.specs.ColumnSets.{both_columns, column_at, columns_below}
+use Rattle.ps_board.specs.Rows.{DifferOnlyIn}
+use Rattle.ps_board.proofs.ColumnLaws.{column_at-where}
+use Rattle.ps_screen.specs.PlainRows.{AreDrawn, IsPlainRow, column_bytes}
+use Rattle.ps_screen.proofs.KeptRows.{same_character}
+
+-- a character has a byte
+some_byte : (c : ℕ) → 0 < length (encode_utf8 c)
+some_byte c = let few = len_utf8_bounds c in omega (arith, length-encode c, few.0)
+
+-- as many bytes as texts at least, where each text has one
+at_least : (f : ℕ → List ℕ) (a n : ℕ) → ((k : ℕ) → 0 < length (f k)) → n ≤ length (flat_map f (range_with_len a n))
+at_least f a zero some = omega arith
+at_least f a (suc n) some =
+    let more = at_least f (a + 1) n some in
+    let one = some a in
+    let long : length (f a ++ flat_map f (range_with_len (a + 1) n)) ≡ length (f a) + length (flat_map f (range_with_len (a + 1) n)) =
+    length-append (f a) (flat_map f (range_with_len (a + 1) n)) in
+    omega (arith, more, one, long)
+
+-- a text of one byte at the head
+one_of : (xs rest : List ℕ) → length xs ≡ 1 → xs ≡ get_or (xs ++ rest) 0 0 ∷ []
+one_of [] rest e = absurd (omega arith)
+one_of (x ∷ []) rest e = refl
+one_of (x ∷ y ∷ xs) rest e = absurd (omega arith)
+
+behind_one : (xs rest : List ℕ) (k : ℕ) → length xs ≡ 1 → get_or (xs ++ rest) (suc k) 0 ≡ get_or rest k 0
+behind_one [] rest k e = absurd (omega arith)
+behind_one (x ∷ []) rest k e = refl
+behind_one (x ∷ y ∷ xs) rest k e = absurd (omega arith)
+
+-- as many bytes as texts: one for each
+one_here : (f : ℕ → List ℕ) (a n : ℕ) → ((k : ℕ) → 0 < length (f k)) → length (flat_map f (range_with_len a (suc n))) ≡ suc n →
+    (length (f a) ≡ 1) × (length (flat_map f (range_with_len (a + 1) n)) ≡ n)
+one_here f a n some long =
+    let more : n ≤ length (flat_map f (range_with_len (a + 1) n)) = at_least f (a + 1) n some in
+    let one : 0 < length (f a) = some a in
+    let all : length (f a ++ flat_map f (range_with_len (a + 1) n)) ≡ length (f a) + length (flat_map f (range_with_len (a + 1) n)) =
+    length-append (f a) (flat_map f (range_with_len (a + 1) n)) in
+    (omega (arith, long, all, more, one), omega (arith, long, all, more, one))
+
+one_each : (f : ℕ → List ℕ) (a n : ℕ) (behind : List ℕ) → ((k : ℕ) → 0 < length (f k)) → length (flat_map f (range_with_len a n)) ≡ n → (k : ℕ) → k < n →
+    f (a + k) ≡ get_or (flat_map f (range_with_len a n) ++ behind) k 0 ∷ []
+one_each f a zero behind some long k low = absurd (omega arith)
+one_each f a (suc n) behind some long zero low =
+    let here : a + 0 ≡ a = omega arith in
+    ap f here ∙ one_of (f a) (flat_map f (range_with_len (a + 1) n) ++ behind) ((one_here f a n some long).0)
+    ∙ ap (λ (xs : List ℕ). get_or xs 0 0 ∷ []) (sym (append_assoc (f a) (flat_map f (range_with_len (a + 1) n)) behind))
+one_each f a (suc n) behind some long (suc k) low =
+    let there : a + suc k ≡ a + 1 + k = omega arith in
+    ap f there ∙ one_each f (a + 1) n behind some ((one_here f a n some long).1) k (omega arith)
+    ∙ ap (λ (b : ℕ). b ∷ []) (sym (behind_one (f a) (flat_map f (range_with_len (a + 1) n) ++ behind) k ((one_here f a n some long).0)))
+    ∙ ap (λ (xs : List ℕ). get_or xs (suc k) 0 ∷ []) (sym (append_assoc (f a) (flat_map f (range_with_len (a + 1) n)) behind))
+
+-- and so the other way
+from_each : (f : ℕ → List ℕ) (a n : ℕ) (text : List ℕ) → n ≤ length text → ((k : ℕ) → k < n → f (a + k) ≡ get_or text k 0 ∷ []) → flat_map f (range_with_len a n) ≡ take n text
+from_each f a zero text long each = refl
+from_each f a (suc n) [] long each = absurd (omega arith)
+from_each f a (suc n) (b ∷ text) long each =
+    let here : a + 0 ≡ a = omega arith in
+    ap₂ (λ (xs ys : List ℕ). xs ++ ys) (ap f (sym here) ∙ each 0 (omega arith))
+    (from_each f (a + 1) n text (omega (arith, long)) (λ k low. let there : a + 1 + k ≡ a + suc k = omega arith in ap f there ∙ each (suc k) (omega arith)))
+
+-- the byte behind a text, and a text without its last byte
+at_end : (xs ys : List ℕ) (n : ℕ) → length xs ≡ n → get_or (xs ++ ys) n 0 ≡ get_or ys 0 0
+at_end [] ys zero e = refl
+at_end [] ys (suc n) e = absurd (omega arith)
+at_end (x ∷ xs) ys zero e = absurd (omega arith)
+at_end (x ∷ xs) ys (suc n) e = at_end xs ys n (omega (arith, e))
+
+cut_last : (text : List ℕ) (n b : ℕ) → length text ≡ n + 1 → get_or text n 0 ≡ b → text ≡ take n text ++ b ∷ []
+cut_last [] n b long e = absurd (omega arith)
+cut_last (x ∷ []) zero b long e = ap (λ (y : ℕ). y ∷ []) e
+cut_last (x ∷ y ∷ text) zero b long e = absurd (omega arith)
+cut_last (x ∷ text) (suc n) b long e = ap (λ (t : List ℕ). x ∷ t) (cut_last text n b (omega (arith, long)) e)
+
+pub plain_of : (names : Names) (g : Grid) (row : ℕ) (text : List ℕ) → text ≡ frame_row names g row → length text ≡ g.width + 1 → IsPlainRow names g row text
+plain_of names g row text is long =
+    let rows : List ℕ = flat_map (column_bytes names g row) (range_with_len 0 g.width) in
+    let all : length (rows ++ codes "\n") ≡ length rows + length (codes "\n") = length-append rows (codes "\n") in
+    let few : length rows ≡ g.width = omega (arith, long, ap (λ (t : List ℕ). length t) is, all) in
+    record {
+      long = long;
+      each = λ x low.
+          let here : 0 + x ≡ x = omega arith in
+          ap (column_bytes names g row) (sym here)
+          ∙ one_each (column_bytes names g row) 0 g.width (codes "\n") (λ k. some_byte (shown_character names (cell_at g (k * g.height + row)))) few x low
+          ∙ ap (λ (t : List ℕ). get_or t x 0 ∷ []) (sym is);
+      end = ap (λ (t : List ℕ). get_or t g.width 0) is ∙ at_end rows (codes "\n") g.width few;
+    }
+
+pub of_plain : (names : Names) (g : Grid) (row : ℕ) (text : List ℕ) → IsPlainRow names g row text → text ≡ frame_row names g row
+of_plain names g row text plain =
+    cut_last text g.width 10 plain.long plain.end
+    ∙ ap (λ (t : List ℕ). t ++ codes "\n")
+    (sym (from_each (column_bytes names g row) 0 g.width text (omega (arith, plain.long)) (λ k low. let here : 0 + k ≡ k = omega arith in ap (column_bytes names g row) here ∙ plain.each k low)))
+
+-- a plain row of one grid, but for the columns of another that may differ
+pub drawn_but : (names : Names) (g h : Grid) (row : ℕ) (columns : List Bool) (text : List ℕ) → h.width ≡ g.width → h.height ≡ g.height → DifferOnlyIn columns g h row → IsPlainRow names h row text →
+    AreDrawn names g row columns text
+drawn_but names g h row columns text wide high only plain =
+    record {
+      long = plain.long ∙ ap (λ (n : ℕ). n + 1) wide;
+      each = λ x under none.
+          same_character names g h (x * g.height + row) (x * g.height + row) (only x under none)
+          ∙ ap (λ (n : ℕ). encode_utf8 (shown_character names (cell_at h (x * n + row)))) (sym high)
+          ∙ plain.each x (rw wide under);
+      end = ap (λ (n : ℕ). get_or text n 0) (sym wide) ∙ plain.end;
+    }
+
+-- columns of the board's width alone
+pub within_width : (columns : List Bool) (width x : ℕ) → x < SIDE_LIMIT → column_at (both_columns columns (columns_below width)) x ≡ true → x < width
+within_width columns width x low has =
+    let both = and_parts (column_at columns x) (column_at (columns_below width) x) (sym (column_at-where (λ y. column_at columns y && column_at (columns_below width) y) x low) ∙ has) in
+    let under : nat_lt x width ≡ true = sym (column_at-where (λ y. nat_lt y width) x low) ∙ both.1 in
+    grind (arith, nat_tests)
+
+pub out_of_both : (columns : List Bool) (width x : ℕ) → x < SIDE_LIMIT → x < width → column_at (both_columns columns (columns_below width)) x ≡ false → column_at columns x ≡ false
+out_of_both columns width x low under none =
+    let below : column_at (columns_below width) x ≡ true = column_at-where (λ y. nat_lt y width) x low ∙ lt-ltb x width under in
+    sym (and-true (column_at columns x))
+    ∙ ap (λ (b : Bool). column_at columns x && b) (sym below)
+    ∙ sym (column_at-where (λ y. column_at columns y && column_at (columns_below width) y) x low) ∙ none
