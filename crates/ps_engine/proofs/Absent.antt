@@ -1,23 +1,27 @@
--- A rule that needs an object which is nowhere on the board has no combination.
-use Rattle.std.proofs.Common.{◌≡◌, ◌∙◌, ℕ, suc, zero, ◌<◌, ◌&&◌, ◌⊎◌, inl, inr, Bool, true, false, cond, Option, Some, None, List, [], ◌∷◌, ◌++◌, length, map, filter, take, get_or, refl, sym, subst, ap, arith}
+-- A rule that needs an object which is nowhere on the board, or asks for a motion that nothing there has, has no combination.
+use Rattle.std.proofs.Common.{◌≡◌, ◌∙◌, ℕ, suc, zero, ◌<◌, ◌+◌, ◌*◌, ◌/◌, ◌%◌, ◌&&◌, ◌⊎◌, inl, inr, Bool, true, false, cond, Option, Some, None, List, [], ◌∷◌, ◌++◌, length, map, filter, take, get_or, refl, sym, subst, ap, arith}
 use Rattle.std.specs.Prelude.{not, slice_get}
 use Rattle.std.specs.List.{flat_map, list_all, list_any, Contains}
 use Rattle.std.proofs.Math.Bool.{and-false}
 use Rattle.std.proofs.lemmas.List.{get_or_default, length-map}
-use Rattle.std.proofs.lemmas.Option.{get_or_from_slice_get}
+use Rattle.std.proofs.lemmas.Nat.{div-add-mod', div_below, mod_below}
+use Rattle.std.proofs.lemmas.Option.{get_or_from_slice_get, slice_get_within}
 use Rattle.std.proofs.lemmas.Grind.{flat_map-append}
 use Rattle.ps_model.specs.declared.pieces.Direction.{Direction}
 use Rattle.ps_model.specs.declared.pieces.Slot.{Slot}
 use Rattle.ps_model.specs.declared.compiled.LayeredObject.{LayeredObject}
-use Rattle.ps_model.specs.board.Grid.{Grid, cell_at}
+use Rattle.ps_model.specs.declared.compiled.MotionTest.{MotionTest}
+use Rattle.ps_model.specs.board.Grid.{Grid, IsGrid, cell_at}
 use Rattle.ps_model.specs.board.Places.{places, fits_along, fits_there, stretches, search_order}
 use Rattle.ps_model.specs.board.Attempts.{combinations}
 use Rattle.ps_model.specs.meaning.Compiled.{is_held_in, moves_as_asked}
 use Rattle.ps_model.specs.meaning.RuleMeanings.{CellMeaning}
 use Rattle.ps_program.specs.declared.cells.CellMask.{CellMask}
 use Rattle.ps_program.specs.declared.cells.CompiledCell.{CompiledCell}
-use Rattle.ps_program.specs.Needs.{cell_needs, part_needs, row_needs, rows_need}
-use Rattle.ps_match.specs.Nowhere.{IsNowhere}
+use Rattle.ps_program.specs.Needs.{asked_by_part, asked_by_row, asked_by_rows, cell_moves, cell_needs, rows_move, rows_need}
+use Rattle.ps_board.specs.ColumnSets.{set_columns}
+use Rattle.ps_board.proofs.ColumnLaws.{none_in}
+use Rattle.ps_match.specs.Nowhere.{HasMovesIn, IsNowhere, NoneMovesOnRow}
 use Rattle.ps_places.specs.Found.{row_meaning}
 use Rattle.ps_places.specs.RowCells.{all_cells}
 use Rattle.ps_places.specs.RowMeanings.{cell_meaning, parts_meaning, meanings_of}
@@ -57,22 +61,21 @@ module _ {X Y : Type 0} (f : X → List Y) where
   source_of [] y (k, low, e) = absurd (omega (arith, low))
   source_of (x ∷ xs) y h = source_by x xs y (source_of xs y) (in_either (f x) (flat_map f xs) y h)
 
--- what the parts need is what their cells need
-needs_joined : (parts : List (List CompiledCell)) → flat_map part_needs parts ≡ flat_map cell_needs (all_cells parts)
-needs_joined [] = refl
-needs_joined (part ∷ parts) = ap (λ (os : List LayeredObject). part_needs part ++ os) (needs_joined parts) ∙ sym (flat_map-append cell_needs part (all_cells parts))
+-- what the parts ask for is what their cells ask for
+asked_joined : {X : Type 0} (asked : CompiledCell → List X) (parts : List (List CompiledCell)) → flat_map (asked_by_part asked) parts ≡ flat_map asked (all_cells parts)
+asked_joined asked [] = refl
+asked_joined asked (part ∷ parts) = ap (λ (xs : List _). asked_by_part asked part ++ xs) (asked_joined asked parts) ∙ sym (flat_map-append asked part (all_cells parts))
 
 none_kept : {X : Type 0} (test : X → Bool) (xs : List X) → ((x : X) → test x ≡ false) → filter test xs ≡ []
 none_kept test [] off = refl
 none_kept test (x ∷ xs) off = ap (λ (b : Bool). cond b (x ∷ filter test xs) (filter test xs)) (off x) ∙ none_kept test xs off
 
--- a cell, a row, a rule --------------------------------------------------------------------------------------------------
+not_all : {X : Type 0} (test : X → Bool) (x : X) → test x ≡ false → (xs : List X) → Contains xs x → list_all test xs ≡ false
+not_all test x off [] (k, low, e) = absurd (omega (arith, low))
+not_all test x off (first ∷ xs) (zero, low, e) = ap (λ (b : Bool). b && list_all test xs) (ap test e ∙ off)
+not_all test x off (first ∷ xs) (suc k, low, e) = ap (λ (b : Bool). test first && b) (not_all test x off xs (k, omega (arith, low), e)) ∙ and-false (test first)
 
-not_all : (slots : List Slot) (object : LayeredObject) → is_held_in slots object ≡ false → (needed : List LayeredObject) → Contains needed object → list_all (is_held_in slots) needed ≡ false
-not_all slots object off [] (k, low, e) = absurd (omega (arith, low))
-not_all slots object off (first ∷ needed) (zero, low, e) = ap (λ (b : Bool). b && list_all (is_held_in slots) needed) (ap (is_held_in slots) e ∙ off)
-not_all slots object off (first ∷ needed) (suc k, low, e) =
-    ap (λ (b : Bool). is_held_in slots first && b) (not_all slots object off needed (k, omega (arith, low), e)) ∙ and-false (is_held_in slots first)
+-- a cell, a row, a rule --------------------------------------------------------------------------------------------------
 
 if_rest : (test rest : Bool) → rest ≡ false → (elim test [ true ↦ rest | false ↦ false ]) ≡ false
 if_rest true rest e = e
@@ -81,60 +84,103 @@ if_rest false rest e = refl
 if_here : (test rest : Bool) → test ≡ false → (elim test [ true ↦ rest | false ↦ false ]) ≡ false
 if_here test rest e = rw e refl
 
-module _ (g : Grid) (table : Option (List ℕ)) (object : LayeredObject) (nowhere : IsNowhere g object) where
-  -- the mask fits no slots that the object isn't among
-  mask_off : (mask : CellMask) (slots : List Slot) → is_held_in slots object ≡ false → Contains mask.needed object →
-      (list_all (is_held_in slots) mask.needed
-      && (not (list_any (is_held_in slots) mask.barred) && (list_all (λ objects. list_any (is_held_in slots) objects) mask.one_of && list_all (moves_as_asked slots) mask.motions)))
-      ≡ false
-  mask_off mask slots off needs =
-      ap (λ (b : Bool). b
-      && (not (list_any (is_held_in slots) mask.barred) && (list_all (λ objects. list_any (is_held_in slots) objects) mask.one_of && list_all (moves_as_asked slots) mask.motions)))
-      (not_all slots object off mask.needed needs)
+-- a cell that asks for that fits nowhere
+abbrev FitsNowhere : {X : Type 0} → Grid → Option (List ℕ) → (CompiledCell → List X) → X → Type 0
+FitsNowhere g table asked x = (cell : CompiledCell) → Contains (asked cell) x → (number : ℕ) → fits_there (cell_meaning table cell) (slice_get g.cells number) ≡ false
 
-  cell_off : (cell : CompiledCell) → Contains cell.mask.needed object → (number : ℕ) (found : Option (List Slot)) → slice_get g.cells number ≡ found → fits_there (cell_meaning table cell) found ≡ false
-  cell_off cell needs number None e = refl
-  cell_off cell needs number (Some slots) e =
-      let same : cell_at g number ≡ slots = get_or_from_slice_get g.cells number slots [] e in
-      mask_off cell.mask slots (ap (λ (s : List Slot). is_held_in s object) (sym same) ∙ nowhere number) needs
-
+module _ {X : Type 0} (g : Grid) (table : Option (List ℕ)) (asked : CompiledCell → List X) (x : X) (nowhere : FitsNowhere g table asked x) where
   -- the cells fit nowhere
-  row_off : (cells : List CompiledCell) (cell : CompiledCell) → Contains cells cell → Contains cell.mask.needed object → (at : List ℕ) → fits_along g (map (cell_meaning table) cells) at ≡ false
-  row_off [] cell (k, low, e) needs at = absurd (omega (arith, low))
-  row_off (first ∷ cells) cell there needs [] = refl
-  row_off (first ∷ cells) cell (zero, low, e) needs (number ∷ at) =
+  row_off : (cells : List CompiledCell) (cell : CompiledCell) → Contains cells cell → Contains (asked cell) x → (at : List ℕ) → fits_along g (map (cell_meaning table) cells) at ≡ false
+  row_off [] cell (k, low, e) asks at = absurd (omega (arith, low))
+  row_off (first ∷ cells) cell there asks [] = refl
+  row_off (first ∷ cells) cell (zero, low, e) asks (number ∷ at) =
       if_here (fits_there (cell_meaning table first) (slice_get g.cells number)) (fits_along g (map (cell_meaning table) cells) at)
-      (ap (λ (c : CompiledCell). fits_there (cell_meaning table c) (slice_get g.cells number)) e ∙ cell_off cell needs number (slice_get g.cells number) refl)
-  row_off (first ∷ cells) cell (suc k, low, e) needs (number ∷ at) =
-      if_rest (fits_there (cell_meaning table first) (slice_get g.cells number)) (fits_along g (map (cell_meaning table) cells) at) (row_off cells cell (k, omega (arith, low), e) needs at)
+      (ap (λ (c : CompiledCell). fits_there (cell_meaning table c) (slice_get g.cells number)) e ∙ nowhere cell asks number)
+  row_off (first ∷ cells) cell (suc k, low, e) asks (number ∷ at) =
+      if_rest (fits_there (cell_meaning table first) (slice_get g.cells number)) (fits_along g (map (cell_meaning table) cells) at) (row_off cells cell (k, omega (arith, low), e) asks at)
 
-  parts_off : (direction : Direction) (parts : List (List CompiledCell)) → Source cell_needs (all_cells parts) object → places g direction (parts_meaning table parts) ≡ []
-  parts_off direction parts (cell, there, needs) =
+  parts_off : (direction : Direction) (parts : List (List CompiledCell)) → Source asked (all_cells parts) x → places g direction (parts_meaning table parts) ≡ []
+  parts_off direction parts (cell, there, asks) =
       let row : List (List CellMeaning) = parts_meaning table parts in
       flat_map-none (λ end. filter (fits_along g _) (stretches g direction (map length row) end)) (search_order g direction)
       (λ end. none_kept (fits_along g _) (stretches g direction (map length row) end)
-      (λ at. ap (λ (ms : List CellMeaning). fits_along g ms at) (cells_in-meant table parts) ∙ row_off (all_cells parts) cell there needs at))
+      (λ at. ap (λ (ms : List CellMeaning). fits_along g ms at) (cells_in-meant table parts) ∙ row_off (all_cells parts) cell there asks at))
 
-  row_without : (direction : Direction) (row : List (List CompiledCell)) → Contains (row_needs row) object → places g direction (row_meaning table row) ≡ []
+  row_without : (direction : Direction) (row : List (List CompiledCell)) → Contains (asked_by_row asked row) x → places g direction (row_meaning table row) ≡ []
   row_without direction row (k, low, e) =
       let parts : List (List CompiledCell) = take 2 row in
-      let needs : Contains (flat_map cell_needs (all_cells parts)) object = rw (← needs_joined parts) (k, low, e) in
-      parts_off direction parts (source_of cell_needs (all_cells parts) object needs)
+      let asks : Contains (flat_map asked (all_cells parts)) x = rw (← asked_joined asked parts) (k, low, e) in
+      parts_off direction parts (source_of asked (all_cells parts) x asks)
 
-  rows_without : (direction : Direction) (rows : List (List (List CompiledCell))) → Source row_needs rows object →
+  rows_without : (direction : Direction) (rows : List (List (List CompiledCell))) → Source (asked_by_row asked) rows x →
       combinations (map (places g direction) (map (row_meaning table) rows)) ≡ []
-  rows_without direction rows (row, (k, low, e), needs) =
+  rows_without direction rows (row, (k, low, e), asks) =
       let at = places g direction in
       let within : k < length (map at (map (row_meaning table) rows)) = rw (length-map (map (row_meaning table) rows) at, length-map rows (row_meaning table)) low in
-      no_combination (map at (map (row_meaning table) rows)) k [] within (get-shown_twice (row_meaning table) at rows k row [] low (sym e) ∙ row_without direction row needs)
+      no_combination (map at (map (row_meaning table) rows)) k [] within (get-shown_twice (row_meaning table) at rows k row [] low (sym e) ∙ row_without direction row asks)
 
-  pub rule_without : (direction : Direction) (rows : List (List (List CompiledCell))) → Contains (rows_need rows) object →
+  pub rule_without : (direction : Direction) (rows : List (List (List CompiledCell))) (asks : List X) (k : ℕ) (d : X) → asks ≡ asked_by_rows asked rows → k < length asks → get_or asks k d ≡ x →
       combinations (map (places g direction) (map (row_meaning table) rows)) ≡ []
-  rule_without direction rows needs = rows_without direction rows (source_of row_needs rows object needs)
+  rule_without direction rows asks k d is low e =
+      let here : Contains asks x = (k, low, get_or_default asks k x d low ∙ e) in
+      rows_without direction rows (source_of (asked_by_row asked) rows x (subst (λ (xs : List X). Contains xs x) is here))
 
--- so where one of the objects that a rule needs is
+-- an object that is nowhere ------------------------------------------------------------------------------------------------
+
+mask_off : (mask : CellMask) (object : LayeredObject) (slots : List Slot) → is_held_in slots object ≡ false → Contains mask.needed object →
+    (list_all (is_held_in slots) mask.needed
+    && (not (list_any (is_held_in slots) mask.barred) && (list_all (λ objects. list_any (is_held_in slots) objects) mask.one_of && list_all (moves_as_asked slots) mask.motions)))
+    ≡ false
+mask_off mask object slots off needs =
+    ap (λ (b : Bool). b
+    && (not (list_any (is_held_in slots) mask.barred) && (list_all (λ objects. list_any (is_held_in slots) objects) mask.one_of && list_all (moves_as_asked slots) mask.motions)))
+    (not_all (is_held_in slots) object off mask.needed needs)
+
+object_off : (g : Grid) (table : Option (List ℕ)) (object : LayeredObject) → IsNowhere g object → (cell : CompiledCell) → Contains (cell_needs cell) object →
+    (number : ℕ) (found : Option (List Slot)) → slice_get g.cells number ≡ found → fits_there (cell_meaning table cell) found ≡ false
+object_off g table object nowhere cell needs number None e = refl
+object_off g table object nowhere cell needs number (Some slots) e =
+    let same : cell_at g number ≡ slots = get_or_from_slice_get g.cells number slots [] e in
+    mask_off cell.mask object slots (ap (λ (s : List Slot). is_held_in s object) (sym same) ∙ nowhere number) needs
+
 pub rule_lacking : (g : Grid) (table : Option (List ℕ)) (direction : Direction) (rows : List (List (List CompiledCell))) (objects : List LayeredObject) (k : ℕ) (d : LayeredObject) →
     objects ≡ rows_need rows → k < length objects → IsNowhere g (get_or objects k d) → combinations (map (places g direction) (map (row_meaning table) rows)) ≡ []
 rule_lacking g table direction rows objects k d is low nowhere =
-    let here : Contains objects (get_or objects k d) = (k, low, get_or_default objects k (get_or objects k d) d low) in
-    rule_without g table (get_or objects k d) nowhere direction rows (subst (λ (os : List LayeredObject). Contains os (get_or objects k d)) is here)
+    rule_without g table cell_needs (get_or objects k d) (λ cell asks number. object_off g table (get_or objects k d) nowhere cell asks number (slice_get g.cells number) refl)
+    direction rows objects k d is low refl
+
+-- a motion that nothing has ------------------------------------------------------------------------------------------------
+
+last_off : (a b c d : Bool) → d ≡ false → (a && (b && (c && d))) ≡ false
+last_off true true true d e = e
+last_off true true false d e = refl
+last_off true false c d e = refl
+last_off false b c d e = refl
+
+-- no row of the board has it
+abbrev pub MovesNowhere : Grid → MotionTest → Type 0
+MovesNowhere g test = (row : ℕ) → row < g.height → NoneMovesOnRow g test row
+
+cell_still : (g : Grid) (table : Option (List ℕ)) (test : MotionTest) → IsGrid g → MovesNowhere g test → (cell : CompiledCell) → Contains (cell_moves cell) test →
+    (number : ℕ) (found : Option (List Slot)) → slice_get g.cells number ≡ found → fits_there (cell_meaning table cell) found ≡ false
+cell_still g table test grid nowhere cell asks number None e = refl
+cell_still g table test grid nowhere cell asks number (Some slots) e =
+    let same : cell_at g number ≡ slots = get_or_from_slice_get g.cells number slots [] e in
+    let inside : number < g.width * g.height = omega (arith, slice_get_within g.cells number slots e, grid.cells) in
+    let column : number / g.height < g.width = div_below number g.height g.width grid.some_row inside in
+    let place : number / g.height * g.height + number % g.height ≡ number = div-add-mod' number g.height in
+    let off = nowhere (number % g.height) (mod_below number g.height grid.some_row) (number / g.height) column in
+    last_off (list_all (is_held_in slots) cell.mask.needed) (not (list_any (is_held_in slots) cell.mask.barred)) (list_all (λ objects. list_any (is_held_in slots) objects) cell.mask.one_of)
+    (list_all (moves_as_asked slots) cell.mask.motions)
+    (not_all (moves_as_asked slots) test
+    (ap (λ (s : List Slot). moves_as_asked s test) (sym same) ∙ ap (λ (n : ℕ). moves_as_asked (cell_at g n) test) (sym place) ∙ off) cell.mask.motions asks)
+
+pub rule_still : (g : Grid) (table : Option (List ℕ)) (direction : Direction) (rows : List (List (List CompiledCell))) (tests : List MotionTest) (k : ℕ) (d : MotionTest) → IsGrid g →
+    tests ≡ rows_move rows → k < length tests → MovesNowhere g (get_or tests k d) → combinations (map (places g direction) (map (row_meaning table) rows)) ≡ []
+rule_still g table direction rows tests k d grid is low nowhere =
+    rule_without g table cell_moves (get_or tests k d) (λ cell asks number. cell_still g table (get_or tests k d) grid nowhere cell asks number (slice_get g.cells number) refl)
+    direction rows tests k d is low refl
+
+-- where no row may have it
+pub moves_nowhere : (g : Grid) (test : MotionTest) (rows : List Bool) → IsGrid g → HasMovesIn g test rows → set_columns rows ≡ [] → MovesNowhere g test
+moves_nowhere g test rows grid has none = λ row under. has row under (none_in rows row none (omega (arith, under, grid.rows)))

@@ -17,9 +17,24 @@ use ps_places::{RowPlaces, find_places, has_place};
 use ps_program::CompiledRule;
 use std::alloc::Global;
 
+/// Whether the board knows that nothing has a motion which a rule asks for; then the rule has no combination. No memory
+/// is taken.
+fn lacks_motion<B: Scan>(board: &B, rule: &CompiledRule) -> bool
+    ensures { result ≡ true →
+        combinations_on (B.grid board.now) (rule_meaning (B.table board.now) rule.now) ≡ [] }
+{
+    let (_width, _height) = board.size();
+    for test in rule.moving.as_slice() {
+        if board.rows_moving(test).is_empty() {
+            return true;
+        }
+    }
+    false
+}
+
 /// Whether the board knows that an object which a rule needs is nowhere; then the rule has no combination. No memory is
 /// taken.
-fn lacks_needed<B: Scan>(board: &B, rule: &CompiledRule) -> bool
+fn lacks_object<B: Scan>(board: &B, rule: &CompiledRule) -> bool
     ensures { result ≡ true →
         combinations_on (B.grid board.now) (rule_meaning (B.table board.now) rule.now) ≡ [] }
 {
@@ -29,6 +44,18 @@ fn lacks_needed<B: Scan>(board: &B, rule: &CompiledRule) -> bool
         }
     }
     false
+}
+
+/// Whether the board knows that it lacks what a rule asks for; then the rule has no combination. Motions come first: in
+/// most attempts nothing moves as it is asked for. No memory is taken.
+fn lacks_needed<B: Scan>(board: &B, rule: &CompiledRule) -> bool
+    ensures { result ≡ true →
+        combinations_on (B.grid board.now) (rule_meaning (B.table board.now) rule.now) ≡ [] }
+{
+    if lacks_motion(board, rule) {
+        return true;
+    }
+    lacks_object(board, rule)
 }
 
 /// The rows of a rule with their places, which are those of the board as it is; nothing, where a row has none.

@@ -1,10 +1,10 @@
-//! The objects that a compiled rule needs.
+//! What a compiled rule asks of a board: objects and motions.
 
 ghost use Rattle.std.specs.Prelude.{◌≡◌, ◌++◌, ◌≤◌, IfOk, OnOk, length, take};
-ghost use Rattle.ps_program.specs.Needs.{part_needs, row_needs, rows_need};
+ghost use Rattle.ps_program.specs.Needs.{asked_by_part, asked_by_row, cell_moves, cell_needs, rows_move, rows_need};
 
 use crate::cells::CompiledCell;
-use ps_model::{LayeredObject, Memory};
+use ps_model::{LayeredObject, Memory, MotionTest};
 use ps_text::List;
 use std::alloc::Global;
 
@@ -19,36 +19,57 @@ pub fn first_parts(row: &[List<CompiledCell>]) -> &[List<CompiledCell>]
     &row[..2]
 }
 
-/// Puts the objects last that a part needs. `Memory` if there is no room for them.
-fn push_part(needed: &mut Vec<LayeredObject>, part: &[CompiledCell]) -> Result<(), Memory>
-    ensures { OnOk result (needed.new.items ≡ needed.old.items ++ part_needs part.now) }
+/// What rows ask of a board, as often as their cells do: the objects that they need, and the motions that they ask for,
+/// rest among them.
+#[derive(Drop)]
+pub struct Asked {
+    pub objects: List<LayeredObject>,
+    pub motions: List<MotionTest>,
+}
+
+/// Puts last what a part asks for. `Memory` if there is no room for it.
+fn push_part(
+    objects: &mut Vec<LayeredObject>,
+    motions: &mut Vec<MotionTest>,
+    part: &[CompiledCell],
+) -> Result<(), Memory>
+    ensures objects { OnOk result (objects.new.items ≡ objects.old.items ++ asked_by_part cell_needs part.now) }
+    ensures motions { OnOk result (motions.new.items ≡ motions.old.items ++ asked_by_part cell_moves part.now) }
 {
     for cell in part {
-        needed.extend_from_slice(cell.mask.needed.as_slice())?;
+        objects.extend_from_slice(cell.mask.needed.as_slice())?;
+        motions.extend_from_slice(cell.mask.motions.as_slice())?;
     }
     Ok(())
 }
 
-/// Puts the objects last that a row needs. `Memory` if there is no room for them.
-fn push_row(needed: &mut Vec<LayeredObject>, row: &[List<CompiledCell>]) -> Result<(), Memory>
-    ensures { OnOk result (needed.new.items ≡ needed.old.items ++ row_needs row.now) }
+/// Puts last what a row asks for. `Memory` if there is no room for it.
+fn push_row(
+    objects: &mut Vec<LayeredObject>,
+    motions: &mut Vec<MotionTest>,
+    row: &[List<CompiledCell>],
+) -> Result<(), Memory>
+    ensures objects { OnOk result (objects.new.items ≡ objects.old.items ++ asked_by_row cell_needs row.now) }
+    ensures motions { OnOk result (motions.new.items ≡ motions.old.items ++ asked_by_row cell_moves row.now) }
 {
     for part in first_parts(row) {
-        push_part(needed, part.as_slice())?;
+        push_part(objects, motions, part.as_slice())?;
     }
     Ok(())
 }
 
-/// The objects that rows need, as often as their cells do. `Memory` if there is no room for them.
-pub fn needs_of(
-    alloc: Global,
-    rows: &[List<List<CompiledCell>>],
-) -> Result<List<LayeredObject>, Memory>
-    ensures { IfOk result (λ needed. needed ≡ rows_need rows.now) }
+/// What rows ask of a board. `Memory` if there is no room for it.
+pub fn asked_by(alloc: Global, rows: &[List<List<CompiledCell>>]) -> Result<Asked, Memory>
+    ensures objects { IfOk result (λ asked. asked.objects ≡ rows_need rows.now) }
+    ensures motions { IfOk result (λ asked. asked.motions ≡ rows_move rows.now) }
 {
-    let mut needed = Vec::new(alloc);
+    let mut objects = Vec::new(alloc);
+    let mut motions = Vec::new(alloc);
     for row in rows {
-        push_row(&mut needed, row.as_slice())?;
+        push_row(&mut objects, &mut motions, row.as_slice())?;
     }
-    Ok(List::from_vec(needed))
+    Ok(Asked {
+        objects: List::from_vec(objects),
+        motions: List::from_vec(motions),
+    })
 }

@@ -1,11 +1,11 @@
 //! A compiled rule.
 
 ghost use Rattle.std.specs.Prelude.{◌≡◌, IfOk};
-ghost use Rattle.ps_program.specs.Needs.{rows_need};
+ghost use Rattle.ps_program.specs.Needs.{rows_move, rows_need};
 
 use crate::cells::CompiledCell;
-use crate::needs::needs_of;
-use ps_model::{Direction, LayeredObject, Memory};
+use crate::needs::asked_by;
+use ps_model::{Direction, LayeredObject, Memory, MotionTest};
 use ps_rules::Commands;
 use ps_text::List;
 use std::alloc::Global;
@@ -24,11 +24,14 @@ pub struct CompiledRule<'r> {
     /// The objects that its cells need, those of all cells one after the other: where a board has not all of them, the
     /// rule has no place there.
     pub needed: List<LayeredObject>,
+    /// The motions that its cells ask for, likewise.
+    pub moving: List<MotionTest>,
     ghost needs: { needed ≡ rows_need rows },
+    ghost moves: { moving ≡ rows_move rows },
 }
 
 impl<'r> CompiledRule<'r> {
-    /// The rule of these rows. `Memory` if there is no room for the objects that it needs.
+    /// The rule of these rows. `Memory` if there is no room for what its cells ask for.
     pub fn try_new(
         alloc: Global,
         direction: Direction,
@@ -41,13 +44,14 @@ impl<'r> CompiledRule<'r> {
         ensures rewrites { IfOk result (λ rule. rule.rewrites ≡ rewrites) }
         ensures commands { IfOk result (λ rule. rule.commands.now ≡ commands.entry.now) }
     {
-        let needed = needs_of(alloc, rows.as_slice())?;
+        let asked = asked_by(alloc, rows.as_slice())?;
         Ok(CompiledRule {
             direction,
             rows,
             rewrites,
             commands,
-            needed,
+            needed: asked.objects,
+            moving: asked.motions,
         })
     }
 }

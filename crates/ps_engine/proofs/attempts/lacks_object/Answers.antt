@@ -1,6 +1,6 @@
 use Rattle.std.proofs.Common.{◌∙◌}
 use Rattle.ps_engine.proofs.Absent.{rule_lacking}
-use Rattle.ps_engine.proofs.attempts.lacks_needed.Goals as goal
+use Rattle.ps_engine.proofs.attempts.lacks_object.Goals as goal
 
 pub returns-then-lacks : goal.returns-then-lacks
 returns-then-lacks g c = λ e.
