@@ -3,6 +3,7 @@ mod SameSlots
 mod RowsPassed
 mod SameRows
 pub mod ColumnLaws
+pub mod Taken
 pub mod ColumnWords
 pub mod PassedColumns
 mod Differing
