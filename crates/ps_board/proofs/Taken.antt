@@ -50,6 +50,24 @@ pub taken_out : (set left : List Bool) (k x : ℕ) → set_columns set ≡ k ∷
 taken_out set left k x is low =
     sym (listed set x low) ∙ ap (list_any (nat_eq x)) is ∙ ap (λ (b : Bool). nat_eq x k || b) (listed left x low)
 
+-- which isn't in it again
+once_by : (f : ℕ → Bool) (a n k : ℕ) (ks : List ℕ) (here : Bool) → f a ≡ here → filter f (range_with_len a n) ≡ k ∷ ks → list_any (nat_eq k) ks ≡ false
+once_by f a zero k ks here e is = absurd (cc)
+once_by f a (suc n) k ks true e is =
+    let same : a ∷ filter f (range_with_len (a + 1) n) ≡ k ∷ ks = ap (λ (b : Bool). cond b (a ∷ filter f (range_with_len (a + 1) n)) (filter f (range_with_len (a + 1) n))) (sym e) ∙ is in
+    let first : a ≡ k = cc in
+    let others : filter f (range_with_len (a + 1) n) ≡ ks = cc in
+    ap (list_any (nat_eq k)) (sym others) ∙ listed_before f (a + 1) n k (f (a + 1)) refl (omega (arith, first))
+once_by f a (suc n) k ks false e is =
+    once_by f (a + 1) n k ks (f (a + 1)) refl (ap (λ (b : Bool). cond b (a ∷ filter f (range_with_len (a + 1) n)) (filter f (range_with_len (a + 1) n))) (sym e) ∙ is)
+
+listed_once : (columns : List Bool) (k : ℕ) (ks : List ℕ) → set_columns columns ≡ k ∷ ks → list_any (nat_eq k) ks ≡ false
+unfolding set_columns
+listed_once columns k ks is = once_by (column_at columns) 0 SIDE_LIMIT k ks (column_at columns 0) refl is
+
+pub taken_gone : (set left : List Bool) (k : ℕ) → set_columns set ≡ k ∷ set_columns left → column_at left k ≡ false
+taken_gone set left k is = let first = first_in set k (set_columns left) is in sym (listed left k first.1) ∙ listed_once set k (set_columns left) is
+
 -- the numbers left are below a count --------------------------------------------------------------------------------------
 
 pub record AreBelow (count : ℕ) (left : List Bool) : Type 0 where

@@ -1,6 +1,6 @@
 -- Places by the columns where they begin.
 use Rattle.std.proofs.Common.{◌≡◌, ◌≢◌, ◌∙◌, ℕ, ◌+◌, ◌-◌, ◌*◌, ◌/◌, ◌%◌, ◌<◌, ◌≤◌, ◌&&◌, ◌||◌, suc, zero, Bool, true, false, cond, Option, List, [], ◌∷◌, ◌++◌, length, map, append_assoc, refl, sym, ap, ap₂, arith}
-use Rattle.std.specs.Prelude.{nat_eq, nat_le, nat_lt, filter, slice_index_or, slice_set, sum}
+use Rattle.std.specs.Prelude.{nat_le, nat_lt, filter, slice_index_or, slice_set, sum}
 use Rattle.std.specs.List.{range_with_len, flat_map}
 use Rattle.std.proofs.lemmas.Bool.Decides.{nat_tests}
 use Rattle.std.proofs.lemmas.List.{get_or-set_same, get_or-set_other}
@@ -9,7 +9,7 @@ use Rattle.std.proofs.Math.Nat.{add-mul, mod-lt}
 use Rattle.ps_model.specs.declared.limits.TheConstants.{SIDE_LIMIT}
 use Rattle.ps_model.specs.board.Grid.{Grid, IsGrid}
 use Rattle.ps_program.specs.declared.cells.CompiledCell.{CompiledCell}
-use Rattle.ps_board.specs.ColumnSets.{column_at, set_columns, either_columns}
+use Rattle.ps_board.specs.ColumnSets.{column_at, set_columns, no_columns, either_columns}
 use Rattle.ps_board.proofs.ColumnLaws.{column_at-where, set_columns-are, first_in, none_in}
 use Rattle.ps_board.proofs.PassedColumns.{cell_below}
 use Rattle.ps_places.specs.declared.shape.Shape.{Shape}
@@ -155,9 +155,6 @@ pub some_mapped : {X : Type 0} (h : ℕ → X) (xs : List ℕ) → 0 < length xs
 some_mapped h [] some = absurd (omega arith)
 some_mapped h (x ∷ xs) some = refl
 
-pub none_mapped : {X : Type 0} (h : ℕ → X) (xs : List ℕ) → xs ≡ [] → has_one (map h xs) ≡ false
-none_mapped h xs e = rw e refl
-
 and_first : (a b : Bool) → (a && b) ≡ true → a ≡ true
 and_first true b e = refl
 and_first false b e = e
@@ -186,91 +183,76 @@ pub found_down : (g : Grid) (table : Option (List ℕ)) (parts : List (List Comp
     has_one (flat_map (vertical_at g table parts shape) (range_with_len 0 (g.width * g.height))) ≡ true
 found_down g table parts shape row starts few size low are some = found_by g table parts shape row starts (set_columns starts) few size low are refl some
 
--- no row begins in the rows of the board passed by
-pub record NoneBegins (g : Grid) (table : Option (List ℕ)) (parts : List (List CompiledCell)) (shape : Shape) (count : ℕ) : Type 0 where
-  pub at : (row x : ℕ) → row < count → x < SIDE_LIMIT → begins_down g table parts shape row x ≡ false
+-- a row of the board where none begins
+pub none_scanned_down : (g : Grid) (table : Option (List ℕ)) (parts : List (List CompiledCell)) (shape : Shape) (row : ℕ) (starts : List Bool) → AreWhere (begins_down g table parts shape row) starts →
+    set_columns starts ≡ [] → (x : ℕ) → x < SIDE_LIMIT → begins_down g table parts shape row x ≡ false
+none_scanned_down g table parts shape row starts are empty x within = sym (are.at x within) ∙ none_in starts x empty within
 
-none_more_by : (g : Grid) (table : Option (List ℕ)) (parts : List (List CompiledCell)) (shape : Shape) (count row x : ℕ) (starts : List Bool) (same : Bool) → nat_eq row count ≡ same →
-    NoneBegins g table parts shape count → AreWhere (begins_down g table parts shape count) starts → set_columns starts ≡ [] → row < count + 1 → x < SIDE_LIMIT → begins_down g table parts shape row x ≡ false
-none_more_by g table parts shape count row x starts true t none are empty low within =
-    let is : row ≡ count = grind (arith, nat_tests) in
-    ap (λ (r : ℕ). begins_down g table parts shape r x) is ∙ sym (are.at x within) ∙ none_in starts x empty within
-none_more_by g table parts shape count row x starts false t none are empty low within = none.at row x (grind (arith, nat_tests)) within
-
-pub none_begins-more : (g : Grid) (table : Option (List ℕ)) (parts : List (List CompiledCell)) (shape : Shape) (count : ℕ) (starts : List Bool) → NoneBegins g table parts shape count →
-    AreWhere (begins_down g table parts shape count) starts → set_columns starts ≡ [] → NoneBegins g table parts shape (count + 1)
-none_begins-more g table parts shape count starts none are empty =
-    record { at = λ row x low within. none_more_by g table parts shape count row x starts (nat_eq row count) refl none are empty low within }
-
-none_at_any : {X : Type 0} (f : ℕ → List X) (a n : ℕ) → ((k : ℕ) → a ≤ k → k < a + n → f k ≡ []) → flat_map f (range_with_len a n) ≡ []
+pub none_at_any : {X : Type 0} (f : ℕ → List X) (a n : ℕ) → ((k : ℕ) → a ≤ k → k < a + n → f k ≡ []) → flat_map f (range_with_len a n) ≡ []
 none_at_any f a zero e = refl
 none_at_any f a (suc n) e = ap₂ (λ (xs ys : List _). xs ++ ys) (e a (omega arith) (omega arith)) (none_at_any f (a + 1) n (λ k low high. e k (omega arith) (omega arith)))
 
-none_at_end : (g : Grid) (table : Option (List ℕ)) (parts : List (List CompiledCell)) (shape : Shape) (count end : ℕ) → length (part_sizes parts) < 2 → sum (part_sizes parts) ≡ shape.size → IsGrid g →
-    NoneBegins g table parts shape count → g.height ≤ count → end < g.width * g.height → vertical_at g table parts shape end ≡ []
-none_at_end g table parts shape count end few size grid none all within =
+none_at_end : (g : Grid) (table : Option (List ℕ)) (parts : List (List CompiledCell)) (shape : Shape) (end : ℕ) → length (part_sizes parts) < 2 → sum (part_sizes parts) ≡ shape.size → IsGrid g →
+    ((row x : ℕ) → row < g.height → x < SIDE_LIMIT → begins_down g table parts shape row x ≡ false) → end < g.width * g.height → vertical_at g table parts shape end ≡ []
+none_at_end g table parts shape end few size grid none within =
     let x : ℕ = end / g.height in
     let row : ℕ = end % g.height in
     let low : row < g.height = mod-lt end grid.some_row in
     let across : x < g.width = div_below end g.height g.width grid.some_row within in
     ap (vertical_at g table parts shape) (sym (div-add-mod' end g.height))
     ∙ vertical-one g table parts shape row x few size low across
-    ∙ ap (λ (b : Bool). cond b (stretch_of shape (x * g.height + row) 0 ∷ []) []) (none.at row x (omega (arith, low, all)) (omega (arith, across, grid.columns)))
+    ∙ ap (λ (b : Bool). cond b (stretch_of shape (x * g.height + row) 0 ∷ []) []) (none row x low (omega (arith, across, grid.columns)))
 
-pub none_down : (g : Grid) (table : Option (List ℕ)) (parts : List (List CompiledCell)) (shape : Shape) (count : ℕ) → length (part_sizes parts) < 2 → sum (part_sizes parts) ≡ shape.size → IsGrid g →
-    NoneBegins g table parts shape count → g.height ≤ count → has_one (flat_map (vertical_at g table parts shape) (range_with_len 0 (g.width * g.height))) ≡ false
-none_down g table parts shape count few size grid none all =
-    ap has_one (none_at_any (vertical_at g table parts shape) 0 (g.width * g.height) (λ end near far. none_at_end g table parts shape count end few size grid none all (omega (arith, far))))
+pub none_down : (g : Grid) (table : Option (List ℕ)) (parts : List (List CompiledCell)) (shape : Shape) → length (part_sizes parts) < 2 → sum (part_sizes parts) ≡ shape.size → IsGrid g →
+    ((row x : ℕ) → row < g.height → x < SIDE_LIMIT → begins_down g table parts shape row x ≡ false) → has_one (flat_map (vertical_at g table parts shape) (range_with_len 0 (g.width * g.height))) ≡ false
+none_down g table parts shape few size grid none =
+    ap has_one (none_at_any (vertical_at g table parts shape) 0 (g.width * g.height) (λ end near far. none_at_end g table parts shape end few size grid none (omega (arith, far))))
 
--- the columns of each row of the board, row by row
-pub record AreSoFar (g : Grid) (table : Option (List ℕ)) (parts : List (List CompiledCell)) (shape : Shape) (rows : List (List Bool)) (any : List Bool) (count : ℕ) : Type 0 where
-  pub each : (row : ℕ) → row < count → AreWhere (begins_down g table parts shape row) (slice_index_or rows row [])
-  pub none : (row x : ℕ) → row < count → x < SIDE_LIMIT → column_at any x ≡ false → column_at (slice_index_or rows row []) x ≡ false
+-- the columns of a row of the board, among those of each row and of any
+pub record IsStartsOf (g : Grid) (table : Option (List ℕ)) (parts : List (List CompiledCell)) (shape : Shape) (rows : List (List Bool)) (any : List Bool) (row : ℕ) : Type 0 where
+  pub each : AreWhere (begins_down g table parts shape row) (slice_index_or rows row [])
+  pub none : (x : ℕ) → x < SIDE_LIMIT → column_at any x ≡ false → column_at (slice_index_or rows row []) x ≡ false
 
-rows_by : (g : Grid) (table : Option (List ℕ)) (parts : List (List CompiledCell)) (shape : Shape) (rows : List (List Bool)) (any starts : List Bool) (count row : ℕ) (same : Bool) → nat_eq row count ≡ same →
-    count < length rows → AreSoFar g table parts shape rows any count → AreWhere (begins_down g table parts shape count) starts → row < count + 1 →
-    AreWhere (begins_down g table parts shape row) (slice_index_or (slice_set rows count starts) row [])
-rows_by g table parts shape rows any starts count row true t long far are low =
-    let is : row ≡ count = grind (arith, nat_tests) in rw (is, get_or-set_same rows count starts [] long) are
-rows_by g table parts shape rows any starts count row false t long far are low =
-    let other : row ≢ count = grind (arith, nat_tests) in
-    rw (get_or-set_other rows count row starts [] other) (far.each row (grind (arith, nat_tests)))
+-- a row of the board where nothing begins
+pub no_starts : (g : Grid) (table : Option (List ℕ)) (parts : List (List CompiledCell)) (shape : Shape) (rows : List (List Bool)) (any : List Bool) (row : ℕ) → slice_index_or rows row [] ≡ no_columns →
+    ((x : ℕ) → x < SIDE_LIMIT → begins_down g table parts shape row x ≡ false) → IsStartsOf g table parts shape rows any row
+no_starts g table parts shape rows any row is none =
+    let empty : (x : ℕ) → x < SIDE_LIMIT → column_at (slice_index_or rows row []) x ≡ false = λ x within. ap (λ (cs : List Bool). column_at cs x) is ∙ column_at-where (λ y. false) x within in
+    record { each = record { at = λ x within. empty x within ∙ sym (none x within) }; none = λ x within out. empty x within }
 
 neither : (a b : Bool) → (a || b) ≡ false → (a ≡ false) × (b ≡ false)
 neither true b e = absurd (cc)
 neither false b e = (refl, e)
 
-none_by_row : (g : Grid) (table : Option (List ℕ)) (parts : List (List CompiledCell)) (shape : Shape) (rows : List (List Bool)) (any starts : List Bool) (count row x : ℕ) (same : Bool) → nat_eq row count ≡ same →
-    count < length rows → AreSoFar g table parts shape rows any count → row < count + 1 → x < SIDE_LIMIT → column_at (either_columns any starts) x ≡ false →
-    column_at (slice_index_or (slice_set rows count starts) row []) x ≡ false
-none_by_row g table parts shape rows any starts count row x true t long far low within none =
-    let is : row ≡ count = grind (arith, nat_tests) in
-    let says = neither (column_at any x) (column_at starts x) (sym (column_at-where (λ y. column_at any y || column_at starts y) x within) ∙ none) in
-    rw (is, get_or-set_same rows count starts [] long) says.1
-none_by_row g table parts shape rows any starts count row x false t long far low within none =
-    let other : row ≢ count = grind (arith, nat_tests) in
-    let says = neither (column_at any x) (column_at starts x) (sym (column_at-where (λ y. column_at any y || column_at starts y) x within) ∙ none) in
-    rw (get_or-set_other rows count row starts [] other) (far.none row x (grind (arith, nat_tests)) within says.0)
+in_neither : (any starts either : List Bool) (x : ℕ) → either ≡ either_columns any starts → x < SIDE_LIMIT → column_at either x ≡ false → (column_at any x ≡ false) × (column_at starts x ≡ false)
+in_neither any starts either x e within none =
+    neither (column_at any x) (column_at starts x)
+    (sym (ap (λ (cs : List Bool). column_at cs x) e ∙ column_at-where (λ y. column_at any y || column_at starts y) x within) ∙ none)
 
-pub one_more_row : (g : Grid) (table : Option (List ℕ)) (parts : List (List CompiledCell)) (shape : Shape) (rows more : List (List Bool)) (any starts either : List Bool) (count : ℕ) →
-    count < length rows → AreSoFar g table parts shape rows any count → AreWhere (begins_down g table parts shape count) starts → more ≡ slice_set rows count starts → either ≡ either_columns any starts →
-    AreSoFar g table parts shape more either (count + 1)
-one_more_row g table parts shape rows more any starts either count long far are is e =
-    rw (is, e) (record {
-      each = λ row low. rows_by g table parts shape rows any starts count row (nat_eq row count) refl long far are low;
-      none = λ row x low within none. none_by_row g table parts shape rows any starts count row x (nat_eq row count) refl long far low within none;
-    })
-
-pub all_rows : (g : Grid) (table : Option (List ℕ)) (parts : List (List CompiledCell)) (shape : Shape) (rows : List (List Bool)) (any : List Bool) (count : ℕ) → g.height ≤ count →
-    AreSoFar g table parts shape rows any count → AreStarts g table parts shape rows any
-all_rows g table parts shape rows any count all far =
+-- the row that is found now
+pub starts_here : (g : Grid) (table : Option (List ℕ)) (parts : List (List CompiledCell)) (shape : Shape) (rows more : List (List Bool)) (any starts either : List Bool) (row : ℕ) → row < length rows →
+    AreWhere (begins_down g table parts shape row) starts → more ≡ slice_set rows row starts → either ≡ either_columns any starts → IsStartsOf g table parts shape more either row
+starts_here g table parts shape rows more any starts either row long are is e =
+    let here : slice_index_or more row [] ≡ starts = ap (λ (all : List (List Bool)). slice_index_or all row []) is ∙ get_or-set_same rows row starts [] long in
     record {
-      each = λ row low. far.each row (omega (arith, low, all));
-      none = λ row x low within none. far.none row x (omega (arith, low, all)) within none;
+      each = rw here are;
+      none = λ x within none. ap (λ (cs : List Bool). column_at cs x) here ∙ (in_neither any starts either x e within none).1;
     }
 
-pub no_rows : (g : Grid) (table : Option (List ℕ)) (parts : List (List CompiledCell)) (shape : Shape) (rows : List (List Bool)) (any : List Bool) → AreSoFar g table parts shape rows any 0
-no_rows g table parts shape rows any = record { each = λ row low. absurd (omega (arith, low)); none = λ row x low within none. absurd (omega (arith, low)) }
+-- a row that was found before
+pub starts_still : (g : Grid) (table : Option (List ℕ)) (parts : List (List CompiledCell)) (shape : Shape) (rows more : List (List Bool)) (any starts either : List Bool) (row other : ℕ) → other ≢ row →
+    more ≡ slice_set rows row starts → either ≡ either_columns any starts → IsStartsOf g table parts shape rows any other → IsStartsOf g table parts shape more either other
+starts_still g table parts shape rows more any starts either row other apart is e found =
+    let there : slice_index_or more other [] ≡ slice_index_or rows other [] = ap (λ (all : List (List Bool)). slice_index_or all other []) is ∙ get_or-set_other rows row other starts [] apart in
+    record {
+      each = rw there found.each;
+      none = λ x within none. ap (λ (cs : List Bool). column_at cs x) there ∙ found.none x within (in_neither any starts either x e within none).0;
+    }
 
-pub no_row_begins : (g : Grid) (table : Option (List ℕ)) (parts : List (List CompiledCell)) (shape : Shape) → NoneBegins g table parts shape 0
-no_row_begins g table parts shape = record { at = λ row x low within. absurd (omega (arith, low)) }
+pub starts_of_all : (g : Grid) (table : Option (List ℕ)) (parts : List (List CompiledCell)) (shape : Shape) (rows : List (List Bool)) (any : List Bool) →
+    ((row : ℕ) → row < g.height → IsStartsOf g table parts shape rows any row) → AreStarts g table parts shape rows any
+starts_of_all g table parts shape rows any found =
+    record {
+      each = λ row low. let here : IsStartsOf g table parts shape rows any row = found row low in here.each;
+      none = λ row x low within out. let here : IsStartsOf g table parts shape rows any row = found row low in here.none x within out;
+    }

@@ -28,6 +28,14 @@ one_more_list f old now more last n inv is e =
     is ∙ ap₂ (λ (xs ys : List _). xs ++ ys) inv e ∙ append_assoc old (flat_map f (range_with_len 0 n)) (f n)
     ∙ ap (λ (xs : List _). old ++ xs) (sym (flat_map-range-more f 0 n n (omega arith)))
 
+-- a list kept in front of those of the rows that are left
+pub one_list_taken : {X : Type 0} (f : ℕ → List X) (all now more last : List X) (k : ℕ) (ks ls : List ℕ) → now ++ flat_map f ls ≡ all → more ≡ now ++ last → last ≡ f k → ls ≡ k ∷ ks → more ++ flat_map f ks ≡ all
+one_list_taken f all now more last k ks ls inv is e taken =
+    ap (λ (xs : List _). xs ++ flat_map f ks) (is ∙ ap (λ (xs : List _). now ++ xs) e)
+    ∙ append_assoc now (f k) (flat_map f ks)
+    ∙ ap (λ (ns : List ℕ). now ++ flat_map f ns) (sym taken)
+    ∙ inv
+
 -- a place kept in front of those of the columns that are left
 pub one_taken : {P X : Type 0} (shown : P → X) (s : ℕ → X) (found more : List P) (place : P) (k : ℕ) (ks ls : List ℕ) → more ≡ found ++ place ∷ [] → shown place ≡ s k → ls ≡ k ∷ ks →
     map shown more ++ map s ks ≡ map shown found ++ map s ls

@@ -1,12 +1,11 @@
 -- Rows that have no place, since one of their cells fits nowhere.
 use Rattle.std.proofs.Common.{◌≡◌, ◌∙◌, ℕ, ◌+◌, ◌*◌, ◌/◌, ◌%◌, ◌<◌, ◌≤◌, suc, zero, Bool, true, false, cond, Option, Some, List, [], ◌∷◌, length, map, filter, refl, sym, ap, ap₂, arith}
-use Rattle.std.specs.Prelude.{nat_eq, nat_lt, slice_get}
+use Rattle.std.specs.Prelude.{nat_lt, slice_get}
 use Rattle.std.specs.List.{range_with_len}
 use Rattle.std.proofs.lemmas.Bool.Decides.{nat_tests}
 use Rattle.std.proofs.lemmas.Nat.{div_below, div-add-mod'}
 use Rattle.std.proofs.lemmas.Option.{slice_get_past}
 use Rattle.std.proofs.Math.Nat.{mod-lt}
-use Rattle.ps_model.specs.declared.limits.TheConstants.{SIDE_LIMIT}
 use Rattle.ps_model.specs.declared.pieces.Direction.{Direction}
 use Rattle.ps_model.specs.board.Grid.{Grid, IsGrid}
 use Rattle.ps_model.specs.board.Places.{fits_along, fits_there, places, search_order}
@@ -14,7 +13,6 @@ use Rattle.ps_program.specs.declared.cells.CellMask.{CellMask}
 use Rattle.ps_program.specs.declared.cells.CompiledCell.{CompiledCell}
 use Rattle.ps_program.specs.ProgramShown.{mask_shown}
 use Rattle.ps_match.specs.InRoom.{meaning_of_mask}
-use Rattle.ps_board.specs.ColumnSets.{column_at, row_fits}
 use Rattle.ps_places.specs.declared.shape.Shape.{Shape}
 use Rattle.ps_places.specs.Candidates.{FitsNotOn}
 use Rattle.ps_places.specs.RowCells.{all_cells}
@@ -26,40 +24,25 @@ use Rattle.ps_places.proofs.CellByCell.{fits_by_mask}
 use Rattle.ps_places.proofs.Closed.{closed}
 use Rattle.ps_places.proofs.Ranges.{flat_map-none}
 
--- no cell of the rows passed by fits
-pub record NoneFits (g : Grid) (mask : CellMask) (count : ℕ) : Type 0 where
-  pub at : (row x : ℕ) → row < count → x < SIDE_LIMIT → column_at (row_fits g (meaning_of_mask (mask_shown mask)) row) x ≡ false
-
-pub none_fits-init : (g : Grid) (mask : CellMask) → NoneFits g mask 0
-none_fits-init g mask = record { at = λ row x low within. absurd (omega (arith, low)) }
-
-none_by : (g : Grid) (mask : CellMask) (count row x : ℕ) (same : Bool) → nat_eq row count ≡ same → NoneFits g mask count → FitsNotOn g mask count → row < count + 1 → x < SIDE_LIMIT →
-    column_at (row_fits g (meaning_of_mask (mask_shown mask)) row) x ≡ false
-none_by g mask count row x true t none off low within =
-    let here : row ≡ count = grind (arith, nat_tests) in
-    ap (λ (r : ℕ). column_at (row_fits g (meaning_of_mask (mask_shown mask)) r) x) here ∙ off.at x within
-none_by g mask count row x false t none off low within = none.at row x (grind (arith, nat_tests)) within
-
-pub none_fits-more : (g : Grid) (mask : CellMask) (count : ℕ) → NoneFits g mask count → FitsNotOn g mask count → NoneFits g mask (count + 1)
-none_fits-more g mask count none off = record { at = λ row x low within. none_by g mask count row x (nat_eq row count) refl none off low within }
-
-nowhere_by : (g : Grid) (mask : CellMask) (count cell : ℕ) (inside : Bool) → nat_lt cell (g.width * g.height) ≡ inside → IsGrid g → NoneFits g mask count → g.height ≤ count →
+-- a board no row of which has a cell that fits
+nowhere_by : (g : Grid) (mask : CellMask) (cell : ℕ) (inside : Bool) → nat_lt cell (g.width * g.height) ≡ inside → IsGrid g → ((row : ℕ) → row < g.height → FitsNotOn g mask row) →
     fits_there (meaning_of_mask (mask_shown mask)) (slice_get g.cells cell) ≡ false
-nowhere_by g mask count cell true t grid none all =
+nowhere_by g mask cell true t grid none =
     let within : cell < g.width * g.height = grind (arith, nat_tests) in
     let x : ℕ = cell / g.height in
     let row : ℕ = cell % g.height in
     let low : row < g.height = mod-lt cell grid.some_row in
     let across : x < g.width = div_below cell g.height g.width grid.some_row within in
+    let off : FitsNotOn g mask row = none row low in
     ap (λ (n : ℕ). fits_there (meaning_of_mask (mask_shown mask)) (slice_get g.cells n)) (sym (div-add-mod' cell g.height))
     ∙ sym (in_row g (meaning_of_mask (mask_shown mask)) row x grid)
-    ∙ none.at row x (omega (arith, low, all)) (omega (arith, across, grid.columns))
-nowhere_by g mask count cell false t grid none all =
+    ∙ off.at x (omega (arith, across, grid.columns))
+nowhere_by g mask cell false t grid none =
     let beyond : g.width * g.height ≤ cell = grind (arith, nat_tests) in
     ap (fits_there (meaning_of_mask (mask_shown mask))) (slice_get_past g.cells cell (rw grid.cells beyond))
 
-pub nowhere : (g : Grid) (mask : CellMask) (count : ℕ) → IsGrid g → NoneFits g mask count → g.height ≤ count → FitsNowhere g mask
-nowhere g mask count grid none all = record { at = λ cell. nowhere_by g mask count cell (nat_lt cell (g.width * g.height)) refl grid none all }
+pub nowhere : (g : Grid) (mask : CellMask) → IsGrid g → ((row : ℕ) → row < g.height → FitsNotOn g mask row) → FitsNowhere g mask
+nowhere g mask grid none = record { at = λ cell. nowhere_by g mask cell (nat_lt cell (g.width * g.height)) refl grid none }
 
 -- a row one of whose cells doesn't fit
 if_rest : (test rest : Bool) → rest ≡ false → (elim test [ true ↦ rest | false ↦ false ]) ≡ false

@@ -1,10 +1,10 @@
 //! The places of a row of a rule whose cells lie side by side: the board is looked at row by row, all columns of a row
 //! at once.
 
-ghost use Rattle.std.specs.Prelude.{◌≡◌, ◌+◌, ◌*◌, ◌<◌, ◌≤◌, ◌++◌, OnOk, false, length, map, slice_index_or, sum, []};
+ghost use Rattle.std.specs.Prelude.{◌≡◌, ℕ, ◌+◌, ◌*◌, ◌<◌, ◌≤◌, ◌++◌, OnOk, false, length, map, slice_index_or, sum, []};
 ghost use Rattle.std.specs.List.{flat_map, range_with_len};
 ghost use Rattle.ps_model.specs.declared.limits.TheConstants.{SIDE_LIMIT};
-ghost use Rattle.ps_board.specs.ColumnSets.{column_at, set_columns};
+ghost use Rattle.ps_board.specs.ColumnSets.{column_at, no_columns, set_columns};
 ghost use Rattle.ps_places.specs.declared.shape.Shape.{Shape as AnyShape};
 ghost use Rattle.ps_places.specs.RowCells.{all_cells};
 ghost use Rattle.ps_places.specs.RowMeanings.{part_sizes, row_places_at, vertical_at};
@@ -56,7 +56,8 @@ pub fn search_across<B: Scan>(
 {
     let (_width, height) = board.size();
     let rows = rows_of_begin(board, parts, shape, false);
-    for row in 0..height {
+    let mut left = rows.both(Columns::below(height));
+    while let Some(row) = left.take_first() {
         let starts = starts_across(board, parts, shape, rows, row);
         push_row(found, starts, height, row)?;
     }
@@ -64,7 +65,7 @@ pub fn search_across<B: Scan>(
 }
 
 /// Finds the columns of each row of the board where a row begins that goes up or down, and answers those where one
-/// begins on any row.
+/// begins on any row. The rows are empty before, and stay so where no row begins.
 fn find_starts<B: Scan>(
     board: &B,
     parts: &[List<CompiledCell>],
@@ -74,13 +75,15 @@ fn find_starts<B: Scan>(
     requires whole { length (all_cells parts.now) ≡ shape.size }
     requires step { shape.step ≡ 1 }
     requires rows { length rows.old ≡ SIDE_LIMIT }
+    requires none { (row : ℕ) → row < SIDE_LIMIT → slice_index_or rows.old row [] ≡ no_columns }
     ensures starts { AreStarts (B.grid board.now) (B.table board.now) parts.now shape rows.new result }
     ensures rows { length rows.new ≡ SIDE_LIMIT }
 {
     let (_width, height) = board.size();
     let worth = rows_of_begin(board, parts, shape, true);
+    let mut left = worth.both(Columns::below(height));
     let mut any = Columns::none();
-    for row in 0..height {
+    while let Some(row) = left.take_first() {
         let starts = starts_down(board, parts, shape, worth, row);
         rows[row as usize] = starts;
         any = any.either(starts);

@@ -108,7 +108,8 @@ fn fits_in_rows<B: Scan>(board: &B, parts: &[List<CompiledCell>], shape: Shape) 
 {
     let (_width, height) = board.size();
     let rows = rows_of_begin(board, parts, shape, false);
-    for row in 0..height {
+    let mut left = rows.both(Columns::below(height));
+    while let Some(row) = left.take_first() {
         if fits_in_row(board, parts, shape, rows, row) {
             return true;
         }
@@ -128,7 +129,8 @@ fn fits_across<B: Scan>(board: &B, parts: &[List<CompiledCell>], shape: Shape) -
 {
     let (_width, height) = board.size();
     let rows = rows_of_begin(board, parts, shape, false);
-    for row in 0..height {
+    let mut left = rows.both(Columns::below(height));
+    while let Some(row) = left.take_first() {
         if !starts_across(board, parts, shape, rows, row).is_empty() {
             return true;
         }
@@ -148,7 +150,8 @@ fn fits_down<B: Scan>(board: &B, parts: &[List<CompiledCell>], shape: Shape) -> 
 {
     let (_width, height) = board.size();
     let rows = rows_of_begin(board, parts, shape, true);
-    for row in 0..height {
+    let mut left = rows.both(Columns::below(height));
+    while let Some(row) = left.take_first() {
         if !starts_down(board, parts, shape, rows, row).is_empty() {
             return true;
         }

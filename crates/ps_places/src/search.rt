@@ -155,7 +155,8 @@ pub fn search_rows<B: Scan>(
 {
     let (_width, height) = board.size();
     let rows = rows_of_begin(board, parts, shape, false);
-    for row in 0..height {
+    let mut left = rows.both(Columns::below(height));
+    while let Some(row) = left.take_first() {
         search_row(board, parts, shape, rows, row, found)?;
     }
     Ok(())

@@ -32,7 +32,8 @@ fn fits_anywhere<B: Scan>(board: &B, mask: &CellMask) -> bool
 {
     let (_width, height) = board.size();
     let rows = rows_of_mask(board, mask);
-    for row in 0..height {
+    let mut left = rows.both(Columns::below(height));
+    while let Some(row) = left.take_first() {
         if fits_on_row(board, mask, rows, row) {
             return true;
         }

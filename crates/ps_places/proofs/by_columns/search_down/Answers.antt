@@ -1,6 +1,6 @@
-use Rattle.std.proofs.Common.{◌≡◌, ◌∙◌, ◌<◌, ◌*◌, ◌++◌, ℕ, false, List, Vec, Global, length, map, sym, ap, arith}
+use Rattle.std.proofs.Common.{◌≡◌, ◌∙◌, ◌<◌, ◌*◌, ◌++◌, ℕ, false, List, [], Vec, Global, length, map, sym, ap, arith}
 use Rattle.std.specs.List.{flat_map, range_with_len}
-use Rattle.std.proofs.lemmas.List.{append-nil}
+use Rattle.std.proofs.lemmas.List.{append-nil, get_or-replicate}
 use Rattle.ps_model.specs.declared.limits.TheConstants.{SIDE_LIMIT}
 use Rattle.ps_board.specs.ColumnSets.{column_at}
 use Rattle.ps_places.specs.declared.shape.Place.{Place}
@@ -11,6 +11,9 @@ use Rattle.ps_places.proofs.ByColumns.{one_more_column, no_column_places}
 use Rattle.ps_places.proofs.Closed.{length-all_cells}
 use Rattle.ps_places.proofs.by_columns.search_down.Goals as goal
 use Rattle.ps_places.proofs.by_columns.search_down.Goals.{then-has+in_ok-push_column, else-has}
+
+pub find_starts-any-requires-clause-none : goal.find_starts-any-requires-clause-none
+find_starts-any-requires-clause-none g c = λ row low. get_or-replicate SIDE_LIMIT row _ [] low ∙ c.none-rows.ensures
 
 pub loop-column-init : goal.loop-column-init
 loop-column-init g c =

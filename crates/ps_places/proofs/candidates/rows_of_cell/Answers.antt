@@ -1,5 +1,4 @@
-use Rattle.std.proofs.Common.{◌≡◌, false, true, subst, sym, rules, arith}
-use Rattle.ps_places.specs.Candidates.{HasCellOnlyOn}
+use Rattle.std.proofs.Common.{◌≡◌, false, true, rules, arith}
 use Rattle.ps_places.proofs.OnlyOn.{cell-across, cell-behind_gap, cell-down}
 use Rattle.ps_places.proofs.candidates.rows_of_cell.Goals as goal
 

@@ -1,8 +1,16 @@
-use Rattle.std.proofs.Common.{◌≡◌, []}
-use Rattle.std.specs.List.{flat_map, range_with_len}
+use Rattle.std.proofs.Common.{◌≡◌, [], length}
+use Rattle.ps_board.specs.ColumnSets.{set_columns}
+use Rattle.ps_board.proofs.Taken.{AreBelow, ArePassed}
 use Rattle.ps_places.specs.RowMeanings.{row_places_at}
 use Rattle.ps_places.proofs.presence.fits_in_rows.Given as goal
 
--- there is no place in the rows passed by
+-- there is no place in the rows that aren't left
 abbrev pub invariant-loop-row : goal.invariant-loop-row
-invariant-loop-row g l = flat_map (row_places_at (g.B.Board.grid l.board) (g.B.Board.table l.board) l.parts l.shape) (range_with_len 0 l.row) ≡ []
+invariant-loop-row g l =
+    record {
+      low : AreBelow (g.B.Board.grid l.board).height l.left;
+      passed : ArePassed (λ row. row_places_at (g.B.Board.grid l.board) (g.B.Board.table l.board) l.parts l.shape row ≡ []) (g.B.Board.grid l.board).height l.left;
+    }
+
+abbrev pub decreases-loop-row : goal.decreases-loop-row
+decreases-loop-row g l = length (set_columns l.left)

@@ -1,4 +1,4 @@
-use Rattle.std.proofs.Common.{◌≡◌, ◌∙◌, false, true, sym, rules}
+use Rattle.std.proofs.Common.{◌≡◌, ◌∙◌, false, sym, rules}
 use Rattle.ps_places.proofs.OnlyOn.{fits_not_on, none_scanned}
 use Rattle.ps_places.proofs.somewhere.fits_on_row.Goals as goal
 
