@@ -4,6 +4,7 @@ mod RowsPassed
 mod SameRows
 pub mod ColumnLaws
 pub mod Taken
+pub mod RowByRow
 pub mod ColumnWords
 pub mod PassedColumns
 mod Differing

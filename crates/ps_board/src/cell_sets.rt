@@ -69,8 +69,10 @@ impl CellSet {
         ensures { IsSetOf (list_any is_moving) (B.grid board.now) result }
     {
         let (_, height) = board.size();
+        let moving = board.rows_moving_any();
+        let mut left = moving.both(Columns::below(height));
         let mut rows = [Columns::none(); 64];
-        for row in 0..height {
+        while let Some(row) = left.take_first() {
             rows[row as usize] = moving_columns(board, row);
         }
         CellSet::from_rows(rows)

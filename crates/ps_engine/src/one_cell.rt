@@ -11,7 +11,7 @@ ghost use Rattle.ps_match.specs.Together.{rewritten_where};
 
 use crate::attempts::has_places;
 use crate::queue::Queue;
-use ps_match::Scan;
+use ps_match::{Columns, Scan};
 use ps_places::rows_of_mask;
 use ps_program::{CompiledCell, CompiledRule};
 use ps_text::List;
@@ -35,7 +35,7 @@ pub fn only_cell(rows: &[List<List<CompiledCell>>]) -> Option<&CompiledCell>
 }
 
 /// Writes each cell of the board that fits, and answers whether one changed. Rows of the board that lack an object
-/// which the cell needs aren't looked at.
+/// or a motion which the cell asks for aren't looked at.
 fn write_all<B: Scan>(board: &mut B, cell: &CompiledCell) -> bool
     ensures rewritten { let before = B.grid board.old in
         let meaning = cell_meaning (B.table board.old) cell.now in
@@ -46,10 +46,11 @@ fn write_all<B: Scan>(board: &mut B, cell: &CompiledCell) -> bool
 {
     let (_width, height) = board.size();
     let rows = rows_of_mask(board, &cell.mask);
+    let mut left = rows.both(Columns::below(height));
     let mut changed = false;
-    for row in 0..height {
-        if rows.has(row) {
-            let columns = board.scan(&cell.mask, row);
+    while let Some(row) = left.take_first() {
+        let columns = board.scan(&cell.mask, row);
+        if !columns.is_empty() {
             changed |= board.rewrite(&cell.write, row, columns);
         }
     }

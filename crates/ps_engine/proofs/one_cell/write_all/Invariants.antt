@@ -1,13 +1,19 @@
-use Rattle.std.proofs.Common.{◌≡◌}
+use Rattle.std.proofs.Common.{◌≡◌, length}
+use Rattle.ps_board.specs.ColumnSets.{set_columns}
+use Rattle.ps_board.proofs.Taken.{AreBelow}
 use Rattle.ps_places.specs.RowMeanings.{cell_meaning}
 use Rattle.ps_match.proofs.RowWritten.{told}
-use Rattle.ps_engine.proofs.RowsWritten.{above_written}
+use Rattle.ps_engine.proofs.RowsWritten.{passed_written}
 use Rattle.ps_engine.proofs.one_cell.write_all.Given as goal
 
--- the rows passed by are written
+-- the rows that aren't left are written
 abbrev pub invariant-loop-row : goal.invariant-loop-row
 invariant-loop-row g l =
     record {
-      rewritten : told (g.B.Board.grid l.board) l.changed ≡ above_written (g.B.Board.grid l.fn.board) (cell_meaning (g.B.Board.table l.fn.board) l.cell) l.row;
+      low : AreBelow (g.B.Board.grid l.fn.board).height l.left;
+      rewritten : told (g.B.Board.grid l.board) l.changed ≡ passed_written (g.B.Board.grid l.fn.board) (cell_meaning (g.B.Board.table l.fn.board) l.cell) l.left;
       table : g.B.Board.table l.board ≡ g.B.Board.table l.fn.board;
     }
+
+abbrev pub decreases-loop-row : goal.decreases-loop-row
+decreases-loop-row g l = length (set_columns l.left)
