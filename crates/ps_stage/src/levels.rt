@@ -1,6 +1,6 @@
 //! A level that is played.
 
-ghost use Rattle.std.specs.Prelude.{◌≡◌, IfOk, OnErr, Some, false, if◌then◌else◌};
+ghost use Rattle.std.specs.Prelude.{◌≡◌, IfOk, IfSome, OnErr, Some, false, if◌then◌else◌};
 ghost use Rattle.ps_model.specs.board.Grid.{Grid};
 ghost use Rattle.ps_model.specs.board.Levels.{loaded};
 ghost use Rattle.ps_model.specs.board.Turns.{turn};
@@ -22,19 +22,21 @@ use ps_turn::{DoneTurn, Programs, Rules, Turned, turn};
 use std::alloc::Global;
 use std::marker::Model;
 use std::mem;
+use std::rc::Rc;
 
-/// A level that is played: its entry, its board, and the board that a restart goes back to. Turns work on a board of
-/// their own, which shows the same between them.
+/// A level that is played: its entry, its board, and the board that a restart goes back to, which the levels behind
+/// its turns share until a checkpoint. Turns work on a board of their own, which shows the same between them, if there
+/// is one.
 #[derive(Drop)]
 pub struct PlayedLevel<B: Board> {
     entry: EntryNumber,
     board: B,
-    spare: B,
-    target: B,
+    spare: Option<B>,
+    target: Rc<B, Global>,
 }
 
 impl<B: Board> Model for PlayedLevel<B> {
-    ghost use Rattle.std.specs.Prelude.{◌≡◌};
+    ghost use Rattle.std.specs.Prelude.{◌≡◌, IfSome};
     ghost use Rattle.ps_stage.specs.Standings.{Standing};
 
     ghost Value = { Standing };
@@ -43,11 +45,12 @@ impl<B: Board> Model for PlayedLevel<B> {
       entry = l.entry;
       table = B.table l.board;
       board = B.grid l.board;
-      target = B.grid l.target;
+      target = B.grid l.target.value;
     } };
 
-    ghost invariant = { λ l. (B.grid l.spare ≡ B.grid l.board)
-        × ((B.table l.spare ≡ B.table l.board) × (B.table l.target ≡ B.table l.board)) };
+    ghost invariant = { λ l. IfSome l.spare (λ spare. B.grid spare ≡ B.grid l.board)
+        × (IfSome l.spare (λ spare. B.table spare ≡ B.table l.board)
+        × (B.table l.target.value ≡ B.table l.board)) };
 }
 
 /// Which done turns count. One that doesn't is as if not run.
@@ -112,7 +115,24 @@ fn run_turn<B: Board, R: Rules<B>>(
     Ok(turned)
 }
 
-/// A level of these boards, which are copied.
+/// A board that shows what another one does: the spare one, or else a copy.
+///
+/// # Errors
+///
+/// `Memory`, where there is no spare board.
+fn lent<B: Board>(alloc: Global, board: &B, spare: Option<B>) -> Result<B, Memory>
+    requires grid { IfSome spare (λ spare. B.grid spare ≡ B.grid board.now) }
+    requires table { IfSome spare (λ spare. B.table spare ≡ B.table board.now) }
+    ensures grid { IfOk result (λ lent. B.grid lent ≡ B.grid board.now) }
+    ensures table { IfOk result (λ lent. B.table lent ≡ B.table board.now) }
+{
+    let Some(spare) = spare else {
+        return board.try_copy(alloc);
+    };
+    Ok(spare)
+}
+
+/// A level of these boards: the first is copied, and the second shared.
 ///
 /// # Errors
 ///
@@ -121,48 +141,73 @@ fn level_of<B: Board>(
     alloc: Global,
     entry: EntryNumber,
     board: &B,
-    target: &B,
+    target: &Rc<B, Global>,
 ) -> Result<PlayedLevel<B>, Memory>
-    requires { B.table target.now ≡ B.table board.now }
+    requires { B.table target.now.value ≡ B.table board.now }
     ensures entry { IfOk result (λ level. level.entry ≡ entry) }
     ensures table { IfOk result (λ level. level.table ≡ B.table board.now) }
     ensures board { IfOk result (λ level. level.board ≡ B.grid board.now) }
-    ensures target { IfOk result (λ level. level.target ≡ B.grid target.now) }
+    ensures target { IfOk result (λ level. level.target ≡ B.grid target.now.value) }
 {
     let copy = board.try_copy(alloc)?;
     let spare = board.try_copy(alloc)?;
-    let target = target.try_copy(alloc)?;
+    let target = target.clone()?;
     Ok(PlayedLevel {
         entry,
         board: copy,
-        spare,
+        spare: Some(spare),
         target,
     })
 }
 
-/// The level behind a done turn that came to a board. A checkpoint makes it the board that a restart goes back to.
+/// The board that a restart goes back to behind a done turn that came to a board: this one, where the turn set a
+/// checkpoint.
 ///
 /// # Errors
 ///
 /// `Memory`.
-fn level_behind<B: Board>(
+fn target_behind<B: Board>(
     alloc: Global,
-    entry: EntryNumber,
     board: &B,
-    target: &B,
+    target: &Rc<B, Global>,
     done: &DoneTurn,
-) -> Result<PlayedLevel<B>, Memory>
-    requires { B.table target.now ≡ B.table board.now }
-    ensures entry { IfOk result (λ level. level.entry ≡ entry) }
-    ensures table { IfOk result (λ level. level.table ≡ B.table board.now) }
-    ensures board { IfOk result (λ level. level.board ≡ B.grid board.now) }
-    ensures target { IfOk result (λ level. level.target
-        ≡ (if done.now.checkpoint then B.grid board.now else B.grid target.now)) }
+) -> Result<Rc<B, Global>, Memory>
+    requires { B.table target.now.value ≡ B.table board.now }
+    ensures grid { IfOk result (λ next. B.grid next.value
+        ≡ (if done.now.checkpoint then B.grid board.now else B.grid target.now.value)) }
+    ensures table { IfOk result (λ next. B.table next.value ≡ B.table board.now) }
 {
-    if done.checkpoint {
-        return level_of(alloc, entry, board, board);
+    if !done.checkpoint {
+        let same = target.clone()?;
+        return Ok(same);
     }
-    level_of(alloc, entry, board, target)
+    let copy = board.try_copy(alloc)?;
+    let next = Rc::new(alloc, copy)?;
+    Ok(next)
+}
+
+/// What the level behind a done turn needs beside the board that the turn came to: a board that shows the same, for the
+/// next turn, and the one that a restart goes back to.
+///
+/// # Errors
+///
+/// `Memory`.
+fn boards_behind<B: Board>(
+    alloc: Global,
+    board: &B,
+    target: &Rc<B, Global>,
+    done: &DoneTurn,
+) -> Result<(B, Rc<B, Global>), Memory>
+    requires { B.table target.now.value ≡ B.table board.now }
+    ensures spare { IfOk result (λ both. B.grid both.0 ≡ B.grid board.now) }
+    ensures spare_table { IfOk result (λ both. B.table both.0 ≡ B.table board.now) }
+    ensures grid { IfOk result (λ both. B.grid both.1.value
+        ≡ (if done.now.checkpoint then B.grid board.now else B.grid target.now.value)) }
+    ensures table { IfOk result (λ both. B.table both.1.value ≡ B.table board.now) }
+{
+    let target = target_behind(alloc, board, target, done)?;
+    let spare = board.try_copy(alloc)?;
+    Ok((spare, target))
 }
 
 impl<B: Board> PlayedLevel<B> {
@@ -185,11 +230,12 @@ impl<B: Board> PlayedLevel<B> {
     {
         let board: B = load(alloc, names, level)?;
         let spare = board.try_copy(alloc)?;
-        let target = board.try_copy(alloc)?;
+        let copy = board.try_copy(alloc)?;
+        let target = Rc::new(alloc, copy)?;
         Ok(PlayedLevel {
             entry,
             board,
-            spare,
+            spare: Some(spare),
             target,
         })
     }
@@ -281,24 +327,33 @@ impl<B: Board> PlayedLevel<B> {
         ensures plain { R.meant rules.new.plain ≡ R.meant rules.old.plain }
         ensures late { R.meant rules.new.late ≡ R.meant rules.old.late }
     {
-        let turned = run_turn(game, rules, input, &self.board, &mut self.spare)?;
+        let mut spare = lent(alloc, &self.board, self.spare.take())?;
+        let turned = match run_turn(game, rules, input, &self.board, &mut spare) {
+            Ok(turned) => turned,
+            Err(Memory) => {
+                self.spare = Some(spare);
+                return Err(Memory);
+            }
+        };
         let Turned::Done(done) = &turned else {
+            self.spare = Some(spare);
             return Ok(turned);
         };
         if !counting.counts(done) {
-            self.board.copy_into(&mut self.spare);
+            self.board.copy_into(&mut spare);
+            self.spare = Some(spare);
             return Ok(turned);
         }
-        mem::swap(&mut self.board, &mut self.spare);
-        self.board.copy_into(&mut self.spare);
-        if done.checkpoint {
-            self.target = self.board.try_copy(alloc)?;
-        }
+        mem::swap(&mut self.board, &mut spare);
+        self.board.copy_into(&mut spare);
+        self.spare = Some(spare);
+        self.target = target_behind(alloc, &self.board, &self.target, done)?;
         Ok(turned)
     }
 
-    /// Tries a turn with an input. The level stays as it is; where the turn is done, the level behind it has boards of
-    /// its own. A turn that isn't done takes no memory for boards.
+    /// Tries a turn with an input. The level stays as it is; where the turn is done, the level behind it has the board
+    /// that the turn came to, and one copy of it is made. A turn that isn't done takes no memory for boards, unless the
+    /// level behind an earlier one was given away.
     ///
     /// # Errors
     ///
@@ -319,17 +374,37 @@ impl<B: Board> PlayedLevel<B> {
         ensures plain { R.meant rules.new.plain ≡ R.meant rules.old.plain }
         ensures late { R.meant rules.new.late ≡ R.meant rules.old.late }
     {
-        let turned = run_turn(game, rules, Some(input), &self.board, &mut self.spare)?;
-        let done = match turned {
-            Turned::Blocked(message) => return Ok(Tried::Blocked(message)),
-            Turned::Restarted(message) => return Ok(Tried::Restarted(message)),
-            Turned::Done(done) => done,
+        let mut spare = lent(alloc, &self.board, self.spare.take())?;
+        let done = match run_turn(game, rules, Some(input), &self.board, &mut spare) {
+            Ok(Turned::Done(done)) => done,
+            Ok(Turned::Blocked(message)) => {
+                self.spare = Some(spare);
+                return Ok(Tried::Blocked(message));
+            }
+            Ok(Turned::Restarted(message)) => {
+                self.spare = Some(spare);
+                return Ok(Tried::Restarted(message));
+            }
+            Err(Memory) => {
+                self.spare = Some(spare);
+                return Err(Memory);
+            }
         };
-        let next = level_behind(alloc, self.entry.copied(), &self.spare, &self.target, &done);
-        self.board.copy_into(&mut self.spare);
-        match next {
-            Ok(next) => Ok(Tried::Done(next, done)),
-            Err(Memory) => Err(Memory),
+        match boards_behind(alloc, &spare, &self.target, &done) {
+            Ok((copy, target)) => {
+                let next = PlayedLevel {
+                    entry: self.entry.copied(),
+                    board: spare,
+                    spare: Some(copy),
+                    target,
+                };
+                Ok(Tried::Done(next, done))
+            }
+            Err(Memory) => {
+                self.board.copy_into(&mut spare);
+                self.spare = Some(spare);
+                Err(Memory)
+            }
         }
     }
 }
