@@ -19,11 +19,10 @@ plane_indexed count height plane long some whole enough = elim (cases_lt plane c
   | inr beyond ↦ let more : height * count ≤ height * plane = mul-le-mul_left height beyond in absurd (omega arith)
 ]
 
--- and each object's plane stands whole
-pub objects_indexed : (table : List ℕ) (layers height long count : ℕ) → 0 < height → long ≡ count * height → long ≡ motions_from table layers * height → length table ≤ count
-objects_indexed table layers height long count some whole shown = elim (cases_lt count (length table)) [
-  | inl few ↦
-      let below : count < motions_from table layers = omega arith in
+-- and so has each plane of a board
+pub planes_indexed : (table : List ℕ) (layers height long count : ℕ) → 0 < height → long ≡ count * height → long ≡ motions_from table layers * height → motions_from table layers ≤ count
+planes_indexed table layers height long count some whole shown = elim (cases_lt count (motions_from table layers)) [
+  | inl below ↦
       let less : count < count = plane_indexed count height count long some whole (plane_whole table layers height long count shown below) in
       omega arith
   | inr enough ↦ enough

@@ -1,5 +1,6 @@
 //! The board of rows, matched by words and rewritten slot by slot.
 
+use crate::motions::motion_plane;
 use crate::planes::has_column;
 use crate::row_board::RowBoard;
 use ps_board::Board;
@@ -41,10 +42,17 @@ impl Scan for RowBoard {
         Columns::from_word(self.rows_of(object.object.0))
     }
 
-    /// All rows.
-    fn rows_moving(&self, _test: &MotionTest) -> Columns {
+    /// The rows of the motion's plane, by the index; all rows, for rest, and for a layer that the board doesn't have.
+    fn rows_moving(&self, test: &MotionTest) -> Columns {
         let (_width, height) = self.size();
-        Columns::below(height)
+        if self.layers() <= test.layer.0 {
+            return Columns::below(height);
+        }
+        let first = self.motions_from(test.layer.0);
+        match motion_plane(first, test.motion) {
+            Some(plane) => Columns::from_word(self.rows_of(plane)),
+            None => Columns::below(height),
+        }
     }
 
     fn write(&mut self, write: &CellWrite, cell: u32, changed: bool) -> bool {
