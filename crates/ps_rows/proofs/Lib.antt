@@ -17,3 +17,4 @@ pub mod SameRows
 pub mod Absent
 pub mod Marked
 pub mod Unmarked
+pub mod PlaneCopies

@@ -1,5 +1,5 @@
 -- Rows that aren't marked in the planes of an object, of a motion, or of all motions.
-use Rattle.std.proofs.Common.{◌≡◌, ◌∙◌, ℕ, zero, suc, ◌+◌, ◌*◌, ◌<◌, ◌≤◌, ◌&&◌, inl, inr, Bool, true, false, not, Some, List, [], ◌∷◌, length, get_or, refl, sym, ap, arith, bit_or}
+use Rattle.std.proofs.Common.{◌≡◌, ◌∙◌, ℕ, suc, ◌+◌, ◌*◌, ◌<◌, ◌≤◌, ◌&&◌, inl, inr, Bool, false, not, Some, List, [], ◌∷◌, length, get_or, refl, sym, arith, bit_or}
 use Rattle.std.specs.Prelude.{nat_lt, slice_get}
 use Rattle.std.specs.List.{list_any}
 use Rattle.std.proofs.lemmas.Bool.{cases_Bool, cases_eq, cases_lt, and_parts, or_parts, false≢true}

@@ -111,4 +111,29 @@ mod tests {
         assert!(rt; board.lacks(&SOUGHT));
         Ok(())
     }
+
+    #[test]
+    fn tells_the_rows_where_something_moves(rt: HostRuntime) -> Result<(), Fail> {
+        let mut board = RowBoard::try_empty(rt.alloc(), 2, 3, 2, &OWN_LAYERS)?;
+        let mut other = board.try_copy(rt.alloc())?;
+        let acts = MotionTest {
+            layer: LayerId(1),
+            motion: Motion::Acting,
+        };
+        board.put(2, LayerId(1), Some(ObjectId(2)), Motion::Still);
+        board.put(4, LayerId(1), Some(ObjectId(2)), Motion::Acting);
+        board.copy_into(&mut other);
+        for row in 0..3u32 {
+            assert_eq!(rt; other.rows_moving(&acts).has(row), row == 1);
+            assert_eq!(rt; other.rows_moving_any().has(row), row == 1);
+            assert_eq!(rt; other.rows_holding(ObjectId(2)).has(row), row != 0);
+            assert!(rt; !other.rows_holding(ObjectId(9)).has(row));
+        }
+        board.clear_moves();
+        assert!(rt; board.rows_moving(&acts).is_empty());
+        board.copy_into(&mut other);
+        assert!(rt; other.rows_moving_any().is_empty());
+        assert!(rt; other.same(&board));
+        Ok(())
+    }
 }
