@@ -16,3 +16,5 @@ pub mod Differences
 pub mod SameRows
 pub mod Absent
 pub mod Marked
+pub mod Unmarked
+pub mod PlaneCopies

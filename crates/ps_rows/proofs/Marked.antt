@@ -1,13 +1,13 @@
 -- The index of the rows of planes, behind a change of the planes.
-use Rattle.std.proofs.Common.{◌≡◌, ◌≢◌, ◌∙◌, ℕ, ◌+◌, ◌-◌, ◌*◌, ◌<◌, ◌≤◌, inl, inr, false, not, List, length, get_or, take, replicate, sym, ap, arith}
+use Rattle.std.proofs.Common.{◌≡◌, ◌≢◌, ◌∙◌, ℕ, ◌+◌, ◌*◌, ◌<◌, ◌≤◌, inl, inr, false, not, List, length, get_or, replicate, sym, ap, arith}
 use Rattle.std.specs.Prelude.{nat_eq, slice_set}
 use Rattle.std.proofs.Math.Nat.{mul-le-mul_left}
 use Rattle.std.proofs.lemmas.Bool.{cases_eq, cases_lt, ne_eqb, false≢true}
 use Rattle.std.proofs.lemmas.Nat.{same_from_place}
-use Rattle.std.proofs.lemmas.List.{get_or-set_same, get_or-set_other, length-take-le, get_or_append_left, get_or-append_right, get_or-take}
+use Rattle.std.proofs.lemmas.List.{get_or-set_same, get_or-set_other}
 use Rattle.ps_rows.specs.Planes.{has_column, with_column}
 use Rattle.ps_rows.specs.RowIndex.{AreRowsMarked}
-use Rattle.ps_rows.specs.Showing.{cleared_from, motions_from}
+use Rattle.ps_rows.specs.Showing.{motions_from}
 use Rattle.ps_rows.proofs.Bits.{has_column-with_same, has_column-with_other}
 use Rattle.ps_rows.proofs.Puts.{plane_whole}
 use Rattle.ps_rows.proofs.Rests.{blank_word}
@@ -19,11 +19,10 @@ plane_indexed count height plane long some whole enough = elim (cases_lt plane c
   | inr beyond ↦ let more : height * count ≤ height * plane = mul-le-mul_left height beyond in absurd (omega arith)
 ]
 
--- and each object's plane stands whole
-pub objects_indexed : (table : List ℕ) (layers height long count : ℕ) → 0 < height → long ≡ count * height → long ≡ motions_from table layers * height → length table ≤ count
-objects_indexed table layers height long count some whole shown = elim (cases_lt count (length table)) [
-  | inl few ↦
-      let below : count < motions_from table layers = omega arith in
+-- and so has each plane of a board
+pub planes_indexed : (table : List ℕ) (layers height long count : ℕ) → 0 < height → long ≡ count * height → long ≡ motions_from table layers * height → motions_from table layers ≤ count
+planes_indexed table layers height long count some whole shown = elim (cases_lt count (motions_from table layers)) [
+  | inl below ↦
       let less : count < count = plane_indexed count height count long some whole (plane_whole table layers height long count shown below) in
       omega arith
   | inr enough ↦ enough
@@ -60,20 +59,6 @@ marked_row count height words index plane row word short under own within marked
       | inr n ↦
           elsewhere (λ same. n (same_from_place o y plane row height inside under same).0)
           (ap (λ (w : ℕ). has_column w y) (sym (get_or-set_other index plane o mark 0 n)) ∙ clear)
-    ]
-
--- without the planes from one on
-pub marked_cleared : (count height first : ℕ) (words index : List ℕ) → first * height ≤ length words → AreRowsMarked count height words index →
-    AreRowsMarked count height (cleared_from (first * height) words) index
-marked_cleared count height first words index within marked = λ o y below inside clear.
-    let start : ℕ = first * height in
-    let zeros : List ℕ = replicate (length words - start) 0 in
-    let front : length (take start words) ≡ start = length-take-le start words within in
-    elim (cases_lt (o * height + y) start) [
-      | inl place ↦
-          let long : o * height + y < length (take start words) = rw front place in
-          get_or_append_left (take start words) zeros 0 (o * height + y) long ∙ get_or-take start words (o * height + y) 0 place ∙ marked o y below inside clear
-      | inr place ↦ get_or-append_right (take start words) zeros start (o * height + y) 0 front place ∙ blank_word (length words - start) (o * height + y - start)
     ]
 
 -- without anything

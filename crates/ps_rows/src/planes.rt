@@ -12,6 +12,7 @@ ghost use Rattle.ps_rows.specs.Planes.{
   with_cell_in,
   with_column,
 };
+ghost use Rattle.ps_rows.specs.PlaneCopies.{ArePlanesOf};
 ghost use Rattle.ps_rows.specs.RowIndex.{AreRowsMarked};
 ghost use Rattle.ps_rows.specs.Showing.{cleared_from};
 
@@ -79,12 +80,24 @@ fn clear(words: &mut [u64])
     words.fill(0);
 }
 
-/// Clears the words from a place on.
-fn clear_words(words: &mut [u64], start: usize)
-    requires { start ≤ length words.old }
-    ensures { words.new ≡ cleared_from start words.old }
+/// Clears the words of a plane.
+fn clear_plane(words: &mut [u64], height: u32, plane: usize)
+    requires { (plane + 1) * height ≤ length words.old }
+    ensures { ArePlanesOf height plane (plane + 1) [] words.old words.new }
 {
-    clear(&mut words[start..]);
+    let start = plane * height as usize;
+    clear(&mut words[start..start + height as usize]);
+}
+
+/// Copies the words of a plane.
+fn copy_plane(words: &[u64], height: u32, plane: usize, other: &mut [u64])
+    requires here { (plane + 1) * height ≤ length words.now }
+    requires there { (plane + 1) * height ≤ length other.old }
+    ensures { ArePlanesOf height plane (plane + 1) words.now other.old other.new }
+{
+    let start = plane * height as usize;
+    let end = start + height as usize;
+    other[start..end].copy_from_slice(&words[start..end]);
 }
 
 impl Planes {
@@ -199,20 +212,59 @@ impl Planes {
         None
     }
 
-    /// Clears the planes from that one on.
+    /// Clears a plane, if a row of it is marked.
+    fn clear_marked(&mut self, plane: usize)
+        requires { (plane + 1) * self.old.height ≤ vec_len self.old.words }
+        ensures words { let p = self.old in
+            ArePlanesOf p.height plane (plane + 1) [] p.words.items self.new.words.items }
+        ensures height { self.new.height ≡ self.old.height }
+        ensures count { vec_len self.new.words ≡ vec_len self.old.words }
+        ensures marks { vec_len self.new.index ≡ vec_len self.old.index }
+    {
+        if self.index[plane] == 0 {
+            return;
+        }
+        let height = self.height;
+        clear_plane(self.words.as_mut_slice(), height, plane);
+        self.index[plane] = 0;
+    }
+
+    /// Clears the planes from that one on, those that have a column.
     pub fn clear_from(&mut self, first: u32)
         requires { first * self.old.height ≤ vec_len self.old.words }
         ensures words { self.new.words.items ≡ cleared_from (first * self.old.height) self.old.words.items }
         ensures height { self.new.height ≡ self.old.height }
         ensures count { vec_len self.new.words ≡ vec_len self.old.words }
     {
-        clear_words(
-            self.words.as_mut_slice(),
-            first as usize * self.height as usize,
-        );
+        for plane in first as usize..self.index.len() {
+            self.clear_marked(plane);
+        }
     }
 
-    /// Makes other planes, as many of the same height, the same.
+    /// Makes a plane of others the same, if a row of it is marked on either side.
+    fn copy_marked(&self, other: &mut Planes, plane: usize)
+        requires height { other.old.height ≡ self.now.height }
+        requires here { (plane + 1) * self.now.height ≤ vec_len self.now.words }
+        requires there { (plane + 1) * self.now.height ≤ vec_len other.old.words }
+        ensures words { let p = self.now in
+            ArePlanesOf p.height plane (plane + 1) p.words.items other.old.words.items other.new.words.items }
+        ensures height { other.new.height ≡ self.now.height }
+        ensures count { vec_len other.new.words ≡ vec_len other.old.words }
+    {
+        let rows = self.index[plane];
+        if rows | other.index[plane] == 0 {
+            return;
+        }
+        copy_plane(
+            self.words.as_slice(),
+            self.height,
+            plane,
+            other.words.as_mut_slice(),
+        );
+        other.index[plane] = rows;
+    }
+
+    /// Makes other planes, as many of the same height, the same. Planes without columns on both sides are passed over.
     pub fn copy_into(&self, other: &mut Planes)
         requires height { other.old.height ≡ self.now.height }
         requires count { vec_len other.old.words ≡ vec_len self.now.words }
@@ -220,7 +272,8 @@ impl Planes {
         ensures height { other.new.height ≡ self.now.height }
         ensures count { vec_len other.new.words ≡ vec_len self.now.words }
     {
-        other.words.copy_from_slice(&self.words);
-        other.index.copy_from_slice(&self.index);
+        for plane in 0..self.index.len() {
+            self.copy_marked(other, plane);
+        }
     }
 }

@@ -104,12 +104,12 @@ impl RowBoard {
         self.planes.row(plane, row)
     }
 
-    /// The rows of an object's plane that may have a column: bit y stands for row y.
-    pub(crate) fn rows_of(&self, object: u32) -> u64
-        requires { object < length self.now.members.table.items }
-        ensures { result ≡ slice_index self.now.planes.index.items object }
+    /// The rows of a plane that may have a column: bit y stands for row y.
+    pub(crate) fn rows_of(&self, plane: u32) -> u64
+        requires { plane < motions_from self.now.members.table.items self.now.layers }
+        ensures { result ≡ slice_index self.now.planes.index.items plane }
     {
-        self.planes.rows_of(object)
+        self.planes.rows_of(plane)
     }
 
     /// Whether an object is one of a layer, by the table.
@@ -131,7 +131,8 @@ impl RowBoard {
     fn object_number(&self, cell: u32, layer: u32) -> Option<u32>
         requires cell { cell < self.now.width * self.now.planes.height }
         requires layer { layer < self.now.layers }
-        ensures { let b = self.now in result ≡ object_shown b.members.table.items b.planes.height b.planes.words.items cell layer }
+        ensures { let b = self.now in let words = b.planes.words.items in
+            result ≡ object_shown b.members.table.items b.planes.height words cell layer }
     {
         let planes = self.members.of(layer);
         self.planes.first_plane(cell, planes)
@@ -253,14 +254,22 @@ impl Board for RowBoard {
         true
     }
 
-    /// All rows.
+    /// The rows of all planes of motions, by the index.
     fn rows_moving_any(&self) -> Columns {
-        Columns::below(self.planes.height)
+        let first = self.members.count();
+        let mut rows = 0;
+        for plane in first..first + 5 * self.layers {
+            rows |= self.rows_of(plane);
+        }
+        Columns::from_word(rows)
     }
 
-    /// All rows.
-    fn rows_holding(&self, _object: ObjectId) -> Columns {
-        Columns::below(self.planes.height)
+    /// The rows of the object's plane, by the index; none, where no object has that number.
+    fn rows_holding(&self, object: ObjectId) -> Columns {
+        if self.members.count() <= object.0 {
+            return Columns::none();
+        }
+        Columns::from_word(self.rows_of(object.0))
     }
 
     /// That column alone.

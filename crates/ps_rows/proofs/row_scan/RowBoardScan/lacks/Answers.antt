@@ -1,9 +1,9 @@
-use Rattle.std.proofs.Common.{◌≡◌, ◌∙◌, ℕ, get_or, sym, ap}
+use Rattle.std.proofs.Common.{◌≡◌, ◌∙◌, ℕ, get_or, sym, ap, ◌≤◌, length, arith}
 use Rattle.std.proofs.lemmas.Bool.{eqb-true}
 use Rattle.ps_rows.specs.Planes.{has_column}
 use Rattle.ps_rows.proofs.Absent.{not_marked, nowhere_by_rows}
 use Rattle.ps_rows.proofs.Bits.{has_column-zero}
-use Rattle.ps_rows.proofs.Marked.{objects_indexed}
+use Rattle.ps_rows.proofs.Marked.{planes_indexed}
 use Rattle.ps_rows.proofs.Scans.{other_row}
 use Rattle.ps_rows.proofs.row_scan.RowBoardScan.lacks.Goals as goal
 
@@ -16,7 +16,8 @@ returns-then-not-is_on c = λ e.
 pub returns : goal.returns
 returns c = λ e.
     let b = c.args.self.now in
-    let counted = objects_indexed b.members.table.items b.layers b.planes.height b.planes.words.len b.planes.index.len b.planes.some_row b.planes.whole b.whole in
+    let counted : length b.members.table.items ≤ b.planes.index.len =
+    omega (arith, planes_indexed b.members.table.items b.layers b.planes.height b.planes.words.len b.planes.index.len b.planes.some_row b.planes.whole b.whole) in
     let object : ℕ = (c.args.object.now.object).0 in
     let zero : get_or b.planes.index.items object 0 ≡ 0 = sym c.rows_of.ensures ∙ eqb-true c.rows_of.result 0 e in
     nowhere_by_rows b.members.table.items b.width b.planes.height b.layers b.planes.words.items c.args.object.now b.planes.some_row

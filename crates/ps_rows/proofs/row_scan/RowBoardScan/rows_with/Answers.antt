@@ -1,8 +1,8 @@
-use Rattle.std.proofs.Common.{◌≡◌, ◌<◌, ◌∙◌, List, Bool, false, get_or, sym, ap, arith}
+use Rattle.std.proofs.Common.{◌≡◌, ◌<◌, ◌∙◌, List, Bool, false, get_or, sym, ap, arith, ◌≤◌, length}
 use Rattle.ps_board.specs.ColumnSets.{column_at, word_columns}
 use Rattle.ps_rows.specs.Planes.{has_column}
 use Rattle.ps_rows.proofs.Absent.{column_clear, not_marked, not_on_row}
-use Rattle.ps_rows.proofs.Marked.{objects_indexed}
+use Rattle.ps_rows.proofs.Marked.{planes_indexed}
 use Rattle.ps_rows.proofs.Scans.{other_row}
 use Rattle.ps_rows.proofs.row_scan.RowBoardScan.rows_with.Goals as goal
 
@@ -15,7 +15,8 @@ returns-then-not-is_on c = λ row under none.
 pub returns : goal.returns
 returns c = λ row under none.
     let b = c.args.self.now in
-    let counted = objects_indexed b.members.table.items b.layers b.planes.height b.planes.words.len b.planes.index.len b.planes.some_row b.planes.whole b.whole in
+    let counted : length b.members.table.items ≤ b.planes.index.len =
+    omega (arith, planes_indexed b.members.table.items b.layers b.planes.height b.planes.words.len b.planes.index.len b.planes.some_row b.planes.whole b.whole) in
     let low : row < 64 = omega (arith, under, b.planes.rows) in
     let set : column_at (word_columns c.rows_of.result) row ≡ false = ap (λ (columns : List Bool). column_at columns row) (sym c.from_word.ensures) ∙ none in
     let clear : has_column (get_or b.planes.index.items (c.args.object.now.object).0 0) row ≡ false =
