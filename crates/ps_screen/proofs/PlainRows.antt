@@ -14,6 +14,7 @@ use Rattle.ps_model.specs.board.Grid.{cell_at}
 use Rattle.ps_model.specs.declared.limits.TheConstants.{SIDE_LIMIT}
 use Rattle.ps_board.specs.ColumnSets.{both_columns, column_at, columns_below}
 use Rattle.ps_board.specs.Rows.{DifferOnlyIn}
+use Rattle.ps_board.proofs.AllRows.{none_outside}
 use Rattle.ps_board.proofs.ColumnLaws.{column_at-where}
 use Rattle.ps_screen.specs.PlainRows.{AreDrawn, IsPlainRow, column_bytes}
 use Rattle.ps_screen.proofs.KeptRows.{same_character}
@@ -135,3 +136,18 @@ out_of_both columns width x low under none =
     sym (and-true (column_at columns x))
     ∙ ap (λ (b : Bool). column_at columns x && b) (sym below)
     ∙ sym (column_at-where (λ y. column_at columns y && column_at (columns_below width) y) x low) ∙ none
+
+-- the columns of the width alone, none of them drawn
+pub within_below : (width x : ℕ) → x < SIDE_LIMIT → column_at (columns_below width) x ≡ true → x < width
+within_below width x low has =
+    let under : nat_lt x width ≡ true = sym (column_at-where (λ y. nat_lt y width) x low) ∙ has in
+    grind (arith, nat_tests)
+
+pub none_drawn : (names : Names) (g : Grid) (row : ℕ) (columns : List Bool) (text : List ℕ) → g.width ≤ SIDE_LIMIT → columns ≡ columns_below g.width → length text ≡ g.width + 1 →
+    get_or text g.width 0 ≡ 10 → AreDrawn names g row columns text
+none_drawn names g row columns text narrow all long end =
+    record {
+      long = long;
+      each = λ x under none. absurd (none_outside g.width columns narrow all x under none);
+      end = end;
+    }

@@ -1,6 +1,6 @@
 //! The rows of a frame, each a text of its own.
 
-ghost use Rattle.std.specs.Prelude.{◌≡◌, ◌++◌, ◌<◌, ◌≤◌, OnOk, length};
+ghost use Rattle.std.specs.Prelude.{◌≡◌, ◌++◌, ◌+◌, ◌<◌, ◌≤◌, OnOk, length, slice_index};
 ghost use Rattle.ps_model.specs.board.Levels.{background_layer};
 ghost use Rattle.ps_model.specs.session.Frames.{frame_row};
 ghost use Rattle.ps_board.specs.Rows.{DifferOnlyOn};
@@ -109,7 +109,7 @@ fn patch_row<B: Board>(
     draw_row(names, ground, board, row, room, text)
 }
 
-/// Makes a text a row of a board's frame.
+/// Makes a text a row of a board's frame: cells with the same objects by one look for a glyph, if each is of one byte.
 fn draw_row<B: Board>(
     names: &Names,
     ground: LayerId,
@@ -122,8 +122,27 @@ fn draw_row<B: Board>(
     requires row { row < (B.grid board.now).height }
     ensures { OnOk result (text.new ≡ frame_row names.now (B.grid board.now) row) }
 {
+    let (width, _height) = board.size();
+    make_blank(text, width)?;
+    let columns = Columns::below(width);
+    let plain = patch_columns(names, ground, board, row, room, columns, text)?;
+    if plain {
+        return Ok(());
+    }
     text.clear();
     add_row(names, ground, board, row, room, text)
+}
+
+/// Makes a text so many blanks and a line feed.
+fn make_blank(text: &mut Screen, width: u32) -> Result<(), Memory>
+    ensures long { OnOk result (length text.new ≡ width + 1) }
+    ensures end { OnOk result (slice_index text.new width ≡ 10) }
+{
+    text.clear();
+    for _column in 0..width {
+        text.add(b" ")?;
+    }
+    text.add(b"\n")
 }
 
 /// Adds a row of a frame.
