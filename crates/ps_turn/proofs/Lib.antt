@@ -1,4 +1,5 @@
 mod RowsOfCells
+mod RowsHeld
 mod Stayed
 mod Sweeps
 mod WhereObjectsStand

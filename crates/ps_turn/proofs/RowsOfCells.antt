@@ -187,26 +187,10 @@ row_passes passes g shape row columns down is some =
     within-some g.width (λ x. passes (cell_at g (x * g.height + row))) (set_as columns (row_cells passes g row) is some) in
     cell_passes passes g shape found.number row found.below down found.is
 
--- one more row without one
-one_row_by : (test : ℕ → Bool) (width height count : ℕ) → width ≤ SIDE_LIMIT → set_columns (columns_within width (λ x. test (x * height + count))) ≡ [] →
-    ((x row : ℕ) → x < width → row < count → test (x * height + row) ≡ false) →
-    (x row : ℕ) (last : Bool) → nat_eq row count ≡ last → x < width → row < count + 1 → test (x * height + row) ≡ false
-one_row_by test width height count narrow none so_far x row true t across down =
-    let is : row ≡ count = grind (arith, nat_tests) in
-    ap (λ (r : ℕ). test (x * height + r)) is ∙ within-none width x (λ y. test (y * height + count)) narrow across none
-one_row_by test width height count narrow none so_far x row false t across down = so_far x row across (grind (arith, nat_tests))
-
-pub one_number_row : (test : ℕ → Bool) (width height count : ℕ) (columns : List Bool) → width ≤ SIDE_LIMIT → columns ≡ columns_within width (λ x. test (x * height + count)) → set_columns columns ≡ [] →
-    ((x row : ℕ) → x < width → row < count → test (x * height + row) ≡ false) →
-    (x row : ℕ) → x < width → row < count + 1 → test (x * height + row) ≡ false
-one_number_row test width height count columns narrow is none so_far x row across down =
-    one_row_by test width height count narrow (ap set_columns (sym is) ∙ none) so_far x row (nat_eq row count) refl across down
-
-pub one_row_more : (passes : List Slot → Bool) (g : Grid) → IsGrid g → (count : ℕ) (columns : List Bool) → columns ≡ row_cells passes g count → set_columns columns ≡ [] →
-    ((x row : ℕ) → x < g.width → row < count → passes (cell_at g (x * g.height + row)) ≡ false) →
-    (x row : ℕ) → x < g.width → row < count + 1 → passes (cell_at g (x * g.height + row)) ≡ false
-one_row_more passes g shape count columns is none so_far =
-    one_number_row (λ cell. passes (cell_at g cell)) g.width g.height count columns shape.columns is none so_far
+-- a row without one
+pub row_without : (test : ℕ → Bool) (width height row : ℕ) (columns : List Bool) → width ≤ SIDE_LIMIT → columns ≡ columns_within width (λ x. test (x * height + row)) → set_columns columns ≡ [] →
+    (x : ℕ) → x < width → test (x * height + row) ≡ false
+row_without test width height row columns narrow is none x across = within-none width x (λ y. test (y * height + row)) narrow across (ap set_columns (sym is) ∙ none)
 
 -- the same of the numbers of cells
 zero_plus : (n : ℕ) → 0 + n ≡ n

@@ -1,5 +1,5 @@
 -- Rows of a grid, cell by cell: the columns whose cells pass a test. No column beyond the width is in such a set.
-use Rattle.std.specs.Prelude.{ℕ, ◌+◌, ◌*◌, nat_lt, Bool, ◌&&◌, not, Option, List}
+use Rattle.std.specs.Prelude.{◌≡◌, ℕ, ◌+◌, ◌*◌, ◌<◌, nat_lt, Bool, false, ◌&&◌, not, Option, List}
 use Rattle.std.specs.List.{list_all}
 use Rattle.ps_model.specs.declared.pieces.ObjectId.{ObjectId}
 use Rattle.ps_model.specs.declared.pieces.Slot.{Slot}
@@ -8,7 +8,7 @@ use Rattle.ps_model.specs.board.Grid.{Grid, cell_at}
 use Rattle.ps_model.specs.board.Turns.{has_player}
 use Rattle.ps_model.specs.board.Winning.{is_in, is_place}
 use Rattle.ps_model.specs.session.Frames.{objects_in}
-use Rattle.ps_board.specs.ColumnSets.{columns_where}
+use Rattle.ps_board.specs.ColumnSets.{column_at, columns_where}
 
 -- of so many columns those of which something holds
 abbrev pub columns_within : ℕ → (ℕ → Bool) → List Bool
@@ -17,6 +17,10 @@ columns_within width holds = columns_where (λ x. nat_lt x width && holds x)
 -- the columns of a row whose cells pass a test
 abbrev pub row_cells : (List Slot → Bool) → Grid → ℕ → List Bool
 row_cells passes g row = columns_within g.width (λ x. passes (cell_at g (x * g.height + row)))
+
+-- on the rows whose numbers aren't in a set no cell passes a test
+abbrev pub NonePassOutside : (List Slot → Bool) → Grid → List Bool → Type 0
+NonePassOutside passes g rows = (row : ℕ) → row < g.height → column_at rows row ≡ false → (x : ℕ) → x < g.width → passes (cell_at g (x * g.height + row)) ≡ false
 
 -- each of these objects is in the cell
 abbrev pub has_each : List ObjectId → List Slot → Bool

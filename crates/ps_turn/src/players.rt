@@ -7,7 +7,7 @@ ghost use Rattle.ps_model.specs.board.Turns.{has_player, player_cells, stayed};
 ghost use Rattle.ps_turn.specs.RowsOfCells.{row_cells, row_left, has_player_at, is_left};
 ghost use Rattle.ps_turn.specs.States.{HaveSameSides};
 
-use crate::standing::columns_with;
+use crate::standing::{columns_with, rows_with};
 use crate::turns::TurnGame;
 use ps_board::{Board, Columns};
 
@@ -37,7 +37,9 @@ fn is_there<B: Board>(game: &TurnGame<'_>, board: &B) -> bool
         (B.grid board.now))) }
 {
     let (_, height) = board.size();
-    for row in 0..height {
+    let standing = rows_with(board, game.players());
+    let mut left = standing.both(Columns::below(height));
+    while let Some(row) = left.take_first() {
         if !player_columns(game, board, row).is_empty() {
             return true;
         }
@@ -52,7 +54,9 @@ fn has_left<B: Board>(game: &TurnGame<'_>, before: &B, after: &B) -> bool
         (cell_count (B.grid before.now))) }
 {
     let (_, height) = before.size();
-    for row in 0..height {
+    let standing = rows_with(before, game.players());
+    let mut left = standing.both(Columns::below(height));
+    while let Some(row) = left.take_first() {
         if !left_columns(game, before, after, row).is_empty() {
             return true;
         }

@@ -4,11 +4,11 @@ ghost use Rattle.std.specs.Prelude.{◌≡◌, ◌<◌, option_map};
 ghost use Rattle.ps_model.specs.board.Grid.{IsGrid};
 ghost use Rattle.ps_model.specs.board.Winning.{is_in, is_place};
 ghost use Rattle.ps_names.specs.Shown.{meaning_shown};
-ghost use Rattle.ps_turn.specs.RowsOfCells.{row_cells, has_each};
+ghost use Rattle.ps_turn.specs.RowsOfCells.{NonePassOutside, row_cells, has_each};
 
-use crate::standing::columns_with;
+use crate::standing::{columns_with, rows_with};
 use ps_board::{Board, Columns};
-use ps_model::ObjectId;
+use ps_model::{ObjectId, SIDE_LIMIT};
 use ps_names::Meaning;
 use std::slice;
 
@@ -35,6 +35,29 @@ pub fn columns_meant<B: Board>(board: &B, meaning: &Meaning, row: u32) -> Column
         Meaning::One(object) => columns_with(board, slice::from_ref(object), row),
         Meaning::All { objects, .. } => columns_with_each(board, objects.as_slice(), row),
         Meaning::Any { objects, .. } => columns_with(board, objects.as_slice(), row),
+    }
+}
+
+/// Rows of the board, as a set of their numbers, outside of which not all of the objects stand.
+fn rows_with_each<B: Board>(board: &B, objects: &[ObjectId]) -> Columns
+    ensures { NonePassOutside (has_each objects.now) (B.grid board.now) result }
+{
+    let (_, _) = board.size();
+    let mut common = Columns::below(SIDE_LIMIT);
+    for index in 0..objects.len() {
+        common = common.both(board.rows_holding(objects[index]));
+    }
+    common
+}
+
+/// Rows of the board, as a set of their numbers, outside of which nothing stands that a name stands for.
+pub fn rows_meant<B: Board>(board: &B, meaning: &Meaning) -> Columns
+    ensures { NonePassOutside (is_in (meaning_shown meaning.now)) (B.grid board.now) result }
+{
+    match meaning {
+        Meaning::One(object) => rows_with(board, slice::from_ref(object)),
+        Meaning::All { objects, .. } => rows_with_each(board, objects.as_slice()),
+        Meaning::Any { objects, .. } => rows_with(board, objects.as_slice()),
     }
 }
 

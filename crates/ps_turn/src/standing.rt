@@ -6,7 +6,7 @@ ghost use Rattle.ps_model.specs.board.Grid.{IsGrid, cell_at};
 ghost use Rattle.ps_board.specs.ColumnSets.{column_at};
 ghost use Rattle.ps_board.specs.CellSets.{IsSetOf};
 ghost use Rattle.ps_board.specs.RowsOfGrids.{row_slots};
-ghost use Rattle.ps_turn.specs.RowsOfCells.{row_cells};
+ghost use Rattle.ps_turn.specs.RowsOfCells.{NonePassOutside, row_cells};
 ghost use Rattle.ps_turn.specs.Sweeps.{holds_any};
 
 use ps_board::{Board, CellSet, Columns};
@@ -48,13 +48,27 @@ pub fn columns_with<B: Board>(board: &B, objects: &[ObjectId], row: u32) -> Colu
     Columns::below(width).both(row_columns(board, objects, row))
 }
 
+/// Rows of the board, as a set of their numbers, outside of which none of the objects stands.
+pub fn rows_with<B: Board>(board: &B, objects: &[ObjectId]) -> Columns
+    ensures { NonePassOutside (list_any (holds_any objects.now)) (B.grid board.now) result }
+{
+    let (_, _) = board.size();
+    let mut rows = Columns::none();
+    for index in 0..objects.len() {
+        rows = rows.either(board.rows_holding(objects[index]));
+    }
+    rows
+}
+
 /// The cells in which one of the objects stands.
 pub fn cells_with<B: Board>(board: &B, objects: &[ObjectId]) -> CellSet
     ensures { IsSetOf (list_any (holds_any objects.now)) (B.grid board.now) result }
 {
     let (_, height) = board.size();
+    let holding = rows_with(board, objects);
+    let mut left = holding.both(Columns::below(height));
     let mut rows = [Columns::none(); 64];
-    for row in 0..height {
+    while let Some(row) = left.take_first() {
         rows[row as usize] = row_columns(board, objects, row);
     }
     CellSet::from_rows(rows)

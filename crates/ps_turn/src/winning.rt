@@ -9,7 +9,7 @@ ghost use Rattle.ps_names.specs.Shown.{meaning_shown};
 ghost use Rattle.ps_levels.specs.WinsShown.{win_shown, wins_shown};
 ghost use Rattle.ps_turn.specs.RowsOfCells.{row_cells, is_met, is_missed};
 
-use crate::rows::{columns_meant, columns_of_place};
+use crate::rows::{columns_meant, columns_of_place, rows_meant};
 use ps_board::{Board, Columns};
 use ps_levels::Win;
 use ps_model::Quantifier;
@@ -46,7 +46,9 @@ fn some_met<B: Board>(board: &B, win: &Win) -> bool
         (filter (is_in (meaning_shown win.now.subject)) (B.grid board.now).cells) }
 {
     let (_, height) = board.size();
-    for row in 0..height {
+    let rows = rows_meant(board, &win.subject);
+    let mut left = rows.both(Columns::below(height));
+    while let Some(row) = left.take_first() {
         if !columns_met(board, win, row).is_empty() {
             return true;
         }
@@ -60,7 +62,9 @@ fn all_met<B: Board>(board: &B, win: &Win) -> bool
         (filter (is_in (meaning_shown win.now.subject)) (B.grid board.now).cells) }
 {
     let (_, height) = board.size();
-    for row in 0..height {
+    let rows = rows_meant(board, &win.subject);
+    let mut left = rows.both(Columns::below(height));
+    while let Some(row) = left.take_first() {
         if !columns_missed(board, win, row).is_empty() {
             return false;
         }

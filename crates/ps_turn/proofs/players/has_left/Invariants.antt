@@ -1,10 +1,18 @@
-use Rattle.std.proofs.Common.{◌≡◌, ◌+◌, ◌*◌, ◌<◌, ℕ, false}
+use Rattle.std.proofs.Common.{◌≡◌, ◌+◌, ◌*◌, ◌<◌, ℕ, false, length}
 use Rattle.ps_model.specs.board.Grid.{Grid}
+use Rattle.ps_board.specs.ColumnSets.{set_columns}
+use Rattle.ps_board.proofs.Taken.{AreBelow, ArePassed}
 use Rattle.ps_turn.specs.RowsOfCells.{is_left}
 use Rattle.ps_turn.proofs.players.has_left.Given as goal
 
--- none in the rows passed by
+-- none in the rows that aren't left
 abbrev pub invariant-loop-row : goal.invariant-loop-row
 invariant-loop-row g l =
     let grid : Grid = g.B.Board.grid l.before in
-    (x row : ℕ) → x < grid.width → row < l.row → is_left l.game.names (g.B.Board.grid l.before) (g.B.Board.grid l.after) (x * grid.height + row) ≡ false
+    record {
+      low : AreBelow grid.height l.left;
+      passed : ArePassed (λ row. (x : ℕ) → x < grid.width → is_left l.game.names grid (g.B.Board.grid l.after) (x * grid.height + row) ≡ false) grid.height l.left;
+    }
+
+abbrev pub decreases-loop-row : goal.decreases-loop-row
+decreases-loop-row g l = length (set_columns l.left)
