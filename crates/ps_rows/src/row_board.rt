@@ -292,9 +292,10 @@ impl Board for RowBoard {
         Columns::from_word(differing_row(here, there, self.planes.height, row, objects))
     }
 
-    /// All rows.
-    fn rows_differing(&self, _other: &RowBoard) -> Columns {
-        Columns::below(self.planes.height)
+    /// The words of the planes of all objects are compared; a plane without columns on both boards is passed over.
+    fn rows_differing(&self, other: &RowBoard) -> Columns {
+        let objects = self.members.count();
+        Columns::from_word(self.planes.rows_differing(&other.planes, objects))
     }
 
     /// The whole board is copied.
