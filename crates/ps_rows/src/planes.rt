@@ -265,7 +265,7 @@ impl Planes {
         other.index[plane] = rows;
     }
 
-    /// Makes other planes, as many of the same height, the same. Planes without columns on both sides are passed over.
+    /// Makes other planes, as many of the same height, the same. Those without columns on both sides are passed over.
     pub fn copy_into(&self, other: &mut Planes)
         requires height { other.old.height ≡ self.now.height }
         requires count { vec_len other.old.words ≡ vec_len self.now.words }
@@ -278,8 +278,8 @@ impl Planes {
         }
     }
 
-    /// The rows in which a plane may have other columns than on others, as many of the same height: bit y stands for row
-    /// y. A plane without columns on both sides is passed over.
+    /// The rows in which a plane may have other columns than on others, as many of the same height: bit y stands for
+    /// row y. A plane without columns on both sides is passed over.
     fn differing_rows(&self, other: &Planes, plane: u32) -> u64
         requires height { other.now.height ≡ self.now.height }
         requires here { (plane + 1) * self.now.height ≤ vec_len self.now.words }

@@ -145,11 +145,12 @@ impl RowBoard {
         requires height { other.now.planes.height ≡ self.now.planes.height }
         requires layers { other.now.layers ≡ self.now.layers }
         requires table { other.now.members.table.items ≡ self.now.members.table.items }
-        ensures same { let b = self.now in result ≡ true →
-            IsSameLayer b.members.table.items b.width b.planes.height b.planes.words.items other.now.planes.words.items layer }
-        ensures other { let b = self.now in
-            IsSameLayer b.members.table.items b.width b.planes.height b.planes.words.items other.now.planes.words.items layer →
-            result ≡ true }
+        ensures same { let b = self.now in let here = b.planes.words.items in
+            let there = other.now.planes.words.items in
+            result ≡ true → IsSameLayer b.members.table.items b.width b.planes.height here there layer }
+        ensures other { let b = self.now in let here = b.planes.words.items in
+            let there = other.now.planes.words.items in
+            IsSameLayer b.members.table.items b.width b.planes.height here there layer → result ≡ true }
     {
         let here = self.planes.words.as_slice();
         let there = other.planes.words.as_slice();
