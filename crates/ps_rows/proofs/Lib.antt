@@ -19,3 +19,4 @@ pub mod Marked
 pub mod Unmarked
 pub mod PlaneCopies
 pub mod RowsDiffering
+pub mod Unlike
