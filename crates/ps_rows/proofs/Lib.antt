@@ -18,3 +18,5 @@ pub mod Absent
 pub mod Marked
 pub mod Unmarked
 pub mod PlaneCopies
+pub mod RowsDiffering
+pub mod Unlike

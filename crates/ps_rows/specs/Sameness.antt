@@ -26,3 +26,18 @@ IsSameLayer table width height first second layer = (cell : ℕ) → cell < widt
 abbrev pub HasDifferences : ℕ → ℕ → ℕ → List ℕ → List ℕ → ℕ → Type 0
 HasDifferences height row planes first second word = (plane x : ℕ) → plane < planes → has_column word x ≡ false →
     has_column (slice_index first (plane * height + row)) x ≡ has_column (slice_index second (plane * height + row)) x
+
+-- a word has each column that isn't in another word as one of them is, and hasn't that one
+abbrev pub HasUnlike : ℕ → ℕ → ℕ → Type 0
+HasUnlike of column word =
+    (has_column word column ≡ false) × ((x : ℕ) → x < 64 → has_column word x ≡ false → has_column of x ≡ has_column of column)
+
+-- a word has each column of a row that isn't in one of so many planes, the first ones, as one of them is, and hasn't that one
+abbrev pub HasUnlikeOf : ℕ → ℕ → ℕ → List ℕ → ℕ → ℕ → Type 0
+HasUnlikeOf height row planes words column word = (has_column word column ≡ false) × ((plane x : ℕ) → plane < planes → x < 64 → has_column word x ≡ false →
+    has_column (slice_index words (plane * height + row)) x ≡ has_column (slice_index words (plane * height + row)) column)
+
+-- a plane has the same words in both on each row that isn't in a set
+abbrev pub DifferOnlyOnRows : ℕ → ℕ → List ℕ → List ℕ → ℕ → Type 0
+DifferOnlyOnRows height plane first second rows = (row : ℕ) → row < height → has_column rows row ≡ false →
+    slice_index first (plane * height + row) ≡ slice_index second (plane * height + row)

@@ -14,6 +14,7 @@ ghost use Rattle.ps_rows.specs.Planes.{
 };
 ghost use Rattle.ps_rows.specs.PlaneCopies.{ArePlanesOf};
 ghost use Rattle.ps_rows.specs.RowIndex.{AreRowsMarked};
+ghost use Rattle.ps_rows.specs.Sameness.{DifferOnlyOnRows};
 ghost use Rattle.ps_rows.specs.Showing.{cleared_from};
 
 use ps_model::Memory;
@@ -264,7 +265,7 @@ impl Planes {
         other.index[plane] = rows;
     }
 
-    /// Makes other planes, as many of the same height, the same. Planes without columns on both sides are passed over.
+    /// Makes other planes, as many of the same height, the same. Those without columns on both sides are passed over.
     pub fn copy_into(&self, other: &mut Planes)
         requires height { other.old.height ≡ self.now.height }
         requires count { vec_len other.old.words ≡ vec_len self.now.words }
@@ -275,5 +276,40 @@ impl Planes {
         for plane in 0..self.index.len() {
             self.copy_marked(other, plane);
         }
+    }
+
+    /// The rows in which a plane may have other columns than on others, as many of the same height: bit y stands for
+    /// row y. A plane without columns on both sides is passed over.
+    fn differing_rows(&self, other: &Planes, plane: u32) -> u64
+        requires height { other.now.height ≡ self.now.height }
+        requires here { (plane + 1) * self.now.height ≤ vec_len self.now.words }
+        requires there { (plane + 1) * self.now.height ≤ vec_len other.now.words }
+        ensures { DifferOnlyOnRows self.now.height plane self.now.words.items other.now.words.items result }
+    {
+        if self.rows_of(plane) | other.rows_of(plane) == 0 {
+            return 0;
+        }
+        let mut rows = 0;
+        for row in 0..self.height {
+            let differ = self.row(plane, row) != other.row(plane, row);
+            rows = with_column(rows, row, differ);
+        }
+        rows
+    }
+
+    /// The rows in which one of so many planes, the first ones, may have other columns than on others, as many of the
+    /// same height: bit y stands for row y.
+    pub fn rows_differing(&self, other: &Planes, planes: u32) -> u64
+        requires height { other.now.height ≡ self.now.height }
+        requires here { planes * self.now.height ≤ vec_len self.now.words }
+        requires there { planes * self.now.height ≤ vec_len other.now.words }
+        ensures { (plane : ℕ) → plane < planes →
+            DifferOnlyOnRows self.now.height plane self.now.words.items other.now.words.items result }
+    {
+        let mut rows = 0;
+        for plane in 0..planes {
+            rows |= self.differing_rows(other, plane);
+        }
+        rows
     }
 }

@@ -12,7 +12,7 @@ ghost use Rattle.ps_rows.specs.Showing.{motions_from, numbered, object_shown, wi
 use crate::members::Members;
 use crate::motions::{choose_motion, first_motion};
 use crate::planes::Planes;
-use crate::sameness::{differing_row, same_planes};
+use crate::sameness::{differing_row, same_planes, unlike_row};
 use crate::scanning::columns;
 use ps_board::{Board, Columns};
 use ps_model::{LayerId, LayeredObject, Memory, Motion, MotionTest, ObjectId};
@@ -145,11 +145,12 @@ impl RowBoard {
         requires height { other.now.planes.height ≡ self.now.planes.height }
         requires layers { other.now.layers ≡ self.now.layers }
         requires table { other.now.members.table.items ≡ self.now.members.table.items }
-        ensures same { let b = self.now in result ≡ true →
-            IsSameLayer b.members.table.items b.width b.planes.height b.planes.words.items other.now.planes.words.items layer }
-        ensures other { let b = self.now in
-            IsSameLayer b.members.table.items b.width b.planes.height b.planes.words.items other.now.planes.words.items layer →
-            result ≡ true }
+        ensures same { let b = self.now in let here = b.planes.words.items in
+            let there = other.now.planes.words.items in
+            result ≡ true → IsSameLayer b.members.table.items b.width b.planes.height here there layer }
+        ensures other { let b = self.now in let here = b.planes.words.items in
+            let there = other.now.planes.words.items in
+            IsSameLayer b.members.table.items b.width b.planes.height here there layer → result ≡ true }
     {
         let here = self.planes.words.as_slice();
         let there = other.planes.words.as_slice();
@@ -272,9 +273,11 @@ impl Board for RowBoard {
         Columns::from_word(self.rows_of(object.0))
     }
 
-    /// That column alone.
-    fn alike(&self, _row: u32, column: u32) -> Columns {
-        Columns::none().with(column, true)
+    /// The columns in which the planes of all objects are as in that one.
+    fn alike(&self, row: u32, column: u32) -> Columns {
+        let objects = self.members.count();
+        let unlike = unlike_row(&self.planes, objects, row, column);
+        Columns::from_word(columns(self.width) & !unlike)
     }
 
     fn is_alike(&self, other: &RowBoard) -> bool {
@@ -292,9 +295,10 @@ impl Board for RowBoard {
         Columns::from_word(differing_row(here, there, self.planes.height, row, objects))
     }
 
-    /// All rows.
-    fn rows_differing(&self, _other: &RowBoard) -> Columns {
-        Columns::below(self.planes.height)
+    /// The words of the planes of all objects are compared; a plane without columns on both boards is passed over.
+    fn rows_differing(&self, other: &RowBoard) -> Columns {
+        let objects = self.members.count();
+        Columns::from_word(self.planes.rows_differing(&other.planes, objects))
     }
 
     /// The whole board is copied.
@@ -400,6 +404,24 @@ mod tests {
         assert!(rt; !board.is_alike(&turned));
         let fewer = RowBoard::try_empty(rt.alloc(), 2, 3, 2, &[LayerId(1)])?;
         assert!(rt; !board.is_alike(&fewer));
+        Ok(())
+    }
+
+    #[test]
+    fn tells_which_columns_are_alike(rt: HostRuntime) -> Result<(), Fail> {
+        let mut board = RowBoard::try_empty(rt.alloc(), 5, 2, 2, &OWN_LAYERS)?;
+        board.put(3, LayerId(1), Some(ObjectId(2)), Motion::Still);
+        board.put(7, LayerId(1), Some(ObjectId(2)), PUSHED);
+        board.put(9, LayerId(1), Some(ObjectId(2)), Motion::Still);
+        board.put(9, LayerId(0), Some(ObjectId(1)), Motion::Still);
+        let empty = board.alike(1, 2);
+        let held = board.alike(1, 3);
+        for column in 0..64u32 {
+            assert_eq!(rt; board.alike(0, 4).has(column), column < 5);
+            assert_eq!(rt; empty.has(column), column == 0 || column == 2);
+            assert_eq!(rt; held.has(column), column == 1 || column == 3);
+            assert_eq!(rt; board.alike(1, 4).has(column), column == 4);
+        }
         Ok(())
     }
 

@@ -1,10 +1,11 @@
-//! Whether planes have the same cells on two boards.
+//! Whether planes have the same cells on two boards, or in two columns of one.
 
-ghost use Rattle.std.specs.Prelude.{◌≡◌, ◌+◌, ◌*◌, ◌<◌, ◌≤◌, length, true};
+ghost use Rattle.std.specs.Prelude.{◌≡◌, ◌+◌, ◌*◌, ◌<◌, ◌≤◌, length, slice_index, true, vec_len};
 ghost use Rattle.ps_rows.specs.Planes.{HavePlanes};
 ghost use Rattle.ps_rows.specs.Sameness.{AreSamePlanes, AreSameRows, HasDifferences, IsSamePlane};
+ghost use Rattle.ps_rows.specs.Sameness.{HasUnlike, HasUnlikeOf};
 
-use crate::planes::plane_row;
+use crate::planes::{Planes, has_column, plane_row};
 
 /// Whether two rows have the same columns, of so many from the left on.
 fn same_row(first: u64, second: u64, width: u32) -> bool
@@ -61,4 +62,35 @@ pub fn differing_row(first: &[u64], second: &[u64], height: u32, row: u32, plane
         differing |= plane_row(first, height, plane, row) ^ plane_row(second, height, plane, row);
     }
     differing
+}
+
+/// The columns of a row in which a plane isn't as in one of them. A row that the plane has empty isn't read.
+fn unlike_in(planes: &Planes, plane: u32, row: u32, column: u32) -> u64
+    requires column { column < 64 }
+    requires row { row < planes.now.height }
+    requires plane { (plane + 1) * planes.now.height ≤ vec_len planes.now.words }
+    ensures { HasUnlike (slice_index planes.now.words.items (plane * planes.now.height + row)) column result }
+{
+    if !has_column(planes.rows_of(plane), row) {
+        return 0;
+    }
+    let word = planes.row(plane, row);
+    if has_column(word, column) {
+        return !word;
+    }
+    word
+}
+
+/// The columns of a row in which so many planes, the first ones, aren't as in one of them.
+pub fn unlike_row(planes: &Planes, count: u32, row: u32, column: u32) -> u64
+    requires column { column < 64 }
+    requires row { row < planes.now.height }
+    requires planes { count * planes.now.height ≤ vec_len planes.now.words }
+    ensures { HasUnlikeOf planes.now.height row count planes.now.words.items column result }
+{
+    let mut unlike = 0;
+    for plane in 0..count {
+        unlike |= unlike_in(planes, plane, row, column);
+    }
+    unlike
 }

@@ -1,16 +1,21 @@
-use Rattle.std.proofs.Common.{◌≡◌, ◌<◌, ◌∙◌, true, List, Bool, ap, refl, arith}
-use Rattle.ps_model.specs.declared.limits.TheConstants.{SIDE_LIMIT}
-use Rattle.ps_board.specs.ColumnSets.{with_column}
-use Rattle.ps_board.proofs.OneColumn.{has_own, only_own}
+use Rattle.std.proofs.Common.{◌<◌, ◌^◌, ◌∙◌, ℕ, List, Bool, ap, subst, rules}
+use Rattle.ps_board.specs.ColumnSets.{column_at}
+use Rattle.ps_rows.specs.Sameness.{HasUnlikeOf}
+use Rattle.ps_rows.proofs.SameRows.{columns_alike, itself_alike}
 use Rattle.ps_rows.proofs.row_board.RowBoardBoard.alike.Goals as goal
 
 pub returns-clause-own : goal.returns-clause-own
 returns-clause-own c =
-    has_own c.with.result c.args.column (c.with.ensures ∙ ap (λ (set : List Bool). with_column set c.args.column true) c.none.ensures) (omega (arith, c.requires.column, c.args.self.now.columns))
+    let b = c.args.self.now in
+    let fits : c.unlike_row-unlike.result < 2 ^ 64 = search rules in
+    ap (λ (set : List Bool). column_at set c.args.column) c.from_word.ensures
+    ∙ itself_alike b.width c.columns.result c.unlike_row-unlike.result c.args.column c.requires.column b.columns fits c.columns.ensures c.unlike_row-unlike.ensures.0
 
 pub returns-clause-alike : goal.returns-clause-alike
-returns-clause-alike c = λ x under has.
-    let low : x < SIDE_LIMIT = omega (arith, under, c.args.self.now.columns) in
-    let same : x ≡ c.args.column =
-    only_own c.with.result c.args.column x (c.with.ensures ∙ ap (λ (set : List Bool). with_column set c.args.column true) c.none.ensures) low has in
-    rw same refl
+returns-clause-alike c =
+    let b = c.args.self.now in
+    let fits : c.unlike_row-unlike.result < 2 ^ 64 = search rules in
+    let Told : ℕ → Type 0 = λ count. HasUnlikeOf b.planes.height c.args.row count b.planes.words.items c.args.column c.unlike_row-unlike.result in
+    rw c.from_word.ensures
+    (columns_alike b.members.table.items b.width b.planes.height b.layers b.planes.words.items c.args.row c.args.column c.columns.result c.unlike_row-unlike.result c.requires.row c.requires.column b.columns fits
+    (subst Told c.count-objects.ensures.value c.unlike_row-unlike.ensures))
