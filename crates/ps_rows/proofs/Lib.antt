@@ -16,3 +16,4 @@ pub mod Differences
 pub mod SameRows
 pub mod Absent
 pub mod Marked
+pub mod RowChanges

@@ -4,3 +4,5 @@ pub mod Showing
 pub mod RowTests
 pub mod Sameness
 pub mod RowIndex
+pub mod RowChanges
+pub mod SlotsWritten

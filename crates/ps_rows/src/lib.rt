@@ -4,6 +4,7 @@
 //! what looks for objects can look at a whole row at once.
 #![tactic(auto)]
 
+mod changes;
 mod members;
 mod motions;
 mod planes;

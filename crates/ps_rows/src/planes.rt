@@ -1,6 +1,6 @@
 //! Planes of rows of bits, as one flat list of words.
 
-ghost use Rattle.std.specs.Prelude.{◌≡◌, ◌+◌, ◌*◌, ◌/◌, ◌%◌, ◌<◌, ◌≤◌, ℕ, ◌∷◌, [], find, length, slice_index};
+ghost use Rattle.std.specs.Prelude.{◌≡◌, ◌+◌, ◌*◌, ◌/◌, ◌%◌, ◌<◌, ◌≤◌, ℕ, ◌∷◌, [], find, length, slice_index, slice_set};
 ghost use Rattle.ps_model.specs.board.Movement.{is_number};
 ghost use Rattle.ps_rows.specs.Planes.{
   HavePlanes,
@@ -62,6 +62,15 @@ pub fn plane_row(words: &[u64], height: u32, plane: u32, row: u32) -> u64
     words[plane as usize * height as usize + row as usize]
 }
 
+/// Gives a plane these columns of a row.
+pub fn set_plane_row(words: &mut [u64], height: u32, plane: u32, row: u32, word: u64)
+    requires row { row < height }
+    requires plane { (plane + 1) * height ≤ length words.old }
+    ensures { words.new ≡ slice_set words.old (plane * height + row) word }
+{
+    words[plane as usize * height as usize + row as usize] = word;
+}
+
 /// Puts a cell into a plane, or takes it away.
 fn set_cell(words: &mut [u64], height: u32, cell: u32, plane: u32, on: bool)
     requires row { 0 < height }
@@ -74,7 +83,7 @@ fn set_cell(words: &mut [u64], height: u32, cell: u32, plane: u32, on: bool)
 }
 
 /// Whether the plane is the one that is chosen.
-fn is_chosen(chosen: Option<u32>, plane: u32) -> bool
+pub fn is_chosen(chosen: Option<u32>, plane: u32) -> bool
     ensures { result ≡ is_number chosen plane }
 {
     match chosen {
