@@ -17,3 +17,6 @@ pub mod SameRows
 pub mod Absent
 pub mod Marked
 pub mod RowChanges
+pub mod SlotChanges
+pub mod LayerChanges
+pub mod LayerWritten

@@ -3,16 +3,19 @@ use Rattle.std.proofs.Common.{◌≡◌, ◌≢◌, ◌∙◌, ℕ, ◌+◌, ◌
 use Rattle.std.specs.Prelude.{nat_eq, slice_set, if◌then◌else◌}
 use Rattle.std.specs.List.{list_any}
 use Rattle.std.specs.Int.{bit_at}
-use Rattle.std.proofs.lemmas.Bool.{cases_Bool, cases_eq, eq-eqb, eqb-true, or_parts, false≢true}
+use Rattle.std.proofs.lemmas.Bool.{cases_Bool, cases_eq, eq-eqb, eqb-true, or_parts, false_from_ne_true, false≢true}
+use Rattle.std.proofs.Math.Nat.{mul-le-mul_left}
 use Rattle.std.proofs.lemmas.Nat.{same_from_place}
 use Rattle.std.proofs.lemmas.Nat.Bits.{same_from_bits_below}
 use Rattle.std.proofs.lemmas.List.{get_or-set_same, get_or-set_other, length-set, take_all}
 use Rattle.std.proofs.lemmas.List.Folds.{list_any_more}
 use Rattle.ps_model.specs.board.Movement.{is_number}
 use Rattle.ps_rows.specs.Planes.{has_column, HavePlanes}
-use Rattle.ps_rows.specs.RowChanges.{word_after, bit_after, row_after, set_in, AreRowsChanged, AreRowsLeft, IsRowLeft}
+use Rattle.ps_rows.specs.RowChanges.{word_after, bit_after, row_after, set_in, AreRowsChanged, IsLayerWritten, IsRowLeft}
+use Rattle.ps_rows.specs.Showing.{motion_planes}
 use Rattle.ps_rows.specs.declared.changes.RowChange.{RowChange}
 use Rattle.ps_rows.proofs.Bits.{has_column-zero}
+use Rattle.ps_rows.proofs.Moves.{five_false, five_high}
 use Rattle.ps_rows.proofs.Scans.{bit_cases, has_column-and, has_column-or, has_column-not}
 
 -- one word ---------------------------------------------------------------------------------------------------------------
@@ -124,3 +127,28 @@ module _ (h row : ℕ) (change : RowChange) (under : row < h) (fits : change.cle
       same_word after word fits_after fits_word
       (λ x low. ap (λ (w : ℕ). has_column w x) f ∙ has_column-after change plane word x fits low
       ∙ ap (λ (w : ℕ). bit_after change plane x (has_column w x)) e ∙ left x low ∙ ap (λ (w : ℕ). has_column w x) (sym e))
+
+-- a layer ----------------------------------------------------------------------------------------------------------------
+
+pub layer_made : (h row : ℕ) (objects motions : RowChange) (words mid written planes : List ℕ) (first : ℕ) → row < h → ((p : ℕ) → list_any (nat_eq p) planes ≡ true → p < first) →
+    AreRowsChanged h row objects words mid planes → AreRowsChanged h row motions mid written (motion_planes first) → IsLayerWritten h row words written planes objects first motions
+layer_made h row objects motions words mid written planes first under below front back = record {
+  long = back.long ∙ front.long;
+  objects_there =
+      λ p x listed low.
+      ap (λ (w : ℕ). has_column w x) (back.elsewhere p row under (λ e. five_false first p (inl (below p listed)))) ∙ front.there p x listed low;
+  motions_there =
+      λ q x listed low.
+      back.there q x listed low
+      ∙ ap (λ (w : ℕ). bit_after motions q x (has_column w x))
+      (front.elsewhere q row under
+      (λ e. false_from_ne_true (list_any (nat_eq q) planes) (λ among. false≢true (sym (five_false first q (inl (below q among))) ∙ listed))));
+  elsewhere = λ p y inside not_objects not_motions. back.elsewhere p y inside not_motions ∙ front.elsewhere p y inside not_objects;
+}
+
+pub motions_whole : (h long first : ℕ) (planes : List ℕ) → planes ≡ motion_planes first → (first + 5) * h ≤ long → (words : List ℕ) → length words ≡ long → HavePlanes h words planes
+motions_whole h long first planes e enough words same = λ q listed.
+    let among : list_any (nat_eq q) (motion_planes first) ≡ true = ap (list_any (nat_eq q)) (sym e) ∙ listed in
+    let next : q + 1 ≤ first + 5 = let high : q < first + 5 = five_high first q among in omega arith in
+    let more : h * (q + 1) ≤ h * (first + 5) = mul-le-mul_left h next in
+    omega (arith, more, enough, same)

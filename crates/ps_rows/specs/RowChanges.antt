@@ -8,7 +8,7 @@ use Rattle.ps_model.specs.declared.compiled.ObjectWrite.{ObjectWrite}
 use Rattle.ps_model.specs.declared.compiled.ObjectWrite.TheVariants.{Put, Leave, Clear}
 use Rattle.ps_model.specs.board.Movement.{is_number}
 use Rattle.ps_rows.specs.Planes.{has_column}
-use Rattle.ps_rows.specs.Showing.{motion_plane}
+use Rattle.ps_rows.specs.Showing.{motion_plane, motion_planes}
 use Rattle.ps_rows.specs.declared.changes.RowChange.{RowChange}
 
 -- the columns that a change sets in a plane
@@ -33,6 +33,16 @@ pub record AreRowsChanged (height row : ℕ) (change : RowChange) (words written
   pub there : (plane x : ℕ) → list_any (nat_eq plane) planes ≡ true → x < 64 →
       has_column (slice_index written (plane * height + row)) x ≡ bit_after change plane x (has_column (slice_index words (plane * height + row)) x)
   pub elsewhere : (plane y : ℕ) → y < height → (y ≡ row → list_any (nat_eq plane) planes ≡ false) →
+      slice_index written (plane * height + y) ≡ slice_index words (plane * height + y)
+
+-- the planes, of which those of a layer's objects have their row changed, and those of its motions, from the first on
+pub record IsLayerWritten (height row : ℕ) (words written planes : List ℕ) (objects : RowChange) (first : ℕ) (motions : RowChange) : Type 0 where
+  pub long : length written ≡ length words
+  pub objects_there : (plane x : ℕ) → list_any (nat_eq plane) planes ≡ true → x < 64 →
+      has_column (slice_index written (plane * height + row)) x ≡ bit_after objects plane x (has_column (slice_index words (plane * height + row)) x)
+  pub motions_there : (plane x : ℕ) → list_any (nat_eq plane) (motion_planes first) ≡ true → x < 64 →
+      has_column (slice_index written (plane * height + row)) x ≡ bit_after motions plane x (has_column (slice_index words (plane * height + row)) x)
+  pub elsewhere : (plane y : ℕ) → y < height → (y ≡ row → list_any (nat_eq plane) planes ≡ false) → (y ≡ row → list_any (nat_eq plane) (motion_planes first) ≡ false) →
       slice_index written (plane * height + y) ≡ slice_index words (plane * height + y)
 
 -- the change leaves the row of a plane as it is

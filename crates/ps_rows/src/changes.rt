@@ -1,10 +1,12 @@
 //! What becomes of the rows of planes, many columns at a time.
 
-ghost use Rattle.std.specs.Prelude.{◌≡◌, ◌+◌, ◌*◌, ◌<◌, ◌≤◌, ◌^◌, false, length};
+ghost use Rattle.std.specs.Prelude.{◌≡◌, ◌+◌, ◌*◌, ◌<◌, ◌≤◌, ◌^◌, ℕ, false, length, nat_eq, true};
+ghost use Rattle.std.specs.List.{list_any};
 ghost use Rattle.ps_rows.specs.Planes.{HavePlanes};
-ghost use Rattle.ps_rows.specs.RowChanges.{AreRowsChanged, AreRowsLeft, IsRowLeft, clearing};
-ghost use Rattle.ps_rows.specs.RowChanges.{motions_change, moves_kept, objects_change};
+ghost use Rattle.ps_rows.specs.RowChanges.{AreRowsChanged, AreRowsLeft, IsLayerWritten, IsRowLeft};
+ghost use Rattle.ps_rows.specs.RowChanges.{clearing, motions_change, moves_kept, objects_change};
 ghost use Rattle.ps_rows.specs.RowChanges.{row_after, set_in, word_after};
+ghost use Rattle.ps_rows.specs.Showing.{motion_planes};
 
 use crate::motions::motion_plane;
 use crate::planes::{is_chosen, plane_row, set_plane_row};
@@ -158,4 +160,30 @@ pub fn change_rows(
         any = change_row(words, height, row, change, *plane, any);
     }
     any
+}
+
+/// Changes the row of a layer, whose objects have these planes, and whose motions have those from the first on, and
+/// answers whether a word changed.
+pub fn change_layer(
+    words: &mut [u64],
+    height: u32,
+    row: u32,
+    planes: &[u32],
+    objects: RowChange,
+    first: u32,
+    motions: RowChange,
+) -> bool
+    requires row { row < height }
+    requires planes { HavePlanes height words.old planes.now }
+    requires below { (plane : ℕ) → list_any (nat_eq plane) planes.now ≡ true → plane < first }
+    requires few { first + 4 < 2 ^ 32 }
+    requires motions { (first + 5) * height ≤ length words.old }
+    ensures words { IsLayerWritten height row words.old words.new planes.now objects first motions }
+    ensures quiet { result ≡ false → words.new ≡ words.old }
+    ensures left { AreRowsLeft height row objects words.old planes.now →
+        AreRowsLeft height row motions words.old (motion_planes first) → result ≡ false }
+{
+    let changed = change_rows(words, height, row, objects, planes, false);
+    let places = [first, first + 1, first + 2, first + 3, first + 4];
+    change_rows(words, height, row, motions, &places, changed)
 }

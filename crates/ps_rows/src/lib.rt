@@ -8,6 +8,7 @@ mod changes;
 mod members;
 mod motions;
 mod planes;
+mod rewriting;
 mod row_board;
 mod row_scan;
 mod sameness;
