@@ -1,5 +1,5 @@
 -- A layer behind the change of its row.
-use Rattle.std.proofs.Common.{◌≡◌, ◌≢◌, ◌∙◌, ℕ, ◌+◌, ◌*◌, ◌/◌, ◌%◌, ◌<◌, ◌≤◌, inl, inr, Bool, true, false, ◌&&◌, Option, Some, List, length, get_or, refl, sym, ap, ap₂, arith}
+use Rattle.std.proofs.Common.{◌≡◌, ◌≢◌, ◌∙◌, ℕ, ◌+◌, ◌*◌, ◌/◌, ◌%◌, ◌<◌, ◌≤◌, inl, inr, Bool, true, false, ◌&&◌, Option, Some, List, length, get_or, refl, sym, ap, ap₂, subst, arith}
 use Rattle.std.specs.Prelude.{nat_eq, option_map, slice_get, if◌then◌else◌}
 use Rattle.std.specs.List.{list_any}
 use Rattle.std.proofs.lemmas.Bool.{cases_Bool, cases_eq, cases_lt, eq-eqb, ne_eqb, false≢true}
@@ -46,6 +46,16 @@ pub listed_below : (table : List ℕ) (layer : ℕ) (planes : List ℕ) (first :
 listed_below table layer planes first e f p listed =
     let below : p < length table = slice_get_within table p layer (listed_member table layer p (ap (list_any (nat_eq p)) (sym e) ∙ listed)) in
     omega (arith, below, f)
+
+-- the words before and behind it are known by other names
+pub made_again : (height row : ℕ) (ws words left written planes known : List ℕ) (objects motions : RowChange) (from first : ℕ) → ws ≡ words → written ≡ left → planes ≡ known → from ≡ first →
+    IsLayerWritten height row ws left planes objects from motions → IsLayerWritten height row words written known objects first motions
+made_again height row ws words left written planes known objects motions from first a b c d so =
+    let P : List ℕ → Type 0 = λ xs. IsLayerWritten height row xs left planes objects from motions in
+    let Q : List ℕ → Type 0 = λ xs. IsLayerWritten height row words xs planes objects from motions in
+    let R : List ℕ → Type 0 = λ xs. IsLayerWritten height row words written xs objects from motions in
+    let S : ℕ → Type 0 = λ n. IsLayerWritten height row words written known objects n motions in
+    subst S d (subst R c (subst Q (sym b) (subst P a so)))
 
 module _ (table : List ℕ) (width height layers : ℕ) (words written : List ℕ) (layer row columns : ℕ) (after : ℕ → Slot → Slot) (objects motions : RowChange) (some : 0 < height) (narrow : width ≤ 64)
     (under : row < height) (on : layer < layers) (change : IsLayerChange table width height words layer row columns (after layer) objects motions)
