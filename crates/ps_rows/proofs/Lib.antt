@@ -20,3 +20,4 @@ pub mod RowChanges
 pub mod SlotChanges
 pub mod LayerChanges
 pub mod LayerWritten
+pub mod RowsWritten
