@@ -1,5 +1,5 @@
 -- Layers of a row written one after the other come to its cells written.
-use Rattle.std.proofs.Common.{◌≡◌, ◌≢◌, ◌∙◌, ℕ, zero, suc, ◌+◌, ◌*◌, ◌/◌, ◌%◌, ◌<◌, ◌≤◌, inl, inr, Bool, true, false, not, ◌&&◌, ◌||◌, Option, Some, List, [], ◌∷◌, length, map, get_or, refl, sym, ap, ap₂, subst, arith}
+use Rattle.std.proofs.Common.{◌≡◌, ◌≢◌, ◌∙◌, ℕ, zero, suc, ◌+◌, ◌*◌, ◌/◌, ◌%◌, ◌<◌, ◌≤◌, inl, inr, Bool, true, false, not, ◌&&◌, ◌||◌, Option, Some, List, [], ◌∷◌, length, map, get_or, refl, sym, ap, ap₂, subst, arith, bit_and}
 use Rattle.std.specs.Prelude.{nat_eq, nat_lt, if◌then◌else◌}
 use Rattle.std.specs.List.{list_any, range_with_len}
 use Rattle.std.proofs.lemmas.Bool.{and_parts, cases_Bool, cases_eq, eq-eqb, ne_eqb, lt-ltb, le-ltb, or_parts, false≢true}
@@ -9,15 +9,21 @@ use Rattle.ps_model.specs.declared.pieces.Slot.TheVariants.{Bare}
 use Rattle.ps_model.specs.board.Attempts.{Rewritten, same_cell, same_slot}
 use Rattle.ps_model.specs.board.Grid.{Grid, cell_at, slot_at}
 use Rattle.ps_model.specs.meaning.Compiled.{CellWrite, cell_written, written_from}
+use Rattle.ps_board.specs.ColumnSets.{bit_is_set, column_at, word_columns}
+use Rattle.ps_board.proofs.ColumnLaws.{column_at-where}
+use Rattle.std.proofs.lemmas.Nat.{div_below}
 use Rattle.ps_match.specs.InRoom.{slot_after, write_in_room}
-use Rattle.ps_match.specs.Together.{cell_where, changes_where, rewritten_where}
+use Rattle.ps_match.specs.Together.{cell_where, changes_where, is_on_row, rewritten_where}
 use Rattle.ps_match.specs.Touches.{touches}
 use Rattle.ps_match.proofs.Cells.{get_or-written_from, length-written_from}
-use Rattle.ps_match.proofs.Chosen.{any_none, cell_at-where, length-where, rewritten_of}
+use Rattle.ps_match.proofs.Chosen.{any_none, cell_at-where, length-where, rewritten_of, where-agree, where-none}
 use Rattle.ps_match.proofs.LeftAlone.{untouched}
 use Rattle.ps_match.proofs.RowWritten.{lt_next}
-use Rattle.ps_rows.specs.SlotsWritten.{AreSlotsLeft, AreSlotsWritten}
+use Rattle.ps_rows.specs.Planes.{has_column}
+use Rattle.ps_rows.specs.SlotsWritten.{AreSlotsLeft, AreSlotsWritten, in_columns}
 use Rattle.ps_rows.proofs.Alike.{slot_itself}
+use Rattle.ps_rows.proofs.Bits.{has_column-zero}
+use Rattle.ps_rows.proofs.Scans.{has_column-and}
 
 and_false : (a : Bool) → (a && false) ≡ false
 and_false true = refl
@@ -209,7 +215,7 @@ module _ (table : Option (List ℕ)) (write : CellWrite) (g next : Grid) (chosen
 
   left_none_changes : list_any (changes_where g becomes chosen) (range_with_len 0 (length g.cells)) ≡ false → AreSlotsLeft g chosen (λ l. true) after
   left_none_changes none = λ c l low below sure on.
-      let inside : c < 0 + length g.cells = rw long low in
+      let inside : c < 0 + length g.cells = omega (arith, long, low) in
       let stays : (chosen c && not (same_cell (cell_at g c) (becomes (cell_at g c)))) ≡ false = none_of (changes_where g becomes chosen) 0 (length g.cells) c (omega arith) inside none in
       let same : same_cell (cell_at g c) (becomes (cell_at g c)) ≡ true =
       not_false (same_cell (cell_at g c) (becomes (cell_at g c))) (ap (λ (b : Bool). b && not (same_cell (cell_at g c) (becomes (cell_at g c)))) (sym sure) ∙ stays) in
@@ -221,11 +227,11 @@ module _ (table : Option (List ℕ)) (write : CellWrite) (g next : Grid) (chosen
       changed ≡ (rewritten_where g becomes chosen).changed
   unfolding rewritten_where
   changed_exactly changed quiet left = elim (cases_Bool changed) [
-    | inl yes ↦ elim (cases_Bool (list_any (changes_where g becomes chosen) (range_with_len 0 (length g.cells)))) [
-      | inl some ↦ yes ∙ sym some
-      | inr none ↦ absurd (false≢true (sym (left (left_none_changes none)) ∙ yes))
+    | inl told ↦ elim (cases_Bool (list_any (changes_where g becomes chosen) (range_with_len 0 (length g.cells)))) [
+      | inl some ↦ told ∙ sym some
+      | inr none ↦ absurd (false≢true (sym (left (left_none_changes none)) ∙ told))
     ]
-    | inr no ↦ no ∙ sym (any_none (changes_where g becomes chosen) 0 (length g.cells) (λ c low high. change_none (quiet no) c (rw (← long) (omega arith))))
+    | inr silent ↦ silent ∙ sym (any_none (changes_where g becomes chosen) 0 (length g.cells) (λ c low high. change_none (quiet silent) c (rw (← long) (omega arith))))
   ]
 
   pub row_rewritten : (changed : Bool) → next.width ≡ g.width → next.height ≡ g.height → next.layers ≡ g.layers → AreSlotsWritten g next chosen (λ l. true) after →
@@ -236,3 +242,41 @@ module _ (table : Option (List ℕ)) (write : CellWrite) (g next : Grid) (chosen
       let sides : next ≡ record g { cells = next.cells } = rw (← wide, ← high, ← deep) refl in
       ap (λ (k : Grid). let r : Rewritten = record { grid = k; changed = changed } in r) sides
       ∙ ap₂ (rewritten_of g) (cells_written so) (changed_exactly changed quiet left)
+
+-- sets of columns ---------------------------------------------------------------------------------------------------------
+
+and_true : (a : Bool) → (a && true) ≡ a
+and_true true = refl
+and_true false = refl
+
+column_of_word : (word x : ℕ) → x < 64 → has_column word x ≡ column_at (word_columns word) x
+unfolding has_column
+column_of_word word x low = sym (column_at-where (bit_is_set word) x low)
+
+module _ (width word full : ℕ) (columns : List Bool) (narrow : width ≤ 64) (wide : (x : ℕ) → x < 64 → has_column full x ≡ nat_lt x width) where
+  pub set_within : (x : ℕ) → width ≤ x → x < 64 → has_column (bit_and word full) x ≡ false
+  set_within x far low = has_column-and word full x ∙ ap (λ (b : Bool). has_column word x && b) (wide x low ∙ le-ltb x width far) ∙ and_false (has_column word x)
+
+  set_column : (x : ℕ) → x < width → word_columns word ≡ columns → has_column (bit_and word full) x ≡ column_at columns x
+  set_column x near is =
+      let low : x < 64 = omega arith in
+      has_column-and word full x ∙ ap (λ (b : Bool). has_column word x && b) (wide x low ∙ lt-ltb x width near) ∙ and_true (has_column word x) ∙ column_of_word word x low
+      ∙ ap (λ (set : List Bool). column_at set x) is
+
+  pub set_rewritten : (g : Grid) (becomes : List Slot → List Slot) (row : ℕ) → g.width ≡ width → row < g.height → length g.cells ≡ g.width * g.height → word_columns word ≡ columns →
+      rewritten_where g becomes (in_columns g.height row (bit_and word full)) ≡ rewritten_where g becomes (is_on_row g.height row columns)
+  set_rewritten g becomes row same under long is =
+      where-agree g becomes (in_columns g.height row (bit_and word full)) (is_on_row g.height row columns)
+      (λ n low.
+      let some : 0 < g.height = omega arith in
+      let inside : n < g.width * g.height = rw (← long) low in
+      let near : n / g.height < width = rw (← same) (div_below n g.height g.width some inside) in
+      ap (λ (b : Bool). nat_eq (n % g.height) row && b) (set_column (n / g.height) near is))
+
+  pub set_empty : (g : Grid) (becomes : List Slot → List Slot) (row : ℕ) → g.width ≡ width → row < g.height → length g.cells ≡ g.width * g.height → word_columns word ≡ columns → bit_and word full ≡ 0 →
+      record { grid = g; changed = false } ≡ rewritten_where g becomes (is_on_row g.height row columns)
+  set_empty g becomes row same under long is none =
+      sym (where-none g becomes (in_columns g.height row (bit_and word full))
+      (λ n low. ap (λ (w : ℕ). nat_eq (n % g.height) row && has_column w (n / g.height)) none ∙ ap (λ (b : Bool). nat_eq (n % g.height) row && b) (has_column-zero (n / g.height))
+      ∙ and_false (nat_eq (n % g.height) row)))
+      ∙ set_rewritten g becomes row same under long is
