@@ -86,11 +86,13 @@ pub fn moves_kept(own: Option<LayerWrite>) -> bool
     ensures { result ≡ moves_kept own }
 {
     match own {
-        Some(LayerWrite {
-            object: ObjectWrite::Leave,
-            motion: Some(_),
-            ..
-        }) => true,
+        Some(
+            LayerWrite {
+                object: ObjectWrite::Leave,
+                motion: Some(_),
+                ..
+            },
+        ) => true,
         _ => false,
     }
 }

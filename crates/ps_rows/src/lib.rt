@@ -13,6 +13,8 @@ mod row_board;
 mod row_scan;
 mod sameness;
 mod scanning;
+#[cfg(test)]
+mod tests;
 
 pub use ps_board::Board;
 pub use ps_match::{Columns, Rooms, Scan};
