@@ -1,9 +1,9 @@
 -- What a write makes of a layer in columns of a row.
-use Rattle.std.proofs.Common.{◌≡◌, ◌≢◌, ◌∙◌, ℕ, ◌+◌, ◌-◌, ◌*◌, ◌/◌, ◌%◌, ◌^◌, ◌<◌, ◌≤◌, inl, inr, Bool, true, false, not, ◌&&◌, ◌||◌, Option, Some, None, List, [], ◌∷◌, length, get_or, take, refl, sym, ap, ap₂, subst, arith, bit_and, bit_or}
+use Rattle.std.proofs.Common.{◌≡◌, ◌≢◌, ◌∙◌, ℕ, ◌+◌, ◌-◌, ◌*◌, ◌/◌, ◌%◌, ◌^◌, ◌<◌, ◌≤◌, inl, inr, Bool, true, false, not, ◌&&◌, ◌||◌, Option, Some, None, List, [], ◌∷◌, length, get_or, take, refl, sym, ap, ap₂, arith, bit_and, bit_or}
 use Rattle.std.specs.Prelude.{nat_eq, find, option_map, slice_get}
 use Rattle.std.specs.List.{list_any}
 use Rattle.std.proofs.Math.Nat.{div-add-mod}
-use Rattle.std.proofs.lemmas.Bool.{cases_Bool, cases_eq, eq-eqb, ne_eqb}
+use Rattle.std.proofs.lemmas.Bool.{cases_Bool, cases_eq, ne_eqb}
 use Rattle.std.proofs.lemmas.List.Folds.{list_any_more}
 use Rattle.std.proofs.lemmas.Nat.{div_below, mul-add-lt}
 use Rattle.std.proofs.lemmas.Option.{none-some, same_Some}
@@ -16,7 +16,7 @@ use Rattle.ps_model.specs.declared.pieces.Slot.{Slot}
 use Rattle.ps_model.specs.declared.pieces.Slot.TheVariants.{Bare, Holds}
 use Rattle.ps_model.specs.board.Grid.{Grid, cell_at, motion_in, slot_of}
 use Rattle.ps_model.specs.board.Movement.{is_number}
-use Rattle.ps_model.specs.meaning.Compiled.{CellWrite, is_held_in, slot_holds, slot_freed, slot_written}
+use Rattle.ps_model.specs.meaning.Compiled.{CellWrite, is_held_in, slot_holds, slot_freed}
 use Rattle.ps_model.specs.meaning.Fitting.{same_motion}
 use Rattle.ps_match.specs.InRoom.{SlotHasRoom, own_write, slot_after, write_in_room}
 use Rattle.ps_match.proofs.OwnWrites.{after_value, room_after}

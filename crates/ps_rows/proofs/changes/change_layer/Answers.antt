@@ -1,5 +1,5 @@
-use Rattle.std.proofs.Common.{◌≡◌, ◌∙◌, ◌<◌, ◌≤◌, ◌+◌, ◌*◌, ℕ, List, false, refl, sym, ap, subst, length, arith}
-use Rattle.ps_rows.specs.RowChanges.{AreRowsChanged, AreRowsLeft}
+use Rattle.std.proofs.Common.{◌≡◌, ◌∙◌, ℕ, List, false, refl, sym, subst, length}
+use Rattle.ps_rows.specs.RowChanges.{AreRowsLeft}
 use Rattle.ps_rows.specs.Showing.{motion_planes}
 use Rattle.ps_rows.proofs.RowChanges.{layer_made, motions_whole}
 use Rattle.ps_rows.proofs.changes.change_layer.Goals as goal

@@ -1,5 +1,3 @@
-use Rattle.std.proofs.Common.{rules, ◌≡◌, ◌∙◌, ℕ, List, ap, sym}
-use Rattle.ps_rows.specs.RowChanges.{IsRowLeft}
 use Rattle.ps_rows.proofs.RowChanges.{word_stays}
 use Rattle.ps_rows.proofs.changes.change_row.Goals as goal
 

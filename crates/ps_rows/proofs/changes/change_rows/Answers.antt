@@ -1,6 +1,6 @@
-use Rattle.std.proofs.Common.{rules, ◌≡◌, ◌∙◌, ◌<◌, ◌≤◌, ◌+◌, ◌*◌, ℕ, List, Bool, false, length, get_or, ap, sym, refl, subst, take, arith}
+use Rattle.std.proofs.Common.{◌≡◌, ◌∙◌, ◌<◌, ◌≤◌, ◌+◌, ◌*◌, ℕ, List, false, length, get_or, sym, refl, subst, arith}
 use Rattle.std.proofs.lemmas.List.{take_all}
-use Rattle.ps_rows.specs.RowChanges.{AreRowsChanged, AreRowsLeft, IsRowLeft}
+use Rattle.ps_rows.specs.RowChanges.{AreRowsChanged, IsRowLeft}
 use Rattle.ps_rows.proofs.Marks.{listed_at}
 use Rattle.ps_rows.proofs.RowChanges.{changed_more, changed_none}
 use Rattle.ps_rows.proofs.changes.change_rows.Goals as goal

@@ -1,4 +1,3 @@
-use Rattle.std.proofs.Common.{◌+◌, ◌*◌}
 use Rattle.ps_rows.specs.Showing.{grid_shown}
 use Rattle.ps_rows.proofs.LayerChanges.{stays_here}
 use Rattle.ps_rows.proofs.row_board.RowBoard.going_row.Goals as goal

@@ -1,4 +1,4 @@
-use Rattle.std.proofs.Common.{◌≡◌, ◌+◌, ◌*◌, Some, true, false}
+use Rattle.std.proofs.Common.{◌≡◌, Some, true, false}
 use Rattle.std.specs.Prelude.{nat_lt}
 use Rattle.ps_program.specs.ProgramShown.{write_shown}
 use Rattle.ps_match.specs.InRoom.{slot_after, write_in_room}

@@ -1,4 +1,4 @@
-use Rattle.std.proofs.Common.{◌≡◌, ◌∙◌, Some, sym}
+use Rattle.std.proofs.Common.{◌∙◌, Some, sym}
 use Rattle.ps_program.specs.ProgramShown.{write_shown}
 use Rattle.ps_rows.specs.Showing.{grid_shown}
 use Rattle.ps_rows.specs.SlotsWritten.{in_columns}
