@@ -1,6 +1,7 @@
 //! Planes of rows of bits, as one flat list of words.
 
-ghost use Rattle.std.specs.Prelude.{◌≡◌, ◌+◌, ◌*◌, ◌/◌, ◌%◌, ◌<◌, ◌≤◌, ℕ, ◌∷◌, [], find, length, slice_index, slice_set};
+ghost use Rattle.std.specs.Prelude.{◌≡◌, ◌+◌, ◌*◌, ◌/◌, ◌%◌, ◌<◌, ◌≤◌, ℕ, ◌∷◌, [], find, length};
+ghost use Rattle.std.specs.Prelude.{slice_index, slice_set};
 ghost use Rattle.ps_model.specs.board.Movement.{is_number};
 ghost use Rattle.ps_rows.specs.Planes.{
   HavePlanes,
