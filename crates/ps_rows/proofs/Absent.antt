@@ -54,16 +54,16 @@ not_on_row table width height layers words row object rows = λ x.
     ]
 
 -- a row that isn't marked
-pub not_marked : (table : List ℕ) (width height layers : ℕ) (words index : List ℕ) (row : ℕ) (object : LayeredObject) → 0 < height → width ≤ 64 → row < height →
-    AreObjectsShown table height words (width * height) → AreRowsMarked (length table) height words index →
+pub not_marked : (table : List ℕ) (width height layers : ℕ) (words index : List ℕ) (count row : ℕ) (object : LayeredObject) → 0 < height → width ≤ 64 → row < height →
+    AreObjectsShown table height words (width * height) → length table ≤ count → AreRowsMarked count height words index →
     (nat_lt (object.layer).0 layers && is_number (slice_get table (object.object).0) (object.layer).0) ≡ true → has_column (get_or index (object.object).0 0) row ≡ false →
     IsRowOf (grid_shown table width height layers words) row 0 (held object)
-not_marked table width height layers words index row object some narrow under shown marked both clear =
+not_marked table width height layers words index count row object some narrow under shown counted marked both clear =
     let layer : ℕ = (object.layer).0 in
     let parts = and_parts (nat_lt layer layers) (is_number (slice_get table (object.object).0) layer) both in
     let below : (object.object).0 < length table =
     slice_get_within table (object.object).0 layer (number_is (slice_get table (object.object).0) layer parts.1) in
-    own_row table width height layers words row some narrow under object 0 shown both (sym (marked (object.object).0 row below under clear))
+    own_row table width height layers words row some narrow under object 0 shown both (sym (marked (object.object).0 row (omega arith) under clear))
 
 -- a column that isn't in a word's set
 pub column_clear : (word x : ℕ) → x < 64 → column_at (word_columns word) x ≡ false → has_column word x ≡ false

@@ -15,14 +15,12 @@ use Rattle.ps_model.specs.meaning.Fitting.{same_motion}
 use Rattle.ps_rows.specs.Planes.{has_cell, has_column}
 use Rattle.ps_rows.specs.Members.{on_layer}
 use Rattle.ps_rows.specs.RowChanges.{AreRowsLeft, IsLayerWritten, bit_after}
-use Rattle.ps_rows.specs.RowIndex.{AreRowsMarked, with_marks}
 use Rattle.ps_rows.specs.Showing.{numbered, motion_plane, motion_planes, motions_from, object_shown, motion_shown, slot_shown, grid_shown, AreObjectsShown, AreMotionsShown}
 use Rattle.ps_rows.specs.SlotsWritten.{AreSlotsLeft, AreSlotsWritten, IsLayerChange, in_columns, slot_if, slot_number}
 use Rattle.ps_rows.specs.declared.changes.RowChange.{RowChange}
 use Rattle.ps_rows.proofs.Alike.{column_read, five_motion, slot_itself, slot_known}
 use Rattle.ps_rows.proofs.LayerChanges.{number_shown}
 use Rattle.ps_rows.proofs.Listed.{find_listed, find_object, find_same}
-use Rattle.ps_rows.proofs.Marked.{index_whole, marked_again}
 use Rattle.ps_rows.proofs.Moves.{first_motion-is, five_false, five_high, five_true, plane_high, plane_low}
 use Rattle.ps_rows.proofs.Puts.{apart_from}
 use Rattle.ps_rows.proofs.Rests.{slot_read}
@@ -46,16 +44,6 @@ pub listed_below : (table : List ℕ) (layer : ℕ) (planes : List ℕ) (first :
 listed_below table layer planes first e f p listed =
     let below : p < length table = slice_get_within table p layer (listed_member table layer p (ap (list_any (nat_eq p)) (sym e) ∙ listed)) in
     omega (arith, below, f)
-
--- the words before and behind it are known by other names
-pub made_again : (height row : ℕ) (ws words left written planes known : List ℕ) (objects motions : RowChange) (from first : ℕ) → ws ≡ words → written ≡ left → planes ≡ known → from ≡ first →
-    IsLayerWritten height row ws left planes objects from motions → IsLayerWritten height row words written known objects first motions
-made_again height row ws words left written planes known objects motions from first a b c d so =
-    let P : List ℕ → Type 0 = λ xs. IsLayerWritten height row xs left planes objects from motions in
-    let Q : List ℕ → Type 0 = λ xs. IsLayerWritten height row words xs planes objects from motions in
-    let R : List ℕ → Type 0 = λ xs. IsLayerWritten height row words written xs objects from motions in
-    let S : ℕ → Type 0 = λ n. IsLayerWritten height row words written known objects n motions in
-    subst S d (subst R c (subst Q (sym b) (subst P a so)))
 
 module _ (table : List ℕ) (width height layers : ℕ) (words written : List ℕ) (layer row columns : ℕ) (after : ℕ → Slot → Slot) (objects motions : RowChange) (some : 0 < height) (narrow : width ≤ 64)
     (under : row < height) (on : layer < layers) (change : IsLayerChange table width height words layer row columns (after layer) objects motions)
@@ -188,13 +176,6 @@ module _ (table : List ℕ) (width height layers : ℕ) (words written : List �
 
   pub motions_again : AreMotionsShown table layers height written (width * height)
   motions_again = λ c l m q inside below plane. motion_bit c l m q inside below plane ∙ sym (ap (λ (t : Slot). same_motion m (motion_in t)) (slot_now c l inside below))
-
-  pub marked_now : (index : List ℕ) → height ≤ 64 → length index ≡ length table → AreRowsMarked (length table) height words index →
-      AreRowsMarked (length table) height written (with_marks height row written index (on_layer table layer))
-  marked_now index short long marked =
-      marked_again (length table) height row words written index (on_layer table layer) short under (index_whole table index layer long)
-      (λ o y below inside apart. let before : o < first = omega arith in made.elsewhere o y inside apart (λ e. five_false first o (inl before)))
-      marked
 
   -- the slots that were written, and where nothing changed
   abbrev g : List ℕ → Grid

@@ -21,3 +21,6 @@ pub mod SlotChanges
 pub mod LayerChanges
 pub mod LayerWritten
 pub mod RowsWritten
+pub mod Unmarked
+pub mod PlaneCopies
+pub mod RowsDiffering

@@ -6,3 +6,4 @@ pub mod Sameness
 pub mod RowIndex
 pub mod RowChanges
 pub mod SlotsWritten
+pub mod PlaneCopies

@@ -26,3 +26,8 @@ IsSameLayer table width height first second layer = (cell : ℕ) → cell < widt
 abbrev pub HasDifferences : ℕ → ℕ → ℕ → List ℕ → List ℕ → ℕ → Type 0
 HasDifferences height row planes first second word = (plane x : ℕ) → plane < planes → has_column word x ≡ false →
     has_column (slice_index first (plane * height + row)) x ≡ has_column (slice_index second (plane * height + row)) x
+
+-- a plane has the same words in both on each row that isn't in a set
+abbrev pub DifferOnlyOnRows : ℕ → ℕ → List ℕ → List ℕ → ℕ → Type 0
+DifferOnlyOnRows height plane first second rows = (row : ℕ) → row < height → has_column rows row ≡ false →
+    slice_index first (plane * height + row) ≡ slice_index second (plane * height + row)

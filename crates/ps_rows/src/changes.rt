@@ -1,6 +1,6 @@
 //! What becomes of the rows of planes, many columns at a time.
 
-ghost use Rattle.std.specs.Prelude.{◌≡◌, ◌+◌, ◌*◌, ◌<◌, ◌≤◌, ◌^◌, ℕ, false, length, nat_eq, true};
+ghost use Rattle.std.specs.Prelude.{◌≡◌, ◌+◌, ◌*◌, ◌<◌, ◌≤◌, ◌^◌, ℕ, false, nat_eq, true, vec_len};
 ghost use Rattle.std.specs.List.{list_any};
 ghost use Rattle.ps_rows.specs.Planes.{HavePlanes};
 ghost use Rattle.ps_rows.specs.RowChanges.{AreRowsChanged, AreRowsLeft, IsLayerWritten, IsRowLeft};
@@ -9,7 +9,7 @@ ghost use Rattle.ps_rows.specs.RowChanges.{row_after, set_in, word_after};
 ghost use Rattle.ps_rows.specs.Showing.{motion_planes};
 
 use crate::motions::motion_plane;
-use crate::planes::{is_chosen, plane_row, set_plane_row};
+use crate::planes::{Planes, is_chosen};
 use ps_model::{LayerWrite, ObjectWrite};
 
 /// What becomes of a row of some planes: columns are cleared in each of them, and then columns are set in one, if one
@@ -116,76 +116,77 @@ fn word_after(change: RowChange, plane: u32, word: u64) -> u64
 }
 
 /// Changes the row of a plane, and answers whether a word changed, or something had `changed` before.
-fn change_row(
-    words: &mut [u64],
-    height: u32,
-    row: u32,
-    change: RowChange,
-    plane: u32,
-    changed: bool,
-) -> bool
-    requires row { row < height }
-    requires plane { (plane + 1) * height ≤ length words.old }
-    ensures words { words.new ≡ row_after height row change words.old plane }
+fn change_row(planes: &mut Planes, row: u32, change: RowChange, plane: u32, changed: bool) -> bool
+    requires row { row < planes.old.height }
+    requires plane { (plane + 1) * planes.old.height ≤ vec_len planes.old.words }
+    ensures words { let p = planes.old in planes.new.words.items ≡ row_after p.height row change p.words.items plane }
+    ensures height { planes.new.height ≡ planes.old.height }
+    ensures count { vec_len planes.new.words ≡ vec_len planes.old.words }
     ensures fits { change.cleared < 2 ^ 64 }
     ensures before { result ≡ false → changed ≡ false }
-    ensures quiet { result ≡ false → words.new ≡ words.old }
-    ensures left { changed ≡ false → IsRowLeft height row change words.old plane → result ≡ false }
+    ensures quiet { result ≡ false → planes.new.words.items ≡ planes.old.words.items }
+    ensures left { let p = planes.old in
+        changed ≡ false → IsRowLeft p.height row change p.words.items plane → result ≡ false }
 {
-    let word = plane_row(words, height, plane, row);
+    let word = planes.row(plane, row);
     let after = word_after(change, plane, word);
     if after == word {
         return changed;
     }
-    set_plane_row(words, height, plane, row, after);
+    planes.set_row(plane, row, after);
     true
 }
 
 /// Changes the row of each of these planes, and answers whether a word changed, or something had `changed` before.
 pub fn change_rows(
-    words: &mut [u64],
-    height: u32,
+    planes: &mut Planes,
     row: u32,
     change: RowChange,
-    planes: &[u32],
+    places: &[u32],
     changed: bool,
 ) -> bool
-    requires row { row < height }
-    requires planes { HavePlanes height words.old planes.now }
-    ensures words { AreRowsChanged height row change words.old words.new planes.now }
+    requires row { row < planes.old.height }
+    requires planes { HavePlanes planes.old.height planes.old.words.items places.now }
+    ensures words { let p = planes.old in
+        AreRowsChanged p.height row change p.words.items planes.new.words.items places.now }
+    ensures height { planes.new.height ≡ planes.old.height }
+    ensures count { vec_len planes.new.words ≡ vec_len planes.old.words }
     ensures before { result ≡ false → changed ≡ false }
-    ensures quiet { result ≡ false → words.new ≡ words.old }
-    ensures left { changed ≡ false → AreRowsLeft height row change words.old planes.now → result ≡ false }
+    ensures quiet { result ≡ false → planes.new.words.items ≡ planes.old.words.items }
+    ensures left { let p = planes.old in
+        changed ≡ false → AreRowsLeft p.height row change p.words.items places.now → result ≡ false }
 {
     let mut any = changed;
-    for plane in planes {
-        any = change_row(words, height, row, change, *plane, any);
+    for plane in places {
+        any = change_row(planes, row, change, *plane, any);
     }
     any
 }
 
-/// Changes the row of a layer, whose objects have these planes, and whose motions have those from the first on, and
-/// answers whether a word changed.
+/// Changes the row of a layer, whose objects have those places among the planes, and whose motions have those from the
+/// first on, and answers whether a word changed.
 pub fn change_layer(
-    words: &mut [u64],
-    height: u32,
+    planes: &mut Planes,
     row: u32,
-    planes: &[u32],
+    places: &[u32],
     objects: RowChange,
     first: u32,
     motions: RowChange,
 ) -> bool
-    requires row { row < height }
-    requires planes { HavePlanes height words.old planes.now }
-    requires below { (plane : ℕ) → list_any (nat_eq plane) planes.now ≡ true → plane < first }
+    requires row { row < planes.old.height }
+    requires planes { HavePlanes planes.old.height planes.old.words.items places.now }
+    requires below { (plane : ℕ) → list_any (nat_eq plane) places.now ≡ true → plane < first }
     requires few { first + 4 < 2 ^ 32 }
-    requires motions { (first + 5) * height ≤ length words.old }
-    ensures words { IsLayerWritten height row words.old words.new planes.now objects first motions }
-    ensures quiet { result ≡ false → words.new ≡ words.old }
-    ensures left { AreRowsLeft height row objects words.old planes.now →
-        AreRowsLeft height row motions words.old (motion_planes first) → result ≡ false }
+    requires motions { (first + 5) * planes.old.height ≤ vec_len planes.old.words }
+    ensures words { let p = planes.old in
+        IsLayerWritten p.height row p.words.items planes.new.words.items places.now objects first motions }
+    ensures height { planes.new.height ≡ planes.old.height }
+    ensures count { vec_len planes.new.words ≡ vec_len planes.old.words }
+    ensures quiet { result ≡ false → planes.new.words.items ≡ planes.old.words.items }
+    ensures left { let p = planes.old in AreRowsLeft p.height row objects p.words.items places.now →
+        AreRowsLeft p.height row motions p.words.items (motion_planes first) → result ≡ false }
 {
-    let changed = change_rows(words, height, row, objects, planes, false);
-    let places = [first, first + 1, first + 2, first + 3, first + 4];
-    change_rows(words, height, row, motions, &places, changed)
+    let changed = change_rows(planes, row, objects, places, false);
+    let five = [first, first + 1, first + 2, first + 3, first + 4];
+    change_rows(planes, row, motions, &five, changed)
 }

@@ -1,10 +1,10 @@
 //! The five planes of a layer's motions.
 
-ghost use Rattle.std.specs.Prelude.{◌≡◌, ◌+◌, ◌*◌, ◌/◌, ◌^◌, ◌<◌, ◌≤◌, length};
+ghost use Rattle.std.specs.Prelude.{◌≡◌, ◌+◌, ◌*◌, ◌/◌, ◌^◌, ◌<◌, ◌≤◌, vec_len};
 ghost use Rattle.ps_rows.specs.Planes.{has_cell, with_cell_in};
 ghost use Rattle.ps_rows.specs.Showing.{first_motion, motion_plane, motion_planes};
 
-use crate::planes::{choose_plane, has_cell};
+use crate::planes::Planes;
 use ps_model::{Direction, Motion};
 
 /// The plane of a motion, behind the first plane of its layer; none, of rest.
@@ -23,39 +23,41 @@ pub fn motion_plane(first: u32, motion: Motion) -> Option<u32>
 }
 
 /// The first motion whose plane has a cell.
-pub fn first_motion(words: &[u64], height: u32, cell: u32, first: u32) -> Motion
-    requires row { 0 < height }
-    requires column { cell / height < 64 }
+pub fn first_motion(planes: &Planes, cell: u32, first: u32) -> Motion
+    requires column { cell / planes.now.height < 64 }
     requires few { first + 4 < 2 ^ 32 }
-    requires planes { (first + 5) * height ≤ length words.now }
-    ensures { result ≡ first_motion (has_cell height words.now cell) first }
+    requires planes { (first + 5) * planes.now.height ≤ vec_len planes.now.words }
+    ensures { result ≡ first_motion (has_cell planes.now.height planes.now.words.items cell) first }
 {
-    if has_cell(words, height, cell, first) {
+    if planes.has_cell(cell, first) {
         return Motion::Going(Direction::Up);
     }
-    if has_cell(words, height, cell, first + 1) {
+    if planes.has_cell(cell, first + 1) {
         return Motion::Going(Direction::Down);
     }
-    if has_cell(words, height, cell, first + 2) {
+    if planes.has_cell(cell, first + 2) {
         return Motion::Going(Direction::Left);
     }
-    if has_cell(words, height, cell, first + 3) {
+    if planes.has_cell(cell, first + 3) {
         return Motion::Going(Direction::Right);
     }
-    if has_cell(words, height, cell, first + 4) {
+    if planes.has_cell(cell, first + 4) {
         return Motion::Acting;
     }
     Motion::Still
 }
 
 /// Gives a cell this motion alone.
-pub fn choose_motion(words: &mut [u64], height: u32, cell: u32, first: u32, motion: Motion)
-    requires row { 0 < height }
-    requires column { cell / height < 64 }
+pub fn choose_motion(planes: &mut Planes, cell: u32, first: u32, motion: Motion)
+    requires column { cell / planes.old.height < 64 }
     requires few { first + 4 < 2 ^ 32 }
-    requires planes { (first + 5) * height ≤ length words.old }
-    ensures { words.new ≡ with_cell_in height cell (motion_plane first motion) words.old (motion_planes first) }
+    requires planes { (first + 5) * planes.old.height ≤ vec_len planes.old.words }
+    ensures words { let p = planes.old in
+        planes.new.words.items ≡
+        with_cell_in p.height cell (motion_plane first motion) p.words.items (motion_planes first) }
+    ensures height { planes.new.height ≡ planes.old.height }
+    ensures count { vec_len planes.new.words ≡ vec_len planes.old.words }
 {
-    let planes = [first, first + 1, first + 2, first + 3, first + 4];
-    choose_plane(words, height, cell, &planes, motion_plane(first, motion));
+    let motions = [first, first + 1, first + 2, first + 3, first + 4];
+    planes.choose_plane(cell, &motions, motion_plane(first, motion));
 }

@@ -1,8 +1,9 @@
-//! Planes of rows of bits, as one flat list of words.
+//! Planes of rows of bits, as one flat list of words, with an index of their rows.
 
-ghost use Rattle.std.specs.Prelude.{◌≡◌, ◌+◌, ◌*◌, ◌/◌, ◌%◌, ◌<◌, ◌≤◌, ℕ, ◌∷◌, [], find, length};
-ghost use Rattle.std.specs.Prelude.{slice_index, slice_set};
+ghost use Rattle.std.specs.Prelude.{◌≡◌, ◌+◌, ◌*◌, ◌/◌, ◌%◌, ◌<◌, ◌≤◌, ℕ, ◌∷◌, [], IfOk, find, length, replicate};
+ghost use Rattle.std.specs.Prelude.{slice_index, slice_set, vec_len};
 ghost use Rattle.ps_model.specs.board.Movement.{is_number};
+ghost use Rattle.ps_model.specs.declared.limits.TheConstants.{SIDE_LIMIT};
 ghost use Rattle.ps_rows.specs.Planes.{
   HavePlanes,
   has_cell,
@@ -11,7 +12,28 @@ ghost use Rattle.ps_rows.specs.Planes.{
   with_cell_in,
   with_column,
 };
-ghost use Rattle.ps_rows.specs.RowIndex.{with_marks};
+ghost use Rattle.ps_rows.specs.PlaneCopies.{ArePlanesOf};
+ghost use Rattle.ps_rows.specs.RowIndex.{AreRowsMarked};
+ghost use Rattle.ps_rows.specs.Sameness.{DifferOnlyOnRows};
+ghost use Rattle.ps_rows.specs.Showing.{cleared_from};
+
+use ps_model::Memory;
+use std::alloc::Global;
+
+/// Planes of one height. A plane has one word for each of its rows, the highest first, and in a word bit x stands for
+/// column x.
+///
+/// For each plane the index has one word, whose bit y is set where row y of the plane has a column.
+#[derive(Drop)]
+pub struct Planes {
+    pub height: u32,
+    pub words: Vec<u64>,
+    index: Vec<u64>,
+    ghost some_row: { 0 < height },
+    ghost rows: { height ≤ SIDE_LIMIT },
+    ghost whole: { vec_len words ≡ vec_len index * height },
+    ghost marked: { AreRowsMarked (vec_len index) height words.items index.items },
+}
 
 /// Whether a word has a column.
 pub fn has_column(word: u64, column: u32) -> bool
@@ -33,27 +55,6 @@ fn with_column(word: u64, column: u32, on: bool) -> u64
     }
 }
 
-/// Where the word with a cell of a plane stands.
-fn place(words: &[u64], height: u32, cell: u32, plane: u32) -> usize
-    requires row { 0 < height }
-    requires plane { (plane + 1) * height ≤ length words.now }
-    ensures place { result ≡ plane * height + cell % height }
-    ensures within { result < length words.now }
-{
-    plane as usize * height as usize + (cell % height) as usize
-}
-
-/// Whether a plane has a cell.
-pub fn has_cell(words: &[u64], height: u32, cell: u32, plane: u32) -> bool
-    requires row { 0 < height }
-    requires column { cell / height < 64 }
-    requires plane { (plane + 1) * height ≤ length words.now }
-    ensures { result ≡ has_cell height words.now cell plane }
-{
-    let place = place(words, height, cell, plane);
-    has_column(words[place], cell / height)
-}
-
 /// The columns of a row that a plane has.
 pub fn plane_row(words: &[u64], height: u32, plane: u32, row: u32) -> u64
     requires row { row < height }
@@ -61,26 +62,6 @@ pub fn plane_row(words: &[u64], height: u32, plane: u32, row: u32) -> u64
     ensures { result ≡ slice_index words.now (plane * height + row) }
 {
     words[plane as usize * height as usize + row as usize]
-}
-
-/// Gives a plane these columns of a row.
-pub fn set_plane_row(words: &mut [u64], height: u32, plane: u32, row: u32, word: u64)
-    requires row { row < height }
-    requires plane { (plane + 1) * height ≤ length words.old }
-    ensures { words.new ≡ slice_set words.old (plane * height + row) word }
-{
-    words[plane as usize * height as usize + row as usize] = word;
-}
-
-/// Puts a cell into a plane, or takes it away.
-fn set_cell(words: &mut [u64], height: u32, cell: u32, plane: u32, on: bool)
-    requires row { 0 < height }
-    requires column { cell / height < 64 }
-    requires plane { (plane + 1) * height ≤ length words.old }
-    ensures { words.new ≡ with_cell height words.old cell plane on }
-{
-    let place = place(words, height, cell, plane);
-    words[place] = with_column(words[place], cell / height, on);
 }
 
 /// Whether the plane is the one that is chosen.
@@ -93,45 +74,242 @@ pub fn is_chosen(chosen: Option<u32>, plane: u32) -> bool
     }
 }
 
-/// Puts a cell into the chosen one of these planes, if one is chosen, and takes it away from the others.
-pub fn choose_plane(words: &mut [u64], height: u32, cell: u32, planes: &[u32], chosen: Option<u32>)
-    requires row { 0 < height }
-    requires column { cell / height < 64 }
-    requires planes { HavePlanes height words.old planes.now }
-    ensures { words.new ≡ with_cell_in height cell chosen words.old planes.now }
+/// Clears all words.
+fn clear(words: &mut [u64])
+    ensures { words.new ≡ replicate (length words.old) 0 }
 {
-    for plane in planes {
-        set_cell(words, height, cell, *plane, is_chosen(chosen, *plane));
-    }
+    words.fill(0);
 }
 
-/// Marks a row of each of these planes in an index, where the plane has a column there, and else takes the mark away.
-pub fn mark_rows(index: &mut [u64], words: &[u64], height: u32, row: u32, planes: &[u32])
-    requires row { row < height }
-    requires low { row < 64 }
-    requires planes { HavePlanes height words.now planes.now }
-    requires marks { HavePlanes 1 index.old planes.now }
-    ensures { index.new ≡ with_marks height row words.now index.old planes.now }
+/// Clears the words of a plane.
+fn clear_plane(words: &mut [u64], height: u32, plane: usize)
+    requires { (plane + 1) * height ≤ length words.old }
+    ensures { ArePlanesOf height plane (plane + 1) [] words.old words.new }
 {
-    for plane in planes {
-        let some = plane_row(words, height, *plane, row) != 0;
-        let place = *plane as usize;
-        index[place] = with_column(index[place], row, some);
-    }
+    let start = plane * height as usize;
+    clear(&mut words[start..start + height as usize]);
 }
 
-/// The first of these planes that has a cell.
-#[tactic(auto, using(crate::proofs::Steps::found_nowhere))]
-pub fn first_plane(words: &[u64], height: u32, cell: u32, planes: &[u32]) -> Option<u32>
-    requires row { 0 < height }
-    requires column { cell / height < 64 }
-    requires planes { HavePlanes height words.now planes.now }
-    ensures { result ≡ find (has_cell height words.now cell) planes.now }
+/// Copies the words of a plane.
+fn copy_plane(words: &[u64], height: u32, plane: usize, other: &mut [u64])
+    requires here { (plane + 1) * height ≤ length words.now }
+    requires there { (plane + 1) * height ≤ length other.old }
+    ensures { ArePlanesOf height plane (plane + 1) words.now other.old other.new }
 {
-    for plane in planes {
-        if has_cell(words, height, cell, *plane) {
-            return Some(*plane);
+    let start = plane * height as usize;
+    let end = start + height as usize;
+    other[start..end].copy_from_slice(&words[start..end]);
+}
+
+impl Planes {
+    /// So many planes of a height, without columns. Nothing, where there is no memory.
+    pub fn try_new(alloc: Global, count: u32, height: u32) -> Result<Planes, Memory>
+        requires row { 0 < height }
+        requires rows { height ≤ SIDE_LIMIT }
+        ensures words { IfOk result (λ planes. planes.words.items ≡ replicate (count * height) 0) }
+        ensures height { IfOk result (λ planes. planes.height ≡ height) }
+    {
+        let words = Vec::from_elem(alloc, 0u64, count as usize * height as usize)?;
+        let index = Vec::from_elem(alloc, 0u64, count as usize)?;
+        Ok(Planes {
+            height,
+            words,
+            index,
+        })
+    }
+
+    /// The same planes. Nothing, where there is no memory.
+    pub fn try_copy(&self, alloc: Global) -> Result<Planes, Memory>
+        ensures words { IfOk result (λ planes. planes.words.items ≡ self.now.words.items) }
+        ensures height { IfOk result (λ planes. planes.height ≡ self.now.height) }
+    {
+        let words = Vec::from_slice(alloc, &self.words)?;
+        let index = Vec::from_slice(alloc, &self.index)?;
+        Ok(Planes {
+            height: self.height,
+            words,
+            index,
+        })
+    }
+
+    /// The columns of a row that a plane has.
+    pub fn row(&self, plane: u32, row: u32) -> u64
+        requires row { row < self.now.height }
+        requires plane { (plane + 1) * self.now.height ≤ vec_len self.now.words }
+        ensures { result ≡ slice_index self.now.words.items (plane * self.now.height + row) }
+    {
+        plane_row(self.words.as_slice(), self.height, plane, row)
+    }
+
+    /// The rows of a plane that may have a column: bit y stands for row y.
+    pub fn rows_of(&self, plane: u32) -> u64
+        requires { (plane + 1) * self.now.height ≤ vec_len self.now.words }
+        ensures { result ≡ slice_index self.now.index.items plane }
+    {
+        self.index[plane as usize]
+    }
+
+    /// Gives a row of a plane these columns.
+    pub fn set_row(&mut self, plane: u32, row: u32, word: u64)
+        requires row { row < self.old.height }
+        requires plane { (plane + 1) * self.old.height ≤ vec_len self.old.words }
+        ensures words { self.new.words.items ≡ slice_set self.old.words.items (plane * self.old.height + row) word }
+        ensures height { self.new.height ≡ self.old.height }
+        ensures count { vec_len self.new.words ≡ vec_len self.old.words }
+    {
+        let place = plane as usize;
+        self.words[place * self.height as usize + row as usize] = word;
+        self.index[place] = with_column(self.index[place], row, word != 0);
+    }
+
+    /// Whether a plane has a cell.
+    pub fn has_cell(&self, cell: u32, plane: u32) -> bool
+        requires column { cell / self.now.height < 64 }
+        requires plane { (plane + 1) * self.now.height ≤ vec_len self.now.words }
+        ensures { result ≡ has_cell self.now.height self.now.words.items cell plane }
+    {
+        has_column(self.row(plane, cell % self.height), cell / self.height)
+    }
+
+    /// Puts a cell into a plane, or takes it away.
+    fn set_cell(&mut self, cell: u32, plane: u32, on: bool)
+        requires column { cell / self.old.height < 64 }
+        requires plane { (plane + 1) * self.old.height ≤ vec_len self.old.words }
+        ensures words { self.new.words.items ≡ with_cell self.old.height self.old.words.items cell plane on }
+        ensures height { self.new.height ≡ self.old.height }
+        ensures count { vec_len self.new.words ≡ vec_len self.old.words }
+    {
+        let row = cell % self.height;
+        let word = with_column(self.row(plane, row), cell / self.height, on);
+        self.set_row(plane, row, word);
+    }
+
+    /// Puts a cell into the chosen one of these planes, if one is chosen, and takes it away from the others.
+    pub fn choose_plane(&mut self, cell: u32, planes: &[u32], chosen: Option<u32>)
+        requires column { cell / self.old.height < 64 }
+        requires planes { HavePlanes self.old.height self.old.words.items planes.now }
+        ensures words { let p = self.old in
+            self.new.words.items ≡ with_cell_in p.height cell chosen p.words.items planes.now }
+        ensures height { self.new.height ≡ self.old.height }
+        ensures count { vec_len self.new.words ≡ vec_len self.old.words }
+    {
+        for plane in planes {
+            self.set_cell(cell, *plane, is_chosen(chosen, *plane));
         }
     }
-    None
+
+    /// The first of these planes that has a cell.
+    #[tactic(auto, using(crate::proofs::Steps::found_nowhere))]
+    pub fn first_plane(&self, cell: u32, planes: &[u32]) -> Option<u32>
+        requires column { cell / self.now.height < 64 }
+        requires planes { HavePlanes self.now.height self.now.words.items planes.now }
+        ensures { result ≡ find (has_cell self.now.height self.now.words.items cell) planes.now }
+    {
+        for plane in planes {
+            if self.has_cell(cell, *plane) {
+                return Some(*plane);
+            }
+        }
+        None
+    }
+
+    /// Clears a plane, if a row of it is marked.
+    fn clear_marked(&mut self, plane: usize)
+        requires { (plane + 1) * self.old.height ≤ vec_len self.old.words }
+        ensures words { let p = self.old in
+            ArePlanesOf p.height plane (plane + 1) [] p.words.items self.new.words.items }
+        ensures height { self.new.height ≡ self.old.height }
+        ensures count { vec_len self.new.words ≡ vec_len self.old.words }
+        ensures marks { vec_len self.new.index ≡ vec_len self.old.index }
+    {
+        if self.index[plane] == 0 {
+            return;
+        }
+        let height = self.height;
+        clear_plane(self.words.as_mut_slice(), height, plane);
+        self.index[plane] = 0;
+    }
+
+    /// Clears the planes from that one on, those that have a column.
+    pub fn clear_from(&mut self, first: u32)
+        requires { first * self.old.height ≤ vec_len self.old.words }
+        ensures words { self.new.words.items ≡ cleared_from (first * self.old.height) self.old.words.items }
+        ensures height { self.new.height ≡ self.old.height }
+        ensures count { vec_len self.new.words ≡ vec_len self.old.words }
+    {
+        for plane in first as usize..self.index.len() {
+            self.clear_marked(plane);
+        }
+    }
+
+    /// Makes a plane of others the same, if a row of it is marked on either side.
+    fn copy_marked(&self, other: &mut Planes, plane: usize)
+        requires height { other.old.height ≡ self.now.height }
+        requires here { (plane + 1) * self.now.height ≤ vec_len self.now.words }
+        requires there { (plane + 1) * self.now.height ≤ vec_len other.old.words }
+        ensures words { let p = self.now in
+            ArePlanesOf p.height plane (plane + 1) p.words.items other.old.words.items other.new.words.items }
+        ensures height { other.new.height ≡ self.now.height }
+        ensures count { vec_len other.new.words ≡ vec_len other.old.words }
+    {
+        let rows = self.index[plane];
+        if rows | other.index[plane] == 0 {
+            return;
+        }
+        copy_plane(
+            self.words.as_slice(),
+            self.height,
+            plane,
+            other.words.as_mut_slice(),
+        );
+        other.index[plane] = rows;
+    }
+
+    /// Makes other planes, as many of the same height, the same. Planes without columns on both sides are passed over.
+    pub fn copy_into(&self, other: &mut Planes)
+        requires height { other.old.height ≡ self.now.height }
+        requires count { vec_len other.old.words ≡ vec_len self.now.words }
+        ensures words { other.new.words.items ≡ self.now.words.items }
+        ensures height { other.new.height ≡ self.now.height }
+        ensures count { vec_len other.new.words ≡ vec_len self.now.words }
+    {
+        for plane in 0..self.index.len() {
+            self.copy_marked(other, plane);
+        }
+    }
+
+    /// The rows in which a plane may have other columns than on others, as many of the same height: bit y stands for row
+    /// y. A plane without columns on both sides is passed over.
+    fn differing_rows(&self, other: &Planes, plane: u32) -> u64
+        requires height { other.now.height ≡ self.now.height }
+        requires here { (plane + 1) * self.now.height ≤ vec_len self.now.words }
+        requires there { (plane + 1) * self.now.height ≤ vec_len other.now.words }
+        ensures { DifferOnlyOnRows self.now.height plane self.now.words.items other.now.words.items result }
+    {
+        if self.rows_of(plane) | other.rows_of(plane) == 0 {
+            return 0;
+        }
+        let mut rows = 0;
+        for row in 0..self.height {
+            let differ = self.row(plane, row) != other.row(plane, row);
+            rows = with_column(rows, row, differ);
+        }
+        rows
+    }
+
+    /// The rows in which one of so many planes, the first ones, may have other columns than on others, as many of the
+    /// same height: bit y stands for row y.
+    pub fn rows_differing(&self, other: &Planes, planes: u32) -> u64
+        requires height { other.now.height ≡ self.now.height }
+        requires here { planes * self.now.height ≤ vec_len self.now.words }
+        requires there { planes * self.now.height ≤ vec_len other.now.words }
+        ensures { (plane : ℕ) → plane < planes →
+            DifferOnlyOnRows self.now.height plane self.now.words.items other.now.words.items result }
+    {
+        let mut rows = 0;
+        for plane in 0..planes {
+            rows |= self.differing_rows(other, plane);
+        }
+        rows
+    }
 }

@@ -20,7 +20,7 @@ use ps_program::CellWrite;
 impl RowBoard {
     /// Where an object stands, if it goes from that layer.
     fn going_row(&self, each: &LayeredObject, layer: u32, row: u32) -> u64
-        requires { row < self.now.height }
+        requires { row < self.now.planes.height }
         ensures { IsRowOf (⟦<RowBoard as Board>⟧.grid self.now) row result
             (λ cell. goes_from layer cell each.now) }
     {
@@ -32,7 +32,7 @@ impl RowBoard {
 
     /// Where one of the objects stands that goes from that layer.
     fn gone_row(&self, gone: &[LayeredObject], layer: u32, row: u32) -> u64
-        requires { row < self.now.height }
+        requires { row < self.now.planes.height }
         ensures { IsRowOf (⟦<RowBoard as Board>⟧.grid self.now) row result (one_goes gone.now layer) }
     {
         let mut word = 0;
@@ -45,7 +45,7 @@ impl RowBoard {
     /// Where an object stands on a layer, if the layer's write moves it.
     fn kept_row(&self, own: Option<LayerWrite>, layer: u32, row: u32) -> u64
         requires layer { layer < self.now.layers }
-        requires row { row < self.now.height }
+        requires row { row < self.now.planes.height }
         ensures { moves_kept own ≡ true →
             IsRowOf (⟦<RowBoard as Board>⟧.grid self.now) row result (stands_on layer) }
     {
@@ -64,11 +64,11 @@ impl RowBoard {
         columns: u64,
     ) -> (RowChange, RowChange)
         requires layer { layer < self.now.layers }
-        requires row { row < self.now.height }
+        requires row { row < self.now.planes.height }
         requires within { IsWithin (⟦<RowBoard as Board>⟧.grid self.now) columns }
         ensures { let b = self.now in
             let becomes = slot_after (write_in_room (Some b.members.table.items) (write_shown write.now)) layer in
-            IsLayerChange b.members.table.items b.width b.height b.words.items layer row columns becomes
+            IsLayerChange b.members.table.items b.width b.planes.height b.planes.words.items layer row columns becomes
             result.0 result.1 }
     {
         let own = own_write(self, write.layers.as_slice(), LayerId(layer));
@@ -82,19 +82,19 @@ impl RowBoard {
     /// Writes a layer of a row in these columns, if the write touches it, and answers whether one of its slots changed.
     fn write_if(&mut self, write: &CellWrite, layer: u32, row: u32, columns: u64) -> bool
         requires layer { layer < self.old.layers }
-        requires row { row < self.old.height }
+        requires row { row < self.old.planes.height }
         requires within { IsWithin (⟦<RowBoard as Board>⟧.grid self.old) columns }
         ensures slots { let after = slot_after (write_in_room (Some self.old.members.table.items) (write_shown write.now)) in
             AreSlotsWritten (⟦<RowBoard as Board>⟧.grid self.old) (⟦<RowBoard as Board>⟧.grid self.new)
-            (in_columns self.old.height row columns) (λ l. nat_eq l layer) after }
+            (in_columns self.old.planes.height row columns) (λ l. nat_eq l layer) after }
         ensures quiet { let after = slot_after (write_in_room (Some self.old.members.table.items) (write_shown write.now)) in
             result ≡ false → AreSlotsLeft (⟦<RowBoard as Board>⟧.grid self.old)
-            (in_columns self.old.height row columns) (λ l. nat_eq l layer) after }
+            (in_columns self.old.planes.height row columns) (λ l. nat_eq l layer) after }
         ensures left { let after = slot_after (write_in_room (Some self.old.members.table.items) (write_shown write.now)) in
             AreSlotsLeft (⟦<RowBoard as Board>⟧.grid self.old)
-            (in_columns self.old.height row columns) (λ l. nat_eq l layer) after → result ≡ false }
+            (in_columns self.old.planes.height row columns) (λ l. nat_eq l layer) after → result ≡ false }
         ensures width { self.new.width ≡ self.old.width }
-        ensures height { self.new.height ≡ self.old.height }
+        ensures height { self.new.planes.height ≡ self.old.planes.height }
         ensures layers { self.new.layers ≡ self.old.layers }
         ensures table { self.new.members.table.items ≡ self.old.members.table.items }
     {
@@ -106,14 +106,14 @@ impl RowBoard {
 
     /// Writes a row in these columns, and answers whether one of its cells changed.
     pub(crate) fn write_columns(&mut self, write: &CellWrite, row: u32, columns: u64) -> bool
-        requires row { row < self.old.height }
+        requires row { row < self.old.planes.height }
         requires within { IsWithin (⟦<RowBoard as Board>⟧.grid self.old) columns }
         ensures rewritten { let before = ⟦<RowBoard as Board>⟧.grid self.old in
             let becomes = cell_written (write_in_room (Some self.old.members.table.items) (write_shown write.now)) in
             record { grid = ⟦<RowBoard as Board>⟧.grid self.new; changed = result }
             ≡ rewritten_where before becomes (in_columns before.height row columns) }
         ensures width { self.new.width ≡ self.old.width }
-        ensures height { self.new.height ≡ self.old.height }
+        ensures height { self.new.planes.height ≡ self.old.planes.height }
         ensures layers { self.new.layers ≡ self.old.layers }
         ensures table { self.new.members.table.items ≡ self.old.members.table.items }
     {

@@ -6,7 +6,6 @@ ghost use Rattle.std.specs.Prelude.{option_map, replicate, slice_get, slice_inde
 ghost use Rattle.ps_model.specs.board.Movement.{is_number};
 ghost use Rattle.ps_model.specs.declared.limits.TheConstants.{LAYER_LIMIT, SIDE_LIMIT};
 ghost use Rattle.ps_rows.specs.Planes.{HavePlanes};
-ghost use Rattle.ps_rows.specs.RowIndex.{AreRowsMarked};
 ghost use Rattle.ps_program.specs.ProgramShown.{write_shown};
 ghost use Rattle.ps_match.specs.InRoom.{slot_after, write_in_room};
 ghost use Rattle.ps_rows.specs.RowTests.{IsRowOf, IsWithin};
@@ -18,7 +17,7 @@ ghost use Rattle.ps_rows.specs.SlotsWritten.{AreSlotsLeft, AreSlotsWritten, in_c
 use crate::changes::change_layer;
 use crate::members::Members;
 use crate::motions::{choose_motion, first_motion};
-use crate::planes::{choose_plane, first_plane, mark_rows, plane_row};
+use crate::planes::Planes;
 use crate::sameness::{differing_row, same_planes};
 use crate::scanning::columns;
 use ps_board::{Board, Columns};
@@ -32,65 +31,44 @@ use std::alloc::Global;
 ///
 /// On a layer of a cell stands one object at most, which has one motion at most, and there is no motion without an
 /// object.
-///
-/// For each object's plane the index has one word, whose bit y is set where row y of the plane has a column.
 #[derive(Drop)]
 pub struct RowBoard {
     width: u32,
-    height: u32,
     layers: u32,
     members: Members,
-    words: Vec<u64>,
-    index: Vec<u64>,
+    planes: Planes,
     ghost some_column: { 0 < width },
     ghost columns: { width ≤ SIDE_LIMIT },
-    ghost some_row: { 0 < height },
-    ghost rows: { height ≤ SIDE_LIMIT },
     ghost some_layer: { 0 < layers },
     ghost few_layers: { layers ≤ LAYER_LIMIT },
     ghost spans: { vec_len members.spans ≡ layers },
-    ghost whole: { vec_len words ≡ motions_from members.table.items layers * height },
-    ghost objects: { AreObjectsShown members.table.items height words.items (width * height) },
-    ghost motions: { AreMotionsShown members.table.items layers height words.items (width * height) },
-    ghost indexed: { vec_len index ≡ length members.table.items },
-    ghost marked: { AreRowsMarked (length members.table.items) height words.items index.items },
+    ghost whole: { vec_len planes.words ≡ motions_from members.table.items layers * planes.height },
+    ghost objects: { AreObjectsShown members.table.items planes.height planes.words.items (width * planes.height) },
+    ghost motions: { AreMotionsShown members.table.items layers planes.height planes.words.items
+        (width * planes.height) },
 }
 
 /// Puts an object with its motion into a cell of a layer, whose objects have these planes and whose motions have those
 /// from `first` on, in place of what stood there; or clears the layer there.
 fn put_slot(
-    words: &mut [u64],
-    height: u32,
+    planes: &mut Planes,
     cell: u32,
-    planes: &[u32],
+    objects: &[u32],
     object: Option<u32>,
     first: u32,
     motion: Motion,
 )
-    requires row { 0 < height }
-    requires column { cell / height < 64 }
-    requires planes { HavePlanes height words.old planes.now }
+    requires column { cell / planes.old.height < 64 }
+    requires objects { HavePlanes planes.old.height planes.old.words.items objects.now }
     requires few { first + 4 < 2 ^ 32 }
-    requires motions { (first + 5) * height ≤ length words.old }
-    ensures { words.new ≡ with_slot_in height cell planes.now object first motion words.old }
+    requires motions { (first + 5) * planes.old.height ≤ vec_len planes.old.words }
+    ensures words { let p = planes.old in
+        planes.new.words.items ≡ with_slot_in p.height cell objects.now object first motion p.words.items }
+    ensures height { planes.new.height ≡ planes.old.height }
+    ensures count { vec_len planes.new.words ≡ vec_len planes.old.words }
 {
-    choose_plane(words, height, cell, planes, object);
-    choose_motion(words, height, cell, first, motion);
-}
-
-/// Clears all words.
-fn clear(words: &mut [u64])
-    ensures { words.new ≡ replicate (length words.old) 0 }
-{
-    words.fill(0);
-}
-
-/// Clears the words from a place on.
-fn clear_from(words: &mut [u64], start: usize)
-    requires { start ≤ length words.old }
-    ensures { words.new ≡ cleared_from start words.old }
-{
-    clear(&mut words[start..]);
+    planes.choose_plane(cell, objects, object);
+    choose_motion(planes, cell, first, motion);
 }
 
 /// The number of an object, if there is one.
@@ -119,7 +97,7 @@ impl RowBoard {
         requires { layer < self.now.layers }
         ensures first { result ≡ motions_from self.now.members.table.items layer }
         ensures few { result + 4 < 2 ^ 32 }
-        ensures within { (result + 5) * self.now.height ≤ vec_len self.now.words }
+        ensures within { (result + 5) * self.now.planes.height ≤ vec_len self.now.planes.words }
     {
         self.members.count() + 5 * layer
     }
@@ -127,18 +105,18 @@ impl RowBoard {
     /// The columns of a row that a plane has.
     pub(crate) fn row(&self, plane: u32, row: u32) -> u64
         requires plane { plane < motions_from self.now.members.table.items self.now.layers }
-        requires row { row < self.now.height }
-        ensures { result ≡ slice_index self.now.words.items (plane * self.now.height + row) }
+        requires row { row < self.now.planes.height }
+        ensures { result ≡ slice_index self.now.planes.words.items (plane * self.now.planes.height + row) }
     {
-        plane_row(self.words.as_slice(), self.height, plane, row)
+        self.planes.row(plane, row)
     }
 
-    /// The rows of an object's plane that may have a column: bit y stands for row y.
-    pub(crate) fn rows_of(&self, object: u32) -> u64
-        requires { object < length self.now.members.table.items }
-        ensures { result ≡ slice_index self.now.index.items object }
+    /// The rows of a plane that may have a column: bit y stands for row y.
+    pub(crate) fn rows_of(&self, plane: u32) -> u64
+        requires { plane < motions_from self.now.members.table.items self.now.layers }
+        ensures { result ≡ slice_index self.now.planes.index.items plane }
     {
-        self.index[object as usize]
+        self.planes.rows_of(plane)
     }
 
     /// Whether an object is one of a layer, by the table.
@@ -159,7 +137,7 @@ impl RowBoard {
     /// Where an object stands on a layer.
     pub(crate) fn standing_row(&self, layer: u32, row: u32) -> u64
         requires layer { layer < self.now.layers }
-        requires row { row < self.now.height }
+        requires row { row < self.now.planes.height }
         ensures { IsRowOf (⟦<RowBoard as Board>⟧.grid self.now) row result (stands_on layer) }
     {
         let mut word = 0;
@@ -171,12 +149,13 @@ impl RowBoard {
 
     /// The number of the object that stands on a layer of a cell, if one does.
     fn object_number(&self, cell: u32, layer: u32) -> Option<u32>
-        requires cell { cell < self.now.width * self.now.height }
+        requires cell { cell < self.now.width * self.now.planes.height }
         requires layer { layer < self.now.layers }
-        ensures { let b = self.now in result ≡ object_shown b.members.table.items b.height b.words.items cell layer }
+        ensures { let b = self.now in let words = b.planes.words.items in
+            result ≡ object_shown b.members.table.items b.planes.height words cell layer }
     {
         let planes = self.members.of(layer);
-        first_plane(self.words.as_slice(), self.height, cell, planes)
+        self.planes.first_plane(cell, planes)
     }
 
     /// Writes a layer of a row in these columns, and answers whether one of its slots changed.
@@ -188,60 +167,55 @@ impl RowBoard {
         columns: u64,
     ) -> bool
         requires layer { layer < self.old.layers }
-        requires row { row < self.old.height }
+        requires row { row < self.old.planes.height }
         requires within { IsWithin (⟦<RowBoard as Board>⟧.grid self.old) columns }
         ensures slots { let after = slot_after (write_in_room (Some self.old.members.table.items) (write_shown write.now)) in
             AreSlotsWritten (⟦<RowBoard as Board>⟧.grid self.old) (⟦<RowBoard as Board>⟧.grid self.new)
-            (in_columns self.old.height row columns) (λ l. nat_eq l layer) after }
+            (in_columns self.old.planes.height row columns) (λ l. nat_eq l layer) after }
         ensures quiet { let after = slot_after (write_in_room (Some self.old.members.table.items) (write_shown write.now)) in
             result ≡ false → AreSlotsLeft (⟦<RowBoard as Board>⟧.grid self.old)
-            (in_columns self.old.height row columns) (λ l. nat_eq l layer) after }
+            (in_columns self.old.planes.height row columns) (λ l. nat_eq l layer) after }
         ensures left { let after = slot_after (write_in_room (Some self.old.members.table.items) (write_shown write.now)) in
             AreSlotsLeft (⟦<RowBoard as Board>⟧.grid self.old)
-            (in_columns self.old.height row columns) (λ l. nat_eq l layer) after → result ≡ false }
+            (in_columns self.old.planes.height row columns) (λ l. nat_eq l layer) after → result ≡ false }
         ensures width { self.new.width ≡ self.old.width }
-        ensures height { self.new.height ≡ self.old.height }
+        ensures height { self.new.planes.height ≡ self.old.planes.height }
         ensures layers { self.new.layers ≡ self.old.layers }
         ensures table { self.new.members.table.items ≡ self.old.members.table.items }
     {
         let (objects, motions) = self.layer_change(write, layer, row, columns);
         let first = self.motions_from(layer);
-        let planes = self.members.of(layer);
-        let height = self.height;
-        let words = self.words.as_mut_slice();
-        let changed = change_layer(words, height, row, planes, objects, first, motions);
-        let words = self.words.as_slice();
-        mark_rows(self.index.as_mut_slice(), words, height, row, planes);
-        changed
+        let places = self.members.of(layer);
+        change_layer(&mut self.planes, row, places, objects, first, motions)
     }
 
     /// Whether a layer shows the same on another board of the same size for the same game.
     fn same_layer(&self, other: &RowBoard, layer: u32) -> bool
         requires layer { layer < self.now.layers }
         requires width { other.now.width ≡ self.now.width }
-        requires height { other.now.height ≡ self.now.height }
+        requires height { other.now.planes.height ≡ self.now.planes.height }
         requires layers { other.now.layers ≡ self.now.layers }
         requires table { other.now.members.table.items ≡ self.now.members.table.items }
         ensures same { let b = self.now in result ≡ true →
-            IsSameLayer b.members.table.items b.width b.height b.words.items other.now.words.items layer }
+            IsSameLayer b.members.table.items b.width b.planes.height b.planes.words.items other.now.planes.words.items layer }
         ensures other { let b = self.now in
-            IsSameLayer b.members.table.items b.width b.height b.words.items other.now.words.items layer →
+            IsSameLayer b.members.table.items b.width b.planes.height b.planes.words.items other.now.planes.words.items layer →
             result ≡ true }
     {
-        let here = self.words.as_slice();
-        let there = other.words.as_slice();
+        let here = self.planes.words.as_slice();
+        let there = other.planes.words.as_slice();
         let objects = self.members.of(layer);
-        if !same_planes(here, there, self.width, self.height, objects) {
+        if !same_planes(here, there, self.width, self.planes.height, objects) {
             return false;
         }
         let first = self.motions_from(layer);
         let motions = [first, first + 1, first + 2, first + 3, first + 4];
-        same_planes(here, there, self.width, self.height, &motions)
+        same_planes(here, there, self.width, self.planes.height, &motions)
     }
 }
 
 impl Board for RowBoard {
-    ghost grid = { λ b. grid_shown b.members.table.items b.width b.height b.layers b.words.items };
+    ghost grid = { λ b. grid_shown b.members.table.items b.width b.planes.height b.layers b.planes.words.items };
 
     ghost table = { λ b. Some b.members.table.items };
 
@@ -256,35 +230,28 @@ impl Board for RowBoard {
         own_layers: &[LayerId],
     ) -> Result<RowBoard, Memory> {
         let members = Members::try_new(alloc, layers, own_layers)?;
-        let planes = members.count() + 5 * layers;
-        let words = Vec::from_elem(alloc, 0u64, planes as usize * height as usize)?;
-        let index = Vec::from_elem(alloc, 0u64, members.count() as usize)?;
+        let planes = Planes::try_new(alloc, members.count() + 5 * layers, height)?;
         Ok(RowBoard {
             width,
-            height,
             layers,
             members,
-            words,
-            index,
+            planes,
         })
     }
 
     fn try_copy(&self, alloc: Global) -> Result<RowBoard, Memory> {
         let members = self.members.try_copy(alloc)?;
-        let words = Vec::from_slice(alloc, &self.words)?;
-        let index = Vec::from_slice(alloc, &self.index)?;
+        let planes = self.planes.try_copy(alloc)?;
         Ok(RowBoard {
             width: self.width,
-            height: self.height,
             layers: self.layers,
             members,
-            words,
-            index,
+            planes,
         })
     }
 
     fn size(&self) -> (u32, u32) {
-        (self.width, self.height)
+        (self.width, self.planes.height)
     }
 
     fn layers(&self) -> u32 {
@@ -297,41 +264,23 @@ impl Board for RowBoard {
 
     fn motion(&self, cell: u32, layer: LayerId) -> Motion {
         let first = self.motions_from(layer.0);
-        first_motion(self.words.as_slice(), self.height, cell, first)
+        first_motion(&self.planes, cell, first)
     }
 
     fn put(&mut self, cell: u32, layer: LayerId, object: Option<ObjectId>, motion: Motion) {
         let first = self.motions_from(layer.0);
-        let planes = self.members.of(layer.0);
+        let objects = self.members.of(layer.0);
         let object = number_of(object);
-        let height = self.height;
-        put_slot(
-            self.words.as_mut_slice(),
-            height,
-            cell,
-            planes,
-            object,
-            first,
-            motion,
-        );
-        let words = self.words.as_slice();
-        mark_rows(
-            self.index.as_mut_slice(),
-            words,
-            height,
-            cell % height,
-            planes,
-        );
+        put_slot(&mut self.planes, cell, objects, object, first, motion);
     }
 
     fn clear_moves(&mut self) {
-        let start = self.members.count() as usize * self.height as usize;
-        clear_from(self.words.as_mut_slice(), start);
+        let first = self.members.count();
+        self.planes.clear_from(first);
     }
 
     fn copy_into(&self, other: &mut RowBoard) {
-        other.words.copy_from_slice(&self.words);
-        other.index.copy_from_slice(&self.index);
+        self.planes.copy_into(&mut other.planes);
     }
 
     fn movers(&self, layer: LayerId, row: u32) -> Columns {
@@ -356,14 +305,22 @@ impl Board for RowBoard {
         true
     }
 
-    /// All rows.
+    /// The rows of all planes of motions, by the index.
     fn rows_moving_any(&self) -> Columns {
-        Columns::below(self.height)
+        let first = self.members.count();
+        let mut rows = 0;
+        for plane in first..first + 5 * self.layers {
+            rows |= self.rows_of(plane);
+        }
+        Columns::from_word(rows)
     }
 
-    /// All rows.
-    fn rows_holding(&self, _object: ObjectId) -> Columns {
-        Columns::below(self.height)
+    /// The rows of the object's plane, by the index; none, where no object has that number.
+    fn rows_holding(&self, object: ObjectId) -> Columns {
+        if self.members.count() <= object.0 {
+            return Columns::none();
+        }
+        Columns::from_word(self.rows_of(object.0))
     }
 
     /// That column alone.
@@ -373,7 +330,7 @@ impl Board for RowBoard {
 
     fn is_alike(&self, other: &RowBoard) -> bool {
         self.width == other.width
-            && self.height == other.height
+            && self.planes.height == other.planes.height
             && self.layers == other.layers
             && self.members.has_table_of(&other.members)
     }
@@ -381,14 +338,15 @@ impl Board for RowBoard {
     /// The words of the row are compared, in the planes of all objects.
     fn differing(&self, other: &RowBoard, row: u32) -> Columns {
         let objects = self.members.count();
-        let here = self.words.as_slice();
-        let there = other.words.as_slice();
-        Columns::from_word(differing_row(here, there, self.height, row, objects))
+        let here = self.planes.words.as_slice();
+        let there = other.planes.words.as_slice();
+        Columns::from_word(differing_row(here, there, self.planes.height, row, objects))
     }
 
-    /// All rows.
-    fn rows_differing(&self, _other: &RowBoard) -> Columns {
-        Columns::below(self.height)
+    /// The words of the planes of all objects are compared; a plane without columns on both boards is passed over.
+    fn rows_differing(&self, other: &RowBoard) -> Columns {
+        let objects = self.members.count();
+        Columns::from_word(self.planes.rows_differing(&other.planes, objects))
     }
 
     /// The whole board is copied.

@@ -1,5 +1,6 @@
 //! The board of rows, matched by words and rewritten slot by slot.
 
+use crate::motions::motion_plane;
 use crate::planes::has_column;
 use crate::row_board::RowBoard;
 use crate::scanning::columns as all_columns;
@@ -42,10 +43,17 @@ impl Scan for RowBoard {
         Columns::from_word(self.rows_of(object.object.0))
     }
 
-    /// All rows.
-    fn rows_moving(&self, _test: &MotionTest) -> Columns {
+    /// The rows of the motion's plane, by the index; all rows, for rest, and for a layer that the board doesn't have.
+    fn rows_moving(&self, test: &MotionTest) -> Columns {
         let (_width, height) = self.size();
-        Columns::below(height)
+        if self.layers() <= test.layer.0 {
+            return Columns::below(height);
+        }
+        let first = self.motions_from(test.layer.0);
+        match motion_plane(first, test.motion) {
+            Some(plane) => Columns::from_word(self.rows_of(plane)),
+            None => Columns::below(height),
+        }
     }
 
     fn write(&mut self, write: &CellWrite, cell: u32, changed: bool) -> bool {
@@ -107,6 +115,31 @@ mod tests {
         board.put(2, LayerId(1), None, Motion::Still);
         board.put(4, LayerId(1), None, Motion::Still);
         assert!(rt; board.lacks(&SOUGHT));
+        Ok(())
+    }
+
+    #[test]
+    fn tells_the_rows_where_something_moves(rt: HostRuntime) -> Result<(), Fail> {
+        let mut board = RowBoard::try_empty(rt.alloc(), 2, 3, 2, &OWN_LAYERS)?;
+        let mut other = board.try_copy(rt.alloc())?;
+        let acts = MotionTest {
+            layer: LayerId(1),
+            motion: Motion::Acting,
+        };
+        board.put(2, LayerId(1), Some(ObjectId(2)), Motion::Still);
+        board.put(4, LayerId(1), Some(ObjectId(2)), Motion::Acting);
+        board.copy_into(&mut other);
+        for row in 0..3u32 {
+            assert_eq!(rt; other.rows_moving(&acts).has(row), row == 1);
+            assert_eq!(rt; other.rows_moving_any().has(row), row == 1);
+            assert_eq!(rt; other.rows_holding(ObjectId(2)).has(row), row != 0);
+            assert!(rt; !other.rows_holding(ObjectId(9)).has(row));
+        }
+        board.clear_moves();
+        assert!(rt; board.rows_moving(&acts).is_empty());
+        board.copy_into(&mut other);
+        assert!(rt; other.rows_moving_any().is_empty());
+        assert!(rt; other.same(&board));
         Ok(())
     }
 }

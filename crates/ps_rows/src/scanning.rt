@@ -38,7 +38,7 @@ pub(crate) fn columns(width: u32) -> u64
 impl RowBoard {
     /// Where an object stands on its layer.
     pub(crate) fn object_row(&self, sought: &LayeredObject, row: u32) -> u64
-        requires { row < self.now.height }
+        requires { row < self.now.planes.height }
         ensures { IsRowOf (⟦<RowBoard as Board>⟧.grid self.now) row result (held sought.now) }
     {
         if self.is_on(sought.object.0, sought.layer.0) {
@@ -49,7 +49,7 @@ impl RowBoard {
 
     /// Where each of the objects stands.
     fn all_row(&self, objects: &[LayeredObject], row: u32) -> u64
-        requires { row < self.now.height }
+        requires { row < self.now.planes.height }
         ensures { IsRowOf (⟦<RowBoard as Board>⟧.grid self.now) row result (held_all objects.now) }
     {
         let mut word = u64::MAX;
@@ -61,7 +61,7 @@ impl RowBoard {
 
     /// Where one of the objects stands.
     fn any_row(&self, objects: &[LayeredObject], row: u32) -> u64
-        requires { row < self.now.height }
+        requires { row < self.now.planes.height }
         ensures { IsRowOf (⟦<RowBoard as Board>⟧.grid self.now) row result (held_any objects.now) }
     {
         let mut word = 0;
@@ -73,7 +73,7 @@ impl RowBoard {
 
     /// Where one object of each list stands.
     fn lists_row(&self, lists: &[List<LayeredObject>], row: u32) -> u64
-        requires { row < self.now.height }
+        requires { row < self.now.planes.height }
         ensures { IsRowOf (⟦<RowBoard as Board>⟧.grid self.now) row result (held_of_each lists.now) }
     {
         let mut word = u64::MAX;
@@ -87,8 +87,8 @@ impl RowBoard {
     fn moving_row(&self, first: u32, row: u32) -> u64
         requires first { first + 4 < motions_from self.now.members.table.items self.now.layers }
         requires few { first + 4 < 2 ^ 32 }
-        requires row { row < self.now.height }
-        ensures { result ≡ five_rows self.now.height self.now.words.items first row }
+        requires row { row < self.now.planes.height }
+        ensures { result ≡ five_rows self.now.planes.height self.now.planes.words.items first row }
     {
         self.row(first, row)
             | self.row(first + 1, row)
@@ -99,7 +99,7 @@ impl RowBoard {
 
     /// Where a layer has the motion that is asked for.
     pub(crate) fn motion_row(&self, test: &MotionTest, row: u32) -> u64
-        requires { row < self.now.height }
+        requires { row < self.now.planes.height }
         ensures { IsRowOf (⟦<RowBoard as Board>⟧.grid self.now) row result (moved test.now) }
     {
         if self.layers() <= test.layer.0 {
@@ -114,7 +114,7 @@ impl RowBoard {
 
     /// Where each layer has the motion that is asked for.
     fn motions_row(&self, tests: &[MotionTest], row: u32) -> u64
-        requires { row < self.now.height }
+        requires { row < self.now.planes.height }
         ensures { IsRowOf (⟦<RowBoard as Board>⟧.grid self.now) row result (moved_all tests.now) }
     {
         let mut word = u64::MAX;
@@ -126,7 +126,7 @@ impl RowBoard {
 
     /// The cells of a row that fit a mask.
     pub(crate) fn mask_row(&self, mask: &CellMask, row: u32) -> u64
-        requires { row < self.now.height }
+        requires { row < self.now.planes.height }
         ensures inside { IsRowOf (⟦<RowBoard as Board>⟧.grid self.now) row result (mask_fits (mask_shown mask.now)) }
         ensures within { IsWithin (⟦<RowBoard as Board>⟧.grid self.now) result }
     {

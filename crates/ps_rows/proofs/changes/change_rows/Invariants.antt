@@ -6,8 +6,10 @@ use Rattle.ps_rows.proofs.changes.change_rows.Given as goal
 abbrev pub invariant-loop-plane : goal.invariant-loop-plane
 invariant-loop-plane l =
     record {
-      rows : AreRowsChanged l.height l.row l.change l.initial.words l.words (take l.plane-index l.planes);
+      height : l.planes.height ≡ l.initial.planes.height;
+      count : l.planes.words.len ≡ l.initial.planes.words.len;
+      rows : AreRowsChanged l.initial.planes.height l.row l.change l.initial.planes.words.items l.planes.words.items (take l.plane-index l.places);
       before : l.any ≡ false → l.changed ≡ false;
-      quiet : l.any ≡ false → l.words ≡ l.initial.words;
-      left : l.changed ≡ false → AreRowsLeft l.height l.row l.change l.initial.words l.planes → l.any ≡ false;
+      quiet : l.any ≡ false → l.planes.words.items ≡ l.initial.planes.words.items;
+      left : l.changed ≡ false → AreRowsLeft l.initial.planes.height l.row l.change l.initial.planes.words.items l.places → l.any ≡ false;
     }

@@ -17,12 +17,12 @@ has_one cell objects = list_any (is_held_in cell) objects
 pub loop-objects-init : goal.loop-objects-init
 loop-objects-init c =
     let b = c.args.self.now in
-    all_none (grid_shown b.members.table.items b.width b.height b.layers b.words.items) c.args.row has_one b.columns
+    all_none (grid_shown b.members.table.items b.width b.planes.height b.layers b.planes.words.items) c.args.row has_one b.columns
 
 pub loop-objects-preserved : goal.loop-objects-preserved
 loop-objects-preserved c =
     let b = c.args.self.now in
-    let g : Grid = grid_shown b.members.table.items b.width b.height b.layers b.words.items in
+    let g : Grid = grid_shown b.members.table.items b.width b.planes.height b.layers b.planes.words.items in
     let at_index = c.loop-objects.objects-index in
     let below : at_index < length c.args.lists.now = omega arith in
     let P : List LayeredObject → Type 0 = λ xs. IsRowOf g c.args.row c.any_row-word.result (held_any xs) in
@@ -34,5 +34,5 @@ returns c =
     let b = c.args.self.now in
     let end : length c.args.lists.now ≤ c.loop-objects.objects-index = omega arith in
     let P : List (List LayeredObject) → Type 0 =
-    λ xs. IsRowOf (grid_shown b.members.table.items b.width b.height b.layers b.words.items) c.args.row c.loop-objects.word (held_of_each xs) in
+    λ xs. IsRowOf (grid_shown b.members.table.items b.width b.planes.height b.layers b.planes.words.items) c.args.row c.loop-objects.word (held_of_each xs) in
     subst P (take_all c.loop-objects.objects-index c.args.lists.now end) c.loop-objects.invariant

@@ -14,7 +14,7 @@ use Rattle.ps_rows.proofs.row_board.RowBoard.mask_row.Goals as goal
 pub returns-then-needed-eq0-clause-inside : goal.returns-then-needed-eq0-clause-inside
 returns-then-needed-eq0-clause-inside c =
     let b = c.args.self.now in
-    let g : Grid = grid_shown b.members.table.items b.width b.height b.layers b.words.items in
+    let g : Grid = grid_shown b.members.table.items b.width b.planes.height b.layers b.planes.words.items in
     let Needed : ℕ → Type 0 = λ word. IsRowOf g c.args.row word (held_all (mask_shown c.args.mask.now).needed) in
     let Listed : List LayeredObject → Type 0 = λ xs. IsRowOf g c.args.row c.all_row-needed.result (held_all xs) in
     mask_nowhere g c.args.row (mask_shown c.args.mask.now) (subst Needed c.if-needed-eq0.true (subst Listed c.as_slice.ensures c.all_row-needed.ensures))
@@ -22,12 +22,12 @@ returns-then-needed-eq0-clause-inside c =
 pub returns-then-needed-eq0-clause-within : goal.returns-then-needed-eq0-clause-within
 returns-then-needed-eq0-clause-within c =
     let b = c.args.self.now in
-    none_within (grid_shown b.members.table.items b.width b.height b.layers b.words.items)
+    none_within (grid_shown b.members.table.items b.width b.planes.height b.layers b.planes.words.items)
 
 pub returns-clause-inside : goal.returns-clause-inside
 returns-clause-inside c =
     let b = c.args.self.now in
-    let g : Grid = grid_shown b.members.table.items b.width b.height b.layers b.words.items in
+    let g : Grid = grid_shown b.members.table.items b.width b.planes.height b.layers b.planes.words.items in
     let row : ℕ = c.args.row in
     let wide : (x : ℕ) → x < 64 → has_column c.columns.result x ≡ nat_lt x b.width = λ x h. c.columns.ensures x h ∙ ap (nat_lt x) c.size-width.ensures.width in
     let fits : c.any_row-barred.result < 2 ^ 64 = search rules in
@@ -42,6 +42,6 @@ returns-clause-inside c =
 pub returns-clause-within : goal.returns-clause-within
 returns-clause-within c =
     let b = c.args.self.now in
-    let g : Grid = grid_shown b.members.table.items b.width b.height b.layers b.words.items in
+    let g : Grid = grid_shown b.members.table.items b.width b.planes.height b.layers b.planes.words.items in
     let wide : (x : ℕ) → x < 64 → has_column c.columns.result x ≡ nat_lt x b.width = λ x h. c.columns.ensures x h ∙ ap (nat_lt x) c.size-width.ensures.width in
     mask_within g c.columns.result c.all_row-needed.result (18446744073709551615 - c.any_row-barred.result) c.lists_row-listed.result c.motions_row-moving.result wide

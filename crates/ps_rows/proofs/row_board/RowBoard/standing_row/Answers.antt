@@ -24,13 +24,13 @@ loop-plane-init c = λ x. has_column-zero x
 
 pub loop-plane-preserved : goal.loop-plane-preserved
 loop-plane-preserved c =
-    standing_more c.args.self.now.height c.args.row c.args.self.now.words.items c.of-plane-items.result.now c.loop-plane.plane-index c.loop-plane.word c.row-word.result c.loop-plane-test.true
+    standing_more c.args.self.now.planes.height c.args.row c.args.self.now.planes.words.items c.of-plane-items.result.now c.loop-plane.plane-index c.loop-plane.word c.row-word.result c.loop-plane-test.true
     c.row-word.ensures c.loop-plane.invariant
 
 pub returns : goal.returns
 returns c =
     let b = c.args.self.now in
     let end : length c.of-plane-items.result.now ≤ c.loop-plane.plane-index = omega arith in
-    let P : List ℕ → Type 0 = λ planes. (x : ℕ) → has_column c.loop-plane.word x ≡ list_any (has_at b.height c.args.row b.words.items x) planes in
-    standing_is b.members.table.items b.width b.height b.layers b.words.items c.args.layer c.args.row b.some_row b.columns c.requires.row c.requires.layer c.loop-plane.word
+    let P : List ℕ → Type 0 = λ planes. (x : ℕ) → has_column c.loop-plane.word x ≡ list_any (has_at b.planes.height c.args.row b.planes.words.items x) planes in
+    standing_is b.members.table.items b.width b.planes.height b.layers b.planes.words.items c.args.layer c.args.row b.planes.some_row b.columns c.requires.row c.requires.layer c.loop-plane.word
     (subst P (take_all c.loop-plane.plane-index c.of-plane-items.result.now end ∙ c.of-plane-items.ensures) c.loop-plane.invariant)

@@ -9,5 +9,5 @@ returns c =
     let o = c.args.other.now in
     let tables : o.members.table.items ≡ b.members.table.items = same_Some o.members.table.items b.members.table.items c.requires.table in
     rw (c.from_word.ensures, tables, c.requires.layers, c.requires.height, c.requires.width)
-    (others_same b.members.table.items b.width b.height b.layers b.words.items o.words.items c.args.row c.differing_row.result c.requires.row
+    (others_same b.members.table.items b.width b.planes.height b.layers b.planes.words.items o.planes.words.items c.args.row c.differing_row.result c.requires.row
     b.columns (search rules))

@@ -13,9 +13,9 @@ pub returns : goal.returns
 unfolding has_column
 returns c =
     let b = c.args.self.now in
-    let g : Grid = grid_shown b.members.table.items b.width b.height b.layers b.words.items in
+    let g : Grid = grid_shown b.members.table.items b.width b.planes.height b.layers b.planes.words.items in
     let fits : c.motion_row.result < 2 ^ 64 = search rules in
     c.from_word.ensures
-    ∙ columns-agree (bit_is_set (bit_and c.columns.result (18446744073709551615 - c.motion_row.result))) (λ x. is_moving (slot_at g (x * b.height + c.args.row) c.args.layer.0))
-    (movers_cut g c.args.row c.args.layer.0 c.columns.result c.motion_row.result (cells_long b.members.table.items b.layers b.height b.words.items (b.width * b.height)) b.columns fits
+    ∙ columns-agree (bit_is_set (bit_and c.columns.result (18446744073709551615 - c.motion_row.result))) (λ x. is_moving (slot_at g (x * b.planes.height + c.args.row) c.args.layer.0))
+    (movers_cut g c.args.row c.args.layer.0 c.columns.result c.motion_row.result (cells_long b.members.table.items b.layers b.planes.height b.planes.words.items (b.width * b.planes.height)) b.columns fits
     c.columns.ensures c.motion_row.ensures)

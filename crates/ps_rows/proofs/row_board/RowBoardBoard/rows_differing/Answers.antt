@@ -1,5 +1,13 @@
-use Rattle.ps_board.proofs.AllRows.{none_outside}
+use Rattle.std.proofs.Common.{◌≡◌, arith}
+use Rattle.std.proofs.lemmas.Option.{same_Some}
+use Rattle.ps_rows.proofs.RowsDiffering.{rows_alike}
 use Rattle.ps_rows.proofs.row_board.RowBoardBoard.rows_differing.Goals as goal
 
 pub returns : goal.returns
-returns c = λ row under none. absurd (none_outside c.args.self.now.height c.below.result c.args.self.now.rows c.below.ensures row under none)
+returns c =
+    let b = c.args.self.now in
+    let o = c.args.other.now in
+    let tables : o.members.table.items ≡ b.members.table.items = same_Some o.members.table.items b.members.table.items c.requires.table in
+    rw (c.from_word.ensures, tables, c.requires.layers, c.requires.height, c.requires.width)
+    (rows_alike b.members.table.items b.width b.planes.height b.layers b.planes.words.items o.planes.words.items c.rows_differing.result b.columns b.planes.rows
+    (λ plane below. c.rows_differing.ensures plane (omega (arith, below, c.count-objects.ensures.value))))

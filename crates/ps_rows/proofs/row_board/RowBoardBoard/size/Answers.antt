@@ -8,10 +8,10 @@ returns-clause-shape c =
     record {
       some_column = b.some_column;
       columns = b.columns;
-      some_row = b.some_row;
-      rows = b.rows;
+      some_row = b.planes.some_row;
+      rows = b.planes.rows;
       some_layer = b.some_layer;
       few_layers = b.few_layers;
-      cells = cells_long b.members.table.items b.layers b.height b.words.items (b.width * b.height);
-      slots = slots_long b.members.table.items b.layers b.height b.words.items (b.width * b.height);
+      cells = cells_long b.members.table.items b.layers b.planes.height b.planes.words.items (b.width * b.planes.height);
+      slots = slots_long b.members.table.items b.layers b.planes.height b.planes.words.items (b.width * b.planes.height);
     }

@@ -1,0 +1,13 @@
+use Rattle.std.proofs.Common.{◌*◌, ◌≤◌, ◌∙◌, length, sym, arith}
+use Rattle.ps_rows.proofs.PlaneCopies.{all_cleared, behind_plane}
+use Rattle.ps_rows.proofs.planes.Planes.clear_from.Goals as goal
+
+pub returns-clause-words : goal.returns-clause-words
+returns-clause-words c =
+    let p = c.args.self.now in
+    let reached : p.index.len ≤ c.loop-plane.plane = omega (arith, c.loop-plane-test.false, c.len-plane-end.ensures) in
+    let enough = behind_plane p.height p.index.len c.loop-plane.plane reached in
+    let within : c.args.first * p.height ≤ length p.words.items = omega (arith, c.requires, p.words.ok.0) in
+    let whole : length p.words.items ≤ c.loop-plane.plane * p.height = omega (arith, enough, p.whole, p.words.ok.0) in
+    all_cleared p.height c.args.first c.loop-plane.plane p.words.items c.loop-plane.self.words.items p.some_row within whole
+    (sym c.loop-plane.self.words.ok.0 ∙ c.loop-plane.invariant.2 ∙ p.words.ok.0) c.loop-plane.invariant.0

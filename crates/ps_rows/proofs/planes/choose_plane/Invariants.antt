@@ -1,8 +1,0 @@
-use Rattle.std.proofs.Common.{◌≡◌, drop}
-use Rattle.ps_rows.specs.Planes.{with_cell_in}
-use Rattle.ps_rows.proofs.planes.choose_plane.Given as goal
-
--- what is left to do comes to the whole
-abbrev pub invariant-loop-plane : goal.invariant-loop-plane
-invariant-loop-plane l =
-    with_cell_in l.height l.cell l.chosen l.words (drop l.plane-index l.planes) ≡ with_cell_in l.height l.cell l.chosen l.initial.words l.planes

@@ -1,8 +1,0 @@
-use Rattle.std.proofs.Common.{◌≡◌, drop}
-use Rattle.std.specs.Prelude.{find}
-use Rattle.ps_rows.specs.Planes.{has_cell}
-use Rattle.ps_rows.proofs.planes.first_plane.Given as goal
-
--- none of the planes passed by has the cell
-abbrev pub invariant-loop-plane : goal.invariant-loop-plane
-invariant-loop-plane l = find (has_cell l.height l.words l.cell) (drop l.plane-index l.planes) ≡ find (has_cell l.height l.words l.cell) l.planes

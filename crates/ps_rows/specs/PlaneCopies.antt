@@ -1,0 +1,9 @@
+-- Planes that were copied, or cleared.
+use Rattle.std.specs.Prelude.{◌≡◌, ◌<◌, ◌≤◌, ℕ, ◌+◌, ◌*◌, List, slice_index}
+
+-- behind a change the planes from the first up to the end are those of a source, and all others are what they were; those of no
+-- words have no columns
+pub record ArePlanesOf (height first end : ℕ) (source before after : List ℕ) : Type 0 where
+  pub below : (plane row : ℕ) → row < height → plane < first → slice_index after (plane * height + row) ≡ slice_index before (plane * height + row)
+  pub behind : (plane row : ℕ) → row < height → end ≤ plane → slice_index after (plane * height + row) ≡ slice_index before (plane * height + row)
+  pub copied : (plane row : ℕ) → row < height → first ≤ plane → plane < end → slice_index after (plane * height + row) ≡ slice_index source (plane * height + row)
