@@ -122,7 +122,7 @@ fn is_own<B: Rooms>(board: &B, write: LayerWrite, layer: LayerId) -> bool
 }
 
 /// The write of a layer: the first of it whose object has room there.
-fn own_write<B: Rooms>(board: &B, writes: &[LayerWrite], layer: LayerId) -> Option<LayerWrite>
+pub fn own_write<B: Rooms>(board: &B, writes: &[LayerWrite], layer: LayerId) -> Option<LayerWrite>
     ensures { result ≡ own_write (B.table board.now) layer.0 writes.now }
 {
     for each in writes {

@@ -138,7 +138,7 @@ five_in first q low high = elim (cases_eq q first) [
   ]
 ]
 
-five_motion : (first q : ℕ) → first ≤ q → q < first + 5 → (m : Motion) × (motion_plane first m ≡ Some q)
+pub five_motion : (first q : ℕ) → first ≤ q → q < first + 5 → (m : Motion) × (motion_plane first m ≡ Some q)
 five_motion first q low high = elim (cases_eq q first) [
   | inl e ↦ (Going Up, ap Some (sym e))
   | inr a ↦ elim (cases_eq q (first + 1)) [
@@ -218,7 +218,7 @@ same_moves table width height layers first second layer on shown showing same = 
 
 -- boards -----------------------------------------------------------------------------------------------------------------
 
-slot_itself : (slot : Slot) → same_slot slot slot ≡ true
+pub slot_itself : (slot : Slot) → same_slot slot slot ≡ true
 slot_itself Bare = refl
 slot_itself (Holds object motion) = rw (eq-eqb object.0 object.0 refl, eq-eqb (motion_number motion) (motion_number motion) refl) refl
 
@@ -253,7 +253,7 @@ motion_known first second h = sym (motion_back first) ∙ ap motion_of (eqb-true
 object_known : (first second : ObjectId) → same_object first second ≡ true → first ≡ second
 object_known first second h = ap numbered (eqb-true first.0 second.0 h)
 
-slot_known : (first second : Slot) → same_slot first second ≡ true → first ≡ second
+pub slot_known : (first second : Slot) → same_slot first second ≡ true → first ≡ second
 slot_known Bare Bare h = refl
 slot_known Bare (Holds object motion) h = absurd (false≢true h)
 slot_known (Holds object motion) Bare h = absurd (false≢true h)

@@ -16,6 +16,11 @@ pub mod Differences
 pub mod SameRows
 pub mod Absent
 pub mod Marked
+pub mod RowChanges
+pub mod SlotChanges
+pub mod LayerChanges
+pub mod LayerWritten
+pub mod RowsWritten
 pub mod Unmarked
 pub mod PlaneCopies
 pub mod RowsDiffering

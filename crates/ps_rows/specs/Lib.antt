@@ -4,4 +4,6 @@ pub mod Showing
 pub mod RowTests
 pub mod Sameness
 pub mod RowIndex
+pub mod RowChanges
+pub mod SlotsWritten
 pub mod PlaneCopies

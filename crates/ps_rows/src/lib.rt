@@ -4,13 +4,17 @@
 //! what looks for objects can look at a whole row at once.
 #![tactic(auto)]
 
+mod changes;
 mod members;
 mod motions;
 mod planes;
+mod rewriting;
 mod row_board;
 mod row_scan;
 mod sameness;
 mod scanning;
+#[cfg(test)]
+mod tests;
 
 pub use ps_board::Board;
 pub use ps_match::{Columns, Rooms, Scan};

@@ -65,7 +65,7 @@ pub fn plane_row(words: &[u64], height: u32, plane: u32, row: u32) -> u64
 }
 
 /// Whether the plane is the one that is chosen.
-fn is_chosen(chosen: Option<u32>, plane: u32) -> bool
+pub fn is_chosen(chosen: Option<u32>, plane: u32) -> bool
     ensures { result ≡ is_number chosen plane }
 {
     match chosen {

@@ -1,14 +1,20 @@
 //! A board of rows of bits.
 
-ghost use Rattle.std.specs.Prelude.{◌≡◌, ◌+◌, ◌*◌, ◌/◌, ◌^◌, ◌<◌, ◌≤◌, ◌&&◌, ℕ, Some, List, length, nat_lt, true};
+ghost use Rattle.std.specs.Prelude.{◌≡◌, ◌+◌, ◌*◌, ◌/◌, ◌^◌, ◌<◌, ◌≤◌, ◌&&◌, ℕ, Some, List};
+ghost use Rattle.std.specs.Prelude.{false, length, nat_eq, nat_lt, true};
 ghost use Rattle.std.specs.Prelude.{option_map, replicate, slice_get, slice_index, vec_len};
 ghost use Rattle.ps_model.specs.board.Movement.{is_number};
 ghost use Rattle.ps_model.specs.declared.limits.TheConstants.{LAYER_LIMIT, SIDE_LIMIT};
 ghost use Rattle.ps_rows.specs.Planes.{HavePlanes};
+ghost use Rattle.ps_program.specs.ProgramShown.{write_shown};
+ghost use Rattle.ps_match.specs.InRoom.{slot_after, write_in_room};
+ghost use Rattle.ps_rows.specs.RowTests.{IsRowOf, IsWithin};
 ghost use Rattle.ps_rows.specs.Sameness.{IsSameLayer};
 ghost use Rattle.ps_rows.specs.Showing.{AreMotionsShown, AreObjectsShown, cleared_from, grid_shown};
 ghost use Rattle.ps_rows.specs.Showing.{motions_from, numbered, object_shown, with_slot_in};
+ghost use Rattle.ps_rows.specs.SlotsWritten.{AreSlotsLeft, AreSlotsWritten, in_columns, stands_on};
 
+use crate::changes::change_layer;
 use crate::members::Members;
 use crate::motions::{choose_motion, first_motion};
 use crate::planes::Planes;
@@ -16,6 +22,7 @@ use crate::sameness::{differing_row, same_planes, unlike_row};
 use crate::scanning::columns;
 use ps_board::{Board, Columns};
 use ps_model::{LayerId, LayeredObject, Memory, Motion, MotionTest, ObjectId};
+use ps_program::CellWrite;
 use std::alloc::Global;
 
 /// A board with one plane for each object of its game and, behind them, five for each layer: of the objects there that
@@ -127,6 +134,19 @@ impl RowBoard {
         layer < self.layers && self.members.is_on(object, layer)
     }
 
+    /// Where an object stands on a layer.
+    pub(crate) fn standing_row(&self, layer: u32, row: u32) -> u64
+        requires layer { layer < self.now.layers }
+        requires row { row < self.now.planes.height }
+        ensures { IsRowOf (⟦<RowBoard as Board>⟧.grid self.now) row result (stands_on layer) }
+    {
+        let mut word = 0;
+        for plane in self.members.of(layer) {
+            word |= self.row(*plane, row);
+        }
+        word
+    }
+
     /// The number of the object that stands on a layer of a cell, if one does.
     fn object_number(&self, cell: u32, layer: u32) -> Option<u32>
         requires cell { cell < self.now.width * self.now.planes.height }
@@ -136,6 +156,37 @@ impl RowBoard {
     {
         let planes = self.members.of(layer);
         self.planes.first_plane(cell, planes)
+    }
+
+    /// Writes a layer of a row in these columns, and answers whether one of its slots changed.
+    pub(crate) fn write_layer(
+        &mut self,
+        write: &CellWrite,
+        layer: u32,
+        row: u32,
+        columns: u64,
+    ) -> bool
+        requires layer { layer < self.old.layers }
+        requires row { row < self.old.planes.height }
+        requires within { IsWithin (⟦<RowBoard as Board>⟧.grid self.old) columns }
+        ensures slots { let after = slot_after (write_in_room (Some self.old.members.table.items) (write_shown write.now)) in
+            AreSlotsWritten (⟦<RowBoard as Board>⟧.grid self.old) (⟦<RowBoard as Board>⟧.grid self.new)
+            (in_columns self.old.planes.height row columns) (λ l. nat_eq l layer) after }
+        ensures quiet { let after = slot_after (write_in_room (Some self.old.members.table.items) (write_shown write.now)) in
+            result ≡ false → AreSlotsLeft (⟦<RowBoard as Board>⟧.grid self.old)
+            (in_columns self.old.planes.height row columns) (λ l. nat_eq l layer) after }
+        ensures left { let after = slot_after (write_in_room (Some self.old.members.table.items) (write_shown write.now)) in
+            AreSlotsLeft (⟦<RowBoard as Board>⟧.grid self.old)
+            (in_columns self.old.planes.height row columns) (λ l. nat_eq l layer) after → result ≡ false }
+        ensures width { self.new.width ≡ self.old.width }
+        ensures height { self.new.planes.height ≡ self.old.planes.height }
+        ensures layers { self.new.layers ≡ self.old.layers }
+        ensures table { self.new.members.table.items ≡ self.old.members.table.items }
+    {
+        let (objects, motions) = self.layer_change(write, layer, row, columns);
+        let first = self.motions_from(layer);
+        let places = self.members.of(layer);
+        change_layer(&mut self.planes, row, places, objects, first, motions)
     }
 
     /// Whether a layer shows the same on another board of the same size for the same game.

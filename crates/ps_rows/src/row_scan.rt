@@ -3,8 +3,9 @@
 use crate::motions::motion_plane;
 use crate::planes::has_column;
 use crate::row_board::RowBoard;
+use crate::scanning::columns as all_columns;
 use ps_board::Board;
-use ps_match::{Columns, Rooms, Scan, rewrite_row, write_cell};
+use ps_match::{Columns, Rooms, Scan, write_cell};
 use ps_model::{LayerId, LayeredObject, MotionTest, ObjectId};
 use ps_program::{CellMask, CellWrite};
 
@@ -64,7 +65,12 @@ impl Scan for RowBoard {
     }
 
     fn rewrite(&mut self, write: &CellWrite, row: u32, columns: Columns) -> bool {
-        rewrite_row(self, write, row, columns)
+        let (width, _height) = self.size();
+        let word = columns.word() & all_columns(width);
+        if word == 0 {
+            return false;
+        }
+        self.write_columns(write, row, word)
     }
 }
 
