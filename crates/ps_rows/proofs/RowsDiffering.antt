@@ -1,15 +1,18 @@
 -- Rows on which the planes of all objects have the same words on two boards.
-use Rattle.std.proofs.Common.{◌≡◌, ◌∙◌, ℕ, ◌+◌, ◌*◌, ◌<◌, ◌≤◌, inl, inr, Bool, false, not, List, length, get_or, sym, ap, arith, bit_or}
+use Rattle.std.proofs.Common.{◌≡◌, ◌∙◌, ℕ, ◌+◌, ◌*◌, ◌<◌, ◌≤◌, inl, inr, Bool, false, not, List, length, get_or, sym, ap, subst, arith, bit_or}
 use Rattle.std.specs.Prelude.{nat_eq}
 use Rattle.std.proofs.lemmas.Bool.{cases_eq, ne_eqb, or_parts, false≢true}
 use Rattle.ps_board.specs.ColumnSets.{bit_is_set, column_at, word_columns}
 use Rattle.ps_board.specs.Rows.{DifferOnlyOn}
 use Rattle.ps_board.proofs.ColumnLaws.{column_at-where}
 use Rattle.ps_rows.specs.Planes.{has_column, with_column}
+use Rattle.ps_rows.specs.RowIndex.{AreRowsMarked}
 use Rattle.ps_rows.specs.Showing.{grid_shown}
 use Rattle.ps_rows.specs.Sameness.{DifferOnlyOnRows}
 use Rattle.ps_rows.proofs.Absent.{column_clear}
 use Rattle.ps_rows.proofs.Bits.{has_column-zero, has_column-with_same, has_column-with_other}
+use Rattle.ps_rows.proofs.Marked.{plane_indexed}
+use Rattle.ps_rows.proofs.PlaneCopies.{neither_word}
 use Rattle.ps_rows.proofs.SameRows.{others_same}
 use Rattle.ps_rows.proofs.Scans.{has_column-or}
 
@@ -18,6 +21,18 @@ same_by_test here there none = elim (cases_eq here there) [
   | inl e ↦ e
   | inr n ↦ absurd (false≢true (sym none ∙ ap not (ne_eqb here there n)))
 ]
+
+-- a plane that has no marked row on either board
+pub neither_marked : (count count' height height' plane long long' : ℕ) (first second index index' : List ℕ) → 0 < height → height' ≡ height → long ≡ count * height → long' ≡ count' * height' →
+    (plane + 1) * height ≤ long → (plane + 1) * height ≤ long' → AreRowsMarked count height first index → AreRowsMarked count' height' second index' →
+    bit_or (get_or index plane 0) (get_or index' plane 0) ≡ 0 → DifferOnlyOnRows height plane first second 0
+neither_marked count count' height height' plane long long' first second index index' some high whole whole' here there marked marked' none = λ row under clear.
+    let counted : plane < count = plane_indexed count height plane long some whole here in
+    let counted' : plane < count' = plane_indexed count' height plane long' some (whole' ∙ ap (λ (h : ℕ). count' * h) high) there in
+    let Marked : ℕ → Type 0 = λ h. AreRowsMarked count' h second index' in
+    let also : AreRowsMarked count' height second index' = subst Marked high marked' in
+    let parts = neither_word (get_or index plane 0) (get_or index' plane 0) none row in
+    marked plane row counted under parts.0 ∙ sym (also plane row counted' under parts.1)
 
 -- one row more is compared
 pub one_row_more : (height plane row rows : ℕ) (first second : List ℕ) → row < height → height ≤ 64 →

@@ -203,15 +203,13 @@ impl RowBoard {
             let there = other.now.planes.words.items in
             IsSameLayer b.members.table.items b.width b.planes.height here there layer → result ≡ true }
     {
-        let here = self.planes.words.as_slice();
-        let there = other.planes.words.as_slice();
         let objects = self.members.of(layer);
-        if !same_planes(here, there, self.width, self.planes.height, objects) {
+        if !same_planes(&self.planes, &other.planes, self.width, objects) {
             return false;
         }
         let first = self.motions_from(layer);
         let motions = [first, first + 1, first + 2, first + 3, first + 4];
-        same_planes(here, there, self.width, self.planes.height, &motions)
+        same_planes(&self.planes, &other.planes, self.width, &motions)
     }
 }
 

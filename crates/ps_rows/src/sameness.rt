@@ -16,34 +16,41 @@ fn same_row(first: u64, second: u64, width: u32) -> bool
     (first ^ second) & (u64::MAX >> (64 - width)) == 0
 }
 
-/// Whether a plane has the same cells on two boards of this size.
-fn same_plane(first: &[u64], second: &[u64], width: u32, height: u32, plane: u32) -> bool
+/// Whether a plane has the same cells on two boards of this width. One without columns on both isn't read.
+fn same_plane(first: &Planes, second: &Planes, width: u32, plane: u32) -> bool
     requires width { (0 < width) × (width ≤ 64) }
-    requires first { (plane + 1) * height ≤ length first.now }
-    requires second { (plane + 1) * height ≤ length second.now }
-    ensures same { result ≡ true → IsSamePlane width height first.now second.now plane }
-    ensures other { IsSamePlane width height first.now second.now plane → result ≡ true }
+    requires height { second.now.height ≡ first.now.height }
+    requires first { (plane + 1) * first.now.height ≤ vec_len first.now.words }
+    requires second { (plane + 1) * first.now.height ≤ vec_len second.now.words }
+    ensures same { let here = first.now.words.items in
+        result ≡ true → IsSamePlane width first.now.height here second.now.words.items plane }
+    ensures other { let here = first.now.words.items in
+        IsSamePlane width first.now.height here second.now.words.items plane → result ≡ true }
 {
-    for row in 0..height {
-        let here = plane_row(first, height, plane, row);
-        let there = plane_row(second, height, plane, row);
-        if !same_row(here, there, width) {
+    if first.rows_of(plane) | second.rows_of(plane) == 0 {
+        return true;
+    }
+    for row in 0..first.height {
+        if !same_row(first.row(plane, row), second.row(plane, row), width) {
             return false;
         }
     }
     true
 }
 
-/// Whether these planes have the same cells on two boards of this size.
-pub fn same_planes(first: &[u64], second: &[u64], width: u32, height: u32, planes: &[u32]) -> bool
+/// Whether these planes have the same cells on two boards of this width.
+pub fn same_planes(first: &Planes, second: &Planes, width: u32, planes: &[u32]) -> bool
     requires width { (0 < width) × (width ≤ 64) }
-    requires first { HavePlanes height first.now planes.now }
-    requires second { HavePlanes height second.now planes.now }
-    ensures same { result ≡ true → AreSamePlanes width height first.now second.now planes.now }
-    ensures other { AreSamePlanes width height first.now second.now planes.now → result ≡ true }
+    requires height { second.now.height ≡ first.now.height }
+    requires first { HavePlanes first.now.height first.now.words.items planes.now }
+    requires second { HavePlanes first.now.height second.now.words.items planes.now }
+    ensures same { let here = first.now.words.items in
+        result ≡ true → AreSamePlanes width first.now.height here second.now.words.items planes.now }
+    ensures other { let here = first.now.words.items in
+        AreSamePlanes width first.now.height here second.now.words.items planes.now → result ≡ true }
 {
     for plane in planes {
-        if !same_plane(first, second, width, height, *plane) {
+        if !same_plane(first, second, width, *plane) {
             return false;
         }
     }

@@ -5,4 +5,5 @@ use Rattle.ps_rows.proofs.sameness.same_plane.Given as goal
 -- the rows passed by are the same
 abbrev pub invariant-loop-row : goal.invariant-loop-row
 invariant-loop-row l =
-    (row : ℕ) → row < l.row → AreSameRows l.width (get_or l.first (l.plane * l.height + row) 0) (get_or l.second (l.plane * l.height + row) 0)
+    (row : ℕ) → row < l.row → AreSameRows l.width (get_or l.first.words.items (l.plane * l.first.height + row) 0)
+    (get_or l.second.words.items (l.plane * l.first.height + row) 0)
