@@ -119,8 +119,8 @@ pub trait Board: Drop {
         requires row { row < (grid self.now).height }
         ensures { result ≡ row_holders (grid self.now) object layer.0 row };
 
-    /// Rows, as a set of their numbers, without which nothing on the board is about to move or to act. There may be more
-    /// of them, and all of them, as a board needn't look for it.
+    /// Rows, as a set of their numbers, without which nothing on the board is about to move or to act. There may be
+    /// more of them, and all of them, as a board needn't look for it.
     fn rows_moving_any(&self) -> Columns
         ensures { PassOnlyOn is_moving (grid self.now) result };
 
@@ -129,8 +129,8 @@ pub trait Board: Drop {
     fn rows_holding(&self, object: ObjectId) -> Columns
         ensures { PassOnlyOn (slot_holds object) (grid self.now) result };
 
-    /// Columns of a row whose cells show the same objects, at rest or not, as one of them does, itself among them. There
-    /// may be others, as a board needn't look for them.
+    /// Columns of a row whose cells show the same objects, at rest or not, as one of them does, itself among them.
+    /// There may be others, as a board needn't look for them.
     fn alike(&self, row: u32, column: u32) -> Columns
         requires row { row < (grid self.now).height }
         requires column { column < (grid self.now).width }
@@ -155,9 +155,9 @@ pub trait Board: Drop {
         requires table { table other.now ≡ table self.now }
         ensures { DifferOnlyIn result (grid self.now) (grid other.now) row };
 
-    /// Rows, as a set of their numbers, outside of which another board of the same size, with as many layers and the same
-    /// room, shows the same objects, at rest or not. There may be more of them, and all of them, as a board needn't look
-    /// for it.
+    /// Rows, as a set of their numbers, outside of which another board of the same size, with as many layers and the
+    /// same room, shows the same objects, at rest or not. There may be more of them, and all of them, as a board
+    /// needn't look for it.
     fn rows_differing(&self, other: &Self) -> Columns
         requires width { (grid other.now).width ≡ (grid self.now).width }
         requires height { (grid other.now).height ≡ (grid self.now).height }

@@ -37,8 +37,8 @@ pub trait Scan: Board {
     fn rows_with(&self, object: &LayeredObject) -> Columns
         ensures { HasRowsIn (Self.grid self.now) object.now result };
 
-    /// Rows of the board, as a set of their numbers, without which no cell has the motion that is asked for. There may be
-    /// more of them than have it, and all of them, as a board needn't look for it.
+    /// Rows of the board, as a set of their numbers, without which no cell has the motion that is asked for. There may
+    /// be more of them than have it, and all of them, as a board needn't look for it.
     fn rows_moving(&self, test: &MotionTest) -> Columns
         ensures { HasMovesIn (Self.grid self.now) test.now result };
 

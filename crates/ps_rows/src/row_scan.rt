@@ -1,4 +1,4 @@
-//! The board of rows, matched by words and rewritten slot by slot.
+//! The board of rows, matched by words and, where a row is rewritten, written by words.
 
 use crate::motions::motion_plane;
 use crate::planes::has_column;
