@@ -17,4 +17,4 @@ pub use ps_board::{Board, Columns, ListBoard};
 pub use rewriting::rewrite_row;
 pub use rooms::Rooms;
 pub use scan::Scan;
-pub use writing::write_cell;
+pub use writing::{touches, write_cell};

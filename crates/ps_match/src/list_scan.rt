@@ -6,7 +6,7 @@ use crate::scan::Scan;
 use crate::scanning::scan_row;
 use crate::writing::write_cell;
 use ps_board::{Board, Columns, ListBoard};
-use ps_model::LayeredObject;
+use ps_model::{LayerId, LayeredObject, MotionTest};
 use ps_program::{CellMask, CellWrite};
 
 impl Scan for ListBoard {
@@ -31,6 +31,17 @@ impl Scan for ListBoard {
     fn rows_with(&self, _object: &LayeredObject) -> Columns {
         let (_width, height) = self.size();
         Columns::below(height)
+    }
+
+    /// All rows, likewise.
+    fn rows_moving(&self, _test: &MotionTest) -> Columns {
+        let (_width, height) = self.size();
+        Columns::below(height)
+    }
+
+    /// Never, likewise.
+    fn is_same_on(&self, _other: &ListBoard, _layer: LayerId) -> bool {
+        false
     }
 
     fn write(&mut self, write: &CellWrite, cell: u32, changed: bool) -> bool {

@@ -8,10 +8,11 @@ ghost use Rattle.ps_board.specs.ColumnSets.{row_fits};
 ghost use Rattle.ps_model.specs.meaning.Compiled.{cell_written};
 ghost use Rattle.ps_match.specs.InRoom.{meaning_of_mask, meaning_of_write, sides_of, write_in_room};
 ghost use Rattle.ps_match.specs.Together.{is_on_row, rewritten_where};
-ghost use Rattle.ps_match.specs.Nowhere.{HasRowsIn, IsNowhere};
+ghost use Rattle.ps_match.specs.Nowhere.{HasMovesIn, HasRowsIn, IsNowhere};
+ghost use Rattle.ps_match.specs.SameLayers.{HaveSameLayer};
 
 use ps_board::{Board, Columns};
-use ps_model::LayeredObject;
+use ps_model::{LayerId, LayeredObject, MotionTest};
 use ps_program::{CellMask, CellWrite};
 
 /// A board whose cells are matched against masks and rewritten by writes. What runs rules touches a board through
@@ -36,6 +37,21 @@ pub trait Scan: Board {
     /// more of them than have it, and all of them, as a board needn't look for it.
     fn rows_with(&self, object: &LayeredObject) -> Columns
         ensures { HasRowsIn (Self.grid self.now) object.now result };
+
+    /// Rows of the board, as a set of their numbers, without which no cell has the motion that is asked for. There may be
+    /// more of them than have it, and all of them, as a board needn't look for it.
+    fn rows_moving(&self, test: &MotionTest) -> Columns
+        ensures { HasMovesIn (Self.grid self.now) test.now result };
+
+    /// Whether the board knows that a layer shows the same on another board of the same size, with as many layers and the
+    /// same room, motions with it. Where it shows something else, the answer is no; where it shows the same, it may be
+    /// no too, as a board needn't look for it.
+    fn is_same_on(&self, other: &Self, layer: LayerId) -> bool
+        requires width { (Self.grid other.now).width ≡ (Self.grid self.now).width }
+        requires height { (Self.grid other.now).height ≡ (Self.grid self.now).height }
+        requires layers { (Self.grid other.now).layers ≡ (Self.grid self.now).layers }
+        requires table { Self.table other.now ≡ Self.table self.now }
+        ensures { result ≡ true → HaveSameLayer (Self.grid self.now) (Self.grid other.now) layer.0 };
 
     /// Writes a cell, and answers whether it changed, or something had `changed` before. Beyond the board nothing is
     /// written, and an object that has no room on a layer isn't put there.

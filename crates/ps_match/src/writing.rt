@@ -58,7 +58,7 @@ fn is_written(writes: &[LayerWrite], layer: LayerId) -> bool
 }
 
 /// Whether a write has something for a layer.
-fn touches(write: &CellWrite, layer: LayerId) -> bool
+pub fn touches(write: &CellWrite, layer: LayerId) -> bool
     ensures { result ≡ touches (write_shown write.now) layer.0 }
 {
     loses_one(write.gone.as_slice(), layer) || is_written(write.layers.as_slice(), layer)

@@ -3,10 +3,12 @@ use Rattle.std.proofs.Common.{◌≡◌, ◌∙◌, ℕ, ◌+◌, ◌-◌, ◌*�
 use Rattle.std.specs.Prelude.{not, nat_le, nat_lt, if◌then◌else◌, slice_get}
 use Rattle.std.specs.List.{list_all, list_any}
 use Rattle.std.proofs.Math.Bool.{and-false}
+use Rattle.std.proofs.lemmas.Bool.{cases_lt}
 use Rattle.std.proofs.lemmas.Bool.Decides.{nat_tests}
 use Rattle.std.proofs.lemmas.Option.{get_or_from_slice_get}
 use Rattle.ps_model.specs.declared.limits.TheConstants.{SIDE_LIMIT}
 use Rattle.ps_model.specs.declared.compiled.LayeredObject.{LayeredObject}
+use Rattle.ps_model.specs.declared.compiled.MotionTest.{MotionTest}
 use Rattle.ps_model.specs.declared.pieces.Slot.{Slot}
 use Rattle.ps_model.specs.board.Grid.{Grid, IsGrid, cell_at}
 use Rattle.ps_model.specs.board.Places.{fits_along, fits_there}
@@ -15,9 +17,10 @@ use Rattle.ps_program.specs.declared.cells.CellMask.{CellMask}
 use Rattle.ps_program.specs.declared.cells.CompiledCell.{CompiledCell}
 use Rattle.ps_program.specs.ProgramShown.{mask_shown}
 use Rattle.ps_match.specs.InRoom.{meaning_of_mask}
-use Rattle.ps_match.specs.Nowhere.{HasRowsIn}
+use Rattle.ps_match.specs.Nowhere.{HasMovesIn, HasRowsIn}
 use Rattle.ps_board.specs.ColumnSets.{column_at, set_columns, no_columns, columns_below, both_columns, columns_behind, row_fits}
 use Rattle.ps_board.proofs.ColumnLaws.{column_at-where, none_in}
+use Rattle.ps_board.proofs.PassedColumns.{no_cell}
 use Rattle.ps_places.specs.declared.shape.Shape.{Shape}
 use Rattle.ps_places.specs.Candidates.{FitsOnlyOn, FitsNotOn, HasCellOnlyOn, BeginsOnlyOn}
 use Rattle.ps_places.specs.Ends.{HasEndsIn}
@@ -83,6 +86,43 @@ pub mask-more : (g : Grid) (mask : CellMask) (object : LayeredObject) (k : ℕ) 
     both ≡ both_columns rows having → FitsOnlyOn g mask rows → FitsOnlyOn g mask both
 mask-more g mask object k rows having both grid needs has is only =
     record { at = λ row x low out. mask_by g mask object k row x rows having needs has only low (missing rows having both row is (omega (arith, low, grid.rows)) out) }
+
+-- a layer that doesn't move as it is asked for
+not_all_move : (slots : List Slot) (test : MotionTest) → moves_as_asked slots test ≡ false → (tests : List MotionTest) (k : ℕ) → slice_get tests k ≡ Some test → list_all (moves_as_asked slots) tests ≡ false
+not_all_move slots test off [] k e = absurd (cc)
+not_all_move slots test off (first ∷ tests) zero e =
+    let is : first ≡ test = cc in ap (λ (b : Bool). b && list_all (moves_as_asked slots) tests) (ap (moves_as_asked slots) is ∙ off)
+not_all_move slots test off (first ∷ tests) (suc k) e =
+    ap (λ (b : Bool). moves_as_asked slots first && b) (not_all_move slots test off tests k e) ∙ and-false (moves_as_asked slots first)
+
+last_off : (a b c d : Bool) → d ≡ false → (a && (b && (c && d))) ≡ false
+last_off true true true d e = e
+last_off true true false d e = refl
+last_off true false c d e = refl
+last_off false b c d e = refl
+
+-- a cell without one of the motions that the mask asks for doesn't fit
+cell_still : (g : Grid) (mask : CellMask) (test : MotionTest) (k number : ℕ) (found : Option (List Slot)) → slice_get mask.motions k ≡ Some test → moves_as_asked (cell_at g number) test ≡ false →
+    slice_get g.cells number ≡ found → fits_there (meaning_of_mask (mask_shown mask)) found ≡ false
+cell_still g mask test k number None asks off e = refl
+cell_still g mask test k number (Some slots) asks off e =
+    let same : cell_at g number ≡ slots = get_or_from_slice_get g.cells number slots [] e in
+    last_off (list_all (is_held_in slots) mask.needed) (not (list_any (is_held_in slots) mask.barred)) (list_all (λ objects. list_any (is_held_in slots) objects) mask.one_of)
+    (list_all (moves_as_asked slots) mask.motions) (not_all_move slots test (ap (λ (s : List Slot). moves_as_asked s test) (sym same) ∙ off) mask.motions k asks)
+
+motion_by : (g : Grid) (mask : CellMask) (test : MotionTest) (k row x : ℕ) (rows moving : List Bool) → IsGrid g → slice_get mask.motions k ≡ Some test → HasMovesIn g test moving →
+    FitsOnlyOn g mask rows → row < g.height → (column_at rows row ≡ false) ⊎ (column_at moving row ≡ false) →
+    fits_there (meaning_of_mask (mask_shown mask)) (slice_get g.cells (x * g.height + row)) ≡ false
+motion_by g mask test k row x rows moving grid asks has only low (inl out) = only.at row x low out
+motion_by g mask test k row x rows moving grid asks has only low (inr out) = elim (cases_lt x g.width) [
+  | inl across ↦ cell_still g mask test k (x * g.height + row) (slice_get g.cells (x * g.height + row)) asks (has row low out x across) refl
+  | inr far ↦ ap (fits_there (meaning_of_mask (mask_shown mask))) (no_cell g row x grid.cells far)
+]
+
+pub motion-more : (g : Grid) (mask : CellMask) (test : MotionTest) (k : ℕ) (rows moving both : List Bool) → IsGrid g → slice_get mask.motions k ≡ Some test → HasMovesIn g test moving →
+    both ≡ both_columns rows moving → FitsOnlyOn g mask rows → FitsOnlyOn g mask both
+motion-more g mask test k rows moving both grid asks has is only =
+    record { at = λ row x low out. motion_by g mask test k row x rows moving grid asks has only low (missing rows moving both row is (omega (arith, low, grid.rows)) out) }
 
 -- the cells of a row ---------------------------------------------------------------------------------------------------
 

@@ -11,7 +11,7 @@ use ps_program::{CellMask, CompiledCell};
 use ps_text::List;
 
 /// The rows of the board, as a set of their numbers, whose cells may fit a mask: those that may have each object that
-/// it needs.
+/// it needs, and each motion that it asks for.
 pub fn rows_of_mask<B: Scan>(board: &B, mask: &CellMask) -> Columns
     ensures { FitsOnlyOn (B.grid board.now) mask.now result }
 {
@@ -20,6 +20,13 @@ pub fn rows_of_mask<B: Scan>(board: &B, mask: &CellMask) -> Columns
     for object in mask.needed.as_slice() {
         let having = board.rows_with(object);
         rows = rows.both(having);
+    }
+    if rows.is_empty() {
+        return rows;
+    }
+    for test in mask.motions.as_slice() {
+        let moving = board.rows_moving(test);
+        rows = rows.both(moving);
     }
     rows
 }

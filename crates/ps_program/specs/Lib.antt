@@ -1,4 +1,5 @@
 pub mod CellsShown
+pub mod Layers
 pub mod Leaving
 pub mod LeavingCells
 pub mod Needs

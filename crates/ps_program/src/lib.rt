@@ -2,12 +2,14 @@
 #![tactic(auto)]
 
 mod cells;
+mod layers;
 mod leaving;
 mod needs;
 mod program;
 mod rules;
 
 pub use cells::{CellMask, CellWrite, CompiledCell};
+pub use layers::is_in;
 pub use leaving::{all_listed, is_listed, leaving_cells};
 pub use needs::first_parts;
 pub use program::{CompiledSection, Program};

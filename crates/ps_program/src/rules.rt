@@ -1,11 +1,13 @@
 //! A compiled rule.
 
 ghost use Rattle.std.specs.Prelude.{◌≡◌, IfOk};
+ghost use Rattle.ps_program.specs.Layers.{rows_ask, rows_write};
 ghost use Rattle.ps_program.specs.Needs.{rows_need};
 
 use crate::cells::CompiledCell;
+use crate::layers::{asked_by, written_by};
 use crate::needs::needs_of;
-use ps_model::{Direction, LayeredObject, Memory};
+use ps_model::{Direction, LayerId, LayeredObject, Memory};
 use ps_rules::Commands;
 use ps_text::List;
 use std::alloc::Global;
@@ -24,11 +26,17 @@ pub struct CompiledRule<'r> {
     /// The objects that its cells need, those of all cells one after the other: where a board has not all of them, the
     /// rule has no place there.
     pub needed: List<LayeredObject>,
+    /// The layers that its cells ask about: on others it doesn't matter what stands there.
+    pub asked: List<LayerId>,
+    /// The layers that its cells write on: on others an attempt leaves all as it is.
+    pub written: List<LayerId>,
     ghost needs: { needed ≡ rows_need rows },
+    ghost asks: { asked ≡ rows_ask rows },
+    ghost writes: { written ≡ rows_write rows },
 }
 
 impl<'r> CompiledRule<'r> {
-    /// The rule of these rows. `Memory` if there is no room for the objects that it needs.
+    /// The rule of these rows. `Memory` if there is no room for the objects that it needs, and for its layers.
     pub fn try_new(
         alloc: Global,
         direction: Direction,
@@ -42,12 +50,16 @@ impl<'r> CompiledRule<'r> {
         ensures commands { IfOk result (λ rule. rule.commands.now ≡ commands.entry.now) }
     {
         let needed = needs_of(alloc, rows.as_slice())?;
+        let asked = asked_by(alloc, rows.as_slice())?;
+        let written = written_by(alloc, rows.as_slice())?;
         Ok(CompiledRule {
             direction,
             rows,
             rewrites,
             commands,
             needed,
+            asked,
+            written,
         })
     }
 }

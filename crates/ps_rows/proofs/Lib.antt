@@ -13,5 +13,10 @@ pub mod Rows
 pub mod Alike
 pub mod RowSets
 pub mod SameRows
+pub mod PlaneRows
 pub mod Absent
 pub mod Marked
+pub mod SpreadWords
+pub mod SpreadLayers
+pub mod Groups
+pub mod GroupsWritten

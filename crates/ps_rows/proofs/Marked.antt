@@ -89,7 +89,7 @@ pub index_whole : (table index : List ℕ) (layer : ℕ) → length index ≡ le
 index_whole table index layer long = λ plane listed. let own : plane < length table = slice_get_within table plane layer (listed_member table layer plane listed) in omega arith
 
 -- a row without a mark
-no_column : (word : ℕ) → not (nat_eq word 0) ≡ false → word ≡ 0
+pub no_column : (word : ℕ) → not (nat_eq word 0) ≡ false → word ≡ 0
 no_column word h = elim (cases_eq word 0) [
   | inl e ↦ e
   | inr n ↦ absurd (false≢true (sym h ∙ ap not (ne_eqb word 0 n)))

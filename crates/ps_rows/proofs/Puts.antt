@@ -51,7 +51,7 @@ cases_slot c cell l layer = elim (cases_eq c cell) [
 ]
 
 -- two layers' planes of motions lie apart
-apart_from : (table : List ℕ) (l layer q : ℕ) → l ≢ layer → motions_from table l ≤ q → q < motions_from table l + 5 →
+pub apart_from : (table : List ℕ) (l layer q : ℕ) → l ≢ layer → motions_from table l ≤ q → q < motions_from table l + 5 →
     (q < motions_from table layer) ⊎ (motions_from table layer + 5 ≤ q)
 apart_from table l layer q n low high = elim (cases_lt l layer) [ inl below ↦ inl (omega arith) | inr above ↦ inr (omega arith) ]
 

@@ -4,3 +4,4 @@ pub mod Showing
 pub mod RowTests
 pub mod Sameness
 pub mod RowIndex
+pub mod Spreading

@@ -1,5 +1,6 @@
 -- An index of the rows of objects' planes: one word for each plane, and where row y of the plane has a column, bit y of it is set.
 use Rattle.std.specs.Prelude.{◌≡◌, ◌<◌, ℕ, ◌+◌, ◌*◌, nat_eq, not, Bool, false, List, [], ◌∷◌, slice_index, slice_set}
+use Rattle.ps_board.specs.ColumnSets.{column_at}
 use Rattle.ps_rows.specs.Planes.{has_column, with_column}
 
 -- a row of a plane that isn't marked has no column
@@ -19,3 +20,7 @@ with_mark height row words index plane = slice_set index plane (with_column (sli
 unfoldable pub with_marks : ℕ → ℕ → List ℕ → List ℕ → List ℕ → List ℕ
 with_marks height row words index [] = index
 with_marks height row words index (plane ∷ planes) = with_marks height row words (with_mark height row words index plane) planes
+
+-- a row of a plane that isn't in a set has no column
+abbrev pub AreRowsIn : ℕ → List ℕ → ℕ → List Bool → Type 0
+AreRowsIn height words plane rows = (row : ℕ) → row < height → column_at rows row ≡ false → slice_index words (plane * height + row) ≡ 0

@@ -7,10 +7,12 @@
 mod members;
 mod motions;
 mod planes;
+mod rewriting;
 mod row_board;
 mod row_scan;
 mod sameness;
 mod scanning;
+mod spreading;
 
 pub use ps_board::Board;
 pub use ps_match::{Columns, Rooms, Scan};

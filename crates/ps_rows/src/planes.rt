@@ -1,6 +1,6 @@
 //! Planes of rows of bits, as one flat list of words.
 
-ghost use Rattle.std.specs.Prelude.{◌≡◌, ◌+◌, ◌*◌, ◌/◌, ◌%◌, ◌<◌, ◌≤◌, ℕ, ◌∷◌, [], find, length, slice_index};
+ghost use Rattle.std.specs.Prelude.{◌≡◌, ◌+◌, ◌*◌, ◌/◌, ◌%◌, ◌<◌, ◌≤◌, ℕ, ◌∷◌, [], find, length, slice_index, slice_set};
 ghost use Rattle.ps_model.specs.board.Movement.{is_number};
 ghost use Rattle.ps_rows.specs.Planes.{
   HavePlanes,
@@ -21,7 +21,7 @@ pub fn has_column(word: u64, column: u32) -> bool
 }
 
 /// A word with a column, or without it.
-fn with_column(word: u64, column: u32, on: bool) -> u64
+pub fn with_column(word: u64, column: u32, on: bool) -> u64
     requires { column < 64 }
     ensures { result ≡ with_column word column on }
 {
@@ -60,6 +60,15 @@ pub fn plane_row(words: &[u64], height: u32, plane: u32, row: u32) -> u64
     ensures { result ≡ slice_index words.now (plane * height + row) }
 {
     words[plane as usize * height as usize + row as usize]
+}
+
+/// Gives a plane these columns of a row.
+pub fn set_plane_row(words: &mut [u64], height: u32, plane: u32, row: u32, word: u64)
+    requires row { row < height }
+    requires plane { (plane + 1) * height ≤ length words.old }
+    ensures { words.new ≡ slice_set words.old (plane * height + row) word }
+{
+    words[plane as usize * height as usize + row as usize] = word;
 }
 
 /// Puts a cell into a plane, or takes it away.

@@ -1,12 +1,14 @@
 //! A board of rows of bits.
 
 ghost use Rattle.std.specs.Prelude.{◌≡◌, ◌+◌, ◌*◌, ◌/◌, ◌^◌, ◌<◌, ◌≤◌, ◌&&◌, ℕ, Some, List, length, nat_lt, true};
-ghost use Rattle.std.specs.Prelude.{option_map, replicate, slice_get, slice_index, vec_len};
+ghost use Rattle.std.specs.Prelude.{option_map, replicate, slice_get, slice_index, vec_len, nat_eq};
 ghost use Rattle.ps_model.specs.board.Movement.{is_number};
 ghost use Rattle.ps_model.specs.declared.limits.TheConstants.{LAYER_LIMIT, SIDE_LIMIT};
 ghost use Rattle.ps_rows.specs.Planes.{HavePlanes};
-ghost use Rattle.ps_rows.specs.RowIndex.{AreRowsMarked};
+ghost use Rattle.ps_rows.specs.RowIndex.{AreRowsIn, AreRowsMarked};
 ghost use Rattle.ps_rows.specs.Sameness.{IsSameLayer};
+ghost use Rattle.ps_rows.specs.Planes.{has_column};
+ghost use Rattle.ps_rows.specs.Spreading.{IsAlikeOn, IsSpread, in_group};
 ghost use Rattle.ps_rows.specs.Showing.{AreMotionsShown, AreObjectsShown, cleared_from, grid_shown};
 ghost use Rattle.ps_rows.specs.Showing.{motions_from, numbered, object_shown, with_slot_in};
 
@@ -15,6 +17,7 @@ use crate::motions::{choose_motion, first_motion};
 use crate::planes::{choose_plane, first_plane, mark_rows, plane_row};
 use crate::sameness::{same_planes, same_words};
 use crate::scanning::columns;
+use crate::spreading::{alike_columns, spread_slots};
 use ps_board::{Board, Columns};
 use ps_model::{LayerId, LayeredObject, Memory, Motion, MotionTest, ObjectId};
 use std::alloc::Global;
@@ -134,6 +137,19 @@ impl RowBoard {
         self.index[object as usize]
     }
 
+    /// The rows of a plane that have a column, as a set of their numbers.
+    pub(crate) fn rows_of_plane(&self, plane: u32) -> Columns
+        requires { plane < motions_from self.now.members.table.items self.now.layers }
+        ensures { AreRowsIn self.now.height self.now.words.items plane result }
+    {
+        let mut rows = Columns::none();
+        for row in 0..self.height {
+            let some = self.row(plane, row) != 0;
+            rows = rows.with(row, some);
+        }
+        rows
+    }
+
     /// Whether an object is one of a layer, by the table.
     pub(crate) fn is_member(&self, object: u32, layer: u32) -> bool
         ensures { result ≡ is_number (slice_get self.now.members.table.items object) layer }
@@ -157,6 +173,51 @@ impl RowBoard {
     {
         let planes = self.members.of(layer);
         first_plane(self.words.as_slice(), self.height, cell, planes)
+    }
+
+    /// The columns of a row in which a layer shows what it does in one of them.
+    pub(crate) fn alike_on(&self, layer: u32, row: u32, column: u32) -> u64
+        requires layer { layer < self.now.layers }
+        requires row { row < self.now.height }
+        requires column { column < self.now.width }
+        ensures own { has_column result column ≡ true }
+        ensures alike { IsAlikeOn (⟦<RowBoard as Board>⟧.grid self.now) row column result layer }
+    {
+        let words = self.words.as_slice();
+        let objects = self.members.of(layer);
+        let first = self.motions_from(layer);
+        let motions = [first, first + 1, first + 2, first + 3, first + 4];
+        let alike = alike_columns(words, self.height, row, objects, column);
+        alike & alike_columns(words, self.height, row, &motions, column)
+    }
+
+    /// Makes a layer show in the columns of a group of a row what it does in one column there.
+    pub(crate) fn spread_layer(&mut self, layer: u32, row: u32, column: u32, group: u64)
+        requires layer { layer < self.old.layers }
+        requires row { row < self.old.height }
+        requires column { column < self.old.width }
+        ensures spread { let h = self.old.height in
+            IsSpread (⟦<RowBoard as Board>⟧.grid self.old) (⟦<RowBoard as Board>⟧.grid self.new)
+            (in_group h row group) (λ l. nat_eq l layer) (column * h + row) }
+        ensures width { self.new.width ≡ self.old.width }
+        ensures height { self.new.height ≡ self.old.height }
+        ensures layers { self.new.layers ≡ self.old.layers }
+        ensures table { self.new.members.table.items ≡ self.old.members.table.items }
+    {
+        let first = self.motions_from(layer);
+        let planes = self.members.of(layer);
+        let height = self.height;
+        spread_slots(
+            self.words.as_mut_slice(),
+            height,
+            row,
+            planes,
+            first,
+            column,
+            group,
+        );
+        let words = self.words.as_slice();
+        mark_rows(self.index.as_mut_slice(), words, height, row, planes);
     }
 
     /// Whether a layer shows the same on another board of the same size for the same game.

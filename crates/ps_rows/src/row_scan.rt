@@ -1,10 +1,11 @@
-//! The board of rows, matched by words and rewritten slot by slot.
+//! The board of rows, matched and rewritten by words.
 
+use crate::motions::motion_plane;
 use crate::planes::has_column;
 use crate::row_board::RowBoard;
 use ps_board::Board;
-use ps_match::{Columns, Rooms, Scan, rewrite_row, write_cell};
-use ps_model::{LayerId, LayeredObject, ObjectId};
+use ps_match::{Columns, Rooms, Scan, write_cell};
+use ps_model::{LayerId, LayeredObject, MotionTest, ObjectId};
 use ps_program::{CellMask, CellWrite};
 
 impl Rooms for RowBoard {
@@ -41,6 +42,23 @@ impl Scan for RowBoard {
         Columns::from_word(self.rows_of(object.object.0))
     }
 
+    /// The rows that have a column in the plane of the motion; of rest, all.
+    fn rows_moving(&self, test: &MotionTest) -> Columns {
+        let (_width, height) = self.size();
+        if self.layers() <= test.layer.0 {
+            return Columns::below(height);
+        }
+        let first = self.motions_from(test.layer.0);
+        match motion_plane(first, test.motion) {
+            Some(plane) => self.rows_of_plane(plane),
+            None => Columns::below(height),
+        }
+    }
+
+    fn is_same_on(&self, _other: &RowBoard, _layer: LayerId) -> bool {
+        false
+    }
+
     fn write(&mut self, write: &CellWrite, cell: u32, changed: bool) -> bool {
         let (width, height) = self.size();
         if width * height <= cell {
@@ -50,7 +68,7 @@ impl Scan for RowBoard {
     }
 
     fn rewrite(&mut self, write: &CellWrite, row: u32, columns: Columns) -> bool {
-        rewrite_row(self, write, row, columns)
+        self.rewrite_groups(write, row, columns)
     }
 }
 
@@ -95,6 +113,27 @@ mod tests {
         board.put(2, LayerId(1), None, Motion::Still);
         board.put(4, LayerId(1), None, Motion::Still);
         assert!(rt; board.lacks(&SOUGHT));
+        Ok(())
+    }
+
+    #[test]
+    fn tells_the_rows_in_which_something_moves(rt: HostRuntime) -> Result<(), Fail> {
+        let mut board = RowBoard::try_empty(rt.alloc(), 2, 3, 2, &OWN_LAYERS)?;
+        let acts = MotionTest {
+            layer: LayerId(1),
+            motion: Motion::Acting,
+        };
+        let rests = MotionTest {
+            layer: LayerId(1),
+            motion: Motion::Still,
+        };
+        board.put(4, LayerId(1), Some(ObjectId(2)), Motion::Acting);
+        for row in 0..3u32 {
+            assert_eq!(rt; board.rows_moving(&acts).has(row), row == 1);
+            assert!(rt; board.rows_moving(&rests).has(row));
+        }
+        board.clear_moves();
+        assert!(rt; board.rows_moving(&acts).is_empty());
         Ok(())
     }
 }
