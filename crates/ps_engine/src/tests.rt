@@ -214,3 +214,52 @@ fn the_smaller_gap_comes_first(rt: HostRuntime) -> Result<(), Fail> {
     check(&rt, &board, b"C.B..");
     Ok(())
 }
+
+/// A board of one row behind an attempt of a rule of a row in a direction.
+fn attempted(
+    alloc: Global,
+    direction: Direction,
+    parts: &[&[(u8, u8)]],
+    letters: &[u8],
+) -> Result<ListBoard, Memory> {
+    let commands = nothing();
+    let mut rows = Vec::new(alloc);
+    rows.push(row(alloc, parts)?)?;
+    let written = rule(alloc, direction, rows, &commands)?;
+    let mut board = board_of(alloc, letters)?;
+    let mut queue = Queue::empty();
+    let _changed = attempt(alloc, &written, &mut board, &mut queue)?;
+    Ok(board)
+}
+
+#[test]
+fn on_one_row_rules_go_left_and_right_alone(rt: HostRuntime) -> Result<(), Fail> {
+    let alloc = rt.alloc();
+    let start = b"B.BAB.B";
+    let parts: [&[(u8, u8)]; 1] = [&[(b'A', b'A'), (b'B', b'C')]];
+    let board = attempted(alloc, Direction::Right, &parts, start)?;
+    check(&rt, &board, b"B.BAC.B");
+    let board = attempted(alloc, Direction::Left, &parts, start)?;
+    check(&rt, &board, b"B.CAB.B");
+    let board = attempted(alloc, Direction::Up, &parts, start)?;
+    check(&rt, &board, start);
+    let board = attempted(alloc, Direction::Down, &parts, start)?;
+    check(&rt, &board, start);
+    Ok(())
+}
+
+#[test]
+fn on_one_row_gaps_lie_left_and_right_alone(rt: HostRuntime) -> Result<(), Fail> {
+    let alloc = rt.alloc();
+    let start = b"B.BAB.B";
+    let parts: [&[(u8, u8)]; 2] = [&[(b'A', b'A')], &[(b'B', b'C')]];
+    let board = attempted(alloc, Direction::Right, &parts, start)?;
+    check(&rt, &board, b"B.BAC.C");
+    let board = attempted(alloc, Direction::Left, &parts, start)?;
+    check(&rt, &board, b"C.CAB.B");
+    let board = attempted(alloc, Direction::Up, &parts, start)?;
+    check(&rt, &board, start);
+    let board = attempted(alloc, Direction::Down, &parts, start)?;
+    check(&rt, &board, start);
+    Ok(())
+}

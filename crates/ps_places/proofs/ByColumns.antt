@@ -95,7 +95,7 @@ vertical-one g table parts shape row x few size low across =
     ∙ ap (λ (b : Bool). cond ((b && nat_le shape.size (g.height - row)) && fits_at g table parts shape end) (stretch_of shape end 0 ∷ []) []) (sym within)
 
 -- two ranges, one behind the other
-ranges_apart : {X : Type 0} (f : ℕ → List X) (a n m j : ℕ) → a + n ≡ j → flat_map f (range_with_len a (n + m)) ≡ flat_map f (range_with_len a n) ++ flat_map f (range_with_len j m)
+pub ranges_apart : {X : Type 0} (f : ℕ → List X) (a n m j : ℕ) → a + n ≡ j → flat_map f (range_with_len a (n + m)) ≡ flat_map f (range_with_len a n) ++ flat_map f (range_with_len j m)
 ranges_apart f a zero m j e =
     let all : 0 + m ≡ m = omega arith in
     let start : a ≡ j = omega arith in
@@ -106,7 +106,7 @@ ranges_apart f a (suc n) m j e =
     ∙ ap (λ (xs : List _). f a ++ xs) (ranges_apart f (a + 1) n m j (omega arith))
     ∙ sym (append_assoc (f a) (flat_map f (range_with_len (a + 1) n)) (flat_map f (range_with_len j m)))
 
-agree_from : {X : Type 0} (f h : ℕ → List X) (a b n : ℕ) → ((y : ℕ) → y < n → f (a + y) ≡ h (b + y)) → flat_map f (range_with_len a n) ≡ flat_map h (range_with_len b n)
+pub agree_from : {X : Type 0} (f h : ℕ → List X) (a b n : ℕ) → ((y : ℕ) → y < n → f (a + y) ≡ h (b + y)) → flat_map f (range_with_len a n) ≡ flat_map h (range_with_len b n)
 agree_from f h a b zero e = refl
 agree_from f h a b (suc n) e =
     let p : a + 0 ≡ a = omega arith in
@@ -220,11 +220,11 @@ no_starts g table parts shape rows any row is none =
     let empty : (x : ℕ) → x < SIDE_LIMIT → column_at (slice_index_or rows row []) x ≡ false = λ x within. ap (λ (cs : List Bool). column_at cs x) is ∙ column_at-where (λ y. false) x within in
     record { each = record { at = λ x within. empty x within ∙ sym (none x within) }; none = λ x within out. empty x within }
 
-neither : (a b : Bool) → (a || b) ≡ false → (a ≡ false) × (b ≡ false)
+pub neither : (a b : Bool) → (a || b) ≡ false → (a ≡ false) × (b ≡ false)
 neither true b e = absurd (cc)
 neither false b e = (refl, e)
 
-in_neither : (any starts either : List Bool) (x : ℕ) → either ≡ either_columns any starts → x < SIDE_LIMIT → column_at either x ≡ false → (column_at any x ≡ false) × (column_at starts x ≡ false)
+pub in_neither : (any starts either : List Bool) (x : ℕ) → either ≡ either_columns any starts → x < SIDE_LIMIT → column_at either x ≡ false → (column_at any x ≡ false) × (column_at starts x ≡ false)
 in_neither any starts either x e within none =
     neither (column_at any x) (column_at starts x)
     (sym (ap (λ (cs : List Bool). column_at cs x) e ∙ column_at-where (λ y. column_at any y || column_at starts y) x within) ∙ none)

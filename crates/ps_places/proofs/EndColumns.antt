@@ -1,10 +1,7 @@
 -- The ends of places by columns.
-use Rattle.std.proofs.Common.{◌≡◌, ◌≢◌, ◌∙◌, ℕ, ◌+◌, ◌*◌, ◌/◌, ◌%◌, ◌<◌, ◌≤◌, Bool, true, false, cond, Option, Some, List, [], length, refl, sym, ap, arith}
-use Rattle.std.specs.Prelude.{nat_eq, nat_lt, if◌then◌else◌, slice_get, slice_index_or, slice_set}
+use Rattle.std.proofs.Common.{◌≡◌, ◌∙◌, ℕ, ◌+◌, ◌*◌, ◌<◌, ◌≤◌, Bool, true, false, cond, Option, Some, List, [], refl, sym, ap, arith}
+use Rattle.std.specs.Prelude.{nat_lt, if◌then◌else◌, slice_get}
 use Rattle.std.proofs.lemmas.Bool.Decides.{nat_tests}
-use Rattle.std.proofs.lemmas.List.{get_or-set_same, get_or-set_other}
-use Rattle.std.proofs.lemmas.Nat.{div_below, div-add-mod'}
-use Rattle.std.proofs.Math.Nat.{mod-lt}
 use Rattle.ps_model.specs.declared.limits.TheConstants.{SIDE_LIMIT}
 use Rattle.ps_model.specs.board.Grid.{Grid, IsGrid}
 use Rattle.ps_model.specs.board.Places.{fits_along, fits_there}
@@ -14,7 +11,7 @@ use Rattle.ps_match.specs.InRoom.{meaning_of_mask}
 use Rattle.ps_board.specs.ColumnSets.{column_at, set_columns, columns_below, row_fits}
 use Rattle.ps_board.proofs.ColumnLaws.{column_at-where, column_at-beyond, none_in}
 use Rattle.ps_places.specs.declared.shape.Shape.{Shape}
-use Rattle.ps_places.specs.Ends.{HasEndsIn, HaveEndsIn}
+use Rattle.ps_places.specs.Ends.{HasEndsIn}
 use Rattle.ps_places.specs.RowCells.{all_cells}
 use Rattle.ps_places.specs.RowMeanings.{meanings_of, places_at}
 use Rattle.ps_places.specs.Stretches.{cell_of, from_end, stretch_of, with_gap}
@@ -78,42 +75,9 @@ no_end g table parts shape row index c scanned columns grid e low step is empty 
           ∙ none);
     }
 
--- the columns of each row
-pub no_ends : (g : Grid) (table : Option (List ℕ)) (parts : List (List CompiledCell)) (shape : Shape) (rows : List (List Bool)) → HaveEndsIn g table parts shape rows 0
-no_ends g table parts shape rows = record { each = λ row low. absurd (omega (arith, low)) }
-
-row_by : (g : Grid) (table : Option (List ℕ)) (parts : List (List CompiledCell)) (shape : Shape) (rows : List (List Bool)) (columns : List Bool) (count row : ℕ) (same : Bool) → nat_eq row count ≡ same → count < length rows →
-    HaveEndsIn g table parts shape rows count → HasEndsIn g table parts shape count columns → row < count + 1 → HasEndsIn g table parts shape row (slice_index_or (slice_set rows count columns) row [])
-row_by g table parts shape rows columns count row true t long have has low =
-    let is : row ≡ count = grind (arith, nat_tests) in rw (is, get_or-set_same rows count columns [] long) has
-row_by g table parts shape rows columns count row false t long have has low =
-    let other : row ≢ count = grind (arith, nat_tests) in
-    rw (get_or-set_other rows count row columns [] other) (have.each row (grind (arith, nat_tests)))
-
-pub one_more_end : (g : Grid) (table : Option (List ℕ)) (parts : List (List CompiledCell)) (shape : Shape) (rows : List (List Bool)) (columns : List Bool) (count : ℕ) → count < length rows →
-    HaveEndsIn g table parts shape rows count → HasEndsIn g table parts shape count columns → HaveEndsIn g table parts shape (slice_set rows count columns) (count + 1)
-one_more_end g table parts shape rows columns count long have has =
-    record { each = λ row low. row_by g table parts shape rows columns count row (nat_eq row count) refl long have has low }
-
-pub all_ends : (g : Grid) (table : Option (List ℕ)) (parts : List (List CompiledCell)) (shape : Shape) (rows : List (List Bool)) (count : ℕ) → g.height ≤ count → HaveEndsIn g table parts shape rows count →
-    HaveEndsIn g table parts shape rows g.height
-all_ends g table parts shape rows count all have = record { each = λ row low. have.each row (omega (arith, low, all)) }
-
 -- an end in none of the columns has no places
 pub at_end : (g : Grid) (table : Option (List ℕ)) (parts : List (List CompiledCell)) (shape : Shape) (row x count : ℕ) (columns : List Bool) (may : Bool) → HasEndsIn g table parts shape row columns → x < SIDE_LIMIT →
     column_at columns x ≡ may → places_at g table parts shape (x * g.height + row) (cond may count 0) ≡ places_at g table parts shape (x * g.height + row) count
 at_end g table parts shape row x count columns true has low e = refl
 at_end g table parts shape row x count columns false has low e =
     sym (none_kept (fits_along g (meanings_of table parts)) (stretch_of shape (x * g.height + row)) 0 count (λ gap. has.at x gap low e))
-
-pub at_cell : (g : Grid) (table : Option (List ℕ)) (parts : List (List CompiledCell)) (shape : Shape) (end count : ℕ) (rows : List (List Bool)) (may : Bool) → HaveEndsIn g table parts shape rows g.height → IsGrid g →
-    end < g.width * g.height → may ≡ column_at (slice_index_or rows (end % g.height) []) (end / g.height) → places_at g table parts shape end (cond may count 0) ≡ places_at g table parts shape end count
-at_cell g table parts shape end count rows may have grid within e =
-    let x : ℕ = end / g.height in
-    let row : ℕ = end % g.height in
-    let low : row < g.height = mod-lt end grid.some_row in
-    let across : x < g.width = div_below end g.height g.width grid.some_row within in
-    let is : x * g.height + row ≡ end = div-add-mod' end g.height in
-    ap (λ (n : ℕ). places_at g table parts shape n (cond may count 0)) (sym is)
-    ∙ at_end g table parts shape row x count (slice_index_or rows row []) may (have.each row low) (omega (arith, across, grid.columns)) (sym e)
-    ∙ ap (λ (n : ℕ). places_at g table parts shape n count) is

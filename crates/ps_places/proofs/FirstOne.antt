@@ -12,11 +12,11 @@ module _ {X : Type 0} where
   nothing_there [] e = refl
   nothing_there (x ∷ xs) e = absurd (cc)
 
-  one_in_front : (xs ys : List X) → has_one xs ≡ true → has_one (xs ++ ys) ≡ true
+  pub one_in_front : (xs ys : List X) → has_one xs ≡ true → has_one (xs ++ ys) ≡ true
   one_in_front [] ys e = absurd (cc)
   one_in_front (x ∷ xs) ys e = refl
 
-  one_behind : (xs ys : List X) → has_one ys ≡ true → has_one (xs ++ ys) ≡ true
+  pub one_behind : (xs ys : List X) → has_one ys ≡ true → has_one (xs ++ ys) ≡ true
   one_behind [] ys e = e
   one_behind (x ∷ xs) ys e = refl
 

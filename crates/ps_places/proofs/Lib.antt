@@ -10,3 +10,6 @@ pub mod ByColumns
 pub mod Nowhere
 pub mod EndColumns
 pub mod OnlyOn
+pub mod FarCells
+pub mod RowsOfColumns
+pub mod LineSearch

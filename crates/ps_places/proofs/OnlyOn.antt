@@ -33,7 +33,7 @@ use Rattle.ps_places.proofs.Nowhere.{fits_not, none_kept}
 use Rattle.ps_places.proofs.Ranges.{flat_map-none}
 
 -- no row is left out of all of them
-not_left_out : (rows : List Bool) (row : ℕ) → rows ≡ columns_below SIDE_LIMIT → row < SIDE_LIMIT → column_at rows row ≡ false → true ≡ false
+pub not_left_out : (rows : List Bool) (row : ℕ) → rows ≡ columns_below SIDE_LIMIT → row < SIDE_LIMIT → column_at rows row ≡ false → true ≡ false
 not_left_out rows row is low out =
     let within : nat_lt row SIDE_LIMIT ≡ true = grind (arith, nat_tests, low) in
     sym within ∙ sym (ap (λ (cs : List Bool). column_at cs row) is ∙ column_at-where (λ y. nat_lt y SIDE_LIMIT) row low) ∙ out
@@ -43,7 +43,7 @@ missing_by : (a b : Bool) → (a && b) ≡ false → (a ≡ false) ⊎ (b ≡ fa
 missing_by true b e = inr e
 missing_by false b e = inl refl
 
-missing : (rows others both : List Bool) (row : ℕ) → both ≡ both_columns rows others → row < SIDE_LIMIT → column_at both row ≡ false → (column_at rows row ≡ false) ⊎ (column_at others row ≡ false)
+pub missing : (rows others both : List Bool) (row : ℕ) → both ≡ both_columns rows others → row < SIDE_LIMIT → column_at both row ≡ false → (column_at rows row ≡ false) ⊎ (column_at others row ≡ false)
 missing rows others both row is low out =
     missing_by (column_at rows row) (column_at others row)
     (sym (ap (λ (cs : List Bool). column_at cs row) is ∙ column_at-where (λ y. column_at rows y && column_at others y) row low) ∙ out)

@@ -6,3 +6,5 @@ pub mod Starts
 pub mod Somewhere
 pub mod Ends
 pub mod Candidates
+pub mod Fars
+pub mod RowsOfColumns

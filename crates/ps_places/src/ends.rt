@@ -1,14 +1,15 @@
 //! Where the leftmost or topmost cell of a row of a rule may lie on a row of the board, whatever its gap.
 
-ghost use Rattle.std.specs.Prelude.{◌≡◌, ◌<◌, [], false, length, slice_index_or, true};
+ghost use Rattle.std.specs.Prelude.{◌≡◌, ℕ, ◌<◌, false, length, true};
 ghost use Rattle.ps_model.specs.declared.limits.TheConstants.{SIDE_LIMIT};
-ghost use Rattle.ps_board.specs.ColumnSets.{column_at};
 ghost use Rattle.ps_places.specs.Candidates.{BeginsOnlyOn};
 ghost use Rattle.ps_places.specs.Ends.{HasEndsIn, HaveEndsIn};
+ghost use Rattle.ps_places.specs.RowsOfColumns.{row_at};
 ghost use Rattle.ps_places.specs.RowCells.{all_cells};
 
 use crate::candidates::rows_of_begin;
 use crate::row_cells::cell_in;
+use crate::row_sets::add_row;
 use crate::shape::Shape;
 use ps_match::{Columns, Scan};
 use ps_model::SIDE_LIMIT;
@@ -83,30 +84,27 @@ fn ends_down<B: Scan>(
     end_columns(board, parts, shape, row)
 }
 
-/// Finds the columns of each row of the board where the topmost cell of a row of a rule fits.
+/// Finds the rows of each column of the board where a row of a rule may have its topmost cell, and answers the columns
+/// with one. The sets are empty before.
 pub fn find_ends<B: Scan>(
     board: &B,
     parts: &[List<CompiledCell>],
     shape: Shape,
-    rows: &mut [Columns],
-)
-    requires rows { length rows.old ≡ SIDE_LIMIT }
+    lines: &mut [Columns],
+) -> Columns
+    requires long { length lines.old ≡ SIDE_LIMIT }
+    requires none { (x row : ℕ) → x < SIDE_LIMIT → row_at lines.old x row ≡ false }
     requires step { shape.step ≡ 1 }
-    ensures ends { let g = B.grid board.now in HaveEndsIn g (B.table board.now) parts.now shape rows.new g.height }
-    ensures rows { length rows.new ≡ SIDE_LIMIT }
+    ensures ends { HaveEndsIn (B.grid board.now) (B.table board.now) parts.now shape lines.new result }
+    ensures long { length lines.new ≡ SIDE_LIMIT }
 {
     let (_width, height) = board.size();
     let worth = rows_of_begin(board, parts, shape, true);
+    let mut any = Columns::none();
     for row in 0..height {
         let ends = ends_down(board, parts, shape, worth, row);
-        rows[row as usize] = ends;
+        add_row(lines, row, ends);
+        any = any.either(ends);
     }
-}
-
-/// Whether a column is in the set of a row of the board.
-pub fn may_end(rows: &[Columns], row: u32, column: u32) -> bool
-    requires { row < length rows.now }
-    ensures { result ≡ column_at (slice_index_or rows.now row []) column }
-{
-    rows[row as usize].has(column)
+    any
 }

@@ -1,20 +1,23 @@
 //! Whether a row of a rule has a place on a board: the search stops at the first one, and keeps none.
 
-ghost use Rattle.std.specs.Prelude.{◌≡◌, ◌+◌, ◌*◌, ◌<◌, ◌≤◌, false, length, sum};
+ghost use Rattle.std.specs.Prelude.{◌≡◌, ℕ, ◌+◌, ◌*◌, ◌<◌, ◌≤◌, false, length, sum};
 ghost use Rattle.std.specs.List.{flat_map, range_with_len};
 ghost use Rattle.ps_model.specs.declared.limits.TheConstants.{SIDE_LIMIT};
 ghost use Rattle.ps_model.specs.board.Places.{places};
+ghost use Rattle.ps_board.specs.ColumnSets.{column_at};
 ghost use Rattle.ps_places.specs.Candidates.{BeginsOnlyOn};
+ghost use Rattle.ps_places.specs.Ends.{EndsNotAt};
+ghost use Rattle.ps_places.specs.Fars.{IsNotAt, LiesOnlyIn};
 ghost use Rattle.ps_places.specs.Found.{has_one, row_meaning};
 ghost use Rattle.ps_places.specs.RowCells.{all_cells};
 ghost use Rattle.ps_places.specs.RowMeanings.{IsShapeOf, part_sizes, parts_meaning};
 ghost use Rattle.ps_places.specs.RowMeanings.{places_at, row_places_at, vertical_at};
 
-use crate::along::fits_place;
 use crate::candidates::rows_of_begin;
-use crate::ends::{ends_across, find_ends, may_end};
+use crate::ends::{ends_across, find_ends};
+use crate::fars::{far_in, find_fars};
 use crate::find::shape_of;
-use crate::search::gaps_if;
+use crate::search::{fits_on_line, gaps};
 use crate::shape::{Place, Shape};
 use crate::somewhere::each_fits;
 use crate::starts::{starts_across, starts_down};
@@ -30,14 +33,52 @@ fn fits_at_end<B: Scan>(
     shape: Shape,
     end: u32,
     count: u32,
+    from: u32,
+    line: Columns,
 ) -> bool
     requires whole { length (all_cells parts.now) ≡ shape.size }
     requires end { end < SIDE_LIMIT * SIDE_LIMIT }
     requires count { count ≤ SIDE_LIMIT + 1 }
+    requires from { from ≤ 2 * SIDE_LIMIT }
+    requires line { LiesOnlyIn (B.grid board.now) (B.table board.now) parts.now shape end from line }
     ensures { result ≡ has_one (places_at (B.grid board.now) (B.table board.now) parts.now shape end count) }
 {
     for gap in 0..count {
-        if fits_place(board, parts, shape, Place { end, gap }) {
+        if fits_on_line(board, parts, shape, Place { end, gap }, from, line) {
+            return true;
+        }
+    }
+    false
+}
+
+/// Whether parts that go up or down have a place whose topmost cell lies in a column of the board.
+fn fits_in_column<B: Scan>(
+    board: &B,
+    parts: &[List<CompiledCell>],
+    shape: Shape,
+    column: u32,
+    ends: Columns,
+    line: Columns,
+) -> bool
+    requires few { length parts.now ≤ 2 }
+    requires step { shape.step ≡ 1 }
+    requires size { sum (part_sizes parts.now) ≡ shape.size }
+    requires whole { length (all_cells parts.now) ≡ shape.size }
+    requires column { column < (B.grid board.now).width }
+    requires ends { (row : ℕ) → row < (B.grid board.now).height → column_at ends row ≡ false →
+        EndsNotAt (B.grid board.now) (B.table board.now) parts.now shape (column * (B.grid board.now).height + row) }
+    requires line { (row : ℕ) → row < SIDE_LIMIT → column_at line row ≡ false →
+        IsNotAt (B.grid board.now) (B.table board.now) parts.now shape (column * (B.grid board.now).height + row) }
+    ensures { let g = B.grid board.now in
+        let at = vertical_at g (B.table board.now) parts.now shape in
+        result ≡ has_one (flat_map at (range_with_len (column * g.height) g.height)) }
+{
+    let (_width, height) = board.size();
+    let mut left = ends.both(Columns::below(height));
+    while let Some(row) = left.take_first() {
+        let end = column * height + row;
+        let count = gaps(parts, shape, height - row);
+        if fits_at_end(board, parts, shape, end, count, row + shape.first, line) {
             return true;
         }
     }
@@ -55,13 +96,22 @@ fn fits_in_columns<B: Scan>(board: &B, parts: &[List<CompiledCell>], shape: Shap
         result ≡ has_one (flat_map at (range_with_len 0 (g.width * g.height))) }
 {
     let (width, height) = board.size();
-    let mut rows = [Columns::none(); SIDE_LIMIT as usize];
-    find_ends(board, parts, shape, &mut rows);
-    for end in 0..width * height {
-        let row = end % height;
-        let may = may_end(&rows, row, end / height);
-        let count = gaps_if(may, parts, shape, height - row);
-        if fits_at_end(board, parts, shape, end, count) {
+    let mut ends = [Columns::none(); SIDE_LIMIT as usize];
+    let any = find_ends(board, parts, shape, &mut ends);
+    let beyond = Columns::below(SIDE_LIMIT).without(Columns::below(height));
+    let mut fars = [beyond; SIDE_LIMIT as usize];
+    find_fars(board, parts, shape, any, &mut fars);
+    for column in 0..width {
+        if any.has(column)
+            && fits_in_column(
+                board,
+                parts,
+                shape,
+                column,
+                ends[column as usize],
+                fars[column as usize],
+            )
+        {
             return true;
         }
     }
@@ -86,10 +136,15 @@ fn fits_in_row<B: Scan>(
 {
     let (width, height) = board.size();
     let ends = ends_across(board, parts, shape, rows, row);
-    for column in 0..width {
+    let mut left = ends.both(Columns::below(width));
+    if left.is_empty() {
+        return false;
+    }
+    let line = far_in(board, parts, shape, row, false);
+    while let Some(column) = left.take_first() {
         let end = column * height + row;
-        let count = gaps_if(ends.has(column), parts, shape, width - end / height);
-        if fits_at_end(board, parts, shape, end, count) {
+        let count = gaps(parts, shape, width - column);
+        if fits_at_end(board, parts, shape, end, count, column + shape.first, line) {
             return true;
         }
     }

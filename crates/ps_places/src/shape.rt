@@ -16,6 +16,7 @@ pub struct Shape {
     pub backwards: bool,
     ghost near: { step ≤ SIDE_LIMIT },
     ghost short: { size ≤ SIDE_LIMIT },
+    ghost before: { first ≤ size },
 }
 
 /// A place of a row on a board.

@@ -47,7 +47,7 @@ pub same-object : (first second : ObjectId) → same_object first second ≡ tru
 same-object first second e = ap object_of (eqb-true first.0 second.0 e)
 
 -- two that are one are held alike
-held-alike : (cell : List Slot) (first second : LayeredObject) → same_layered first second ≡ true → is_held_in cell first ≡ is_held_in cell second
+pub held-alike : (cell : List Slot) (first second : LayeredObject) → same_layered first second ≡ true → is_held_in cell first ≡ is_held_in cell second
 held-alike cell first second e =
     let parts = and_parts (nat_eq (first.layer).0 (second.layer).0) (same_object first.object second.object) e in
     ap₂ (λ (object : ObjectId) (layer : ℕ). slot_holds object (slice_index_or cell layer Bare)) (same-object first.object second.object parts.1) (eqb-true (first.layer).0 (second.layer).0 parts.0)
@@ -77,7 +77,7 @@ pub record Fit (mask : CellMask) (cell : List Slot) : Type 0 where
   pub one_of : list_all (λ objects. list_any (is_held_in cell) objects) mask.one_of ≡ true
   pub motions : list_all (moves_as_asked cell) mask.motions ≡ true
 
-not-so : (b : Bool) → not b ≡ true → b ≡ false
+pub not-so : (b : Bool) → not b ≡ true → b ≡ false
 not-so true e = absurd (cc)
 not-so false e = refl
 

@@ -1,2 +1,3 @@
 pub mod FittingMasks
+pub mod KeepingCells
 pub mod LeavingCells

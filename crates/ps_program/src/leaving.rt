@@ -33,7 +33,7 @@ pub fn all_listed(objects: &[LayeredObject], sought: &[LayeredObject]) -> bool
 }
 
 /// Whether what becomes of a layer's object is what stands there, where these objects do.
-fn keeps_object(needed: &[LayeredObject], layer: LayerId, object: ObjectWrite) -> bool
+pub fn keeps_object(needed: &[LayeredObject], layer: LayerId, object: ObjectWrite) -> bool
     ensures { result ≡ keeps_object needed.now layer object }
 {
     match object {

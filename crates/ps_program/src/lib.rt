@@ -2,12 +2,14 @@
 #![tactic(auto)]
 
 mod cells;
+mod keeping;
 mod leaving;
 mod needs;
 mod program;
 mod rules;
 
 pub use cells::{CellMask, CellWrite, CompiledCell};
+pub use keeping::{keeping_cells, sleeping_cells, write_keeps, write_wakes};
 pub use leaving::{all_listed, is_listed, leaving_cells};
 pub use needs::first_parts;
 pub use program::{CompiledSection, Program};

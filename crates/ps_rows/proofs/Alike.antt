@@ -180,7 +180,7 @@ layer_same table width height first second layer some objects motions = λ cell 
     (λ q low high. cell_of_plane width height first second q cell some inside (motions q (five_in (motions_from table layer) q low high))) in
     rw (object, motion) refl
 
-back : Option ObjectId → Option ℕ
+pub back : Option ObjectId → Option ℕ
 back None = None
 back (Some object) = Some object.0
 
@@ -189,7 +189,7 @@ unfolding back
 object_back None motion = refl
 object_back (Some o) motion = refl
 
-slot_object : (table : List ℕ) (height : ℕ) (words : List ℕ) (cell layer : ℕ) → back (object_in (slot_shown table height words cell layer)) ≡ object_shown table height words cell layer
+pub slot_object : (table : List ℕ) (height : ℕ) (words : List ℕ) (cell layer : ℕ) → back (object_in (slot_shown table height words cell layer)) ≡ object_shown table height words cell layer
 unfolding slot_shown
 slot_object table height words cell layer = object_back (object_shown table height words cell layer) (motion_shown table height words cell layer)
 

@@ -25,3 +25,8 @@ pub mod Unmarked
 pub mod PlaneCopies
 pub mod RowsDiffering
 pub mod Unlike
+pub mod SameWords
+pub mod RowCopies
+pub mod OwnObjects
+pub mod CopiesShown
+pub mod OneCell

@@ -135,9 +135,13 @@ module _ (table : List ℕ) (layers height cells : ℕ) (words : List ℕ) (some
       (λ m q h. let low : motions_from table l ≤ q = plane_low (motions_from table l) m q h in
       let above : length table ≤ q = omega arith in cleared c q above ∙ sym (not_still (motions_from table l) m q h))
 
+  pub slot_of_rested : (c l : ℕ) → slot_shown table height rested c l ≡ slot_of (option_map numbered (object_shown table height words c l)) Still
+  unfolding slot_shown
+  slot_of_rested c l = rw (object_rested c l, motion_rested c l) refl
+
   slot_rested : (c l : ℕ) → slot_shown table height rested c l ≡ slot_at_rest (slot_shown table height words c l)
   unfolding slot_shown
-  slot_rested c l = rw (object_rested c l, motion_rested c l) (slot_still (object_shown table height words c l) (motion_shown table height words c l))
+  slot_rested c l = slot_of_rested c l ∙ slot_still (object_shown table height words c l) (motion_shown table height words c l)
 
   slot_quiet : (c l : ℕ) → motion_in (slot_shown table height rested c l) ≡ Still
   unfolding slot_shown

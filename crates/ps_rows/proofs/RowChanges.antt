@@ -16,6 +16,7 @@ use Rattle.ps_rows.specs.Showing.{motion_planes}
 use Rattle.ps_rows.specs.declared.changes.RowChange.{RowChange}
 use Rattle.ps_rows.proofs.Bits.{has_column-zero}
 use Rattle.ps_rows.proofs.Moves.{five_false, five_high}
+use Rattle.ps_rows.proofs.PlaneCopies.{neither_word}
 use Rattle.ps_rows.proofs.Scans.{bit_cases, has_column-and, has_column-or, has_column-not}
 
 -- one word ---------------------------------------------------------------------------------------------------------------
@@ -75,6 +76,24 @@ pub changed_none : (h row : ℕ) (change : RowChange) (words : List ℕ) → Are
 changed_none h row change words = record {
   long = refl;
   there = λ p x listed low. absurd (false≢true listed);
+  elsewhere = λ p y inside apart. refl;
+}
+
+-- a change that clears and sets nothing
+as_before : (before on : Bool) → ((before && not false) || (on && false)) ≡ before
+as_before true true = refl
+as_before true false = refl
+as_before false true = refl
+as_before false false = refl
+
+bit_kept : (change : RowChange) → bit_or change.cleared change.set ≡ 0 → (plane x : ℕ) (before : Bool) → bit_after change plane x before ≡ before
+bit_kept change none plane x before =
+    let parts = neither_word change.cleared change.set none x in rw (parts.0, parts.1) (as_before before (is_number change.plane plane))
+
+pub rows_kept : (h row : ℕ) (change : RowChange) (words planes : List ℕ) → bit_or change.cleared change.set ≡ 0 → AreRowsChanged h row change words words planes
+rows_kept h row change words planes none = record {
+  long = refl;
+  there = λ p x listed low. sym (bit_kept change none p x (has_column (get_or words (p * h + row) 0) x));
   elsewhere = λ p y inside apart. refl;
 }
 

@@ -12,7 +12,6 @@ use Rattle.ps_rows.specs.Sameness.{DifferOnlyOnRows}
 use Rattle.ps_rows.proofs.Absent.{column_clear}
 use Rattle.ps_rows.proofs.Bits.{has_column-zero, has_column-with_same, has_column-with_other}
 use Rattle.ps_rows.proofs.Marked.{plane_indexed}
-use Rattle.ps_rows.proofs.PlaneCopies.{neither_word}
 use Rattle.ps_rows.proofs.SameRows.{others_same}
 use Rattle.ps_rows.proofs.Scans.{has_column-or}
 
@@ -22,17 +21,26 @@ same_by_test here there none = elim (cases_eq here there) [
   | inr n ↦ absurd (false≢true (sym none ∙ ap not (ne_eqb here there n)))
 ]
 
+-- a row of a plane that isn't marked on either board
+pub row_unmarked : (count count' height height' plane long long' row : ℕ) (first second index index' : List ℕ) → 0 < height → height' ≡ height → long ≡ count * height → long' ≡ count' * height' →
+    (plane + 1) * height ≤ long → (plane + 1) * height ≤ long' → AreRowsMarked count height first index → AreRowsMarked count' height' second index' →
+    has_column (bit_or (get_or index plane 0) (get_or index' plane 0)) row ≡ false → row < height → get_or first (plane * height + row) 0 ≡ get_or second (plane * height + row) 0
+row_unmarked count count' height height' plane long long' row first second index index' some high whole whole' here there marked marked' none under =
+    let counted : plane < count = plane_indexed count height plane long some whole here in
+    let counted' : plane < count' = plane_indexed count' height plane long' some (whole' ∙ ap (λ (h : ℕ). count' * h) high) there in
+    let Marked : ℕ → Type 0 = λ h. AreRowsMarked count' h second index' in
+    let also : AreRowsMarked count' height second index' = subst Marked high marked' in
+    let parts =
+    or_parts (has_column (get_or index plane 0) row) (has_column (get_or index' plane 0) row) (sym (has_column-or (get_or index plane 0) (get_or index' plane 0) row) ∙ none) in
+    marked plane row counted under parts.0 ∙ sym (also plane row counted' under parts.1)
+
 -- a plane that has no marked row on either board
 pub neither_marked : (count count' height height' plane long long' : ℕ) (first second index index' : List ℕ) → 0 < height → height' ≡ height → long ≡ count * height → long' ≡ count' * height' →
     (plane + 1) * height ≤ long → (plane + 1) * height ≤ long' → AreRowsMarked count height first index → AreRowsMarked count' height' second index' →
     bit_or (get_or index plane 0) (get_or index' plane 0) ≡ 0 → DifferOnlyOnRows height plane first second 0
 neither_marked count count' height height' plane long long' first second index index' some high whole whole' here there marked marked' none = λ row under clear.
-    let counted : plane < count = plane_indexed count height plane long some whole here in
-    let counted' : plane < count' = plane_indexed count' height plane long' some (whole' ∙ ap (λ (h : ℕ). count' * h) high) there in
-    let Marked : ℕ → Type 0 = λ h. AreRowsMarked count' h second index' in
-    let also : AreRowsMarked count' height second index' = subst Marked high marked' in
-    let parts = neither_word (get_or index plane 0) (get_or index' plane 0) none row in
-    marked plane row counted under parts.0 ∙ sym (also plane row counted' under parts.1)
+    row_unmarked count count' height height' plane long long' row first second index index' some high whole whole' here there marked marked'
+    (ap (λ (word : ℕ). has_column word row) none ∙ has_column-zero row) under
 
 -- one row more is compared
 pub one_row_more : (height plane row rows : ℕ) (first second : List ℕ) → row < height → height ≤ 64 →

@@ -34,7 +34,7 @@ same_shown table height first second row x y under same layer =
     let below : o < length table = slice_get_within table o layer (listed_member table layer o listed) in
     sym (column_read height first row o x under) ∙ same o below ∙ column_read height second row o y under)
 
-object_of_shown : (table : List ℕ) (height : ℕ) (words : List ℕ) (cell layer : ℕ) →
+pub object_of_shown : (table : List ℕ) (height : ℕ) (words : List ℕ) (cell layer : ℕ) →
     object_in (slot_shown table height words cell layer) ≡ option_map numbered (object_shown table height words cell layer)
 unfolding slot_shown
 object_of_shown table height words cell layer = object_of_slot (object_shown table height words cell layer) (motion_shown table height words cell layer)

@@ -10,8 +10,9 @@ use Rattle.ps_model.specs.meaning.Compiled.{is_gone}
 use Rattle.ps_model.specs.board.Grid.{motion_in}
 use Rattle.ps_model.specs.board.Movement.{is_number}
 use Rattle.ps_model.specs.declared.pieces.Motion.{Motion}
-use Rattle.ps_model.specs.meaning.Compiled.{is_held_in}
+use Rattle.ps_model.specs.meaning.Compiled.{CellWrite, is_held_in}
 use Rattle.ps_model.specs.meaning.Fitting.{same_motion}
+use Rattle.ps_match.specs.InRoom.{slot_after, write_in_room}
 use Rattle.ps_rows.specs.Planes.{has_column}
 use Rattle.ps_rows.specs.RowChanges.{bit_after}
 use Rattle.ps_rows.specs.Showing.{motion_plane, motions_from, slot_shown}
@@ -46,6 +47,10 @@ stands_on layer cell = stands (slice_index_or cell layer Bare)
 -- the cell lies on that row, in a column of a word
 abbrev pub in_columns : ℕ → ℕ → ℕ → ℕ → Bool
 in_columns height row word cell = nat_eq (cell % height) row && has_column word (cell / height)
+
+-- what a write makes of a slot on a board with such a table
+abbrev pub slot_by : List ℕ → CellWrite → ℕ → Slot → Slot
+slot_by table write = slot_after (write_in_room (Some table) write)
 
 -- on layers that are on, the slots of chosen cells become what is made of them, and each other slot stays
 abbrev pub AreSlotsWritten : Grid → Grid → (ℕ → Bool) → (ℕ → Bool) → (ℕ → Slot → Slot) → Type 0

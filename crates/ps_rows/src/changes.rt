@@ -137,7 +137,8 @@ fn change_row(planes: &mut Planes, row: u32, change: RowChange, plane: u32, chan
     true
 }
 
-/// Changes the row of each of these planes, and answers whether a word changed, or something had `changed` before.
+/// Changes the row of each of these planes, and answers whether a word changed, or something had `changed` before. No
+/// plane is read for a change that clears and sets nothing.
 pub fn change_rows(
     planes: &mut Planes,
     row: u32,
@@ -157,6 +158,9 @@ pub fn change_rows(
         changed ≡ false → AreRowsLeft p.height row change p.words.items places.now → result ≡ false }
 {
     let mut any = changed;
+    if change.cleared | change.set == 0 {
+        return any;
+    }
     for plane in places {
         any = change_row(planes, row, change, *plane, any);
     }

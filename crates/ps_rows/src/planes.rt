@@ -1,7 +1,7 @@
 //! Planes of rows of bits, as one flat list of words, with an index of their rows.
 
 ghost use Rattle.std.specs.Prelude.{◌≡◌, ◌+◌, ◌*◌, ◌/◌, ◌%◌, ◌<◌, ◌≤◌, ℕ, ◌∷◌, [], IfOk, find, length, replicate};
-ghost use Rattle.std.specs.Prelude.{slice_index, slice_set, vec_len};
+ghost use Rattle.std.specs.Prelude.{slice_index, slice_set, true, vec_len};
 ghost use Rattle.ps_model.specs.board.Movement.{is_number};
 ghost use Rattle.ps_model.specs.declared.limits.TheConstants.{SIDE_LIMIT};
 ghost use Rattle.ps_rows.specs.Planes.{
@@ -12,11 +12,12 @@ ghost use Rattle.ps_rows.specs.Planes.{
   with_cell_in,
   with_column,
 };
-ghost use Rattle.ps_rows.specs.PlaneCopies.{ArePlanesOf};
+ghost use Rattle.ps_rows.specs.PlaneCopies.{ArePlanesOf, AreRowsOf};
 ghost use Rattle.ps_rows.specs.RowIndex.{AreRowsMarked};
 ghost use Rattle.ps_rows.specs.Sameness.{DifferOnlyOnRows};
 ghost use Rattle.ps_rows.specs.Showing.{cleared_from};
 
+use ps_board::Columns;
 use ps_model::Memory;
 use std::alloc::Global;
 
@@ -278,6 +279,56 @@ impl Planes {
         }
     }
 
+    /// Makes rows of a plane of others the same, those in a set that are marked on either side.
+    fn copy_rows_of(&self, other: &mut Planes, plane: u32, rows: Columns)
+        requires height { other.old.height ≡ self.now.height }
+        requires here { (plane + 1) * self.now.height ≤ vec_len self.now.words }
+        requires there { (plane + 1) * self.now.height ≤ vec_len other.old.words }
+        ensures words { let p = self.now in
+            AreRowsOf p.height plane (plane + 1) rows p.words.items other.old.words.items other.new.words.items }
+        ensures height { other.new.height ≡ self.now.height }
+        ensures count { vec_len other.new.words ≡ vec_len other.old.words }
+    {
+        let marked = Columns::from_word(self.rows_of(plane) | other.rows_of(plane));
+        let wanted = rows.both(marked);
+        let mut left = wanted.both(Columns::below(self.height));
+        while let Some(row) = left.take_first() {
+            let word = self.row(plane, row);
+            other.set_row(plane, row, word);
+        }
+    }
+
+    /// Makes rows of so many planes of others, the first ones, the same, those in a set. What neither side has marked
+    /// is passed over.
+    pub fn copy_rows(&self, other: &mut Planes, planes: u32, rows: Columns)
+        requires height { other.old.height ≡ self.now.height }
+        requires here { planes * self.now.height ≤ vec_len self.now.words }
+        requires there { planes * self.now.height ≤ vec_len other.old.words }
+        ensures words { let p = self.now in
+            AreRowsOf p.height 0 planes rows p.words.items other.old.words.items other.new.words.items }
+        ensures height { other.new.height ≡ self.now.height }
+        ensures count { vec_len other.new.words ≡ vec_len other.old.words }
+    {
+        for plane in 0..planes {
+            self.copy_rows_of(other, plane, rows);
+        }
+    }
+
+    /// Whether a plane has the same words on others, of the same height. All of them are looked at in one go, without a
+    /// test for each.
+    pub fn has_same_words(&self, other: &Planes, plane: u32) -> bool
+        requires height { other.now.height ≡ self.now.height }
+        requires here { (plane + 1) * self.now.height ≤ vec_len self.now.words }
+        requires there { (plane + 1) * self.now.height ≤ vec_len other.now.words }
+        ensures { result ≡ true → DifferOnlyOnRows self.now.height plane self.now.words.items other.now.words.items 0 }
+    {
+        let mut unlike = 0;
+        for row in 0..self.height {
+            unlike |= self.row(plane, row) ^ other.row(plane, row);
+        }
+        unlike == 0
+    }
+
     /// The rows in which a plane may have other columns than on others, as many of the same height: bit y stands for
     /// row y. A plane without columns on both sides is passed over.
     fn differing_rows(&self, other: &Planes, plane: u32) -> u64
@@ -287,6 +338,9 @@ impl Planes {
         ensures { DifferOnlyOnRows self.now.height plane self.now.words.items other.now.words.items result }
     {
         if self.rows_of(plane) | other.rows_of(plane) == 0 {
+            return 0;
+        }
+        if self.has_same_words(other, plane) {
             return 0;
         }
         let mut rows = 0;

@@ -3,12 +3,12 @@
 ghost use Rattle.std.specs.Prelude.{◌≡◌, ◌+◌, ◌*◌, ◌<◌, ◌≤◌, ℕ, Some, false, nat_eq, true};
 ghost use Rattle.ps_model.specs.meaning.Compiled.{cell_written};
 ghost use Rattle.ps_program.specs.ProgramShown.{write_shown};
-ghost use Rattle.ps_match.specs.InRoom.{slot_after, write_in_room};
+ghost use Rattle.ps_match.specs.InRoom.{write_in_room};
 ghost use Rattle.ps_match.specs.Together.{rewritten_where};
 ghost use Rattle.ps_rows.specs.RowChanges.{moves_kept};
 ghost use Rattle.ps_rows.specs.RowTests.{IsRowOf, IsWithin};
 ghost use Rattle.ps_rows.specs.SlotsWritten.{AreSlotsLeft, AreSlotsWritten, IsLayerChange};
-ghost use Rattle.ps_rows.specs.SlotsWritten.{goes_from, in_columns, one_goes, stands_on};
+ghost use Rattle.ps_rows.specs.SlotsWritten.{goes_from, in_columns, one_goes, slot_by, stands_on};
 
 use crate::changes::{RowChange, motions_change, moves_kept, objects_change};
 use crate::row_board::RowBoard;
@@ -67,7 +67,7 @@ impl RowBoard {
         requires row { row < self.now.planes.height }
         requires within { IsWithin (⟦<RowBoard as Board>⟧.grid self.now) columns }
         ensures { let b = self.now in
-            let becomes = slot_after (write_in_room (Some b.members.table.items) (write_shown write.now)) layer in
+            let becomes = slot_by b.members.table.items (write_shown write.now) layer in
             IsLayerChange b.members.table.items b.width b.planes.height b.planes.words.items layer row columns becomes
             result.0 result.1 }
     {
@@ -84,13 +84,13 @@ impl RowBoard {
         requires layer { layer < self.old.layers }
         requires row { row < self.old.planes.height }
         requires within { IsWithin (⟦<RowBoard as Board>⟧.grid self.old) columns }
-        ensures slots { let after = slot_after (write_in_room (Some self.old.members.table.items) (write_shown write.now)) in
+        ensures slots { let after = slot_by self.old.members.table.items (write_shown write.now) in
             AreSlotsWritten (⟦<RowBoard as Board>⟧.grid self.old) (⟦<RowBoard as Board>⟧.grid self.new)
             (in_columns self.old.planes.height row columns) (λ l. nat_eq l layer) after }
-        ensures quiet { let after = slot_after (write_in_room (Some self.old.members.table.items) (write_shown write.now)) in
+        ensures quiet { let after = slot_by self.old.members.table.items (write_shown write.now) in
             result ≡ false → AreSlotsLeft (⟦<RowBoard as Board>⟧.grid self.old)
             (in_columns self.old.planes.height row columns) (λ l. nat_eq l layer) after }
-        ensures left { let after = slot_after (write_in_room (Some self.old.members.table.items) (write_shown write.now)) in
+        ensures left { let after = slot_by self.old.members.table.items (write_shown write.now) in
             AreSlotsLeft (⟦<RowBoard as Board>⟧.grid self.old)
             (in_columns self.old.planes.height row columns) (λ l. nat_eq l layer) after → result ≡ false }
         ensures width { self.new.width ≡ self.old.width }

@@ -7,12 +7,12 @@ ghost use Rattle.ps_model.specs.board.Movement.{is_number};
 ghost use Rattle.ps_model.specs.declared.limits.TheConstants.{LAYER_LIMIT, SIDE_LIMIT};
 ghost use Rattle.ps_rows.specs.Planes.{HavePlanes};
 ghost use Rattle.ps_program.specs.ProgramShown.{write_shown};
-ghost use Rattle.ps_match.specs.InRoom.{slot_after, write_in_room};
 ghost use Rattle.ps_rows.specs.RowTests.{IsRowOf, IsWithin};
 ghost use Rattle.ps_rows.specs.Sameness.{IsSameLayer};
 ghost use Rattle.ps_rows.specs.Showing.{AreMotionsShown, AreObjectsShown, cleared_from, grid_shown};
 ghost use Rattle.ps_rows.specs.Showing.{motions_from, numbered, object_shown, with_slot_in};
-ghost use Rattle.ps_rows.specs.SlotsWritten.{AreSlotsLeft, AreSlotsWritten, in_columns, stands_on};
+ghost use Rattle.ps_rows.specs.SlotsWritten.{AreSlotsLeft, AreSlotsWritten, in_columns};
+ghost use Rattle.ps_rows.specs.SlotsWritten.{slot_by, stands_on};
 
 use crate::changes::change_layer;
 use crate::members::Members;
@@ -169,13 +169,13 @@ impl RowBoard {
         requires layer { layer < self.old.layers }
         requires row { row < self.old.planes.height }
         requires within { IsWithin (⟦<RowBoard as Board>⟧.grid self.old) columns }
-        ensures slots { let after = slot_after (write_in_room (Some self.old.members.table.items) (write_shown write.now)) in
+        ensures slots { let after = slot_by self.old.members.table.items (write_shown write.now) in
             AreSlotsWritten (⟦<RowBoard as Board>⟧.grid self.old) (⟦<RowBoard as Board>⟧.grid self.new)
             (in_columns self.old.planes.height row columns) (λ l. nat_eq l layer) after }
-        ensures quiet { let after = slot_after (write_in_room (Some self.old.members.table.items) (write_shown write.now)) in
+        ensures quiet { let after = slot_by self.old.members.table.items (write_shown write.now) in
             result ≡ false → AreSlotsLeft (⟦<RowBoard as Board>⟧.grid self.old)
             (in_columns self.old.planes.height row columns) (λ l. nat_eq l layer) after }
-        ensures left { let after = slot_after (write_in_room (Some self.old.members.table.items) (write_shown write.now)) in
+        ensures left { let after = slot_by self.old.members.table.items (write_shown write.now) in
             AreSlotsLeft (⟦<RowBoard as Board>⟧.grid self.old)
             (in_columns self.old.planes.height row columns) (λ l. nat_eq l layer) after → result ≡ false }
         ensures width { self.new.width ≡ self.old.width }
@@ -350,10 +350,12 @@ impl Board for RowBoard {
         Columns::from_word(self.planes.rows_differing(&other.planes, objects))
     }
 
-    /// The whole board is copied.
-    fn copy_rows(&self, other: &mut RowBoard, _rows: Columns) {
-        self.copy_into(other);
-        other.clear_moves();
+    /// The words of these rows are copied, in the planes of all objects, and what moved on the other board is brought
+    /// to rest.
+    fn copy_rows(&self, other: &mut RowBoard, rows: Columns) {
+        let objects = self.members.count();
+        self.planes.copy_rows(&mut other.planes, objects, rows);
+        other.planes.clear_from(objects);
     }
 }
 
@@ -434,6 +436,31 @@ mod tests {
         assert_eq!(rt; other.object(0, LayerId(0)), None);
         assert_eq!(rt; other.object(1, LayerId(0)), Some(ObjectId(1)));
         assert_eq!(rt; other.motion(1, LayerId(0)), PUSHED);
+        Ok(())
+    }
+
+    #[test]
+    fn copies_rows_alone_and_rests(rt: HostRuntime) -> Result<(), Fail> {
+        let mut board = RowBoard::try_empty(rt.alloc(), 2, 3, 2, &OWN_LAYERS)?;
+        board.put(0, LayerId(0), Some(ObjectId(1)), PUSHED);
+        board.put(4, LayerId(1), Some(ObjectId(2)), PUSHED);
+        let mut other = board.try_copy(rt.alloc())?;
+        board.put(1, LayerId(1), Some(ObjectId(0)), Motion::Acting);
+        board.put(4, LayerId(1), None, Motion::Still);
+        let rows = board.rows_differing(&other);
+        for row in 0..3u32 {
+            assert_eq!(rt; rows.has(row), row == 1);
+        }
+        board.copy_rows(&mut other, rows);
+        assert!(rt; other.rows_moving_any().is_empty());
+        assert_eq!(rt; other.object(0, LayerId(0)), Some(ObjectId(1)));
+        assert_eq!(rt; other.object(1, LayerId(1)), Some(ObjectId(0)));
+        assert_eq!(rt; other.object(4, LayerId(1)), None);
+        assert!(rt; other.rows_holding(ObjectId(2)).is_empty());
+        assert!(rt; board.rows_differing(&other).is_empty());
+        assert!(rt; !board.same(&other));
+        board.clear_moves();
+        assert!(rt; board.same(&other));
         Ok(())
     }
 

@@ -1,11 +1,11 @@
-//! The board of rows, matched by words and, where a row is rewritten, written by words.
+//! The board of rows, matched by words and written by words.
 
 use crate::motions::motion_plane;
 use crate::planes::has_column;
 use crate::row_board::RowBoard;
 use crate::scanning::columns as all_columns;
 use ps_board::Board;
-use ps_match::{Columns, Rooms, Scan, write_cell};
+use ps_match::{Columns, Rooms, Scan};
 use ps_model::{LayerId, LayeredObject, MotionTest, ObjectId};
 use ps_program::{CellMask, CellWrite};
 
@@ -56,12 +56,15 @@ impl Scan for RowBoard {
         }
     }
 
+    /// A cell is a row of which one column is written.
     fn write(&mut self, write: &CellWrite, cell: u32, changed: bool) -> bool {
         let (width, height) = self.size();
         if width * height <= cell {
             return changed;
         }
-        write_cell(self, write, cell, changed)
+        let column = 1 << (cell / height);
+        let here = self.write_columns(write, cell % height, column);
+        changed | here
     }
 
     fn rewrite(&mut self, write: &CellWrite, row: u32, columns: Columns) -> bool {

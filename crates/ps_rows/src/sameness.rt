@@ -30,6 +30,9 @@ fn same_plane(first: &Planes, second: &Planes, width: u32, plane: u32) -> bool
     if first.rows_of(plane) | second.rows_of(plane) == 0 {
         return true;
     }
+    if first.has_same_words(second, plane) {
+        return true;
+    }
     for row in 0..first.height {
         if !same_row(first.row(plane, row), second.row(plane, row), width) {
             return false;

@@ -68,6 +68,25 @@ fn write_row(rt: &impl Abort, alloc: Global, write: &CellWrite, changes: bool) -
 }
 
 #[test]
+fn a_cell_is_written_and_no_other_one(rt: HostRuntime) -> Result<(), Fail> {
+    let mut rows = RowBoard::try_empty(rt.alloc(), 4, 2, 2, &OWN_LAYERS)?;
+    let mut list = ListBoard::try_empty(rt.alloc(), 4, 2, 2, &OWN_LAYERS)?;
+    let put = ObjectWrite::Put(ObjectId(2));
+    let write = write_of(rt.alloc(), None, put, Some(RIGHT))?;
+    assert!(&rt; !rows.write(&write, 8, false));
+    assert!(&rt; rows.write(&write, 8, true));
+    assert!(&rt; rows.write(&write, 5, false));
+    assert!(&rt; list.write(&write, 5, false));
+    assert!(&rt; !rows.write(&write, 5, false));
+    assert!(&rt; rows.write(&write, 5, true));
+    for cell in 0..8u32 {
+        assert_eq!(&rt; rows.object(cell, HIGHER), list.object(cell, HIGHER));
+        assert_eq!(&rt; rows.motion(cell, HIGHER), list.motion(cell, HIGHER));
+    }
+    Ok(())
+}
+
+#[test]
 fn an_object_is_put_with_a_motion(rt: HostRuntime) -> Result<(), Fail> {
     let put = ObjectWrite::Put(ObjectId(0));
     write_row(

@@ -1,5 +1,5 @@
 -- What bytes do, one after the other.
-use Rattle.std.proofs.Common.{◌≡◌, ◌∙◌, ℕ, zero, suc, ◌+◌, ◌<◌, ◌≤◌, ◌-◌, inl, inr, false, true, List, [], ◌∷◌, ◌++◌, length, take, drop, get_or, Option, Some, None, refl, sym, ap, append_assoc, append-nil, arith, Result, Ok, Err}
+use Rattle.std.proofs.Common.{◌≡◌, ◌∙◌, ℕ, zero, suc, ◌+◌, ◌<◌, ◌≤◌, ◌-◌, inl, inr, false, true, List, [], ◌∷◌, ◌++◌, length, take, drop, get_or, Option, Some, None, refl, sym, subst, ap, append_assoc, append-nil, arith, Result, Ok, Err}
 use Rattle.std.specs.Prelude.{OnOk, IfErr}
 use Rattle.std.proofs.lemmas.Bool.{cases_lt}
 use Rattle.std.proofs.lemmas.Grind.{common_steps}
@@ -202,3 +202,13 @@ if_err (Err error) follows p = follows error refl p
 -- a call that a device counts
 pub one_call : (old new most : ℕ) → (old < most → new ≡ old + 1) → (most ≤ old → false ≡ true) → new ≡ old + 1
 one_call old new most counted worn = elim (cases_lt old most) [ inl below ↦ counted below | inr above ↦ (let e : false ≡ true = worn above in cc) ]
+
+-- what a screen has that was empty before a text was added is the text
+pub text_taken : {A E : Type 0} (result : Result A E) (before now : WriterState) (screen old text : List ℕ) → screen ≡ old ++ text → old ≡ [] → OnOk result (HasTaken before now screen) → OnOk result (HasTaken before now text)
+text_taken (Ok value) before now screen old text e none taken = subst (HasTaken before now) (e ∙ ap (λ (bytes : List ℕ). bytes ++ text) none) taken
+text_taken (Err error) before now screen old text e none taken = tt
+
+pub text_stopped : {A : Type 0} (result : Result A PieceFault) (before now : WriterState) (screen old text : List ℕ) → screen ≡ old ++ text → old ≡ [] →
+    IfErr result (λ fault. StopsAtText fault before now screen) → IfErr result (λ fault. StopsAtText fault before now text)
+text_stopped (Ok value) before now screen old text e none stops = tt
+text_stopped (Err fault) before now screen old text e none stops = subst (StopsAtText fault before now) (e ∙ ap (λ (bytes : List ℕ). bytes ++ text) none) stops

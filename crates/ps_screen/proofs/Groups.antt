@@ -1,5 +1,5 @@
 -- The columns that are drawn together: one of them, and those of a set whose cells are like its own.
-use Rattle.std.proofs.Common.{◌≡◌, ◌∙◌, ℕ, ◌+◌, ◌*◌, ◌<◌, ◌≤◌, ◌⊎◌, ◌&&◌, inl, inr, not, Bool, true, false, List, [], ◌∷◌, length, get_or, refl, sym, ap, arith}
+use Rattle.std.proofs.Common.{◌≡◌, ◌≢◌, ◌∙◌, ℕ, ◌+◌, ◌*◌, ◌<◌, ◌≤◌, ◌⊎◌, ◌&&◌, inl, inr, not, Bool, true, false, List, [], ◌∷◌, length, get_or, refl, sym, ap, arith}
 use Rattle.std.specs.Prelude.{nat_eq, if◌then◌else◌}
 use Rattle.std.proofs.lemmas.Bool.{and_parts, cases_Bool, cases_eq, cases_lt, eq-eqb, false≢true, ne_eqb}
 use Rattle.ps_model.specs.declared.limits.TheConstants.{SIDE_LIMIT}
@@ -8,7 +8,7 @@ use Rattle.ps_board.specs.Rows.{AreAlike}
 use Rattle.ps_board.proofs.ColumnLaws.{column_at-beyond, column_at-where}
 use Rattle.ps_model.specs.board.Grid.{Grid}
 use Rattle.ps_model.specs.names.Names.{Names}
-use Rattle.ps_screen.specs.PlainRows.{AreDrawn, column_bytes}
+use Rattle.ps_screen.specs.PlainRows.{AreDrawn, IsOutside, column_bytes}
 use Rattle.ps_screen.proofs.KeptRows.{same_character}
 use Rattle.ps_screen.proofs.Taken.{not_left, was_in}
 
@@ -68,38 +68,63 @@ none_beyond left alike column width under within = elim (cases_lt width SIDE_LIM
   ]
 ]
 
+-- a column of the group is one of the row's
+pub group_within : (columns left alike : List Bool) (column width : ℕ) → set_columns columns ≡ column ∷ set_columns left → column < width →
+    ((x : ℕ) → x < SIDE_LIMIT → column_at columns x ≡ true → x < width) → (x : ℕ) → x < SIDE_LIMIT → column_at (group_of left alike column) x ≡ true → x < width
+group_within columns left alike column width taken under within x low has = elim (in_group left alike column x low has) [
+  | inl e ↦ omega (arith, under, e)
+  | inr both ↦ within x low (was_in columns left column x taken low both.0)
+]
+
 -- behind a group, all columns are drawn that aren't left
-pub record Group (names : Names) (g : Grid) (row column byte : ℕ) (columns left alike : List Bool) (text drawn : List ℕ) : Type 0 where
+pub record Group (names : Names) (g : Grid) (row column byte : ℕ) (columns left alike : List Bool) (start : ℕ) (text drawn : List ℕ) : Type 0 where
   pub narrow : g.width ≤ SIDE_LIMIT
   pub under : column < g.width
   pub taken : set_columns columns ≡ column ∷ set_columns left
   pub within : (x : ℕ) → x < SIDE_LIMIT → column_at columns x ≡ true → x < g.width
   pub same : AreAlike alike g row column
   pub bytes : column_bytes names g row column ≡ byte ∷ []
-  pub before : AreDrawn names g row columns text
+  pub before : AreDrawn names g row columns start text
   pub long : length drawn ≡ length text
-  pub there : (x : ℕ) → x < SIDE_LIMIT → column_at (group_of left alike column) x ≡ true → get_or drawn x 0 ≡ byte
-  pub elsewhere : (x : ℕ) → column_at (group_of left alike column) x ≡ false → get_or drawn x 0 ≡ get_or text x 0
+  pub there : (x : ℕ) → x < SIDE_LIMIT → column_at (group_of left alike column) x ≡ true → get_or drawn (start + x) 0 ≡ byte
+  pub elsewhere : (at : ℕ) → ((x : ℕ) → x < SIDE_LIMIT → column_at (group_of left alike column) x ≡ true → at ≢ start + x) → get_or drawn at 0 ≡ get_or text at 0
 
-column_drawn : (names : Names) (g : Grid) (row column byte : ℕ) (columns left alike : List Bool) (text drawn : List ℕ) → Group names g row column byte columns left alike text drawn →
-    (x : ℕ) → x < g.width → x < SIDE_LIMIT → column_at (columns_without left (group_of left alike column)) x ≡ false → column_bytes names g row x ≡ get_or drawn x 0 ∷ []
-column_drawn names g row column byte columns left alike text drawn all x below low none =
+-- the place of a column that isn't in a set is that of none in it
+pub apart_from : (group : List Bool) (start x : ℕ) → column_at group x ≡ false → (y : ℕ) → y < SIDE_LIMIT → column_at group y ≡ true → start + x ≢ start + y
+apart_from group start x out y low has = λ e.
+    let same : x ≡ y = omega (arith, e) in
+    false≢true (sym out ∙ ap (column_at group) same ∙ has)
+
+column_drawn : (names : Names) (g : Grid) (row column byte : ℕ) (columns left alike : List Bool) (start : ℕ) (text drawn : List ℕ) → Group names g row column byte columns left alike start text drawn →
+    (x : ℕ) → x < g.width → x < SIDE_LIMIT → column_at (columns_without left (group_of left alike column)) x ≡ false → column_bytes names g row x ≡ get_or drawn (start + x) 0 ∷ []
+column_drawn names g row column byte columns left alike start text drawn all x below low none =
     elim (cases_Bool (column_at (group_of left alike column) x)) [
       | inl has ↦ group_bytes names g row column x left alike below low all.same has ∙ all.bytes ∙ ap (λ (b : ℕ). b ∷ []) (sym (all.there x low has))
       | inr out ↦ elim (gone_or_drawn left (group_of left alike column) x low none) [
         | inr has ↦ absurd (false≢true (sym out ∙ has))
         | inl gone ↦ elim (not_left columns left column x all.taken low gone) [
           | inl e ↦ absurd (false≢true (sym out ∙ ap (column_at (group_of left alike column)) e ∙ has_own left alike column (omega (arith, all.under, all.narrow))))
-          | inr was ↦ all.before.each x below was ∙ ap (λ (b : ℕ). b ∷ []) (sym (all.elsewhere x out))
+          | inr was ↦ all.before.each x below was ∙ ap (λ (b : ℕ). b ∷ []) (sym (all.elsewhere (start + x) (apart_from (group_of left alike column) start x out)))
         ]
       ]
     ]
 
-pub group_drawn : (names : Names) (g : Grid) (row column byte : ℕ) (columns left alike : List Bool) (text drawn : List ℕ) → Group names g row column byte columns left alike text drawn →
-    AreDrawn names g row (columns_without left (group_of left alike column)) drawn
-group_drawn names g row column byte columns left alike text drawn all =
+pub group_drawn : (names : Names) (g : Grid) (row column byte : ℕ) (columns left alike : List Bool) (start : ℕ) (text drawn : List ℕ) → Group names g row column byte columns left alike start text drawn →
+    AreDrawn names g row (columns_without left (group_of left alike column)) start drawn
+group_drawn names g row column byte columns left alike start text drawn all =
+    let none = none_beyond left alike column g.width all.under (λ x low has. all.within x low (was_in columns left column x all.taken low has)) in
     record {
-      long = all.long ∙ all.before.long;
-      each = λ x below none. column_drawn names g row column byte columns left alike text drawn all x below (omega (arith, below, all.narrow)) none;
-      end = all.elsewhere g.width (none_beyond left alike column g.width all.under (λ x low has. all.within x low (was_in columns left column x all.taken low has))) ∙ all.before.end;
+      long = omega (arith, all.long, all.before.long);
+      each = λ x below out. column_drawn names g row column byte columns left alike start text drawn all x below (omega (arith, below, all.narrow)) out;
+      end = all.elsewhere (start + g.width) (apart_from (group_of left alike column) start g.width none) ∙ all.before.end;
     }
+
+-- and no byte has changed outside of the row's columns
+pub group_kept : (names : Names) (g : Grid) (row column byte : ℕ) (columns left alike : List Bool) (start : ℕ) (text drawn : List ℕ) → Group names g row column byte columns left alike start text drawn →
+    (at : ℕ) → IsOutside start g.width at → get_or drawn at 0 ≡ get_or text at 0
+group_kept names g row column byte columns left alike start text drawn all at outside = all.elsewhere at (λ x low has.
+    let under = group_within columns left alike column g.width all.taken all.under all.within x low has in
+    elim outside [
+      | inl before ↦ λ e. omega (arith, before, e)
+      | inr behind ↦ λ e. omega (arith, behind, e, under)
+    ])

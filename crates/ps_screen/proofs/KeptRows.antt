@@ -1,9 +1,9 @@
 -- Rows of frames: which are the same, and what they make together.
-use Rattle.std.proofs.Common.{◌≡◌, ℕ, zero, suc, ◌+◌, ◌*◌, ◌<◌, ◌≤◌, Bool, List, [], ◌∷◌, ◌++◌, length, length-take, take, map, refl, sym, ap, ap₂, ◌∙◌, arith}
+use Rattle.std.proofs.Common.{◌≡◌, ℕ, zero, suc, ◌+◌, ◌*◌, ◌<◌, ◌≤◌, Bool, List, [], ◌∷◌, ◌++◌, map, refl, sym, ap, ap₂, ◌∙◌, arith}
 use Rattle.std.specs.Prelude.{encode_utf8, codes}
 use Rattle.std.specs.List.{flat_map, range_with_len}
 use Rattle.std.proofs.Math.ListN.{get_or-map}
-use Rattle.std.proofs.lemmas.List.{same_lists, get_or-take, get_or_default}
+use Rattle.std.proofs.lemmas.List.{same_lists, get_or_default}
 use Rattle.std.proofs.lemmas.List.FromFn.{length-map-range_with_len, get_or-map-range_with_len}
 use Rattle.ps_model.specs.declared.pieces.ObjectId.{ObjectId}
 use Rattle.ps_model.specs.declared.pieces.Slot.{Slot}
@@ -49,21 +49,26 @@ flat_map-map f [] = refl
 flat_map-map f (x ∷ xs) = ap (λ r. f x ++ r) (flat_map-map f xs)
 
 -- the rows one after the other, and an empty line, are the frame
-pub rows_joined : (names : Names) (g : Grid) (texts : List (List ℕ)) → AreRowsOf names g texts → flat_map (λ row. row) (take g.height texts) ++ codes "\n" ≡ frame names g
+pub rows_joined : (names : Names) (g : Grid) (texts : List (List ℕ)) → AreRowsOf names g texts → flat_map (λ row. row) texts ++ codes "\n" ≡ frame names g
 rows_joined names g texts rows =
-    let rows_long : g.height ≤ length texts = rows.long in
     let drawn : List (List ℕ) = map (frame_row names g) (range_with_len 0 g.height) in
-    let long : length (take g.height texts) ≡ g.height = rw length-take (omega arith) in
-    let each : take g.height texts ≡ drawn =
-    same_lists (take g.height texts) drawn (long ∙ sym (length-map-range_with_len (frame_row names g) 0 g.height))
-    (λ k d h.
-    let below : k < g.height = rw (← long) h in
-    let inside : k < length texts = omega arith in
-    get_or-take g.height texts k d below
-    ∙ get_or_default texts k d [] inside
+    let each : texts ≡ drawn =
+    same_lists texts drawn (rows.long ∙ sym (length-map-range_with_len (frame_row names g) 0 g.height))
+    (λ k d inside.
+    let below : k < g.height = omega (arith, inside, rows.long) in
+    get_or_default texts k d [] inside
     ∙ rows.each k below
     ∙ sym (get_or-map-range_with_len (frame_row names g) 0 g.height k k d below (omega arith))) in
     ap (λ (text : List ℕ). text ++ codes "\n") (ap (flat_map (λ row. row)) each ∙ flat_map-map (frame_row names g) (range_with_len 0 g.height))
+
+-- drawn one after the other, they are the rows
+pub rows_drawn : (names : Names) (g : Grid) (texts : List (List ℕ)) → texts ≡ map (frame_row names g) (range_with_len 0 g.height) → AreRowsOf names g texts
+rows_drawn names g texts is =
+    rw is
+    record {
+      long = length-map-range_with_len (frame_row names g) 0 g.height;
+      each = λ row under. get_or-map-range_with_len (frame_row names g) 0 g.height row row [] under (omega arith);
+    }
 
 -- objects at rest are the same objects
 same_at_rest : (cell : List Slot) → objects_in (map slot_at_rest cell) ≡ objects_in cell
@@ -74,12 +79,14 @@ same_at_rest (Holds object motion ∷ cell) = ap (λ (objects : List ObjectId). 
 cell_at_rest : (g : Grid) (n : ℕ) → cell_at (at_rest g) n ≡ map slot_at_rest (cell_at g n)
 cell_at_rest g n = get_or-map (map slot_at_rest) g.cells n []
 
--- so a board at rest has the same frame
-pub rows_at_rest : (names : Names) (g h : Grid) (texts : List (List ℕ)) → h ≡ at_rest g → AreRowsOf names g texts → AreRowsOf names h texts
-rows_at_rest names g h texts rest rows =
-    rw rest
+-- so the rows of a board at rest show the same
+pub same_row_at_rest : (g : Grid) (row : ℕ) → HaveSameRow (at_rest g) g row
+same_row_at_rest g row = λ column inside. ap objects_in (cell_at_rest g (column * g.height + row)) ∙ same_at_rest (cell_at g (column * g.height + row))
+
+-- and they are written the same
+pub rows_at_rest : (names : Names) (g : Grid) (texts : List (List ℕ)) → AreRowsOf names g texts → AreRowsOf names (at_rest g) texts
+rows_at_rest names g texts rows =
     record {
       long = rows.long;
-      each = λ row under. rows.each row under ∙ same_frame_row names (at_rest g) g row refl refl (λ column inside.
-          ap objects_in (cell_at_rest g (column * g.height + row)) ∙ same_at_rest (cell_at g (column * g.height + row)));
+      each = λ row under. rows.each row under ∙ same_frame_row names (at_rest g) g row refl refl (same_row_at_rest g row);
     }

@@ -1,6 +1,8 @@
+mod FrameTexts
+mod Groups
 mod KeptRows
 mod Objects
 mod Painting
-mod Taken
+mod PlainFrames
 mod PlainRows
-mod Groups
+mod Taken

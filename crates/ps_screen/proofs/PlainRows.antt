@@ -1,21 +1,21 @@
 -- Plain rows are rows of a frame, and rows of a frame with as many bytes as columns, and a line feed, are plain.
-use Rattle.std.proofs.Common.{◌≡◌, ◌∙◌, ℕ, suc, zero, ◌+◌, ◌*◌, ◌<◌, ◌≤◌, ◌&&◌, Bool, true, false, List, [], ◌∷◌, ◌++◌, length, get_or, take, append_assoc, refl, sym, ap, ap₂, arith}
-use Rattle.std.specs.Prelude.{encode_utf8, codes, nat_lt}
+use Rattle.std.proofs.Common.{◌≡◌, ◌∙◌, ℕ, suc, zero, ◌+◌, ◌*◌, ◌<◌, ◌≤◌, ◌&&◌, Bool, true, false, List, [], ◌∷◌, ◌++◌, length, length-take, get_or, take, drop, append_assoc, refl, sym, ap, ap₂, arith}
+use Rattle.std.specs.Prelude.{encode_utf8, codes, nat_lt, replicate}
 use Rattle.std.specs.List.{flat_map, range_with_len}
 use Rattle.std.proofs.Math.Bool.{and-true}
 use Rattle.std.proofs.lemmas.Bool.{and_parts, lt-ltb}
 use Rattle.std.proofs.lemmas.Bool.Decides.{nat_tests}
-use Rattle.std.proofs.lemmas.List.{length-append}
+use Rattle.std.proofs.lemmas.List.{get_or-drop, get_or-take, length-append, length-drop, length-replicate, take_all}
 use Rattle.std.proofs.lemmas.Str.{length-encode, len_utf8_bounds}
 use Rattle.ps_model.specs.board.Grid.{Grid}
 use Rattle.ps_model.specs.names.Names.{Names}
 use Rattle.ps_model.specs.session.Frames.{frame_row, shown_character}
 use Rattle.ps_model.specs.board.Grid.{cell_at}
 use Rattle.ps_model.specs.declared.limits.TheConstants.{SIDE_LIMIT}
-use Rattle.ps_board.specs.ColumnSets.{both_columns, column_at, columns_below}
-use Rattle.ps_board.specs.Rows.{DifferOnlyIn}
+use Rattle.ps_board.specs.ColumnSets.{both_columns, column_at, columns_below, set_columns}
+use Rattle.ps_board.specs.Rows.{DifferOnlyIn, HaveSameRow}
 use Rattle.ps_board.proofs.AllRows.{none_outside}
-use Rattle.ps_board.proofs.ColumnLaws.{column_at-where}
+use Rattle.ps_board.proofs.ColumnLaws.{column_at-where, none_in}
 use Rattle.ps_screen.specs.PlainRows.{AreDrawn, IsPlainRow, column_bytes}
 use Rattle.ps_screen.proofs.KeptRows.{same_character}
 
@@ -77,50 +77,76 @@ from_each f a (suc n) (b ∷ text) long each =
     (from_each f (a + 1) n text (omega (arith, long)) (λ k low. let there : a + 1 + k ≡ a + suc k = omega arith in ap f there ∙ each (suc k) (omega arith)))
 
 -- the byte behind a text, and a text without its last byte
-at_end : (xs ys : List ℕ) (n : ℕ) → length xs ≡ n → get_or (xs ++ ys) n 0 ≡ get_or ys 0 0
+pub at_end : (xs ys : List ℕ) (n : ℕ) → length xs ≡ n → get_or (xs ++ ys) n 0 ≡ get_or ys 0 0
 at_end [] ys zero e = refl
 at_end [] ys (suc n) e = absurd (omega arith)
 at_end (x ∷ xs) ys zero e = absurd (omega arith)
 at_end (x ∷ xs) ys (suc n) e = at_end xs ys n (omega (arith, e))
 
-cut_last : (text : List ℕ) (n b : ℕ) → length text ≡ n + 1 → get_or text n 0 ≡ b → text ≡ take n text ++ b ∷ []
+pub cut_last : (text : List ℕ) (n b : ℕ) → length text ≡ n + 1 → get_or text n 0 ≡ b → text ≡ take n text ++ b ∷ []
 cut_last [] n b long e = absurd (omega arith)
 cut_last (x ∷ []) zero b long e = ap (λ (y : ℕ). y ∷ []) e
 cut_last (x ∷ y ∷ text) zero b long e = absurd (omega arith)
 cut_last (x ∷ text) (suc n) b long e = ap (λ (t : List ℕ). x ∷ t) (cut_last text n b (omega (arith, long)) e)
 
-pub plain_of : (names : Names) (g : Grid) (row : ℕ) (text : List ℕ) → text ≡ frame_row names g row → length text ≡ g.width + 1 → IsPlainRow names g row text
+pub plain_of : (names : Names) (g : Grid) (row : ℕ) (text : List ℕ) → text ≡ frame_row names g row → length text ≡ g.width + 1 → IsPlainRow names g row 0 text
 plain_of names g row text is long =
     let rows : List ℕ = flat_map (column_bytes names g row) (range_with_len 0 g.width) in
     let all : length (rows ++ codes "\n") ≡ length rows + length (codes "\n") = length-append rows (codes "\n") in
     let few : length rows ≡ g.width = omega (arith, long, ap (λ (t : List ℕ). length t) is, all) in
     record {
-      long = long;
+      long = omega (arith, long);
       each = λ x low.
           let here : 0 + x ≡ x = omega arith in
           ap (column_bytes names g row) (sym here)
           ∙ one_each (column_bytes names g row) 0 g.width (codes "\n") (λ k. some_byte (shown_character names (cell_at g (k * g.height + row)))) few x low
-          ∙ ap (λ (t : List ℕ). get_or t x 0 ∷ []) (sym is);
-      end = ap (λ (t : List ℕ). get_or t g.width 0) is ∙ at_end rows (codes "\n") g.width few;
+          ∙ ap₂ (λ (t : List ℕ) (i : ℕ). get_or t i 0 ∷ []) (sym is) (sym here);
+      end =
+          let here : 0 + g.width ≡ g.width = omega arith in
+          ap₂ (λ (t : List ℕ) (i : ℕ). get_or t i 0) is here ∙ at_end rows (codes "\n") g.width few;
     }
 
-pub of_plain : (names : Names) (g : Grid) (row : ℕ) (text : List ℕ) → IsPlainRow names g row text → text ≡ frame_row names g row
-of_plain names g row text plain =
-    cut_last text g.width 10 plain.long plain.end
+-- a byte of a part of a text
+of_part : (start long : ℕ) (text : List ℕ) (k : ℕ) → k < long → get_or (take long (drop start text)) k 0 ≡ get_or text (start + k) 0
+of_part start long text k low = get_or-take long (drop start text) k 0 low ∙ get_or-drop start text k 0
+
+-- a plain row's part of a text is the row
+pub plain_part : (names : Names) (g : Grid) (row start : ℕ) (text : List ℕ) → IsPlainRow names g row start text → take (g.width + 1) (drop start text) ≡ frame_row names g row
+plain_part names g row start text plain =
+    let part : List ℕ = take (g.width + 1) (drop start text) in
+    let long : length part ≡ g.width + 1 = length-take (g.width + 1) (drop start text) ∙ (rw (length-drop start text) (omega (arith, plain.long))) in
+    cut_last part g.width 10 long (of_part start (g.width + 1) text g.width (omega arith) ∙ plain.end)
     ∙ ap (λ (t : List ℕ). t ++ codes "\n")
-    (sym (from_each (column_bytes names g row) 0 g.width text (omega (arith, plain.long)) (λ k low. let here : 0 + k ≡ k = omega arith in ap (column_bytes names g row) here ∙ plain.each k low)))
+    (sym (from_each (column_bytes names g row) 0 g.width part (omega (arith, long)) (λ k low.
+    let here : 0 + k ≡ k = omega arith in
+    ap (column_bytes names g row) here ∙ plain.each k low ∙ ap (λ (b : ℕ). b ∷ []) (sym (of_part start (g.width + 1) text k (omega (arith, low)))))))
+
+-- so a text that is no more than a plain row is the row
+pub of_plain : (names : Names) (g : Grid) (row : ℕ) (text : List ℕ) → length text ≡ g.width + 1 → IsPlainRow names g row 0 text → text ≡ frame_row names g row
+of_plain names g row text long plain = sym (take_all (g.width + 1) text (omega (arith, long))) ∙ plain_part names g row 0 text plain
 
 -- a plain row of one grid, but for the columns of another that may differ
-pub drawn_but : (names : Names) (g h : Grid) (row : ℕ) (columns : List Bool) (text : List ℕ) → h.width ≡ g.width → h.height ≡ g.height → DifferOnlyIn columns g h row → IsPlainRow names h row text →
-    AreDrawn names g row columns text
-drawn_but names g h row columns text wide high only plain =
+pub drawn_but : (names : Names) (g h : Grid) (row : ℕ) (columns : List Bool) (start : ℕ) (text : List ℕ) → h.width ≡ g.width → h.height ≡ g.height → DifferOnlyIn columns g h row → IsPlainRow names h row start text →
+    AreDrawn names g row columns start text
+drawn_but names g h row columns start text wide high only plain =
     record {
-      long = plain.long ∙ ap (λ (n : ℕ). n + 1) wide;
+      long = omega (arith, plain.long, wide);
       each = λ x under none.
           same_character names g h (x * g.height + row) (x * g.height + row) (only x under none)
           ∙ ap (λ (n : ℕ). encode_utf8 (shown_character names (cell_at h (x * n + row)))) (sym high)
           ∙ plain.each x (rw wide under);
-      end = ap (λ (n : ℕ). get_or text n 0) (sym wide) ∙ plain.end;
+      end = ap (λ (n : ℕ). get_or text (start + n) 0) (sym wide) ∙ plain.end;
+    }
+
+-- a plain row of one grid is one of another that shows the same there
+pub same_plain : (names : Names) (g h : Grid) (row start : ℕ) (text : List ℕ) → h.width ≡ g.width → h.height ≡ g.height → HaveSameRow g h row → IsPlainRow names h row start text →
+    IsPlainRow names g row start text
+same_plain names g h row start text wide high same plain =
+    let drawn : AreDrawn names g row [] start text = drawn_but names g h row [] start text wide high (λ x under none. same x under) plain in
+    record {
+      long = drawn.long;
+      each = λ x under. drawn.each x under refl;
+      end = drawn.end;
     }
 
 -- columns of the board's width alone
@@ -143,11 +169,36 @@ within_below width x low has =
     let under : nat_lt x width ≡ true = sym (column_at-where (λ y. nat_lt y width) x low) ∙ has in
     grind (arith, nat_tests)
 
-pub none_drawn : (names : Names) (g : Grid) (row : ℕ) (columns : List Bool) (text : List ℕ) → g.width ≤ SIDE_LIMIT → columns ≡ columns_below g.width → length text ≡ g.width + 1 →
-    get_or text g.width 0 ≡ 10 → AreDrawn names g row columns text
-none_drawn names g row columns text narrow all long end =
+pub none_drawn : (names : Names) (g : Grid) (row : ℕ) (columns : List Bool) (start : ℕ) (text : List ℕ) → g.width ≤ SIDE_LIMIT → columns ≡ columns_below g.width →
+    start + g.width < length text → get_or text (start + g.width) 0 ≡ 10 → AreDrawn names g row columns start text
+none_drawn names g row columns start text narrow all long end =
     record {
       long = long;
       each = λ x under none. absurd (none_outside g.width columns narrow all x under none);
       end = end;
     }
+
+-- where no column is left, the row is plain
+pub all_drawn : (names : Names) (g : Grid) (row : ℕ) (columns : List Bool) (start : ℕ) (text : List ℕ) → g.width ≤ SIDE_LIMIT → set_columns columns ≡ [] →
+    AreDrawn names g row columns start text → IsPlainRow names g row start text
+all_drawn names g row columns start text narrow none drawn =
+    record {
+      long = drawn.long;
+      each = λ x under. drawn.each x under (none_in columns x none (omega (arith, under, narrow)));
+      end = drawn.end;
+    }
+
+-- a row of blanks ends with its line feed
+pub blank_long : (width : ℕ) → length (replicate width 32 ++ codes "\n") ≡ width + 1
+blank_long width = length-append (replicate width 32) (codes "\n") ∙ ap (λ (n : ℕ). n + 1) (length-replicate width 32)
+
+pub blank_end : (width : ℕ) → get_or (replicate width 32 ++ codes "\n") width 0 ≡ 10
+blank_end width = at_end (replicate width 32) (codes "\n") width (length-replicate width 32)
+
+-- and none of its columns is drawn
+pub blank_drawn : (names : Names) (g : Grid) (row : ℕ) (columns : List Bool) (text : List ℕ) → g.width ≤ SIDE_LIMIT → columns ≡ columns_below g.width →
+    text ≡ replicate g.width 32 ++ codes "\n" → AreDrawn names g row columns 0 text
+blank_drawn names g row columns text narrow all is =
+    let long : length text ≡ g.width + 1 = ap (λ (t : List ℕ). length t) is ∙ blank_long g.width in
+    let here : 0 + g.width ≡ g.width = omega arith in
+    none_drawn names g row columns 0 text narrow all (omega (arith, long)) (ap₂ (λ (t : List ℕ) (i : ℕ). get_or t i 0) is here ∙ blank_end g.width)

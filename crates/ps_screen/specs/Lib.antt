@@ -1,2 +1,4 @@
+pub mod FrameTexts
 pub mod KeptRows
+pub mod PlainFrames
 pub mod PlainRows

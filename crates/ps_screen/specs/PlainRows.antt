@@ -1,5 +1,6 @@
--- Plain rows of a frame: those whose characters are all of one byte, so that byte x of the text is the one of column x.
-use Rattle.std.specs.Prelude.{◌≡◌, ◌<◌, ◌+◌, ◌*◌, ℕ, Bool, false, List, [], ◌∷◌, length, encode_utf8, slice_index}
+-- Plain rows of a frame: those whose characters are all of one byte, so that byte x of the row is the one of column x.
+-- Such a row may stand anywhere in a text.
+use Rattle.std.specs.Prelude.{◌≡◌, ◌<◌, ◌≤◌, ◌+◌, ◌*◌, ◌⊎◌, ℕ, Bool, false, List, [], ◌∷◌, length, encode_utf8, slice_index}
 use Rattle.ps_model.specs.board.Grid.{Grid, cell_at}
 use Rattle.ps_model.specs.names.Names.{Names}
 use Rattle.ps_model.specs.session.Frames.{shown_character}
@@ -9,14 +10,18 @@ use Rattle.ps_board.specs.ColumnSets.{column_at}
 abbrev pub column_bytes : Names → Grid → ℕ → ℕ → List ℕ
 column_bytes names g row x = encode_utf8 (shown_character names (cell_at g (x * g.height + row)))
 
--- the text has a byte for each column, which is its character, and a line feed
-pub record IsPlainRow (names : Names) (g : Grid) (row : ℕ) (text : List ℕ) : Type 0 where
-  pub long : length text ≡ g.width + 1
-  pub each : (x : ℕ) → x < g.width → column_bytes names g row x ≡ slice_index text x ∷ []
-  pub end : slice_index text g.width ≡ 10
+-- a place of a text before a row's first column or behind its last one, where the row begins at `start`
+abbrev pub IsOutside : ℕ → ℕ → ℕ → Type 0
+IsOutside start width at = (at < start) ⊎ (start + width ≤ at)
 
--- the text is as long as a plain row, and has such a byte for each column that isn't in a set
-pub record AreDrawn (names : Names) (g : Grid) (row : ℕ) (columns : List Bool) (text : List ℕ) : Type 0 where
-  pub long : length text ≡ g.width + 1
-  pub each : (x : ℕ) → x < g.width → column_at columns x ≡ false → column_bytes names g row x ≡ slice_index text x ∷ []
-  pub end : slice_index text g.width ≡ 10
+-- from a place on, the text has a byte for each column, which is its character, and a line feed
+pub record IsPlainRow (names : Names) (g : Grid) (row start : ℕ) (text : List ℕ) : Type 0 where
+  pub long : start + g.width < length text
+  pub each : (x : ℕ) → x < g.width → column_bytes names g row x ≡ slice_index text (start + x) ∷ []
+  pub end : slice_index text (start + g.width) ≡ 10
+
+-- from a place on, the text has room for a plain row, and such a byte for each column that isn't in a set
+pub record AreDrawn (names : Names) (g : Grid) (row : ℕ) (columns : List Bool) (start : ℕ) (text : List ℕ) : Type 0 where
+  pub long : start + g.width < length text
+  pub each : (x : ℕ) → x < g.width → column_at columns x ≡ false → column_bytes names g row x ≡ slice_index text (start + x) ∷ []
+  pub end : slice_index text (start + g.width) ≡ 10

@@ -4,10 +4,12 @@
 #![tactic(auto)]
 
 mod cells;
+mod frame_texts;
 mod glyphs;
 mod meanings;
 mod patching;
 mod picture;
+mod plain_frames;
 mod rows;
 mod screen;
 

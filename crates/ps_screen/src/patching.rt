@@ -1,18 +1,33 @@
 //! Plain rows of a frame, patched: where each character is of one byte, byte `x` of a row is the character of column
-//! `x`, and the columns that differ are written in place.
+//! `x`, and the columns that differ are written in place. A row may stand anywhere in a text.
 
-ghost use Rattle.std.specs.Prelude.{◌≡◌, ◌+◌, ◌<◌, ◌∷◌, [], IfOk, IfSome, ℕ, encode_utf8, false, length};
-ghost use Rattle.std.specs.Prelude.{slice_index, true};
+ghost use Rattle.std.specs.Prelude.{◌≡◌, ◌≢◌, ◌+◌, ◌<◌, ◌∷◌, [], ◌++◌, IfOk, IfSome, OnOk, ℕ, codes, encode_utf8};
+ghost use Rattle.std.specs.Prelude.{length, replicate, slice_index, true};
 ghost use Rattle.ps_model.specs.board.Levels.{background_layer};
 ghost use Rattle.ps_model.specs.declared.limits.TheConstants.{SIDE_LIMIT};
 ghost use Rattle.ps_board.specs.ColumnSets.{column_at};
-ghost use Rattle.ps_screen.specs.PlainRows.{AreDrawn, IsPlainRow};
+ghost use Rattle.ps_board.specs.Rows.{AreAlike};
+ghost use Rattle.ps_screen.specs.PlainRows.{AreDrawn, IsOutside, IsPlainRow};
 
 use crate::cells::{Room, cell_character};
 use crate::screen::Screen;
 use ps_board::{Board, Columns};
 use ps_model::{LayerId, Memory};
 use ps_names::Names;
+
+/// Adds a row of so many blanks, and a line feed.
+///
+/// # Errors
+///
+/// `Memory`, and some of them may have been added.
+pub fn add_blank_row(text: &mut Screen, width: u32) -> Result<(), Memory>
+    ensures { OnOk result (text.new ≡ text.old ++ (replicate width 32 ++ codes "\n")) }
+{
+    for _column in 0..width {
+        text.add(b" ")?;
+    }
+    text.add(b"\n")
+}
 
 /// The byte of a character of one byte.
 fn one_byte(character: char) -> Option<u8>
@@ -25,25 +40,39 @@ fn one_byte(character: char) -> Option<u8>
     Some(code as u8)
 }
 
-/// Writes a byte at each of these columns.
-fn put_columns(text: &mut Screen, columns: Columns, byte: u8)
-    requires { (x : ℕ) → x < SIDE_LIMIT → column_at columns x ≡ true → x < length text.old }
+/// Writes a byte at each of these columns of the row that begins at byte `start`.
+fn put_columns(text: &mut Screen, start: u32, columns: Columns, byte: u8)
+    requires { (x : ℕ) → x < SIDE_LIMIT → column_at columns x ≡ true → start + x < length text.old }
     ensures long { length text.new ≡ length text.old }
-    ensures there { (x : ℕ) → x < SIDE_LIMIT → column_at columns x ≡ true → slice_index text.new x ≡ byte }
-    ensures elsewhere { (x : ℕ) → column_at columns x ≡ false → slice_index text.new x ≡ slice_index text.old x }
+    ensures there { (x : ℕ) → x < SIDE_LIMIT → column_at columns x ≡ true
+        → slice_index text.new (start + x) ≡ byte }
+    ensures elsewhere { (at : ℕ) → ((x : ℕ) → x < SIDE_LIMIT → column_at columns x ≡ true → at ≢ start + x)
+        → slice_index text.new at ≡ slice_index text.old at }
 {
     let mut left = columns;
     while let Some(column) = left.take_first() {
-        text.put(column as usize, byte);
+        text.put(start as usize + column as usize, byte);
     }
 }
 
-/// Draws the columns of a set of a plain row anew, and answers whether each of them has a character of one byte. Where
-/// not, the text is of no use. Cells with the same objects are looked up once.
+/// Columns of a row that show the same as one of them, where others are left; none, where there is no other.
+fn others_alike<B: Board>(board: &B, row: u32, column: u32, left: Columns) -> Columns
+    requires row { row < (B.grid board.now).height }
+    requires column { column < (B.grid board.now).width }
+    ensures { AreAlike result (B.grid board.now) row column }
+{
+    if left.is_empty() {
+        return Columns::none();
+    }
+    board.alike(row, column)
+}
+
+/// Draws the columns of a set of a plain row anew, which begins at byte `start`, and answers whether each of them has
+/// a character of one byte. Where not, the row is of no use. Cells with the same objects are looked up once.
 ///
 /// # Errors
 ///
-/// `Memory`, and the text is of no use.
+/// `Memory`, and the row is of no use.
 pub fn patch_columns<B: Board>(
     names: &Names,
     ground: LayerId,
@@ -51,13 +80,18 @@ pub fn patch_columns<B: Board>(
     row: u32,
     room: &mut Room,
     columns: Columns,
+    start: u32,
     text: &mut Screen,
 ) -> Result<bool, Memory>
     requires ground { ground.0 ≡ background_layer names.now }
     requires row { row < (B.grid board.now).height }
     requires within { (x : ℕ) → x < SIDE_LIMIT → column_at columns x ≡ true → x < (B.grid board.now).width }
-    requires drawn { AreDrawn names.now (B.grid board.now) row columns text.old }
-    ensures { IfOk result (λ plain. plain ≡ true → IsPlainRow names.now (B.grid board.now) row text.new) }
+    requires drawn { AreDrawn names.now (B.grid board.now) row columns start text.old }
+    ensures long { length text.new ≡ length text.old }
+    ensures plain { IfOk result (λ plain. plain ≡ true
+        → IsPlainRow names.now (B.grid board.now) row start text.new) }
+    ensures elsewhere { (at : ℕ) → IsOutside start (B.grid board.now).width at
+        → slice_index text.new at ≡ slice_index text.old at }
 {
     let (_width, height) = board.size();
     let mut left = columns;
@@ -66,9 +100,11 @@ pub fn patch_columns<B: Board>(
         let Some(byte) = one_byte(character) else {
             return Ok(false);
         };
-        let group = left.both(board.alike(row, column)).with(column, true);
+        let group = left
+            .both(others_alike(board, row, column, left))
+            .with(column, true);
         left = left.without(group);
-        put_columns(text, group, byte);
+        put_columns(text, start, group, byte);
     }
     Ok(true)
 }

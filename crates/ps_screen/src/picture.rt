@@ -1,13 +1,13 @@
 //! Frames, asked of a picture.
 
-ghost use Rattle.std.specs.Prelude.{◌≡◌, ◌++◌, ◌≤◌, IfOk, IfSome, OnOk, OnErr, vec_len};
+ghost use Rattle.std.specs.Prelude.{◌≡◌, ◌++◌, IfOk, IfSome, OnOk, OnErr};
 ghost use Rattle.ps_model.specs.board.Levels.{background_layer};
 ghost use Rattle.ps_model.specs.session.Frames.{frame};
-ghost use Rattle.ps_screen.specs.KeptRows.{AreRowsOf};
+ghost use Rattle.ps_screen.specs.FrameTexts.{IsTextOf};
 
 use crate::cells::Room;
+use crate::frame_texts::{FrameText, add_text, draw_text, patch_text};
 use crate::meanings::ground_layer;
-use crate::rows::{draw_rows, patch_rows};
 use crate::screen::Screen;
 use ps_board::Board;
 use ps_model::{LayerId, Memory};
@@ -15,30 +15,36 @@ use ps_names::Names;
 use std::alloc::Global;
 use std::marker::Model;
 
-/// The frames of a game: what they need of its names, made ready once, the rows of the last frame, and a board that
-/// shows what that frame does, if there was one and the rows are those of its frame. Contracts see the names.
+/// A frame that was shown: its text, and a board with the same frame.
+#[derive(Drop)]
+struct LastFrame<B: Board> {
+    text: FrameText,
+    board: B,
+}
+
+/// The frames of a game: what they need of its names, made ready once, and the last frame, if there was one. Contracts
+/// see the names.
 #[derive(Drop)]
 pub struct Picture<'g, B: Board> {
     alloc: Global,
     names: &'g Names,
     ground: LayerId,
     room: Room,
-    rows: Vec<Screen>,
-    shown: Option<B>,
+    last: Option<LastFrame<B>>,
 }
 
 impl<'g, B: Board> Model for Picture<'g, B> {
     ghost use Rattle.std.specs.Prelude.{◌≡◌, IfSome};
     ghost use Rattle.ps_model.specs.names.Names.{Names as Meant};
     ghost use Rattle.ps_model.specs.board.Levels.{background_layer};
-    ghost use Rattle.ps_screen.specs.KeptRows.{AreRowsOf};
+    ghost use Rattle.ps_screen.specs.FrameTexts.{IsTextOf};
 
     ghost Value = { Meant };
 
     ghost view = { λ p. p.names.now };
 
     ghost invariant = { λ p. (p.ground.0 ≡ background_layer p.names.now)
-        × IfSome p.shown (λ board. AreRowsOf p.names.now (B.grid board) p.rows.items) };
+        × IfSome p.last (λ last. IsTextOf p.names.now (B.grid last.board) last.text) };
 }
 
 impl<'g, B: Board> Picture<'g, B> {
@@ -51,8 +57,7 @@ impl<'g, B: Board> Picture<'g, B> {
             names,
             ground: ground_layer(names),
             room: Room::new(alloc),
-            rows: Vec::new(alloc),
-            shown: None,
+            last: None,
         }
     }
 
@@ -66,73 +71,76 @@ impl<'g, B: Board> Picture<'g, B> {
         ensures shown { OnOk result (screen.new ≡ screen.old ++ frame self.old (B.grid board.now)) }
         ensures kept { OnErr result (screen.new ≡ screen.old) }
     {
-        let (_, height) = board.size();
-        let shown = redraw(
+        let last = redraw(
             self.alloc,
             self.names,
             self.ground,
-            self.shown.take(),
+            self.last.take(),
             board,
             &mut self.room,
-            &mut self.rows,
         )?;
-        self.shown = Some(shown);
-        screen.add_frame(&self.rows[..height as usize])
+        let added = add_text(self.names, board, &last.text, screen);
+        self.last = Some(last);
+        added
     }
 }
 
-/// Makes these texts the rows of a board's frame, and gives a board with the same frame. If they were the rows of
-/// another board alike, takes over what shows the same, and gives that board, which has what changed then.
+/// The text of a board's frame, and a board with the same frame. If a text of another board alike was kept, takes over
+/// what shows the same, and gives that board, which has what changed then.
 ///
 /// # Errors
 ///
-/// `Memory`, and some of the texts may have been made.
+/// `Memory`.
 fn redraw<B: Board>(
     alloc: Global,
     names: &Names,
     ground: LayerId,
-    shown: Option<B>,
+    last: Option<LastFrame<B>>,
     board: &B,
     room: &mut Room,
-    texts: &mut Vec<Screen>,
-) -> Result<B, Memory>
+) -> Result<LastFrame<B>, Memory>
     requires ground { ground.0 ≡ background_layer names.now }
-    requires texts { IfSome shown (λ before. AreRowsOf names.now (B.grid before) texts.old.items) }
-    ensures texts { OnOk result (AreRowsOf names.now (B.grid board.now) texts.new.items) }
-    ensures kept { IfOk result (λ same. AreRowsOf names.now (B.grid same) texts.new.items) }
+    requires last { IfSome last (λ last. IsTextOf names.now (B.grid last.board) last.text) }
+    ensures text { IfOk result (λ last. IsTextOf names.now (B.grid board.now) last.text) }
+    ensures kept { IfOk result (λ last. IsTextOf names.now (B.grid last.board) last.text) }
 {
-    if let Some(mut before) = shown {
-        if board.is_alike(&before) {
-            let rows = board.rows_differing(&before);
-            patch_rows(
-                names,
-                ground,
-                &before,
-                board,
-                rows,
-                room,
-                texts.as_mut_slice(),
-            )?;
-            board.copy_rows(&mut before, rows);
-            return Ok(before);
-        }
+    let Some(last) = last else {
+        return draw(alloc, names, ground, None, board, room);
+    };
+    let LastFrame {
+        text,
+        board: mut before,
+    } = last;
+    if !board.is_alike(&before) {
+        return draw(alloc, names, ground, Some(text), board, room);
     }
-    let (_, height) = board.size();
-    make_room(alloc, height as usize, texts)?;
-    draw_rows(names, ground, board, room, texts.as_mut_slice())?;
-    board.try_copy(alloc)
+    let rows = board.rows_differing(&before);
+    let text = patch_text(alloc, names, ground, &before, board, rows, room, text)?;
+    board.copy_rows(&mut before, rows);
+    Ok(LastFrame {
+        text,
+        board: before,
+    })
 }
 
-/// Adds texts without bytes, until there are so many texts or more.
+/// The text of a board's frame, made anew, and a copy of the board. A text that was kept whole gives its room.
 ///
 /// # Errors
 ///
-/// `Memory`, and some of the texts may have been added.
-fn make_room(alloc: Global, count: usize, texts: &mut Vec<Screen>) -> Result<(), Memory>
-    ensures { OnOk result (count ≤ vec_len texts.new) }
+/// `Memory`.
+fn draw<B: Board>(
+    alloc: Global,
+    names: &Names,
+    ground: LayerId,
+    kept: Option<FrameText>,
+    board: &B,
+    room: &mut Room,
+) -> Result<LastFrame<B>, Memory>
+    requires { ground.0 ≡ background_layer names.now }
+    ensures text { IfOk result (λ last. IsTextOf names.now (B.grid board.now) last.text) }
+    ensures kept { IfOk result (λ last. IsTextOf names.now (B.grid last.board) last.text) }
 {
-    for _text in texts.len()..count {
-        texts.push(Screen::new(alloc))?;
-    }
-    Ok(())
+    let text = draw_text(alloc, names, ground, board, room, kept)?;
+    let board = board.try_copy(alloc)?;
+    Ok(LastFrame { text, board })
 }

@@ -1,40 +1,42 @@
 //! The rows of a frame, each a text of its own.
 
-ghost use Rattle.std.specs.Prelude.{◌≡◌, ◌++◌, ◌+◌, ◌<◌, ◌≤◌, OnOk, length, slice_index};
+ghost use Rattle.std.specs.Prelude.{◌≡◌, ◌++◌, ◌<◌, IfOk, OnOk};
 ghost use Rattle.ps_model.specs.board.Levels.{background_layer};
 ghost use Rattle.ps_model.specs.session.Frames.{frame_row};
 ghost use Rattle.ps_board.specs.Rows.{DifferOnlyOn};
 ghost use Rattle.ps_screen.specs.KeptRows.{AreRowsOf};
 
 use crate::cells::{Room, cell_character};
-use crate::patching::patch_columns;
+use crate::patching::{add_blank_row, patch_columns};
 use crate::screen::Screen;
 use ps_board::{Board, Columns};
 use ps_model::{LayerId, Memory};
 use ps_names::Names;
+use std::alloc::Global;
 
-/// Makes these texts the rows of a board's frame.
+/// The rows of a board's frame, from the top.
 ///
 /// # Errors
 ///
-/// `Memory`, and some of the texts may have been made.
+/// `Memory`.
 pub fn draw_rows<B: Board>(
+    alloc: Global,
     names: &Names,
     ground: LayerId,
     board: &B,
     room: &mut Room,
-    texts: &mut [Screen],
-) -> Result<(), Memory>
-    requires ground { ground.0 ≡ background_layer names.now }
-    requires long { (B.grid board.now).height ≤ length texts.old }
-    ensures { OnOk result (AreRowsOf names.now (B.grid board.now) texts.new) }
+) -> Result<Vec<Screen>, Memory>
+    requires { ground.0 ≡ background_layer names.now }
+    ensures { IfOk result (λ texts. AreRowsOf names.now (B.grid board.now) texts.items) }
 {
     let (_, height) = board.size();
+    let mut texts = Vec::new(alloc);
     for row in 0..height {
-        let text = &mut texts[row as usize];
-        draw_row(names, ground, board, row, room, text)?;
+        let mut text = Screen::new(alloc);
+        draw_row(names, ground, board, row, room, &mut text)?;
+        texts.push(text)?;
     }
-    Ok(())
+    Ok(texts)
 }
 
 /// Makes these texts, the rows of the frame of one board, those of another board alike, which shows the same objects
@@ -102,7 +104,7 @@ fn patch_row<B: Board>(
     if text.bytes().len() != width as usize + 1 {
         return draw_row(names, ground, board, row, room, text);
     }
-    let plain = patch_columns(names, ground, board, row, room, differing, text)?;
+    let plain = patch_columns(names, ground, board, row, room, differing, 0, text)?;
     if plain {
         return Ok(());
     }
@@ -123,26 +125,15 @@ fn draw_row<B: Board>(
     ensures { OnOk result (text.new ≡ frame_row names.now (B.grid board.now) row) }
 {
     let (width, _height) = board.size();
-    make_blank(text, width)?;
+    text.clear();
+    add_blank_row(text, width)?;
     let columns = Columns::below(width);
-    let plain = patch_columns(names, ground, board, row, room, columns, text)?;
+    let plain = patch_columns(names, ground, board, row, room, columns, 0, text)?;
     if plain {
         return Ok(());
     }
     text.clear();
     add_row(names, ground, board, row, room, text)
-}
-
-/// Makes a text so many blanks and a line feed.
-fn make_blank(text: &mut Screen, width: u32) -> Result<(), Memory>
-    ensures long { OnOk result (length text.new ≡ width + 1) }
-    ensures end { OnOk result (slice_index text.new width ≡ 10) }
-{
-    text.clear();
-    for _column in 0..width {
-        text.add(b" ")?;
-    }
-    text.add(b"\n")
 }
 
 /// Adds a row of a frame.

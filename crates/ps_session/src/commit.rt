@@ -16,7 +16,7 @@ use crate::past_boards::PastBoard;
 use circular_buffer::HeapCircularBuffer;
 use ps_board::Board;
 use ps_model::Ending;
-use ps_stage::{Past, Pending, Place, PlayedLevel};
+use ps_stage::{Past, Pending, Place, PlayedLevel, Stage};
 use std::mem;
 
 /// A level in which a message waits, or none.
@@ -43,48 +43,96 @@ fn stood<B: Board>(place: Place<PlayedLevel<B>>, pending: Option<Pending>) -> Pl
     }
 }
 
-/// The board of a level enters the history. Of a full one the oldest board goes.
-fn remember<B: Board>(history: &mut HeapCircularBuffer<PastBoard<B>>, level: PlayedLevel<B>)
+/// The board of an entry that has left the history, if one has, is there to be used again.
+fn reuse<B: Board>(stage: &mut Stage<'_, B>, past: Option<PastBoard<B>>)
+    ensures { stage.new ≡ stage.old }
+{
+    if let Some(past) = past {
+        stage.keep_board(past.into_board());
+    }
+}
+
+/// The boards of a place that nobody is at any more are there to be used again.
+fn give_back<B: Board>(stage: &mut Stage<'_, B>, place: Place<PlayedLevel<B>>)
+    ensures { stage.new ≡ stage.old }
+{
+    match place {
+        Place::Playing(level) => stage.keep_level(level),
+        Place::Waiting(level, _) => stage.keep_level(level),
+        Place::AtMessage(_) => {}
+        Place::Ended(_) => {}
+    }
+}
+
+/// The boards of what was to come next and doesn't, as memory was wanting, are there to be used again; but for those of
+/// another level, in the place of which boards of this one may be kept.
+pub fn give_up<B: Board>(stage: &mut Stage<'_, B>, next: Next<PlayedLevel<B>>)
+    ensures { stage.new ≡ stage.old }
+{
+    match next {
+        Next::Stands(_) => {}
+        Next::Undoes(level) => stage.keep_level(level),
+        Next::Goes(_, Past::Forgets) => {}
+        Next::Goes(place, _) => give_back(stage, place),
+    }
+}
+
+/// The board of a level enters the history. Of a full one the oldest board goes, to be used again.
+fn remember<B: Board>(
+    stage: &mut Stage<'_, B>,
+    history: &mut HeapCircularBuffer<PastBoard<B>>,
+    level: PlayedLevel<B>,
+)
     requires limit { history.old.capacity ≡ HISTORY_LIMIT }
+    ensures stage { stage.new ≡ stage.old }
     ensures limit { history.new.capacity ≡ HISTORY_LIMIT }
     ensures shown { grids_of history.new.items ≡ kept (grids_of history.old.items ++ level.board ∷ []) }
     ensures boards { (table : Option (List ℕ)) → AreOnTable table history.old.items → level.table ≡ table
         → AreOnTable table history.new.items }
 {
-    let _ = history.push_back(PastBoard::of(level));
+    let board = stage.board_of(level);
+    let oldest = history.push_back(PastBoard::of(board));
+    reuse(stage, oldest);
 }
 
-/// The history behind a place that is left.
+/// The history behind a place that is left. Boards that don't enter it are there to be used again.
 fn leave<B: Board>(
+    stage: &mut Stage<'_, B>,
     history: &mut HeapCircularBuffer<PastBoard<B>>,
     place: Place<PlayedLevel<B>>,
     past: Past,
 )
     requires limit { history.old.capacity ≡ HISTORY_LIMIT }
+    ensures stage { stage.new ≡ stage.old }
     ensures limit { history.new.capacity ≡ HISTORY_LIMIT }
     ensures shown { grids_of history.new.items ≡ past_at past (grids_of history.old.items) place }
     ensures boards { (table : Option (List ℕ)) → AreOnTable table history.old.items → IsOnTable table place
         → AreOnTable table history.new.items }
 {
     match past {
-        Past::Keeps => {}
-        Past::Forgets => history.clear(),
+        Past::Keeps => give_back(stage, place),
+        Past::Forgets => {
+            history.clear();
+            give_back(stage, place);
+        }
         Past::Remembers => match place {
-            Place::Playing(level) => remember(history, level),
-            Place::Waiting(level, _) => remember(history, level),
+            Place::Playing(level) => remember(stage, history, level),
+            Place::Waiting(level, _) => remember(stage, history, level),
             Place::AtMessage(_) => {}
             Place::Ended(_) => {}
         },
     }
 }
 
-/// What comes next becomes the place and the history.
+/// What comes next becomes the place and the history. Boards that are in neither are there to be used again.
 pub fn commit<B: Board>(
+    stage: &mut Stage<'_, B>,
     place: &mut Place<PlayedLevel<B>>,
     history: &mut HeapCircularBuffer<PastBoard<B>>,
     next: Next<PlayedLevel<B>>,
 )
     requires limit { history.old.capacity ≡ HISTORY_LIMIT }
+    ensures stage { stage.new ≡ stage.old }
     ensures limit { history.new.capacity ≡ HISTORY_LIMIT }
     ensures shown { place_shown (grids_of history.new.items) place.new
         ≡ next_shown (grids_of history.old.items) place.old next }
@@ -99,12 +147,14 @@ pub fn commit<B: Board>(
             *place = stood(before, pending);
         }
         Next::Undoes(level) => {
-            let _ = history.pop_back();
-            *place = Place::Playing(level);
+            let latest = history.pop_back();
+            reuse(stage, latest);
+            let before = mem::replace(place, Place::Playing(level));
+            give_back(stage, before);
         }
         Next::Goes(next, past) => {
             let before = mem::replace(place, next);
-            leave(history, before, past);
+            leave(stage, history, before, past);
         }
     }
 }

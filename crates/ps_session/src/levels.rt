@@ -22,7 +22,6 @@ use ps_board::Board;
 use ps_model::{Ending, Input, Key, Memory};
 use ps_stage::{Past, Place, PlayedLevel, Stage};
 use ps_turn::{Programs, Rules};
-use std::alloc::Global;
 
 /// The end that a player asks for.
 ///
@@ -73,7 +72,6 @@ fn moves<B: Board, R: Rules<B>>(
 ///
 /// `Memory`.
 fn undoes<B: Board>(
-    alloc: Global,
     stage: &mut Stage<'_, B>,
     level: &PlayedLevel<B>,
     history: &HeapCircularBuffer<PastBoard<B>>,
@@ -91,8 +89,8 @@ fn undoes<B: Board>(
         stage.show(level.board())?;
         return Ok(Next::Stands(None));
     };
-    let back = level.with_board(alloc, latest.board())?;
-    stage.show(back.board())?;
+    stage.show(latest.board())?;
+    let back = stage.level_at(level, latest.board())?;
     Ok(Next::Undoes(back))
 }
 
@@ -127,7 +125,6 @@ fn restarts<B: Board, R: Rules<B>>(
 ///
 /// `Memory`, and the level is as before.
 pub fn key_in_level<B: Board, R: Rules<B>>(
-    alloc: Global,
     stage: &mut Stage<'_, B>,
     rules: &mut Programs<R>,
     level: &mut PlayedLevel<B>,
@@ -157,7 +154,7 @@ pub fn key_in_level<B: Board, R: Rules<B>>(
             Ok(Some(next))
         }
         Key::Undo => {
-            let next = undoes(alloc, stage, level, history)?;
+            let next = undoes(stage, level, history)?;
             Ok(Some(next))
         }
         Key::Restart => {

@@ -3,7 +3,6 @@
 ghost use Rattle.std.specs.Prelude.{◌≡◌};
 
 use ps_board::Board;
-use ps_stage::PlayedLevel;
 use std::marker::Model;
 
 /// An entry of the undo history: the board that a level had before a key changed it.
@@ -21,14 +20,12 @@ impl<B: Board> Model for PastBoard<B> {
 }
 
 impl<B: Board> PastBoard<B> {
-    /// The entry of a level that is left.
-    pub fn of(level: PlayedLevel<B>) -> PastBoard<B>
-        ensures grid { result.grid ≡ level.board }
-        ensures table { result.table ≡ level.table }
+    /// The entry of a level that is left, which had this board.
+    pub fn of(board: B) -> PastBoard<B>
+        ensures grid { result.grid ≡ B.grid board }
+        ensures table { result.table ≡ B.table board }
     {
-        PastBoard {
-            board: level.into_board(),
-        }
+        PastBoard { board }
     }
 
     /// The board that undo goes back to.
@@ -37,5 +34,13 @@ impl<B: Board> PastBoard<B> {
         ensures table { B.table result.now ≡ self.now.table }
     {
         &self.board
+    }
+
+    /// Its board.
+    pub fn into_board(self) -> B
+        ensures grid { B.grid result ≡ self.grid }
+        ensures table { B.table result ≡ self.table }
+    {
+        self.board
     }
 }

@@ -18,7 +18,6 @@ use ps_board::Board;
 use ps_model::{Key, Memory};
 use ps_stage::{Place, PlayedLevel, Stage};
 use ps_turn::{Programs, Rules};
-use std::alloc::Global;
 
 /// What a key does; nothing, where it is ignored. The place stays as it is.
 ///
@@ -26,7 +25,6 @@ use std::alloc::Global;
 ///
 /// `Memory`, and the place is as before.
 pub fn next_at<B: Board, R: Rules<B>>(
-    alloc: Global,
     stage: &mut Stage<'_, B>,
     rules: &mut Programs<R>,
     place: &mut Place<PlayedLevel<B>>,
@@ -49,7 +47,7 @@ pub fn next_at<B: Board, R: Rules<B>>(
         ≡ true → result ≡ Ok None }
 {
     match place {
-        Place::Playing(level) => key_in_level(alloc, stage, rules, level, history, key),
+        Place::Playing(level) => key_in_level(stage, rules, level, history, key),
         Place::Waiting(level, pending) => key_at_level_message(stage, rules, level, *pending, key),
         Place::AtMessage(entry) => key_at_entry(stage, rules, entry, key),
         Place::Ended(_) => Ok(None),

@@ -7,7 +7,7 @@ ghost use Rattle.ps_stage.specs.Standings.{script_for};
 ghost use Rattle.ps_session.specs.IgnoredKeys.{is_ignored};
 ghost use Rattle.ps_session.specs.Phases.{phase_of};
 
-use crate::commit::commit;
+use crate::commit::{commit, give_up};
 use crate::past_boards::PastBoard;
 use crate::phase::Phase;
 use crate::places::next_at;
@@ -23,7 +23,6 @@ use std::marker::Model;
 /// Where a player is in a game: in a level with the boards that undo goes back to, at a message, or at the end.
 #[derive(Drop)]
 pub struct Session<'g, B: Board> {
-    alloc: Global,
     stage: Stage<'g, B>,
     place: Place<PlayedLevel<B>>,
     history: HeapCircularBuffer<PastBoard<B>>,
@@ -75,7 +74,6 @@ impl<'g, B: Board> Session<'g, B> {
         let place = stage.enter(rules, 0)?;
         screen.add(stage.text())?;
         Ok(Session {
-            alloc,
             stage,
             place,
             history,
@@ -109,19 +107,15 @@ impl<'g, B: Board> Session<'g, B> {
         ensures late { R.meant rules.new.late ≡ R.meant rules.old.late }
     {
         self.stage.forget_text();
-        let next = next_at(
-            self.alloc,
-            &mut self.stage,
-            rules,
-            &mut self.place,
-            &self.history,
-            key,
-        )?;
+        let next = next_at(&mut self.stage, rules, &mut self.place, &self.history, key)?;
         let Some(next) = next else {
             return Ok(self.phase());
         };
-        screen.add(self.stage.text())?;
-        commit(&mut self.place, &mut self.history, next);
+        if let Err(Memory) = screen.add(self.stage.text()) {
+            give_up(&mut self.stage, next);
+            return Err(Memory);
+        }
+        commit(&mut self.stage, &mut self.place, &mut self.history, next);
         Ok(self.phase())
     }
 

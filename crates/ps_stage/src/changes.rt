@@ -74,18 +74,51 @@ impl<'g, B: Board> Stage<'g, B> {
         match end {
             KeyEnd::Stops(pending) => Ok(Change::Goes(placed(level, pending), past)),
             KeyEnd::Won => {
-                let place = self.level_done(rules, &level)?;
-                Ok(Change::Goes(place, Past::Forgets))
+                let place = self.level_done(rules, &level);
+                self.keep_level(level);
+                Ok(Change::Goes(place?, Past::Forgets))
             }
             KeyEnd::Restarts(message) => {
-                let place = self.restart(rules, &level, message)?;
-                Ok(Change::Goes(place, past))
+                let place = self.restart(rules, &level, message);
+                self.keep_level(level);
+                Ok(Change::Goes(place?, past))
+            }
+        }
+    }
+
+    /// Tells of a done turn of a key, of which this level came: its frame and its message; and takes the again turns
+    /// that follow.
+    fn end_key<R: Rules<B>>(
+        &mut self,
+        rules: &mut Programs<R>,
+        level: &mut PlayedLevel<B>,
+        done: &DoneTurn,
+    ) -> Result<KeyEnd, Memory>
+        requires { level.old.table ≡ B.table_for self.old.game.names.layers }
+        ensures game { self.new.game ≡ self.old.game }
+        ensures plain { R.meant rules.new.plain ≡ R.meant rules.old.plain }
+        ensures late { R.meant rules.new.late ≡ R.meant rules.old.late }
+        ensures table { level.new.table ≡ level.old.table }
+        ensures came { IfOk result (λ end. (history : List Grid)
+            → after self.old.text (after (frame self.old.game.names level.old.board)
+            (key_told (script_for B.table_for self.old.game (R.meant rules.old.plain) (R.meant rules.old.late))
+            (play_of history level.old) (done_shown done.now level.old.board) AGAIN_LIMIT
+            (all_key_turns (script_for B.table_for self.old.game (R.meant rules.old.plain) (R.meant rules.old.late)))))
+            ≡ key_end_step (script_for B.table_for self.old.game (R.meant rules.old.plain) (R.meant rules.old.late)) end
+            (play_of history level.new) self.new.text) }
+    {
+        let most = again_limit();
+        match self.tell_key_turn(level, done, most)? {
+            KeyTold::Ends(end) => Ok(end),
+            KeyTold::GoesOn => {
+                let end = self.all_key_turns(rules, level)?;
+                Ok(end)
             }
         }
     }
 
     /// What follows a done turn of a key, of which this level came: its frame, its message, the end of the level or
-    /// again turns.
+    /// again turns. If memory is wanting, the boards of the level are spare.
     fn follow_key<R: Rules<B>>(
         &mut self,
         rules: &mut Programs<R>,
@@ -106,12 +139,11 @@ impl<'g, B: Board> Stage<'g, B> {
             ≡ came (change_shown history first change) self.new.text) }
     {
         let past = past_if(done.changed);
-        let most = again_limit();
-        match self.tell_key_turn(&level, done, most)? {
-            KeyTold::Ends(end) => self.finish_key(rules, level, end, past),
-            KeyTold::GoesOn => {
-                let end = self.all_key_turns(rules, &mut level)?;
-                self.finish_key(rules, level, end, past)
+        match self.end_key(rules, &mut level, done) {
+            Ok(end) => self.finish_key(rules, level, end, past),
+            Err(Memory) => {
+                self.keep_level(level);
+                Err(Memory)
             }
         }
     }
@@ -139,7 +171,7 @@ impl<'g, B: Board> Stage<'g, B> {
             (play_of history level.old) input)
             ≡ came (change_shown history level.old change) self.new.text) }
     {
-        match level.try_turn(self.alloc, &self.game, rules, input)? {
+        match level.try_turn(self.alloc, &mut self.spares, &self.game, rules, input)? {
             Tried::Blocked(message) => {
                 let pending = self.tell_blocked(level, &message)?;
                 Ok(Change::Stays(pending))
@@ -184,12 +216,12 @@ impl<'g, B: Board> Stage<'g, B> {
                 Ok(Change::Goes(place, Past::Forgets))
             }
             Pending::KeyAgain(left) => {
-                let mut next = level.try_copy(self.alloc)?;
+                let mut next = level.try_copy(self.alloc, &mut self.spares)?;
                 let end = self.key_turns(rules, &mut next, left)?;
                 self.finish_key(rules, next, end, Past::Keeps)
             }
             Pending::StartAgain(left) => {
-                let mut next = level.try_copy(self.alloc)?;
+                let mut next = level.try_copy(self.alloc, &mut self.spares)?;
                 let pending = self.start_turns(rules, &mut next, left)?;
                 Ok(Change::Goes(placed(next, pending), Past::Keeps))
             }

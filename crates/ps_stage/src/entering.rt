@@ -91,6 +91,7 @@ impl<'g, B: Board> Stage<'g, B> {
         self.text.add_level(self.alloc, number)?;
         let mut played: PlayedLevel<B> = PlayedLevel::load(
             self.alloc,
+            &mut self.spares,
             self.game.names(),
             entry,
             level,
@@ -184,8 +185,13 @@ impl<'g, B: Board> Stage<'g, B> {
             (play_of history level.now) message)
             ≡ came (place_shown history place) self.new.text) }
     {
-        let mut again = level.restarted(self.alloc)?;
-        let pending = self.start_step(rules, &mut again, message)?;
-        Ok(placed(again, pending))
+        let mut again = level.restarted(self.alloc, &mut self.spares)?;
+        match self.start_step(rules, &mut again, message) {
+            Ok(pending) => Ok(placed(again, pending)),
+            Err(Memory) => {
+                self.keep_level(again);
+                Err(Memory)
+            }
+        }
     }
 }

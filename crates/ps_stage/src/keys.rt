@@ -94,6 +94,7 @@ impl<'g, B: Board> Stage<'g, B> {
     {
         let turned = level.take_turn(
             self.alloc,
+            &mut self.spares,
             &self.game,
             rules,
             None,

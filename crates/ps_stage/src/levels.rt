@@ -13,6 +13,7 @@ ghost use Rattle.ps_stage.specs.StepsShown.{counts, taken};
 use crate::entries::EntryNumber;
 use crate::game::SessionGame;
 use crate::loading::load;
+use crate::spares::SpareBoards;
 use ps_board::Board;
 use ps_levels::Level;
 use ps_model::{Input, Memory};
@@ -115,30 +116,56 @@ fn run_turn<B: Board, R: Rules<B>>(
     Ok(turned)
 }
 
-/// A board that shows what another one does: the spare one, or else a copy.
+/// A board that shows what another one does: the level's own spare one, or else a copy.
 ///
 /// # Errors
 ///
 /// `Memory`, where there is no spare board.
-fn lent<B: Board>(alloc: Global, board: &B, spare: Option<B>) -> Result<B, Memory>
+fn lent<B: Board>(
+    alloc: Global,
+    spares: &mut SpareBoards<B>,
+    board: &B,
+    spare: Option<B>,
+) -> Result<B, Memory>
     requires grid { IfSome spare (λ spare. B.grid spare ≡ B.grid board.now) }
     requires table { IfSome spare (λ spare. B.table spare ≡ B.table board.now) }
     ensures grid { IfOk result (λ lent. B.grid lent ≡ B.grid board.now) }
     ensures table { IfOk result (λ lent. B.table lent ≡ B.table board.now) }
 {
     let Some(spare) = spare else {
-        return board.try_copy(alloc);
+        return spares.copy_of(alloc, board);
     };
     Ok(spare)
+}
+
+/// A board that shows what another one does, for turns, and a share of a third.
+///
+/// # Errors
+///
+/// `Memory`.
+fn boards_beside<B: Board>(
+    alloc: Global,
+    spares: &mut SpareBoards<B>,
+    board: &B,
+    target: &Rc<B, Global>,
+) -> Result<(B, Rc<B, Global>), Memory>
+    ensures spare { IfOk result (λ both. B.grid both.0 ≡ B.grid board.now) }
+    ensures spare_table { IfOk result (λ both. B.table both.0 ≡ B.table board.now) }
+    ensures target { IfOk result (λ both. both.1.value ≡ target.now.value) }
+{
+    let target = target.clone()?;
+    let spare = spares.copy_of(alloc, board)?;
+    Ok((spare, target))
 }
 
 /// A level of these boards: the first is copied, and the second shared.
 ///
 /// # Errors
 ///
-/// `Memory`.
+/// `Memory`, and no spare board is lost.
 fn level_of<B: Board>(
     alloc: Global,
+    spares: &mut SpareBoards<B>,
     entry: EntryNumber,
     board: &B,
     target: &Rc<B, Global>,
@@ -149,15 +176,19 @@ fn level_of<B: Board>(
     ensures board { IfOk result (λ level. level.board ≡ B.grid board.now) }
     ensures target { IfOk result (λ level. level.target ≡ B.grid target.now.value) }
 {
-    let copy = board.try_copy(alloc)?;
-    let spare = board.try_copy(alloc)?;
-    let target = target.clone()?;
-    Ok(PlayedLevel {
-        entry,
-        board: copy,
-        spare: Some(spare),
-        target,
-    })
+    let copy = spares.copy_of(alloc, board)?;
+    match boards_beside(alloc, spares, board, target) {
+        Ok((spare, target)) => Ok(PlayedLevel {
+            entry,
+            board: copy,
+            spare: Some(spare),
+            target,
+        }),
+        Err(Memory) => {
+            spares.keep(copy);
+            Err(Memory)
+        }
+    }
 }
 
 /// The board that a restart goes back to behind a done turn that came to a board: this one, where the turn set a
@@ -168,6 +199,7 @@ fn level_of<B: Board>(
 /// `Memory`.
 fn target_behind<B: Board>(
     alloc: Global,
+    spares: &mut SpareBoards<B>,
     board: &B,
     target: &Rc<B, Global>,
     done: &DoneTurn,
@@ -181,7 +213,7 @@ fn target_behind<B: Board>(
         let same = target.clone()?;
         return Ok(same);
     }
-    let copy = board.try_copy(alloc)?;
+    let copy = spares.copy_of(alloc, board)?;
     let next = Rc::new(alloc, copy)?;
     Ok(next)
 }
@@ -194,6 +226,7 @@ fn target_behind<B: Board>(
 /// `Memory`.
 fn boards_behind<B: Board>(
     alloc: Global,
+    spares: &mut SpareBoards<B>,
     board: &B,
     target: &Rc<B, Global>,
     done: &DoneTurn,
@@ -205,8 +238,8 @@ fn boards_behind<B: Board>(
         ≡ (if done.now.checkpoint then B.grid board.now else B.grid target.now.value)) }
     ensures table { IfOk result (λ both. B.table both.1.value ≡ B.table board.now) }
 {
-    let target = target_behind(alloc, board, target, done)?;
-    let spare = board.try_copy(alloc)?;
+    let target = target_behind(alloc, spares, board, target, done)?;
+    let spare = spares.copy_of(alloc, board)?;
     Ok((spare, target))
 }
 
@@ -218,6 +251,7 @@ impl<B: Board> PlayedLevel<B> {
     /// `Memory`.
     pub(crate) fn load(
         alloc: Global,
+        spares: &mut SpareBoards<B>,
         names: &Names,
         entry: EntryNumber,
         level: &Level,
@@ -229,8 +263,8 @@ impl<B: Board> PlayedLevel<B> {
         ensures target { IfOk result (λ played. played.target ≡ loaded names.now level.now) }
     {
         let board: B = load(alloc, names, level)?;
-        let spare = board.try_copy(alloc)?;
-        let copy = board.try_copy(alloc)?;
+        let spare = spares.copy_of(alloc, &board)?;
+        let copy = spares.copy_of(alloc, &board)?;
         let target = Rc::new(alloc, copy)?;
         Ok(PlayedLevel {
             entry,
@@ -245,10 +279,20 @@ impl<B: Board> PlayedLevel<B> {
     /// # Errors
     ///
     /// `Memory`.
-    pub fn try_copy(&self, alloc: Global) -> Result<PlayedLevel<B>, Memory>
+    pub(crate) fn try_copy(
+        &self,
+        alloc: Global,
+        spares: &mut SpareBoards<B>,
+    ) -> Result<PlayedLevel<B>, Memory>
         ensures { IfOk result (λ copy. copy ≡ self.now) }
     {
-        level_of(alloc, self.entry.copied(), &self.board, &self.target)
+        level_of(
+            alloc,
+            spares,
+            self.entry.copied(),
+            &self.board,
+            &self.target,
+        )
     }
 
     /// The level with a board that the history had.
@@ -256,14 +300,19 @@ impl<B: Board> PlayedLevel<B> {
     /// # Errors
     ///
     /// `Memory`.
-    pub fn with_board(&self, alloc: Global, other: &B) -> Result<PlayedLevel<B>, Memory>
+    pub(crate) fn with_board(
+        &self,
+        alloc: Global,
+        spares: &mut SpareBoards<B>,
+        other: &B,
+    ) -> Result<PlayedLevel<B>, Memory>
         requires { B.table other.now ≡ self.now.table }
         ensures entry { IfOk result (λ copy. copy.entry ≡ self.now.entry) }
         ensures table { IfOk result (λ copy. copy.table ≡ self.now.table) }
         ensures board { IfOk result (λ copy. copy.board ≡ B.grid other.now) }
         ensures target { IfOk result (λ copy. copy.target ≡ self.now.target) }
     {
-        level_of(alloc, self.entry.copied(), other, &self.target)
+        level_of(alloc, spares, self.entry.copied(), other, &self.target)
     }
 
     /// The level at the board that a restart goes back to.
@@ -271,13 +320,17 @@ impl<B: Board> PlayedLevel<B> {
     /// # Errors
     ///
     /// `Memory`.
-    pub(crate) fn restarted(&self, alloc: Global) -> Result<PlayedLevel<B>, Memory>
+    pub(crate) fn restarted(
+        &self,
+        alloc: Global,
+        spares: &mut SpareBoards<B>,
+    ) -> Result<PlayedLevel<B>, Memory>
         ensures entry { IfOk result (λ copy. copy.entry ≡ self.now.entry) }
         ensures table { IfOk result (λ copy. copy.table ≡ self.now.table) }
         ensures board { IfOk result (λ copy. copy.board ≡ self.now.target) }
         ensures target { IfOk result (λ copy. copy.target ≡ self.now.target) }
     {
-        self.with_board(alloc, &self.target)
+        self.with_board(alloc, spares, &self.target)
     }
 
     /// The place of its entry.
@@ -295,11 +348,12 @@ impl<B: Board> PlayedLevel<B> {
         &self.board
     }
 
-    /// Its board, for the history.
-    pub fn into_board(self) -> B
+    /// Its board, for the history. The one for turns is spare.
+    pub(crate) fn into_board(self, spares: &mut SpareBoards<B>) -> B
         ensures grid { B.grid result ≡ self.board }
         ensures table { B.table result ≡ self.table }
     {
+        spares.keep_any(self.spare);
         self.board
     }
 
@@ -312,6 +366,7 @@ impl<B: Board> PlayedLevel<B> {
     pub(crate) fn take_turn<R: Rules<B>>(
         &mut self,
         alloc: Global,
+        spares: &mut SpareBoards<B>,
         game: &SessionGame<'_>,
         rules: &mut Programs<R>,
         input: Option<Input>,
@@ -327,7 +382,7 @@ impl<B: Board> PlayedLevel<B> {
         ensures plain { R.meant rules.new.plain ≡ R.meant rules.old.plain }
         ensures late { R.meant rules.new.late ≡ R.meant rules.old.late }
     {
-        let mut spare = lent(alloc, &self.board, self.spare.take())?;
+        let mut spare = lent(alloc, spares, &self.board, self.spare.take())?;
         let turned = match run_turn(game, rules, input, &self.board, &mut spare) {
             Ok(turned) => turned,
             Err(Memory) => {
@@ -347,13 +402,13 @@ impl<B: Board> PlayedLevel<B> {
         mem::swap(&mut self.board, &mut spare);
         self.board.copy_into(&mut spare);
         self.spare = Some(spare);
-        self.target = target_behind(alloc, &self.board, &self.target, done)?;
+        self.target = target_behind(alloc, spares, &self.board, &self.target, done)?;
         Ok(turned)
     }
 
     /// Tries a turn with an input. The level stays as it is; where the turn is done, the level behind it has the board
     /// that the turn came to, and one copy of it is made. A turn that isn't done takes no memory for boards, unless the
-    /// level behind an earlier one was given away.
+    /// level behind an earlier one was given away and none of the spare boards is alike.
     ///
     /// # Errors
     ///
@@ -361,6 +416,7 @@ impl<B: Board> PlayedLevel<B> {
     pub(crate) fn try_turn<R: Rules<B>>(
         &mut self,
         alloc: Global,
+        spares: &mut SpareBoards<B>,
         game: &SessionGame<'_>,
         rules: &mut Programs<R>,
         input: Input,
@@ -374,7 +430,7 @@ impl<B: Board> PlayedLevel<B> {
         ensures plain { R.meant rules.new.plain ≡ R.meant rules.old.plain }
         ensures late { R.meant rules.new.late ≡ R.meant rules.old.late }
     {
-        let mut spare = lent(alloc, &self.board, self.spare.take())?;
+        let mut spare = lent(alloc, spares, &self.board, self.spare.take())?;
         let done = match run_turn(game, rules, Some(input), &self.board, &mut spare) {
             Ok(Turned::Done(done)) => done,
             Ok(Turned::Blocked(message)) => {
@@ -390,7 +446,7 @@ impl<B: Board> PlayedLevel<B> {
                 return Err(Memory);
             }
         };
-        match boards_behind(alloc, &spare, &self.target, &done) {
+        match boards_behind(alloc, spares, &spare, &self.target, &done) {
             Ok((copy, target)) => {
                 let next = PlayedLevel {
                     entry: self.entry.copied(),

@@ -14,6 +14,7 @@ mod keys;
 mod levels;
 mod loading;
 mod places;
+mod spares;
 mod stage;
 mod starts;
 

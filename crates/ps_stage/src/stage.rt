@@ -7,6 +7,8 @@ ghost use Rattle.ps_levels.specs.EntriesShown.{entries_shown};
 ghost use Rattle.ps_stage.specs.Playable.{ArePlayable};
 
 use crate::game::SessionGame;
+use crate::levels::PlayedLevel;
+use crate::spares::SpareBoards;
 use ps_board::Board;
 use ps_levels::Entry;
 use ps_model::Memory;
@@ -14,13 +16,14 @@ use ps_screen::{Picture, Screen};
 use std::alloc::Global;
 use std::marker::Model;
 
-/// A game in play, its picture, and the text that a key makes. The text goes to the screen when all else is done, so
-/// that a key which fails writes nothing.
+/// A game in play, its picture, boards to be used again, and the text that a key makes. The text goes to the screen
+/// when all else is done, so that a key which fails writes nothing.
 #[derive(Drop)]
 pub struct Stage<'g, B: Board> {
     pub(crate) alloc: Global,
     pub(crate) game: SessionGame<'g>,
     picture: Picture<'g, B>,
+    pub(crate) spares: SpareBoards<B>,
     pub(crate) text: Screen,
 }
 
@@ -46,6 +49,7 @@ impl<'g, B: Board> Stage<'g, B> {
             alloc,
             game,
             picture,
+            spares: SpareBoards::none(),
             text: Screen::new(alloc),
         }
     }
@@ -114,6 +118,46 @@ impl<'g, B: Board> Stage<'g, B> {
         ensures shown { OnOk result (self.new.text ≡ self.old.text ++ frame self.old.game.names (B.grid board.now)) }
     {
         self.picture.show(board, &mut self.text)
+    }
+
+    /// Keeps a board that nobody shows any more, to be used again. No memory is taken.
+    pub fn keep_board(&mut self, board: B)
+        ensures { self.new ≡ self.old }
+    {
+        self.spares.keep(board);
+    }
+
+    /// Keeps the boards of a level that nobody plays any more, to be used again. No memory is taken.
+    pub fn keep_level(&mut self, level: PlayedLevel<B>)
+        ensures { self.new ≡ self.old }
+    {
+        let board = level.into_board(&mut self.spares);
+        self.spares.keep(board);
+    }
+
+    /// The board of a level that is left, for the history. No memory is taken.
+    pub fn board_of(&mut self, level: PlayedLevel<B>) -> B
+        ensures stage { self.new ≡ self.old }
+        ensures grid { B.grid result ≡ level.board }
+        ensures table { B.table result ≡ level.table }
+    {
+        level.into_board(&mut self.spares)
+    }
+
+    /// A level with a board that the history had.
+    ///
+    /// # Errors
+    ///
+    /// `Memory`.
+    pub fn level_at(&mut self, level: &PlayedLevel<B>, board: &B) -> Result<PlayedLevel<B>, Memory>
+        requires { B.table board.now ≡ level.now.table }
+        ensures stage { self.new ≡ self.old }
+        ensures entry { IfOk result (λ back. back.entry ≡ level.now.entry) }
+        ensures table { IfOk result (λ back. back.table ≡ level.now.table) }
+        ensures board { IfOk result (λ back. back.board ≡ B.grid board.now) }
+        ensures target { IfOk result (λ back. back.target ≡ level.now.target) }
+    {
+        level.with_board(self.alloc, &mut self.spares, board)
     }
 
     /// Adds the line of a message.

@@ -103,7 +103,14 @@ impl<'g, B: Board> Stage<'g, B> {
             ≡ told_step told (play_of history level.new) self.new.text (start_turns
             (script_for B.table_for self.old.game (R.meant rules.old.plain) (R.meant rules.old.late)) left)) }
     {
-        let turned = level.take_turn(self.alloc, &self.game, rules, None, Counting::IfChanged)?;
+        let turned = level.take_turn(
+            self.alloc,
+            &mut self.spares,
+            &self.game,
+            rules,
+            None,
+            Counting::IfChanged,
+        )?;
         match turned {
             Turned::Blocked(_) => Ok(Told::Stops(None)),
             Turned::Restarted(_) => Ok(Told::Stops(None)),
@@ -213,7 +220,14 @@ impl<'g, B: Board> Stage<'g, B> {
         if !self.game.options().run_rules_on_level_start {
             return self.started(rules, level, &message, false);
         }
-        let turned = level.take_turn(self.alloc, &self.game, rules, None, Counting::Always)?;
+        let turned = level.take_turn(
+            self.alloc,
+            &mut self.spares,
+            &self.game,
+            rules,
+            None,
+            Counting::Always,
+        )?;
         match turned {
             Turned::Blocked(own) => {
                 self.started(rules, level, &first_message(own, message), false)

@@ -1,42 +1,45 @@
-use Rattle.std.proofs.Common.{◌≡◌, ◌∙◌, ℕ, ◌-◌, ◌*◌, ◌%◌, ◌<◌, true, false, sym, ap, rules, ◌/◌, Bool, [], cond}
-use Rattle.std.specs.Prelude.{slice_index_or}
+use Rattle.std.proofs.Common.{◌≡◌, ◌∙◌, ◌<◌, ◌*◌, ◌++◌, ℕ, true, false, List, [], replicate, sym, ap₂, arith, rules}
+use Rattle.std.specs.List.{flat_map, range_with_len}
+use Rattle.std.proofs.lemmas.List.{get_or-replicate}
+use Rattle.ps_model.specs.declared.limits.TheConstants.{SIDE_LIMIT}
 use Rattle.ps_board.specs.ColumnSets.{column_at}
-use Rattle.ps_places.specs.Stretches.{gap_count}
-use Rattle.ps_places.specs.RowMeanings.{part_sizes, places_at, vertical_at}
-use Rattle.ps_places.proofs.EndColumns.{at_cell}
-use Rattle.ps_places.proofs.FirstOne.{none_more, one_found}
+use Rattle.ps_places.specs.RowMeanings.{vertical_at}
+use Rattle.ps_places.proofs.FirstOne.{nothing_there}
+use Rattle.ps_places.proofs.LineSearch.{next_column, no_column, one_in_column}
+use Rattle.ps_places.proofs.RowsOfColumns.{all_beyond, none_there}
 use Rattle.ps_places.proofs.presence.fits_in_columns.Goals as goal
+use Rattle.ps_places.proofs.presence.fits_in_columns.Goals.{else-has-via-then-has+else-fits_in_column, else-has-via-else-has}
 
-pub returns-then-fits_at_end : goal.returns-then-fits_at_end
-returns-then-fits_at_end g c =
+pub find_ends-any-requires-clause-none : goal.find_ends-any-requires-clause-none
+find_ends-any-requires-clause-none g c = λ x row low. none_there c.none-ends.result (replicate SIDE_LIMIT c.none-ends.result) x row (get_or-replicate SIDE_LIMIT x _ [] low) c.none-ends.ensures
+
+pub find_fars-requires-clause-beyond : goal.find_fars-requires-clause-beyond
+find_fars-requires-clause-beyond g c =
+    λ x row low within past.
+    all_beyond c.below.result c.below-2.result c.without-beyond.result (replicate SIDE_LIMIT c.without-beyond.result) c.size-width.result.1 x row (get_or-replicate SIDE_LIMIT x _ [] low) c.below.ensures c.below-2.ensures
+    c.without-beyond.ensures within (omega (arith, past, c.size-width.ensures.height))
+
+pub returns-then-fits_in_column : goal.returns-then-fits_in_column
+returns-then-fits_in_column g c =
+    let grid = g.B.Board.grid c.args.board.now in
+    let yes : c.fits_in_column.result ≡ true = search rules in
+    let across : c.loop-column.column < grid.width = rw (← c.size-width.ensures.width) c.loop-column-test.true in
+    sym (one_in_column (vertical_at grid (g.B.Board.table c.args.board.now) c.args.parts.now c.args.shape) c.loop-column.column grid.width grid.height across (sym c.fits_in_column.ensures ∙ yes))
+
+pub loop-column-preserved : goal.loop-column-preserved
+loop-column-preserved g c =
     let grid = g.B.Board.grid c.args.board.now in
     let table = g.B.Board.table c.args.board.now in
-    let end : ℕ = c.loop-end.end in
-    let yes : c.fits_at_end.result ≡ true = search rules in
-    let low : end < grid.width * grid.height = rw (← c.size-width.ensures.width, ← c.size-width.ensures.height) c.loop-end-test.true in
-    let may : Bool = c.may_end-may.result in
-    sym (one_found (vertical_at grid table c.args.parts.now c.args.shape) (places_at grid table c.args.parts.now c.args.shape end c.gaps_if-count.result) (grid.width * grid.height) end low
-    (ap (places_at grid table c.args.parts.now c.args.shape end)
-    (c.gaps_if-count.ensures.value ∙ ap (λ (h : ℕ). cond may (gap_count (part_sizes c.args.parts.now) (h - end % h)) 0) c.size-width.ensures.height)
-    ∙ at_cell grid table c.args.parts.now c.args.shape end (gap_count (part_sizes c.args.parts.now) (grid.height - end % grid.height)) c.find_ends.new.rows may c.find_ends.ensures.ends c.size-width.ensures.shape
-    low
-    (c.may_end-may.ensures
-    ∙ ap (λ (h : ℕ). column_at (slice_index_or c.find_ends.new.rows (end % h) []) (end / h)) c.size-width.ensures.height))
-    (sym c.fits_at_end.ensures ∙ yes))
-
-pub loop-end-preserved : goal.loop-end-preserved
-loop-end-preserved g c =
-    let grid = g.B.Board.grid c.args.board.now in
-    let table = g.B.Board.table c.args.board.now in
-    let end : ℕ = c.loop-end.end in
-    let no : c.fits_at_end.result ≡ false = search rules in
-    let low : end < grid.width * grid.height = rw (← c.size-width.ensures.width, ← c.size-width.ensures.height) c.loop-end-test.true in
-    let may : Bool = c.may_end-may.result in
-    none_more (vertical_at grid table c.args.parts.now c.args.shape) (places_at grid table c.args.parts.now c.args.shape end c.gaps_if-count.result) end c.loop-end.invariant
-    (ap (places_at grid table c.args.parts.now c.args.shape end)
-    (c.gaps_if-count.ensures.value ∙ ap (λ (h : ℕ). cond may (gap_count (part_sizes c.args.parts.now) (h - end % h)) 0) c.size-width.ensures.height)
-    ∙ at_cell grid table c.args.parts.now c.args.shape end (gap_count (part_sizes c.args.parts.now) (grid.height - end % grid.height)) c.find_ends.new.rows may c.find_ends.ensures.ends c.size-width.ensures.shape
-    low
-    (c.may_end-may.ensures
-    ∙ ap (λ (h : ℕ). column_at (slice_index_or c.find_ends.new.rows (end % h) []) (end / h)) c.size-width.ensures.height))
-    (sym c.fits_at_end.ensures ∙ no)
+    let at : ℕ → List (List ℕ) = vertical_at grid table c.args.parts.now c.args.shape in
+    let column : ℕ = c.loop-column.column in
+    let across : column < grid.width = rw (← c.size-width.ensures.width) c.loop-column-test.true in
+    let low : column < SIDE_LIMIT = omega (arith, across, c.size-width.ensures.shape.columns) in
+    let here : flat_map at (range_with_len (column * grid.height) grid.height) ≡ [] =
+    elim c.else-has.branch [
+      | else-has-via-then-has+else-fits_in_column w ↦
+          let no : w.fits_in_column.result ≡ false = search rules in nothing_there (flat_map at (range_with_len (column * grid.height) grid.height)) (sym w.fits_in_column.ensures ∙ no)
+      | else-has-via-else-has w ↦
+          let none : column_at c.find_ends-any.result column ≡ false = sym c.has.ensures ∙ w.if-has.false in
+          no_column grid table c.args.parts.now c.args.shape column c.find_ends-any.new.lines c.find_ends-any.result c.find_ends-any.ensures.ends low none
+    ] in
+    next_column at column grid.height ∙ ap₂ (λ (xs ys : List (List ℕ)). xs ++ ys) c.loop-column.invariant here

@@ -2,7 +2,7 @@ use Rattle.std.proofs.Common.{◌≡◌, ◌∙◌, ◌<◌, ◌≤◌, ◌+◌,
 use Rattle.std.proofs.lemmas.List.{take_all}
 use Rattle.ps_rows.specs.RowChanges.{AreRowsChanged, IsRowLeft, row_after}
 use Rattle.ps_rows.proofs.Marks.{listed_at}
-use Rattle.ps_rows.proofs.RowChanges.{changed_more, changed_none}
+use Rattle.ps_rows.proofs.RowChanges.{changed_more, changed_none, rows_kept}
 use Rattle.ps_rows.proofs.changes.change_rows.Goals as goal
 
 pub change_row-any-requires-clause-row : goal.change_row-any-requires-clause-row
@@ -72,3 +72,7 @@ returns-clause-quiet c = c.loop-plane.invariant.quiet
 
 pub returns-clause-left : goal.returns-clause-left
 returns-clause-left c = c.loop-plane.invariant.left
+
+pub returns-then-change-eq0-clause-words : goal.returns-then-change-eq0-clause-words
+returns-then-change-eq0-clause-words c =
+    rows_kept c.args.planes.now.height c.args.row c.args.change c.args.planes.now.words.items c.args.places.now c.if-change-eq0.true

@@ -1,11 +1,8 @@
-use Rattle.std.proofs.Common.{◌≡◌, ◌<◌, ◌≤◌, ℕ, [], length, get_or}
+use Rattle.std.proofs.Common.{◌≡◌, map}
+use Rattle.std.specs.List.{range_with_len}
 use Rattle.ps_model.specs.session.Frames.{frame_row}
 use Rattle.ps_screen.proofs.rows.draw_rows.Given as goal
 
 -- the rows passed by are made
 abbrev pub invariant-loop-row : goal.invariant-loop-row
-invariant-loop-row g l =
-    record {
-      long : (g.B.Board.grid l.board).height ≤ length l.texts;
-      drawn : (row : ℕ) → row < l.row → get_or l.texts row [] ≡ frame_row l.names (g.B.Board.grid l.board) row;
-    }
+invariant-loop-row g l = l.texts.items ≡ map (frame_row l.names (g.B.Board.grid l.board)) (range_with_len 0 l.row)

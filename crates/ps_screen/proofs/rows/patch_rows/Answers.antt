@@ -16,7 +16,7 @@ loop-row-init g c =
     let made : c.both-left.result ≡ both_columns c.args.rows (columns_below after.height) =
     c.both-left.ensures ∙ ap (λ (set : List Bool). both_columns c.args.rows set) (c.below.ensures ∙ ap columns_below c.size-height.ensures.height) in
     record {
-      long = omega (arith, c.requires.texts.long, c.requires.height);
+      long = c.requires.texts.long ∙ c.requires.height;
       within = λ row small has. within_width c.args.rows after.height row small (ap (λ (set : List Bool). column_at set row) (sym made) ∙ has);
       drawn = λ row under none.
           c.requires.texts.each row (rw c.requires.height under)
@@ -53,7 +53,7 @@ loop-row-preserved g c =
     let inside : first < length texts = omega (arith, under, c.loop-row.invariant.long) in
     let low = c.size-height.ensures.shape.rows in
     record {
-      long = rw (length-set texts first c.patch_row.new.text) c.loop-row.invariant.long;
+      long = length-set texts first c.patch_row.new.text ∙ c.loop-row.invariant.long;
       within = λ row small has. c.loop-row.invariant.within row small (was_in c.loop-row.left c.take_first.new.self first row c.in-Some.ensures.some small has);
       drawn = λ row below none. elim (cases_eq row first) [
         | inl e ↦ rw e (get_or-set_same texts first c.patch_row.new.text [] inside ∙ c.in_ok-patch_row.ensures)

@@ -1,4 +1,4 @@
-use Rattle.std.proofs.Common.{◌≡◌, ◌<◌, ◌≤◌, ℕ, true, false, [], length, get_or}
+use Rattle.std.proofs.Common.{◌≡◌, ◌<◌, ℕ, true, false, [], length, get_or}
 use Rattle.ps_model.specs.session.Frames.{frame_row}
 use Rattle.ps_model.specs.declared.limits.TheConstants.{SIDE_LIMIT}
 use Rattle.ps_board.specs.ColumnSets.{column_at, set_columns}
@@ -8,7 +8,7 @@ use Rattle.ps_screen.proofs.rows.patch_rows.Given as goal
 abbrev pub invariant-loop-row : goal.invariant-loop-row
 invariant-loop-row g l =
     record {
-      long : (g.B.Board.grid l.board).height ≤ length l.texts;
+      long : length l.texts ≡ (g.B.Board.grid l.board).height;
       within : (row : ℕ) → row < SIDE_LIMIT → column_at l.left row ≡ true → row < (g.B.Board.grid l.board).height;
       drawn : (row : ℕ) → row < (g.B.Board.grid l.board).height → column_at l.left row ≡ false → get_or l.texts row [] ≡ frame_row l.names (g.B.Board.grid l.board) row;
       left : (row : ℕ) → row < (g.B.Board.grid l.shown).height → column_at l.left row ≡ true → get_or l.texts row [] ≡ frame_row l.names (g.B.Board.grid l.shown) row;

@@ -1,4 +1,4 @@
-use Rattle.std.proofs.Common.{◌∙◌, List, ap}
+use Rattle.std.proofs.Common.{List, ap}
 use Rattle.ps_model.specs.board.Grid.{Grid}
 use Rattle.ps_model.specs.session.Sessions.{Playing}
 use Rattle.ps_stage.specs.Standings.{play_of}
@@ -10,7 +10,7 @@ returns-in-Stands-clause-place g c = λ table here comes. c.stood.ensures.table 
 
 pub returns-in-Undoes-clause-shown : goal.returns-in-Undoes-clause-shown
 returns-in-Undoes-clause-shown g c =
-    rw (c.in-Undoes.is, c.pop_back.ensures.items)
+    rw (c.in-Undoes.is, c.replace-before-in-Undoes.ensures.after, c.pop_back-latest.ensures.items)
     (ap (λ (history : List Grid). Playing (play_of history c.in-Undoes.level)) (map-earlier (λ past. past.grid) c.args.history.now.items))
 
 pub returns-in-Goes-clause-boards : goal.returns-in-Goes-clause-boards

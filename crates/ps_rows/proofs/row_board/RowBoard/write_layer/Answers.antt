@@ -1,4 +1,4 @@
-use Rattle.std.proofs.Common.{◌≡◌, ◌∙◌, ℕ, List, Some, sym, subst}
+use Rattle.std.proofs.Common.{◌∙◌, ℕ, List, Some, sym, subst}
 use Rattle.ps_model.specs.declared.pieces.Slot.{Slot}
 use Rattle.ps_program.specs.ProgramShown.{write_shown}
 use Rattle.ps_match.specs.InRoom.{slot_after, write_in_room}

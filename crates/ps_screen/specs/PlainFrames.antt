@@ -1,0 +1,22 @@
+-- Plain frames: those whose rows are plain. A row takes one byte more than the board has columns, and the rows stand
+-- one after the other.
+use Rattle.std.specs.Prelude.{◌≡◌, ◌<◌, ◌+◌, ◌*◌, ℕ, List, length, slice_index}
+use Rattle.ps_model.specs.board.Grid.{Grid}
+use Rattle.ps_model.specs.names.Names.{Names}
+use Rattle.ps_screen.specs.PlainRows.{IsPlainRow}
+
+-- where a row begins, on a board of a width
+abbrev pub row_start : ℕ → ℕ → ℕ
+row_start width row = row * (width + 1)
+
+-- the text has the plain rows of a grid's frame, from the top, and a line feed behind the last one
+pub record IsPlainFrame (names : Names) (g : Grid) (text : List ℕ) : Type 0 where
+  pub long : length text ≡ row_start g.width g.height + 1
+  pub each : (row : ℕ) → row < g.height → IsPlainRow names g row (row_start g.width row) text
+  pub end : slice_index text (row_start g.width g.height) ≡ 10
+
+-- the text has as many bytes as such a frame, and its line feeds
+pub record IsBlankFrame (width height : ℕ) (text : List ℕ) : Type 0 where
+  pub long : length text ≡ row_start width height + 1
+  pub each : (row : ℕ) → row < height → slice_index text (row_start width row + width) ≡ 10
+  pub end : slice_index text (row_start width height) ≡ 10

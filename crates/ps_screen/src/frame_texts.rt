@@ -1,0 +1,118 @@
+//! The text of a frame, as a picture keeps it.
+
+ghost use Rattle.std.specs.Prelude.{◌≡◌, ◌++◌, IfOk, OnErr, OnOk};
+ghost use Rattle.ps_model.specs.board.Levels.{background_layer};
+ghost use Rattle.ps_model.specs.session.Frames.{frame};
+ghost use Rattle.ps_board.specs.Rows.{DifferOnlyOn};
+ghost use Rattle.ps_screen.specs.FrameTexts.{IsTextOf};
+
+use crate::cells::Room;
+use crate::plain_frames::{draw_frame, patch_frame};
+use crate::rows::{draw_rows, patch_rows};
+use crate::screen::Screen;
+use ps_board::{Board, Columns};
+use ps_model::{LayerId, Memory};
+use ps_names::Names;
+use std::alloc::Global;
+
+/// The text of a frame.
+#[derive(Drop)]
+pub enum FrameText {
+    /// All of it, where each of its characters is of one byte.
+    Whole(Screen),
+    /// A text for each row, from the top.
+    Rows(Vec<Screen>),
+}
+
+/// The text of a board's frame, made anew: whole, where each character is of one byte. A text that was kept whole
+/// gives its room.
+///
+/// # Errors
+///
+/// `Memory`.
+pub fn draw_text<B: Board>(
+    alloc: Global,
+    names: &Names,
+    ground: LayerId,
+    board: &B,
+    room: &mut Room,
+    kept: Option<FrameText>,
+) -> Result<FrameText, Memory>
+    requires { ground.0 ≡ background_layer names.now }
+    ensures { IfOk result (λ text. IsTextOf names.now (B.grid board.now) text) }
+{
+    let mut whole = match kept {
+        Some(FrameText::Whole(text)) => text,
+        Some(FrameText::Rows(_texts)) => Screen::new(alloc),
+        None => Screen::new(alloc),
+    };
+    if draw_frame(names, ground, board, room, &mut whole)? {
+        return Ok(FrameText::Whole(whole));
+    }
+    let rows = draw_rows(alloc, names, ground, board, room)?;
+    Ok(FrameText::Rows(rows))
+}
+
+/// The text of a board's frame, made of that of another board alike, which shows the same objects outside of these
+/// rows.
+///
+/// # Errors
+///
+/// `Memory`.
+pub fn patch_text<B: Board>(
+    alloc: Global,
+    names: &Names,
+    ground: LayerId,
+    shown: &B,
+    board: &B,
+    rows: Columns,
+    room: &mut Room,
+    kept: FrameText,
+) -> Result<FrameText, Memory>
+    requires ground { ground.0 ≡ background_layer names.now }
+    requires width { (B.grid shown.now).width ≡ (B.grid board.now).width }
+    requires height { (B.grid shown.now).height ≡ (B.grid board.now).height }
+    requires layers { (B.grid shown.now).layers ≡ (B.grid board.now).layers }
+    requires table { B.table shown.now ≡ B.table board.now }
+    requires rows { DifferOnlyOn rows (B.grid board.now) (B.grid shown.now) }
+    requires kept { IsTextOf names.now (B.grid shown.now) kept }
+    ensures { IfOk result (λ text. IsTextOf names.now (B.grid board.now) text) }
+{
+    match kept {
+        FrameText::Whole(text) => {
+            let mut whole = text;
+            if patch_frame(names, ground, shown, board, rows, room, &mut whole)? {
+                return Ok(FrameText::Whole(whole));
+            }
+            let texts = draw_rows(alloc, names, ground, board, room)?;
+            Ok(FrameText::Rows(texts))
+        }
+        FrameText::Rows(texts) => {
+            let mut texts = texts;
+            let drawn = texts.as_mut_slice();
+            patch_rows(names, ground, shown, board, rows, room, drawn)?;
+            Ok(FrameText::Rows(texts))
+        }
+    }
+}
+
+/// Adds a frame to a screen by the text of it.
+///
+/// # Errors
+///
+/// `Memory`, and the screen is as before.
+pub fn add_text<B: Board>(
+    names: &Names,
+    board: &B,
+    text: &FrameText,
+    screen: &mut Screen,
+) -> Result<(), Memory>
+    requires { IsTextOf names.now (B.grid board.now) text.now }
+    ensures added { OnOk result (screen.new ≡ screen.old ++ frame names.now (B.grid board.now)) }
+    ensures kept { OnErr result (screen.new ≡ screen.old) }
+{
+    match text {
+        FrameText::Whole(whole) => screen.add(whole.bytes()),
+        FrameText::Rows(rows) => screen.add_frame(rows),
+    }
+}

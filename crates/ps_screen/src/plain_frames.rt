@@ -1,0 +1,96 @@
+//! Plain frames: those whose characters are all of one byte. A row takes one byte for each column and one for its line
+//! feed, so that a cell's byte is found by its row and its column, and what differs is written in place.
+
+ghost use Rattle.std.specs.Prelude.{◌≡◌, IfOk, OnOk, true};
+ghost use Rattle.ps_model.specs.board.Levels.{background_layer};
+ghost use Rattle.ps_board.specs.Rows.{DifferOnlyOn};
+ghost use Rattle.ps_screen.specs.PlainFrames.{IsBlankFrame, IsPlainFrame};
+
+use crate::cells::Room;
+use crate::patching::{add_blank_row, patch_columns};
+use crate::screen::Screen;
+use ps_board::{Board, Columns};
+use ps_model::{LayerId, Memory};
+use ps_names::Names;
+
+/// Makes a text a board's frame, and answers whether each character of it is of one byte. Where not, the text is of no
+/// use.
+///
+/// # Errors
+///
+/// `Memory`, and the text is of no use.
+pub fn draw_frame<B: Board>(
+    names: &Names,
+    ground: LayerId,
+    board: &B,
+    room: &mut Room,
+    text: &mut Screen,
+) -> Result<bool, Memory>
+    requires { ground.0 ≡ background_layer names.now }
+    ensures { IfOk result (λ plain. plain ≡ true → IsPlainFrame names.now (B.grid board.now) text.new) }
+{
+    let (width, height) = board.size();
+    make_blank(text, width, height)?;
+    let columns = Columns::below(width);
+    for row in 0..height {
+        let start = row * (width + 1);
+        let plain = patch_columns(names, ground, board, row, room, columns, start, text)?;
+        if !plain {
+            return Ok(false);
+        }
+    }
+    Ok(true)
+}
+
+/// Makes a text, the plain frame of one board, that of another board alike, which shows the same objects outside of
+/// these rows, and answers whether each character of it is of one byte. Where not, the text is of no use.
+///
+/// # Errors
+///
+/// `Memory`, and the text is of no use.
+pub fn patch_frame<B: Board>(
+    names: &Names,
+    ground: LayerId,
+    shown: &B,
+    board: &B,
+    rows: Columns,
+    room: &mut Room,
+    text: &mut Screen,
+) -> Result<bool, Memory>
+    requires ground { ground.0 ≡ background_layer names.now }
+    requires width { (B.grid shown.now).width ≡ (B.grid board.now).width }
+    requires height { (B.grid shown.now).height ≡ (B.grid board.now).height }
+    requires layers { (B.grid shown.now).layers ≡ (B.grid board.now).layers }
+    requires table { B.table shown.now ≡ B.table board.now }
+    requires rows { DifferOnlyOn rows (B.grid board.now) (B.grid shown.now) }
+    requires text { IsPlainFrame names.now (B.grid shown.now) text.old }
+    ensures { IfOk result (λ plain. plain ≡ true → IsPlainFrame names.now (B.grid board.now) text.new) }
+{
+    let (width, height) = board.size();
+    let columns = Columns::below(width);
+    let mut left = rows.both(Columns::below(height));
+    while let Some(row) = left.take_first() {
+        let differing = board.differing(shown, row).both(columns);
+        let start = row * (width + 1);
+        let plain = patch_columns(names, ground, board, row, room, differing, start, text)?;
+        if !plain {
+            return Ok(false);
+        }
+    }
+    Ok(true)
+}
+
+/// Makes a text a frame of blanks: so many rows of so many, and an empty line.
+///
+/// # Errors
+///
+/// `Memory`, and the text is of no use.
+fn make_blank(text: &mut Screen, width: u32, height: u32) -> Result<(), Memory>
+    ensures { OnOk result (IsBlankFrame width height text.new) }
+{
+    text.clear();
+    for _row in 0..height {
+        add_blank_row(text, width)?;
+    }
+    text.add(b"\n")
+}
