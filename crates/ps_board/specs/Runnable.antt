@@ -1,5 +1,5 @@
--- Compiled programs that a board can run as they are: no row has more than two parts, and what a write puts has room.
-use Rattle.std.specs.Prelude.{◌≡◌, ℕ, ◌&&◌, nat_le, true, Bool, Option, List, length}
+-- Compiled programs that a board can run as they are: what a write puts has room.
+use Rattle.std.specs.Prelude.{◌≡◌, ℕ, true, Bool, Option, List}
 use Rattle.std.specs.List.{list_all}
 use Rattle.ps_model.specs.declared.compiled.LayerWrite.{LayerWrite}
 use Rattle.ps_model.specs.declared.compiled.ObjectWrite.{ObjectWrite}
@@ -20,9 +20,9 @@ has_room_for table write = object_has_room table (write.layer).0 write.object
 abbrev pub cell_has_room : Option (List ℕ) → CompiledCell → Bool
 cell_has_room table cell = list_all (has_room_for table) cell.write.layers
 
--- a row has at most two parts, and all that its cells put has room
+-- all that the cells of a row put has room
 abbrev pub row_runs : Option (List ℕ) → List (List CompiledCell) → Bool
-row_runs table row = nat_le (length row) 2 && list_all (list_all (cell_has_room table)) row
+row_runs table row = list_all (list_all (cell_has_room table)) row
 
 abbrev pub rule_runs : Option (List ℕ) → CompiledRule → Bool
 rule_runs table rule = list_all (row_runs table) rule.rows

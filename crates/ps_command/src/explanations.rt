@@ -134,7 +134,7 @@ const EXPLANATIONS: [(FaultKind, &str); 44] = [
     ),
     (
         FaultKind::Ellipsis,
-        "`...` stands first, last or twice in a row, beside something in its cell, or where the other side has none.",
+        "`...` stands first, last or right behind another one, a third time, beside other words, or on one side alone.",
     ),
     (
         FaultKind::NotInProfile,

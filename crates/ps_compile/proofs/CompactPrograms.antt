@@ -4,7 +4,7 @@ use Rattle.std.proofs.Common.{◌≡◌, Bool, true, false, not, cond, List, [],
 use Rattle.std.specs.Prelude.{All}
 use Rattle.std.specs.List.{AllZip, slice_split}
 use Rattle.std.proofs.lemmas.List.{map-append}
-use Rattle.std.proofs.lemmas.List.Elements.{All-nil, All-cons, All-head, All-tail, All-append, All-filter}
+use Rattle.std.proofs.lemmas.List.Elements.{All-head, All-tail, All-filter}
 use Rattle.std.proofs.lemmas.Simd.{map-map}
 use Rattle.ps_model.specs.declared.pieces.Direction.{Direction}
 use Rattle.ps_model.specs.declared.pieces.Direction.TheVariants.{Up, Down, Left, Right}
@@ -12,12 +12,11 @@ use Rattle.ps_model.specs.declared.rules.Part.{Part}
 use Rattle.ps_model.specs.names.Names.{Names}
 use Rattle.ps_model.specs.rules.SourceRules.{SourceRule, RuleLine, Commands}
 use Rattle.ps_model.specs.board.GameGrids.{IsGridOf}
-use Rattle.ps_model.specs.board.Attempts.{State, Result}
+use Rattle.ps_model.specs.board.Attempts.{Result}
 use Rattle.ps_model.specs.board.Programs.{Section, Group, after_change, round}
 use Rattle.ps_model.specs.board.RulePrograms.{is_in_part, rule_in, is_start, is_end, groups_of, groups_in, groups_outside, loop_and_rest, sections_of_pieces, program_of}
 use Rattle.ps_model.specs.meaning.GameRules.{IsRuleOf, IsLineOf}
-use Rattle.ps_model.specs.meaning.Directions.{opposite}
-use Rattle.ps_model.specs.meaning.TurnedRound.{row_turned, turned_round, forwards}
+use Rattle.ps_model.specs.meaning.TurnedRound.{row_turned, forwards}
 use Rattle.ps_model.specs.meaning.RuleMeanings.{CellMeaning, RuleMeaning}
 use Rattle.ps_model.specs.meaning.ReadingMeanings.{meanings}
 use Rattle.ps_model.specs.meaning.Compiled.{CompiledCell, CompiledRule, CompiledSection, CompiledGroup, meaning_of_cell, meaning_of_rule, meaning_of_section, meaning_of_program}
@@ -34,7 +33,7 @@ use Rattle.ps_laws.proofs.alike.AlikeRounds.{alike-append, alike-forwards}
 use Rattle.ps_laws.proofs.alike.EqualPrograms.{round-same}
 use Rattle.ps_laws.proofs.alike.AlikePrograms.{program_run-alike}
 use Rattle.ps_compile.specs.IdleRules.{is_idle}
-use Rattle.ps_compile.specs.CompactPrograms.{faces_back, rule_turned, rule_forwards, is_busy, compact, compact_rules, compact_groups, compact_outside, compact_loop_and_rest, compact_pieces, compact_program}
+use Rattle.ps_compile.specs.CompactPrograms.{rule_forwards, compact, compact_rules, compact_groups, compact_outside, compact_loop_and_rest, compact_pieces, compact_program}
 use Rattle.ps_compile.specs.AlikeRuns.{RunsAlike}
 use Rattle.ps_compile.proofs.IdleRules.{idle-so}
 

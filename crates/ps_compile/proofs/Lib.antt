@@ -4,3 +4,4 @@ pub mod IdleRules
 pub mod MadePieces
 pub mod RunnablePrograms
 pub mod TurnedRules
+mod WholeRows

@@ -1,9 +1,8 @@
 -- Programs of a game run as they are on each board where the game's objects have room on their layers.
-use Rattle.std.proofs.Common.{◌≡◌, ℕ, ◌<◌, ◌≤◌, ◌&&◌, Bool, true, Option, Some, None, List, [], ◌∷◌, ◌++◌, length, map, filter, flat_map, filter_map, reverse, get_or, slice_get, refl, sym, subst, ap, ap₂, ◌∙◌, arith}
-use Rattle.std.specs.Prelude.{All, IfSome, nat_le}
+use Rattle.std.proofs.Common.{◌≡◌, ℕ, ◌<◌, Bool, true, Option, Some, None, List, [], ◌∷◌, length, map, filter, flat_map, filter_map, reverse, get_or, slice_get, refl, sym, subst, ap, ◌∙◌, arith}
+use Rattle.std.specs.Prelude.{All, IfSome}
 use Rattle.std.specs.List.{list_all, slice_split}
-use Rattle.std.proofs.lemmas.Bool.Decides.{nat_tests}
-use Rattle.std.proofs.lemmas.List.{length-map, length-reverse, reverse-append}
+use Rattle.std.proofs.lemmas.List.{length-map}
 use Rattle.std.proofs.lemmas.List.Elements.{All-nil, All-cons, All-head, All-tail, All-append, All-filter, All-weaker}
 use Rattle.std.proofs.lemmas.List.Sums.{list_all-from_AllPass}
 use Rattle.std.proofs.lemmas.Option.{slice_get-map, slice_get-get_or, get_or_from_slice_get}
@@ -17,10 +16,11 @@ use Rattle.ps_model.specs.rules.SourceRules.{SourceRule, RuleLine, Rule, LoopSta
 use Rattle.ps_model.specs.board.RulePrograms.{is_in_part, rule_in, is_start, is_end, groups_of}
 use Rattle.ps_model.specs.meaning.GameRules.{IsRuleOf, IsLineOf}
 use Rattle.ps_model.specs.meaning.TurnedRound.{row_turned}
-use Rattle.ps_model.specs.meaning.Compiled.{CompiledCell, CompiledRule, CompiledSection, CompiledGroup, CompiledLoop}
+use Rattle.ps_model.specs.meaning.Compiled.{CompiledRule, CompiledSection, CompiledGroup, CompiledLoop}
 use Rattle.ps_model.specs.meaning.CompiledRules.{compiled_rules}
-use Rattle.ps_laws.specs.ShortRows.{IsShort, HasShortRows, IsShortLine}
+use Rattle.ps_laws.specs.WholeRows.{IsWholeRow, HasWholeRows, IsWholeLine}
 use Rattle.ps_laws.specs.CompiledGames.{PutsOwn, IsWriteOf, IsCompiledCellOf, IsCompiledRuleOf, IsSectionOf}
+use Rattle.ps_laws.proofs.common.WholeRows.{All-reverse, whole-turned}
 use Rattle.ps_laws.proofs.common.Everywhere.{either_one, All-mapped, All-flat_map, All-filter_map, All-slice_split}
 use Rattle.ps_laws.proofs.grids.KeptRules.{All-groups_of}
 use Rattle.ps_laws.proofs.masks.OwnLayers.{compiled_rules-game}
@@ -57,19 +57,15 @@ put_has_room names table layers e room layer (Put object) h = own_room names tab
 put_has_room names table layers e room layer Leave h = refl
 put_has_room names table layers e room layer Clear h = refl
 
-short_passes : (n : ℕ) → n ≤ 2 → nat_le n 2 ≡ true
-short_passes n h = grind (arith, nat_tests)
-
 -- a rule of the game
 rule_runs-so : (names : Names) (table : Option (List ℕ)) (layers : List LayerId) → layer_numbers layers ≡ names.layers → HaveRoom table layers → (rule : CompiledRule) → IsCompiledRuleOf names rule →
     rule_runs table rule ≡ true
 rule_runs-so names table layers e room rule h =
-    all_pass (λ (row : List (List CompiledCell)). IsShort row × All (All (IsCompiledCellOf names)) row) (row_runs table)
-    (λ row both. ap₂ (λ (a b : Bool). a && b) (short_passes (length row) both.0)
+    all_pass (All (All (IsCompiledCellOf names))) (row_runs table)
     (all_pass (All (IsCompiledCellOf names)) (list_all (cell_has_room table))
-    (λ part. all_pass (IsCompiledCellOf names) (cell_has_room table)
-    (λ cell. all_pass (IsWriteOf names) (has_room_for table) (λ write. put_has_room names table layers e room (write.layer).0 write.object) cell.write.layers) part) row both.1))
-    rule.rows (λ k d within. (h.short k d within, h.cells k d within))
+    (all_pass (IsCompiledCellOf names) (cell_has_room table)
+    (λ cell. all_pass (IsWriteOf names) (has_room_for table) (λ write. put_has_room names table layers e room (write.layer).0 write.object) cell.write.layers)))
+    rule.rows h.cells
 
 -- a section of the game
 section_runs-so : (names : Names) (table : Option (List ℕ)) (layers : List LayerId) → layer_numbers layers ≡ names.layers → HaveRoom table layers → (section : CompiledSection) → IsSectionOf names section →
@@ -85,71 +81,65 @@ sections-run names sections of_game table layers e room = all_pass (IsSectionOf 
 
 -- compact programs of a game ------------------------------------------------------------------------------------------------
 
--- what all have, all have from the other end
-All-back : {X : Type 0} (P : X → Type 0) (xs : List X) → All P xs → All P (reverse xs)
-All-back P [] all = All-nil P
-All-back P (x ∷ xs) all =
-    subst (λ (back : List _). All P back) (sym (reverse-append (x ∷ []) xs))
-    (All-append P (reverse xs) (x ∷ []) (All-back P xs (All-tail P x xs all)) (All-cons P x [] (All-head P x xs all) (All-nil P)))
-
 -- a rule turned round
 turned-game : (names : Names) (rule : CompiledRule) → IsCompiledRuleOf names rule → IsCompiledRuleOf names (rule_turned rule)
 turned-game names rule h = record {
-  short = All-mapped IsShort IsShort row_turned rule.rows (λ row few. subst (λ (n : ℕ). n ≤ 2) (sym (length-reverse (map reverse row) ∙ length-map row reverse)) few) h.short;
+  whole = All-mapped IsWholeRow IsWholeRow row_turned rule.rows whole-turned h.whole;
   cells =
       All-mapped (All (All (IsCompiledCellOf names))) (All (All (IsCompiledCellOf names))) row_turned rule.rows
-      (λ row all. All-back (All (IsCompiledCellOf names)) (map reverse row) (All-mapped (All (IsCompiledCellOf names)) (All (IsCompiledCellOf names)) reverse row (λ part. All-back (IsCompiledCellOf names) part) all)) h.cells;
+      (λ row all. All-reverse (All (IsCompiledCellOf names)) (map reverse row) (All-mapped (All (IsCompiledCellOf names)) (All (IsCompiledCellOf names)) reverse row (λ part. All-reverse (IsCompiledCellOf names) part) all)) h.cells;
 }
 
 -- the compact rules of a game's rule
-compact_rules-game : (names : Names) (rule : SourceRule) → IsRuleOf names rule × HasShortRows rule → All (IsCompiledRuleOf names) (compact_rules names rule)
+compact_rules-game : (names : Names) (rule : SourceRule) → IsRuleOf names rule × HasWholeRows rule → All (IsCompiledRuleOf names) (compact_rules names rule)
 compact_rules-game names rule h =
     All-filter is_busy (IsCompiledRuleOf names) (map rule_forwards (compiled_rules names rule))
     (All-mapped (IsCompiledRuleOf names) (IsCompiledRuleOf names) rule_forwards (compiled_rules names rule)
     (λ made of_game. either_one (IsCompiledRuleOf names) (faces_back made.direction) (rule_turned made) made (turned-game names made of_game) of_game) (compiled_rules-game names rule h.0 h.1))
 
--- a rule of the game whose rows are short, and a line that has such a rule, or none
-abbrev IsShortRuleOf : Names → SourceRule → Type 0
-IsShortRuleOf names rule = IsRuleOf names rule × HasShortRows rule
+-- a rule of the game whose rows are whole, and a line that has such a rule, or none
+abbrev IsWholeRuleOf : Names → SourceRule → Type 0
+IsWholeRuleOf names rule = IsRuleOf names rule × HasWholeRows rule
 
-abbrev IsShortLineOf : Names → RuleLine → Type 0
-IsShortLineOf names line = IsLineOf names line × IsShortLine line
+abbrev IsWholeLineOf : Names → RuleLine → Type 0
+IsWholeLineOf names line = IsLineOf names line × IsWholeLine line
 
-rule_in-short : (names : Names) (line : RuleLine) → IsShortLineOf names line → IfSome (rule_in line) (IsShortRuleOf names)
-rule_in-short names (Rule rule) h = h
-rule_in-short names LoopStart h = tt
-rule_in-short names LoopEnd h = tt
+rule_in-whole : (names : Names) (line : RuleLine) → IsWholeLineOf names line → IfSome (rule_in line) (IsWholeRuleOf names)
+rule_in-whole names (Rule rule) h = h
+rule_in-whole names LoopStart h = tt
+rule_in-whole names LoopEnd h = tt
 
-groups-game : (names : Names) (part : Part) (lines : List RuleLine) → All (IsShortLineOf names) lines → All (All (IsCompiledRuleOf names)) (compact_groups names part lines)
+groups-game : (names : Names) (part : Part) (lines : List RuleLine) → All (IsWholeLineOf names) lines → All (All (IsCompiledRuleOf names)) (compact_groups names part lines)
 groups-game names part lines all =
     let rules : List SourceRule = filter (is_in_part part) (filter_map rule_in lines) in
-    let game : All (IsShortRuleOf names) rules =
-    All-filter (is_in_part part) (IsShortRuleOf names) (filter_map rule_in lines) (All-filter_map (IsShortRuleOf names) (IsShortLineOf names) rule_in lines (rule_in-short names) all) in
-    All-mapped (All (IsCompiledRuleOf names)) (All (IsShortRuleOf names)) (flat_map (compact_rules names)) (groups_of rules)
-    (λ group. All-flat_map (IsCompiledRuleOf names) (IsShortRuleOf names) (compact_rules names) group (compact_rules-game names)) (All-groups_of (IsShortRuleOf names) rules game)
+    let game : All (IsWholeRuleOf names) rules =
+    All-filter (is_in_part part) (IsWholeRuleOf names) (filter_map rule_in lines) (All-filter_map (IsWholeRuleOf names) (IsWholeLineOf names) rule_in lines (rule_in-whole names) all) in
+    All-mapped (All (IsCompiledRuleOf names)) (All (IsWholeRuleOf names)) (flat_map (compact_rules names)) (groups_of rules)
+    (λ group. All-flat_map (IsCompiledRuleOf names) (IsWholeRuleOf names) (compact_rules names) group (compact_rules-game names)) (All-groups_of (IsWholeRuleOf names) rules game)
 
-outside-game : (names : Names) (part : Part) (lines : List RuleLine) → All (IsShortLineOf names) lines → All (IsSectionOf names) (compact_outside names part lines)
+outside-game : (names : Names) (part : Part) (lines : List RuleLine) → All (IsWholeLineOf names) lines → All (IsSectionOf names) (compact_outside names part lines)
 outside-game names part lines all =
     All-mapped (IsSectionOf names) (All (IsCompiledRuleOf names)) CompiledGroup (compact_groups names part lines) (λ rules h. h) (groups-game names part lines all)
 
-loop_and_rest-game : (names : Names) (part : Part) (pieces : List (List RuleLine)) → All (All (IsShortLineOf names)) pieces → All (IsSectionOf names) (compact_loop_and_rest names part pieces)
+loop_and_rest-game : (names : Names) (part : Part) (pieces : List (List RuleLine)) → All (All (IsWholeLineOf names)) pieces → All (IsSectionOf names) (compact_loop_and_rest names part pieces)
 loop_and_rest-game names part [] all = All-nil (IsSectionOf names)
 loop_and_rest-game names part (body ∷ others) all =
     All-cons (IsSectionOf names) (CompiledLoop (compact_groups names part body)) (flat_map (compact_outside names part) others)
-    (groups-game names part body (All-head (All (IsShortLineOf names)) body others all))
-    (All-flat_map (IsSectionOf names) (All (IsShortLineOf names)) (compact_outside names part) others (outside-game names part) (All-tail (All (IsShortLineOf names)) body others all))
+    (groups-game names part body (All-head (All (IsWholeLineOf names)) body others all))
+    (All-flat_map (IsSectionOf names) (All (IsWholeLineOf names)) (compact_outside names part) others (outside-game names part) (All-tail (All (IsWholeLineOf names)) body others all))
 
-pieces-game : (names : Names) (part : Part) (pieces : List (List RuleLine)) → All (All (IsShortLineOf names)) pieces → All (IsSectionOf names) (compact_pieces names part pieces)
+pieces-game : (names : Names) (part : Part) (pieces : List (List RuleLine)) → All (All (IsWholeLineOf names)) pieces → All (IsSectionOf names) (compact_pieces names part pieces)
 pieces-game names part [] all = All-nil (IsSectionOf names)
 pieces-game names part (before ∷ behind) all =
     All-append (IsSectionOf names) (compact_outside names part before) (flat_map (λ lines. compact_loop_and_rest names part (slice_split is_end lines)) behind)
-    (outside-game names part before (All-head (All (IsShortLineOf names)) before behind all))
-    (All-flat_map (IsSectionOf names) (All (IsShortLineOf names)) (λ lines. compact_loop_and_rest names part (slice_split is_end lines)) behind
-    (λ lines h. loop_and_rest-game names part (slice_split is_end lines) (All-slice_split (IsShortLineOf names) is_end lines h)) (All-tail (All (IsShortLineOf names)) before behind all))
+    (outside-game names part before (All-head (All (IsWholeLineOf names)) before behind all))
+    (All-flat_map (IsSectionOf names) (All (IsWholeLineOf names)) (λ lines. compact_loop_and_rest names part (slice_split is_end lines)) behind
+    (λ lines h. loop_and_rest-game names part (slice_split is_end lines) (All-slice_split (IsWholeLineOf names) is_end lines h)) (All-tail (All (IsWholeLineOf names)) before behind all))
 
 -- the compact program of lines
-pub runs-on-boards : (names : Names) (part : Part) (lines : List RuleLine) (sections : List CompiledSection) → sections ≡ compact_program names part lines → RunsOnBoards names lines sections
-runs-on-boards names part lines sections e of_game short table layers listed room =
+pub runs-on-boards : (names : Names) (part : Part) (lines : List RuleLine) (sections : List CompiledSection) → sections ≡ compact_program names part lines → All IsWholeLine lines →
+    RunsOnBoards names lines sections
+runs-on-boards names part lines sections e whole of_game table layers listed room =
     subst (λ (made : List CompiledSection). IsRunnable table made) (sym e)
     (sections-run names (compact_program names part lines)
-    (pieces-game names part (slice_split is_start lines) (All-slice_split (IsShortLineOf names) is_start lines (λ k d within. (of_game k d within, short k d within)))) table layers listed room)
+    (pieces-game names part (slice_split is_start lines) (All-slice_split (IsWholeLineOf names) is_start lines (λ k d within. (of_game k d within, whole k d within)))) table layers listed room)

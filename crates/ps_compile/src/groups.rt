@@ -5,6 +5,7 @@ ghost use Rattle.std.specs.Option.{option_to_list};
 ghost use Rattle.ps_model.specs.names.Names.{Names as NamesMeant};
 ghost use Rattle.ps_model.specs.rules.SourceRules.{SourceRule as Meant};
 ghost use Rattle.ps_model.specs.board.RulePrograms.{groups_of};
+ghost use Rattle.ps_laws.specs.WholeRows.{HasWholeRows};
 ghost use Rattle.ps_rules.specs.RulesShown.{rule_shown as source_shown};
 ghost use Rattle.ps_program.specs.ProgramShown.{rules_shown, groups_shown};
 ghost use Rattle.ps_compile.specs.GroupsMade.{compiled_group};
@@ -77,6 +78,7 @@ impl<'r> Groups<'r> {
 
     /// Takes the compiled rules of the next rule.
     pub fn add(&mut self, alloc: Global, names: &Names, rule: &'r SourceRule) -> Result<(), Memory>
+        requires { HasWholeRows (source_shown rule.now) }
         ensures { OnOk result ((rules : Sequence Meant) → groups_with names.now self.new rules
             ≡ groups_with names.now self.old (source_shown rule.entry.now ∷ rules)) }
     {

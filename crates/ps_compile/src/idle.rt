@@ -8,7 +8,7 @@ ghost use Rattle.ps_program.specs.ProgramShown.{cell_shown, mask_shown, row_show
 ghost use Rattle.ps_compile.specs.IdleRules.{is_void, is_void_cell, asks, is_idle};
 
 use ps_model::LayeredObject;
-use ps_program::{CellMask, CompiledCell, CompiledRule, all_listed, is_listed};
+use ps_program::{CellMask, CompiledCell, CompiledRow, CompiledRule, all_listed, is_listed};
 use ps_rules::Commands;
 use ps_text::List;
 
@@ -52,10 +52,10 @@ fn has_void_part(part: &[CompiledCell]) -> bool
 }
 
 /// Whether a cell of the row does.
-fn has_void_row(row: &[List<CompiledCell>]) -> bool
+fn has_void_row(row: &CompiledRow) -> bool
     ensures { result ≡ list_any (list_any is_void_cell) (row_shown row.now) }
 {
-    for part in row {
+    for part in row.parts.as_slice() {
         if has_void_part(part.as_slice()) {
             return true;
         }
@@ -64,11 +64,11 @@ fn has_void_row(row: &[List<CompiledCell>]) -> bool
 }
 
 /// Whether a cell of the rows does.
-fn has_void_cell(rows: &[List<List<CompiledCell>>]) -> bool
+fn has_void_cell(rows: &[CompiledRow]) -> bool
     ensures { result ≡ list_any (list_any (list_any is_void_cell)) (rows_shown rows.now) }
 {
     for row in rows {
-        if has_void_row(row.as_slice()) {
+        if has_void_row(row) {
             return true;
         }
     }
@@ -88,10 +88,10 @@ fn leaves_part(part: &[CompiledCell]) -> bool
 }
 
 /// Whether all cells of the row do.
-fn leaves_row(row: &[List<CompiledCell>]) -> bool
+fn leaves_row(row: &CompiledRow) -> bool
     ensures { result ≡ list_all (list_all leaves) (row_shown row.now) }
 {
-    for part in row {
+    for part in row.parts.as_slice() {
         if !leaves_part(part.as_slice()) {
             return false;
         }
@@ -100,11 +100,11 @@ fn leaves_row(row: &[List<CompiledCell>]) -> bool
 }
 
 /// Whether all cells of the rows do.
-fn leaves_all(rows: &[List<List<CompiledCell>>]) -> bool
+fn leaves_all(rows: &[CompiledRow]) -> bool
     ensures { result ≡ list_all (list_all (list_all leaves)) (rows_shown rows.now) }
 {
     for row in rows {
-        if !leaves_row(row.as_slice()) {
+        if !leaves_row(row) {
             return false;
         }
     }

@@ -1,10 +1,11 @@
 //! The two compiled programs of a game's rules.
 
-ghost use Rattle.std.specs.Prelude.{◌≡◌, ◌++◌, IfOk, OnOk, map};
+ghost use Rattle.std.specs.Prelude.{◌≡◌, ◌++◌, All, IfOk, OnOk, map};
 ghost use Rattle.std.specs.List.{flat_map};
 ghost use Rattle.ps_model.specs.declared.rules.Part.TheVariants.{Plain, Late};
 ghost use Rattle.ps_model.specs.board.RulePrograms.{is_in_part};
 ghost use Rattle.ps_model.specs.meaning.Compiled.{CompiledGroup};
+ghost use Rattle.ps_laws.specs.WholeRows.{IsWholeLine};
 ghost use Rattle.ps_compile.specs.CompactPrograms.{compact_groups, compact_outside, compact_loop_and_rest};
 ghost use Rattle.ps_compile.specs.CompactPrograms.{compact_pieces, compact_program};
 ghost use Rattle.ps_rules.specs.RulesShown.{rule_shown as source_shown, lines_shown};
@@ -47,6 +48,7 @@ fn compiled_groups<'r>(
     part: Part,
     lines: &'r [RuleLine],
 ) -> Result<Vec<List<CompiledRule<'r>>>, Memory>
+    requires { All IsWholeLine (lines_shown lines.now) }
     ensures { IfOk result (λ groups. groups_shown groups.items
         ≡ compact_groups names.now part (lines_shown lines.entry.now)) }
 {
@@ -84,6 +86,7 @@ fn push_outside<'r>(
     part: Part,
     lines: &'r [RuleLine],
 ) -> Result<(), Memory>
+    requires { All IsWholeLine (lines_shown lines.now) }
     ensures { OnOk result (sections_shown sections.new.items
         ≡ sections_shown sections.old.items ++ compact_outside names.now part (lines_shown lines.entry.now)) }
 {
@@ -99,6 +102,7 @@ fn push_all_outside<'r>(
     part: Part,
     pieces: &[&'r [RuleLine]],
 ) -> Result<(), Memory>
+    requires { All (All IsWholeLine) (pieces_shown pieces.now) }
     ensures { OnOk result (sections_shown sections.new.items
         ≡ sections_shown sections.old.items ++ flat_map (compact_outside names.now part) (pieces_shown pieces.now)) }
 {
@@ -116,6 +120,7 @@ fn push_loop<'r>(
     part: Part,
     pieces: &[&'r [RuleLine]],
 ) -> Result<(), Memory>
+    requires { All (All IsWholeLine) (pieces_shown pieces.now) }
     ensures { OnOk result (sections_shown sections.new.items
         ≡ sections_shown sections.old.items ++ compact_loop_and_rest names.now part (pieces_shown pieces.now)) }
 {
@@ -135,6 +140,7 @@ fn push_behind<'r>(
     part: Part,
     lines: &'r [RuleLine],
 ) -> Result<(), Memory>
+    requires { All IsWholeLine (lines_shown lines.now) }
     ensures { OnOk result (sections_shown sections.new.items
         ≡ sections_shown sections.old.items ++ sections_behind names.now part (lines_shown lines.entry.now)) }
 {
@@ -150,6 +156,7 @@ fn push_all_behind<'r>(
     part: Part,
     pieces: &[&'r [RuleLine]],
 ) -> Result<(), Memory>
+    requires { All (All IsWholeLine) (pieces_shown pieces.now) }
     ensures { OnOk result (sections_shown sections.new.items
         ≡ sections_shown sections.old.items ++ flat_map (sections_behind names.now part) (pieces_shown pieces.now)) }
 {
@@ -167,6 +174,7 @@ fn push_pieces<'r>(
     part: Part,
     pieces: &[&'r [RuleLine]],
 ) -> Result<(), Memory>
+    requires { All (All IsWholeLine) (pieces_shown pieces.now) }
     ensures { OnOk result (sections_shown sections.new.items
         ≡ sections_shown sections.old.items ++ compact_pieces names.now part (pieces_shown pieces.now)) }
 {
@@ -184,6 +192,7 @@ fn program_of<'r>(
     part: Part,
     lines: &'r [RuleLine],
 ) -> Result<Program<'r>, Memory>
+    requires { All IsWholeLine (lines_shown lines.now) }
     ensures { IfOk result (λ program. program ≡ compact_program names.now part (lines_shown lines.entry.now)) }
 {
     let pieces = cut_at_starts(alloc, lines)?;

@@ -1,22 +1,25 @@
 //! The compiled rules of a rule: one for each of its possible readings that can do something, in their order, facing
 //! down or right.
 
-ghost use Rattle.std.specs.Prelude.{◌≡◌, ◌++◌, ◌∷◌, [], IfOk, OnOk, map, filter};
+ghost use Rattle.std.specs.Prelude.{◌≡◌, ◌++◌, ◌∷◌, [], All, IfOk, OnOk, map, filter};
 ghost use Rattle.ps_model.specs.meaning.CompiledRules.{compiled_cell, rule_by};
 ghost use Rattle.ps_model.specs.meaning.ReadingMeanings.{is_possible as is_possible_meant};
+ghost use Rattle.ps_laws.specs.WholeRows.{IsWholeRow, HasWholeRows};
 ghost use Rattle.ps_rules.specs.RulesShown.{part_shown, tree_row_shown, tree_rows_shown, rule_shown as source_shown};
 ghost use Rattle.ps_readings.specs.ReadingsShown.{reading_shown};
-ghost use Rattle.ps_program.specs.ProgramShown.{cell_shown, row_shown, rows_shown, rule_shown, rules_shown};
+ghost use Rattle.ps_program.specs.Axes.{LiesAlong};
+ghost use Rattle.ps_program.specs.ProgramShown.{cell_shown, parts_shown, row_shown, rows_shown, rule_shown};
+ghost use Rattle.ps_program.specs.ProgramShown.{rules_shown};
 ghost use Rattle.ps_compile.specs.CompactPrograms.{rule_forwards, is_busy, compact, compact_rules};
 ghost use Rattle.ps_compile.specs.PossibleRules.{rule_if};
 ghost use Rattle.ps_compile.specs.TurnedRows.{part_from, row_from};
 
 use crate::cells::compiled_cell;
 use crate::idle::is_idle;
-use crate::turning::{faces_back, facing_forwards, from_end};
+use crate::turning::{axis_of, faces_back, from_end};
 use ps_model::Memory;
 use ps_names::Names;
-use ps_program::{CompiledCell, CompiledRule};
+use ps_program::{Axis, CompiledCell, CompiledRow, CompiledRule};
 use ps_readings::{Reading, Readings, is_possible};
 use ps_rules::{CellPair, Occurrences, SourceRule};
 use ps_text::List;
@@ -67,7 +70,7 @@ fn compiled_parts(
     row: &[List<CellPair>],
     backwards: bool,
 ) -> Result<Vec<List<CompiledCell>>, Memory>
-    ensures { IfOk result (λ made. row_shown made.items
+    ensures { IfOk result (λ made. parts_shown made.items
         ≡ map (part_from backwards (compiled_cell names.now occurrences.now (reading_shown reading.now)))
         (tree_row_shown row.now)) }
 {
@@ -93,14 +96,18 @@ fn compiled_row(
     occurrences: &Occurrences<'_>,
     reading: &Reading,
     row: &[List<CellPair>],
+    axis: Axis,
     backwards: bool,
-) -> Result<List<List<CompiledCell>>, Memory>
-    ensures { IfOk result (λ made. row_shown made
+) -> Result<CompiledRow, Memory>
+    requires { IsWholeRow (tree_row_shown row.now) }
+    ensures axis { IfOk result (LiesAlong axis) }
+    ensures row { IfOk result (λ made. row_shown made
         ≡ row_from backwards (compiled_cell names.now occurrences.now (reading_shown reading.now))
         (tree_row_shown row.now)) }
 {
     let parts = compiled_parts(alloc, names, occurrences, reading, row, backwards)?;
-    Ok(from_end(parts, backwards))
+    let parts = from_end(parts, backwards);
+    Ok(CompiledRow { axis, parts })
 }
 
 /// The rows of a rule, compiled.
@@ -110,9 +117,12 @@ fn compiled_rows(
     occurrences: &Occurrences<'_>,
     reading: &Reading,
     rows: &[List<List<CellPair>>],
+    axis: Axis,
     backwards: bool,
-) -> Result<List<List<List<CompiledCell>>>, Memory>
-    ensures { IfOk result (λ made. rows_shown made
+) -> Result<List<CompiledRow>, Memory>
+    requires { All IsWholeRow (tree_rows_shown rows.now) }
+    ensures axis { IfOk result (All (LiesAlong axis)) }
+    ensures rows { IfOk result (λ made. rows_shown made
         ≡ map (row_from backwards (compiled_cell names.now occurrences.now (reading_shown reading.now)))
         (tree_rows_shown rows.now)) }
 {
@@ -124,6 +134,7 @@ fn compiled_rows(
             occurrences,
             reading,
             row.as_slice(),
+            axis,
             backwards,
         )?;
         made.push(compiled)?;
@@ -138,10 +149,12 @@ fn rule_by<'r>(
     occurrences: &Occurrences<'r>,
     reading: &Reading,
 ) -> Result<CompiledRule<'r>, Memory>
+    requires { HasWholeRows occurrences.now }
     ensures { IfOk result (λ made. rule_shown made
         ≡ rule_forwards (rule_by names.now occurrences.now (reading_shown reading.now))) }
 {
     let rule = occurrences.rule();
+    let axis = axis_of(reading.direction);
     let backwards = faces_back(reading.direction);
     let rows = compiled_rows(
         alloc,
@@ -149,10 +162,10 @@ fn rule_by<'r>(
         occurrences,
         reading,
         rule.rows.as_slice(),
+        axis,
         backwards,
     )?;
-    let direction = facing_forwards(reading.direction);
-    let made = CompiledRule::try_new(alloc, direction, rows, rule.rewrites, &rule.commands)?;
+    let made = CompiledRule::try_new(alloc, axis, rows, rule.rewrites, &rule.commands)?;
     Ok(made)
 }
 
@@ -176,6 +189,7 @@ fn push_if_possible<'r>(
     occurrences: &Occurrences<'r>,
     reading: &Reading,
 ) -> Result<(), Memory>
+    requires { HasWholeRows occurrences.now }
     ensures { OnOk result (rules_shown rules.new.items
         ≡ rules_shown rules.old.items ++ compact (rule_if names.now occurrences.now (reading_shown reading.now))) }
 {
@@ -193,6 +207,7 @@ fn push_readings<'r>(
     names: &Names,
     occurrences: &Occurrences<'r>,
 ) -> Result<(), Memory>
+    requires { HasWholeRows occurrences.now }
     ensures { OnOk result (rules_shown rules.new.items
         ≡ rules_shown rules.old.items ++ compact_rules names.now occurrences.now) }
 {
@@ -211,6 +226,7 @@ pub fn push_rules<'r>(
     names: &Names,
     rule: &'r SourceRule,
 ) -> Result<(), Memory>
+    requires { HasWholeRows (source_shown rule.now) }
     ensures { OnOk result (rules_shown rules.new.items
         ≡ rules_shown rules.old.items ++ compact_rules names.now (source_shown rule.entry.now)) }
 {

@@ -2,9 +2,11 @@
 
 ghost use Rattle.std.specs.Prelude.{◌≡◌};
 ghost use Rattle.ps_compile.specs.CompactPrograms.{faces_back};
+ghost use Rattle.ps_program.specs.Axes.{direction_of};
 ghost use Rattle.ps_compile.specs.TurnedRows.{facing_forwards, from_end};
 
 use ps_model::Direction;
+use ps_program::Axis;
 use ps_text::List;
 
 /// Whether the direction is up or left.
@@ -19,15 +21,15 @@ pub fn faces_back(direction: Direction) -> bool
     }
 }
 
-/// Down for up, right for left; the others as they are.
-pub fn facing_forwards(direction: Direction) -> Direction
-    ensures { result ≡ facing_forwards direction }
+/// The axis along which a rule of that direction lies.
+pub fn axis_of(direction: Direction) -> Axis
+    ensures { direction_of result ≡ facing_forwards direction }
 {
     match direction {
-        Direction::Up => Direction::Down,
-        Direction::Down => Direction::Down,
-        Direction::Left => Direction::Right,
-        Direction::Right => Direction::Right,
+        Direction::Up => Axis::Down,
+        Direction::Down => Axis::Down,
+        Direction::Left => Axis::Right,
+        Direction::Right => Axis::Right,
     }
 }
 

@@ -70,7 +70,7 @@ fn sections_of(alloc: Global, rules: &str) -> Option<(usize, usize)> {
 /// The object that a compiled rule needs first in the cell of its first row at that place.
 fn needed_at(rule: &CompiledRule<'_>, cell: usize) -> Option<u32> {
     let row = rule.rows.as_slice().get(0)?;
-    let part = row.as_slice().get(0)?;
+    let part = row.parts.as_slice().get(0)?;
     let made = part.as_slice().get(cell)?;
     let first = made.mask.needed.as_slice().get(0)?;
     Some(first.object.0)

@@ -1,9 +1,9 @@
 -- A rule that needs an object which is nowhere on the board, or asks for a motion that nothing there has, has no combination.
-use Rattle.std.proofs.Common.{◌≡◌, ◌∙◌, ℕ, suc, zero, ◌<◌, ◌+◌, ◌*◌, ◌/◌, ◌%◌, ◌&&◌, ◌⊎◌, inl, inr, Bool, true, false, cond, Option, Some, None, List, [], ◌∷◌, ◌++◌, length, map, filter, take, get_or, refl, sym, subst, ap, arith}
+use Rattle.std.proofs.Common.{◌≡◌, ◌∙◌, ℕ, suc, zero, ◌<◌, ◌+◌, ◌*◌, ◌/◌, ◌%◌, ◌&&◌, ◌⊎◌, inl, inr, Bool, true, false, cond, Option, Some, None, List, [], ◌∷◌, ◌++◌, length, map, filter, get_or, refl, sym, subst, ap, arith}
 use Rattle.std.specs.Prelude.{not, slice_get}
 use Rattle.std.specs.List.{flat_map, list_all, list_any, Contains}
 use Rattle.std.proofs.Math.Bool.{and-false}
-use Rattle.std.proofs.lemmas.List.{get_or_default, length-map}
+use Rattle.std.proofs.lemmas.List.{get_or_default, length-map, map-append}
 use Rattle.std.proofs.lemmas.Nat.{div-add-mod', div_below, mod_below}
 use Rattle.std.proofs.lemmas.Option.{get_or_from_slice_get, slice_get_within}
 use Rattle.std.proofs.lemmas.Grind.{flat_map-append}
@@ -22,13 +22,11 @@ use Rattle.ps_program.specs.Needs.{asked_by_part, asked_by_row, asked_by_rows, c
 use Rattle.ps_board.specs.ColumnSets.{set_columns}
 use Rattle.ps_board.proofs.ColumnLaws.{none_in}
 use Rattle.ps_match.specs.Nowhere.{HasMovesIn, IsNowhere, NoneMovesOnRow}
-use Rattle.ps_places.specs.Found.{row_meaning}
-use Rattle.ps_places.specs.RowCells.{all_cells}
-use Rattle.ps_places.specs.RowMeanings.{cell_meaning, parts_meaning, meanings_of}
-use Rattle.ps_places.proofs.Closed.{cells_in-meant}
-use Rattle.ps_places.proofs.Ranges.{flat_map-none}
-use Rattle.ps_engine.proofs.Combinations.{no_combination}
-use Rattle.ps_engine.proofs.RowByRow.{get-shown_twice}
+use Rattle.ps_program.specs.declared.rows.CompiledRow.{CompiledRow}
+use Rattle.ps_places.specs.Lines.{cell_meaning}
+use Rattle.ps_places.specs.RowPlaces.{cells_meaning, parts_meaning, row_meaning}
+use Rattle.ps_engine.proofs.Choosing.{cells_in-meant}
+use Rattle.ps_engine.proofs.Combinations.{get-shown_twice, no_combination}
 
 -- elements of lists ----------------------------------------------------------------------------------------------------
 
@@ -60,6 +58,19 @@ module _ {X Y : Type 0} (f : X → List Y) where
   source_of : (xs : List X) (y : Y) → Contains (flat_map f xs) y → Source f xs y
   source_of [] y (k, low, e) = absurd (omega (arith, low))
   source_of (x ∷ xs) y h = source_by x xs y (source_of xs y) (in_either (f x) (flat_map f xs) y h)
+
+-- the cells of parts, in written order
+abbrev pub all_cells : List (List CompiledCell) → List CompiledCell
+all_cells parts = flat_map (λ part. part) parts
+
+cells_meaning-all : (table : Option (List ℕ)) (parts : List (List CompiledCell)) → cells_meaning table parts ≡ map (cell_meaning table) (all_cells parts)
+cells_meaning-all table [] = refl
+cells_meaning-all table (part ∷ parts) =
+    ap (λ (ms : List CellMeaning). map (cell_meaning table) part ++ ms) (cells_meaning-all table parts) ∙ sym (map-append (cell_meaning table) part (all_cells parts))
+
+flat_map-none : {X Y : Type 0} (f : X → List Y) (xs : List X) → ((x : X) → f x ≡ []) → flat_map f xs ≡ []
+flat_map-none f [] none = refl
+flat_map-none f (x ∷ xs) none = ap (λ (ys : List _). ys ++ flat_map f xs) (none x) ∙ flat_map-none f xs none
 
 -- what the parts ask for is what their cells ask for
 asked_joined : {X : Type 0} (asked : CompiledCell → List X) (parts : List (List CompiledCell)) → flat_map (asked_by_part asked) parts ≡ flat_map asked (all_cells parts)
@@ -104,22 +115,22 @@ module _ {X : Type 0} (g : Grid) (table : Option (List ℕ)) (asked : CompiledCe
       let row : List (List CellMeaning) = parts_meaning table parts in
       flat_map-none (λ end. filter (fits_along g _) (stretches g direction (map length row) end)) (search_order g direction)
       (λ end. none_kept (fits_along g _) (stretches g direction (map length row) end)
-      (λ at. ap (λ (ms : List CellMeaning). fits_along g ms at) (cells_in-meant table parts) ∙ row_off (all_cells parts) cell there asks at))
+      (λ at. ap (λ (ms : List CellMeaning). fits_along g ms at) (cells_in-meant table parts ∙ cells_meaning-all table parts) ∙ row_off (all_cells parts) cell there asks at))
 
-  row_without : (direction : Direction) (row : List (List CompiledCell)) → Contains (asked_by_row asked row) x → places g direction (row_meaning table row) ≡ []
+  row_without : (direction : Direction) (row : CompiledRow) → Contains (asked_by_row asked row) x → places g direction (row_meaning table row) ≡ []
   row_without direction row (k, low, e) =
-      let parts : List (List CompiledCell) = take 2 row in
+      let parts : List (List CompiledCell) = row.parts in
       let asks : Contains (flat_map asked (all_cells parts)) x = rw (← asked_joined asked parts) (k, low, e) in
       parts_off direction parts (source_of asked (all_cells parts) x asks)
 
-  rows_without : (direction : Direction) (rows : List (List (List CompiledCell))) → Source (asked_by_row asked) rows x →
+  rows_without : (direction : Direction) (rows : List CompiledRow) → Source (asked_by_row asked) rows x →
       combinations (map (places g direction) (map (row_meaning table) rows)) ≡ []
   rows_without direction rows (row, (k, low, e), asks) =
       let at = places g direction in
       let within : k < length (map at (map (row_meaning table) rows)) = rw (length-map (map (row_meaning table) rows) at, length-map rows (row_meaning table)) low in
       no_combination (map at (map (row_meaning table) rows)) k [] within (get-shown_twice (row_meaning table) at rows k row [] low (sym e) ∙ row_without direction row asks)
 
-  pub rule_without : (direction : Direction) (rows : List (List (List CompiledCell))) (asks : List X) (k : ℕ) (d : X) → asks ≡ asked_by_rows asked rows → k < length asks → get_or asks k d ≡ x →
+  pub rule_without : (direction : Direction) (rows : List CompiledRow) (asks : List X) (k : ℕ) (d : X) → asks ≡ asked_by_rows asked rows → k < length asks → get_or asks k d ≡ x →
       combinations (map (places g direction) (map (row_meaning table) rows)) ≡ []
   rule_without direction rows asks k d is low e =
       let here : Contains asks x = (k, low, get_or_default asks k x d low ∙ e) in
@@ -143,7 +154,7 @@ object_off g table object nowhere cell needs number (Some slots) e =
     let same : cell_at g number ≡ slots = get_or_from_slice_get g.cells number slots [] e in
     mask_off cell.mask object slots (ap (λ (s : List Slot). is_held_in s object) (sym same) ∙ nowhere number) needs
 
-pub rule_lacking : (g : Grid) (table : Option (List ℕ)) (direction : Direction) (rows : List (List (List CompiledCell))) (objects : List LayeredObject) (k : ℕ) (d : LayeredObject) →
+pub rule_lacking : (g : Grid) (table : Option (List ℕ)) (direction : Direction) (rows : List CompiledRow) (objects : List LayeredObject) (k : ℕ) (d : LayeredObject) →
     objects ≡ rows_need rows → k < length objects → IsNowhere g (get_or objects k d) → combinations (map (places g direction) (map (row_meaning table) rows)) ≡ []
 rule_lacking g table direction rows objects k d is low nowhere =
     rule_without g table cell_needs (get_or objects k d) (λ cell asks number. object_off g table (get_or objects k d) nowhere cell asks number (slice_get g.cells number) refl)
@@ -175,7 +186,7 @@ cell_still g table test grid nowhere cell asks number (Some slots) e =
     (not_all (moves_as_asked slots) test
     (ap (λ (s : List Slot). moves_as_asked s test) (sym same) ∙ ap (λ (n : ℕ). moves_as_asked (cell_at g n) test) (sym place) ∙ off) cell.mask.motions asks)
 
-pub rule_still : (g : Grid) (table : Option (List ℕ)) (direction : Direction) (rows : List (List (List CompiledCell))) (tests : List MotionTest) (k : ℕ) (d : MotionTest) → IsGrid g →
+pub rule_still : (g : Grid) (table : Option (List ℕ)) (direction : Direction) (rows : List CompiledRow) (tests : List MotionTest) (k : ℕ) (d : MotionTest) → IsGrid g →
     tests ≡ rows_move rows → k < length tests → MovesNowhere g (get_or tests k d) → combinations (map (places g direction) (map (row_meaning table) rows)) ≡ []
 rule_still g table direction rows tests k d grid is low nowhere =
     rule_without g table cell_moves (get_or tests k d) (λ cell asks number. cell_still g table (get_or tests k d) grid nowhere cell asks number (slice_get g.cells number) refl)

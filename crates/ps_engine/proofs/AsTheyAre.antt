@@ -1,22 +1,21 @@
 -- What a board can run as it is means on it what it means.
-use Rattle.std.proofs.Common.{◌≡◌, ◌∙◌, ℕ, ◌≤◌, ◌&&◌, Bool, true, false, cond, Option, Some, None, List, [], ◌∷◌, length, map, filter, take, refl, sym, ap, ap₂, arith}
-use Rattle.std.specs.Prelude.{nat_le}
+use Rattle.std.proofs.Common.{◌≡◌, ◌∙◌, ℕ, ◌&&◌, Bool, true, false, cond, Option, Some, None, List, [], ◌∷◌, map, filter, refl, sym, ap, ap₂}
 use Rattle.std.specs.List.{list_all}
-use Rattle.std.proofs.lemmas.Bool.Decides.{nat_tests}
-use Rattle.std.proofs.lemmas.List.{length-map}
 use Rattle.ps_model.specs.declared.compiled.LayerWrite.{LayerWrite}
 use Rattle.ps_model.specs.meaning.Compiled as model
 use Rattle.ps_model.specs.meaning.RuleMeanings.{CellMeaning, RuleMeaning}
-use Rattle.ps_model.specs.board.Programs.{Section, Group as GroupOf, Loop as LoopOf}
+use Rattle.ps_model.specs.board.Programs.{Group as GroupOf, Loop as LoopOf}
 use Rattle.ps_program.specs.declared.cells.CompiledCell.{CompiledCell}
 use Rattle.ps_program.specs.declared.rules.CompiledRule.{CompiledRule}
 use Rattle.ps_program.specs.declared.program.CompiledSection.{CompiledSection}
 use Rattle.ps_program.specs.declared.program.CompiledSection.TheVariants.{Group, Loop}
-use Rattle.ps_program.specs.ProgramShown.{cell_shown, row_shown, rows_shown, rule_shown, rules_shown, groups_shown, section_shown, sections_shown, write_shown}
-use Rattle.ps_match.specs.InRoom.{write_in_room, cell_in_room}
-use Rattle.ps_places.specs.RowMeanings.{cell_meaning}
-use Rattle.ps_places.specs.Found.{row_meaning}
-use Rattle.ps_engine.specs.RulesInRoom.{rule_meaning, rules_meaning, groups_meaning, section_meaning, sections_meaning}
+use Rattle.ps_program.specs.ProgramShown.{cell_shown, row_shown, rule_shown, rules_shown, section_shown, sections_shown, write_shown}
+use Rattle.ps_match.specs.InRoom.{write_in_room}
+use Rattle.ps_program.specs.declared.rows.CompiledRow.{CompiledRow}
+use Rattle.ps_program.specs.Axes.{direction_of}
+use Rattle.ps_places.specs.Lines.{cell_meaning, part_meaning}
+use Rattle.ps_places.specs.RowPlaces.{row_meaning}
+use Rattle.ps_engine.specs.RulesInRoom.{rule_meaning, rules_meaning, section_meaning, sections_meaning}
 use Rattle.ps_board.specs.Runnable.{has_room_for, cell_has_room, row_runs, rule_runs, section_runs, IsRunnable}
 
 -- both of two tests
@@ -52,26 +51,15 @@ cell_as_it_is : (table : Option (List ℕ)) (cell : CompiledCell) → cell_has_r
 cell_as_it_is table cell room =
     ap (λ (w : model.CellWrite). model.meaning_of_cell (record { mask = (cell_shown cell).mask; write = w })) (write_as_it_is table (write_shown cell.write) room)
 
-short : {X : Type 0} (xs : List X) → length xs ≤ 2 → take 2 xs ≡ xs
-short [] h = refl
-short (x ∷ []) h = refl
-short (x ∷ y ∷ []) h = refl
-short (x ∷ y ∷ z ∷ xs) h = absurd (omega arith)
-
-row_as_it_is : (table : Option (List ℕ)) (row : List (List CompiledCell)) → row_runs table (row_shown row) ≡ true → row_meaning table row ≡ map (map model.meaning_of_cell) (row_shown row)
+row_as_it_is : (table : Option (List ℕ)) (row : CompiledRow) → row_runs table (row_shown row) ≡ true → row_meaning table row ≡ map (map model.meaning_of_cell) (row_shown row)
 row_as_it_is table row runs =
-    let parts : List (List model.CompiledCell) = row_shown row in
-    let few : nat_le (length parts) 2 ≡ true = left_of (nat_le (length parts) 2) (list_all (list_all (cell_has_room table)) parts) runs in
-    let room : list_all (list_all (cell_has_room table)) parts ≡ true = right_of (nat_le (length parts) 2) (list_all (list_all (cell_has_room table)) parts) runs in
-    let as_many : length parts ≡ length row = length-map row (map cell_shown) in
-    ap (map (map (cell_meaning table))) (short row (grind (arith, nat_tests)))
-    ∙ mapped (map cell_shown) (list_all (cell_has_room table)) (map (cell_meaning table)) (λ part. map model.meaning_of_cell (map cell_shown part)) row
-    (λ part all. mapped cell_shown (cell_has_room table) (cell_meaning table) (λ cell. model.meaning_of_cell (cell_shown cell)) part (cell_as_it_is table) all ∙ sym (twice model.meaning_of_cell cell_shown part)) room
-    ∙ sym (twice (map model.meaning_of_cell) (map cell_shown) row)
+    mapped (map cell_shown) (list_all (cell_has_room table)) (part_meaning table) (λ part. map model.meaning_of_cell (map cell_shown part)) row.parts
+    (λ part all. mapped cell_shown (cell_has_room table) (cell_meaning table) (λ cell. model.meaning_of_cell (cell_shown cell)) part (cell_as_it_is table) all ∙ sym (twice model.meaning_of_cell cell_shown part)) runs
+    ∙ sym (twice (map model.meaning_of_cell) (map cell_shown) row.parts)
 
 pub rule_as_it_is : (table : Option (List ℕ)) (rule : CompiledRule) → rule_runs table (rule_shown rule) ≡ true → rule_meaning table rule ≡ model.meaning_of_rule (rule_shown rule)
 rule_as_it_is table rule runs =
-    ap (λ (rows : List (List (List CellMeaning))). let r : RuleMeaning = record { direction = rule.direction; rows = rows; rewrites = rule.rewrites; commands = (rule_shown rule).commands } in r)
+    ap (λ (rows : List (List (List CellMeaning))). let r : RuleMeaning = record { direction = direction_of rule.axis; rows = rows; rewrites = rule.rewrites; commands = (rule_shown rule).commands } in r)
     (mapped row_shown (row_runs table) (row_meaning table) (λ row. map (map model.meaning_of_cell) (row_shown row)) rule.rows (row_as_it_is table) runs ∙ sym (twice (map (map model.meaning_of_cell)) row_shown rule.rows))
 
 rules_as_they_are : (table : Option (List ℕ)) (rules : List CompiledRule) → list_all (rule_runs table) (rules_shown rules) ≡ true → rules_meaning table rules ≡ map model.meaning_of_rule (rules_shown rules)

@@ -1,11 +1,16 @@
 -- What an attempt comes to.
-use Rattle.std.proofs.Common.{◌≡◌, ◌∙◌, ℕ, Bool, true, false, List, [], ◌∷◌, fold, refl, sym, ap, ap₂}
+use Rattle.std.proofs.Common.{◌≡◌, ◌≢◌, ◌∙◌, ℕ, Bool, true, false, Option, List, [], ◌∷◌, map, fold, refl, sym, ap, ap₂}
 use Rattle.ps_model.specs.board.Grid.{Grid}
-use Rattle.ps_model.specs.board.Attempts.{State, Result, Rewritten, applied, attempt_by, queued}
+use Rattle.ps_model.specs.board.Attempts.{Result, Rewritten, applied, attempt_by, queued}
 use Rattle.ps_model.specs.rules.SourceRules.{Commands}
 use Rattle.ps_model.specs.meaning.RuleMeanings.{CellMeaning, RuleMeaning}
 use Rattle.ps_model.specs.declared.pieces.Direction.{Direction}
-use Rattle.ps_places.specs.Found.{has_one}
+use Rattle.ps_program.specs.declared.cells.CompiledCell.{CompiledCell}
+use Rattle.ps_program.specs.declared.rows.CompiledRow.{CompiledRow}
+use Rattle.ps_places.specs.Lines.{cell_meaning}
+use Rattle.ps_places.specs.RowPlaces.{parts_meaning, row_meaning}
+use Rattle.ps_engine.specs.Choosing.{rows_meaning}
+use Rattle.ps_engine.specs.OneCell.{one_cell, rows_parts}
 
 -- a grid as it was
 abbrev pub unchanged : Grid → Rewritten
@@ -28,17 +33,23 @@ attempt_walked direction rows rewrites commands g queue all first others r e doe
     ap (λ (x : Rewritten). let s : Result = record { state = record { grid = x.grid; queue = queued queue commands }; changed = x.changed } in s) (made ∙ ap (fold (applied rows) (unchanged g)) e)
     ∙ sym (ap₂ (λ (b : Bool) (xs : List (List (List ℕ))). attempt_by (rule_of direction rows b commands) (record { grid = g; queue = queue }) xs) does e)
 
--- the commands of a rule that rewrites nothing, where it has a combination or not
-pub attempt_asked : (direction : Direction) (rows : List (List (List CellMeaning))) (rewrites : Bool) (commands : Commands) (g : Grid) (queue after : Commands) (all : List (List (List ℕ))) → rewrites ≡ false →
-    has_one all ≡ true → after ≡ queued queue commands →
-    (let r : Result = record { state = record { grid = g; queue = after }; changed = false } in r) ≡ attempt_by (rule_of direction rows rewrites commands) (record { grid = g; queue = queue }) all
-attempt_asked direction rows rewrites commands g queue after [] idle one e = absurd (cc)
-attempt_asked direction rows rewrites commands g queue after (first ∷ others) idle one e = rw (e, idle) refl
+-- the commands of a rule that rewrites nothing, where it has a combination
+pub attempt_asked : (direction : Direction) (rows : List (List (List CellMeaning))) (rewrites : Bool) (commands : Commands) (g : Grid) (queue : Commands) (all : List (List (List ℕ)))
+    (first : List (List ℕ)) (others : List (List (List ℕ))) → all ≡ first ∷ others → rewrites ≡ false →
+    (let r : Result = record { state = record { grid = g; queue = queued queue commands }; changed = false } in r) ≡ attempt_by (rule_of direction rows rewrites commands) (record { grid = g; queue = queue }) all
+attempt_asked direction rows rewrites commands g queue all first others e idle = rw (e, idle) refl
 
 -- or all of some are applied
 pub attempt_written : (direction : Direction) (rows : List (List (List CellMeaning))) (rewrites : Bool) (commands : Commands) (g : Grid) (queue : Commands) (all : List (List (List ℕ))) (r : Rewritten) →
-    rewrites ≡ true → has_one all ≡ true → r ≡ fold (applied rows) (unchanged g) all →
+    rewrites ≡ true → all ≢ [] → r ≡ fold (applied rows) (unchanged g) all →
     (let s : Result = record { state = record { grid = r.grid; queue = queued queue commands }; changed = r.changed } in s) ≡ attempt_by (rule_of direction rows rewrites commands) (record { grid = g; queue = queue }) all
-attempt_written direction rows rewrites commands g queue [] r does one made = absurd (cc)
-attempt_written direction rows rewrites commands g queue (first ∷ others) r does one made =
+attempt_written direction rows rewrites commands g queue [] r does some made = absurd (some refl)
+attempt_written direction rows rewrites commands g queue (first ∷ others) r does some made =
     attempt_walked direction rows rewrites commands g queue (first ∷ others) first others r refl does made
+
+-- what the only cell of rows means
+pub only_cell_meant : (table : Option (List ℕ)) (rows : List CompiledRow) (cell : CompiledCell) → rows_parts rows ≡ one_cell cell → rows_meaning table rows ≡ ((cell_meaning table cell ∷ []) ∷ []) ∷ []
+only_cell_meant table rows cell only = twice rows ∙ ap (map (parts_meaning table)) only where
+  twice : (rs : List CompiledRow) → rows_meaning table rs ≡ map (parts_meaning table) (rows_parts rs)
+  twice [] = refl
+  twice (row ∷ rs) = ap (λ (ms : List (List (List CellMeaning))). row_meaning table row ∷ ms) (twice rs)

@@ -1,100 +1,48 @@
--- The walk over combinations.
-use Rattle.std.proofs.Common.{◌≡◌, ◌∙◌, ℕ, ◌+◌, ◌<◌, ◌≤◌, suc, zero, ◌&&◌, Bool, true, false, cond, Option, Some, None, List, [], ◌∷◌, ◌++◌, length, map, drop, take, get_or, replicate, refl, sym, ap, ap₂, subst, arith}
-use Rattle.std.specs.Prelude.{nat_lt, slice_set, option_map}
-use Rattle.std.specs.List.{flat_map, list_all}
-use Rattle.std.proofs.Math.Seq.{drop-cons}
-use Rattle.std.proofs.lemmas.Bool.Decides.{nat_tests}
-use Rattle.ps_model.specs.board.Attempts.{combinations}
-use Rattle.ps_places.specs.Found.{has_one}
-use Rattle.ps_engine.specs.Choices.{chosen, spread, behind, next_choice, following, IsChoice}
+-- The combinations of a rule's places, where the first place of each row is chosen.
+use Rattle.std.proofs.Common.{◌≡◌, ◌∙◌, ℕ, suc, zero, ◌<◌, ◌≤◌, inl, inr, Bool, true, false, Option, Some, List, [], ◌∷◌, ◌++◌, length, map, filter, get_or, refl, sym, ap, ap₂, arith}
+use Rattle.std.specs.Prelude.{All, slice_get, slice_set}
+use Rattle.std.specs.List.{flat_map}
+use Rattle.std.proofs.lemmas.Bool.{cases_eq}
+use Rattle.std.proofs.lemmas.List.{length-map}
+use Rattle.std.proofs.lemmas.Option.{slice_get-get_or}
+use Rattle.ps_model.specs.declared.pieces.Direction.{Direction}
+use Rattle.ps_model.specs.board.Grid.{Grid}
+use Rattle.ps_model.specs.board.Places.{cells_in, fits_along, places, search_order, stretches}
+use Rattle.ps_model.specs.board.Attempts.{all_fit, combinations}
+use Rattle.ps_model.specs.meaning.RuleMeanings.{CellMeaning}
+use Rattle.ps_program.specs.declared.rows.Axis.{Axis}
+use Rattle.ps_program.specs.declared.rows.CompiledRow.{CompiledRow}
+use Rattle.ps_program.specs.Axes.{LiesAlong, direction_of}
+use Rattle.ps_places.specs.declared.room.RowRoom.{RowRoom}
+use Rattle.ps_places.specs.RowPlaces.{all_places, place_at, place_fits, places_behind, row_meaning}
+use Rattle.ps_places.specs.Starts.{HasLinesOf, HaveSameStarts}
+use Rattle.ps_places.specs.Ways.{from_first}
+use Rattle.ps_engine.specs.Choices.{Choice, behind, choices_of, chosen, spread}
+use Rattle.ps_engine.specs.Choosing.{IsChosenOf, IsPlaced, OfEach, rows_meaning}
+use Rattle.ps_engine.proofs.Choosing.{cells_in-meant, chosen_fits, inside, same_places}
+use Rattle.ps_engine.proofs.RoomsChanged.{get_other, get_same}
+use Rattle.ps_engine.proofs.Sought.{first_is, found_or, from_first-append, from_first-yes}
 
--- the choice goes on with the other lists
-pub IsChoice-rest : (places : List (List ℕ)) (others : List (List (List ℕ))) (number : ℕ) (numbers : List ℕ) → IsChoice (places ∷ others) (number ∷ numbers) → IsChoice others numbers
-IsChoice-rest places others number numbers is = record { long = (let e : length (number ∷ numbers) ≡ length (places ∷ others) = is.long in omega arith); within = λ i h. is.within (suc i) (omega arith) }
+-- of elements that are all of a kind the first is of the kind ----------------------------------------------------------
 
--- the next choice, and what is behind it
-behind_first : (places : List (List ℕ)) (n : ℕ) (rest : List (List ℕ)) → n + 1 < length places →
-    map (λ place. place ∷ rest) (drop (suc n) places) ≡ (get_or places (n + 1) [] ∷ rest) ∷ map (λ place. place ∷ rest) (drop (suc (n + 1)) places)
-behind_first places n rest h =
-    let e : suc n ≡ n + 1 = omega arith in
-    ap (λ (k : ℕ). map (λ place. place ∷ rest) (drop k places)) e ∙ ap (map (λ place. place ∷ rest)) (drop-cons places (n + 1) [] h)
+module _ {X : Type 0} (kind : X → Bool) where
+  kept_by : (x : X) (xs : List X) (b : Bool) → kind x ≡ b → from_first kind (filter kind xs) ≡ filter kind xs → from_first kind (filter kind (x ∷ xs)) ≡ filter kind (x ∷ xs)
+  kept_by x xs true e rest = rw e (from_first-yes kind x (filter kind xs) e)
+  kept_by x xs false e rest = rw e rest
 
-none_behind : (places : List (List ℕ)) (n : ℕ) (rest : List (List ℕ)) → length places ≤ n + 1 → map (λ place. place ∷ rest) (drop (suc n) places) ≡ []
-none_behind [] n rest h = refl
-none_behind (p ∷ places) zero rest h = ap (map (λ place. place ∷ rest)) (nothing places (omega arith)) where
-  nothing : (ps : List (List ℕ)) → length ps ≤ 0 → ps ≡ []
-  nothing [] h = refl
-  nothing (p ∷ ps) h = absurd (omega arith)
-none_behind (p ∷ places) (suc n) rest h = none_behind places n rest (omega arith)
+  kept_all : (xs : List X) → from_first kind (filter kind xs) ≡ filter kind xs
+  kept_all [] = refl
+  kept_all (x ∷ xs) = kept_by x xs (kind x) refl (kept_all xs)
 
-first_of : (places : List (List ℕ)) (rest : List (List ℕ)) → 0 < length places →
-    map (λ place. place ∷ rest) places ≡ (get_or places 0 [] ∷ rest) ∷ map (λ place. place ∷ rest) (drop (suc 0) places)
-first_of [] rest h = absurd (omega arith)
-first_of (p ∷ places) rest h = refl
+  joined : (xs ys : List X) → from_first kind xs ≡ xs → from_first kind ys ≡ ys → from_first kind (xs ++ ys) ≡ xs ++ ys
+  joined xs ys first others = from_first-append kind xs ys ∙ ap (λ (zs : List X). found_or kind zs ys) first ∙ same xs where
+    same : (zs : List X) → found_or kind zs ys ≡ zs ++ ys
+    same [] = others
+    same (z ∷ zs) = refl
 
-pub carried : (places : List (List ℕ)) (others : List (List (List ℕ))) (next : Option (List ℕ)) → 0 < length places →
-    spread places (following others next) ≡ following (places ∷ others) (option_map (λ rest. 0 ∷ rest) next)
-carried places others None h = refl
-carried places others (Some numbers) h = ap (λ (front : List (List (List ℕ))). front ++ spread places (behind others numbers)) (first_of places (chosen others numbers) h)
-
-next_is : (places : List (List ℕ)) (others : List (List (List ℕ))) (number : ℕ) (numbers : List ℕ) (test : Bool) → nat_lt (number + 1) (length places) ≡ test →
-    behind others numbers ≡ following others (next_choice others numbers) → number < length places →
-    behind (places ∷ others) (number ∷ numbers) ≡ following (places ∷ others) (cond test (Some ((number + 1) ∷ numbers)) (option_map (λ rest. 0 ∷ rest) (next_choice others numbers)))
-next_is places others number numbers true e rest h =
-    let low : number + 1 < length places = grind (arith, nat_tests) in
-    ap (λ (front : List (List (List ℕ))). front ++ spread places (behind others numbers)) (behind_first places number (chosen others numbers) low)
-next_is places others number numbers false e rest h =
-    let high : length places ≤ number + 1 = grind (arith, nat_tests) in
-    ap (λ (front : List (List (List ℕ))). front ++ spread places (behind others numbers)) (none_behind places number (chosen others numbers) high)
-    ∙ ap (spread places) rest
-    ∙ carried places others (next_choice others numbers) (omega arith)
-
-pub behind_is : (places : List (List (List ℕ))) (numbers : List ℕ) → IsChoice places numbers → behind places numbers ≡ following places (next_choice places numbers)
-behind_is [] numbers is = refl
-behind_is (places ∷ others) [] is = refl
-behind_is (places ∷ others) (number ∷ numbers) is =
-    next_is places others number numbers (nat_lt (number + 1) (length places)) refl (behind_is others numbers (IsChoice-rest places others number numbers is)) (is.within 0 (omega arith))
-
--- the first choice, and all behind it, are all combinations
-pub all_combinations : (places : List (List (List ℕ))) → ((i : ℕ) → i < length places → 0 < length (get_or places i [])) →
-    combinations places ≡ chosen places (replicate (length places) 0) ∷ behind places (replicate (length places) 0)
-all_combinations [] some = refl
-all_combinations (places ∷ others) some =
-    ap (spread places) (all_combinations others (λ i h. some (suc i) (omega arith)))
-    ∙ carried places others (Some (replicate (length others) 0)) (some 0 (omega arith))
-
--- the next choice is one
-first_up : (places : List (List ℕ)) (others : List (List (List ℕ))) (first : ℕ) (numbers : List ℕ) → first < length places → IsChoice others numbers → IsChoice (places ∷ others) (first ∷ numbers)
-first_up places others first numbers low is = record { long = (let l : length numbers ≡ length others = is.long in omega arith); within = at } where
-  at : (i : ℕ) → i < length (places ∷ others) → get_or (first ∷ numbers) i 0 < length (get_or (places ∷ others) i [])
-  at zero h = low
-  at (suc k) h = is.within k (omega arith)
-
-carried_choice : (places : List (List ℕ)) (others : List (List (List ℕ))) (found : Option (List ℕ)) (next : List ℕ) → ((rest : List ℕ) → found ≡ Some rest → IsChoice others rest) → 0 < length places →
-    option_map (λ r. 0 ∷ r) found ≡ Some next → IsChoice (places ∷ others) next
-carried_choice places others None next ih some e = absurd (cc)
-carried_choice places others (Some rest) next ih some e = let same : 0 ∷ rest ≡ next = cc in subst (λ (ns : List ℕ). IsChoice (places ∷ others) ns) same (first_up places others 0 rest some (ih rest refl))
-
-choice_by : (places : List (List ℕ)) (others : List (List (List ℕ))) (number : ℕ) (numbers next : List ℕ) (found : Option (List ℕ)) (test : Bool) → nat_lt (number + 1) (length places) ≡ test →
-    number < length places → IsChoice others numbers → ((rest : List ℕ) → found ≡ Some rest → IsChoice others rest) →
-    cond test (Some ((number + 1) ∷ numbers)) (option_map (λ rest. 0 ∷ rest) found) ≡ Some next → IsChoice (places ∷ others) next
-choice_by places others number numbers next found true t low is ih e =
-    let up : number + 1 < length places = grind (arith, nat_tests) in
-    let same : (number + 1) ∷ numbers ≡ next = cc in
-    subst (λ (ns : List ℕ). IsChoice (places ∷ others) ns) same (first_up places others (number + 1) numbers up is)
-choice_by places others number numbers next found false t low is ih e = carried_choice places others found next ih (omega arith) e
-
-pub IsChoice-next : (places : List (List (List ℕ))) (numbers next : List ℕ) → IsChoice places numbers → next_choice places numbers ≡ Some next → IsChoice places next
-IsChoice-next [] numbers next is e = absurd (cc)
-IsChoice-next (places ∷ others) [] next is e = absurd (cc)
-IsChoice-next (places ∷ others) (number ∷ numbers) next is e =
-    let tail : IsChoice others numbers = IsChoice-rest places others number numbers is in
-    choice_by places others number numbers next (next_choice others numbers) (nat_lt (number + 1) (length places)) refl (is.within 0 (omega arith)) tail (λ rest f. IsChoice-next others numbers rest tail f) e
-
--- the first choice is one
-pub IsChoice-first : (places : List (List (List ℕ))) → ((i : ℕ) → i < length places → 0 < length (get_or places i [])) → IsChoice places (replicate (length places) 0)
-IsChoice-first [] some = record { long = refl; within = λ i h. absurd (omega arith) }
-IsChoice-first (places ∷ others) some = first_up places others 0 (replicate (length others) 0) (some 0 (omega arith)) (IsChoice-first others (λ i h. some (suc i) (omega arith)))
+  pub all_of_kind : {Y : Type 0} (f : Y → List X) (ys : List Y) → from_first kind (flat_map (λ y. filter kind (f y)) ys) ≡ flat_map (λ y. filter kind (f y)) ys
+  all_of_kind f [] = refl
+  all_of_kind f (y ∷ ys) = joined (filter kind (f y)) (flat_map (λ z. filter kind (f z)) ys) (kept_all (f y)) (all_of_kind f ys)
 
 -- where a list has no place, there is no combination
 no_spread : (rests : List (List (List ℕ))) → spread [] rests ≡ []
@@ -106,32 +54,77 @@ no_combination [] i d h e = absurd (omega arith)
 no_combination (places ∷ others) zero d h e = rw e (no_spread (combinations others))
 no_combination (places ∷ others) (suc i) d h e = ap (spread places) (no_combination others i d (omega arith) e)
 
--- where each list has a place, there is a combination, and else none
-one_spread : (places : List (List ℕ)) (rests : List (List (List ℕ))) → has_one places ≡ true → has_one rests ≡ true → has_one (spread places rests) ≡ true
-one_spread [] rests e d = absurd (cc)
-one_spread (place ∷ places) [] e d = absurd (cc)
-one_spread (place ∷ places) (rest ∷ rests) e d = refl
+pub get-shown_twice : {P X Y : Type 0} (f : P → X) (h : X → Y) (xs : List P) (k : ℕ) (x : P) (d : Y) → k < length xs → x ≡ get_or xs k x → get_or (map h (map f xs)) k d ≡ h (f x)
+get-shown_twice f h [] k x d low e = absurd (omega arith)
+get-shown_twice f h (y ∷ xs) zero x d low e = ap (λ z. h (f z)) (sym e)
+get-shown_twice f h (y ∷ xs) (suc k) x d low e = get-shown_twice f h xs k x d (omega arith) e
 
-nothing_in : {X : Type 0} (xs : List X) → has_one xs ≡ false → xs ≡ []
-nothing_in [] e = refl
-nothing_in (x ∷ xs) e = absurd (cc)
+module _ (g : Grid) (table : Option (List ℕ)) where
+  -- the places of a row at the start all fit
+  pub all_fit_there : (direction : Direction) (row : CompiledRow) → from_first (place_fits g table row.parts) (places g direction (row_meaning table row)) ≡ places g direction (row_meaning table row)
+  all_fit_there direction row =
+      ap (λ (ms : List CellMeaning). from_first (fits_along g ms) (places g direction (row_meaning table row))) (sym (cells_in-meant table row.parts))
+      ∙ all_of_kind (fits_along g (cells_in (row_meaning table row))) (stretches g direction (map length (row_meaning table row))) (search_order g direction)
 
-module _ {A B : Type 0} (meant : A → B) (at : B → List (List ℕ)) where
-  some_by : (row : A) (rows : List A) (one others : Bool) → has_one (at (meant row)) ≡ one → (others ≡ true → has_one (combinations (map at (map meant rows))) ≡ true) → (one && others) ≡ true →
-      has_one (combinations (map at (map meant (row ∷ rows)))) ≡ true
-  some_by row rows true others d rest e = one_spread (at (meant row)) (combinations (map at (map meant rows))) d (rest e)
-  some_by row rows false others d rest e = absurd (cc)
+  -- a row's places are found, and the first is chosen
+  pub record HasFirst (row : CompiledRow) (room : RowRoom) : Type 0 where
+    pub places : places g (direction_of row.axis) (row_meaning table row) ≡ all_places g.height row room
+    pub first : all_places g.height row room ≡ place_at g.height row room ∷ places_behind g.height row room
+    pub fits : place_fits g table row.parts (place_at g.height row room) ≡ true
+    pub lines : HasLinesOf g row room
+    pub place : IsPlaced g row room
 
-  pub some_combination : (rows : List A) → list_all (λ row. has_one (at (meant row))) rows ≡ true → has_one (combinations (map at (map meant rows))) ≡ true
-  some_combination [] e = refl
-  some_combination (row ∷ rows) e = some_by row rows (has_one (at (meant row))) (list_all (λ r. has_one (at (meant r))) rows) refl (some_combination rows) e
+  -- the combination of the first places, and those behind it
+  pub all_combinations : (axis : Axis) (rows : List CompiledRow) (rooms : List RowRoom) → All (LiesAlong axis) rows → length rows ≤ length rooms → OfEach (λ k. 0 ≤ k) rows rooms HasFirst →
+      combinations (map (places g (direction_of axis)) (rows_meaning table rows)) ≡ chosen (choices_of g.height rows rooms) ∷ behind (choices_of g.height rows rooms)
+  all_combinations axis [] rooms along long each = refl
+  all_combinations axis (row ∷ rows) [] along long each = absurd (omega arith)
+  all_combinations axis (row ∷ rows) (room ∷ rooms) along long each =
+      let here = each 0 row room (omega arith) refl refl in
+      let others : List Choice = choices_of g.height rows rooms in
+      let lies : row.axis ≡ axis = along 0 row (omega arith) in
+      let own : places g (direction_of axis) (row_meaning table row) ≡ place_at g.height row room ∷ places_behind g.height row room =
+      ap (λ (a : Axis). places g (direction_of a) (row_meaning table row)) (sym lies) ∙ here.places ∙ here.first in
+      ap₂ spread own (all_combinations axis rows rooms (λ k d low. along (suc k) d (omega (arith, low))) (omega arith) (λ k r o low is there. each (suc k) r o (omega arith) is there))
+      ∙ ap (λ (ps : List (List ℕ)). map (λ place. place ∷ chosen others) (place_at g.height row room ∷ places_behind g.height row room) ++ spread ps (behind others)) (sym here.first)
 
-  none_by : (row : A) (rows : List A) (one others : Bool) → has_one (at (meant row)) ≡ one → (others ≡ false → combinations (map at (map meant rows)) ≡ []) → (one && others) ≡ false →
-      combinations (map at (map meant (row ∷ rows))) ≡ []
-  none_by row rows true others d rest e = ap (spread (at (meant row))) (rest e)
-  none_by row rows false others d rest e =
-      ap (λ (ps : List (List ℕ)). spread ps (combinations (map at (map meant rows)))) (nothing_in (at (meant row)) d) ∙ no_spread (combinations (map at (map meant rows)))
+  -- the first place is chosen among those that were found
+  module _ (row : CompiledRow) (found : RowRoom) (places_are : places g (direction_of row.axis) (row_meaning table row) ≡ all_places g.height row found) where
+    sought : from_first (place_fits g table row.parts) (all_places g.height row found) ≡ places g (direction_of row.axis) (row_meaning table row)
+    sought = ap (from_first (place_fits g table row.parts)) (sym places_are) ∙ all_fit_there (direction_of row.axis) row
 
-  pub no_combination_in : (rows : List A) → list_all (λ row. has_one (at (meant row))) rows ≡ false → combinations (map at (map meant rows)) ≡ []
-  no_combination_in [] e = absurd (cc)
-  no_combination_in (row ∷ rows) e = none_by row rows (has_one (at (meant row))) (list_all (λ r. has_one (at (meant r))) rows) refl (no_combination_in rows) e
+    pub is_first : (room : RowRoom) → HasLinesOf g row found → HaveSameStarts found room → IsChosenOf g table row (all_places g.height row found) room → HasFirst row room
+    is_first room lines starts chosen =
+        let alike : all_places g.height row room ≡ all_places g.height row found = same_places g table row found room starts in
+        record {
+          places = places_are ∙ sym alike;
+          first = alike ∙ sym places_are ∙ sym sought ∙ chosen.found;
+          fits = first_is (place_fits g table row.parts) (all_places g.height row found) (place_at g.height row room) (places_behind g.height row room) chosen.found;
+          lines = record { at = λ line there. lines.at line (rw (← starts.lines) there) };
+          place = chosen.place;
+        }
+
+    pub none_first : (axis : Axis) (rows : List CompiledRow) (n : ℕ) → All (LiesAlong axis) rows → n < length rows → row ≡ get_or rows n row →
+        from_first (place_fits g table row.parts) (all_places g.height row found) ≡ [] → combinations (map (places g (direction_of axis)) (rows_meaning table rows)) ≡ []
+    none_first axis rows n along low is none =
+        let lies : row.axis ≡ axis = ap (λ (r : CompiledRow). r.axis) is ∙ along n row low in
+        let at : List (List (List CellMeaning)) = rows_meaning table rows in
+        let within : n < length (map (places g (direction_of axis)) at) = rw (length-map at (places g (direction_of axis)), length-map rows (row_meaning table)) low in
+        no_combination (map (places g (direction_of axis)) at) n [] within
+        (get-shown_twice (row_meaning table) (places g (direction_of axis)) rows n row [] low is
+        ∙ ap (λ (a : Axis). places g (direction_of a) (row_meaning table row)) (sym lies) ∙ sym sought ∙ none)
+
+  pub first_more : (rows : List CompiledRow) (rooms : List RowRoom) (n m : ℕ) (row : CompiledRow) (room : RowRoom) → m ≡ suc n → slice_get rows n ≡ Some row → n < length rooms →
+      HasFirst row room → OfEach (λ k. k < n) rows rooms HasFirst → OfEach (λ k. k < m) rows (slice_set rooms n room) HasFirst
+  first_more rows rooms n m row room next is low here all k r o less own there = elim (cases_eq k n) [
+    | inl e ↦
+        let d : r ≡ row = inside (sym own ∙ ap (slice_get rows) e ∙ is) in
+        let f : o ≡ room = inside (sym there ∙ ap (slice_get (slice_set rooms n room)) e ∙ get_same rooms n (get_or rooms n room) room (slice_get-get_or rooms n room low)) in
+        rw (d, f) here
+    | inr other ↦ all k r o (omega (arith, less, next, other)) own (sym (get_other rooms n k room other) ∙ there)
+  ]
+
+  -- all rows fit at their first places
+  pub first_fits : (rows : List CompiledRow) (rooms : List RowRoom) → length rows ≤ length rooms → OfEach (λ k. 0 ≤ k) rows rooms HasFirst →
+      all_fit g (rows_meaning table rows) (chosen (choices_of g.height rows rooms)) ≡ true
+  first_fits rows rooms long each = chosen_fits g table rows rooms long (λ k r o low is there. (each k r o low is there).fits)

@@ -1,23 +1,23 @@
 -- Rules of one row of one cell: each place is a cell by itself, so the combinations of places write the cells that fit.
-use Rattle.std.proofs.Common.{◌≡◌, ◌≢◌, ◌∙◌, ℕ, zero, suc, ◌+◌, ◌-◌, ◌*◌, ◌/◌, ◌%◌, ◌<◌, ◌≤◌, ◌||◌, ◌&&◌, inl, inr, not, cond, Bool, true, false, Option, Some, None, List, [], ◌∷◌, ◌++◌, length, map, filter, fold, get_or, reverse, take, refl, sym, ap, ap₂, arith}
-use Rattle.std.specs.Prelude.{nat_eq, nat_lt, nat_le, slice_get, slice_set}
+use Rattle.std.proofs.Common.{◌≡◌, ◌≢◌, ◌∙◌, ℕ, zero, suc, ◌+◌, ◌-◌, ◌*◌, ◌/◌, ◌%◌, ◌<◌, ◌≤◌, ◌||◌, ◌&&◌, inl, inr, cond, Bool, true, false, Option, Some, None, List, [], ◌∷◌, ◌++◌, length, map, filter, fold, reverse, take, refl, sym, ap, arith}
+use Rattle.std.specs.Prelude.{nat_eq, nat_lt, nat_le, slice_get}
 use Rattle.std.specs.List.{flat_map, range_with_len}
-use Rattle.std.proofs.lemmas.Bool.{cases_Bool, cases_eq, cases_lt, eqb-true, eq-eqb, ne_eqb, lt-ltb, le-ltb}
+use Rattle.std.proofs.lemmas.Bool.{cases_eq, eqb-true, eq-eqb, ne_eqb, lt-ltb, le-ltb}
 use Rattle.std.proofs.lemmas.Grind.{flat_map-append, fold-append}
 use Rattle.std.proofs.lemmas.List.{map-append}
 use Rattle.std.proofs.lemmas.List.FromFn.{length-map-range_with_len}
 use Rattle.std.proofs.lemmas.Bool.Decides.{nat_tests}
-use Rattle.std.proofs.lemmas.Nat.{div-mul-add, mod-mul-add, div_below, mod_below}
-use Rattle.std.proofs.lemmas.Option.{slice_get-get_or}
+use Rattle.std.proofs.lemmas.Nat.{div-add-mod', div-mul-add, mod-mul-add, div_below, mod_below}
+use Rattle.std.proofs.lemmas.Option.{slice_get-get_or, slice_get_within}
 use Rattle.ps_model.specs.declared.pieces.Direction.{Direction}
 use Rattle.ps_model.specs.declared.pieces.Direction.TheVariants.{Up, Down, Left, Right}
 use Rattle.ps_model.specs.declared.pieces.Slot.{Slot}
 use Rattle.ps_model.specs.board.Grid.{Grid, cell_at}
-use Rattle.ps_model.specs.board.Places.{cells_in, column_by_column, fits_along, fits_there, places, row_by_row, search_order, stretches, ways_along}
-use Rattle.ps_model.specs.board.Attempts.{Rewritten, applied, combinations, rewritten_cell, same_cell, with_cell}
+use Rattle.ps_model.specs.board.Places.{column_by_column, fits_along, fits_there, places, row_by_row, search_order, stretches, ways_along}
+use Rattle.ps_model.specs.board.Attempts.{Rewritten, applied, combinations, rewritten_cell, with_cell}
 use Rattle.ps_model.specs.meaning.RuleMeanings.{CellMeaning}
 use Rattle.ps_board.proofs.PassedColumns.{cell_below}
-use Rattle.ps_match.specs.Together.{cell_where, rewritten_where}
+use Rattle.ps_match.specs.Together.{rewritten_where}
 use Rattle.ps_match.proofs.Chosen.{cell_at-where, length-where, or_nothing, where-agree, where-none, where-one}
 use Rattle.ps_match.proofs.RowWritten.{cell_known, lt_next, told, told-more}
 use Rattle.ps_engine.specs.OneCell.{fits_cell}
@@ -296,3 +296,86 @@ all_written-is g direction m some many =
       no_more : (ps : List (List (List ℕ))) → ps ++ [] ≡ ps
       no_more [] = refl
       no_more (p ∷ ps) = ap (λ (rest : List (List (List ℕ))). p ∷ rest) (no_more ps)
+
+-- whether there is one -----------------------------------------------------------------------------------------------------
+
+-- a list of lists that are all empty
+none_of_range : (f : ℕ → List (List ℕ)) (a n k : ℕ) → flat_map f (range_with_len a n) ≡ [] → a ≤ k → k < a + n → f k ≡ []
+none_of_range f a zero k none low high = absurd (omega arith)
+none_of_range f a (suc n) k none low high = elim (cases_eq k a) [
+  | inl e ↦ ap f e ∙ front_empty (f a) (flat_map f (range_with_len (a + 1) n)) none
+  | inr other ↦ none_of_range f (a + 1) n k (end_empty (f a) (flat_map f (range_with_len (a + 1) n)) none) (omega (arith, low, other)) (omega (arith, high))
+] where
+  front_empty : (xs ys : List (List ℕ)) → xs ++ ys ≡ [] → xs ≡ []
+  front_empty [] ys e = refl
+  front_empty (x ∷ xs) ys e = absurd (cc)
+
+  end_empty : (xs ys : List (List ℕ)) → xs ++ ys ≡ [] → ys ≡ []
+  end_empty [] ys e = e
+  end_empty (x ∷ xs) ys e = absurd (cc)
+
+over_twice : (f : ℕ → List (List ℕ)) (h : ℕ → List ℕ) (xs : List ℕ) → flat_map f (flat_map h xs) ≡ flat_map (λ x. flat_map f (h x)) xs
+over_twice f h [] = refl
+over_twice f h (x ∷ xs) = flat_map-append f (h x) (flat_map h xs) ∙ ap (λ (ys : List (List ℕ)). flat_map f (h x) ++ ys) (over_twice f h xs)
+
+over_mapped : (f : ℕ → List (List ℕ)) (h : ℕ → ℕ) (xs : List ℕ) → flat_map f (map h xs) ≡ flat_map (λ x. f (h x)) xs
+over_mapped f h [] = refl
+over_mapped f h (x ∷ xs) = ap (λ (ys : List (List ℕ)). f (h x) ++ ys) (over_mapped f h xs)
+
+searched_across : (g : Grid) (f : ℕ → List (List ℕ)) (n : ℕ) → 0 < g.height → n < g.width * g.height → flat_map f (row_by_row g) ≡ [] → f n ≡ []
+searched_across g f n some low none =
+    let row : ℕ = n % g.height in
+    let column : ℕ = n / g.height in
+    let under : row < g.height = mod_below n g.height some in
+    let across : column < g.width = div_below n g.height g.width some low in
+    let cells : ℕ → List ℕ = λ r. map (λ x. x * g.height + r) (range_with_len 0 g.width) in
+    let rows : flat_map (λ r. flat_map f (cells r)) (range_with_len 0 g.height) ≡ [] = sym (over_twice f cells (range_with_len 0 g.height)) ∙ none in
+    let own : flat_map f (cells row) ≡ [] = none_of_range (λ r. flat_map f (cells r)) 0 g.height row rows (omega arith) (omega (arith, under)) in
+    let there : f (column * g.height + row) ≡ [] =
+    none_of_range (λ x. f (x * g.height + row)) 0 g.width column (sym (over_mapped f (λ x. x * g.height + row) (range_with_len 0 g.width)) ∙ own) (omega arith) (omega (arith, across)) in
+    let place : column * g.height + row ≡ n = div-add-mod' n g.height in
+    ap f (sym place) ∙ there
+
+-- each cell of the grid is searched
+searched : (g : Grid) (direction : Direction) (f : ℕ → List (List ℕ)) (n : ℕ) → 0 < g.height → n < g.width * g.height → flat_map f (search_order g direction) ≡ [] → f n ≡ []
+searched g Up f n some low none = none_of_range f 0 (g.width * g.height) n none (omega arith) (omega (arith, low))
+searched g Down f n some low none = none_of_range f 0 (g.width * g.height) n none (omega arith) (omega (arith, low))
+searched g Left f n some low none = searched_across g f n some low none
+searched g Right f n some low none = searched_across g f n some low none
+
+no_places : (ps : List (List ℕ)) → map alone ps ++ [] ≡ [] → ps ≡ []
+no_places [] e = refl
+no_places (p ∷ ps) e = absurd (cc)
+
+fits_within : (g : Grid) (m : CellMeaning) (n : ℕ) → fits_cell g m n ≡ true → n < length g.cells
+fits_within g m n fits = by (slice_get g.cells n) refl fits where
+  by : (cell : Option (List Slot)) → slice_get g.cells n ≡ cell → fits_there m cell ≡ true → n < length g.cells
+  by None e good = absurd (cc)
+  by (Some cell) e good = slice_get_within g.cells n cell e
+
+-- where a cell fits there is a combination
+pub some_combination : (g : Grid) (direction : Direction) (m : CellMeaning) (n : ℕ) → 0 < g.height → length g.cells ≡ g.width * g.height → fits_cell g m n ≡ true →
+    combinations (places g direction ((m ∷ []) ∷ []) ∷ []) ≢ []
+some_combination g direction m n some many fits none =
+    let low : n < g.width * g.height = rw (← many) (fits_within g m n fits) in
+    let here : places_from g direction m n ≡ [] = searched g direction (places_from g direction m) n some low (no_places (places g direction ((m ∷ []) ∷ [])) none) in
+    let one : cond true ((n ∷ []) ∷ []) [] ≡ [] = ap (λ (b : Bool). cond b ((n ∷ []) ∷ []) []) (sym fits) ∙ sym (one_place g direction m n some low) ∙ here in
+    absurd (cc)
+
+-- and else none
+pub none_without : (g : Grid) (direction : Direction) (m : CellMeaning) → ((n : ℕ) → fits_cell g m n ≡ false) → combinations (places g direction ((m ∷ []) ∷ []) ∷ []) ≡ []
+none_without g direction m nowhere = ap (λ (ps : List (List ℕ)). map alone ps ++ []) (none_in_all (search_order g direction)) where
+  nothing : (test more : Bool) → test ≡ false → (elim test [ true ↦ more | false ↦ false ]) ≡ false
+  nothing test more e = rw e refl
+
+  off : (at : List ℕ) → fits_along g (m ∷ []) at ≡ false
+  off [] = refl
+  off (n ∷ at) = nothing (fits_there m (slice_get g.cells n)) (fits_along g [] at) (nowhere n)
+
+  none_kept : (ps : List (List ℕ)) → filter (fits_along g (m ∷ [])) ps ≡ []
+  none_kept [] = refl
+  none_kept (p ∷ ps) = rw (off p) (none_kept ps)
+
+  none_in_all : (ns : List ℕ) → flat_map (places_from g direction m) ns ≡ []
+  none_in_all [] = refl
+  none_in_all (n ∷ ns) = ap (λ (ps : List (List ℕ)). ps ++ flat_map (places_from g direction m) ns) (none_kept (stretches g direction (1 ∷ []) n)) ∙ none_in_all ns

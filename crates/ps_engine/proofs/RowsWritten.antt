@@ -1,10 +1,10 @@
 -- The cells of a board that fit, written row by row.
-use Rattle.std.proofs.Common.{◌≡◌, ◌≢◌, ◌∙◌, ℕ, ◌+◌, ◌*◌, ◌/◌, ◌%◌, ◌<◌, ◌≤◌, ◌||◌, ◌&&◌, inl, inr, Bool, true, false, Option, Some, List, [], ◌∷◌, length, refl, sym, ap, ap₂, arith}
+use Rattle.std.proofs.Common.{◌≡◌, ◌∙◌, ℕ, ◌+◌, ◌*◌, ◌/◌, ◌%◌, ◌<◌, ◌≤◌, ◌||◌, ◌&&◌, inl, inr, Bool, true, false, Option, Some, None, List, [], ◌∷◌, length, refl, sym, ap, arith}
 use Rattle.std.specs.Prelude.{nat_eq, not, slice_get}
 use Rattle.std.proofs.Math.Nat.{div-add-mod}
 use Rattle.std.proofs.lemmas.Bool.{and_parts, cases_eq, eqb-true, eq-eqb, ne_eqb}
-use Rattle.std.proofs.lemmas.Nat.{div_below, mod_below}
-use Rattle.std.proofs.lemmas.Option.{slice_get-get_or}
+use Rattle.std.proofs.lemmas.Nat.{div-mul-add, div_below, mod-mul-add, mod_below}
+use Rattle.std.proofs.lemmas.Option.{slice_get-get_or, slice_get_within}
 use Rattle.ps_model.specs.declared.limits.TheConstants.{SIDE_LIMIT}
 use Rattle.ps_model.specs.declared.pieces.Slot.{Slot}
 use Rattle.ps_model.specs.board.Grid.{Grid, IsGrid, cell_at}
@@ -21,7 +21,10 @@ use Rattle.ps_match.specs.Together.{is_on_row, rewritten_where}
 use Rattle.ps_match.proofs.Chosen.{cell_at-where, length-where, or_nothing, where-agree, where-none}
 use Rattle.ps_match.proofs.RowWritten.{height-where, told, told-more}
 use Rattle.ps_places.specs.Candidates.{FitsOnlyOn}
-use Rattle.ps_engine.specs.OneCell.{fits_cell}
+use Rattle.ps_engine.proofs.LeftAsIs.{stays_where}
+use Rattle.ps_engine.specs.OneCell.{FitsNowhere, FitsSomewhere, fits_cell}
+use Rattle.ps_places.specs.Lines.{cell_meaning}
+use Rattle.ps_program.specs.declared.cells.CompiledCell.{CompiledCell}
 
 -- the rows that aren't left are written, where a cell fits
 abbrev pub fits_passed : Grid → CellMeaning → List Bool → ℕ → Bool
@@ -143,3 +146,96 @@ row_empty start now m mask set left row columns any shape alike taken so scanned
     sym (here_or_before start m set left columns row n taken (omega (arith, under, shape.rows)) (λ r. column_fits start now m mask set row n columns shape alike first.0 high is scanned low r)
     ∙ ap (λ (b : Bool). fits_passed start m set n || (nat_eq (n % start.height) row && b)) (none_in columns (n / start.height) none (omega (arith, across, shape.columns)))
     ∙ nothing_more (fits_passed start m set n) (nat_eq (n % start.height) row)))
+
+-- whether a cell fits --------------------------------------------------------------------------------------------------
+
+-- a cell fits by its mask alone
+pub fits_by_mask : (table : Option (List ℕ)) (c : CompiledCell) (cell : Option (List Slot)) → fits_there (meaning_of_mask (mask_shown c.mask)) cell ≡ fits_there (cell_meaning table c) cell
+fits_by_mask table c None = refl
+fits_by_mask table c (Some cell) = refl
+
+-- no cell fits of the rows that aren't left
+abbrev pub NoneOfPassed : Grid → CellMeaning → List Bool → Type 0
+NoneOfPassed g m left = (n : ℕ) → n < length g.cells → fits_passed g m left n ≡ false
+
+pub none_at_first : (g : Grid) (m : CellMeaning) (left : List Bool) → IsGrid g → ArePassed (FitsNotAt g m) g.height left → NoneOfPassed g m left
+none_at_first g m left shape passed n low = none_passed g m left n (column_at left (n % g.height)) refl (mod_below n g.height shape.some_row) passed
+
+pub none_of_row : (start now : Grid) (m mask : CellMeaning) (set left : List Bool) (row : ℕ) (columns : List Bool) (any : Bool) → IsGrid start → ((cell : Option (List Slot)) → fits_there mask cell ≡ fits_there m cell) →
+    set_columns set ≡ row ∷ set_columns left → told now any ≡ passed_written start m set → columns ≡ row_fits now mask row → set_columns columns ≡ [] → NoneOfPassed start m set → NoneOfPassed start m left
+none_of_row start now m mask set left row columns any shape alike taken so scanned none before n low =
+    let is : now ≡ (passed_written start m set).grid = ap (λ (r : Rewritten). r.grid) so in
+    let high : now.height ≡ start.height = ap (λ (g : Grid). g.height) is ∙ height-where start m.rewritten (fits_passed start m set) in
+    let first = first_in set row (set_columns left) taken in
+    let under : n % start.height < start.height = mod_below n start.height shape.some_row in
+    let inside : n < start.width * start.height = rw (← shape.cells) low in
+    let across : n / start.height < start.width = div_below n start.height start.width shape.some_row inside in
+    here_or_before start m set left columns row n taken (omega (arith, under, shape.rows)) (λ r. column_fits start now m mask set row n columns shape alike first.0 high is scanned low r)
+    ∙ ap (λ (b : Bool). fits_passed start m set n || (nat_eq (n % start.height) row && b)) (none_in columns (n / start.height) none (omega (arith, across, shape.columns)))
+    ∙ nothing_more (fits_passed start m set n) (nat_eq (n % start.height) row)
+    ∙ before n low
+
+pub fits_nowhere : (g : Grid) (m : CellMeaning) (left : List Bool) → IsGrid g → set_columns left ≡ [] → NoneOfPassed g m left → FitsNowhere g m
+fits_nowhere g m left shape none before n = by (slice_get g.cells n) refl where
+  by : (cell : Option (List Slot)) → slice_get g.cells n ≡ cell → fits_cell g m n ≡ false
+  by None e = ap (fits_there m) e
+  by (Some cell) e =
+      let low : n < length g.cells = slice_get_within g.cells n cell e in
+      let under : n % g.height < g.height = mod_below n g.height shape.some_row in
+      ap (λ (b : Bool). not b && fits_cell g m n) (sym (none_in left (n % g.height) none (omega (arith, under, shape.rows)))) ∙ before n low
+
+-- a cell fits of a row whose columns aren't empty
+pub found_on_row : (start now : Grid) (m mask : CellMeaning) (set left : List Bool) (row : ℕ) (columns : List Bool) (any : Bool) → IsGrid start → ((cell : Option (List Slot)) → fits_there mask cell ≡ fits_there m cell) →
+    set_columns set ≡ row ∷ set_columns left → row < start.height → told now any ≡ passed_written start m set → columns ≡ row_fits now mask row → 0 < length (set_columns columns) → FitsSomewhere start m
+found_on_row start now m mask set left row columns any shape alike taken under so scanned some = by (set_columns columns) refl some where
+  is : now ≡ (passed_written start m set).grid
+  is = ap (λ (r : Rewritten). r.grid) so
+
+  high : now.height ≡ start.height
+  high = ap (λ (g : Grid). g.height) is ∙ height-where start m.rewritten (fits_passed start m set)
+
+  by : (xs : List ℕ) → set_columns columns ≡ xs → 0 < length xs → FitsSomewhere start m
+  by [] e many = absurd (omega (arith, many))
+  by (x ∷ xs) e many =
+      let first = first_in set row (set_columns left) taken in
+      let column = first_in columns x xs e in
+      let n : ℕ = x * start.height + row in
+      let fits : fits_there mask (slice_get now.cells n) ≡ true =
+      ap (λ (k : ℕ). fits_there mask (slice_get now.cells (x * k + row))) (sym high)
+      ∙ sym (column_at-where (λ k. fits_there mask (slice_get now.cells (k * now.height + row))) x column.1)
+      ∙ ap (λ (cs : List Bool). column_at cs x) (sym scanned) ∙ column.0 in
+      let low : n < length start.cells = rw (ap (λ (g : Grid). length g.cells) is ∙ length-where start m.rewritten (fits_passed start m set)) at (there (slice_get now.cells n) refl fits) in
+      let quotient : n / start.height ≡ x = div-mul-add x start.height row under in
+      let remainder : n % start.height ≡ row = mod-mul-add x start.height row under in
+      record {
+        number = n;
+        fits = sym (column_fits start now m mask set row n columns shape alike first.0 high is scanned low remainder) ∙ ap (column_at columns) quotient ∙ column.0;
+      } where
+        there : (cell : Option (List Slot)) → slice_get now.cells (x * start.height + row) ≡ cell → fits_there mask cell ≡ true → x * start.height + row < length now.cells
+        there None own good = absurd (cc)
+        there (Some cell) own good = slice_get_within now.cells (x * start.height + row) cell own
+
+-- a row whose cells that fit are left as they are
+pub row_left : (start now : Grid) (table : Option (List ℕ)) (cell : CompiledCell) (set left : List Bool) (row : ℕ) (columns : List Bool) (any : Bool) → IsGrid start → cell.changes ≡ false →
+    set_columns set ≡ row ∷ set_columns left → told now any ≡ passed_written start (cell_meaning table cell) set → columns ≡ row_fits now (meaning_of_mask (mask_shown cell.mask)) row →
+    told now any ≡ passed_written start (cell_meaning table cell) left
+row_left start now table cell set left row columns any shape idle taken so scanned =
+    let m : CellMeaning = cell_meaning table cell in
+    let mask : CellMeaning = meaning_of_mask (mask_shown cell.mask) in
+    let is : now ≡ (passed_written start m set).grid = ap (λ (r : Rewritten). r.grid) so in
+    let high : now.height ≡ start.height = ap (λ (g : Grid). g.height) is ∙ height-where start m.rewritten (fits_passed start m set) in
+    let many : length now.cells ≡ start.width * start.height = ap (λ (g : Grid). length g.cells) is ∙ length-where start m.rewritten (fits_passed start m set) ∙ shape.cells in
+    let some : 0 < now.height = rw high shape.some_row in
+    let here : ℕ → Bool = is_on_row now.height row columns in
+    let still : rewritten_where now m.rewritten here ≡ told now false =
+    stays_where now table cell here idle
+    (λ n low on.
+    let parts = and_parts (nat_eq (n % now.height) row) (column_at columns (n / now.height)) on in
+    let inside : n < start.width * now.height = rw (high, ← many) low in
+    let across : n / now.height < start.width = div_below n now.height start.width some inside in
+    sym (fits_by_mask table cell (slice_get now.cells n))
+    ∙ ap (λ (k : ℕ). fits_there mask (slice_get now.cells k)) (sym (place_of n now.height row (eqb-true (n % now.height) row parts.0)))
+    ∙ sym (column_at-where (λ x. fits_there mask (slice_get now.cells (x * now.height + row))) (n / now.height) (omega (arith, across, shape.columns)))
+    ∙ ap (λ (cs : List Bool). column_at cs (n / now.height)) (sym scanned) ∙ parts.1) in
+    one_row_more start now now m mask set left row columns any any shape (fits_by_mask table cell) taken so scanned (ap (λ (r : Rewritten). r.grid) (sym still))
+    (sym (or_nothing any) ∙ ap (λ (r : Rewritten). any || r.changed) (sym still))

@@ -1,45 +1,40 @@
--- The combinations of places behind one that is chosen, in their order.
-use Rattle.std.specs.Prelude.{◌≡◌, ℕ, suc, ◌+◌, ◌<◌, nat_lt, Bool, true, false, if◌then◌else◌, Option, Some, None, List, [], ◌∷◌, ◌++◌, length, map, drop, replicate, option_map, slice_index_or}
+-- A combination of places that is chosen, and those behind it in their order: the first row's place changes fastest.
+use Rattle.std.specs.Prelude.{ℕ, zero, suc, List, [], ◌∷◌, ◌++◌, map}
 use Rattle.std.specs.List.{flat_map}
+use Rattle.ps_program.specs.declared.rows.CompiledRow.{CompiledRow}
+use Rattle.ps_places.specs.declared.room.RowRoom.{RowRoom}
+use Rattle.ps_places.specs.RowPlaces.{all_places, place_at, places_behind}
 
--- the places that are chosen: of each list the one with that number
-abbrev pub chosen : List (List (List ℕ)) → List ℕ → List (List ℕ)
-chosen [] numbers = []
-chosen (places ∷ others) [] = []
-chosen (places ∷ others) (number ∷ numbers) = slice_index_or places number [] ∷ chosen others numbers
+-- a row's places, the one of them that is chosen, and those behind it
+pub record Choice : Type 0 where
+  pub all : List (List ℕ)
+  pub at : List ℕ
+  pub later : List (List ℕ)
+
+-- what is chosen for rows, on a board so high
+abbrev pub choice_of : ℕ → CompiledRow → RowRoom → Choice
+choice_of height row room = record { all = all_places height row room; at = place_at height row room; later = places_behind height row room }
+
+abbrev pub choices_of : ℕ → List CompiledRow → List RowRoom → List Choice
+choices_of height [] rooms = []
+choices_of height (row ∷ rows) [] = []
+choices_of height (row ∷ rows) (room ∷ rooms) = choice_of height row room ∷ choices_of height rows rooms
+
+-- the combination that is chosen
+abbrev pub chosen : List Choice → List (List ℕ)
+chosen choices = map (λ choice. choice.at) choices
 
 -- each place of a list before each combination of the others
 abbrev pub spread : List (List ℕ) → List (List (List ℕ)) → List (List (List ℕ))
 spread places others = flat_map (λ rest. map (λ place. place ∷ rest) places) others
 
--- the combinations behind the one that is chosen
-abbrev pub behind : List (List (List ℕ)) → List ℕ → List (List (List ℕ))
-behind [] numbers = []
-behind (places ∷ others) [] = []
-behind (places ∷ others) (number ∷ numbers) = map (λ place. place ∷ chosen others numbers) (drop (suc number) places) ++ spread places (behind others numbers)
+-- the combinations behind it
+abbrev pub behind : List Choice → List (List (List ℕ))
+behind [] = []
+behind (choice ∷ choices) = map (λ place. place ∷ chosen choices) choice.later ++ spread choice.all (behind choices)
 
--- the next choice, if there is one: the first list's number goes up, or else starts again while the next list's goes up
-abbrev pub next_choice : List (List (List ℕ)) → List ℕ → Option (List ℕ)
-next_choice [] numbers = None
-next_choice (places ∷ others) [] = None
-next_choice (places ∷ others) (number ∷ numbers) =
-    if nat_lt (number + 1) (length places) then Some ((number + 1) ∷ numbers) else option_map (λ rest. 0 ∷ rest) (next_choice others numbers)
-
--- the next choice that changes the number of the list with an index or of one behind it; the numbers before it start again
-abbrev pub next_choice_from : ℕ → List (List (List ℕ)) → List ℕ → Option (List ℕ)
-next_choice_from index all numbers = option_map (λ rest. replicate index 0 ++ rest) (next_choice (drop index all) (drop index numbers))
-
--- the combinations from a choice on; none, without a choice
-abbrev pub following : List (List (List ℕ)) → Option (List ℕ) → List (List (List ℕ))
-following all None = []
-following all (Some numbers) = chosen all numbers ∷ behind all numbers
-
--- there is one number for each list, and a place with it
-pub record IsChoice (places : List (List (List ℕ))) (numbers : List ℕ) : Type 0 where
-  pub long : length numbers ≡ length places
-  pub within : (i : ℕ) → i < length places → slice_index_or numbers i 0 < length (slice_index_or places i [])
-
--- a choice that is nearer to the last one
-pub record IsLater (all : List (List (List ℕ))) (old new : List ℕ) : Type 0 where
-  pub is : IsChoice all new
-  pub fewer : length (behind all new) < length (behind all old)
+-- those behind it that change the place of the row with a number or of a slower one
+abbrev pub behind_from : ℕ → List Choice → List (List (List ℕ))
+behind_from zero choices = behind choices
+behind_from (suc number) [] = []
+behind_from (suc number) (choice ∷ choices) = spread choice.all (behind_from number choices)

@@ -1,4 +1,5 @@
 pub mod Choices
+pub mod Choosing
 pub mod RulesInRoom
-pub mod Unfit
 pub mod OneCell
+pub mod Rooms

@@ -5,13 +5,15 @@ mod attempts;
 mod one_cell;
 mod programs;
 mod queue;
+mod rooms;
 mod rounds;
 mod walking;
 
-pub use attempts::attempt;
 pub use programs::run_program;
 pub use ps_match::{ListBoard, Scan};
+pub use ps_places::RowRoom;
 pub use queue::Queue;
+pub use rooms::rooms_for;
 
 #[cfg(test)]
 mod tests;

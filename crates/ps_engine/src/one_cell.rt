@@ -1,29 +1,27 @@
 //! An attempt of a rule of one row of one cell. Each of its places is a cell of the board by itself, so that none
 //! touches another: no place is kept, and the cells that fit are written row by row of the board.
 
-ghost use Rattle.std.specs.Prelude.{◌≡◌, IfSome, true};
+ghost use Rattle.std.specs.Prelude.{◌≡◌, IfSome, false, true};
 ghost use Rattle.ps_model.specs.board.Attempts.{Result as Meant, State, attempt};
-ghost use Rattle.ps_places.specs.RowMeanings.{cell_meaning};
-ghost use Rattle.ps_engine.specs.OneCell.{fits_cell, one_cell};
+ghost use Rattle.ps_places.specs.Lines.{cell_meaning};
+ghost use Rattle.ps_engine.specs.OneCell.{FitsNowhere, FitsSomewhere, fits_cell, one_cell, rows_parts};
 ghost use Rattle.ps_engine.specs.RulesInRoom.{rule_meaning};
 ghost use Rattle.ps_match.specs.InRoom.{sides_of};
 ghost use Rattle.ps_match.specs.Together.{rewritten_where};
 
-use crate::attempts::has_places;
 use crate::queue::Queue;
 use ps_match::{Columns, Scan};
 use ps_places::rows_of_mask;
-use ps_program::{CompiledCell, CompiledRule};
-use ps_text::List;
+use ps_program::{CompiledCell, CompiledRow, CompiledRule};
 
 /// The cell of rows that are one row of one part of one cell; nothing, where there is more or less.
-pub fn only_cell(rows: &[List<List<CompiledCell>>]) -> Option<&CompiledCell>
-    ensures { IfSome result (λ cell. rows.entry.now ≡ one_cell cell.now) }
+pub fn only_cell(rows: &[CompiledRow]) -> Option<&CompiledCell>
+    ensures { IfSome result (λ cell. rows_parts rows.entry.now ≡ one_cell cell.now) }
 {
     if rows.len() != 1 {
         return None;
     }
-    let parts = rows[0].as_slice();
+    let parts = rows[0].parts.as_slice();
     if parts.len() != 1 {
         return None;
     }
@@ -34,12 +32,21 @@ pub fn only_cell(rows: &[List<List<CompiledCell>>]) -> Option<&CompiledCell>
     Some(&cells[0])
 }
 
-/// Writes each cell of the board that fits, and answers whether one changed. Rows of the board that lack an object
-/// or a motion which the cell asks for aren't looked at.
-fn write_all<B: Scan>(board: &mut B, cell: &CompiledCell) -> bool
+/// What a look at each cell of a board came to: whether one fits, and whether one changed.
+#[derive(Clone, Copy)]
+struct Written {
+    found: bool,
+    changed: bool,
+}
+
+/// Writes each cell of the board that fits, if that can change one. Rows of the board that lack an object or a motion
+/// which the cell asks for aren't looked at.
+fn write_all<B: Scan>(board: &mut B, cell: &CompiledCell) -> Written
+    ensures some { result.found ≡ true → FitsSomewhere (B.grid board.old) (cell_meaning (B.table board.old) cell.now) }
+    ensures none { result.found ≡ false → FitsNowhere (B.grid board.old) (cell_meaning (B.table board.old) cell.now) }
     ensures rewritten { let before = B.grid board.old in
         let meaning = cell_meaning (B.table board.old) cell.now in
-        record { grid = B.grid board.new; changed = result }
+        record { grid = B.grid board.new; changed = result.changed }
         ≡ rewritten_where before meaning.rewritten (fits_cell before meaning) }
     ensures table { B.table board.new ≡ B.table board.old }
     ensures sides { sides_of (B.grid board.new) ≡ sides_of (B.grid board.old) }
@@ -47,14 +54,18 @@ fn write_all<B: Scan>(board: &mut B, cell: &CompiledCell) -> bool
     let (_width, height) = board.size();
     let rows = rows_of_mask(board, &cell.mask);
     let mut left = rows.both(Columns::below(height));
+    let mut found = false;
     let mut changed = false;
     while let Some(row) = left.take_first() {
         let columns = board.scan(&cell.mask, row);
         if !columns.is_empty() {
-            changed |= board.rewrite(&cell.write, row, columns);
+            found = true;
+            if cell.changes {
+                changed |= board.rewrite(&cell.write, row, columns);
+            }
         }
     }
-    changed
+    Written { found, changed }
 }
 
 /// An attempt of a rule whose only cell this is: each cell of the board that fits is written, and if there is one, the
@@ -65,7 +76,7 @@ pub fn attempt_cell<'r, B: Scan>(
     board: &mut B,
     queue: &mut Queue<'r>,
 ) -> bool
-    requires only { rule.now.rows ≡ one_cell cell.now }
+    requires only { rows_parts rule.now.rows ≡ one_cell cell.now }
     requires rewrites { rule.now.rewrites ≡ true }
     ensures attempt { let before : State = record { grid = B.grid board.old; queue = queue.old } in
         let after : State = record { grid = B.grid board.new; queue = queue.new } in
@@ -75,9 +86,9 @@ pub fn attempt_cell<'r, B: Scan>(
     ensures sides { sides_of (B.grid board.new) ≡ sides_of (B.grid board.old) }
 {
     let (_width, _height) = board.size();
-    if !has_places(board, rule) {
-        return false;
+    let written = write_all(board, cell);
+    if written.found {
+        queue.enter(rule.commands);
     }
-    queue.enter(rule.commands);
-    write_all(board, cell)
+    written.changed
 }

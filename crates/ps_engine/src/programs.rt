@@ -1,21 +1,22 @@
 //! Runs of programs.
 
-ghost use Rattle.std.specs.Prelude.{◌≡◌, IfOk, OnOk};
+ghost use Rattle.std.specs.Prelude.{◌≡◌, length};
 ghost use Rattle.ps_model.specs.board.Attempts.{State};
 ghost use Rattle.ps_model.specs.board.Programs.{Progress, looped, program_run, section_run, sections_run};
 ghost use Rattle.ps_model.specs.meaning.Compiled.{meaning_of_program};
 ghost use Rattle.ps_program.specs.ProgramShown.{sections_shown};
 ghost use Rattle.ps_engine.specs.RulesInRoom.{groups_meaning, section_meaning, sections_meaning};
+ghost use Rattle.ps_engine.specs.Rooms.{GroupsHaveRooms, SectionHasRooms, SectionsHaveRooms};
 ghost use Rattle.ps_board.specs.Runnable.{IsRunnable};
 ghost use Rattle.ps_match.specs.InRoom.{sides_of};
 
 use crate::queue::Queue;
 use crate::rounds::{pass, play_group};
 use ps_match::Scan;
-use ps_model::{Memory, REPEAT_LIMIT};
+use ps_model::REPEAT_LIMIT;
+use ps_places::RowRoom;
 use ps_program::{CompiledRule, CompiledSection};
 use ps_text::List;
-use std::alloc::Global;
 
 /// How far a run has come: the repeats that are left for its loops, and whether one more was due than there were.
 #[derive(Clone, Copy)]
@@ -26,33 +27,35 @@ struct Left {
 
 /// A loop with so many repeats left: a pass, and a repeat while the last pass changed something.
 fn play_loop<'r, B: Scan>(
-    alloc: Global,
     groups: &[List<CompiledRule<'r>>],
     repeats: u32,
     board: &mut B,
     queue: &mut Queue<'r>,
-) -> Result<Left, Memory>
+    rooms: &mut [RowRoom],
+) -> Left
+    requires { GroupsHaveRooms (length rooms.old) groups.now }
     ensures looped { let before : State = record { grid = B.grid board.old; queue = queue.old } in
         let after : State = record { grid = B.grid board.new; queue = queue.new } in
         let all = looped (groups_meaning (B.table board.old) groups.now) repeats before in
-        IfOk result (λ left. record { state = after; repeats = left.repeats; stopped = left.stopped } ≡ all) }
+        record { state = after; repeats = result.repeats; stopped = result.stopped } ≡ all }
     ensures table { B.table board.new ≡ B.table board.old }
     ensures sides { sides_of (B.grid board.new) ≡ sides_of (B.grid board.old) }
+    ensures rooms { length rooms.new ≡ length rooms.old }
 {
     let mut left = repeats;
     loop {
-        let again = pass(alloc, groups, board, queue)?;
+        let again = pass(groups, board, queue, rooms);
         if !again {
-            return Ok(Left {
+            return Left {
                 repeats: left,
                 stopped: false,
-            });
+            };
         }
         if left == 0 {
-            return Ok(Left {
+            return Left {
                 repeats: 0,
                 stopped: true,
-            });
+            };
         }
         left -= 1;
     }
@@ -60,78 +63,81 @@ fn play_loop<'r, B: Scan>(
 
 /// A section with so many repeats left.
 fn play_section<'r, B: Scan>(
-    alloc: Global,
     section: &CompiledSection<'r>,
     repeats: u32,
     board: &mut B,
     queue: &mut Queue<'r>,
-) -> Result<Left, Memory>
+    rooms: &mut [RowRoom],
+) -> Left
+    requires { SectionHasRooms (length rooms.old) section.now }
     ensures section { let before : State = record { grid = B.grid board.old; queue = queue.old } in
         let after : State = record { grid = B.grid board.new; queue = queue.new } in
         let all = section_run (section_meaning (B.table board.old) section.now) repeats before in
-        IfOk result (λ left. record { state = after; repeats = left.repeats; stopped = left.stopped } ≡ all) }
+        record { state = after; repeats = result.repeats; stopped = result.stopped } ≡ all }
     ensures table { B.table board.new ≡ B.table board.old }
     ensures sides { sides_of (B.grid board.new) ≡ sides_of (B.grid board.old) }
+    ensures rooms { length rooms.new ≡ length rooms.old }
 {
     match section {
         CompiledSection::Group(rules) => {
-            let _changed = play_group(alloc, rules.as_slice(), board, queue)?;
-            Ok(Left {
+            let _changed = play_group(rules.as_slice(), board, queue, rooms);
+            Left {
                 repeats,
                 stopped: false,
-            })
+            }
         }
-        CompiledSection::Loop(groups) => play_loop(alloc, groups.as_slice(), repeats, board, queue),
+        CompiledSection::Loop(groups) => play_loop(groups.as_slice(), repeats, board, queue, rooms),
     }
 }
 
 /// The sections of a program in order, until a loop would need one more repeat than are allowed for all loops
 /// together.
 fn play_sections<'r, B: Scan>(
-    alloc: Global,
     sections: &[CompiledSection<'r>],
     board: &mut B,
     queue: &mut Queue<'r>,
-) -> Result<(), Memory>
+    rooms: &mut [RowRoom],
+)
+    requires { SectionsHaveRooms (length rooms.old) sections.now }
     ensures run { let before : State = record { grid = B.grid board.old; queue = queue.old } in
         let after : State = record { grid = B.grid board.new; queue = queue.new } in
-        OnOk result (after ≡ program_run (sections_meaning (B.table board.old) sections.now) before) }
+        after ≡ program_run (sections_meaning (B.table board.old) sections.now) before }
     ensures table { B.table board.new ≡ B.table board.old }
     ensures sides { sides_of (B.grid board.new) ≡ sides_of (B.grid board.old) }
+    ensures rooms { length rooms.new ≡ length rooms.old }
 {
     let mut repeats = REPEAT_LIMIT;
     for section in sections {
-        let left = play_section(alloc, section, repeats, board, queue)?;
+        let left = play_section(section, repeats, board, queue, rooms);
         if left.stopped {
-            return Ok(());
+            return;
         }
         repeats = left.repeats;
     }
-    Ok(())
 }
 
 /// A run of a program: its sections in order, until a loop would need one more repeat than are allowed for all loops
-/// together.
+/// together. There is a room for each row of a rule; no memory is taken.
 ///
-/// Where it answers, the board shows and the queue has what `program_run` says of the program, if no row of it has
-/// more than two parts and all that it puts has room on the board (`exact`); of any other program what it says
-/// without the other parts and without what has no room (`run`). After `Memory` some board of the same sides and some
-/// queue stand.
+/// The board shows and the queue has what `program_run` says of the program, if all that it puts has room on the board
+/// (`exact`); of any other program what it says without what has no room (`run`).
 pub fn run_program<'r, B: Scan>(
-    alloc: Global,
     sections: &[CompiledSection<'r>],
     board: &mut B,
     queue: &mut Queue<'r>,
-) -> Result<(), Memory>
+    rooms: &mut [RowRoom],
+)
+    requires { SectionsHaveRooms (length rooms.old) sections.now }
     ensures run { let before : State = record { grid = B.grid board.old; queue = queue.old } in
         let after : State = record { grid = B.grid board.new; queue = queue.new } in
-        OnOk result (after ≡ program_run (sections_meaning (B.table board.old) sections.now) before) }
+        after ≡ program_run (sections_meaning (B.table board.old) sections.now) before }
     ensures exact { let before : State = record { grid = B.grid board.old; queue = queue.old } in
         let after : State = record { grid = B.grid board.new; queue = queue.new } in
         IsRunnable (B.table board.old) (sections_shown sections.now)
-        → OnOk result (after ≡ program_run (meaning_of_program (sections_shown sections.now)) before) }
+        → after ≡ program_run (meaning_of_program (sections_shown sections.now)) before }
     ensures table { B.table board.new ≡ B.table board.old }
     ensures sides { sides_of (B.grid board.new) ≡ sides_of (B.grid board.old) }
+    ensures rooms { length rooms.new ≡ length rooms.old }
 {
-    play_sections(alloc, sections, board, queue)
+    play_sections(sections, board, queue, rooms);
 }

@@ -1,85 +1,89 @@
 //! Rounds, groups, and passes of a loop's body.
 
-ghost use Rattle.std.specs.Prelude.{◌≡◌, IfOk};
+ghost use Rattle.std.specs.Prelude.{◌≡◌, length};
 ghost use Rattle.ps_model.specs.board.Attempts.{Result as Meant, State};
 ghost use Rattle.ps_model.specs.board.Programs.{group, pass, round};
 ghost use Rattle.ps_engine.specs.RulesInRoom.{groups_meaning, rules_meaning};
+ghost use Rattle.ps_engine.specs.Rooms.{GroupsHaveRooms, HaveRooms};
 ghost use Rattle.ps_match.specs.InRoom.{sides_of};
 
 use crate::attempts::attempt;
 use crate::queue::Queue;
 use ps_match::Scan;
-use ps_model::{Memory, ROUND_LIMIT};
+use ps_model::ROUND_LIMIT;
+use ps_places::RowRoom;
 use ps_program::CompiledRule;
 use ps_text::List;
-use std::alloc::Global;
 
-/// A round: the attempts of a group's rules in order. Answers whether one changed something. After `Memory` some
-/// board of the same sides and some queue stand.
+/// A round: the attempts of a group's rules in order. Answers whether one changed something.
 fn round<'r, B: Scan>(
-    alloc: Global,
     rules: &[CompiledRule<'r>],
     board: &mut B,
     queue: &mut Queue<'r>,
-) -> Result<bool, Memory>
+    rooms: &mut [RowRoom],
+) -> bool
+    requires { HaveRooms (length rooms.old) rules.now }
     ensures round { let before : State = record { grid = B.grid board.old; queue = queue.old } in
         let after : State = record { grid = B.grid board.new; queue = queue.new } in
-        IfOk result (λ changed. record { state = after; changed = changed }
-        ≡ round (rules_meaning (B.table board.old) rules.now) before) }
+        record { state = after; changed = result }
+        ≡ round (rules_meaning (B.table board.old) rules.now) before }
     ensures table { B.table board.new ≡ B.table board.old }
     ensures sides { sides_of (B.grid board.new) ≡ sides_of (B.grid board.old) }
+    ensures rooms { length rooms.new ≡ length rooms.old }
 {
     let mut changed = false;
     for rule in rules {
-        changed |= attempt(alloc, rule, board, queue)?;
+        changed |= attempt(rule, board, queue, rooms);
     }
-    Ok(changed)
+    changed
 }
 
-/// A group: rounds until one changes nothing, as many as are allowed. Answers whether one changed something. After
-/// `Memory` some board of the same sides and some queue stand.
+/// A group: rounds until one changes nothing, as many as are allowed. Answers whether one changed something.
 pub fn play_group<'r, B: Scan>(
-    alloc: Global,
     rules: &[CompiledRule<'r>],
     board: &mut B,
     queue: &mut Queue<'r>,
-) -> Result<bool, Memory>
+    rooms: &mut [RowRoom],
+) -> bool
+    requires { HaveRooms (length rooms.old) rules.now }
     ensures group { let before : State = record { grid = B.grid board.old; queue = queue.old } in
         let after : State = record { grid = B.grid board.new; queue = queue.new } in
-        IfOk result (λ changed. record { state = after; changed = changed }
-        ≡ group (rules_meaning (B.table board.old) rules.now) before) }
+        record { state = after; changed = result }
+        ≡ group (rules_meaning (B.table board.old) rules.now) before }
     ensures table { B.table board.new ≡ B.table board.old }
     ensures sides { sides_of (B.grid board.new) ≡ sides_of (B.grid board.old) }
+    ensures rooms { length rooms.new ≡ length rooms.old }
 {
     let mut changed = false;
     for _round in 0..ROUND_LIMIT {
-        let again = round(alloc, rules, board, queue)?;
+        let again = round(rules, board, queue, rooms);
         if !again {
-            return Ok(changed);
+            return changed;
         }
         changed = true;
     }
-    Ok(changed)
+    changed
 }
 
-/// A pass of a loop's body: its groups in order. Answers whether one changed something. After `Memory` some board of
-/// the same sides and some queue stand.
+/// A pass of a loop's body: its groups in order. Answers whether one changed something.
 pub fn pass<'r, B: Scan>(
-    alloc: Global,
     groups: &[List<CompiledRule<'r>>],
     board: &mut B,
     queue: &mut Queue<'r>,
-) -> Result<bool, Memory>
+    rooms: &mut [RowRoom],
+) -> bool
+    requires { GroupsHaveRooms (length rooms.old) groups.now }
     ensures pass { let before : State = record { grid = B.grid board.old; queue = queue.old } in
         let after : State = record { grid = B.grid board.new; queue = queue.new } in
-        IfOk result (λ changed. record { state = after; changed = changed }
-        ≡ pass (groups_meaning (B.table board.old) groups.now) before) }
+        record { state = after; changed = result }
+        ≡ pass (groups_meaning (B.table board.old) groups.now) before }
     ensures table { B.table board.new ≡ B.table board.old }
     ensures sides { sides_of (B.grid board.new) ≡ sides_of (B.grid board.old) }
+    ensures rooms { length rooms.new ≡ length rooms.old }
 {
     let mut changed = false;
     for rules in groups {
-        changed |= play_group(alloc, rules.as_slice(), board, queue)?;
+        changed |= play_group(rules.as_slice(), board, queue, rooms);
     }
-    Ok(changed)
+    changed
 }

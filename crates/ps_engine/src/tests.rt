@@ -1,12 +1,20 @@
 //! Small rules on small boards of one layer; a dot is an empty cell.
 
-use crate::{ListBoard, Queue, attempt, run_program};
+ghost use Rattle.std.specs.Prelude.{◌≡◌, All, IfOk, IfSome};
+ghost use Rattle.ps_program.specs.Axes.{LiesAlong};
+ghost use Rattle.ps_program.specs.Parts.{HasCell};
+
+use crate::attempts::attempt;
+use crate::rooms::{rooms_for, rooms_of};
+use crate::{ListBoard, Queue, run_program};
 use ps_board::Board;
 use ps_model::{
-    Direction, LayerId, LayerWrite, LayeredObject, Memory, Motion, ObjectId, ObjectWrite,
-    SIDE_LIMIT,
+    LayerId, LayerWrite, LayeredObject, Memory, Motion, ObjectId, ObjectWrite, SIDE_LIMIT,
 };
-use ps_program::{CellMask, CellWrite, Commands, CompiledCell, CompiledRule, CompiledSection};
+use ps_program::{
+    Axis, CellMask, CellWrite, Commands, CompiledCell, CompiledRow, CompiledRule, CompiledSection,
+    PART_LIMIT,
+};
 use ps_text::List;
 use std::alloc::Global;
 use std::process::Abort;
@@ -94,43 +102,80 @@ fn cell(alloc: Global, left: u8, right: u8) -> Result<CompiledCell, Memory> {
     Ok(CompiledCell::new(mask, write))
 }
 
-/// A row: its parts by their cells, each the letter on the left and the one on the right.
-fn row(alloc: Global, parts: &[&[(u8, u8)]]) -> Result<List<List<CompiledCell>>, Memory> {
+/// A part by its cells.
+fn part(alloc: Global, cells: &[(u8, u8)]) -> Result<List<CompiledCell>, Memory> {
     let mut all = Vec::new(alloc);
-    for part in parts {
-        let mut cells = Vec::new(alloc);
-        for pair in *part {
-            cells.push(cell(alloc, pair.0, pair.1)?)?;
-        }
-        all.push(List::from_vec(cells))?;
+    for pair in cells {
+        all.push(cell(alloc, pair.0, pair.1)?)?;
     }
     Ok(List::from_vec(all))
 }
 
+/// The parts of a row by their cells, each the letter on the left and the one on the right. Parts without a cell are
+/// left out.
+fn parts_of(alloc: Global, parts: &[&[(u8, u8)]]) -> Result<List<List<CompiledCell>>, Memory>
+    ensures { IfOk result (All HasCell) }
+{
+    let mut all = Vec::new(alloc);
+    for cells in parts {
+        let part = part(alloc, *cells)?;
+        if part.as_slice().len() != 0 {
+            all.push(part)?;
+        }
+    }
+    Ok(List::from_vec(all))
+}
+
+/// A row of these parts; nothing, where they are too few or too many.
+fn row(alloc: Global, axis: Axis, parts: &[&[(u8, u8)]]) -> Result<Option<CompiledRow>, Memory>
+    ensures { IfOk result (λ row. IfSome row (LiesAlong axis)) }
+{
+    let parts = parts_of(alloc, parts)?;
+    let count = parts.as_slice().len();
+    if count == 0 || (PART_LIMIT as usize) < count {
+        return Ok(None);
+    }
+    Ok(Some(CompiledRow { axis, parts }))
+}
+
+/// A rule of these rows.
 fn rule<'r>(
     alloc: Global,
-    direction: Direction,
-    rows: Vec<List<List<CompiledCell>>>,
+    axis: Axis,
+    rows: &[&[&[(u8, u8)]]],
     commands: &'r Commands,
-) -> Result<CompiledRule<'r>, Memory> {
-    CompiledRule::try_new(alloc, direction, List::from_vec(rows), true, commands)
+) -> Result<CompiledRule<'r>, Memory>
+    ensures { IfOk result (λ rule. rule.commands.now ≡ commands.entry.now) }
+{
+    let mut all = Vec::new(alloc);
+    for parts in rows {
+        if let Some(row) = row(alloc, axis, *parts)? {
+            all.push(row)?;
+        }
+    }
+    CompiledRule::try_new(alloc, axis, List::from_vec(all), true, commands)
+}
+
+/// A board of one row behind an attempt of a rule of these rows, and whether it changed something.
+fn attempted(
+    alloc: Global,
+    axis: Axis,
+    rows: &[&[&[(u8, u8)]]],
+    letters: &[u8],
+) -> Result<(ListBoard, bool), Memory> {
+    let commands = nothing();
+    let written = rule(alloc, axis, rows, &commands)?;
+    let mut rooms = rooms_of(alloc, written.rows.as_slice().len())?;
+    let mut board = board_of(alloc, letters)?;
+    let mut queue = Queue::empty();
+    let changed = attempt(&written, &mut board, &mut queue, rooms.as_mut_slice());
+    Ok((board, changed))
 }
 
 #[test]
 fn a_rule_that_changes_nothing_in_the_end_has_changed(rt: HostRuntime) -> Result<(), Fail> {
-    let alloc = rt.alloc();
-    let commands = nothing();
-    let mut rows = Vec::new(alloc);
-    rows.push(row(alloc, &[&[(b'A', b'B')]])?)?;
-    rows.push(row(alloc, &[&[(b'A', b'A')]])?)?;
-    let mut board = board_of(alloc, b"A")?;
-    let mut queue = Queue::empty();
-    let changed = attempt(
-        alloc,
-        &rule(alloc, Direction::Right, rows, &commands)?,
-        &mut board,
-        &mut queue,
-    )?;
+    let rows: [&[&[(u8, u8)]]; 2] = [&[&[(b'A', b'B')]], &[&[(b'A', b'A')]]];
+    let (board, changed) = attempted(rt.alloc(), Axis::Right, &rows, b"A")?;
     assert!(&rt; changed);
     check(&rt, &board, b"A");
     Ok(())
@@ -138,37 +183,29 @@ fn a_rule_that_changes_nothing_in_the_end_has_changed(rt: HostRuntime) -> Result
 
 #[test]
 fn a_combination_is_looked_at_again(rt: HostRuntime) -> Result<(), Fail> {
-    let alloc = rt.alloc();
-    let commands = nothing();
-    let mut rows = Vec::new(alloc);
-    rows.push(row(alloc, &[&[(b'A', b'B')]])?)?;
-    rows.push(row(alloc, &[&[(b'A', b'C')]])?)?;
-    let mut board = board_of(alloc, b"AA")?;
-    let mut queue = Queue::empty();
-    let changed = attempt(
-        alloc,
-        &rule(alloc, Direction::Right, rows, &commands)?,
-        &mut board,
-        &mut queue,
-    )?;
+    let rows: [&[&[(u8, u8)]]; 2] = [&[&[(b'A', b'B')]], &[&[(b'A', b'C')]]];
+    let (board, changed) = attempted(rt.alloc(), Axis::Right, &rows, b"AA")?;
     assert!(&rt; changed);
     check(&rt, &board, b"CC");
     Ok(())
 }
 
 #[test]
+fn a_place_that_does_not_fit_any_more_is_passed_over(rt: HostRuntime) -> Result<(), Fail> {
+    let rows: [&[&[(u8, u8)]]; 2] = [&[&[(b'A', b'B'), (b'B', b'A')]], &[&[(b'C', b'C')]]];
+    let (board, changed) = attempted(rt.alloc(), Axis::Right, &rows, b"ABABCC")?;
+    assert!(&rt; changed);
+    check(&rt, &board, b"BABACC");
+    Ok(())
+}
+
+#[test]
 fn a_rule_of_one_cell_writes_each_cell_that_fits(rt: HostRuntime) -> Result<(), Fail> {
-    let alloc = rt.alloc();
-    let commands = nothing();
-    let mut rows = Vec::new(alloc);
-    rows.push(row(alloc, &[&[(b'A', b'B')]])?)?;
-    let written = rule(alloc, Direction::Down, rows, &commands)?;
-    let mut board = board_of(alloc, b"A.ACB")?;
-    let mut queue = Queue::empty();
-    let changed = attempt(alloc, &written, &mut board, &mut queue)?;
+    let rows: [&[&[(u8, u8)]]; 1] = [&[&[(b'A', b'B')]]];
+    let (board, changed) = attempted(rt.alloc(), Axis::Down, &rows, b"A.ACB")?;
     assert!(&rt; changed);
     check(&rt, &board, b"B.BCB");
-    let changed = attempt(alloc, &written, &mut board, &mut queue)?;
+    let (board, changed) = attempted(rt.alloc(), Axis::Down, &rows, b"B.BCB")?;
     assert!(&rt; !changed);
     check(&rt, &board, b"B.BCB");
     Ok(())
@@ -178,12 +215,10 @@ fn a_rule_of_one_cell_writes_each_cell_that_fits(rt: HostRuntime) -> Result<(), 
 fn places_are_found_once(rt: HostRuntime) -> Result<(), Fail> {
     let alloc = rt.alloc();
     let commands = nothing();
-    let mut swap = Vec::new(alloc);
-    swap.push(row(alloc, &[&[(b'A', b'B'), (b'B', b'A')]])?)?;
-    let mut turn = Vec::new(alloc);
-    turn.push(row(alloc, &[&[(b'A', b'C')]])?)?;
-    let first = rule(alloc, Direction::Right, swap, &commands)?;
-    let second = rule(alloc, Direction::Right, turn, &commands)?;
+    let swap: [&[&[(u8, u8)]]; 1] = [&[&[(b'A', b'B'), (b'B', b'A')]]];
+    let turn: [&[&[(u8, u8)]]; 1] = [&[&[(b'A', b'C')]]];
+    let first = rule(alloc, Axis::Right, &swap, &commands)?;
+    let second = rule(alloc, Axis::Right, &turn, &commands)?;
     let mut rules = Vec::new(alloc);
     rules.push(first)?;
     rules.push(second)?;
@@ -191,75 +226,72 @@ fn places_are_found_once(rt: HostRuntime) -> Result<(), Fail> {
     sections.push(CompiledSection::Group(List::from_vec(rules)))?;
     let mut board = board_of(alloc, b"ABB")?;
     let mut queue = Queue::empty();
-    run_program(alloc, sections.as_slice(), &mut board, &mut queue)?;
+    let mut rooms = rooms_for(alloc, sections.as_slice())?;
+    run_program(
+        sections.as_slice(),
+        &mut board,
+        &mut queue,
+        rooms.as_mut_slice(),
+    );
     check(&rt, &board, b"BCB");
     Ok(())
 }
 
 #[test]
-fn the_smaller_gap_comes_first(rt: HostRuntime) -> Result<(), Fail> {
-    let alloc = rt.alloc();
-    let commands = nothing();
-    let mut rows = Vec::new(alloc);
-    rows.push(row(alloc, &[&[(b'A', b'.')], &[(b'B', b'C')]])?)?;
-    let mut board = board_of(alloc, b"B.B.A")?;
-    let mut queue = Queue::empty();
-    let changed = attempt(
-        alloc,
-        &rule(alloc, Direction::Left, rows, &commands)?,
-        &mut board,
-        &mut queue,
-    )?;
+fn each_part_lies_behind_the_one_before(rt: HostRuntime) -> Result<(), Fail> {
+    let rows: [&[&[(u8, u8)]]; 1] = [&[&[(b'A', b'.')], &[(b'B', b'B')], &[(b'C', b'.')]]];
+    let (board, changed) = attempted(rt.alloc(), Axis::Right, &rows, b"A.B.C.BC")?;
     assert!(&rt; changed);
-    check(&rt, &board, b"C.B..");
+    check(&rt, &board, b"..B...BC");
     Ok(())
 }
 
-/// A board of one row behind an attempt of a rule of a row in a direction.
-fn attempted(
-    alloc: Global,
-    direction: Direction,
-    parts: &[&[(u8, u8)]],
-    letters: &[u8],
-) -> Result<ListBoard, Memory> {
-    let commands = nothing();
-    let mut rows = Vec::new(alloc);
-    rows.push(row(alloc, parts)?)?;
-    let written = rule(alloc, direction, rows, &commands)?;
-    let mut board = board_of(alloc, letters)?;
-    let mut queue = Queue::empty();
-    let _changed = attempt(alloc, &written, &mut board, &mut queue)?;
-    Ok(board)
+#[test]
+fn the_smaller_gap_comes_first(rt: HostRuntime) -> Result<(), Fail> {
+    let rows: [&[&[(u8, u8)]]; 1] = [&[&[(b'A', b'.')], &[(b'B', b'C')]]];
+    let (board, changed) = attempted(rt.alloc(), Axis::Right, &rows, b"A.B.B")?;
+    assert!(&rt; changed);
+    check(&rt, &board, b"..C.B");
+    Ok(())
 }
 
 #[test]
-fn on_one_row_rules_go_left_and_right_alone(rt: HostRuntime) -> Result<(), Fail> {
-    let alloc = rt.alloc();
+fn a_row_may_have_two_gaps(rt: HostRuntime) -> Result<(), Fail> {
+    let rows: [&[&[(u8, u8)]]; 1] = [&[&[(b'A', b'.')], &[(b'B', b'.')], &[(b'C', b'D')]]];
+    let (board, changed) = attempted(rt.alloc(), Axis::Right, &rows, b"AB.BCC")?;
+    assert!(&rt; changed);
+    check(&rt, &board, b"...BDC");
+    Ok(())
+}
+
+#[test]
+fn on_one_row_rules_go_right_alone(rt: HostRuntime) -> Result<(), Fail> {
     let start = b"B.BAB.B";
-    let parts: [&[(u8, u8)]; 1] = [&[(b'A', b'A'), (b'B', b'C')]];
-    let board = attempted(alloc, Direction::Right, &parts, start)?;
+    let forwards: [&[&[(u8, u8)]]; 1] = [&[&[(b'A', b'A'), (b'B', b'C')]]];
+    let (board, _changed) = attempted(rt.alloc(), Axis::Right, &forwards, start)?;
     check(&rt, &board, b"B.BAC.B");
-    let board = attempted(alloc, Direction::Left, &parts, start)?;
-    check(&rt, &board, b"B.CAB.B");
-    let board = attempted(alloc, Direction::Up, &parts, start)?;
+    let (board, _changed) = attempted(rt.alloc(), Axis::Down, &forwards, start)?;
     check(&rt, &board, start);
-    let board = attempted(alloc, Direction::Down, &parts, start)?;
+    let backwards: [&[&[(u8, u8)]]; 1] = [&[&[(b'B', b'C'), (b'A', b'A')]]];
+    let (board, _changed) = attempted(rt.alloc(), Axis::Right, &backwards, start)?;
+    check(&rt, &board, b"B.CAB.B");
+    let (board, _changed) = attempted(rt.alloc(), Axis::Down, &backwards, start)?;
     check(&rt, &board, start);
     Ok(())
 }
 
 #[test]
-fn on_one_row_gaps_lie_left_and_right_alone(rt: HostRuntime) -> Result<(), Fail> {
-    let alloc = rt.alloc();
+fn on_one_row_gaps_lie_right_alone(rt: HostRuntime) -> Result<(), Fail> {
     let start = b"B.BAB.B";
-    let parts: [&[(u8, u8)]; 2] = [&[(b'A', b'A')], &[(b'B', b'C')]];
-    let board = attempted(alloc, Direction::Right, &parts, start)?;
+    let forwards: [&[&[(u8, u8)]]; 1] = [&[&[(b'A', b'A')], &[(b'B', b'C')]]];
+    let (board, _changed) = attempted(rt.alloc(), Axis::Right, &forwards, start)?;
     check(&rt, &board, b"B.BAC.C");
-    let board = attempted(alloc, Direction::Left, &parts, start)?;
-    check(&rt, &board, b"C.CAB.B");
-    let board = attempted(alloc, Direction::Up, &parts, start)?;
+    let (board, _changed) = attempted(rt.alloc(), Axis::Down, &forwards, start)?;
     check(&rt, &board, start);
-    let board = attempted(alloc, Direction::Down, &parts, start)?;
+    let backwards: [&[&[(u8, u8)]]; 1] = [&[&[(b'B', b'C')], &[(b'A', b'A')]]];
+    let (board, _changed) = attempted(rt.alloc(), Axis::Right, &backwards, start)?;
+    check(&rt, &board, b"C.CAB.B");
+    let (board, _changed) = attempted(rt.alloc(), Axis::Down, &backwards, start)?;
     check(&rt, &board, start);
     Ok(())
 }

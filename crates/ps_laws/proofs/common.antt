@@ -10,6 +10,7 @@ pub mod Slots
 pub mod StagedReadings
 pub mod Stages
 pub mod Steps
+pub mod WholeRows
 pub mod Winners
 pub mod Zipped
 pub mod BoardPlaces

@@ -8,6 +8,8 @@ pub mod MentionedObjects
 pub mod NoObjects
 pub mod ObjectsThere
 pub mod RulesOfNames
+pub mod WholeParts
+pub mod WrittenCells
 pub mod RulesInParts
 pub mod GameLaws
 pub mod OneGame

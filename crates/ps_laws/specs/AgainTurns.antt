@@ -1,8 +1,8 @@
 -- Again turns, those of a key and those of the start of a level: the longest list of turns that count, of no more than
 -- so many, which a message cuts. Each has a frame; what comes behind the last one is said by that one, or by the turn
 -- that doesn't count.
-use Rattle.std.specs.Prelude.{◌≡◌, ℕ, zero, suc, ◌-◌, ◌≤◌, ◌⊎◌, Bool, true, false, ◌&&◌, ◌||◌, not, is_none, Option}
-use Rattle.std.specs.Prelude.{Some, None, List, [], ◌∷◌, length, ⊤}
+use Rattle.std.specs.Prelude.{◌≡◌, ℕ, zero, suc, ◌-◌, ◌≤◌, ◌⊎◌, Bool, true, ◌&&◌, ◌||◌, not, is_none}
+use Rattle.std.specs.Prelude.{None, List, [], ◌∷◌, length, ⊤}
 use Rattle.ps_model.specs.declared.limits.TheConstants.{AGAIN_LIMIT}
 use Rattle.ps_model.specs.board.Grid.{Grid}
 use Rattle.ps_model.specs.board.Turns.{Script, Done, Outcome, Blocked, Restarted, Finished, turn}

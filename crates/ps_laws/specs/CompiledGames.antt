@@ -1,4 +1,4 @@
--- What compiled rules of a game are: their rows are short, and what a write puts is an object of the game, which it puts
+-- What compiled rules of a game are: their rows are whole, and what a write puts is an object of the game, which it puts
 -- on that object's own layer.
 use Rattle.std.specs.Prelude.{◌≡◌, ℕ, ◌<◌, List, All, ⊤}
 use Rattle.ps_model.specs.declared.rules.Part.{Part}
@@ -10,7 +10,7 @@ use Rattle.ps_model.specs.rules.SourceRules.{SourceRule, RuleLine}
 use Rattle.ps_model.specs.meaning.GameRules.{IsRuleOf, IsLineOf}
 use Rattle.ps_model.specs.meaning.Compiled.{CompiledCell, CompiledRule, CompiledSection, CompiledGroup, CompiledLoop}
 use Rattle.ps_model.specs.meaning.CompiledRules.{compiled_rules, compiled_program}
-use Rattle.ps_laws.specs.ShortRows.{IsShort, HasShortRows, IsShortLine}
+use Rattle.ps_laws.specs.WholeRows.{IsWholeRow, HasWholeRows, IsWholeLine}
 
 -- what is put on a layer is an object of the game that lies there
 abbrev pub PutsOwn : Names → ℕ → ObjectWrite → Type 0
@@ -28,7 +28,7 @@ IsCompiledCellOf names cell = All (IsWriteOf names) cell.write.layers
 
 -- a compiled rule of the game
 pub record IsCompiledRuleOf (names : Names) (rule : CompiledRule) : Type 0 where
-  pub short : All IsShort rule.rows
+  pub whole : All IsWholeRow rule.rows
   pub cells : All (All (All (IsCompiledCellOf names))) rule.rows
 
 -- a section of such rules
@@ -38,14 +38,14 @@ IsSectionOf names (CompiledLoop body) = All (All (IsCompiledRuleOf names)) body
 
 -- the laws -----------------------------------------------------------------------------------------------------------------
 
--- the compiled rules of a game's rule with short rows are compiled rules of the game
+-- the compiled rules of a game's rule with whole rows are compiled rules of the game
 abbrev pub CompiledRulesAreOfGames : Type 0
 CompiledRulesAreOfGames =
-    (names : Names) (rule : SourceRule) → IsRuleOf names rule → HasShortRows rule →
+    (names : Names) (rule : SourceRule) → IsRuleOf names rule → HasWholeRows rule →
     All (IsCompiledRuleOf names) (compiled_rules names rule)
 
 -- so both programs of a game's rules are made of such rules
 abbrev pub CompiledProgramsAreOfGames : Type 0
 CompiledProgramsAreOfGames =
-    (names : Names) (part : Part) (lines : List RuleLine) → All (IsLineOf names) lines → All IsShortLine lines →
+    (names : Names) (part : Part) (lines : List RuleLine) → All (IsLineOf names) lines → All IsWholeLine lines →
     All (IsSectionOf names) (compiled_program names part lines)

@@ -7,7 +7,7 @@ pub mod SameSides
 pub mod IdleRules
 pub mod AlikeRounds
 pub mod GamesOfTexts
-pub mod ShortRows
+pub mod WholeRows
 pub mod Fronts
 pub mod CompilingCells
 pub mod CompilingRules

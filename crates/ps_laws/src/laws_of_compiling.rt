@@ -36,7 +36,7 @@ pub fn programs_compile()
     ensures runs { CompiledProgramsRunAlike }
 {}
 
-/// Compiled rules of a game's rules with short rows have short rows, and put each object on its own layer; both
+/// Compiled rules of a game's rules with whole rows have whole rows, and put each object on its own layer; both
 /// compiled programs are made of such rules.
 pub fn compiled_programs_are_of_games()
     ensures rules { CompiledRulesAreOfGames }

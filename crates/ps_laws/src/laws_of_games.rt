@@ -4,7 +4,7 @@ ghost use Rattle.ps_laws.specs.GamesOfTexts.{GamesHaveObjects, RulesReadAreOfNam
 ghost use Rattle.ps_laws.specs.GamesOfTexts.{LoadedLevelsAreGrids, EntriesReadAreOfNames, GameEntriesAreOfNames};
 ghost use Rattle.ps_laws.specs.GamesOfTexts.{GameLevelsAreGrids, GameLevelsAreWithinLimits, GridsOfGamesAreGrids};
 ghost use Rattle.ps_laws.specs.GamesOfTexts.{GameTurnsKeepAll};
-ghost use Rattle.ps_laws.specs.ShortRows.{RulesReadAreShort, GameRulesAreShort};
+ghost use Rattle.ps_laws.specs.WholeRows.{RulesReadAreWhole, GameRulesAreWhole};
 
 /// Names of lines without faults are bounded, and so are the names of every game.
 pub fn names_are_bounded()
@@ -24,11 +24,11 @@ pub fn rules_are_of_games()
     ensures games { GameRulesAreOfNames }
 {}
 
-/// Rules that are read from lines without faults have short rows alone: at most one ellipsis parts a row. So have the
-/// rules of every game.
-pub fn rules_have_short_rows()
-    ensures read { RulesReadAreShort }
-    ensures games { GameRulesAreShort }
+/// Rules that are read from lines without faults have whole rows alone: their ellipses part each into one to three
+/// parts, of a cell or more. So have the rules of every game.
+pub fn rules_have_whole_rows()
+    ensures read { RulesReadAreWhole }
+    ensures games { GameRulesAreWhole }
 {}
 
 /// A level of a game is loaded as a grid of the game. The levels that are read, with names that are bounded and of

@@ -20,7 +20,7 @@ pub use laws_of_compiling::{
 };
 pub use laws_of_games::{
     games_have_objects, grids_of_games, levels_are_of_games, names_are_bounded, rules_are_of_games,
-    rules_have_short_rows, turns_are_of_games,
+    rules_have_whole_rows, turns_are_of_games,
 };
 pub use laws_of_grids::{
     attempts_keep_grids, game_turns_keep_grids, groups_keep_grids, inputs_keep_grids,

@@ -14,8 +14,8 @@ pub const RULE_LIMIT: u32 = 1024;
 pub const RULE_READINGS_LIMIT: u32 = 4096;
 /// The readings of all rules of a game.
 pub const READINGS_LIMIT: u32 = 65536;
-/// The ellipses of a row.
-pub const ELLIPSIS_LIMIT: u32 = 1;
+/// The ellipses of a row: they part it in three parts at most.
+pub const ELLIPSIS_LIMIT: u32 = 2;
 /// The entries of LEVELS: levels and messages.
 pub const ENTRY_LIMIT: u32 = 999;
 /// The rounds of a group.

@@ -1,45 +1,52 @@
--- A row at a place, cell by cell.
-use Rattle.std.proofs.Common.{◌≡◌, ◌∙◌, ℕ, ◌+◌, ◌-◌, ◌<◌, ◌≤◌, suc, Bool, true, false, Option, Some, None, List, [], ◌∷◌, length, map, drop, refl, sym, ap, arith}
+-- A part at a place, cell by cell.
+use Rattle.std.proofs.Common.{◌≡◌, ◌∙◌, ℕ, ◌+◌, ◌-◌, ◌*◌, ◌<◌, ◌≤◌, ◌&&◌, suc, zero, Bool, true, false, Option, Some}
+use Rattle.std.proofs.Common.{None, List, [], ◌∷◌, length, map, drop, refl, sym, ap, ap₂, arith}
 use Rattle.std.specs.Prelude.{slice_get}
 use Rattle.std.specs.List.{range_with_len}
-use Rattle.std.proofs.lemmas.Option.{slice_get-get_or}
+use Rattle.std.proofs.Math.Nat.{add-mul}
+use Rattle.std.proofs.Math.Seq.{drop-cons}
+use Rattle.std.proofs.lemmas.Option.{slice_get_within, get_or_from_slice_get}
 use Rattle.std.proofs.lemmas.Grind.{common_steps}
 use Rattle.ps_model.specs.declared.pieces.Slot.{Slot}
 use Rattle.ps_model.specs.board.Grid.{Grid}
 use Rattle.ps_model.specs.board.Places.{fits_there, fits_along}
-use Rattle.ps_model.specs.board.Attempts.{Rewritten, rewritten_cell, rewritten_along}
 use Rattle.ps_program.specs.declared.cells.CompiledCell.{CompiledCell}
-use Rattle.ps_program.specs.ProgramShown.{mask_shown, write_shown}
-use Rattle.ps_match.specs.InRoom.{meaning_of_mask, meaning_of_write, write_in_room}
-use Rattle.ps_places.specs.RowMeanings.{cell_meaning}
-use Rattle.ps_places.proofs.Indices.{drop-at}
+use Rattle.ps_program.specs.ProgramShown.{mask_shown}
+use Rattle.ps_match.specs.InRoom.{meaning_of_mask}
+use Rattle.ps_places.specs.Lines.{cell_meaning, cells_from, part_meaning}
 
--- a cell fits by its mask alone, and is rewritten by its write alone
-pub fits_by_mask : (table : Option (List ℕ)) (c : CompiledCell) (cell : Option (List Slot)) → fits_there (meaning_of_mask (mask_shown c.mask)) cell ≡ fits_there (cell_meaning table c) cell
+pub moved_on : (x h row n : ℕ) → (x + n) * h + row ≡ x * h + row + n * h
+moved_on x h row n = let split : (x + n) * h ≡ x * h + n * h = add-mul x n h in omega (arith, split)
+
+-- a cell fits by its mask alone
+pub fits_by_mask : (table : Option (List ℕ)) (c : CompiledCell) (cell : Option (List Slot)) →
+    fits_there (meaning_of_mask (mask_shown c.mask)) cell ≡ fits_there (cell_meaning table c) cell
 fits_by_mask table c None = refl
 fits_by_mask table c (Some cell) = refl
 
-pub rewritten_by_write : (r : Rewritten) (table : Option (List ℕ)) (c : CompiledCell) (n : ℕ) (cell : Option (List Slot)) →
-    rewritten_cell r (meaning_of_write (write_in_room table (write_shown c.write))) n cell ≡ rewritten_cell r (cell_meaning table c) n cell
-rewritten_by_write r table c n None = refl
-rewritten_by_write r table c n (Some cell) = refl
+-- the element at an index, and the rest
+drop-at : {X : Type 0} (xs : List X) (i : ℕ) (x : X) → slice_get xs i ≡ Some x → drop i xs ≡ x ∷ drop (suc i) xs
+drop-at xs i x e = drop-cons xs i x (slice_get_within xs i x e)
+    ∙ ap (λ y. y ∷ drop (suc i) xs) (get_or_from_slice_get xs i x x e)
 
--- what is left of a row from an index on
+-- what is left of a part from an index on
 abbrev pub fits_from : Grid → Option (List ℕ) → List CompiledCell → (ℕ → ℕ) → ℕ → ℕ → Bool
-fits_from g table cells at size index = fits_along g (map (cell_meaning table) (drop index cells)) (map at (range_with_len index (size - index)))
-
-abbrev pub rewritten_from : Rewritten → Option (List ℕ) → List CompiledCell → (ℕ → ℕ) → ℕ → ℕ → Rewritten
-rewritten_from r table cells at size index = rewritten_along r (map (cell_meaning table) (drop index cells)) (map at (range_with_len index (size - index)))
+fits_from g table cells at size index = fits_along g (map (cell_meaning table) (drop index cells))
+    (map at (range_with_len index (size - index)))
 
 -- whether the rest fits, if the next cell does or does not
 
-split : (g : Grid) (table : Option (List ℕ)) (cells : List CompiledCell) (at : ℕ → ℕ) (size index : ℕ) (c : CompiledCell) → slice_get cells index ≡ Some c → index < size →
+split : (g : Grid) (table : Option (List ℕ)) (cells : List CompiledCell) (at : ℕ → ℕ) (size index : ℕ)
+    (c : CompiledCell) → slice_get cells index ≡ Some c → index < size →
     fits_from g table cells at size index
-    ≡ fits_along g (cell_meaning table c ∷ map (cell_meaning table) (drop (suc index) cells)) (at index ∷ map at (range_with_len (index + 1) (size - (index + 1))))
+    ≡ fits_along g (cell_meaning table c ∷ map (cell_meaning table) (drop (suc index) cells))
+    (at index ∷ map at (range_with_len (index + 1) (size - (index + 1))))
 split g table cells at size index c e h =
     let n : size - index ≡ suc (size - (index + 1)) = omega arith in
-    ap (λ (cs : List CompiledCell). fits_along g (map (cell_meaning table) cs) (map at (range_with_len index (size - index)))) (drop-at cells index c e)
-    ∙ ap (λ (k : ℕ). fits_along g (map (cell_meaning table) (c ∷ drop (suc index) cells)) (map at (range_with_len index k))) n
+    ap (λ (cs : List CompiledCell). fits_along g (map (cell_meaning table) cs)
+    (map at (range_with_len index (size - index)))) (drop-at cells index c e)
+    ∙ ap (λ (k : ℕ). fits_along g (map (cell_meaning table) (c ∷ drop (suc index) cells))
+    (map at (range_with_len index k))) n
 
 unless : (test : Bool) (then_ : Bool) → test ≡ true → (elim test [ true ↦ then_ | false ↦ false ]) ≡ then_
 unless test then_ e = rw e refl
@@ -47,44 +54,76 @@ unless test then_ e = rw e refl
 nothing : (test : Bool) (then_ : Bool) → test ≡ false → (elim test [ true ↦ then_ | false ↦ false ]) ≡ false
 nothing test then_ e = rw e refl
 
-pub fits_from-on : (g : Grid) (table : Option (List ℕ)) (cells : List CompiledCell) (at : ℕ → ℕ) (size index : ℕ) (c : CompiledCell) → slice_get cells index ≡ Some c → index < size →
-    fits_there (meaning_of_mask (mask_shown c.mask)) (slice_get g.cells (at index)) ≡ true → fits_from g table cells at size index ≡ fits_from g table cells at size (index + 1)
+pub fits_from-on : (g : Grid) (table : Option (List ℕ)) (cells : List CompiledCell) (at : ℕ → ℕ) (size index : ℕ)
+    (c : CompiledCell) → slice_get cells index ≡ Some c → index < size →
+    fits_there (meaning_of_mask (mask_shown c.mask)) (slice_get g.cells (at index)) ≡ true →
+    fits_from g table cells at size index ≡ fits_from g table cells at size (index + 1)
 fits_from-on g table cells at size index c e h fit =
     let n : suc index ≡ index + 1 = omega arith in
     split g table cells at size index c e h
-    ∙ unless (fits_there (cell_meaning table c) (slice_get g.cells (at index))) _ (sym (fits_by_mask table c (slice_get g.cells (at index))) ∙ fit)
-    ∙ ap (λ (k : ℕ). fits_along g (map (cell_meaning table) (drop k cells)) (map at (range_with_len (index + 1) (size - (index + 1))))) n
+    ∙ unless (fits_there (cell_meaning table c) (slice_get g.cells (at index))) _
+    (sym (fits_by_mask table c (slice_get g.cells (at index))) ∙ fit)
+    ∙ ap (λ (k : ℕ). fits_along g (map (cell_meaning table) (drop k cells))
+    (map at (range_with_len (index + 1) (size - (index + 1))))) n
 
-pub fits_from-off : (g : Grid) (table : Option (List ℕ)) (cells : List CompiledCell) (at : ℕ → ℕ) (size index : ℕ) (c : CompiledCell) → slice_get cells index ≡ Some c → index < size →
-    fits_there (meaning_of_mask (mask_shown c.mask)) (slice_get g.cells (at index)) ≡ false → fits_from g table cells at size index ≡ false
+pub fits_from-off : (g : Grid) (table : Option (List ℕ)) (cells : List CompiledCell) (at : ℕ → ℕ) (size index : ℕ)
+    (c : CompiledCell) → slice_get cells index ≡ Some c → index < size →
+    fits_there (meaning_of_mask (mask_shown c.mask)) (slice_get g.cells (at index)) ≡ false →
+    fits_from g table cells at size index ≡ false
 fits_from-off g table cells at size index c e h fit =
     split g table cells at size index c e h
-    ∙ nothing (fits_there (cell_meaning table c) (slice_get g.cells (at index))) _ (sym (fits_by_mask table c (slice_get g.cells (at index))) ∙ fit)
+    ∙ nothing (fits_there (cell_meaning table c) (slice_get g.cells (at index))) _
+    (sym (fits_by_mask table c (slice_get g.cells (at index))) ∙ fit)
 
 -- all cells were looked at
 none_left : {X : Type 0} (xs : List X) (n : ℕ) → length xs ≤ n → drop n xs ≡ []
 none_left xs n h = grind (arith, common_steps)
 
-pub fits_from-end : (g : Grid) (table : Option (List ℕ)) (cells : List CompiledCell) (at : ℕ → ℕ) (size index : ℕ) → length cells ≡ size → size ≤ index → fits_from g table cells at size index ≡ true
-fits_from-end g table cells at size index e h = let n : size - index ≡ 0 = omega arith in rw (n, none_left cells index (omega arith)) refl
+pub fits_from-end : (g : Grid) (table : Option (List ℕ)) (cells : List CompiledCell) (at : ℕ → ℕ) (size index : ℕ) →
+    length cells ≡ size → size ≤ index → fits_from g table cells at size index ≡ true
+fits_from-end g table cells at size index e h = let n : size - index ≡ 0 = omega arith in
+    rw (n, none_left cells index (omega arith)) refl
 
--- the next cell rewritten
-pub rewritten_from-on : (r : Rewritten) (table : Option (List ℕ)) (cells : List CompiledCell) (at : ℕ → ℕ) (size index : ℕ) (c : CompiledCell) → slice_get cells index ≡ Some c → index < size →
-    rewritten_from r table cells at size index
-    ≡ rewritten_from (rewritten_cell r (meaning_of_write (write_in_room table (write_shown c.write))) (at index) (slice_get (r.grid).cells (at index))) table cells at size (index + 1)
-rewritten_from-on r table cells at size index c e h =
-    let n : size - index ≡ suc (size - (index + 1)) = omega arith in
-    let m : suc index ≡ index + 1 = omega arith in
-    ap (λ (cs : List CompiledCell). rewritten_along r (map (cell_meaning table) cs) (map at (range_with_len index (size - index)))) (drop-at cells index c e)
-    ∙ ap (λ (k : ℕ). rewritten_along r (map (cell_meaning table) (c ∷ drop (suc index) cells)) (map at (range_with_len index k))) n
-    ∙ ap (λ (k : ℕ). rewritten_along (rewritten_cell r (cell_meaning table c) (at index) (slice_get (r.grid).cells (at index))) (map (cell_meaning table) (drop k cells)) (map at (range_with_len (index + 1) (size - (index + 1))))) m
-    ∙ ap (λ (next : Rewritten). rewritten_along next (map (cell_meaning table) (drop (index + 1) cells)) (map at (range_with_len (index + 1) (size - (index + 1)))))
-    (sym (rewritten_by_write r table c (at index) (slice_get (r.grid).cells (at index))))
+-- one cell more
+pub fits_from-by : (g : Grid) (table : Option (List ℕ)) (cells : List CompiledCell) (at : ℕ → ℕ) (size index : ℕ)
+    (c : CompiledCell) (fits : Bool) → slice_get cells index ≡ Some c → index < size →
+    fits_there (meaning_of_mask (mask_shown c.mask)) (slice_get g.cells (at index)) ≡ fits →
+    fits_from g table cells at size index ≡ (fits && fits_from g table cells at size (index + 1))
+fits_from-by g table cells at size index c true e h fit = fits_from-on g table cells at size index c e h fit
+fits_from-by g table cells at size index c false e h fit = fits_from-off g table cells at size index c e h fit
 
-pub rewritten_from-end : (r : Rewritten) (table : Option (List ℕ)) (cells : List CompiledCell) (at : ℕ → ℕ) (size index : ℕ) → length cells ≡ size → size ≤ index → rewritten_from r table cells at size index ≡ r
-rewritten_from-end r table cells at size index e h = rw (none_left cells index (omega arith)) refl
+-- a part one of whose cells doesn't fit
+if_rest : (test rest : Bool) → rest ≡ false → (elim test [ true ↦ rest | false ↦ false ]) ≡ false
+if_rest true rest e = e
+if_rest false rest e = refl
 
--- there is a cell at each index
-pub some_cell : (cells : List CompiledCell) (size index : ℕ) → length cells ≡ size → index < size → slice_get cells index ≡ None → ⊥
-some_cell [] size index e h none = omega arith
-some_cell (c ∷ cells) size index e h none = let some : slice_get (c ∷ cells) index ≡ Some _ = slice_get-get_or (c ∷ cells) index c (omega arith) in cc
+if_here : (test rest : Bool) → test ≡ false → (elim test [ true ↦ rest | false ↦ false ]) ≡ false
+if_here test rest e = rw e refl
+
+one_off : (g : Grid) (table : Option (List ℕ)) (cells : List CompiledCell) (at : ℕ → ℕ) (a n i : ℕ) (c : CompiledCell) →
+    slice_get cells i ≡ Some c → i < n →
+    fits_there (cell_meaning table c) (slice_get g.cells (at (a + i))) ≡ false →
+    fits_along g (map (cell_meaning table) cells) (map at (range_with_len a n)) ≡ false
+one_off g table [] at a n i c e low off = absurd (cc)
+one_off g table (d ∷ cells) at a zero i c e low off = absurd (omega arith)
+one_off g table (d ∷ cells) at a (suc n) zero c e low off =
+    let is : d ≡ c = cc in
+    let here : a + 0 ≡ a = omega arith in
+    if_here (fits_there (cell_meaning table d) (slice_get g.cells (at a))) _
+    (ap₂ (λ (d : CompiledCell) (k : ℕ). fits_there (cell_meaning table d) (slice_get g.cells (at k))) is (sym here)
+    ∙ off)
+one_off g table (d ∷ cells) at a (suc n) (suc i) c e low off =
+    let next : a + 1 + i ≡ a + suc i = omega arith in
+    if_rest (fits_there (cell_meaning table d) (slice_get g.cells (at a))) _
+    (one_off g table cells at (a + 1) n i c e (omega arith)
+    (ap (λ (k : ℕ). fits_there (cell_meaning table c) (slice_get g.cells (at k))) next ∙ off))
+
+pub fits_not : (g : Grid) (table : Option (List ℕ)) (cells : List CompiledCell) (first step size index : ℕ)
+    (c : CompiledCell) → slice_get cells index ≡ Some c → index < size →
+    fits_there (meaning_of_mask (mask_shown c.mask)) (slice_get g.cells (first + index * step)) ≡ false →
+    fits_along g (part_meaning table cells) (cells_from step first size) ≡ false
+fits_not g table cells first step size index c e low off =
+    let from : 0 + index ≡ index = omega arith in
+    one_off g table cells (λ k. first + k * step) 0 size index c e low
+    (ap (λ (k : ℕ). fits_there (cell_meaning table c) (slice_get g.cells (first + k * step))) from
+    ∙ sym (fits_by_mask table c (slice_get g.cells (first + index * step))) ∙ off)

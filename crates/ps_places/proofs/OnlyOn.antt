@@ -1,7 +1,8 @@
--- Rows of the board outside of which a cell of a rule doesn't fit, or a row of a rule doesn't begin.
-use Rattle.std.proofs.Common.{◌≡◌, ◌∙◌, ℕ, ◌+◌, ◌-◌, ◌*◌, ◌/◌, ◌<◌, ◌≤◌, ◌&&◌, ◌⊎◌, inl, inr, suc, zero, Bool, true, false, Option, Some, None, List, [], ◌∷◌, refl, sym, ap, ap₂, arith}
-use Rattle.std.specs.Prelude.{not, nat_le, nat_lt, if◌then◌else◌, slice_get}
-use Rattle.std.specs.List.{list_all, list_any, range_with_len}
+-- Rows of the board outside of which a cell of a rule doesn't fit, or a part doesn't begin.
+use Rattle.std.proofs.Common.{◌≡◌, ◌∙◌, ℕ, ◌+◌, ◌*◌, ◌<◌, ◌≤◌, ◌&&◌, ◌⊎◌, inl, inr, suc, zero, Bool, true, false}
+use Rattle.std.proofs.Common.{Option, Some, None, List, [], ◌∷◌, length, refl, sym, ap, arith}
+use Rattle.std.specs.Prelude.{not, nat_lt, slice_get}
+use Rattle.std.specs.List.{list_all, list_any}
 use Rattle.std.proofs.Math.Bool.{and-false}
 use Rattle.std.proofs.lemmas.Bool.{cases_lt}
 use Rattle.std.proofs.lemmas.Bool.Decides.{nat_tests}
@@ -15,86 +16,110 @@ use Rattle.ps_model.specs.board.Places.{fits_along, fits_there}
 use Rattle.ps_model.specs.meaning.Compiled.{is_held_in, moves_as_asked}
 use Rattle.ps_program.specs.declared.cells.CellMask.{CellMask}
 use Rattle.ps_program.specs.declared.cells.CompiledCell.{CompiledCell}
+use Rattle.ps_program.specs.declared.rows.Axis.{Axis}
+use Rattle.ps_program.specs.declared.rows.Axis.TheVariants.{Down, Right}
 use Rattle.ps_program.specs.ProgramShown.{mask_shown}
 use Rattle.ps_match.specs.InRoom.{meaning_of_mask}
 use Rattle.ps_match.specs.Nowhere.{HasMovesIn, HasRowsIn}
-use Rattle.ps_board.specs.ColumnSets.{column_at, set_columns, no_columns, columns_below, both_columns, columns_behind, row_fits}
-use Rattle.ps_board.proofs.ColumnLaws.{column_at-where, none_in}
+use Rattle.ps_board.specs.ColumnSets.{column_at, columns_below, both_columns, columns_behind}
+use Rattle.ps_board.proofs.ColumnLaws.{column_at-where}
 use Rattle.ps_board.proofs.PassedColumns.{no_cell}
-use Rattle.ps_places.specs.declared.shape.Shape.{Shape}
-use Rattle.ps_places.specs.Candidates.{FitsOnlyOn, FitsNotOn, HasCellOnlyOn, BeginsOnlyOn}
-use Rattle.ps_places.specs.Ends.{HasEndsIn}
-use Rattle.ps_places.specs.RowCells.{all_cells}
-use Rattle.ps_places.specs.RowMeanings.{horizontal_at, meanings_of, part_sizes, row_places_at}
-use Rattle.ps_places.specs.Starts.{AreWhere, fits_at, has_room, begins_across, begins_down}
-use Rattle.ps_places.specs.Stretches.{from_end, gap_count, stretch_of, with_gap}
-use Rattle.ps_places.proofs.Begins.{in_row, moved_on}
-use Rattle.ps_places.proofs.Nowhere.{fits_not, none_kept}
-use Rattle.ps_places.proofs.Ranges.{flat_map-none}
+use Rattle.ps_places.specs.Candidates.{FitsOnlyOn, BeginsOnlyOn}
+use Rattle.ps_places.specs.CellCandidates.{HasCellOnlyOn}
+use Rattle.ps_places.specs.Lines.{cells_from, part_meaning, step_along}
+use Rattle.ps_places.proofs.CellByCell.{fits_not, moved_on}
 
 -- no row is left out of all of them
-pub not_left_out : (rows : List Bool) (row : ℕ) → rows ≡ columns_below SIDE_LIMIT → row < SIDE_LIMIT → column_at rows row ≡ false → true ≡ false
+pub not_left_out : (rows : List Bool) (row : ℕ) → rows ≡ columns_below SIDE_LIMIT → row < SIDE_LIMIT →
+    column_at rows row ≡ false → true ≡ false
 not_left_out rows row is low out =
     let within : nat_lt row SIDE_LIMIT ≡ true = grind (arith, nat_tests, low) in
-    sym within ∙ sym (ap (λ (cs : List Bool). column_at cs row) is ∙ column_at-where (λ y. nat_lt y SIDE_LIMIT) row low) ∙ out
+    sym within ∙ sym (ap (λ (cs : List Bool). column_at cs row) is ∙ column_at-where (λ y. nat_lt y SIDE_LIMIT) row low)
+    ∙ out
 
 -- a row that isn't in both sets is missing in one of them
 missing_by : (a b : Bool) → (a && b) ≡ false → (a ≡ false) ⊎ (b ≡ false)
 missing_by true b e = inr e
 missing_by false b e = inl refl
 
-pub missing : (rows others both : List Bool) (row : ℕ) → both ≡ both_columns rows others → row < SIDE_LIMIT → column_at both row ≡ false → (column_at rows row ≡ false) ⊎ (column_at others row ≡ false)
+pub missing : (rows others both : List Bool) (row : ℕ) → both ≡ both_columns rows others → row < SIDE_LIMIT →
+    column_at both row ≡ false → (column_at rows row ≡ false) ⊎ (column_at others row ≡ false)
 missing rows others both row is low out =
     missing_by (column_at rows row) (column_at others row)
-    (sym (ap (λ (cs : List Bool). column_at cs row) is ∙ column_at-where (λ y. column_at rows y && column_at others y) row low) ∙ out)
+    (sym (ap (λ (cs : List Bool). column_at cs row) is
+    ∙ column_at-where (λ y. column_at rows y && column_at others y) row low) ∙ out)
 
 -- a mask ---------------------------------------------------------------------------------------------------------------
 
-not_all : (slots : List Slot) (object : LayeredObject) → is_held_in slots object ≡ false → (needed : List LayeredObject) (k : ℕ) → slice_get needed k ≡ Some object → list_all (is_held_in slots) needed ≡ false
+not_all : (slots : List Slot) (object : LayeredObject) → is_held_in slots object ≡ false →
+    (needed : List LayeredObject) (k : ℕ) → slice_get needed k ≡ Some object →
+    list_all (is_held_in slots) needed ≡ false
 not_all slots object off [] k e = absurd (cc)
 not_all slots object off (first ∷ needed) zero e =
-    let is : first ≡ object = cc in ap (λ (b : Bool). b && list_all (is_held_in slots) needed) (ap (is_held_in slots) is ∙ off)
+    let is : first ≡ object = cc in ap (λ (b : Bool). b && list_all (is_held_in slots) needed)
+    (ap (is_held_in slots) is ∙ off)
 not_all slots object off (first ∷ needed) (suc k) e =
-    ap (λ (b : Bool). is_held_in slots first && b) (not_all slots object off needed k e) ∙ and-false (is_held_in slots first)
+    ap (λ (b : Bool). is_held_in slots first && b) (not_all slots object off needed k e)
+    ∙ and-false (is_held_in slots first)
 
-mask_off : (mask : CellMask) (slots : List Slot) (object : LayeredObject) (k : ℕ) → is_held_in slots object ≡ false → slice_get mask.needed k ≡ Some object →
+mask_off : (mask : CellMask) (slots : List Slot) (object : LayeredObject) (k : ℕ) → is_held_in slots object ≡ false →
+    slice_get mask.needed k ≡ Some object →
     (list_all (is_held_in slots) mask.needed
-    && (not (list_any (is_held_in slots) mask.barred) && (list_all (λ objects. list_any (is_held_in slots) objects) mask.one_of && list_all (moves_as_asked slots) mask.motions)))
+    && (not (list_any (is_held_in slots) mask.barred) &&
+    (list_all (λ objects. list_any (is_held_in slots) objects) mask.one_of && list_all
+    (moves_as_asked slots) mask.motions)))
     ≡ false
 mask_off mask slots object k off needs =
     ap (λ (b : Bool). b
-    && (not (list_any (is_held_in slots) mask.barred) && (list_all (λ objects. list_any (is_held_in slots) objects) mask.one_of && list_all (moves_as_asked slots) mask.motions)))
+    && (not (list_any (is_held_in slots) mask.barred) &&
+    (list_all (λ objects. list_any (is_held_in slots) objects) mask.one_of && list_all
+    (moves_as_asked slots) mask.motions)))
     (not_all slots object off mask.needed k needs)
 
 -- a cell without one of the objects that the mask needs doesn't fit
-cell_off : (g : Grid) (mask : CellMask) (object : LayeredObject) (k number : ℕ) (found : Option (List Slot)) → slice_get mask.needed k ≡ Some object → is_held_in (cell_at g number) object ≡ false →
+cell_off : (g : Grid) (mask : CellMask) (object : LayeredObject) (k number : ℕ) (found : Option (List Slot)) →
+    slice_get mask.needed k ≡ Some object → is_held_in (cell_at g number) object ≡ false →
     slice_get g.cells number ≡ found → fits_there (meaning_of_mask (mask_shown mask)) found ≡ false
 cell_off g mask object k number None needs off e = refl
 cell_off g mask object k number (Some slots) needs off e =
     let same : cell_at g number ≡ slots = get_or_from_slice_get g.cells number slots [] e in
     mask_off mask slots object k (ap (λ (s : List Slot). is_held_in s object) (sym same) ∙ off) needs
 
-pub mask-init : (g : Grid) (mask : CellMask) (rows : List Bool) → IsGrid g → rows ≡ columns_below SIDE_LIMIT → FitsOnlyOn g mask rows
-mask-init g mask rows grid is = record { at = λ row x low out. let clash : true ≡ false = not_left_out rows row is (omega (arith, low, grid.rows)) out in absurd (cc) }
+pub mask-init : (g : Grid) (mask : CellMask) (rows : List Bool) → IsGrid g → rows ≡ columns_below SIDE_LIMIT →
+    FitsOnlyOn g mask rows
+mask-init g mask rows grid is = record {
+  at = λ row x low out. let clash : true ≡ false =
+      not_left_out rows row is (omega (arith, low, grid.rows)) out in absurd (cc);
+}
 
-mask_by : (g : Grid) (mask : CellMask) (object : LayeredObject) (k row x : ℕ) (rows having : List Bool) → slice_get mask.needed k ≡ Some object → HasRowsIn g object having → FitsOnlyOn g mask rows →
-    row < g.height → (column_at rows row ≡ false) ⊎ (column_at having row ≡ false) → fits_there (meaning_of_mask (mask_shown mask)) (slice_get g.cells (x * g.height + row)) ≡ false
+mask_by : (g : Grid) (mask : CellMask) (object : LayeredObject) (k row x : ℕ) (rows having : List Bool) →
+    slice_get mask.needed k ≡ Some object → HasRowsIn g object having → FitsOnlyOn g mask rows →
+    row < g.height → (column_at rows row ≡ false) ⊎ (column_at having row ≡ false) →
+    fits_there (meaning_of_mask (mask_shown mask)) (slice_get g.cells (x * g.height + row)) ≡ false
 mask_by g mask object k row x rows having needs has only low (inl out) = only.at row x low out
 mask_by g mask object k row x rows having needs has only low (inr out) =
-    cell_off g mask object k (x * g.height + row) (slice_get g.cells (x * g.height + row)) needs (has row low out x) refl
+    cell_off g mask object k (x * g.height + row) (slice_get g.cells (x * g.height + row)) needs
+    (has row low out x) refl
 
-pub mask-more : (g : Grid) (mask : CellMask) (object : LayeredObject) (k : ℕ) (rows having both : List Bool) → IsGrid g → slice_get mask.needed k ≡ Some object → HasRowsIn g object having →
+pub mask-more : (g : Grid) (mask : CellMask) (object : LayeredObject) (k : ℕ) (rows having both : List Bool) →
+    IsGrid g → slice_get mask.needed k ≡ Some object → HasRowsIn g object having →
     both ≡ both_columns rows having → FitsOnlyOn g mask rows → FitsOnlyOn g mask both
 mask-more g mask object k rows having both grid needs has is only =
-    record { at = λ row x low out. mask_by g mask object k row x rows having needs has only low (missing rows having both row is (omega (arith, low, grid.rows)) out) }
+    record {
+      at = λ row x low out. mask_by g mask object k row x rows having needs has only low
+          (missing rows having both row is (omega (arith, low, grid.rows)) out);
+    }
 
 -- a layer that doesn't move as it is asked for
-not_all_move : (slots : List Slot) (test : MotionTest) → moves_as_asked slots test ≡ false → (tests : List MotionTest) (k : ℕ) → slice_get tests k ≡ Some test → list_all (moves_as_asked slots) tests ≡ false
+not_all_move : (slots : List Slot) (test : MotionTest) → moves_as_asked slots test ≡ false →
+    (tests : List MotionTest) (k : ℕ) → slice_get tests k ≡ Some test → list_all (moves_as_asked slots) tests ≡ false
 not_all_move slots test off [] k e = absurd (cc)
 not_all_move slots test off (first ∷ tests) zero e =
-    let is : first ≡ test = cc in ap (λ (b : Bool). b && list_all (moves_as_asked slots) tests) (ap (moves_as_asked slots) is ∙ off)
+    let is : first ≡ test = cc in ap (λ (b : Bool). b && list_all (moves_as_asked slots) tests)
+    (ap (moves_as_asked slots) is ∙ off)
 not_all_move slots test off (first ∷ tests) (suc k) e =
-    ap (λ (b : Bool). moves_as_asked slots first && b) (not_all_move slots test off tests k e) ∙ and-false (moves_as_asked slots first)
+    ap (λ (b : Bool). moves_as_asked slots first && b) (not_all_move slots test off tests k e)
+    ∙ and-false (moves_as_asked slots first)
 
 last_off : (a b c d : Bool) → d ≡ false → (a && (b && (c && d))) ≡ false
 last_off true true true d e = e
@@ -103,134 +128,93 @@ last_off true false c d e = refl
 last_off false b c d e = refl
 
 -- a cell without one of the motions that the mask asks for doesn't fit
-cell_still : (g : Grid) (mask : CellMask) (test : MotionTest) (k number : ℕ) (found : Option (List Slot)) → slice_get mask.motions k ≡ Some test → moves_as_asked (cell_at g number) test ≡ false →
+cell_still : (g : Grid) (mask : CellMask) (test : MotionTest) (k number : ℕ) (found : Option (List Slot)) →
+    slice_get mask.motions k ≡ Some test → moves_as_asked (cell_at g number) test ≡ false →
     slice_get g.cells number ≡ found → fits_there (meaning_of_mask (mask_shown mask)) found ≡ false
 cell_still g mask test k number None asks off e = refl
 cell_still g mask test k number (Some slots) asks off e =
     let same : cell_at g number ≡ slots = get_or_from_slice_get g.cells number slots [] e in
-    last_off (list_all (is_held_in slots) mask.needed) (not (list_any (is_held_in slots) mask.barred)) (list_all (λ objects. list_any (is_held_in slots) objects) mask.one_of)
-    (list_all (moves_as_asked slots) mask.motions) (not_all_move slots test (ap (λ (s : List Slot). moves_as_asked s test) (sym same) ∙ off) mask.motions k asks)
+    last_off (list_all (is_held_in slots) mask.needed) (not (list_any (is_held_in slots) mask.barred))
+    (list_all (λ objects. list_any (is_held_in slots) objects) mask.one_of)
+    (list_all (moves_as_asked slots) mask.motions)
+    (not_all_move slots test (ap (λ (s : List Slot). moves_as_asked s test) (sym same) ∙ off) mask.motions k asks)
 
-motion_by : (g : Grid) (mask : CellMask) (test : MotionTest) (k row x : ℕ) (rows moving : List Bool) → IsGrid g → slice_get mask.motions k ≡ Some test → HasMovesIn g test moving →
+motion_by : (g : Grid) (mask : CellMask) (test : MotionTest) (k row x : ℕ) (rows moving : List Bool) → IsGrid g →
+    slice_get mask.motions k ≡ Some test → HasMovesIn g test moving →
     FitsOnlyOn g mask rows → row < g.height → (column_at rows row ≡ false) ⊎ (column_at moving row ≡ false) →
     fits_there (meaning_of_mask (mask_shown mask)) (slice_get g.cells (x * g.height + row)) ≡ false
 motion_by g mask test k row x rows moving grid asks has only low (inl out) = only.at row x low out
 motion_by g mask test k row x rows moving grid asks has only low (inr out) = elim (cases_lt x g.width) [
-  | inl across ↦ cell_still g mask test k (x * g.height + row) (slice_get g.cells (x * g.height + row)) asks (has row low out x across) refl
+  | inl across ↦ cell_still g mask test k (x * g.height + row) (slice_get g.cells (x * g.height + row)) asks
+      (has row low out x across) refl
   | inr far ↦ ap (fits_there (meaning_of_mask (mask_shown mask))) (no_cell g row x grid.cells far)
 ]
 
-pub motion-more : (g : Grid) (mask : CellMask) (test : MotionTest) (k : ℕ) (rows moving both : List Bool) → IsGrid g → slice_get mask.motions k ≡ Some test → HasMovesIn g test moving →
+pub motion-more : (g : Grid) (mask : CellMask) (test : MotionTest) (k : ℕ) (rows moving both : List Bool) → IsGrid g →
+    slice_get mask.motions k ≡ Some test → HasMovesIn g test moving →
     both ≡ both_columns rows moving → FitsOnlyOn g mask rows → FitsOnlyOn g mask both
 motion-more g mask test k rows moving both grid asks has is only =
-    record { at = λ row x low out. motion_by g mask test k row x rows moving grid asks has only low (missing rows moving both row is (omega (arith, low, grid.rows)) out) }
-
--- the cells of a row ---------------------------------------------------------------------------------------------------
-
-pub cell-across : (g : Grid) (mask : CellMask) (shape : Shape) (index : ℕ) (rows : List Bool) → shape.step ≡ g.height → FitsOnlyOn g mask rows → HasCellOnlyOn g mask shape index false rows
-cell-across g mask shape index rows step only =
     record {
-      at = λ row x gap low room out.
-          let n : ℕ = with_gap shape.first gap (from_end shape.backwards shape.size index) in
-          ap (λ (m : ℕ). fits_there (meaning_of_mask (mask_shown mask)) (slice_get g.cells m)) (ap (λ (step : ℕ). x * g.height + row + n * step) step ∙ sym (moved_on x g.height row n))
-          ∙ only.at row (x + n) low out;
+      at = λ row x low out. motion_by g mask test k row x rows moving grid asks has only low
+          (missing rows moving both row is (omega (arith, low, grid.rows)) out);
     }
 
-pub cell-behind_gap : (g : Grid) (mask : CellMask) (shape : Shape) (index : ℕ) (down : Bool) (rows : List Bool) → IsGrid g → rows ≡ columns_below SIDE_LIMIT → HasCellOnlyOn g mask shape index down rows
-cell-behind_gap g mask shape index down rows grid is =
-    record { at = λ row x gap low room out. let clash : true ≡ false = not_left_out rows row is (omega (arith, low, grid.rows)) out in absurd (cc) }
+-- the cells of a part ---------------------------------------------------------------------------------------------------
 
-before_by : (before : Bool) (n gap : ℕ) → before ≡ true → (if before then n else n + gap) ≡ n
-before_by true n gap e = refl
-before_by false n gap e = absurd (cc)
-
-pub cell-down : (g : Grid) (mask : CellMask) (shape : Shape) (index steps : ℕ) (rows behind : List Bool) → IsGrid g → steps ≡ from_end shape.backwards shape.size index → steps < shape.size → steps < shape.first →
-    shape.step ≡ 1 → behind ≡ columns_behind rows steps → FitsOnlyOn g mask rows → HasCellOnlyOn g mask shape index true behind
-cell-down g mask shape index steps rows behind grid e within before step is only =
+pub cell-right : (g : Grid) (mask : CellMask) (steps : ℕ) (rows : List Bool) → FitsOnlyOn g mask rows →
+    HasCellOnlyOn g mask Right steps rows
+cell-right g mask steps rows only =
     record {
-      at = λ row x gap low room out.
-          let n : ℕ = with_gap shape.first gap (from_end shape.backwards shape.size index) in
-          let test : nat_lt steps shape.first ≡ true = grind (arith, nat_tests, before) in
-          let number : n ≡ steps = ap (with_gap shape.first gap) (sym e) ∙ before_by (nat_lt steps shape.first) steps gap test in
-          let fits : row + shape.size ≤ g.height = room refl in
-          let here : row + steps < g.height = omega (arith, fits, within) in
-          let far : column_at rows (row + steps) ≡ false =
-          sym (ap (λ (cs : List Bool). column_at cs row) is ∙ column_at-where (λ y. column_at rows (y + steps)) row (omega (arith, low, grid.rows))) ∙ out in
-          let same : x * g.height + row + steps * 1 ≡ x * g.height + (row + steps) = omega arith in
+      at = λ row x low room out.
           ap (λ (m : ℕ). fits_there (meaning_of_mask (mask_shown mask)) (slice_get g.cells m))
-          (ap₂ (λ (m step : ℕ). x * g.height + row + m * step) number step ∙ same)
+          (sym (moved_on x g.height row steps))
+          ∙ only.at row (x + steps) low out;
+    }
+
+pub cell-down : (g : Grid) (mask : CellMask) (steps : ℕ) (rows behind : List Bool) → IsGrid g →
+    behind ≡ columns_behind rows steps → FitsOnlyOn g mask rows →
+    HasCellOnlyOn g mask Down steps behind
+cell-down g mask steps rows behind grid is only =
+    record {
+      at = λ row x low room out.
+          let here : row + steps < g.height = room refl in
+          let far : column_at rows (row + steps) ≡ false =
+          sym (ap (λ (cs : List Bool). column_at cs row) is
+          ∙ column_at-where (λ y. column_at rows (y + steps)) row (omega (arith, low, grid.rows))) ∙ out in
+          let same : x * g.height + row + steps * 1 ≡ x * g.height + (row + steps) = omega arith in
+          ap (λ (m : ℕ). fits_there (meaning_of_mask (mask_shown mask)) (slice_get g.cells m)) same
           ∙ only.at (row + steps) x here far;
     }
 
-pub begin-init : (g : Grid) (table : Option (List ℕ)) (parts : List (List CompiledCell)) (shape : Shape) (down : Bool) (rows : List Bool) → IsGrid g → rows ≡ columns_below SIDE_LIMIT →
-    BeginsOnlyOn g table parts shape down rows
-begin-init g table parts shape down rows grid is =
-    record { at = λ row x gap low room out. let clash : true ≡ false = not_left_out rows row is (omega (arith, low, grid.rows)) out in absurd (cc) }
-
-begin_by : (g : Grid) (table : Option (List ℕ)) (parts : List (List CompiledCell)) (shape : Shape) (down : Bool) (index row x gap : ℕ) (c : CompiledCell) (rows own : List Bool) →
-    slice_get (all_cells parts) index ≡ Some c → index < shape.size → HasCellOnlyOn g c.mask shape index down own → BeginsOnlyOn g table parts shape down rows → row < g.height →
-    (down ≡ true → row + shape.size ≤ g.height) → (column_at rows row ≡ false) ⊎ (column_at own row ≡ false) → fits_along g (meanings_of table parts) (stretch_of shape (x * g.height + row) gap) ≡ false
-begin_by g table parts shape down index row x gap c rows own e low has only high room (inl out) = only.at row x gap high room out
-begin_by g table parts shape down index row x gap c rows own e low has only high room (inr out) =
-    fits_not g table parts shape (x * g.height + row) gap index c e low (has.at row x gap high room out)
-
-pub begin-more : (g : Grid) (table : Option (List ℕ)) (parts : List (List CompiledCell)) (shape : Shape) (down : Bool) (index : ℕ) (c : CompiledCell) (rows own both : List Bool) → IsGrid g →
-    slice_get (all_cells parts) index ≡ Some c → index < shape.size → HasCellOnlyOn g c.mask shape index down own → both ≡ both_columns rows own → BeginsOnlyOn g table parts shape down rows →
-    BeginsOnlyOn g table parts shape down both
-begin-more g table parts shape down index c rows own both grid e low has is only =
+pub begin-init : (g : Grid) (table : Option (List ℕ)) (axis : Axis) (part : List CompiledCell) (rows : List Bool) →
+    IsGrid g → rows ≡ columns_below SIDE_LIMIT →
+    BeginsOnlyOn g table axis part rows
+begin-init g table axis part rows grid is =
     record {
-      at = λ row x gap high room out.
-          begin_by g table parts shape down index row x gap c rows own e low has only high room (missing rows own both row is (omega (arith, high, grid.rows)) out);
+      at = λ row x low room out. let clash : true ≡ false =
+          not_left_out rows row is (omega (arith, low, grid.rows)) out in absurd (cc);
     }
 
--- a row of the board that isn't one of them ----------------------------------------------------------------------------
+begin_by : (g : Grid) (table : Option (List ℕ)) (axis : Axis) (part : List CompiledCell) (index row x : ℕ)
+    (c : CompiledCell) (rows own : List Bool) →
+    slice_get part index ≡ Some c → index < length part → HasCellOnlyOn g c.mask axis index own →
+    BeginsOnlyOn g table axis part rows → row < g.height →
+    (axis ≡ Down → row + length part ≤ g.height) → (column_at rows row ≡ false) ⊎ (column_at own row ≡ false) →
+    fits_along g (part_meaning table part) (cells_from (step_along axis g.height) (x * g.height + row) (length part))
+    ≡ false
+begin_by g table axis part index row x c rows own e low has only high room (inl out) = only.at row x high room out
+begin_by g table axis part index row x c rows own e low has only high room (inr out) =
+    fits_not g table part (x * g.height + row) (step_along axis g.height) (length part) index c e low
+    (has.at row x high (λ down. let all : row + length part ≤ g.height = room down in omega (arith, all, low)) out)
 
-pub not_across : (g : Grid) (table : Option (List ℕ)) (parts : List (List CompiledCell)) (shape : Shape) (row : ℕ) (rows starts : List Bool) → BeginsOnlyOn g table parts shape false rows → row < g.height →
-    column_at rows row ≡ false → starts ≡ no_columns → AreWhere (begins_across g table parts shape row) starts
-not_across g table parts shape row rows starts only low out is =
+pub begin-more : (g : Grid) (table : Option (List ℕ)) (axis : Axis) (part : List CompiledCell) (index : ℕ)
+    (c : CompiledCell) (rows own both : List Bool) → IsGrid g →
+    slice_get part index ≡ Some c → index < length part → HasCellOnlyOn g c.mask axis index own →
+    both ≡ both_columns rows own → BeginsOnlyOn g table axis part rows →
+    BeginsOnlyOn g table axis part both
+begin-more g table axis part index c rows own both grid e low has is only =
     record {
-      at = λ x within.
-          ap (λ (cs : List Bool). column_at cs x) is
-          ∙ column_at-where (λ y. false) x within
-          ∙ sym (ap (λ (b : Bool). has_room g.width shape.size x && b) (only.at row x 0 low (λ e. absurd (cc)) out) ∙ and-false (has_room g.width shape.size x));
+      at = λ row x high room out.
+          begin_by g table axis part index row x c rows own e low has only high room
+          (missing rows own both row is (omega (arith, high, grid.rows)) out);
     }
-
-pub not_down : (g : Grid) (table : Option (List ℕ)) (parts : List (List CompiledCell)) (shape : Shape) (row : ℕ) (rows starts : List Bool) → BeginsOnlyOn g table parts shape true rows → row < g.height →
-    row + shape.size ≤ g.height → column_at rows row ≡ false → starts ≡ no_columns → AreWhere (begins_down g table parts shape row) starts
-not_down g table parts shape row rows starts only low room out is =
-    record {
-      at = λ x within.
-          ap (λ (cs : List Bool). column_at cs x) is
-          ∙ column_at-where (λ y. false) x within
-          ∙ sym (ap (λ (b : Bool). (nat_lt x g.width && nat_le shape.size (g.height - row)) && b) (only.at row x 0 low (λ e. room) out) ∙ and-false (nat_lt x g.width && nat_le shape.size (g.height - row)));
-    }
-
--- no place has its end on it
-pub no_places_across : (g : Grid) (table : Option (List ℕ)) (parts : List (List CompiledCell)) (shape : Shape) (rows : List Bool) → BeginsOnlyOn g table parts shape false rows →
-    (row : ℕ) → row < g.height → column_at rows row ≡ false → row_places_at g table parts shape row ≡ []
-no_places_across g table parts shape rows only row low out =
-    flat_map-none (λ x. horizontal_at g table parts shape (x * g.height + row)) (range_with_len 0 g.width)
-    (λ x. none_kept (fits_along g (meanings_of table parts)) (stretch_of shape (x * g.height + row)) 0 (gap_count (part_sizes parts) (g.width - (x * g.height + row) / g.height))
-    (λ gap. only.at row x gap low (λ e. absurd (cc)) out))
-
-down_by : (g : Grid) (table : Option (List ℕ)) (parts : List (List CompiledCell)) (shape : Shape) (row x : ℕ) (rows : List Bool) (fits : Bool) → nat_le shape.size (g.height - row) ≡ fits →
-    BeginsOnlyOn g table parts shape true rows → row < g.height → column_at rows row ≡ false → ((nat_lt x g.width && fits) && fits_at g table parts shape (x * g.height + row)) ≡ false
-down_by g table parts shape row x rows true t only low out =
-    let room : shape.size ≤ g.height - row = grind (arith, nat_tests) in
-    ap (λ (b : Bool). (nat_lt x g.width && true) && b) (only.at row x 0 low (λ e. omega (arith, room, low)) out) ∙ and-false (nat_lt x g.width && true)
-down_by g table parts shape row x rows false t only low out = ap (λ (b : Bool). b && fits_at g table parts shape (x * g.height + row)) (and-false (nat_lt x g.width))
-
-pub none_begins_down : (g : Grid) (table : Option (List ℕ)) (parts : List (List CompiledCell)) (shape : Shape) (rows : List Bool) → BeginsOnlyOn g table parts shape true rows →
-    (row : ℕ) → row < g.height → column_at rows row ≡ false → (x : ℕ) → x < SIDE_LIMIT → begins_down g table parts shape row x ≡ false
-none_begins_down g table parts shape rows only row low out x within = down_by g table parts shape row x rows (nat_le shape.size (g.height - row)) refl only low out
-
-pub no_end_on : (g : Grid) (table : Option (List ℕ)) (parts : List (List CompiledCell)) (shape : Shape) (down : Bool) (row : ℕ) (rows ends : List Bool) → BeginsOnlyOn g table parts shape down rows → row < g.height →
-    (down ≡ true → row + shape.size ≤ g.height) → column_at rows row ≡ false → HasEndsIn g table parts shape row ends
-no_end_on g table parts shape down row rows ends only low room out = record { at = λ x gap within off. only.at row x gap low room out }
-
-pub fits_not_on : (g : Grid) (mask : CellMask) (row : ℕ) (rows : List Bool) → FitsOnlyOn g mask rows → IsGrid g → row < g.height → column_at rows row ≡ false → FitsNotOn g mask row
-fits_not_on g mask row rows only grid low out =
-    record { at = λ x within. in_row g (meaning_of_mask (mask_shown mask)) row x grid ∙ only.at row x low out }
-
-pub none_scanned : (g : Grid) (mask : CellMask) (row : ℕ) (columns : List Bool) → columns ≡ row_fits g (meaning_of_mask (mask_shown mask)) row → set_columns columns ≡ [] → FitsNotOn g mask row
-none_scanned g mask row columns is empty = record { at = λ x within. ap (λ (cs : List Bool). column_at cs x) (sym is) ∙ none_in columns x empty within }

@@ -1,126 +1,199 @@
-//! The columns of a row of the board where a row of a rule begins, whose cells lie side by side: all columns at once.
+//! Where the parts of a row fit as the board is.
 
-ghost use Rattle.std.specs.Prelude.{◌≡◌, ◌+◌, ◌<◌, ◌≤◌, false, length, true};
+ghost use Rattle.std.specs.Prelude.{◌≡◌, ◌*◌, ◌<◌, ◌≤◌, ℕ, if◌then◌else◌, [], All, false, length, slice_index_or, true};
 ghost use Rattle.ps_model.specs.declared.limits.TheConstants.{SIDE_LIMIT};
-ghost use Rattle.ps_places.specs.Candidates.{BeginsOnlyOn};
-ghost use Rattle.ps_places.specs.RowCells.{all_cells};
-ghost use Rattle.ps_places.specs.Starts.{AreWhere, begins_across, begins_down, begins_in, cell_fits, has_room};
+ghost use Rattle.ps_model.specs.board.Places.{places};
+ghost use Rattle.ps_board.specs.ColumnSets.{column_at, no_columns};
+ghost use Rattle.ps_program.specs.Axes.{direction_of};
+ghost use Rattle.ps_program.specs.Parts.{HasCell};
+ghost use Rattle.ps_program.specs.declared.rows.Axis.TheVariants.{Down, Right};
+ghost use Rattle.ps_places.specs.FoundStarts.{AreLinesFound, BeginInSets, HasNoWay, HaveWaysOnlyOn};
+ghost use Rattle.ps_places.specs.FoundStarts.{IsPartFound, IsRowAdded};
+ghost use Rattle.ps_places.specs.RowPlaces.{all_places, row_meaning};
+ghost use Rattle.ps_places.specs.Starts.{HasLinesOf};
 
-use crate::row_cells::cell_in;
-use crate::shape::Shape;
+use crate::candidates::rows_of_part;
+use crate::columns::{columns_across, columns_down};
+use crate::room::RowRoom;
 use ps_match::{Columns, Scan};
-use ps_program::{CellMask, CompiledCell};
+use ps_model::SIDE_LIMIT;
+use ps_program::{Axis, CompiledCell, CompiledRow};
 use ps_text::List;
 
-/// The columns with so many cells from there to the right edge at least.
-fn with_room(size: u32, width: u32) -> Columns
-    requires { width ≤ SIDE_LIMIT }
-    ensures { AreWhere (has_room width size) result }
-{
-    if width < size {
-        return Columns::none();
-    }
-    Columns::below(width).both(Columns::below(width + 1 - size))
-}
-
-/// The columns where the cell at an index fits, if its row begins there on a row of the board.
-fn starts_of_cell<B: Scan>(
-    board: &B,
-    mask: &CellMask,
-    shape: Shape,
-    row: u32,
-    index: u32,
-    down: bool,
-) -> Columns
-    requires index { index < shape.size }
-    requires across { down ≡ false → shape.step ≡ (B.grid board.now).height }
-    requires step { down ≡ true → shape.step ≡ 1 }
-    requires room { down ≡ true → row + shape.size ≤ (B.grid board.now).height }
-    requires row { row < (B.grid board.now).height }
-    ensures { AreWhere (cell_fits (B.grid board.now) mask.now shape row index) result }
+/// The rows of the board on which each part may begin that goes right.
+fn rows_of_all<B: Scan>(board: &B, parts: &[List<CompiledCell>]) -> Columns
+    ensures { HaveWaysOnlyOn (B.grid board.now) (B.table board.now) Right parts.now result }
 {
     let (_width, _height) = board.size();
-    let steps = shape.from_end(index);
-    if down {
-        return board.scan(mask, row + steps);
-    }
-    board.scan(mask, row).behind(steps)
-}
-
-/// Those columns of `room` where a row of a rule has its leftmost or topmost cell on a row of the board.
-fn starts_in<B: Scan>(
-    board: &B,
-    parts: &[List<CompiledCell>],
-    shape: Shape,
-    row: u32,
-    down: bool,
-    room: Columns,
-) -> Columns
-    requires whole { length (all_cells parts.now) ≡ shape.size }
-    requires across { down ≡ false → shape.step ≡ (B.grid board.now).height }
-    requires step { down ≡ true → shape.step ≡ 1 }
-    requires room { down ≡ true → row + shape.size ≤ (B.grid board.now).height }
-    requires row { row < (B.grid board.now).height }
-    ensures { AreWhere (begins_in (B.grid board.now) (B.table board.now) parts.now shape row room) result }
-{
-    let mut starts = room;
-    for index in 0..shape.size {
-        if starts.is_empty() {
-            return starts;
+    let mut rows = Columns::below(SIDE_LIMIT);
+    for part in parts {
+        if rows.is_empty() {
+            return rows;
         }
-        let Some(cell) = cell_in(parts, index) else {
-            return starts;
-        };
-        let fitting = starts_of_cell(board, &cell.mask, shape, row, index, down);
-        starts = starts.both(fitting);
+        rows = rows.both(rows_of_part(board, Axis::Right, part.as_slice()));
     }
-    starts
+    rows
 }
 
-/// The columns where a row of a rule begins on a row of the board, that goes left or right, and begins on certain rows
-/// alone.
-pub fn starts_across<B: Scan>(
+/// Finds the positions of each part on a row of the board. Answers whether each part has one.
+fn find_on_row<B: Scan>(
     board: &B,
     parts: &[List<CompiledCell>],
-    shape: Shape,
-    rows: Columns,
     row: u32,
-) -> Columns
-    requires worth { BeginsOnlyOn (B.grid board.now) (B.table board.now) parts.now shape false rows }
-    requires whole { length (all_cells parts.now) ≡ shape.size }
-    requires step { shape.step ≡ (B.grid board.now).height }
+    sets: &mut [Columns],
+) -> bool
     requires row { row < (B.grid board.now).height }
-    ensures { AreWhere (begins_across (B.grid board.now) (B.table board.now) parts.now shape row) result }
+    requires whole { All HasCell parts.now }
+    requires long { length sets.old ≡ length parts.now }
+    ensures found { let begun = BeginInSets (B.grid board.now) (B.table board.now) Right parts.now row in
+        result ≡ true → begun (λ number. slice_index_or sets.new number []) (length parts.now) }
+    ensures none { result ≡ false → HasNoWay (B.grid board.now) (B.table board.now) Right parts.now row }
+    ensures long { length sets.new ≡ length sets.old }
+{
+    let (_width, _height) = board.size();
+    for number in 0..parts.len() {
+        let columns = columns_across(board, parts[number].as_slice(), row);
+        if columns.is_empty() {
+            return false;
+        }
+        sets[number] = columns;
+    }
+    true
+}
+
+/// Finds the positions of parts that go right, and answers the lines on which each part has one.
+fn find_across<B: Scan>(board: &B, parts: &[List<CompiledCell>], starts: &mut [Columns]) -> Columns
+    requires whole { All HasCell parts.now }
+    requires room { SIDE_LIMIT * length parts.now ≤ length starts.old }
+    ensures lines { let count = length parts.now in
+        AreLinesFound (B.grid board.now) (B.table board.now) Right parts.now starts.new result count }
+    ensures long { length starts.new ≡ length starts.old }
+{
+    let (_width, height) = board.size();
+    let count = parts.len();
+    let mut left = rows_of_all(board, parts).both(Columns::below(height));
+    let mut lines = Columns::none();
+    while let Some(row) = left.take_first() {
+        let at = row as usize * count;
+        let found = find_on_row(board, parts, row, &mut starts[at..at + count]);
+        lines = lines.with(row, found);
+    }
+    lines
+}
+
+/// A set, if it is known; no position, if what stands there is not.
+fn set_before(starts: &[Columns], at: usize, known: bool) -> Columns
+    requires { at < length starts.now }
+    ensures { result ≡ (if known then slice_index_or starts.now at [] else no_columns) }
+{
+    if known { starts[at] } else { Columns::none() }
+}
+
+/// Adds a row of the board to a part's positions in some columns: to those of columns that have some already, and in
+/// place of what stood there in the others.
+fn add_row(
+    starts: &mut [Columns],
+    count: usize,
+    number: usize,
+    columns: Columns,
+    found: Columns,
+    row: u32,
+)
+    requires one { number < count }
+    requires room { SIDE_LIMIT * count ≤ length starts.old }
+    ensures added { IsRowAdded starts.old count number columns found row starts.new }
+    ensures long { length starts.new ≡ length starts.old }
+{
+    let mut left = columns;
+    while let Some(column) = left.take_first() {
+        let at = column as usize * count + number;
+        let before = set_before(starts, at, found.has(column));
+        starts[at] = before.with(row, true);
+    }
+}
+
+/// Finds the positions of a part that goes down in some columns, and answers the columns in which it has one.
+fn find_part_down<B: Scan>(
+    board: &B,
+    part: &[CompiledCell],
+    within: Columns,
+    starts: &mut [Columns],
+    count: usize,
+    number: usize,
+) -> Columns
+    requires whole { HasCell part.now }
+    requires one { number < count }
+    requires room { SIDE_LIMIT * count ≤ length starts.old }
+    requires inside { (x : ℕ) → column_at within x ≡ true → x < (B.grid board.now).width }
+    ensures found { let grid = B.grid board.now in
+        IsPartFound grid (B.table board.now) part.now within count number starts.old starts.new result }
+    ensures long { length starts.new ≡ length starts.old }
+{
+    let (_width, height) = board.size();
+    let mut left = rows_of_part(board, Axis::Down, part).both(Columns::below(height));
+    let mut found = Columns::none();
+    while let Some(row) = left.take_first() {
+        let columns = columns_down(board, part, row).both(within);
+        add_row(starts, count, number, columns, found, row);
+        found = found.either(columns);
+    }
+    found
+}
+
+/// Finds the positions of parts that go down, and answers the lines on which each part has one.
+fn find_down<B: Scan>(board: &B, parts: &[List<CompiledCell>], starts: &mut [Columns]) -> Columns
+    requires whole { All HasCell parts.now }
+    requires room { SIDE_LIMIT * length parts.now ≤ length starts.old }
+    ensures lines { let count = length parts.now in
+        AreLinesFound (B.grid board.now) (B.table board.now) Down parts.now starts.new result count }
+    ensures long { length starts.new ≡ length starts.old }
 {
     let (width, _height) = board.size();
-    if !rows.has(row) {
-        return Columns::none();
+    let count = parts.len();
+    let mut lines = Columns::below(width);
+    for number in 0..count {
+        if lines.is_empty() {
+            return lines;
+        }
+        lines = find_part_down(
+            board,
+            parts[number].as_slice(),
+            lines,
+            starts,
+            count,
+            number,
+        );
     }
-    let room = with_room(shape.size, width);
-    starts_in(board, parts, shape, row, false, room)
+    lines
 }
 
-/// The columns where a row of a rule begins on a row of the board, that goes up or down, and begins on certain rows
-/// alone.
-pub fn starts_down<B: Scan>(
+/// Finds the positions of parts that lie along an axis, and answers the lines on which each part has one.
+fn find_lines<B: Scan>(
     board: &B,
+    axis: Axis,
     parts: &[List<CompiledCell>],
-    shape: Shape,
-    rows: Columns,
-    row: u32,
+    starts: &mut [Columns],
 ) -> Columns
-    requires worth { BeginsOnlyOn (B.grid board.now) (B.table board.now) parts.now shape true rows }
-    requires whole { length (all_cells parts.now) ≡ shape.size }
-    requires step { shape.step ≡ 1 }
-    requires row { row < (B.grid board.now).height }
-    ensures { AreWhere (begins_down (B.grid board.now) (B.table board.now) parts.now shape row) result }
+    requires whole { All HasCell parts.now }
+    requires room { SIDE_LIMIT * length parts.now ≤ length starts.old }
+    ensures lines { let count = length parts.now in
+        AreLinesFound (B.grid board.now) (B.table board.now) axis parts.now starts.new result count }
+    ensures long { length starts.new ≡ length starts.old }
 {
-    let (width, height) = board.size();
-    if height - row < shape.size {
-        return Columns::none();
+    match axis {
+        Axis::Down => find_down(board, parts, starts),
+        Axis::Right => find_across(board, parts, starts),
     }
-    if !rows.has(row) {
-        return Columns::none();
-    }
-    starts_in(board, parts, shape, row, true, Columns::below(width))
+}
+
+/// Finds where the parts of a row fit on a board, all lines of it. No memory is taken.
+pub fn find_starts<B: Scan>(board: &B, row: &CompiledRow, room: &mut RowRoom)
+    ensures places { let meant = row_meaning (B.table board.now) row.now in
+        let all = places (B.grid board.now) (direction_of row.now.axis) meant in
+        all ≡ all_places (B.grid board.now).height row.now room.new }
+    ensures lines { HasLinesOf (B.grid board.now) row.now room.new }
+{
+    let (_width, _height) = board.size();
+    let parts = row.parts.as_slice();
+    room.lines = find_lines(board, row.axis, parts, room.starts.as_mut_slice());
 }

@@ -1,9 +1,12 @@
-//! Places that were worked out by hand, on boards of one row and one layer; a dot is an empty cell.
+//! Places that were worked out by hand, on boards of one layer; a dot is an empty cell.
 
-use crate::{RowPlaces, find_places, has_place};
+ghost use Rattle.std.specs.Prelude.{All, IfOk};
+ghost use Rattle.ps_program.specs.Parts.{HasCell};
+
+use crate::{RowRoom, find_starts};
 use ps_match::{Board, Columns, ListBoard, Scan};
-use ps_model::{Direction, LayerId, LayeredObject, Memory, Motion, ObjectId, SIDE_LIMIT};
-use ps_program::{CellMask, CellWrite, CompiledCell};
+use ps_model::{LayerId, LayeredObject, Memory, Motion, ObjectId, SIDE_LIMIT};
+use ps_program::{Axis, CellMask, CellWrite, CompiledCell, CompiledRow, PART_LIMIT};
 use ps_text::List;
 use std::alloc::Global;
 use std::process::Abort;
@@ -80,30 +83,70 @@ fn needing(alloc: Global, letter: u8) -> Result<CompiledCell, Memory> {
     Ok(CompiledCell::new(mask(alloc, &[letter], &[])?, write))
 }
 
-/// A row: its parts by the letters that their cells need.
-fn row(alloc: Global, parts: &[&[u8]]) -> Result<List<List<CompiledCell>>, Memory> {
+/// The parts of a row by the letters that their cells need. Parts without a cell are left out.
+fn parts_of(alloc: Global, parts: &[&[u8]]) -> Result<List<List<CompiledCell>>, Memory>
+    ensures { IfOk result (All HasCell) }
+{
     let mut all = Vec::new(alloc);
-    for part in parts {
-        let mut cells = Vec::new(alloc);
-        for letter in *part {
-            cells.push(needing(alloc, *letter)?)?;
+    for letters in parts {
+        let part = part_of(alloc, *letters)?;
+        if part.as_slice().len() != 0 {
+            all.push(part)?;
         }
-        all.push(List::from_vec(cells))?;
     }
     Ok(List::from_vec(all))
 }
 
-/// The places have these ends and gaps, in this order.
-fn check(rt: &impl Abort, found: &Option<RowPlaces>, wanted: &[(u32, u32)]) {
-    let Some(row) = found else {
-        assert!(rt; wanted.is_empty());
-        return;
-    };
-    assert_eq!(rt; row.found.len(), wanted.len());
+/// A part by the letters that its cells need.
+fn part_of(alloc: Global, letters: &[u8]) -> Result<List<CompiledCell>, Memory> {
+    let mut cells = Vec::new(alloc);
+    for letter in letters {
+        cells.push(needing(alloc, *letter)?)?;
+    }
+    Ok(List::from_vec(cells))
+}
+
+/// A place: its line, and the positions of up to three parts there.
+type Place = (u8, [u8; PART_LIMIT as usize]);
+
+/// The places of a row of these parts, in their order; nothing, where there are too few or too many parts.
+fn places_of<B: Scan>(
+    alloc: Global,
+    board: &B,
+    axis: Axis,
+    parts: &[&[u8]],
+) -> Result<Vec<Place>, Memory> {
+    let mut found = Vec::new(alloc);
+    let parts = parts_of(alloc, parts)?;
+    let count = parts.as_slice().len();
+    if count == 0 || (PART_LIMIT as usize) < count {
+        return Ok(found);
+    }
+    let row = CompiledRow { axis, parts };
+    let mut room = RowRoom::try_new(alloc)?;
+    find_starts(board, &row, &mut room);
+    let mut more = room.first_place(board, &row);
+    for _place in 0..SIDE_LIMIT * SIDE_LIMIT + 1 {
+        if !more {
+            return Ok(found);
+        }
+        found.push((room.line, room.way))?;
+        more = room.next_place(board, &row);
+    }
+    Ok(found)
+}
+
+/// The places are these, in this order, by their lines and the positions of the first `count` parts.
+fn check(rt: &impl Abort, found: &[Place], count: usize, wanted: &[Place]) {
+    assert_eq!(rt; found.len(), wanted.len());
     for number in 0..wanted.len() {
-        if let Some(place) = row.found.get(number) {
-            assert_eq!(rt; place.end, wanted[number].0);
-            assert_eq!(rt; place.gap, wanted[number].1);
+        if let Some(place) = found.get(number) {
+            assert_eq!(rt; place.0, wanted[number].0);
+            for part in 0..PART_LIMIT as usize {
+                if part < count {
+                    assert_eq!(rt; place.1[part], wanted[number].1[part]);
+                }
+            }
         }
     }
 }
@@ -111,43 +154,107 @@ fn check(rt: &impl Abort, found: &Option<RowPlaces>, wanted: &[(u32, u32)]) {
 #[test]
 fn one_place_in_three_cells(rt: HostRuntime) -> Result<(), Fail> {
     let alloc = rt.alloc();
-    let sought = row(alloc, &[b"AO"])?;
     let board = board_of(alloc, b"AOA")?;
-    let found = find_places(alloc, &board, Direction::Right, &sought)?;
-    check(&rt, &found, &[(0, 0)]);
-    assert!(&rt; has_place(&board, Direction::Right, &sought));
+    let found = places_of(alloc, &board, Axis::Right, &[b"AO"])?;
+    check(&rt, &found, 1, &[(0, [0, 0, 0])]);
+    let found = places_of(alloc, &board, Axis::Right, &[b"OA"])?;
+    check(&rt, &found, 1, &[(0, [1, 0, 0])]);
     Ok(())
 }
 
 #[test]
-fn leftwards_a_place_begins_at_its_other_end(rt: HostRuntime) -> Result<(), Fail> {
+fn the_last_part_moves_first(rt: HostRuntime) -> Result<(), Fail> {
     let alloc = rt.alloc();
-    let sought = row(alloc, &[b"AO"])?;
-    let board = board_of(alloc, b"AOA")?;
-    let found = find_places(alloc, &board, Direction::Left, &sought)?;
-    check(&rt, &found, &[(1, 0)]);
-    Ok(())
-}
-
-#[test]
-fn ends_come_before_gaps(rt: HostRuntime) -> Result<(), Fail> {
-    let alloc = rt.alloc();
-    let sought = row(alloc, &[b"A", b"B"])?;
     let board = board_of(alloc, b"ABAB")?;
-    let found = find_places(alloc, &board, Direction::Right, &sought)?;
-    check(&rt, &found, &[(0, 0), (0, 2), (2, 0)]);
+    let found = places_of(alloc, &board, Axis::Right, &[b"A", b"B"])?;
+    check(
+        &rt,
+        &found,
+        2,
+        &[(0, [0, 1, 0]), (0, [0, 3, 0]), (0, [2, 3, 0])],
+    );
+    let board = board_of(alloc, b"AAAA")?;
+    let found = places_of(alloc, &board, Axis::Right, &[b"A", b"A", b"A"])?;
+    let wanted = [
+        (0, [0, 1, 2]),
+        (0, [0, 1, 3]),
+        (0, [0, 2, 3]),
+        (0, [1, 2, 3]),
+    ];
+    check(&rt, &found, 3, &wanted);
+    let found = places_of(alloc, &board, Axis::Right, &[b"AA", b"A"])?;
+    check(
+        &rt,
+        &found,
+        2,
+        &[(0, [0, 2, 0]), (0, [0, 3, 0]), (0, [1, 3, 0])],
+    );
     Ok(())
 }
 
 #[test]
 fn a_row_longer_than_the_board_has_no_place(rt: HostRuntime) -> Result<(), Fail> {
     let alloc = rt.alloc();
-    let sought = row(alloc, &[b"AA"])?;
     let board = board_of(alloc, b"A")?;
-    let found = find_places(alloc, &board, Direction::Right, &sought)?;
-    check(&rt, &found, &[]);
-    assert!(&rt; !has_place(&board, Direction::Right, &sought));
-    assert!(&rt; !has_place(&board, Direction::Down, &sought));
+    check(
+        &rt,
+        &places_of(alloc, &board, Axis::Right, &[b"AA"])?,
+        1,
+        &[],
+    );
+    check(
+        &rt,
+        &places_of(alloc, &board, Axis::Down, &[b"AA"])?,
+        1,
+        &[],
+    );
+    check(
+        &rt,
+        &places_of(alloc, &board, Axis::Down, &[b"A", b"A"])?,
+        2,
+        &[],
+    );
+    Ok(())
+}
+
+#[test]
+fn places_come_line_by_line(rt: HostRuntime) -> Result<(), Fail> {
+    let alloc = rt.alloc();
+    let board = full_board(alloc, 2, 3, b'A')?;
+    let down = places_of(alloc, &board, Axis::Down, &[b"AA"])?;
+    let wanted = [
+        (0, [0, 0, 0]),
+        (0, [1, 0, 0]),
+        (1, [0, 0, 0]),
+        (1, [1, 0, 0]),
+    ];
+    check(&rt, &down, 1, &wanted);
+    let right = places_of(alloc, &board, Axis::Right, &[b"AA"])?;
+    check(
+        &rt,
+        &right,
+        1,
+        &[(0, [0, 0, 0]), (1, [0, 0, 0]), (2, [0, 0, 0])],
+    );
+    check(
+        &rt,
+        &places_of(alloc, &board, Axis::Right, &[b"AAA"])?,
+        1,
+        &[],
+    );
+    Ok(())
+}
+
+#[test]
+fn a_full_board_has_a_place_for_each_cell(rt: HostRuntime) -> Result<(), Fail> {
+    let alloc = rt.alloc();
+    let board = full_board(alloc, SIDE_LIMIT, SIDE_LIMIT, b'A')?;
+    let cells = (SIDE_LIMIT * SIDE_LIMIT) as usize;
+    assert_eq!(&rt;
+        places_of(alloc, &board, Axis::Right, &[b"A"])?.len(),
+        cells
+    );
+    assert_eq!(&rt; places_of(alloc, &board, Axis::Down, &[b"A"])?.len(), cells);
     Ok(())
 }
 
@@ -171,91 +278,5 @@ fn the_columns_of_a_row_that_fit(rt: HostRuntime) -> Result<(), Fail> {
         check_columns(&rt, board.scan(&without_a, 0), &[1, 3]);
         check_columns(&rt, board.scan(&with_a, 0).behind(2), &[0]);
     }
-    Ok(())
-}
-
-#[test]
-fn downwards_places_come_column_by_column(rt: HostRuntime) -> Result<(), Fail> {
-    let alloc = rt.alloc();
-    let sought = row(alloc, &[b"AA"])?;
-    let board = full_board(alloc, 2, 3, b'A')?;
-    let down = find_places(alloc, &board, Direction::Down, &sought)?;
-    check(&rt, &down, &[(0, 0), (1, 0), (3, 0), (4, 0)]);
-    let up = find_places(alloc, &board, Direction::Up, &sought)?;
-    check(&rt, &up, &[(0, 0), (1, 0), (3, 0), (4, 0)]);
-    let right = find_places(alloc, &board, Direction::Right, &sought)?;
-    check(&rt, &right, &[(0, 0), (1, 0), (2, 0)]);
-    assert!(&rt; has_place(&board, Direction::Up, &sought));
-    assert!(&rt; !has_place(&board, Direction::Left, &row(alloc, &[b"AAA"])?));
-    Ok(())
-}
-
-#[test]
-fn gaps_lie_downwards_and_leftwards_too(rt: HostRuntime) -> Result<(), Fail> {
-    let alloc = rt.alloc();
-    let sought = row(alloc, &[b"A", b"A"])?;
-    let board = full_board(alloc, 1, 3, b'A')?;
-    let down = find_places(alloc, &board, Direction::Down, &sought)?;
-    check(&rt, &down, &[(0, 0), (0, 1), (1, 0)]);
-    let line = board_of(alloc, b"AO.A")?;
-    let left = find_places(alloc, &line, Direction::Left, &sought)?;
-    check(&rt, &left, &[(0, 2)]);
-    assert!(&rt; has_place(&line, Direction::Left, &sought));
-    assert!(&rt; !has_place(&line, Direction::Left, &row(alloc, &[b"A", b"B"])?));
-    assert!(&rt; !has_place(&line, Direction::Up, &sought));
-    Ok(())
-}
-
-/// A board of two columns and four rows, with an `A` above a `B` at the foot of the second column alone.
-fn board_with_a_foot(alloc: Global) -> Result<ListBoard, Memory> {
-    let mut board = ListBoard::try_empty(alloc, 2, 4, 1, &[])?;
-    let (columns, rows) = board.size();
-    if columns == 2 && rows == 4 && 0 < board.layers() {
-        board.put(6, LOWEST, Some(ObjectId(b'A' as u32)), Motion::Still);
-        board.put(7, LOWEST, Some(ObjectId(b'B' as u32)), Motion::Still);
-    }
-    Ok(board)
-}
-
-#[test]
-fn what_stands_on_the_last_rows_is_found(rt: HostRuntime) -> Result<(), Fail> {
-    let alloc = rt.alloc();
-    let board = board_with_a_foot(alloc)?;
-    let sought = row(alloc, &[b"AB"])?;
-    check(
-        &rt,
-        &find_places(alloc, &board, Direction::Down, &sought)?,
-        &[(6, 0)],
-    );
-    check(
-        &rt,
-        &find_places(alloc, &board, Direction::Up, &sought)?,
-        &[],
-    );
-    let turned = row(alloc, &[b"BA"])?;
-    check(
-        &rt,
-        &find_places(alloc, &board, Direction::Up, &turned)?,
-        &[(6, 0)],
-    );
-    let last = row(alloc, &[b"B"])?;
-    check(
-        &rt,
-        &find_places(alloc, &board, Direction::Down, &last)?,
-        &[(7, 0)],
-    );
-    check(
-        &rt,
-        &find_places(alloc, &board, Direction::Right, &last)?,
-        &[(7, 0)],
-    );
-    let apart = row(alloc, &[b"A", b"B"])?;
-    check(
-        &rt,
-        &find_places(alloc, &board, Direction::Down, &apart)?,
-        &[(6, 0)],
-    );
-    assert!(&rt; has_place(&board, Direction::Down, &apart));
-    assert!(&rt; has_place(&board, Direction::Up, &turned));
     Ok(())
 }

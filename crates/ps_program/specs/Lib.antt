@@ -4,4 +4,7 @@ pub mod KeepingCells
 pub mod Leaving
 pub mod LeavingCells
 pub mod Needs
+pub mod Axes
+pub mod Parts
+pub mod Sleeping
 pub mod ProgramShown

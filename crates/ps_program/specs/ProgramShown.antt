@@ -3,25 +3,30 @@ use Rattle.std.specs.Prelude.{List, map}
 use Rattle.ps_model.specs.meaning.Compiled as model
 use Rattle.ps_rules.specs.RulesShown.{commands_shown}
 use Rattle.ps_program.specs.declared.cells.CompiledCell.{CompiledCell}
+use Rattle.ps_program.specs.declared.rows.CompiledRow.{CompiledRow}
 use Rattle.ps_program.specs.declared.rules.CompiledRule.{CompiledRule}
 use Rattle.ps_program.specs.declared.program.CompiledSection.{CompiledSection}
 use Rattle.ps_program.specs.declared.program.CompiledSection.TheVariants.{Group, Loop}
+use Rattle.ps_program.specs.Axes.{direction_of}
 pub use Rattle.ps_program.specs.CellsShown.{mask_shown, write_shown}
 
 -- a cell of a rule: its mask and its write
 abbrev pub cell_shown : CompiledCell → model.CompiledCell
 cell_shown cell = record { mask = mask_shown cell.mask; write = write_shown cell.write }
 
--- a row of a rule, and its rows
-abbrev pub row_shown : List (List CompiledCell) → List (List model.CompiledCell)
-row_shown parts = map (map cell_shown) parts
+-- parts of a row of a rule, the row, and the rows of a rule
+abbrev pub parts_shown : List (List CompiledCell) → List (List model.CompiledCell)
+parts_shown parts = map (map cell_shown) parts
 
-abbrev pub rows_shown : List (List (List CompiledCell)) → List (List (List model.CompiledCell))
+abbrev pub row_shown : CompiledRow → List (List model.CompiledCell)
+row_shown row = parts_shown row.parts
+
+abbrev pub rows_shown : List CompiledRow → List (List (List model.CompiledCell))
 rows_shown rows = map row_shown rows
 
 abbrev pub rule_shown : CompiledRule → model.CompiledRule
 rule_shown rule = record {
-  direction = rule.direction;
+  direction = direction_of rule.axis;
   rows = rows_shown rule.rows;
   rewrites = rule.rewrites;
   commands = commands_shown rule.commands.now;

@@ -6,13 +6,15 @@ mod keeping;
 mod leaving;
 mod needs;
 mod program;
+mod rows;
 mod rules;
+mod sleeping;
 
 pub use cells::{CellMask, CellWrite, CompiledCell};
 pub use keeping::{keeping_cells, sleeping_cells, write_keeps, write_wakes};
 pub use leaving::{all_listed, is_listed, leaving_cells};
-pub use needs::first_parts;
 pub use program::{CompiledSection, Program};
-pub use ps_model::{Direction, LayerWrite, LayeredObject, MotionTest, ObjectWrite};
+pub use ps_model::{LayerWrite, LayeredObject, MotionTest, ObjectWrite};
 pub use ps_rules::Commands;
+pub use rows::{Axis, CompiledRow, PART_LIMIT};
 pub use rules::CompiledRule;

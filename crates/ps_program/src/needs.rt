@@ -1,23 +1,13 @@
 //! What a compiled rule asks of a board: objects and motions.
 
-ghost use Rattle.std.specs.Prelude.{◌≡◌, ◌++◌, ◌≤◌, IfOk, OnOk, length, take};
+ghost use Rattle.std.specs.Prelude.{◌≡◌, ◌++◌, IfOk, OnOk};
 ghost use Rattle.ps_program.specs.Needs.{asked_by_part, asked_by_row, cell_moves, cell_needs, rows_move, rows_need};
 
 use crate::cells::CompiledCell;
+use crate::rows::CompiledRow;
 use ps_model::{LayeredObject, Memory, MotionTest};
 use ps_text::List;
 use std::alloc::Global;
-
-/// The first two parts of a row. A rule of a game has no more: a row has one ellipsis at most.
-pub fn first_parts(row: &[List<CompiledCell>]) -> &[List<CompiledCell>]
-    ensures parts { result.now ≡ take 2 row.entry.now }
-    ensures few { length result.now ≤ 2 }
-{
-    if row.len() <= 2 {
-        return row;
-    }
-    &row[..2]
-}
 
 /// What rows ask of a board, as often as their cells do: the objects that they need, and the motions that they ask for,
 /// rest among them.
@@ -47,26 +37,26 @@ fn push_part(
 fn push_row(
     objects: &mut Vec<LayeredObject>,
     motions: &mut Vec<MotionTest>,
-    row: &[List<CompiledCell>],
+    row: &CompiledRow,
 ) -> Result<(), Memory>
     ensures objects { OnOk result (objects.new.items ≡ objects.old.items ++ asked_by_row cell_needs row.now) }
     ensures motions { OnOk result (motions.new.items ≡ motions.old.items ++ asked_by_row cell_moves row.now) }
 {
-    for part in first_parts(row) {
+    for part in row.parts.as_slice() {
         push_part(objects, motions, part.as_slice())?;
     }
     Ok(())
 }
 
 /// What rows ask of a board. `Memory` if there is no room for it.
-pub fn asked_by(alloc: Global, rows: &[List<List<CompiledCell>>]) -> Result<Asked, Memory>
+pub fn asked_by(alloc: Global, rows: &[CompiledRow]) -> Result<Asked, Memory>
     ensures objects { IfOk result (λ asked. asked.objects ≡ rows_need rows.now) }
     ensures motions { IfOk result (λ asked. asked.motions ≡ rows_move rows.now) }
 {
     let mut objects = Vec::new(alloc);
     let mut motions = Vec::new(alloc);
     for row in rows {
-        push_row(&mut objects, &mut motions, row.as_slice())?;
+        push_row(&mut objects, &mut motions, row)?;
     }
     Ok(Asked {
         objects: List::from_vec(objects),

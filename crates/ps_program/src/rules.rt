@@ -1,11 +1,14 @@
 //! A compiled rule.
 
-ghost use Rattle.std.specs.Prelude.{◌≡◌, IfOk};
+ghost use Rattle.std.specs.Prelude.{◌≡◌, All, IfOk, true};
 ghost use Rattle.ps_program.specs.Needs.{rows_move, rows_need};
+ghost use Rattle.ps_program.specs.Axes.{LiesAlong};
+ghost use Rattle.ps_program.specs.Sleeping.{rows_sleep};
 
-use crate::cells::CompiledCell;
 use crate::needs::asked_by;
-use ps_model::{Direction, LayeredObject, Memory, MotionTest};
+use crate::rows::{Axis, CompiledRow};
+use crate::sleeping::told_to_sleep;
+use ps_model::{LayeredObject, Memory, MotionTest};
 use ps_rules::Commands;
 use ps_text::List;
 use std::alloc::Global;
@@ -14,10 +17,9 @@ use std::alloc::Global;
 /// message too.
 #[derive(Drop)]
 pub struct CompiledRule<'r> {
-    /// The direction in which its rows are laid.
-    pub direction: Direction,
-    /// Its rows; a row is a list of parts, parted by its ellipses, and a part is a list of cells.
-    pub rows: List<List<List<CompiledCell>>>,
+    /// How the cells of its rows lie.
+    pub axis: Axis,
+    pub rows: List<CompiledRow>,
     /// It rewrites cells; else its right is commands alone.
     pub rewrites: bool,
     pub commands: &'r Commands,
@@ -26,32 +28,40 @@ pub struct CompiledRule<'r> {
     pub needed: List<LayeredObject>,
     /// The motions that its cells ask for, likewise.
     pub moving: List<MotionTest>,
+    /// No write of its cells may wake a mask of its cells: where a row doesn't fit, it doesn't in the rest of an
+    /// attempt. Where this isn't set, it may be so or not.
+    pub sleeps: bool,
+    ghost along: { All (LiesAlong axis) rows },
     ghost needs: { needed ≡ rows_need rows },
     ghost moves: { moving ≡ rows_move rows },
+    ghost asleep: { sleeps ≡ true → rows_sleep rows ≡ true },
 }
 
 impl<'r> CompiledRule<'r> {
     /// The rule of these rows. `Memory` if there is no room for what its cells ask for.
     pub fn try_new(
         alloc: Global,
-        direction: Direction,
-        rows: List<List<List<CompiledCell>>>,
+        axis: Axis,
+        rows: List<CompiledRow>,
         rewrites: bool,
         commands: &'r Commands,
     ) -> Result<CompiledRule<'r>, Memory>
-        ensures direction { IfOk result (λ rule. rule.direction ≡ direction) }
+        requires along { All (LiesAlong axis) rows }
+        ensures axis { IfOk result (λ rule. rule.axis ≡ axis) }
         ensures rows { IfOk result (λ rule. rule.rows ≡ rows) }
         ensures rewrites { IfOk result (λ rule. rule.rewrites ≡ rewrites) }
         ensures commands { IfOk result (λ rule. rule.commands.now ≡ commands.entry.now) }
     {
         let asked = asked_by(alloc, rows.as_slice())?;
+        let sleeps = told_to_sleep(rows.as_slice());
         Ok(CompiledRule {
-            direction,
+            axis,
             rows,
             rewrites,
             commands,
             needed: asked.objects,
             moving: asked.motions,
+            sleeps,
         })
     }
 }

@@ -240,7 +240,8 @@ fn refuses_words_out_of_place(rt: HostRuntime) {
             &[
                 "[ ... | A ] -> cancel\n",
                 "[ A | ... | B ] -> [ A | C | B ]\n",
-                "[ A | ... | B | ... | C ] -> win\n",
+                "[ A | ... | ... | C ] -> win\n",
+                "[ A | ... | B | ... | C | ... | D ] -> win\n",
                 "[ A | ... B | C ] -> win\n"
             ],
             FaultKind::Ellipsis,

@@ -1,31 +1,40 @@
 //! A compiled program as the rules of one part of a turn.
 
-ghost use Rattle.std.specs.Prelude.{◌≡◌};
+ghost use Rattle.std.specs.Prelude.{◌≡◌, IfOk, vec_len};
+ghost use Rattle.ps_engine.specs.Rooms.{SectionsHaveRooms};
 ghost use Rattle.ps_program.specs.ProgramShown.{sections_shown};
 
 use crate::queues::{lent, owned};
-use ps_engine::{Scan, run_program};
+use ps_engine::{RowRoom, Scan, rooms_for, run_program};
 use ps_model::Memory;
 use ps_program::{CompiledSection, Program};
 use ps_turn::{Queue, Rules};
 use std::alloc::Global;
 
-/// The rules of one part of a turn: the sections of a compiled program, lent, and where their runs take memory from.
+/// The rules of one part of a turn: the sections of a compiled program, lent, and what their runs need besides the
+/// board. It is made once, so that a run takes no memory but for a message.
 #[derive(Drop)]
 pub struct GameRules<'p, 'r> {
+    /// Where the message of a run takes memory from.
     alloc: Global,
     sections: &'p [CompiledSection<'r>],
+    /// Room for the rows of a rule.
+    rooms: Vec<RowRoom>,
+    ghost enough: { SectionsHaveRooms (vec_len rooms) sections.now },
 }
 
 impl<'p, 'r> GameRules<'p, 'r> {
-    /// The rules of a program.
-    pub fn new(alloc: Global, program: &'p Program<'r>) -> GameRules<'p, 'r>
-        ensures { sections_shown result.sections.now ≡ program.entry.now }
+    /// The rules of a program. `Memory` if there is no room for what their runs need.
+    pub fn try_new(alloc: Global, program: &'p Program<'r>) -> Result<GameRules<'p, 'r>, Memory>
+        ensures { IfOk result (λ rules. sections_shown rules.sections.now ≡ program.entry.now) }
     {
-        GameRules {
+        let sections = program.sections();
+        let rooms = rooms_for(alloc, sections)?;
+        Ok(GameRules {
             alloc,
-            sections: program.sections(),
-        }
+            sections,
+            rooms,
+        })
     }
 }
 
@@ -37,7 +46,7 @@ impl<'p, 'r, B: Scan> Rules<B> for GameRules<'p, 'r> {
     fn run(&mut self, board: &mut B, queue: &mut Queue) -> Result<(), Memory> {
         let after = {
             let mut during = lent(queue);
-            run_program(self.alloc, self.sections, board, &mut during)?;
+            run_program(self.sections, board, &mut during, self.rooms.as_mut_slice());
             owned(self.alloc, during)?
         };
         *queue = after;

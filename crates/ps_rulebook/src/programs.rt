@@ -1,6 +1,6 @@
 //! The rules of a game's turns.
 
-ghost use Rattle.std.specs.Prelude.{◌≡◌, List};
+ghost use Rattle.std.specs.Prelude.{◌≡◌, IfOk, List};
 ghost use Rattle.ps_model.specs.names.Names.{Names};
 ghost use Rattle.ps_model.specs.rules.SourceRules.{RuleLine};
 ghost use Rattle.ps_program.specs.ProgramShown.{sections_shown};
@@ -8,6 +8,7 @@ ghost use Rattle.ps_rulebook.specs.PlayedGames.{AreCompiled, PlayAsWritten};
 
 use crate::game_rules::GameRules;
 use ps_compile::Programs as CompiledPrograms;
+use ps_model::Memory;
 use ps_turn::Programs;
 use std::alloc::Global;
 
@@ -15,19 +16,20 @@ use std::alloc::Global;
 /// compiled of the names and the rules of the game of a text, then that game, played by them, has the runs of the
 /// game as it is written.
 ///
-/// What a turn's message needs of memory comes from `alloc`.
+/// What a turn's message needs of memory comes from `alloc`. `Memory` if there is no room for what runs of the programs
+/// need besides a board.
 pub fn rules_of<'p, 'r>(
     alloc: Global,
     programs: &'p CompiledPrograms<'r>,
-) -> Programs<GameRules<'p, 'r>>
-    ensures plain { sections_shown result.plain.sections.now ≡ programs.entry.now.plain }
-    ensures late { sections_shown result.late.sections.now ≡ programs.entry.now.late }
-    ensures played { (names : Names) (lines : List RuleLine)
+) -> Result<Programs<GameRules<'p, 'r>>, Memory>
+    ensures plain { IfOk result (λ rules. sections_shown rules.plain.sections.now ≡ programs.entry.now.plain) }
+    ensures late { IfOk result (λ rules. sections_shown rules.late.sections.now ≡ programs.entry.now.late) }
+    ensures played { IfOk result (λ rules. (names : Names) (lines : List RuleLine)
         → AreCompiled names lines programs.entry.now.plain programs.entry.now.late
-        → PlayAsWritten names lines result.plain.sections.now result.late.sections.now }
+        → PlayAsWritten names lines rules.plain.sections.now rules.late.sections.now) }
 {
-    Programs {
-        plain: GameRules::new(alloc, &programs.plain),
-        late: GameRules::new(alloc, &programs.late),
-    }
+    Ok(Programs {
+        plain: GameRules::try_new(alloc, &programs.plain)?,
+        late: GameRules::try_new(alloc, &programs.late)?,
+    })
 }

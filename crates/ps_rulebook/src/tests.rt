@@ -3,9 +3,10 @@
 
 use crate::{CompiledPrograms, ListBoard, Rules, rules_of};
 use ps_board::Board;
-use ps_model::{Direction, Memory};
+use ps_model::Memory;
 use ps_program::{
-    CellMask, CellWrite, Commands, CompiledCell, CompiledRule, CompiledSection, Program,
+    Axis, CellMask, CellWrite, Commands, CompiledCell, CompiledRow, CompiledRule, CompiledSection,
+    Program,
 };
 use ps_text::{List, Text};
 use ps_turn::Queue;
@@ -45,11 +46,12 @@ fn program_of<'r>(alloc: Global, commands: &'r Commands) -> Result<Program<'r>, 
     cells.push(any_cell(alloc))?;
     let mut parts = Vec::new(alloc);
     parts.push(List::from_vec(cells))?;
+    let parts = List::from_vec(parts);
+    let axis = Axis::Right;
     let mut rows = Vec::new(alloc);
-    rows.push(List::from_vec(parts))?;
+    rows.push(CompiledRow { axis, parts })?;
     let mut rules = Vec::new(alloc);
-    let rows = List::from_vec(rows);
-    let rule = CompiledRule::try_new(alloc, Direction::Right, rows, false, commands)?;
+    let rule = CompiledRule::try_new(alloc, axis, List::from_vec(rows), false, commands)?;
     rules.push(rule)?;
     let mut sections = Vec::new(alloc);
     sections.push(CompiledSection::Group(List::from_vec(rules)))?;
@@ -73,7 +75,7 @@ fn the_first_message_stays(rt: HostRuntime) -> Result<(), Fail> {
     let plain_commands = won_with(alloc, "plain")?;
     let late_commands = won_with(alloc, "late")?;
     let programs = programs_of(alloc, &plain_commands, &late_commands)?;
-    let mut rules = rules_of(alloc, &programs);
+    let mut rules = rules_of(alloc, &programs)?;
     let mut board = ListBoard::try_empty(alloc, 1, 1, 1, &[])?;
     let mut queue = Queue::new();
     rules.plain.run(&mut board, &mut queue)?;

@@ -12,3 +12,4 @@ pub mod LooseProperties
 pub mod RuleSteps
 pub mod FormSteps
 pub mod LineSteps
+mod WholeLines

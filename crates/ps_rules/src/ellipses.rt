@@ -3,7 +3,8 @@
 ghost use Rattle.std.specs.Prelude.{◌≡◌, ◌||◌, [], map, nat_lt, length, filter, slice_index_or};
 ghost use Rattle.std.specs.List.{list_any};
 ghost use Rattle.ps_model.specs.rules.RuleShape.{has_kind, is_ellipsis, paired_cells, paired_rows};
-ghost use Rattle.ps_model.specs.rules.RuleShapeFaults.{mixes_ellipsis, ends_in_ellipsis, has_many_ellipses};
+ghost use Rattle.ps_model.specs.rules.RuleShapeFaults.{mixes_ellipsis, ends_in_ellipsis, ellipses_touch};
+ghost use Rattle.ps_model.specs.rules.RuleShapeFaults.{has_many_ellipses, has_wrong_cells};
 ghost use Rattle.ps_model.specs.rules.RuleShapeFaults.{has_wrong_ellipsis, has_lone_ellipsis, has_bad_ellipsis};
 ghost use Rattle.ps_rules.specs.CellsShown.{words_shown, cells_shown, cell_rows_shown};
 ghost use Rattle.ps_rules.specs.Kinds.{parts_shown};
@@ -39,6 +40,21 @@ fn ends_in_ellipsis(cells: &[&[Token<'_>]]) -> bool
     has_kind(Kind::Ellipsis, cells[0]) || has_kind(Kind::Ellipsis, cells[cells.len() - 1])
 }
 
+/// Whether two neighbouring cells have an ellipsis.
+fn ellipses_touch(cells: &[&[Token<'_>]]) -> bool
+    ensures { result ≡ ellipses_touch (parts_shown cells.now) }
+{
+    let mut before = false;
+    for cell in cells {
+        let here = has_kind(Kind::Ellipsis, cell);
+        if before && here {
+            return true;
+        }
+        before = here;
+    }
+    false
+}
+
 /// Whether more cells have an ellipsis than may: `ELLIPSIS_LIMIT`.
 fn has_many(cells: &[&[Token<'_>]]) -> bool
     ensures { result ≡ has_many_ellipses (parts_shown cells.now) }
@@ -55,12 +71,19 @@ fn has_many(cells: &[&[Token<'_>]]) -> bool
     false
 }
 
+/// Whether an ellipsis of the cells can't stand where it does.
+fn has_wrong_cells(cells: &[&[Token<'_>]]) -> bool
+    ensures { result ≡ has_wrong_cells (parts_shown cells.now) }
+{
+    some_mixes(cells) || ends_in_ellipsis(cells) || ellipses_touch(cells) || has_many(cells)
+}
+
 /// Whether an ellipsis of the side can't stand where it does.
 fn has_wrong_ellipsis(side: &WrittenSide<'_, '_>) -> bool
     ensures { result ≡ has_wrong_ellipsis (side_shown side.now) }
 {
     for row in side.rows.as_slice() {
-        if some_mixes(&row.cells) || ends_in_ellipsis(&row.cells) || has_many(&row.cells) {
+        if has_wrong_cells(&row.cells) {
             return true;
         }
     }

@@ -1,6 +1,7 @@
 //! The rules of a game as they are written, as trees.
 
-ghost use Rattle.std.specs.Prelude.{◌≡◌};
+ghost use Rattle.std.specs.Prelude.{◌≡◌, All};
+ghost use Rattle.ps_laws.specs.WholeRows.{IsWholeLine};
 ghost use Rattle.ps_rules.specs.RulesShown.{lines_shown};
 
 use ps_model::{Direction, MovementWord, ObjectId};
@@ -79,26 +80,31 @@ pub enum RuleLine {
     LoopEnd,
 }
 
-/// The lines of RULES that aren't blank, in order.
+/// The lines of RULES that aren't blank, in order. The rows of their rules are whole: a row has one to three parts,
+/// each of a cell or more.
 #[derive(Drop)]
 pub struct RuleText {
     pub(crate) lines: Vec<RuleLine>,
 }
 
 impl Model for RuleText {
-    ghost use Rattle.std.specs.Prelude.{List, map};
+    ghost use Rattle.std.specs.Prelude.{List, All, map};
     ghost use Rattle.ps_model.specs.rules.SourceRules.{RuleLine as Meant};
+    ghost use Rattle.ps_laws.specs.WholeRows.{IsWholeLine};
     ghost use Rattle.ps_rules.specs.RulesShown.{line_shown};
 
     ghost Value = { List Meant };
 
     ghost view = { λ t. map line_shown t.lines.items };
+
+    ghost invariant = { λ t. All IsWholeLine (map line_shown t.lines.items) };
 }
 
 impl RuleText {
     /// The lines, in order.
     pub fn lines(&self) -> &[RuleLine]
-        ensures { lines_shown result.now ≡ self.now }
+        ensures lines { lines_shown result.now ≡ self.now }
+        ensures whole { All IsWholeLine (lines_shown result.now) }
     {
         self.lines.as_slice()
     }

@@ -90,6 +90,9 @@ fn run_compiled<I: ByteReader, W: ByteWriter>(
         &game.entries,
         &game.wins,
     );
-    let rules = rules_of(alloc, compiled);
+    let rules = match rules_of(alloc, compiled) {
+        Ok(rules) => rules,
+        Err(_) => return Err(RunFault::Memory),
+    };
     run_game::<RowBoard, GameRules<'_, '_>, I, W>(alloc, parts, rules, reader, writer)
 }

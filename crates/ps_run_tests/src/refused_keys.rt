@@ -58,7 +58,9 @@ fn expect_keys_again(
     };
     let title = game.title.as_str();
     let parts = SessionGame::new(title, game.options, &game.names, &game.entries, &game.wins);
-    let mut rules = rules_of(rt.alloc(), &programs);
+    let Ok(mut rules) = rules_of(rt.alloc(), &programs) else {
+        return;
+    };
     let mut screen = Screen::new(rt.alloc());
     let started = Session::<RowBoard>::start(rt.alloc(), parts, &mut rules, &mut screen);
     let Ok(mut session) = started else {

@@ -78,6 +78,16 @@ wide_gap : written (base_game (codes "right [ A | ... | B ] -> [ | ... | C ]\n")
 unfolding chars digits is_utf8 utf8_valid_len encode group program_run all_start_turns all_key_turns turn opening_step
 wide_gap = refl
 
+first_gap_first : written (base_game (codes "right [ A | ... | B | ... | C ] -> [ | ... | D | ... | C ]\n") [] (codes "AB.BC\n")) (codes "x")
+    ≡ Some (codes "= T\n# level 1\nAB.BC\n\n.D.BC\n\n* end of keys\n")
+unfolding chars digits is_utf8 utf8_valid_len encode group program_run all_start_turns all_key_turns turn opening_step
+first_gap_first = refl
+
+gap_at_the_leftmost_end : written (base_game (codes "left [ A | ... | B | ... | C ] -> [ | ... | D | ... | C ]\n") [] (codes "CB.BA\n")) (codes "x")
+    ≡ Some (codes "= T\n# level 1\nCB.BA\n\nCD.B.\n\n* end of keys\n")
+unfolding chars digits is_utf8 utf8_valid_len encode group program_run all_start_turns all_key_turns turn opening_step
+gap_at_the_leftmost_end = refl
+
 combinations : written (base_game (codes "[ A ] [ A ] -> [ B ] [ C ]\n") [] (codes "AA\n")) (codes "x") ≡ Some (codes "= T\n# level 1\nAA\n\nCC\n\n* end of keys\n")
 unfolding chars digits is_utf8 utf8_valid_len encode group program_run all_start_turns all_key_turns turn opening_step
 combinations = refl
@@ -731,10 +741,11 @@ ellipsis : refused (changed 30 1 (codes "[ > Player | ... ] -> [ > Player | ... 
 unfolding chars is_utf8 utf8_valid_len encode
 ellipsis = refl
 
-ellipsis_too : map (λ rule. refused (changed 30 1 rule the_game)) (codes "[ A | ... | B | ... | C ] -> cancel\n"
+ellipsis_too : map (λ rule. refused (changed 30 1 rule the_game)) (codes "[ A | ... | ... | C ] -> cancel\n"
     ∷ codes "[ A | ... B | C ] -> cancel\n"
-    ∷ codes "[ A | ... | C ] -> [ A | B | C ]\n" ∷ [])
-    ≡ replicate 3 (Some (record { kind = kind.Ellipsis; line = 30 }))
+    ∷ codes "[ A | ... | C ] -> [ A | B | C ]\n"
+    ∷ codes "[ A | ... | B | ... | C | ... | D ] -> cancel\n" ∷ [])
+    ≡ replicate 4 (Some (record { kind = kind.Ellipsis; line = 30 }))
 unfolding chars is_utf8 utf8_valid_len encode
 ellipsis_too = refl
 

@@ -111,3 +111,8 @@ play_195 : written (codes "OBJECTS\n  (note (deep) ) \nBackground\n#fff\n\nPlaye
     ≡ Some (codes "= \n# level 1\ne\"\nuu\n\ne\"\nuu\n\n* level 1 done\n* the end\n")
 unfolding chars digits is_utf8 utf8_valid_len encode group program_run all_start_turns all_key_turns turn opening_step
 play_195 = refl
+
+odd_fault_089 : written (codes "title T\nOBJECTS\nBackground .\ngreen\nWall #\nbrown\nPlayer P\nwhite\nCrate *\norange\nTarget O\nblue\nA\nred\nB\npink\nC\ngray\nD\nblack\nLEGEND\n@ = Crate and Target\nAT = A or Target\nAB = A or B\nAC=A or C\nBD = B or D or AB\nQ = AT\nZ = @\nCOLLISIONLAYERS\nBackground\nTarget\nPlayer, Wall, Crate\nA B C D\nRULES\n[ A | ... | B | ... | C ] -> cancel\nWINCONDITIONS\nLEVELS\n#P*O.\n") (codes "zzazxaxax")
+    ≡ Some (codes "= T\n# level 1\n#P*O.\n\n#P*O.\n\n#P*O.\n\n#P*O.\n\n#P*O.\n\n#P*O.\n\n#P*O.\n\n#P*O.\n\n#P*O.\n\n#P*O.\n\n* end of keys\n")
+unfolding chars digits is_utf8 utf8_valid_len encode group program_run all_start_turns all_key_turns turn opening_step
+odd_fault_089 = refl

@@ -72,8 +72,3 @@ odd_fault_088 : refused (codes "title T\nOBJECTS\nBackground .\ngreen\nWall #\nb
     ≡ Some (record { kind = kind.BadLine; line = 34 })
 unfolding chars digits is_utf8 utf8_valid_len encode group program_run all_start_turns all_key_turns turn opening_step
 odd_fault_088 = refl
-
-odd_fault_089 : refused (codes "title T\nOBJECTS\nBackground .\ngreen\nWall #\nbrown\nPlayer P\nwhite\nCrate *\norange\nTarget O\nblue\nA\nred\nB\npink\nC\ngray\nD\nblack\nLEGEND\n@ = Crate and Target\nAT = A or Target\nAB = A or B\nAC=A or C\nBD = B or D or AB\nQ = AT\nZ = @\nCOLLISIONLAYERS\nBackground\nTarget\nPlayer, Wall, Crate\nA B C D\nRULES\n[ A | ... | B | ... | C ] -> cancel\nWINCONDITIONS\nLEVELS\n#P*O.\n")
-    ≡ Some (record { kind = kind.Ellipsis; line = 35 })
-unfolding chars digits is_utf8 utf8_valid_len encode group program_run all_start_turns all_key_turns turn opening_step
-odd_fault_089 = refl

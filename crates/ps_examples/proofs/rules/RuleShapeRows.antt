@@ -103,18 +103,20 @@ nothing_right = refl
 
 ellipses : AllTold (fault_at 2 Ellipsis)
     (codes "[ ... | A ] -> [ ... | A ]" ∷ codes "[ A | ... ] -> [ A | ... ]" ∷ codes "[ ... ] -> cancel" ∷ codes "[ A | ... | B ] -> [ A | B | C ]"
-    ∷ codes "[ A | B | C ] -> [ A | ... | C ]" ∷ codes "[ A | ... | B | C ] -> [ A | B | ... | C ]" ∷ codes "[ A | ... | B | ... | C ] -> cancel"
-    ∷ codes "[ A | ... | ... | C ] -> cancel" ∷ codes "[ A | ... ... | C ] -> cancel" ∷ codes "[ A | ... B | C ] -> cancel" ∷ codes "[ A | B ... | C ] -> [ A | ... | C ]" ∷ codes "[ A | ... | C ] -> [ A | ... B | C ]"
+    ∷ codes "[ A | B | C ] -> [ A | ... | C ]" ∷ codes "[ A | ... | B | C ] -> [ A | B | ... | C ]" ∷ codes "[ A | ... | B | ... | C | ... | A ] -> cancel"
+    ∷ codes "[ A | ... | ... | C ] -> cancel" ∷ codes "[ A | ... | ... | C ] -> [ A | ... | ... | C ]" ∷ codes "[ A | ... | B | ... ] -> cancel" ∷ codes "[ ... | A | ... | B ] -> cancel"
+    ∷ codes "[ A | ... | B | ... | C ] -> [ A | ... | B | A | C ]" ∷ codes "[ A | ... ... | C ] -> cancel" ∷ codes "[ A | ... B | C ] -> cancel" ∷ codes "[ A | B ... | C ] -> [ A | ... | C ]" ∷ codes "[ A | ... | C ] -> [ A | ... B | C ]"
     ∷ codes "[ A ] [ B | ... ] -> cancel" ∷ codes "[ A | ... | B ] [ C | D | A ] -> [ A | ... | B ] [ C | ... | A ]" ∷ [])
 ellipses = refl
 
 -- without fault ------------------------------------------------------------------------------------------------------------
 
 -- words before the rows stand in any order, and again; an empty cell is a cell; sounds are commands; words touch
--- brackets and signs
+-- brackets and signs; a row has two ellipses at most
 good : AllTold None
     (codes "[ A ] -> [ B ]" ∷ codes "late up LATE up [ A ] -> [ B ]" ∷ codes "horizontal down late [ A | B ] -> [ B | A ]" ∷ codes "[] -> []" ∷ codes "[ | ] [] -> [ A | ] []"
     ∷ codes "[ A ] -> cancel" ∷ codes "[ A ] -> sfx0" ∷ codes "[ A ] -> [ ] cancel again SFX10 message Hi -> [" ∷ codes "[ A ] -> message" ∷ codes "[ A ] -> message(a) b"
     ∷ codes "[>Player|*]->[>Player|>*]again" ∷ codes "[ A | ... | B ] -> cancel" ∷ codes "[ A | ... | B ] [ A | ... | B ] -> [ | ... | ] [ B | ... | ]"
+    ∷ codes "[ A | ... | B | ... | C ] -> cancel" ∷ codes "[ A | ... | B | B | ... | ] [ A | ... | B ] -> [ B | ... | | A | ... | C ] [ | ... | ]"
     ∷ codes "[ A (B] ] C) ] -> (->) [ B ]" ∷ codes "startloop\nENDLOOP" ∷ codes "startloop\n\n[ A ] -> [ B ]\n  \n=====\nendloop (x)" ∷ [] ∷ [])
 good = refl

@@ -51,6 +51,55 @@ wide_gap : written (base_game (codes "right [ A | ... | B ] -> [ | ... | C ]\n")
 unfolding chars digits is_utf8 utf8_valid_len encode group program_run all_start_turns all_key_turns turn opening_step
 wide_gap = refl
 
+-- two ellipses: of places with the same leftmost or topmost end, the one comes first whose gap nearest to that end is
+-- smaller, and of two with this gap the one with the smaller other gap
+nearest_gap_rightwards : written (base_game (codes "right [ A | ... | B | ... | C ] -> [ | ... | D | ... | C ]\n") ([]) (codes "AB.BC\n")) (codes "x")
+    ≡ Some (codes "= T\n# level 1\nAB.BC\n\n.D.BC\n\n* end of keys\n")
+unfolding chars digits is_utf8 utf8_valid_len encode group program_run all_start_turns all_key_turns turn opening_step
+nearest_gap_rightwards = refl
+
+other_gap_rightwards : written (base_game (codes "right [ A | ... | B | ... | C ] -> [ | ... | B | ... | D ]\n") ([]) (codes "ABC.C\n")) (codes "x")
+    ≡ Some (codes "= T\n# level 1\nABC.C\n\n.BD.C\n\n* end of keys\n")
+unfolding chars digits is_utf8 utf8_valid_len encode group program_run all_start_turns all_key_turns turn opening_step
+other_gap_rightwards = refl
+
+nearest_gap_leftwards : written (base_game (codes "left [ A | ... | B | ... | C ] -> [ | ... | D | ... | C ]\n") ([]) (codes "CB.BA\n")) (codes "x")
+    ≡ Some (codes "= T\n# level 1\nCB.BA\n\nCD.B.\n\n* end of keys\n")
+unfolding chars digits is_utf8 utf8_valid_len encode group program_run all_start_turns all_key_turns turn opening_step
+nearest_gap_leftwards = refl
+
+other_gap_leftwards : written (base_game (codes "left [ A | ... | B | ... | C ] -> [ D | ... | B | ... | ]\n") ([]) (codes "CBA.A\n")) (codes "x")
+    ≡ Some (codes "= T\n# level 1\nCBA.A\n\n.BD.A\n\n* end of keys\n")
+unfolding chars digits is_utf8 utf8_valid_len encode group program_run all_start_turns all_key_turns turn opening_step
+other_gap_leftwards = refl
+
+nearest_gap_downwards : written (base_game (codes "down [ A | ... | B | ... | C ] -> [ | ... | D | ... | C ]\n") ([]) (codes "A\nB\n.\nB\nC\n")) (codes "x")
+    ≡ Some (codes "= T\n# level 1\nA\nB\n.\nB\nC\n\n.\nD\n.\nB\nC\n\n* end of keys\n")
+unfolding chars digits is_utf8 utf8_valid_len encode group program_run all_start_turns all_key_turns turn opening_step
+nearest_gap_downwards = refl
+
+nearest_gap_upwards : written (base_game (codes "up [ A | ... | B | ... | C ] -> [ | ... | D | ... | C ]\n") ([]) (codes "C\nB\n.\nB\nA\n")) (codes "x")
+    ≡ Some (codes "= T\n# level 1\nC\nB\n.\nB\nA\n\nC\nD\n.\nB\n.\n\n* end of keys\n")
+unfolding chars digits is_utf8 utf8_valid_len encode group program_run all_start_turns all_key_turns turn opening_step
+nearest_gap_upwards = refl
+
+-- all places in their order, each looked at again: the second and the fourth of these no longer fit
+places_with_two_gaps : written (base_game (codes "right [ A | ... | B | ... | C ] -> [ A | ... | D | ... | D ]\n") ([]) (codes "ABCBC\n")) (codes "x")
+    ≡ Some (codes "= T\n# level 1\nABCBC\n\nADDDD\n\n* end of keys\n")
+unfolding chars digits is_utf8 utf8_valid_len encode group program_run all_start_turns all_key_turns turn opening_step
+places_with_two_gaps = refl
+
+-- longer parts, and a rule that runs again and again
+longer_parts : written (base_game (codes "right [ A | B | ... | A | ... | B | C ] -> [ | | ... | D | ... | | ]\n") ([]) (codes "AB.A.BC\n")) (codes "x")
+    ≡ Some (codes "= T\n# level 1\nAB.A.BC\n\n...D...\n\n* end of keys\n")
+unfolding chars digits is_utf8 utf8_valid_len encode group program_run all_start_turns all_key_turns turn opening_step
+longer_parts = refl
+
+places_one_after_the_other : written (base_game (codes "right [ A | ... | B | ... | C ] -> [ B | ... | A | ... | C ]\n") ([]) (codes "AABBC\n")) (codes "x")
+    ≡ Some (codes "= T\n# level 1\nAABBC\n\nBBAAC\n\n* end of keys\n")
+unfolding chars digits is_utf8 utf8_valid_len encode group program_run all_start_turns all_key_turns turn opening_step
+places_one_after_the_other = refl
+
 -- combinations are those of the start, and each is looked at again before it is applied
 combinations_looked_at_again : written (base_game (codes "[ A ] [ A ] -> [ B ] [ C ]\n") ([]) (codes "AA\n")) (codes "x")
     ≡ Some (codes "= T\n# level 1\nAA\n\nCC\n\n* end of keys\n")

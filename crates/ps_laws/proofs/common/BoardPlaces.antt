@@ -1,12 +1,12 @@
 -- The places of a row lie on the board, and have a cell for each cell of the row.
-use Rattle.std.proofs.Common.{◌≡◌, ℕ, suc, ◌<◌, Bool, true, false, cond, Option, Some, None, List, [], ◌∷◌, length, refl, sym, ◌∙◌, ap, arith, filter}
+use Rattle.std.proofs.Common.{◌≡◌, ℕ, suc, ◌<◌, Bool, true, false, cond, Option, Some, None, List, [], ◌∷◌, length, refl, ap, arith, filter}
 use Rattle.std.specs.Prelude.{All, slice_get}
 use Rattle.std.specs.List.{flat_map}
 use Rattle.std.proofs.lemmas.Option.{slice_get_within}
 use Rattle.std.proofs.lemmas.List.Elements.{All-nil, All-cons, All-append, All-weaker}
 use Rattle.ps_model.specs.declared.pieces.Slot.{Slot}
 use Rattle.ps_model.specs.declared.pieces.Direction.{Direction}
-use Rattle.ps_model.specs.board.Grid.{Grid, IsGrid, cell_count}
+use Rattle.ps_model.specs.board.Grid.{Grid, cell_count}
 use Rattle.ps_model.specs.board.Places.{fits_there, fits_along, cells_in, stretches, search_order, places}
 use Rattle.ps_model.specs.meaning.RuleMeanings.{CellMeaning}
 use Rattle.ps_laws.specs.Sliding.{PlacesLieOnBoards, PlacesAreWhole}

@@ -1,12 +1,12 @@
 -- A chain of winners that ends in a bare cell has no more links than there are cells: no cell stands in it twice.
-use Rattle.std.proofs.Common.{inl, inr, ◌≡◌, ℕ, zero, suc, ◌≤◌, ◌<◌, Bool, true, false, ◌||◌, List, [], ◌∷◌, length, refl, sym, ◌∙◌, ap, arith, nat_eq}
+use Rattle.std.proofs.Common.{inl, inr, ◌≡◌, ℕ, zero, suc, ◌≤◌, ◌<◌, Bool, true, false, ◌||◌, List, [], ◌∷◌, length, refl, sym, ◌∙◌, ap, arith}
 use Rattle.std.specs.Prelude.{◌⊎◌}
 use Rattle.std.specs.List.{list_any, IsDistinct, AllByRecursion}
 use Rattle.std.proofs.Math.Dec.{eqb}
 use Rattle.std.proofs.lemmas.Bool.{eqb-true}
 use Rattle.std.proofs.lemmas.Map.Steps.{length-le_from_distinct_below}
 use Rattle.ps_model.specs.board.Grid.{Grid, cell_count}
-use Rattle.ps_model.specs.board.Movement.{is_bare, slides_within, slides}
+use Rattle.ps_model.specs.board.Movement.{is_bare, slides_within}
 use Rattle.ps_laws.specs.Sliding.{ChainsSlide}
 use Rattle.ps_laws.proofs.common.Winners.{IsLink, link_of, slides_by, winner-contends, slides_within-more}
 

@@ -9,8 +9,7 @@ use Rattle.std.proofs.lemmas.List.Elements.{All-nil, All-cons, All-map, All-weak
 use Rattle.ps_model.specs.declared.pieces.Direction.{Direction}
 use Rattle.ps_model.specs.declared.pieces.Direction.TheVariants.{Up, Down, Left, Right}
 use Rattle.ps_model.specs.board.Grid.{Grid}
-use Rattle.ps_model.specs.meaning.RuleMeanings.{CellMeaning}
-use Rattle.ps_model.specs.board.Places.{cells_rightwards, cells_downwards, search_order, stretches, ways_along, fits_along, cells_in, places}
+use Rattle.ps_model.specs.board.Places.{cells_rightwards, cells_downwards, search_order, stretches, ways_along, fits_along, cells_in}
 use Rattle.ps_laws.specs.Sliding.{steps_of, IsStraight, PlacesAreStraight}
 use Rattle.ps_laws.proofs.common.Everywhere.{All-always, All-flat_map}
 

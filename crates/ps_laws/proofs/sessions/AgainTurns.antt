@@ -1,13 +1,13 @@
 -- The again turns of a key and of a start are those of the longest list of turns that count.
 use Rattle.std.proofs.Common.{inl, inr, ◌≡◌, ℕ, zero, suc, ◌-◌, ◌≤◌, Bool, true, false, Option, Some, None, List, [], ◌∷◌, length, refl, sym, ◌∙◌, ap, subst, arith}
-use Rattle.std.specs.Prelude.{◌⊎◌, ◌||◌, is_none, not, ◌&&◌}
+use Rattle.std.specs.Prelude.{◌⊎◌, is_none, not, ◌&&◌}
 use Rattle.ps_model.specs.declared.limits.TheConstants.{AGAIN_LIMIT}
 use Rattle.ps_model.specs.board.Grid.{Grid}
 use Rattle.ps_model.specs.board.Turns.{Script, Done, Outcome, Blocked, Restarted, Finished, turn}
-use Rattle.ps_model.specs.session.Sessions.{Play, Playing, Step, quietly, after, waiting, shown, with_turn}
-use Rattle.ps_model.specs.session.StartSteps.{start_pending, start_told, start_counted, start_turn_by, start_turns, all_start_turns}
-use Rattle.ps_model.specs.session.KeySteps.{key_pending, key_told, key_counted, key_turn_by, key_turns, all_key_turns}
-use Rattle.ps_laws.specs.AgainTurns.{counts_for_key, goes_on_for_key, counts_for_start, goes_on_for_start, Follow, IsLongest, turns_told, key_stopped, key_stop, start_stop, told_at_start, KeyTurnsAreLongest, StartTurnsAreLongest, AllKeyTurnsAreLongest, AllStartTurnsAreLongest}
+use Rattle.ps_model.specs.session.Sessions.{Play, Step, after, shown, with_turn}
+use Rattle.ps_model.specs.session.StartSteps.{start_told, start_counted, start_turn_by, start_turns, all_start_turns}
+use Rattle.ps_model.specs.session.KeySteps.{key_told, key_counted, key_turn_by, key_turns, all_key_turns}
+use Rattle.ps_laws.specs.AgainTurns.{counts_for_key, goes_on_for_key, counts_for_start, goes_on_for_start, Follow, IsLongest, turns_told, key_stop, start_stop, told_at_start, KeyTurnsAreLongest, StartTurnsAreLongest, AllKeyTurnsAreLongest, AllStartTurnsAreLongest}
 
 -- any again turns --------------------------------------------------------------------------------------------------------
 

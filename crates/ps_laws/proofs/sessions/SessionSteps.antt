@@ -1,19 +1,19 @@
 -- Steps of a session one by one.
-use Rattle.std.proofs.Common.{◌≡◌, ℕ, suc, ◌+◌, ◌-◌, Option, Some, None, List, [], ◌∷◌, ◌++◌, length, take, slice_get, refl, sym, ◌∙◌, ap, ap₂, arith, append_assoc}
+use Rattle.std.proofs.Common.{◌≡◌, ℕ, ◌+◌, ◌-◌, Option, Some, None, List, [], ◌∷◌, ◌++◌, length, take, slice_get, refl, sym, ◌∙◌, ap, ap₂, arith, append_assoc}
 use Rattle.std.specs.Prelude.{option_to_list}
 use Rattle.std.proofs.Math.Seq.{take-append_seam}
 use Rattle.std.proofs.lemmas.List.{append-nil, length-append}
 use Rattle.ps_model.specs.declared.play.Key.{Key}
 use Rattle.ps_model.specs.declared.held.Held.{Held}
 use Rattle.ps_model.specs.board.Grid.{Grid}
-use Rattle.ps_model.specs.board.Turns.{turn, outcome_of, played}
+use Rattle.ps_model.specs.board.Turns.{turn}
 use Rattle.ps_model.specs.session.Keys.{keys_of}
 use Rattle.ps_model.specs.session.HeldKeys.{held, bytes_of, key_behind}
-use Rattle.ps_model.specs.session.Sessions.{Play, Session, Playing, Step, after, shown}
+use Rattle.ps_model.specs.session.Sessions.{Play, Session, Playing, Step, shown}
 use Rattle.ps_model.specs.session.StartSteps.{start_turn_by, start_turns, all_start_turns}
-use Rattle.ps_model.specs.session.KeySteps.{key_turn_by, key_turns, all_key_turns, key_done, turn_taken, back_at, undone, key_step}
+use Rattle.ps_model.specs.session.KeySteps.{key_turn_by, key_turns, all_key_turns, key_done, back_at, key_step}
 use Rattle.ps_model.specs.game.Outputs.{opening_step, texts_of_keys}
-use Rattle.ps_laws.specs.Fronts.{session_after, session_of, whole_front}
+use Rattle.ps_laws.specs.Fronts.{session_after, session_of}
 use Rattle.ps_laws.specs.SessionSteps.{TurnsAreOutcomes, KeyTurnsAreLimited, StartTurnsAreLimited, KeyTurnsGoByOutcome, StartTurnsGoByOutcome, DoneWithHistory, TextsJoin, EmptyTextAddsNothing, UndoTakesLatest, UndoOfNothing, OpeningsAreEntered, FrontsAreTexts, SilentBytesWriteNothing, KeysWriteTheirTexts}
 use Rattle.ps_laws.proofs.keys.Fronts.{session_after-append, texts_of_keys-append, whole_front-is}
 use Rattle.ps_laws.proofs.keys.KeysInPieces.{read_byte_by_byte}

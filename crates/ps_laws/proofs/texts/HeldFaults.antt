@@ -1,11 +1,11 @@
 -- What the list of faults leaves out stands behind one that it lists.
-use Rattle.std.proofs.Common.{◌≡◌, ℕ, Bool, true, false, ◌&&◌, Option, Some, None, List, [], ◌∷◌, ◌++◌, flat_map, filter_map, refl, sym, ◌∙◌, ap, ap₂}
+use Rattle.std.proofs.Common.{◌≡◌, ℕ, Bool, true, false, ◌&&◌, Option, Some, None, List, [], ◌∷◌, ◌++◌, flat_map, filter_map, refl, ap, ap₂}
 use Rattle.std.specs.Prelude.{option_to_list}
 use Rattle.std.specs.List.{list_any}
-use Rattle.ps_model.specs.declared.texts.Section.TheVariants.{Prelude, Objects, Legend, Layers, Rules, Wins, Levels}
+use Rattle.ps_model.specs.declared.texts.Section.TheVariants.{Objects, Legend, Layers, Rules, Wins, Levels}
 use Rattle.ps_model.specs.declared.faults.Fault.{Fault}
 use Rattle.ps_model.specs.declared.faults.FaultKind.{FaultKind}
-use Rattle.ps_model.specs.declared.faults.FaultKind.TheVariants.{BadBracket, UnknownWord, RowsDiffer, NothingRight, NameTwice, NoAggregate}
+use Rattle.ps_model.specs.declared.faults.FaultKind.TheVariants.{BadBracket, UnknownWord, RowsDiffer, NameTwice, NoAggregate}
 use Rattle.ps_model.specs.text.Faults.{when}
 use Rattle.ps_model.specs.text.TextFaults.{utf8_fault, text_fault}
 use Rattle.ps_model.specs.text.Lines.{Line, lines_of}
@@ -19,12 +19,12 @@ use Rattle.ps_model.specs.rules.RuleLines.{LineForm, StartForm, EndForm, RuleFor
 use Rattle.ps_model.specs.rules.RuleShapeFaults.{has_bad_bracket, has_unknown_word, has_other_rows}
 use Rattle.ps_model.specs.rules.RuleNameFaults.{name_twice, is_no_before_aggregate}
 use Rattle.ps_model.specs.rules.RuleFaults.{Above, above_next, faults_of_rule, faults_of_form, faults_of_line, faults_below, nothing_above, rule_faults}
-use Rattle.ps_model.specs.rules.ReadingFaults.{too_many_readings, impossible_rules, or_impossible, faults_of_readings, reading_faults}
+use Rattle.ps_model.specs.rules.ReadingFaults.{too_many_readings, or_impossible, reading_faults}
 use Rattle.ps_model.specs.session.LevelFaults.{level_faults}
 use Rattle.ps_model.specs.board.WinLines.{win_faults}
 use Rattle.ps_model.specs.board.RulePrograms.{rule_in}
-use Rattle.ps_model.specs.game.Games.{Game, game_read, faults_beside, line_faults, faults}
-use Rattle.ps_model.specs.game.HeldFaults.{items_of_sides, hidden_by_rows, hidden_in_line, hidden_by_count, hidden_in_readings, hidden_in_lines, hidden_faults}
+use Rattle.ps_model.specs.game.Games.{Game, game_read, faults_beside, line_faults}
+use Rattle.ps_model.specs.game.HeldFaults.{items_of_sides, hidden_by_rows, hidden_in_line, hidden_by_count, hidden_in_lines}
 use Rattle.ps_laws.specs.OneGame.{HiddenAreBehind}
 
 -- an empty list that is joined has empty parts

@@ -1,12 +1,13 @@
--- Rules that are read from lines without faults have short rows: a row with two ellipses is a fault.
-use Rattle.std.proofs.Common.{◌≡◌, ℕ, ◌+◌, ◌≤◌, Bool, true, false, ◌&&◌, ◌||◌, Option, Some, None, List, [], ◌∷◌, ◌++◌, length, map, filter, cond, refl, sym, subst, arith}
+-- Rules that are read from lines without faults have whole rows: an ellipsis first or last in a row, right behind another
+-- one, or behind two others, is a fault.
+use Rattle.std.proofs.Common.{◌≡◌, ℕ, ◌+◌, ◌<◌, ◌≤◌, Bool, true, false, ◌&&◌, ◌||◌, Option, Some, None, List, [], ◌∷◌, ◌++◌, length, map, filter, cond, reverse, append_assoc, refl, sym, subst, ap, ◌∙◌, arith}
 use Rattle.std.specs.Prelude.{All, IfSome, ⊤, drop, slice_index_or}
 use Rattle.std.specs.List.{slice_split, list_any, list_all, count_by, filter_map, cons_option}
 use Rattle.std.proofs.lemmas.Bool.Decides.{nat_tests}
-use Rattle.std.proofs.lemmas.List.{length-map}
+use Rattle.std.proofs.lemmas.List.{length-map, append-nil, reverse-append}
 use Rattle.std.proofs.lemmas.List.Splits.{length-slice_split}
 use Rattle.std.proofs.lemmas.List.Sums.{length-filter}
-use Rattle.std.proofs.lemmas.List.Elements.{All-nil, All-cons, All-head, All-tail, All-map, All-weaker}
+use Rattle.std.proofs.lemmas.List.Elements.{All-nil, All-cons, All-head, All-tail, All-map}
 use Rattle.ps_model.specs.declared.faults.Fault.{Fault}
 use Rattle.ps_model.specs.declared.faults.FaultKind.TheVariants.{BadBracket, UnknownWord, RowsDiffer, NothingRight, NameTwice, NoAggregate, Unbound, LateMove, PlusAlone, PlusLate, Ellipsis as EllipsisFault}
 use Rattle.ps_model.specs.declared.texts.Section.TheVariants.{Objects, Legend, Layers, Rules}
@@ -17,15 +18,17 @@ use Rattle.ps_model.specs.names.Names.{Names}
 use Rattle.ps_model.specs.names.NameFaults.{name_faults}
 use Rattle.ps_model.specs.rules.RuleSymbols.{Symbol, StartsLoop, EndsLoop, Token, tokens_of, tokens_kept}
 use Rattle.ps_model.specs.rules.RuleShape.{has_kind, is_ellipsis, WrittenRow, RuleShape, shape_of, beside, paired_cells, paired_rows}
-use Rattle.ps_model.specs.rules.RuleShapeFaults.{has_bad_bracket, has_unknown_word, has_other_rows, has_nothing_right, has_late_move, mixes_ellipsis, ends_in_ellipsis, has_many_ellipses, has_wrong_ellipsis, has_bad_ellipsis}
+use Rattle.ps_model.specs.rules.RuleShapeFaults.{has_bad_bracket, has_unknown_word, has_other_rows, has_nothing_right, has_late_move, mixes_ellipsis, ends_in_ellipsis, ellipses_touch_behind, ellipses_touch, has_many_ellipses, has_wrong_cells, has_wrong_ellipsis, has_bad_ellipsis}
 use Rattle.ps_model.specs.rules.RuleNameFaults.{has_name_twice, puts_no_before_aggregate, has_unbound}
 use Rattle.ps_model.specs.rules.SourceRules.{CellPair, SourceRule, RuleLine}
 use Rattle.ps_model.specs.rules.RuleTree.{is_gap, pair_of, row_of_cells, rows_of}
 use Rattle.ps_model.specs.rules.RuleLines.{LineForm, StartForm, EndForm, RuleForm, NoForm, form_of_shape, form_of_words, form_of, line_of_form, lines_with_words}
 use Rattle.ps_model.specs.rules.RuleFaults.{Above, nothing_above, above_next, has_lone_plus, joins_other_part, faults_of_rule, faults_of_form, faults_of_line, faults_below, rule_faults}
 use Rattle.ps_model.specs.game.Games.{Game, game_read, line_faults}
-use Rattle.ps_laws.specs.ShortRows.{IsShort, IsShortLine, RulesReadAreShort, GameRulesAreShort}
+use Rattle.ps_laws.specs.WholeRows.{HasCells, IsWholeRow, IsWholeLine, RulesReadAreWhole, GameRulesAreWhole}
 use Rattle.ps_laws.proofs.common.Everywhere.{All-mapped}
+use Rattle.ps_laws.proofs.texts.WholeParts.{GoesOn, parts-whole}
+use Rattle.ps_laws.proofs.texts.WrittenCells.{IsLeftWithCells, shape_of-cells}
 use Rattle.ps_laws.proofs.texts.FaultlessNames.{none-before, none-behind, untold, of_every_faultless}
 
 -- neither of two tests
@@ -36,6 +39,11 @@ neither_first false b e = refl
 neither_second : (a b : Bool) → (a || b) ≡ false → b ≡ false
 neither_second true b e = absurd (cc)
 neither_second false b e = e
+
+-- a test that holds and doesn't
+clash : (b : Bool) → b ≡ true → b ≡ false → ⊥
+clash true e f = cc
+clash false e f = cc
 
 -- what passes no test, each element doesn't
 none_passes : {A : Type 0} (test : A → Bool) (xs : List A) → list_any test xs ≡ false → All (λ x. test x ≡ false) xs
@@ -57,15 +65,81 @@ gaps_are_few (first ∷ cells) others =
     gap_counts (has_kind is_ellipsis first) (list_all (λ (token : Token). is_ellipsis token.symbol) (first ++ slice_index_or others 0 [])) (first, slice_index_or others 0 []) first
     (filter is_gap (beside cells (drop 1 others))) (filter (has_kind is_ellipsis) cells) (gaps_are_few cells (drop 1 others))
 
--- a row without too many ellipses is short
-row-short : (cells others : List (List Token)) → has_many_ellipses cells ≡ false → IsShort (row_of_cells (paired_cells (cells, others)))
-row-short cells others e =
-    let few : length (filter (has_kind is_ellipsis) cells) ≤ 1 = grind (arith, nat_tests) in
+-- a cell without an ellipsis on its left is no gap
+gap-first : (cells other : List Token) → has_kind is_ellipsis cells ≡ false → is_gap (cells, other) ≡ false
+gap-first cells other e =
+    ap (λ (first : Bool). first && list_all (λ (token : Token). is_ellipsis token.symbol) (cells ++ other)) e
+
+gap-has : (first more : Bool) → (first && more) ≡ true → first ≡ true
+gap-has true more e = refl
+gap-has false more e = absurd (cc)
+
+-- whether the last of these cells has an ellipsis, or the one before them where there is none
+abbrev last_has : Bool → List (List Token) → Bool
+last_has before [] = before
+last_has before (cell ∷ cells) = last_has (has_kind is_ellipsis cell) cells
+
+last-first : (cell : List Token) (cells more : List (List Token)) →
+    has_kind is_ellipsis (slice_index_or (reverse (cell ∷ cells) ++ more) 0 []) ≡ last_has (has_kind is_ellipsis cell) cells
+last-first cell [] more = refl
+last-first cell (next ∷ cells) more =
+    ap (λ (back : List (List Token)). has_kind is_ellipsis (slice_index_or (back ++ more) 0 [])) (reverse-append (cell ∷ []) (next ∷ cells))
+    ∙ ap (λ (back : List (List Token)). has_kind is_ellipsis (slice_index_or back 0 [])) (append_assoc (reverse (next ∷ cells)) (cell ∷ []) more)
+    ∙ last-first next cells (cell ∷ more)
+
+-- behind a cell, which has an ellipsis where it is a gap, there are no gaps side by side, and none comes last
+cells-go-on : (before gap : Bool) (cells others : List (List Token)) → (gap ≡ true → before ≡ true) →
+    ellipses_touch_behind before cells ≡ false → last_has before cells ≡ false → GoesOn is_gap gap (beside cells others)
+cells-go-on before true [] others has touch last = absurd (clash before (has refl) last)
+cells-go-on before false [] others has touch last = tt
+cells-go-on before true (cell ∷ cells) others has touch last =
+    let here : Bool = has_kind is_ellipsis cell in
+    let none : here ≡ false =
+    sym (ap (λ (first : Bool). first && here) (has refl)) ∙ neither_first (before && here) (ellipses_touch_behind here cells) touch in (
+      gap-first cell (slice_index_or others 0 []) none,
+      cells-go-on here false cells (drop 1 others) (λ e. absurd (cc)) (neither_second (before && here) (ellipses_touch_behind here cells) touch) last,
+    )
+cells-go-on before false (cell ∷ cells) others has touch last =
+    let here : Bool = has_kind is_ellipsis cell in
+    let more : Bool = list_all (λ (token : Token). is_ellipsis token.symbol) (cell ++ slice_index_or others 0 []) in
+    cells-go-on here (is_gap (cell, slice_index_or others 0 [])) cells (drop 1 others) (gap-has here more)
+    (neither_second (before && here) (ellipses_touch_behind here cells) touch) last
+
+-- the parts of a row without wrong ellipses have cells
+parts-have-cells : (cells others : List (List Token)) → HasCells cells → ends_in_ellipsis cells ≡ false → ellipses_touch cells ≡ false →
+    All HasCells (slice_split is_gap (beside cells others))
+parts-have-cells [] others some ends touch = absurd (omega (arith, some))
+parts-have-cells (cell ∷ cells) others some ends touch =
+    let here : Bool = has_kind is_ellipsis cell in
+    let first : here ≡ false = neither_first here _ ends in
+    let last : last_has here cells ≡ false =
+    sym (last-first cell cells [])
+    ∙ ap (λ (back : List (List Token)). has_kind is_ellipsis (slice_index_or back 0 [])) (append-nil (reverse (cell ∷ cells)))
+    ∙ neither_second here (has_kind is_ellipsis (slice_index_or (reverse (cell ∷ cells)) 0 [])) ends in
+    parts-whole is_gap true (beside (cell ∷ cells) others) (
+      gap-first cell (slice_index_or others 0 []) first,
+      cells-go-on here false cells (drop 1 others) (λ e. absurd (cc)) touch last,
+    )
+
+-- a row without wrong ellipses is whole
+row-whole : (cells others : List (List Token)) → HasCells cells → has_wrong_cells cells ≡ false → IsWholeRow (row_of_cells (paired_cells (cells, others)))
+row-whole cells others some e =
+    let stands : (ends_in_ellipsis cells || (ellipses_touch cells || has_many_ellipses cells)) ≡ false = neither_second (list_any mixes_ellipsis cells) _ e in
+    let apart : (ellipses_touch cells || has_many_ellipses cells) ≡ false = neither_second (ends_in_ellipsis cells) _ stands in
+    let many : has_many_ellipses cells ≡ false = neither_second (ellipses_touch cells) (has_many_ellipses cells) apart in
+    let few : length (filter (has_kind is_ellipsis) cells) ≤ 2 = grind (arith, nat_tests) in
     let gaps : length (filter is_gap (beside cells others)) ≡ count_by is_gap (beside cells others) = length-filter is_gap (beside cells others) in
     let cut : length (slice_split is_gap (beside cells others)) ≡ count_by is_gap (beside cells others) + 1 = length-slice_split is_gap (beside cells others) in
     let made : length (row_of_cells (beside cells others)) ≡ length (slice_split is_gap (beside cells others)) =
     length-map (slice_split is_gap (beside cells others)) (λ (part : List (List Token × List Token)). map pair_of part) in
-    omega (arith, gaps, few, cut, made, gaps_are_few cells others)
+    record {
+      some = omega (arith, cut, made);
+      few = omega (arith, gaps, few, cut, made, gaps_are_few cells others);
+      cells =
+          All-mapped HasCells HasCells (map pair_of) (slice_split is_gap (beside cells others))
+          (λ part has. subst (λ (n : ℕ). 0 < n) (sym (length-map part pair_of)) has)
+          (parts-have-cells cells others some (neither_first (ends_in_ellipsis cells) _ stands) (neither_first (ellipses_touch cells) _ apart));
+    }
 
 -- the left of each pair is of the first list
 beside-left : {A : Type 0} (P : List A → Type 0) (lists others : List (List A)) → All P lists → All (λ (pair : List A × List A). P pair.0) (beside lists others)
@@ -74,37 +148,38 @@ beside-left P (first ∷ lists) others all =
     All-cons (λ pair. P pair.0) (first, slice_index_or others 0 []) (beside lists (drop 1 others)) (All-head P first lists all)
     (beside-left P lists (drop 1 others) (All-tail P first lists all))
 
-rows-short : (shape : RuleShape) → has_bad_ellipsis shape ≡ false → All IsShort (rows_of shape)
-rows-short shape e =
-    let cells : WrittenRow → List (List Token) = λ row. row.cells in
+-- the cells of a row on the left of a rule: there are some, and no ellipsis stands where it can't
+abbrev IsWrittenWell : List (List Token) → Type 0
+IsWrittenWell cells = HasCells cells × (has_wrong_cells cells ≡ false)
+
+rows-whole : (shape : RuleShape) → IsLeftWithCells shape → has_bad_ellipsis shape ≡ false → All IsWholeRow (rows_of shape)
+rows-whole shape some e =
     let left : has_wrong_ellipsis shape.left ≡ false = neither_first (has_wrong_ellipsis shape.left) _ e in
-    let each : All (λ (row : WrittenRow). has_many_ellipses row.cells ≡ false) shape.left.rows =
-    All-weaker (λ (row : WrittenRow). (list_any mixes_ellipsis row.cells || (ends_in_ellipsis row.cells || has_many_ellipses row.cells)) ≡ false)
-    (λ (row : WrittenRow). has_many_ellipses row.cells ≡ false)
-    (λ row h. neither_second (ends_in_ellipsis row.cells) (has_many_ellipses row.cells) (neither_second (list_any mixes_ellipsis row.cells) _ h))
-    shape.left.rows (none_passes _ shape.left.rows left) in
-    All-mapped IsShort (λ (rows : List (List Token) × List (List Token)). has_many_ellipses rows.0 ≡ false) (λ rows. row_of_cells (paired_cells rows)) (paired_rows shape)
-    (λ rows h. row-short rows.0 rows.1 h)
-    (beside-left (λ (row : List (List Token)). has_many_ellipses row ≡ false) (map cells shape.left.rows) (map cells shape.right.rows)
-    (All-map (λ (row : List (List Token)). has_many_ellipses row ≡ false) cells shape.left.rows each))
+    let right : list_any (λ (row : WrittenRow). has_wrong_cells row.cells) shape.left.rows ≡ false = left in
+    let each : All (λ (row : WrittenRow). IsWrittenWell row.cells) shape.left.rows =
+    λ k d within. (some k d within, none_passes (λ (row : WrittenRow). has_wrong_cells row.cells) shape.left.rows right k d within) in
+    All-mapped IsWholeRow (λ (rows : List (List Token) × List (List Token)). IsWrittenWell rows.0) (λ rows. row_of_cells (paired_cells rows)) (paired_rows shape)
+    (λ rows h. row-whole rows.0 rows.1 h.0 h.1)
+    (beside-left IsWrittenWell (map (λ (row : WrittenRow). row.cells) shape.left.rows) (map (λ (row : WrittenRow). row.cells) shape.right.rows)
+    (All-map IsWrittenWell (λ (row : WrittenRow). row.cells) shape.left.rows each))
 
 -- lines --------------------------------------------------------------------------------------------------------------------
 
--- a rule has the rows of its shape
+-- a rule has the rows of its shape, whose left has a cell or more in each
 abbrev IsReadForm : LineForm → Type 0
 IsReadForm StartForm = ⊤
 IsReadForm EndForm = ⊤
-IsReadForm (RuleForm shape rule) = rule.rows ≡ rows_of shape
+IsReadForm (RuleForm shape rule) = (rule.rows ≡ rows_of shape) × IsLeftWithCells shape
 IsReadForm NoForm = ⊤
 
-form_of_shape-read : (line : Line) (shape : Option RuleShape) → IsReadForm (form_of_shape line shape)
-form_of_shape-read line None = tt
-form_of_shape-read line (Some shape) = refl
+form_of_shape-read : (line : Line) (shape : Option RuleShape) → IfSome shape IsLeftWithCells → IsReadForm (form_of_shape line shape)
+form_of_shape-read line None h = tt
+form_of_shape-read line (Some shape) h = (refl, h)
 
 form_of_words-read : (line : Line) (first : Symbol) (tokens : List Token) → IsReadForm (form_of_words line first tokens)
 form_of_words-read line StartsLoop (only ∷ []) = tt
 form_of_words-read line EndsLoop (only ∷ []) = tt
-form_of_words-read line first tokens = form_of_shape-read line (shape_of tokens)
+form_of_words-read line first tokens = form_of_shape-read line (shape_of tokens) (shape_of-cells tokens)
 
 form_of-read : (line : Line) (tokens : List Token) → IsReadForm (form_of line tokens)
 form_of-read line [] = tt
@@ -125,32 +200,32 @@ no_bad_ellipsis above line shape rule e =
     (none-behind (when (has_unknown_word shape) UnknownWord line) _
     (none-behind (when (has_bad_bracket shape) BadBracket line) _ e))))))))))
 
-form-short : (above : Above) (line : ℕ) (form : LineForm) → IsReadForm form → faults_of_form above line form ≡ [] → IfSome (line_of_form form) IsShortLine
-form-short above line StartForm h e = tt
-form-short above line EndForm h e = tt
-form-short above line (RuleForm shape rule) h e =
-    subst (λ (rows : List (List (List CellPair))). All IsShort rows) (sym h) (rows-short shape (no_bad_ellipsis above line shape rule e))
-form-short above line NoForm h e = tt
+form-whole : (above : Above) (line : ℕ) (form : LineForm) → IsReadForm form → faults_of_form above line form ≡ [] → IfSome (line_of_form form) IsWholeLine
+form-whole above line StartForm h e = tt
+form-whole above line EndForm h e = tt
+form-whole above line (RuleForm shape rule) h e =
+    subst (λ (rows : List (List (List CellPair))). All IsWholeRow rows) (sym h.0) (rows-whole shape h.1 (no_bad_ellipsis above line shape rule e))
+form-whole above line NoForm h e = tt
 
 -- one more line
-onto-short : (line : Option RuleLine) (lines : List RuleLine) → IfSome line IsShortLine → All IsShortLine lines → All IsShortLine (cons_option line lines)
-onto-short None lines h all = all
-onto-short (Some line) lines h all = All-cons IsShortLine line lines h all
+onto-whole : (line : Option RuleLine) (lines : List RuleLine) → IfSome line IsWholeLine → All IsWholeLine lines → All IsWholeLine (cons_option line lines)
+onto-whole None lines h all = all
+onto-whole (Some line) lines h all = All-cons IsWholeLine line lines h all
 
-lines-short : (names : Names) (above : Above) (lines : List Line) → faults_below names above lines ≡ [] →
-    All IsShortLine (filter_map (λ line. line_of_form (form_of line (tokens_kept (tokens_of names line)))) lines)
-lines-short names above [] e = All-nil IsShortLine
-lines-short names above (line ∷ lines) e =
+lines-whole : (names : Names) (above : Above) (lines : List Line) → faults_below names above lines ≡ [] →
+    All IsWholeLine (filter_map (λ line. line_of_form (form_of line (tokens_kept (tokens_of names line)))) lines)
+lines-whole names above [] e = All-nil IsWholeLine
+lines-whole names above (line ∷ lines) e =
     let tokens : List Token = tokens_of names line in
     let form : LineForm = form_of line (tokens_kept tokens) in
     let here : List Fault = faults_of_line above line.number tokens form in
     let below : List Fault = faults_below names (above_next above line.number form) lines in
-    onto-short (line_of_form form) _
-    (form-short above line.number form (form_of-read line (tokens_kept tokens)) (none-before (faults_of_form above line.number form) _ (none-before here below e)))
-    (lines-short names (above_next above line.number form) lines (none-behind here below e))
+    onto-whole (line_of_form form) _
+    (form-whole above line.number form (form_of-read line (tokens_kept tokens)) (none-before (faults_of_form above line.number form) _ (none-before here below e)))
+    (lines-whole names (above_next above line.number form) lines (none-behind here below e))
 
-pub rules_read-short : RulesReadAreShort
-rules_read-short names lines e = lines-short names nothing_above (lines_with_words lines) e
+pub rules_read-whole : RulesReadAreWhole
+rules_read-whole names lines e = lines-whole names nothing_above (lines_with_words lines) e
 
 -- the rules of a text's lines without faults have none
 rules_faultless : (lines : List Line) → line_faults lines ≡ [] → rule_faults (game_read lines).names (section_lines lines Rules) ≡ []
@@ -158,7 +233,7 @@ rules_faultless lines e =
     none-before (rule_faults (game_read lines).names (section_lines lines Rules)) _
     (none-behind (name_faults (header_number lines Objects) (section_lines lines Objects) (section_lines lines Legend) (section_lines lines Layers)) _ (none-behind (heading_faults lines) _ e))
 
-pub game-short : GameRulesAreShort
-game-short text read e =
-    of_every_faultless (λ (made : Game). All IsShortLine made.rules)
-    (λ lines none. rules_read-short (game_read lines).names (section_lines lines Rules) (rules_faultless lines none)) text read e
+pub game-whole : GameRulesAreWhole
+game-whole text read e =
+    of_every_faultless (λ (made : Game). All IsWholeLine made.rules)
+    (λ lines none. rules_read-whole (game_read lines).names (section_lines lines Rules) (rules_faultless lines none)) text read e

@@ -1,7 +1,7 @@
 -- Rules that are read speak of objects of the game alone: a word of a line that is a name stands for objects of the
 -- game, and the shape and the tree of a rule are made of the words of its line.
 use Rattle.std.proofs.Common.{◌≡◌, ℕ, Bool, true, false, not, Option, Some, None, List, [], ◌∷◌, map, refl}
-use Rattle.std.specs.Prelude.{All, IfSome, ⊤, unwrap_or, slice_range, codes, option_map}
+use Rattle.std.specs.Prelude.{All, IfSome, ⊤, unwrap_or, slice_range, codes}
 use Rattle.std.specs.List.{slice_split}
 use Rattle.std.specs.Str.{bytes_eq}
 use Rattle.std.specs.Map.{lookup}
@@ -20,7 +20,7 @@ use Rattle.ps_model.specs.rules.RuleTree.{named_item, items_behind, is_gap, pair
 use Rattle.ps_model.specs.rules.RuleLines.{LineForm, StartForm, EndForm, RuleForm, NoForm, form_of_shape, form_of_words, form_of, line_of_form, lines_with_words}
 use Rattle.ps_model.specs.meaning.GameRules.{IsItemOf, IsPairOf, IsRuleOf, IsLineOf}
 use Rattle.ps_laws.specs.GamesOfTexts.{RulesReadAreOfNames}
-use Rattle.ps_laws.proofs.common.OptionalSteps.{step-each, only_if-each}
+use Rattle.ps_laws.proofs.common.OptionalSteps.{step-each, only_if-each, all_there-each}
 use Rattle.ps_laws.proofs.common.Everywhere.{either_one, All-always, All-mapped, All-filter_map, All-slice_split}
 
 -- words ------------------------------------------------------------------------------------------------------------------
@@ -75,16 +75,6 @@ tokens_kept-game : (names : Names) (tokens : List Token) → All (IsTokenOf name
 tokens_kept-game names tokens all = All-filter (λ (token : Token). not (is_left_out token.symbol)) (IsTokenOf names) tokens all
 
 -- shapes -----------------------------------------------------------------------------------------------------------------
-
-one-there : {A : Type 0} (P : A → Type 0) (a : A) (others : Option (List A)) → P a → IfSome others (All P) → IfSome (option_map (λ others. a ∷ others) others) (All P)
-one-there P a None h all = tt
-one-there P a (Some others) h all = All-cons P a others h all
-
-all_there-each : {A : Type 0} (P : A → Type 0) (found : List (Option A)) → All (λ o. IfSome o P) found → IfSome (all_there found) (All P)
-all_there-each P [] all = All-nil P
-all_there-each P (None ∷ found) all = tt
-all_there-each P (Some a ∷ found) all =
-    one-there P a (all_there found) (All-head (λ (o : Option _). IfSome o P) (Some a) found all) (all_there-each P found (All-tail (λ (o : Option _). IfSome o P) (Some a) found all))
 
 -- the words of a row's cells; those of a side's rows, and of a rule's sides
 abbrev IsRowOf : Names → WrittenRow → Type 0

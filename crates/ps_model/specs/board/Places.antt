@@ -1,7 +1,7 @@
 -- The places of a row of a rule on a grid: straight lists of cells in the rule's direction, with any gap at an
 -- ellipsis, of which each fits. Horizontal directions are searched row by row from the top, each from the left;
 -- vertical ones column by column from the left, each from the top. A place is ordered by its end cell that is leftmost
--- or topmost, then by the gap.
+-- or topmost, then by the gap nearest to that end, then by the other gap.
 use Rattle.std.specs.Prelude.{ℕ, suc, ◌+◌, ◌-◌, ◌*◌, ◌/◌, ◌%◌, nat_le, Bool, true, false, Option, Some, None, List, []}
 use Rattle.std.specs.Prelude.{◌∷◌, ◌++◌, length, map, filter, take, drop, reverse, slice_get}
 use Rattle.std.specs.List.{flat_map, range_with_len}

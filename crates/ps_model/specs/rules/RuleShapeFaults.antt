@@ -123,10 +123,25 @@ ends_in_ellipsis cells =
 abbrev pub has_many_ellipses : List (List Token) → Bool
 has_many_ellipses cells = nat_lt ELLIPSIS_LIMIT (length (filter (has_kind is_ellipsis) cells))
 
--- a side has `...` with other items in a cell, first or last in a row, or too often in one
+-- among cells behind one that has `...`, or hasn't, and that cell, two neighbours both have `...`
+abbrev pub ellipses_touch_behind : Bool → List (List Token) → Bool
+ellipses_touch_behind before [] = false
+ellipses_touch_behind before (cell ∷ cells) =
+    (before && has_kind is_ellipsis cell) || ellipses_touch_behind (has_kind is_ellipsis cell) cells
+
+-- two neighbouring cells of a row both have `...`
+abbrev pub ellipses_touch : List (List Token) → Bool
+ellipses_touch cells = ellipses_touch_behind false cells
+
+-- `...` stands in cells of a row where it can't: with other items, in the first or the last cell, in two neighbours, or
+-- too often
+abbrev pub has_wrong_cells : List (List Token) → Bool
+has_wrong_cells cells =
+    list_any mixes_ellipsis cells || (ends_in_ellipsis cells || (ellipses_touch cells || has_many_ellipses cells))
+
+-- in a row of a side `...` stands where it can't
 abbrev pub has_wrong_ellipsis : WrittenSide → Bool
-has_wrong_ellipsis side =
-    list_any (λ row. list_any mixes_ellipsis row.cells || (ends_in_ellipsis row.cells || has_many_ellipses row.cells)) side.rows
+has_wrong_ellipsis side = list_any (λ row. has_wrong_cells row.cells) side.rows
 
 -- a cell has `...` on one side alone
 abbrev pub has_lone_ellipsis : List Token × List Token → Bool

@@ -1,5 +1,5 @@
 use Rattle.std.proofs.Common.{◌≡◌, drop, map}
-use Rattle.std.specs.List.{list_all, list_any}
+use Rattle.std.specs.List.{list_any}
 use Rattle.ps_program.specs.ProgramShown.{cell_shown}
 use Rattle.ps_compile.specs.IdleRules.{is_void_cell}
 use Rattle.ps_compile.proofs.idle.has_void_part.Given as goal

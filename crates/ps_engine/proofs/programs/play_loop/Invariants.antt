@@ -6,8 +6,8 @@ use Rattle.ps_engine.specs.RulesInRoom.{groups_meaning}
 use Rattle.ps_engine.proofs.programs.play_loop.Given as goal
 
 -- what is left of the loop comes to the same
-abbrev pub invariant-loop-again : goal.invariant-loop-again
-invariant-loop-again g l =
+abbrev pub invariant-loop-repeats : goal.invariant-loop-repeats
+invariant-loop-repeats g l =
     let before : State = record { grid = g.B.Board.grid l.fn.board; queue = l.fn.queue } in
     let now : State = record { grid = g.B.Board.grid l.board; queue = l.queue } in
     let table = g.B.Board.table l.fn.board in
@@ -18,5 +18,5 @@ invariant-loop-again g l =
     }
 
 -- the repeats that are left
-abbrev pub decreases-loop-again : goal.decreases-loop-again
-decreases-loop-again g l = l.left
+abbrev pub decreases-loop-repeats : goal.decreases-loop-repeats
+decreases-loop-repeats g l = l.left

@@ -22,15 +22,15 @@ loop-round-preserved g c =
     let table : Option (List ℕ) = g.B.Board.table c.args.board.now in
     let meant : List RuleMeaning = rules_meaning table c.args.rules.now in
     let now : State = record { grid = g.B.Board.grid c.loop-round.board; queue = c.loop-round.queue } in
-    let next : State = record { grid = g.B.Board.grid c.round.new.board; queue = c.round.new.queue } in
-    let on : c.in_ok-again.again ≡ true = search rules in
+    let next : State = record { grid = g.B.Board.grid c.round-again.new.board; queue = c.round-again.new.queue } in
+    let on : c.round-again.result ≡ true = search rules in
     let made : (let r : Result = record { state = next; changed = true } in r) ≡ round meant now =
     ap (λ (b : Bool). let r : Result = record { state = next; changed = b } in r) (sym on)
-    ∙ c.in_ok-again.ensures.round ∙ ap (λ (t : Option (List ℕ)). round (rules_meaning t c.args.rules.now) now) c.loop-round.invariant.table in
+    ∙ c.round-again.ensures.round ∙ ap (λ (t : Option (List ℕ)). round (rules_meaning t c.args.rules.now) now) c.loop-round.invariant.table in
     record {
       group = settled_on meant (ROUND_LIMIT - c.loop-round._round) (ROUND_LIMIT - (c.loop-round._round + 1)) c.loop-round.changed now next (omega arith) made ∙ c.loop-round.invariant.group;
-      table = c.round.ensures.table ∙ c.loop-round.invariant.table;
-      sides = c.round.ensures.sides ∙ c.loop-round.invariant.sides;
+      table = c.round-again.ensures.table ∙ c.loop-round.invariant.table;
+      sides = c.round-again.ensures.sides ∙ c.loop-round.invariant.sides;
     }
 
 pub returns-then-not-again-clause-group : goal.returns-then-not-again-clause-group
@@ -38,11 +38,11 @@ returns-then-not-again-clause-group g c =
     let table : Option (List ℕ) = g.B.Board.table c.args.board.now in
     let meant : List RuleMeaning = rules_meaning table c.args.rules.now in
     let now : State = record { grid = g.B.Board.grid c.loop-round.board; queue = c.loop-round.queue } in
-    let next : State = record { grid = g.B.Board.grid c.round.new.board; queue = c.round.new.queue } in
-    let off : c.in_ok-again.again ≡ false = search rules in
+    let next : State = record { grid = g.B.Board.grid c.round-again.new.board; queue = c.round-again.new.queue } in
+    let off : c.round-again.result ≡ false = search rules in
     let made : (let r : Result = record { state = next; changed = false } in r) ≡ round meant now =
     ap (λ (b : Bool). let r : Result = record { state = next; changed = b } in r) (sym off)
-    ∙ c.in_ok-again.ensures.round ∙ ap (λ (t : Option (List ℕ)). round (rules_meaning t c.args.rules.now) now) c.loop-round.invariant.table in
+    ∙ c.round-again.ensures.round ∙ ap (λ (t : Option (List ℕ)). round (rules_meaning t c.args.rules.now) now) c.loop-round.invariant.table in
     settled_off meant (ROUND_LIMIT - c.loop-round._round) (ROUND_LIMIT - (c.loop-round._round + 1)) c.loop-round.changed now next (omega arith) made ∙ c.loop-round.invariant.group
 
 pub returns-clause-group : goal.returns-clause-group

@@ -1,12 +1,17 @@
-use Rattle.std.proofs.Common.{◌≡◌, ◌++◌, length, drop, replicate}
-use Rattle.ps_engine.specs.Choices.{next_choice, next_choice_from}
-use Rattle.ps_engine.specs.RulesInRoom.{all_places}
-use Rattle.ps_engine.proofs.Odometer.{starting_again}
+use Rattle.std.proofs.Common.{◌≡◌}
+use Rattle.ps_model.specs.board.Attempts.{all_fit}
+use Rattle.ps_places.specs.Ways.{from_first}
+use Rattle.ps_engine.specs.Choices.{behind_from, choices_of}
+use Rattle.ps_engine.specs.Choosing.{AreLeft, HaveStartsOf, rows_meaning}
 use Rattle.ps_engine.proofs.walking.advance.Given as goal
 
--- the numbers passed by start again
+-- no row passed by has a next place
 abbrev pub invariant-loop-number : goal.invariant-loop-number
-invariant-loop-number l = record {
-  choice : l.choice ≡ replicate l.number 0 ++ drop l.number l.fn.choice;
-  next : next_choice_from l.first (all_places l.rows) l.fn.choice ≡ starting_again l.number (next_choice (all_places (drop l.number l.rows)) (drop l.number l.fn.choice));
-}
+invariant-loop-number g l =
+    let fits = all_fit (g.B.Board.grid l.board) (rows_meaning (g.B.Board.table l.board) l.rows) in
+    let choices = choices_of (g.B.Board.grid l.board).height l.rows l.fn.rooms in
+    record {
+      passed : from_first fits (behind_from l.first choices) ≡ from_first fits (behind_from l.number choices);
+      same : HaveStartsOf l.fn.rooms l.rooms;
+      left : AreLeft l.fn.rooms l.rooms l.number;
+    }

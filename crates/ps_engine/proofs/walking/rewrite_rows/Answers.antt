@@ -1,27 +1,49 @@
-use Rattle.std.proofs.Common.{◌≡◌, ◌∙◌, ℕ, ◌+◌, ◌<◌, List, Option, length, get_or, sym, ap, refl}
+use Rattle.std.proofs.Common.{◌≡◌, ◌∙◌, ℕ, ◌+◌, ◌<◌, false, List, Option, length, refl, sym, ap, ap₂, arith, rules}
+use Rattle.std.proofs.lemmas.Bool.Decides.{nat_tests}
+use Rattle.std.proofs.lemmas.Option.{slice_get_read}
 use Rattle.ps_model.specs.board.Attempts.{Rewritten, rewritten_along}
-use Rattle.ps_places.specs.Stretches.{cells_of}
-use Rattle.ps_places.specs.RowMeanings.{meanings_of}
-use Rattle.ps_engine.proofs.RowByRow.{rewritten_on, rewritten_more, is_within, long_choice}
+use Rattle.ps_places.specs.RowPlaces.{cells_meaning, place_at}
+use Rattle.ps_engine.proofs.Rewriting.{rewritten_from, rewritten_more, same_height}
 use Rattle.ps_engine.proofs.walking.rewrite_rows.Goals as goal
+
+pub loop-number-init : goal.loop-number-init
+loop-number-init g c =
+    let table : Option (List ℕ) = g.B.Board.table c.args.board.now in
+    let height : ℕ = (g.B.Board.grid c.args.board.now).height in
+    let row = c.index-rows-0.result in
+    let room = c.index-rooms-0.result in
+    let before : Rewritten = record { grid = g.B.Board.grid c.args.board.now; changed = c.args.changed } in
+    let filled : c.is_empty.result ≡ false = search rules in
+    let some : 0 < length c.args.rows.now = grind (arith, nat_tests, c.is_empty.ensures, filled) in
+    record {
+      rewritten =
+          ap (rewritten_from table height c.args.rows.now c.args.rooms.now 1) c.rewrite_fitting-any.ensures.rewritten
+          ∙ sym (rewritten_more table height 0 1 c.args.rows.now c.args.rooms.now row room before
+          (slice_get_read c.args.rows.now _ 0 row refl some c.index-rows-0.is)
+          (slice_get_read c.args.rooms.now _ 0 room refl (omega (arith, some, c.requires.long)) c.index-rooms-0.is) refl);
+      table = c.rewrite_fitting-any.ensures.table;
+      sides = c.rewrite_fitting-any.ensures.sides;
+    }
 
 pub loop-number-preserved : goal.loop-number-preserved
 loop-number-preserved g c =
     let n : ℕ = c.loop-number.number in
-    let k : ℕ = get_or c.args.choice.now n 0 in
     let table : Option (List ℕ) = g.B.Board.table c.args.board.now in
+    let height : ℕ = (g.B.Board.grid c.args.board.now).height in
     let row = c.index-rows-number.result in
+    let room = c.index-rooms-number.result in
     let before : Rewritten = record { grid = g.B.Board.grid c.loop-number.board; changed = c.loop-number.any } in
-    let after : Rewritten = record { grid = g.B.Board.grid c.rewrite_place-any.new.board; changed = c.rewrite_place-any.result } in
-    let low : n < length c.args.choice.now = rw (long_choice c.args.rows.now c.args.choice.now c.requires) c.loop-number-test.true in
-    let wrote : after ≡ rewritten_along before (meanings_of table row.parts.now) (cells_of row.shape c.index.result.now) =
-    c.rewrite_place-any.ensures.rewritten ∙ ap (λ (t : Option (List ℕ)). rewritten_along before (meanings_of t row.parts.now) (cells_of row.shape c.index.result.now)) c.loop-number.invariant.table in
+    let after : Rewritten = record { grid = g.B.Board.grid c.rewrite-any.new.board; changed = c.rewrite-any.result } in
+    let high : before.grid.height ≡ height = same_height before.grid (g.B.Board.grid c.args.board.now) c.loop-number.invariant.sides in
+    let wrote : after ≡ rewritten_along before (cells_meaning table row.parts) (place_at height row room) =
+    c.rewrite-any.ensures.rewritten ∙ ap₂ (λ (t : Option (List ℕ)) (h : ℕ). rewritten_along before (cells_meaning t row.parts) (place_at h row room)) c.loop-number.invariant.table high in
     record {
       rewritten =
-          ap (λ (r : Rewritten). rewritten_on r table c.args.rows.now c.args.choice.now (n + 1)) wrote
-          ∙ sym (rewritten_more c.args.rows.now c.args.choice.now n k row c.index.result.now before table c.loop-number-test.true c.index-rows-number.is low refl
-          (is_within c.args.rows.now c.args.choice.now n row c.requires c.loop-number-test.true c.index-rows-number.is) c.index.ensures)
+          ap (rewritten_from table height c.args.rows.now c.args.rooms.now (n + 1)) wrote
+          ∙ sym (rewritten_more table height n (n + 1) c.args.rows.now c.args.rooms.now row room before
+          (slice_get_read c.args.rows.now _ n row refl c.loop-number-test.true c.index-rows-number.is)
+          (slice_get_read c.args.rooms.now _ n room refl (omega (arith, c.loop-number-test.true, c.requires.long)) c.index-rooms-number.is) (omega arith))
           ∙ c.loop-number.invariant.rewritten;
-      table = c.rewrite_place-any.ensures.table ∙ c.loop-number.invariant.table;
-      sides = c.rewrite_place-any.ensures.sides ∙ c.loop-number.invariant.sides;
+      table = c.rewrite-any.ensures.table ∙ c.loop-number.invariant.table;
+      sides = c.rewrite-any.ensures.sides ∙ c.loop-number.invariant.sides;
     }

@@ -1,9 +1,9 @@
 use Rattle.std.proofs.Common.{◌≡◌}
 use Rattle.ps_match.specs.InRoom.{sides_of}
 use Rattle.ps_model.specs.board.Attempts.{Rewritten, rewritten_rows}
-use Rattle.ps_engine.specs.Choices.{chosen}
-use Rattle.ps_engine.specs.RulesInRoom.{rows_found, all_places}
-use Rattle.ps_engine.proofs.RowByRow.{rewritten_on}
+use Rattle.ps_engine.specs.Choices.{chosen, choices_of}
+use Rattle.ps_engine.specs.Choosing.{rows_meaning}
+use Rattle.ps_engine.proofs.Rewriting.{rewritten_from}
 use Rattle.ps_engine.proofs.walking.rewrite_rows.Given as goal
 
 -- the rows passed by are rewritten
@@ -12,8 +12,9 @@ invariant-loop-number g l =
     let before : Rewritten = record { grid = g.B.Board.grid l.fn.board; changed = l.fn.changed } in
     let now : Rewritten = record { grid = g.B.Board.grid l.board; changed = l.any } in
     let table = g.B.Board.table l.fn.board in
+    let height = (g.B.Board.grid l.fn.board).height in
     record {
-      rewritten : rewritten_on now table l.rows l.choice l.number ≡ rewritten_rows before (rows_found table l.rows) (chosen (all_places l.rows) l.choice);
+      rewritten : rewritten_from table height l.rows l.rooms l.number now ≡ rewritten_rows before (rows_meaning table l.rows) (chosen (choices_of height l.rows l.rooms));
       table : g.B.Board.table l.board ≡ table;
       sides : sides_of (g.B.Board.grid l.board) ≡ sides_of (g.B.Board.grid l.fn.board);
     }

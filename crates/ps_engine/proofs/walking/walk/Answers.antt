@@ -1,27 +1,83 @@
-use Rattle.std.proofs.Common.{◌≡◌, ◌∙◌, ℕ, ◌∷◌, false, List, length, replicate, fold, sym, ap, subst, rules}
-use Rattle.std.proofs.lemmas.List.{length-map}
-use Rattle.std.proofs.lemmas.Grind.{common_steps}
-use Rattle.ps_model.specs.board.Attempts.{Rewritten, applied}
-use Rattle.ps_places.specs.Found.{places_shown}
-use Rattle.ps_engine.specs.Choices.{IsChoice, chosen, behind}
-use Rattle.ps_engine.specs.RulesInRoom.{rows_found, all_places}
-use Rattle.ps_engine.proofs.Combinations.{IsChoice-first, all_combinations}
-use Rattle.ps_engine.proofs.RowByRow.{some_places}
+use Rattle.std.proofs.Common.{◌≡◌, ◌∙◌, ℕ, ◌<◌, ◌≤◌, Bool, Option, List, [], ◌∷◌, false, true, fold, length, sym, subst, ap, arith, rules}
+use Rattle.ps_model.specs.board.Grid.{Grid}
+use Rattle.ps_model.specs.board.Attempts.{Rewritten, all_fit, applied, rewritten_rows}
+use Rattle.ps_places.specs.Ways.{from_first}
+use Rattle.ps_engine.specs.Choices.{Choice, behind, behind_from, choices_of, chosen}
+use Rattle.ps_engine.specs.Choosing.{rows_meaning}
+use Rattle.ps_engine.proofs.Rewriting.{same_height, turn}
+use Rattle.ps_engine.proofs.RoomsChanged.{lines_there, placed_there}
+use Rattle.ps_engine.proofs.Sought.{no_more}
 use Rattle.ps_engine.proofs.walking.walk.Goals as goal
 
-pub walk_from-requires : goal.walk_from-requires
-walk_from-requires g c =
-    let places : List (List (List ℕ)) = all_places c.args.rows.now in
-    let made : c.in_ok-choice.choice.items ≡ replicate (length c.args.rows.now) 0 = search (rules, common_steps) in
-    let first : c.as_mut_slice.result.now ≡ replicate (length places) 0 = c.as_mut_slice.ensures.value ∙ made ∙ ap (λ (n : ℕ). replicate n 0) (sym (length-map c.args.rows.now places_shown)) in
-    subst (λ (ns : List ℕ). IsChoice places ns) (sym first) (IsChoice-first places (some_places c.args.rows.now))
+pub go_on-requires-clause-lines : goal.go_on-requires-clause-lines
+go_on-requires-clause-lines g c =
+    lines_there (g.B.Board.grid c.rewrite_rows-changed.new.board) (g.B.Board.grid c.loop-sleeps.board) c.args.rows.now c.loop-sleeps.rooms c.rewrite_rows-changed.ensures.sides c.loop-sleeps.invariant.lines
 
-pub returns-clause-rewritten : goal.returns-clause-rewritten
-returns-clause-rewritten g c =
-    let places : List (List (List ℕ)) = all_places c.args.rows.now in
-    let before : Rewritten = record { grid = g.B.Board.grid c.args.board.now; changed = false } in
-    let made : c.in_ok-choice.choice.items ≡ replicate (length c.args.rows.now) 0 = search (rules, common_steps) in
-    let first : c.as_mut_slice.result.now ≡ replicate (length places) 0 = c.as_mut_slice.ensures.value ∙ made ∙ ap (λ (n : ℕ). replicate n 0) (sym (length-map c.args.rows.now places_shown)) in
-    c.walk_from.ensures.rewritten
-    ∙ ap (λ (ns : List ℕ). fold (applied (rows_found (g.B.Board.table c.args.board.now) c.args.rows.now)) before (chosen places ns ∷ behind places ns)) first
-    ∙ ap (fold (applied (rows_found (g.B.Board.table c.args.board.now) c.args.rows.now)) before) (sym (all_combinations places (some_places c.args.rows.now)))
+pub go_on-requires-clause-places : goal.go_on-requires-clause-places
+go_on-requires-clause-places g c =
+    placed_there (g.B.Board.grid c.rewrite_rows-changed.new.board) (g.B.Board.grid c.loop-sleeps.board) c.args.rows.now c.loop-sleeps.rooms c.rewrite_rows-changed.ensures.sides c.loop-sleeps.invariant.places
+
+pub returns-then-not-go_on-clause-rewritten : goal.returns-then-not-go_on-clause-rewritten
+returns-then-not-go_on-clause-rewritten g c =
+    let table : Option (List ℕ) = g.B.Board.table c.args.board.now in
+    let other : Option (List ℕ) = g.B.Board.table c.rewrite_rows-changed.new.board in
+    let before : Rewritten = record { grid = g.B.Board.grid c.loop-sleeps.board; changed = c.loop-sleeps.changed } in
+    let after : Rewritten = record { grid = g.B.Board.grid c.rewrite_rows-changed.new.board; changed = c.rewrite_rows-changed.result } in
+    let e : other ≡ table = c.rewrite_rows-changed.ensures.table ∙ c.loop-sleeps.invariant.table in
+    let d : after.grid.height ≡ before.grid.height = same_height after.grid before.grid c.rewrite_rows-changed.ensures.sides in
+    let made : after ≡ rewritten_rows before (rows_meaning table c.args.rows.now) (chosen (choices_of before.grid.height c.args.rows.now c.loop-sleeps.rooms)) =
+    c.rewrite_rows-changed.ensures.rewritten
+    ∙ ap (λ (t : Option (List ℕ)). rewritten_rows before (rows_meaning t c.args.rows.now) (chosen (choices_of before.grid.height c.args.rows.now c.loop-sleeps.rooms))) c.loop-sleeps.invariant.table in
+    let no : c.go_on.result ≡ false = search rules in
+    turn c.args.rows.now c.loop-sleeps.rooms table other before.grid.height after.grid.height before after [] e d c.loop-sleeps.invariant.fit made (c.slowest_unfit-first.ensures.passed ∙ c.go_on.ensures.none no)
+    ∙ c.loop-sleeps.invariant.rewritten
+
+pub loop-sleeps-smaller : goal.loop-sleeps-smaller
+loop-sleeps-smaller g c =
+    let rows = c.args.rows.now in
+    let before : Grid = g.B.Board.grid c.loop-sleeps.board in
+    let after : Grid = g.B.Board.grid c.rewrite_rows-changed.new.board in
+    let d : after.height ≡ before.height = same_height after before c.rewrite_rows-changed.ensures.sides in
+    let next : List Choice = choices_of after.height rows c.go_on.new.rooms in
+    let all : List (List (List ℕ)) = behind (choices_of after.height rows c.loop-sleeps.rooms) in
+    let fits : List (List ℕ) → Bool = all_fit after (rows_meaning (g.B.Board.table c.rewrite_rows-changed.new.board) rows) in
+    let yes : c.go_on.result ≡ true = search rules in
+    let most : length (from_first fits all) ≤ length all = no_more fits all in
+    let left : List (List (List ℕ)) = from_first fits (behind_from c.slowest_unfit-first.result (choices_of after.height rows c.loop-sleeps.rooms)) in
+    let fewer : length (behind next) < length left = c.go_on.ensures.fewer yes in
+    let same : length (from_first fits all) ≡ length left = ap length c.slowest_unfit-first.ensures.passed in
+    let less : length (behind next) < length all = omega (arith, most, fewer, same) in
+    subst (λ (h : ℕ). length (behind next) < length (behind (choices_of h rows c.loop-sleeps.rooms))) d less
+
+pub loop-sleeps-preserved : goal.loop-sleeps-preserved
+loop-sleeps-preserved g c =
+    let rows = c.args.rows.now in
+    let table : Option (List ℕ) = g.B.Board.table c.args.board.now in
+    let other : Option (List ℕ) = g.B.Board.table c.rewrite_rows-changed.new.board in
+    let before : Rewritten = record { grid = g.B.Board.grid c.loop-sleeps.board; changed = c.loop-sleeps.changed } in
+    let after : Rewritten = record { grid = g.B.Board.grid c.rewrite_rows-changed.new.board; changed = c.rewrite_rows-changed.result } in
+    let e : other ≡ table = c.rewrite_rows-changed.ensures.table ∙ c.loop-sleeps.invariant.table in
+    let d : after.grid.height ≡ before.grid.height = same_height after.grid before.grid c.rewrite_rows-changed.ensures.sides in
+    let made : after ≡ rewritten_rows before (rows_meaning table rows) (chosen (choices_of before.grid.height rows c.loop-sleeps.rooms)) =
+    c.rewrite_rows-changed.ensures.rewritten
+    ∙ ap (λ (t : Option (List ℕ)). rewritten_rows before (rows_meaning t rows) (chosen (choices_of before.grid.height rows c.loop-sleeps.rooms))) c.loop-sleeps.invariant.table in
+    let yes : c.go_on.result ≡ true = search rules in
+    let next : List Choice = choices_of after.grid.height rows c.go_on.new.rooms in
+    let left : List (List (List ℕ)) =
+    from_first (all_fit after.grid (rows_meaning other rows)) (behind_from c.slowest_unfit-first.result (choices_of after.grid.height rows c.loop-sleeps.rooms)) in
+    record {
+      long = c.go_on.ensures.long ∙ c.loop-sleeps.invariant.long;
+      lines = c.go_on.ensures.lines;
+      places = c.go_on.ensures.places yes;
+      fit =
+          ap (λ (t : Option (List ℕ)). all_fit after.grid (rows_meaning t rows) (chosen next)) (sym e)
+          ∙ c.go_on.ensures.fit yes;
+      rewritten =
+          ap (λ (t : Option (List ℕ)). fold (applied (rows_meaning t rows)) after (chosen next ∷ behind next)) (sym e)
+          ∙ c.go_on.ensures.same yes after.changed
+          ∙ ap (λ (t : Option (List ℕ)). fold (applied (rows_meaning t rows)) after left) e
+          ∙ turn rows c.loop-sleeps.rooms table other before.grid.height after.grid.height before after left e d c.loop-sleeps.invariant.fit made c.slowest_unfit-first.ensures.passed
+          ∙ c.loop-sleeps.invariant.rewritten;
+      table = e;
+      sides = c.rewrite_rows-changed.ensures.sides ∙ c.loop-sleeps.invariant.sides;
+    }

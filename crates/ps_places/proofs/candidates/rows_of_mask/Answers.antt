@@ -7,12 +7,14 @@ use Rattle.ps_places.proofs.OnlyOn.{mask-init, mask-more, motion-more}
 use Rattle.ps_places.proofs.candidates.rows_of_mask.Goals as goal
 
 pub loop-object-init : goal.loop-object-init
-loop-object-init g c = mask-init (g.B.Board.grid c.args.board.now) c.args.mask.now c.below-rows.result c.size-width.ensures.shape c.below-rows.ensures
+loop-object-init g c = mask-init (g.B.Board.grid c.args.board.now)
+    c.args.mask.now c.below-rows.result c.size-width.ensures.shape c.below-rows.ensures
 
 pub loop-object-preserved : goal.loop-object-preserved
 loop-object-preserved g c =
     mask-more (g.B.Board.grid c.args.board.now) c.args.mask.now _ c.loop-object.object-index c.loop-object.rows c.rows_with-having.result c.both-rows.result c.size-width.ensures.shape
-    (ap (λ (objects : List LayeredObject). slice_get objects c.loop-object.object-index) (sym c.as_slice-object-items.ensures)
+    (ap (λ (objects : List LayeredObject). slice_get objects c.loop-object.object-index)
+    (sym c.as_slice-object-items.ensures)
     ∙ slice_get-get_or c.as_slice-object-items.result.now c.loop-object.object-index _ c.loop-object-test.true)
     c.rows_with-having.ensures c.both-rows.ensures c.loop-object.invariant
 

@@ -1,9 +1,5 @@
 use Rattle.ps_rulebook.proofs.LentPrograms.{rules-play_as_written}
 use Rattle.ps_rulebook.proofs.programs.rules_of.Goals as goal
 
-pub returns : goal.returns
-returns c = record {
-  plain = c.new.ensures;
-  late = c.new-2.ensures;
-  played = λ names lines compiled. rules-play_as_written names lines _ _ _ _ c.new.ensures c.new-2.ensures compiled;
-}
+pub returns-clause-played : goal.returns-clause-played
+returns-clause-played c = λ names lines compiled. rules-play_as_written names lines _ _ _ _ c.in_ok-try_new.ensures c.in_ok-try_new-2.ensures compiled

@@ -1,4 +1,4 @@
-use Rattle.std.proofs.Common.{rules, arith, ◌≡◌, ◌∙◌, ◌++◌, ◌+◌, ℕ, Some, List, ap, sym, refl}
+use Rattle.std.proofs.Common.{rules, arith, ◌≡◌, ◌∙◌, ◌++◌, ◌+◌, ℕ, Some, None, List, ap, sym, refl}
 use Rattle.ps_model.specs.declared.faults.Fault.{Fault as TheFault}
 use Rattle.ps_model.specs.text.Faults.{first_fault}
 use Rattle.ps_model.specs.text.LineNumbers.{lines_between}
@@ -11,6 +11,7 @@ use Rattle.ps_model.specs.declared.refusal.Refusal.{Refusal}
 use Rattle.ps_model.specs.declared.refusal.Refusal.TheVariants.{Refused}
 use Rattle.ps_laws.proofs.common.LinesInOrder.{between-step}
 use Rattle.ps_rules.proofs.LineSteps.{refused-step}
+use Rattle.ps_rules.proofs.WholeLines.{made-whole}
 use Rattle.ps_rules.proofs.read.read_rules.Goals as goal
 
 pub returns-in_err-above : goal.returns-in_err-above
@@ -39,3 +40,9 @@ loop-line-preserved c =
       c.in_ok-above.ensures.fine rest
           ∙ ap (λ (xs : List Line). faults_below c.args.names.now (above_shown c.loop-line.above) (lines_with_words xs)) (sym step) ∙ c.loop-line.invariant.1,
     )
+
+pub invariant_of-result : goal.invariant_of-result
+invariant_of-result c =
+    let closed : c.loop-line.above.start ≡ None = search rules in
+    made-whole c.args.source.now c.args.names.now c.args.lines.start c.loop-line.line c.args.lines.end (above_shown c.loop-line.above) (lines_shown c.loop-line.made.items)
+    (omega arith) closed c.loop-line.invariant.0 c.loop-line.invariant.1

@@ -6,7 +6,7 @@ use Rattle.ps_levels.specs.WinsShown.{wins_shown}
 use Rattle.ps_stage.specs.Standings.{SessionParts}
 use Rattle.ps_rulebook.specs.PlayedGames.{parts_of, played_by}
 use Rattle.ps_rulebook.proofs.RowRooms.{rows_give_room}
-use Rattle.ps_run.proofs.Rightly.{comes_rightly, true_of_game}
+use Rattle.ps_run.proofs.Rightly.{comes_rightly, true_of_game, wants_memory}
 use Rattle.ps_run.proofs.text_run.run_compiled.Goals as goal
 
 -- the parts of a game by their fields
@@ -15,11 +15,14 @@ same_parts :
     parts ≡ parts_of read
 same_parts parts read title options names entries wins = rw (← title, ← options, ← names, ← entries, ← wins) refl
 
+pub returns-in-Err-clause-rightly : goal.returns-in-Err-clause-rightly
+returns-in-Err-clause-rightly g c = λ text is made. wants_memory text _ _ c.requires.heard c.requires.well
+
 pub returns : goal.returns
 returns g c =
     let read : Game = c.args.game.now in
-    let plain = c.rules_of-rules.result.plain.sections.now in
-    let late = c.rules_of-rules.result.late.sections.now in
+    let plain = c.in-Ok.rules.plain.sections.now in
+    let late = c.in-Ok.rules.late.sections.now in
     let table_for : List ℕ → Option (List ℕ) = λ layers. Some layers in
     let script : Script = played_by table_for read plain late in
     let parts : c.new-parts.result ≡ parts_of read = same_parts c.new-parts.result read
@@ -30,7 +33,7 @@ returns g c =
     let comes = rw parts at c.run_game.ensures.answers in
     record {
       rightly = λ text is made.
-          comes_rightly text read script _ _ _ _ c.run_game.result is (c.rules_of-rules.ensures.played read.names read.rules made text read is refl refl table_for rows_give_room) c.requires.heard
+          comes_rightly text read script _ _ _ _ c.run_game.result is (c.in-Ok.ensures.played read.names read.rules made text read is refl refl table_for rows_give_room) c.requires.heard
           c.requires.well comes;
       true_of_text = λ text is. true_of_game text read script _ _ _ _ c.run_game.result is comes;
     }

@@ -1,0 +1,405 @@
+-- Positions of parts that go down, row by row of the board.
+use Rattle.std.proofs.Common.{◌≡◌, ◌≢◌, ◌∙◌, ℕ, ◌+◌, ◌*◌, ◌<◌, ◌≤◌, ◌&&◌, ◌||◌, ◌⊎◌, inl, inr, Bool, true, false}
+use Rattle.std.proofs.Common.{Option, List, [], ◌∷◌, length, refl, sym, ap, ap₂, arith}
+use Rattle.std.specs.Prelude.{nat_eq, nat_le, nat_lt, if◌then◌else◌, slice_set}
+use Rattle.std.proofs.Math.Bool.{and-false}
+use Rattle.std.proofs.lemmas.Bool.{cases_eq, cases_lt}
+use Rattle.std.proofs.lemmas.Bool.Decides.{nat_tests}
+use Rattle.std.proofs.lemmas.List.{get_or-set_same, get_or-set_other}
+use Rattle.ps_model.specs.declared.limits.TheConstants.{SIDE_LIMIT}
+use Rattle.ps_model.specs.board.Grid.{Grid, IsGrid}
+use Rattle.ps_program.specs.declared.cells.CompiledCell.{CompiledCell}
+use Rattle.ps_program.specs.declared.rows.Axis.TheVariants.{Down}
+use Rattle.ps_board.specs.ColumnSets.{both_columns, column_at, columns_below, either_columns, no_columns, set_columns}
+use Rattle.ps_board.specs.ColumnSets.{with_column}
+use Rattle.ps_board.proofs.ColumnLaws.{column_at-all, column_at-beyond, column_at-where, first_in, none_in}
+use Rattle.ps_board.proofs.Taken.{passed-init, taken_gone, taken_out}
+use Rattle.ps_places.specs.Candidates.{BeginsOnlyOn}
+use Rattle.ps_places.specs.FoundStarts.{AreLinesFound, BeginInSets, HasNoWay, IsLineFound, IsPartFound, IsRowAdded}
+use Rattle.ps_places.specs.FoundStarts.{begins_on, part_of, set_of, with_row}
+use Rattle.ps_places.specs.Lines.{part_fits}
+use Rattle.ps_places.specs.Starts.{AreWhere, begins_down}
+use Rattle.ps_places.proofs.PartColumns.{and_true}
+use Rattle.ps_places.proofs.LineSets.{apart, none_has, with_here, with_other}
+
+-- a row added to the sets of some columns -----------------------------------------------------------------------------------
+
+-- the columns that are left are some of them and have what they had; the others have got the row
+pub record IsAdding (old : List (List Bool)) (count number : ℕ) (columns found : List Bool) (row : ℕ)
+    (now : List (List Bool)) (left : List Bool) : Type 0 where
+  pub done : (x : ℕ) → x < SIDE_LIMIT → column_at left x ≡ false →
+      set_of now count x number ≡ with_row columns found row (set_of old count x number) x
+  pub to_do : (x : ℕ) → x < SIDE_LIMIT → column_at left x ≡ true → set_of now count x number ≡ set_of old count x number
+  pub some : (x : ℕ) → x < SIDE_LIMIT → column_at left x ≡ true → column_at columns x ≡ true
+  pub others : (x other : ℕ) → other < count → other ≢ number → set_of now count x other ≡ set_of old count x other
+
+pub adding-init : (old : List (List Bool)) (count number : ℕ) (columns found : List Bool) (row : ℕ) →
+    IsAdding old count number columns found row old columns
+adding-init old count number columns found row =
+    record {
+      done = λ x low out.
+          sym (ap (λ (b : Bool). if b then with_column
+          (if column_at found x then set_of old count x number else no_columns) row true else set_of old count x number)
+          out);
+      to_do = λ x low is. refl;
+      some = λ x low is. is;
+      others = λ x other low n. refl;
+    }
+
+not_left : (set left : List Bool) (k x : ℕ) → set_columns set ≡ k ∷ set_columns left → x < SIDE_LIMIT → x ≢ k →
+    column_at set x ≡ column_at left x
+not_left set left k x is low other =
+    let no : nat_eq x k ≡ false = grind (arith, nat_tests, other) in
+    taken_out set left k x is low ∙ ap (λ (b : Bool). b || column_at left x) no
+
+-- a place of another line or another part is another place
+pub other_place : (count x k i number : ℕ) → i < count → number < count → (x ≢ k) ⊎ (i ≢ number) →
+    x * count + i ≢ k * count + number
+other_place count x k i number low within other e = elim (cases_eq x k) [
+  | inl same ↦
+      let here : i ≡ number = let there : k * count + i ≡ k * count + number = rw (← same) (rw (← same) at e) in
+      omega arith in
+      elim other [ inl n ↦ n same | inr n ↦ n here ]
+  | inr elsewhere ↦ elim (apart count k x i low elsewhere) [
+    | inl before ↦ omega arith
+    | inr behind ↦ omega arith
+  ]
+]
+
+done_by : (old now : List (List Bool)) (count number : ℕ) (columns found left rest set : List Bool) (row k x : ℕ) →
+    k * count + number < length now → number < count → x < SIDE_LIMIT →
+    set_columns left ≡ k ∷ set_columns rest → set ≡ with_column
+    (if column_at found k then set_of now count k number else no_columns) row true →
+    IsAdding old count number columns found row now left →
+    column_at rest x ≡ false → (x ≡ k) ⊎ (x ≢ k) →
+    set_of (slice_set now (k * count + number) set) count x number
+    ≡ with_row columns found row (set_of old count x number) x
+done_by old now count number columns found left rest set row k x room within low taken is adding out (inl same) =
+    let first = first_in left k (set_columns rest) taken in
+    let in_columns : column_at columns k ≡ true = adding.some k first.1 first.0 in
+    let before : set_of now count k number ≡ set_of old count k number = adding.to_do k first.1 first.0 in
+    rw same
+    (get_or-set_same now (k * count + number) set [] room
+    ∙ is
+    ∙ ap (λ (s : List Bool). with_column (if column_at found k then s else no_columns) row true) before
+    ∙ sym (ap (λ (b : Bool). if b then with_column
+    (if column_at found k then set_of old count k number else no_columns) row true else set_of old count k number)
+    in_columns))
+done_by old now count number columns found left rest set row k x room within low taken is adding out (inr other) =
+    get_or-set_other now (k * count + number) (x * count + number) set []
+    (other_place count x k number number within within (inl other))
+    ∙ adding.done x low (not_left left rest k x taken low other ∙ out)
+
+rest_apart : (left rest : List Bool) (k x : ℕ) → set_columns left ≡ k ∷ set_columns rest → column_at rest x ≡ true →
+    x ≢ k
+rest_apart left rest k x taken is same =
+    let gone : column_at rest k ≡ false = taken_gone left rest k taken in
+    let clash : false ≡ true = sym gone ∙ ap (column_at rest) (sym same) ∙ is in cc
+
+pub adding-more : (old now : List (List Bool)) (count number : ℕ) (columns found left rest set : List Bool)
+    (row k : ℕ) → k * count + number < length now → number < count →
+    set_columns left ≡ k ∷ set_columns rest → set ≡ with_column
+    (if column_at found k then set_of now count k number else no_columns) row true →
+    IsAdding old count number columns found row now left →
+    IsAdding old count number columns found row (slice_set now (k * count + number) set) rest
+adding-more old now count number columns found left rest set row k room within taken is adding =
+    record {
+      done = λ x low out. done_by old now count number columns found left rest set row k x room within low taken is adding out (cases_eq x k);
+      to_do = λ x low in_rest.
+          let other : x ≢ k = rest_apart left rest k x taken in_rest in
+          get_or-set_other now (k * count + number) (x * count + number) set []
+          (other_place count x k number number within within (inl other))
+          ∙ adding.to_do x low (not_left left rest k x taken low other ∙ in_rest);
+      some = λ x low in_rest. adding.some x low (not_left left rest k x taken low
+          (rest_apart left rest k x taken in_rest) ∙ in_rest);
+      others = λ x other low n.
+          get_or-set_other now (k * count + number) (x * count + other) set []
+          (other_place count x k other number low within (inr n)) ∙ adding.others x other low n;
+    }
+
+pub added-all : (old now : List (List Bool)) (count number : ℕ) (columns found left : List Bool) (row : ℕ) →
+    set_columns left ≡ [] → IsAdding old count number columns found row now left →
+    IsRowAdded old count number columns found row now
+added-all old now count number columns found left row none adding =
+    record {
+      at = λ x low. adding.done x low (none_in left x none low);
+      others = adding.others;
+    }
+
+-- one part in some columns --------------------------------------------------------------------------------------------------
+
+-- the part begins in a column on a row, and the column is one of these
+abbrev pub wanted : Grid → Option (List ℕ) → List CompiledCell → List Bool → ℕ → ℕ → Bool
+wanted g table part within x y = begins_down g table part y x && column_at within x
+
+-- the row was found in the column
+abbrev pub has_found : List (List Bool) → ℕ → ℕ → List Bool → ℕ → ℕ → Bool
+has_found starts count number found x y = column_at found x && column_at (set_of starts count x number) y
+
+-- what is wanted was found, or its row is left; what was found is in these columns
+pub record IsGathering (g : Grid) (table : Option (List ℕ)) (part : List CompiledCell) (within : List Bool)
+    (count number : ℕ) (old now : List (List Bool)) (found left : List Bool) : Type 0 where
+  pub all : (x y : ℕ) → x < SIDE_LIMIT → y < SIDE_LIMIT →
+      (has_found now count number found x y || (column_at left y && wanted g table part within x y))
+      ≡ wanted g table part within x y
+  pub inside : (x : ℕ) → column_at found x ≡ true → column_at within x ≡ true
+  pub others : (x other : ℕ) → other < count → other ≢ number → set_of now count x other ≡ set_of old count x other
+
+room_by : (g : Grid) (table : Option (List ℕ)) (part : List CompiledCell) (rows : List Bool) (x y : ℕ) (room : Bool) →
+    nat_le (y + length part) g.height ≡ room → BeginsOnlyOn g table Down part rows →
+    y < g.height → column_at rows y ≡ false → (nat_lt x g.width && (room && part_fits g table Down x part y)) ≡ false
+room_by g table part rows x y true t only low out =
+    let fits : y + length part ≤ g.height = grind (arith, nat_tests) in
+    ap (λ (b : Bool). nat_lt x g.width && b) (only.at y x low (λ e. fits) out) ∙ and-false (nat_lt x g.width)
+room_by g table part rows x y false t only low out = and-false (nat_lt x g.width)
+
+below_edge : (g : Grid) (table : Option (List ℕ)) (part : List CompiledCell) (x y : ℕ) → 0 < length part →
+    g.height ≤ y → begins_down g table part y x ≡ false
+below_edge g table part x y some far =
+    let off : nat_le (y + length part) g.height ≡ false = grind (arith, nat_tests, some, far) in
+    ap (λ (b : Bool). nat_lt x g.width && (b && part_fits g table Down x part y)) off ∙ and-false (nat_lt x g.width)
+
+init_by : (left wants : Bool) → (left ≡ false → wants ≡ false) → (left && wants) ≡ wants
+init_by true wants e = refl
+init_by false wants e = sym (e refl)
+
+pub gathering-init : (g : Grid) (table : Option (List ℕ)) (part : List CompiledCell) (within : List Bool)
+    (count number : ℕ) (old : List (List Bool)) (found rows below left : List Bool) → IsGrid g →
+    0 < length part → found ≡ no_columns → below ≡ columns_below g.height → left ≡ both_columns rows below →
+    BeginsOnlyOn g table Down part rows →
+    IsGathering g table part within count number old old found left
+gathering-init g table part within count number old found rows below left grid some none b e only =
+    let passed = passed-init (λ y. (x : ℕ) → begins_down g table part y x ≡ false)
+    rows below left g.height grid.rows b e
+    (λ y low out x. room_by g table part rows x y (nat_le (y + length part) g.height) refl only low out) in
+    record {
+      all = λ x y low near.
+          ap (λ (b : Bool). (b && column_at (set_of old count x number) y) ||
+          (column_at left y && wanted g table part within x y)) (none_has found x none)
+          ∙ init_by (column_at left y) (wanted g table part within x y)
+          (λ out.
+          ap (λ (b : Bool). b && column_at within x)
+          (elim (cases_lt y g.height) [
+            | inl high ↦ passed.at y high out x
+            | inr deep ↦ below_edge g table part x y some deep
+          ]));
+      inside = λ x is. let clash : false ≡ true = sym (none_has found x none) ∙ is in absurd (cc);
+      others = λ x other low n. refl;
+    }
+
+or_false : (a : Bool) → (a || false) ≡ a
+or_false true = refl
+or_false false = refl
+
+-- one row more in one column: it is in these columns, and something was found there before
+more_by : (here found : Bool) (set : List Bool) (k y : ℕ) (left rest wants : Bool) → y < SIDE_LIMIT →
+    (y ≡ k) ⊎ (y ≢ k) → (y ≡ k → wants ≡ here) → (y ≢ k → left ≡ rest) →
+    ((found && column_at set y) || (left && wants)) ≡ wants →
+    (((found || here) && column_at (if here then with_column (if found then set else no_columns) k true else set) y) ||
+    (rest && wants)) ≡ wants
+more_by true true set k y left rest wants low (inl same) want still inv =
+    let in_set : column_at (with_column set k true) y ≡ true = ap (λ (n : ℕ). column_at (with_column set k true) n) same
+    ∙ with_here set k true (rw (← same) low) in
+    ap (λ (b : Bool). b || (rest && wants)) in_set ∙ sym (want same)
+more_by true false set k y left rest wants low (inl same) want still inv =
+    let in_set : column_at (with_column no_columns k true) y ≡ true =
+    ap (λ (n : ℕ). column_at (with_column no_columns k true) n) same ∙ with_here no_columns k true (rw (← same) low) in
+    ap (λ (b : Bool). b || (rest && wants)) in_set ∙ sym (want same)
+more_by true true set k y left rest wants low (inr other) want still inv =
+    ap₂ (λ (b c : Bool). b || (c && wants)) (with_other set k y true low other) (sym (still other)) ∙ inv
+more_by true false set k y left rest wants low (inr other) want still inv =
+    ap₂ (λ (b c : Bool). b || (c && wants)) (with_other no_columns k y true low other ∙ none_has no_columns y refl)
+    (sym (still other)) ∙ inv
+more_by false found set k y left rest wants low (inl same) want still inv =
+    let no : wants ≡ false = want same in
+    let off : ((found && column_at set y) || (left && false)) ≡ false =
+    ap (λ (b : Bool). (found && column_at set y) || (left && b)) (sym no) ∙ inv ∙ no in
+    ap₂ (λ (b c : Bool). (b && column_at set y) || (rest && c)) (or_false found) no
+    ∙ ap (λ (b : Bool). (found && column_at set y) || b) (and-false rest ∙ sym (and-false left)) ∙ off ∙ sym no
+more_by false found set k y left rest wants low (inr other) want still inv =
+    ap₂ (λ (b c : Bool). (b && column_at set y) || (c && wants)) (or_false found) (sym (still other)) ∙ inv
+
+either_at : (found columns more : List Bool) (x : ℕ) → more ≡ either_columns found columns → x < SIDE_LIMIT →
+    column_at more x ≡ (column_at found x || column_at columns x)
+either_at found columns more x e low = ap (λ (cs : List Bool). column_at cs x) e
+    ∙ column_at-where (λ y. column_at found y || column_at columns y) x low
+
+both_at : (fits within columns : List Bool) (x : ℕ) → columns ≡ both_columns fits within → x < SIDE_LIMIT →
+    column_at columns x ≡ (column_at fits x && column_at within x)
+both_at fits within columns x e low = ap (λ (cs : List Bool). column_at cs x) e
+    ∙ column_at-where (λ y. column_at fits y && column_at within y) x low
+
+inside_by : (found here : Bool) (inside : Bool) → (found ≡ true → inside ≡ true) → (here ≡ true → inside ≡ true) →
+    (found || here) ≡ true → inside ≡ true
+inside_by true here inside e d is = e refl
+inside_by false true inside e d is = d refl
+inside_by false false inside e d is = absurd (cc)
+
+second : (a b : Bool) → (a && b) ≡ true → b ≡ true
+second true b e = e
+second false b e = absurd (cc)
+
+pub gathering-more : (g : Grid) (table : Option (List ℕ)) (part : List CompiledCell) (within : List Bool)
+    (count number row : ℕ) (old now more : List (List Bool)) (found left rest fits columns found_now : List Bool) →
+    number < count → set_columns left ≡ row ∷ set_columns rest → AreWhere (begins_down g table part row) fits →
+    columns ≡ both_columns fits within → found_now ≡ either_columns found columns →
+    IsRowAdded now count number columns found row more →
+    IsGathering g table part within count number old now found left →
+    IsGathering g table part within count number old more found_now rest
+gathering-more g table part within count number row old now more found left rest fits columns found_now one taken begins c f added gathering =
+    record {
+      all = λ x y low near.
+          let here : column_at columns x ≡ wanted g table part within x row = both_at fits within columns x c low
+          ∙ ap (λ (b : Bool). b && column_at within x) (begins.at x low) in
+          let wants : Bool = wanted g table part within x y in
+          ap₂ (λ (b : Bool) (set : List Bool). (b && column_at set y) || (column_at rest y && wants))
+          (either_at found columns found_now x f low) (added.at x low)
+          ∙ more_by (column_at columns x) (column_at found x) (set_of now count x number) row y (column_at left y)
+          (column_at rest y) wants near (cases_eq y row)
+          (λ same. ap (wanted g table part within x) same ∙ sym here)
+          (λ other. not_left left rest row y taken near other)
+          (gathering.all x y low near);
+      inside = λ x is. elim (cases_lt x SIDE_LIMIT) [
+        | inl low ↦
+            inside_by (column_at found x) (column_at columns x) (column_at within x) (gathering.inside x)
+            (λ yes. second (column_at fits x) (column_at within x) (sym (both_at fits within columns x c low) ∙ yes))
+            (sym (either_at found columns found_now x f low) ∙ is)
+        | inr far ↦
+            let out : column_at found_now x ≡ false =
+            ap (λ (cs : List Bool). column_at cs x) f
+            ∙ column_at-beyond (λ y. column_at found y || column_at columns y) x far in
+            let clash : false ≡ true = sym out ∙ is in absurd (cc)
+      ];
+      others = λ x other low n. added.others x other low n ∙ gathering.others x other low n;
+    }
+
+-- no row is left
+all_found : (g : Grid) (table : Option (List ℕ)) (part : List CompiledCell) (within : List Bool) (count number : ℕ)
+    (old now : List (List Bool)) (found left : List Bool) → set_columns left ≡ [] →
+    IsGathering g table part within count number old now found left → (x y : ℕ) → x < SIDE_LIMIT → y < SIDE_LIMIT →
+    has_found now count number found x y ≡ wanted g table part within x y
+all_found g table part within count number old now found left none gathering x y low near =
+    sym (ap (λ (b : Bool). has_found now count number found x y || (b && wanted g table part within x y))
+    (none_in left y none near) ∙ or_false (has_found now count number found x y))
+    ∙ gathering.all x y low near
+
+wanted_in : (g : Grid) (table : Option (List ℕ)) (part : List CompiledCell) (within : List Bool) (x y : ℕ) →
+    column_at within x ≡ true → x < g.width →
+    wanted g table part within x y ≡ begins_on g table Down x part y
+wanted_in g table part within x y is low =
+    let across : nat_lt x g.width ≡ true = grind (arith, nat_tests, low) in
+    ap₂ (λ (a b : Bool). (a && begins_on g table Down x part y) && b) across is
+    ∙ and_true (begins_on g table Down x part y)
+
+pub gathered-down : (g : Grid) (table : Option (List ℕ)) (part : List CompiledCell) (within : List Bool)
+    (count number : ℕ) (old now : List (List Bool)) (found left : List Bool) → IsGrid g →
+    ((x : ℕ) → column_at within x ≡ true → x < g.width) → set_columns left ≡ [] →
+    IsGathering g table part within count number old now found left →
+    IsPartFound g table part within count number old now found
+gathered-down g table part within count number old now found left grid narrow none gathering =
+    record {
+      begins = λ x is.
+          let here : column_at within x ≡ true = gathering.inside x is in
+          let across : x < g.width = narrow x here in
+          record {
+            at = λ y near.
+                ap (λ (b : Bool). b && column_at (set_of now count x number) y) (sym is)
+                ∙ all_found g table part within count number old now found left none gathering x y
+                (omega (arith, across, grid.columns)) near
+                ∙ wanted_in g table part within x y here across;
+          };
+      inside = gathering.inside;
+      none = λ x here out.
+          let across : x < g.width = narrow x here in
+          record {
+            at = λ y near.
+                sym (wanted_in g table part within x y here across)
+                ∙ sym (all_found g table part within count number old now found left none gathering x y
+                (omega (arith, across, grid.columns)) near)
+                ∙ ap (λ (b : Bool). b && column_at (set_of now count x number) y) out;
+          };
+      others = gathering.others;
+    }
+
+-- the parts, one after the other --------------------------------------------------------------------------------------------
+
+below_width : (width : ℕ) (lines : List Bool) (x : ℕ) → width ≤ SIDE_LIMIT → lines ≡ columns_below width →
+    column_at lines x ≡ nat_lt x width
+below_width width lines x few e =
+    ap (λ (cs : List Bool). column_at cs x) e ∙ column_at-all (λ y. nat_lt y width) x
+    (λ far. let out : nat_lt x width ≡ false = grind (arith, nat_tests, far, few) in out)
+
+pub lines-init : (g : Grid) (table : Option (List ℕ)) (parts : List (List CompiledCell)) (starts : List (List Bool))
+    (lines : List Bool) → IsGrid g → lines ≡ columns_below g.width →
+    AreLinesFound g table Down parts starts lines 0
+lines-init g table parts starts lines grid e =
+    record {
+      each = λ x low.
+          record {
+            found = λ is. record { at = λ number few. absurd (omega arith) };
+            none = λ out.
+                let across : nat_lt x g.width ≡ true = grind (arith, nat_tests, low) in
+                let clash : true ≡ false = sym across ∙ sym (below_width g.width lines x grid.columns e) ∙ out in
+                absurd (cc);
+          };
+      below = λ x is. let across : nat_lt x g.width ≡ true = sym (below_width g.width lines x grid.columns e) ∙ is in
+          grind (arith, nat_tests, across);
+    }
+
+-- nothing is left to be found
+pub lines-none : (g : Grid) (table : Option (List ℕ)) (parts : List (List CompiledCell)) (starts : List (List Bool))
+    (lines : List Bool) (number : ℕ) → IsGrid g → set_columns lines ≡ [] →
+    AreLinesFound g table Down parts starts lines number → AreLinesFound g table Down parts starts lines (length parts)
+lines-none g table parts starts lines number grid none are =
+    record {
+      each = λ x low.
+          record {
+            found = λ is. let clash : false ≡ true = sym (none_in lines x none (omega (arith, low, grid.columns)))
+                ∙ is in absurd (cc);
+            none = (are.each x low).none;
+          };
+      below = are.below;
+    }
+
+begin_by : (g : Grid) (table : Option (List ℕ)) (parts : List (List CompiledCell)) (number x : ℕ)
+    (part : List CompiledCell) (old new : List (List Bool)) (lines found : List Bool) → number < length parts →
+    part ≡ part_of parts number → column_at found x ≡ true →
+    BeginInSets g table Down parts x (set_of old (length parts) x) number →
+    IsPartFound g table part lines (length parts) number old new found → (n : ℕ) → n < number + 1 →
+    (n ≡ number) ⊎ (n ≢ number) →
+    AreWhere (begins_on g table Down x (part_of parts n)) (set_of new (length parts) x n)
+begin_by g table parts number x part old new lines found low e is begun one n few (inl same) =
+    rw (same, ← e) (one.begins x is)
+begin_by g table parts number x part old new lines found low e is begun one n few (inr other) =
+    rw (one.others x n (omega arith) other) (begun.at n (omega arith))
+
+no_way_by : (g : Grid) (table : Option (List ℕ)) (parts : List (List CompiledCell)) (number x : ℕ)
+    (part : List CompiledCell) (old new : List (List Bool)) (lines found : List Bool) (b : Bool) →
+    column_at lines x ≡ b → number < length parts → part ≡ part_of parts number → column_at found x ≡ false →
+    IsLineFound g table Down parts old lines number x →
+    IsPartFound g table part lines (length parts) number old new found → HasNoWay g table Down parts x
+no_way_by g table parts number x part old new lines found true t low e out line one =
+    record { number = number; within = low; nowhere = rw (← e) (one.none x t out) }
+no_way_by g table parts number x part old new lines found false t low e out line one = line.none t
+
+pub lines-more : (g : Grid) (table : Option (List ℕ)) (parts : List (List CompiledCell)) (number : ℕ)
+    (part : List CompiledCell) (old new : List (List Bool)) (lines found : List Bool) → number < length parts →
+    part ≡ part_of parts number → AreLinesFound g table Down parts old lines number →
+    IsPartFound g table part lines (length parts) number old new found →
+    AreLinesFound g table Down parts new found (number + 1)
+lines-more g table parts number part old new lines found low e are one =
+    record {
+      each = λ x across.
+          record {
+            found = λ is.
+                let begun : BeginInSets g table Down parts x (set_of old (length parts) x) number =
+                (are.each x across).found (one.inside x is) in
+                record {
+                  at = λ n few. begin_by g table parts number x part old new lines found low e is begun one n few
+                      (cases_eq n number);
+                };
+            none = λ out. no_way_by g table parts number x part old new lines found (column_at lines x) refl low e out
+                (are.each x across) one;
+          };
+      below = λ x is. are.below x (one.inside x is);
+    }

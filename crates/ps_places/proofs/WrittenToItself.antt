@@ -1,0 +1,92 @@
+-- A cell that fits a compiled cell whose write changes nothing that it fits is written to itself.
+use Rattle.std.proofs.Common.{◌≡◌, ◌∙◌, ℕ, suc, zero, ◌&&◌, ◌||◌, Bool, true, false, Option, Some, None, List, [], ◌∷◌}
+use Rattle.std.proofs.Common.{filter, refl, sym, ap, ap₂}
+use Rattle.std.specs.Prelude.{not, slice_get, slice_set}
+use Rattle.std.specs.List.{list_all}
+use Rattle.std.proofs.lemmas.Bool.{and_parts, eq-eqb}
+use Rattle.ps_model.specs.declared.pieces.Slot.{Slot}
+use Rattle.ps_model.specs.declared.pieces.Slot.TheVariants.{Bare, Holds}
+use Rattle.ps_model.specs.meaning.Compiled as model
+use Rattle.ps_model.specs.meaning.Compiled.{cell_written, mask_fits}
+use Rattle.ps_model.specs.meaning.Fitting.{motion_number}
+use Rattle.ps_model.specs.board.Grid.{Grid}
+use Rattle.ps_model.specs.board.Places.{fits_there}
+use Rattle.ps_model.specs.board.Attempts.{Rewritten, rewritten_cell, same_cell, same_slot}
+use Rattle.ps_board.specs.Runnable.{has_room_for}
+use Rattle.ps_program.specs.declared.cells.CompiledCell.{CompiledCell}
+use Rattle.ps_program.specs.ProgramShown.{cell_shown, mask_shown, write_shown}
+use Rattle.ps_program.specs.Leaving.{is_listed, keeps_layer, leaves}
+use Rattle.ps_program.proofs.LeavingCells.{leaves-cell}
+use Rattle.ps_match.specs.InRoom.{cell_in_room, write_in_room}
+use Rattle.ps_places.specs.Lines.{cell_meaning}
+
+-- a cell holds the same as itself
+slot_itself : (slot : Slot) → same_slot slot slot ≡ true
+slot_itself Bare = refl
+slot_itself (Holds object motion) =
+    rw (eq-eqb object.0 object.0 refl, eq-eqb (motion_number motion) (motion_number motion) refl) refl
+
+pub cell_itself : (cell : List Slot) → same_cell cell cell ≡ true
+cell_itself [] = refl
+cell_itself (slot ∷ slots) = rw (slot_itself slot) (cell_itself slots)
+
+-- a write that changes nothing that its cell fits still doesn't, without what has no room
+pub all_of_kept : {X : Type 0} (test keep : X → Bool) (xs : List X) → list_all test xs ≡ true →
+    list_all test (filter keep xs) ≡ true
+all_of_kept test keep [] all = refl
+all_of_kept test keep (x ∷ xs) all =
+    let parts = and_parts (test x) (list_all test xs) all in
+    by (keep x) refl parts.0 (all_of_kept test keep xs parts.1) where
+      by : (b : Bool) → keep x ≡ b → test x ≡ true → list_all test (filter keep xs) ≡ true →
+          list_all test (filter keep (x ∷ xs)) ≡ true
+      by true e here rest = rw (e, here) rest
+      by false e here rest = rw e rest
+
+leaves_in_room : (table : Option (List ℕ)) (cell : CompiledCell) → leaves (cell_shown cell) ≡ true →
+    leaves (cell_in_room table (cell_shown cell)) ≡ true
+leaves_in_room None cell stays = stays
+leaves_in_room (Some layers) cell stays =
+    let mask : model.CellMask = mask_shown cell.mask in
+    let write : model.CellWrite = write_shown cell.write in
+    let parts = and_parts (list_all (is_listed mask.barred) write.gone) (list_all (keeps_layer mask) write.layers) stays in
+    ap₂ (λ (a b : Bool). a && b) parts.0 (all_of_kept (keeps_layer mask) (has_room_for (Some layers)) write.layers parts.1)
+
+told-not : (changes leaving : Bool) → changes ≡ not leaving → changes ≡ false → leaving ≡ true
+told-not changes true tells e = refl
+told-not changes false tells e = absurd (cc)
+
+pub written_to_itself : (table : Option (List ℕ)) (cell : CompiledCell) → cell.changes ≡ false → (slots : List Slot) →
+    mask_fits (mask_shown cell.mask) slots ≡ true →
+    cell_written (write_in_room table (write_shown cell.write)) slots ≡ slots
+written_to_itself table cell idle slots fits =
+    leaves-cell (cell_in_room table (cell_shown cell)) slots
+    (leaves_in_room table cell (told-not cell.changes (leaves (cell_shown cell)) cell.tells idle)) fits
+
+-- put in place of itself, it changes nothing
+set-same : {X : Type 0} (xs : List X) (n : ℕ) (x : X) → slice_get xs n ≡ Some x → slice_set xs n x ≡ xs
+set-same [] n x e = refl
+set-same (y ∷ ys) zero x e = let is : y ≡ x = cc in ap (λ (z : _). z ∷ ys) (sym is)
+set-same (y ∷ ys) (suc n) x e = ap (λ (zs : List _). y ∷ zs) (set-same ys n x e)
+
+or-false : (b : Bool) → (b || false) ≡ b
+or-false true = refl
+or-false false = refl
+
+-- a cell that stays, rewritten
+abbrev with_change : Rewritten → List (List Slot) → Bool → Rewritten
+with_change r cells changed = record {
+  grid = let g : Grid = r.grid in record g { cells = cells };
+  changed = r.changed || changed;
+}
+
+pub idle_cell : (r : Rewritten) (table : Option (List ℕ)) (cell : CompiledCell) (number : ℕ)
+    (found : Option (List Slot)) → cell.changes ≡ false → slice_get (r.grid).cells number ≡ found →
+    fits_there (cell_meaning table cell) found ≡ true →
+    rewritten_cell r (cell_meaning table cell) number found ≡ r
+idle_cell r table cell number None idle is fit = refl
+idle_cell r table cell number (Some slots) idle is fit =
+    let same : cell_written (write_in_room table (write_shown cell.write)) slots ≡ slots =
+    written_to_itself table cell idle slots fit in
+    ap (λ (new : List Slot). with_change r (slice_set (r.grid).cells number new) (not (same_cell slots new))) same
+    ∙ ap₂ (with_change r) (set-same (r.grid).cells number slots is) (ap not (cell_itself slots))
+    ∙ ap (λ (b : Bool). let again : Rewritten = record { grid = r.grid; changed = b } in again) (or-false r.changed)

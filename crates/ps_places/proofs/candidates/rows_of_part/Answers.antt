@@ -1,0 +1,31 @@
+use Rattle.std.proofs.Common.{◌+◌, ℕ, length, ap, refl, subst}
+use Rattle.std.proofs.lemmas.Option.{slice_get_read}
+use Rattle.ps_places.specs.CellCandidates.{HasCellOnlyOn}
+use Rattle.ps_places.proofs.OnlyOn.{begin-init, begin-more}
+use Rattle.ps_places.proofs.candidates.rows_of_part.Goals as goal
+
+pub loop-cell-init : goal.loop-cell-init
+loop-cell-init g c =
+    record {
+      only =
+          begin-init (g.B.Board.grid c.args.board.now)
+          (g.B.Board.table c.args.board.now) c.args.axis c.args.part.now c.below-rows.result c.size-width.ensures.shape
+          c.below-rows.ensures;
+      steps = refl;
+    }
+
+pub loop-cell-preserved : goal.loop-cell-preserved
+loop-cell-preserved g c =
+    let grid = g.B.Board.grid c.args.board.now in
+    record {
+      only =
+          begin-more grid (g.B.Board.table c.args.board.now)
+          c.args.axis c.args.part.now c.loop-cell.cell-index c.cell-item.result c.loop-cell.rows
+          c.rows_of_cell.result c.both-rows.result c.size-width.ensures.shape
+          (slice_get_read c.args.part.now (length c.args.part.now)
+          c.loop-cell.cell-index c.cell-item.result refl c.loop-cell-test.true c.cell-item.is) c.loop-cell-test.true
+          (subst (λ (steps : ℕ). HasCellOnlyOn grid (c.cell-item.result).mask c.args.axis steps c.rows_of_cell.result)
+          c.loop-cell.invariant.steps c.rows_of_cell.ensures)
+          c.both-rows.ensures c.loop-cell.invariant.only;
+      steps = ap (λ (n : ℕ). n + 1) c.loop-cell.invariant.steps;
+    }

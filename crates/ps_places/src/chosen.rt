@@ -1,0 +1,248 @@
+//! The places of a row of a rule, one after the other: what is looked for is the next one of those of the start at
+//! which the row fits now.
+
+ghost use Rattle.std.specs.Prelude.{◌≡◌, ℕ, ◌*◌, ◌<◌, ◌∷◌, [], IfSome, None, false, length, true};
+ghost use Rattle.ps_model.specs.board.Attempts.{Rewritten, rewritten_along};
+ghost use Rattle.ps_model.specs.declared.limits.TheConstants.{SIDE_LIMIT};
+ghost use Rattle.ps_match.specs.InRoom.{sides_of};
+ghost use Rattle.ps_program.specs.declared.rows.TheConstants.{PART_LIMIT};
+ghost use Rattle.ps_places.specs.Forgetting.{HaveForgotten, IsAmong, IsPlaceOf};
+ghost use Rattle.ps_places.specs.Lines.{line_count};
+ghost use Rattle.ps_places.specs.RowPlaces.{all_places, cells_meaning, part_sizes, place_at, place_fits, places_behind};
+ghost use Rattle.ps_places.specs.RowPlaces.{places_on_lines};
+ghost use Rattle.ps_places.specs.Spaced.{HasSpacedWay, IsSpaced};
+ghost use Rattle.ps_places.specs.Seeking.{AreLines, place_on, places_after};
+ghost use Rattle.ps_places.specs.Starts.{HasLinesOf, HaveSameStarts, IsOnLine};
+ghost use Rattle.ps_places.specs.Ways.{from_first, positions_from};
+
+use crate::parts::{behind_position, part_fits, rewrite_fitting_part, rewrite_part};
+use crate::room::RowRoom;
+use crate::ways::{first_way, next_way};
+use ps_match::{Columns, Scan};
+use ps_program::CompiledRow;
+
+/// Finds the first place at which a row fits, on its lines from one on, and answers the line; the way there is put
+/// into `way`. Where there is none, `way` is anything.
+fn seek<B: Scan>(
+    board: &B,
+    row: &CompiledRow,
+    lines: Columns,
+    starts: &[Columns],
+    from: usize,
+    way: &mut [u8],
+) -> Option<u8>
+    requires lines { AreLines (B.grid board.now) row.now.axis lines }
+    requires starts { length starts.now ≡ PART_LIMIT * SIDE_LIMIT }
+    requires way { length way.old ≡ length row.now.parts }
+    ensures some { let fits = place_fits (B.grid board.now) (B.table board.now) row.now.parts in
+        let height = (B.grid board.now).height in
+        let all = places_on_lines row.now.axis height row.now.parts starts.now (positions_from lines from) in
+        IfSome result (λ line. from_first fits all
+        ≡ place_on row.now.axis height row.now.parts line way.new
+        ∷ places_after row.now.axis height row.now.parts starts.now lines line way.new) }
+    ensures none { let fits = place_fits (B.grid board.now) (B.table board.now) row.now.parts in
+        let height = (B.grid board.now).height in
+        result ≡ None →
+        from_first fits (places_on_lines row.now.axis height row.now.parts starts.now (positions_from lines from))
+        ≡ [] }
+    ensures among { IfSome result (λ line. IsPlaceOf lines starts.now row.now.parts line way.new) }
+    ensures line { IfSome result (λ line. line < line_count row.now.axis (B.grid board.now)) }
+    ensures long { length way.new ≡ length way.old }
+    ensures spaced { IfSome result (λ _line. IsSpaced (part_sizes row.now.parts) 0 way.new) }
+{
+    let parts = row.parts.as_slice();
+    let count = parts.len();
+    let mut left = behind_position(lines, from);
+    while let Some(line) = left.take_first() {
+        let at = line as usize * count;
+        let sets = &starts[at..at + count];
+        if first_way(board, row.axis, line as u8, parts, sets, 0, way) {
+            return Some(line as u8);
+        }
+    }
+    None
+}
+
+/// Goes on from a place of a row, a line and the `way` there, to the next one at which it fits, and answers its line.
+/// Where there is none, `way` is anything.
+fn seek_on<B: Scan>(
+    board: &B,
+    row: &CompiledRow,
+    lines: Columns,
+    starts: &[Columns],
+    line: u8,
+    way: &mut [u8],
+) -> Option<u8>
+    requires lines { AreLines (B.grid board.now) row.now.axis lines }
+    requires line { line < line_count row.now.axis (B.grid board.now) }
+    requires starts { length starts.now ≡ PART_LIMIT * SIDE_LIMIT }
+    requires way { length way.old ≡ length row.now.parts }
+    ensures some { let fits = place_fits (B.grid board.now) (B.table board.now) row.now.parts in
+        let height = (B.grid board.now).height in
+        let all = places_after row.now.axis height row.now.parts starts.now lines line way.old in
+        IfSome result (λ next. from_first fits all
+        ≡ place_on row.now.axis height row.now.parts next way.new
+        ∷ places_after row.now.axis height row.now.parts starts.now lines next way.new) }
+    ensures none { let fits = place_fits (B.grid board.now) (B.table board.now) row.now.parts in
+        let height = (B.grid board.now).height in
+        result ≡ None →
+        from_first fits (places_after row.now.axis height row.now.parts starts.now lines line way.old) ≡ [] }
+    ensures line { IfSome result (λ next. next < line_count row.now.axis (B.grid board.now)) }
+    ensures long { length way.new ≡ length way.old }
+    ensures spaced { let sizes = part_sizes row.now.parts in
+        IsSpaced sizes 0 way.old → IfSome result (λ _next. IsSpaced sizes 0 way.new) }
+{
+    let (_width, _height) = board.size();
+    let parts = row.parts.as_slice();
+    let count = parts.len();
+    let at = line as usize * count;
+    let sets = &starts[at..at + count];
+    if next_way(board, row.axis, line, parts, sets, way) {
+        return Some(line);
+    }
+    seek(board, row, lines, starts, usize::from(line) + 1, way)
+}
+
+impl RowRoom {
+    /// Chooses the first place of a row at which it fits. Answers whether there is one; if not, any place is chosen.
+    pub fn first_place<B: Scan>(&mut self, board: &B, row: &CompiledRow) -> bool
+        requires { HasLinesOf (B.grid board.now) row.now self.old }
+        ensures found { let fits = place_fits (B.grid board.now) (B.table board.now) row.now.parts in
+            let height = (B.grid board.now).height in
+            result ≡ true → from_first fits (all_places height row.now self.old)
+            ≡ place_at height row.now self.new ∷ places_behind height row.now self.new }
+        ensures none { let fits = place_fits (B.grid board.now) (B.table board.now) row.now.parts in
+            result ≡ false → from_first fits (all_places (B.grid board.now).height row.now self.old) ≡ [] }
+        ensures among { result ≡ true → IsAmong row.now self.new }
+        ensures line { result ≡ true → IsOnLine (B.grid board.now) row.now self.new }
+        ensures spaced { result ≡ true → HasSpacedWay row.now self.new }
+        ensures same { HaveSameStarts self.old self.new }
+    {
+        let count = row.parts.as_slice().len();
+        let mut way = self.way;
+        let starts = self.starts.as_slice();
+        match seek(board, row, self.lines, starts, 0, &mut way[..count]) {
+            Some(line) => {
+                self.line = line;
+                self.way = way;
+                true
+            }
+            None => false,
+        }
+    }
+
+    /// Forgets places before the one that is chosen: those on the lines before its line, and those on it whose first
+    /// part lies before its own there.
+    pub fn forget(&mut self, row: &CompiledRow)
+        requires { IsAmong row.now self.old }
+        ensures { (height : ℕ) → HaveForgotten height row.now self.old self.new }
+    {
+        let at = usize::from(self.line) * row.parts.as_slice().len();
+        self.lines = self.lines.without(Columns::below(u32::from(self.line)));
+        let position = usize::from(self.way[0]);
+        let starts = self.starts.as_mut_slice();
+        starts[at] = behind_position(starts[at], position);
+    }
+
+    /// Chooses the next place of a row at which it fits. Answers whether there is one; if not, any place is chosen.
+    pub fn next_place<B: Scan>(&mut self, board: &B, row: &CompiledRow) -> bool
+        requires lines { HasLinesOf (B.grid board.now) row.now self.old }
+        requires line { IsOnLine (B.grid board.now) row.now self.old }
+        ensures found { let fits = place_fits (B.grid board.now) (B.table board.now) row.now.parts in
+            let height = (B.grid board.now).height in
+            result ≡ true → from_first fits (places_behind height row.now self.old)
+            ≡ place_at height row.now self.new ∷ places_behind height row.now self.new }
+        ensures none { let fits = place_fits (B.grid board.now) (B.table board.now) row.now.parts in
+            result ≡ false → from_first fits (places_behind (B.grid board.now).height row.now self.old) ≡ [] }
+        ensures line { result ≡ true → IsOnLine (B.grid board.now) row.now self.new }
+        ensures spaced { result ≡ true → HasSpacedWay row.now self.old → HasSpacedWay row.now self.new }
+        ensures same { HaveSameStarts self.old self.new }
+    {
+        let count = row.parts.as_slice().len();
+        let mut way = self.way;
+        let starts = self.starts.as_slice();
+        match seek_on(board, row, self.lines, starts, self.line, &mut way[..count]) {
+            Some(line) => {
+                self.line = line;
+                self.way = way;
+                true
+            }
+            None => false,
+        }
+    }
+
+    /// Whether a row fits at the place that is chosen.
+    pub fn fits<B: Scan>(&self, board: &B, row: &CompiledRow) -> bool
+        ensures { let place = place_at (B.grid board.now).height row.now self.now in
+            result ≡ place_fits (B.grid board.now) (B.table board.now) row.now.parts place }
+    {
+        let parts = row.parts.as_slice();
+        for number in 0..parts.len() {
+            if !part_fits(
+                board,
+                row.axis,
+                self.line,
+                parts[number].as_slice(),
+                self.way[number],
+            ) {
+                return false;
+            }
+        }
+        true
+    }
+
+    /// Rewrites a row at the place that is chosen, cell by cell, and answers whether one changed, or something had
+    /// `changed` before.
+    pub fn rewrite<B: Scan>(&self, board: &mut B, row: &CompiledRow, changed: bool) -> bool
+        ensures rewritten { let before : Rewritten = record { grid = B.grid board.old; changed = changed } in
+            let place = place_at (B.grid board.old).height row.now self.now in
+            record { grid = B.grid board.new; changed = result }
+            ≡ rewritten_along before (cells_meaning (B.table board.old) row.now.parts) place }
+        ensures table { B.table board.new ≡ B.table board.old }
+        ensures sides { sides_of (B.grid board.new) ≡ sides_of (B.grid board.old) }
+    {
+        let parts = row.parts.as_slice();
+        let mut any = changed;
+        for number in 0..parts.len() {
+            any = rewrite_part(
+                board,
+                row.axis,
+                self.line,
+                parts[number].as_slice(),
+                self.way[number],
+                any,
+            );
+        }
+        any
+    }
+
+    /// Rewrites a row that fits at the place that is chosen, cell by cell, and answers whether one changed, or
+    /// something had `changed` before. A cell that stays as it is where it fits isn't written: no cell of the board
+    /// belongs to two of the row's, so each still fits when its turn comes.
+    pub fn rewrite_fitting<B: Scan>(&self, board: &mut B, row: &CompiledRow, changed: bool) -> bool
+        requires fits { let place = place_at (B.grid board.old).height row.now self.now in
+            place_fits (B.grid board.old) (B.table board.old) row.now.parts place ≡ true }
+        requires spaced { HasSpacedWay row.now self.now }
+        ensures rewritten { let before : Rewritten = record { grid = B.grid board.old; changed = changed } in
+            let place = place_at (B.grid board.old).height row.now self.now in
+            record { grid = B.grid board.new; changed = result }
+            ≡ rewritten_along before (cells_meaning (B.table board.old) row.now.parts) place }
+        ensures table { B.table board.new ≡ B.table board.old }
+        ensures sides { sides_of (B.grid board.new) ≡ sides_of (B.grid board.old) }
+    {
+        let (_width, _height) = board.size();
+        let parts = row.parts.as_slice();
+        let mut any = changed;
+        for number in 0..parts.len() {
+            any = rewrite_fitting_part(
+                board,
+                row.axis,
+                self.line,
+                parts[number].as_slice(),
+                self.way[number],
+                any,
+            );
+        }
+        any
+    }
+}

@@ -1,0 +1,53 @@
+//! The columns of a row of the board where a part of a row of a rule begins, all at once.
+
+ghost use Rattle.std.specs.Prelude.{◌≡◌, ◌<◌};
+ghost use Rattle.ps_program.specs.declared.rows.Axis.TheVariants.{Right};
+ghost use Rattle.ps_places.specs.Lines.{part_fits};
+ghost use Rattle.ps_places.specs.Starts.{AreWhere, begins_down};
+
+use ps_match::{Columns, Scan};
+use ps_model::SIDE_LIMIT;
+use ps_program::CompiledCell;
+
+/// The columns of a row of the board where a part fits that goes right, its first cell there.
+pub fn columns_across<B: Scan>(board: &B, part: &[CompiledCell], row: u32) -> Columns
+    requires { row < (B.grid board.now).height }
+    ensures { AreWhere (part_fits (B.grid board.now) (B.table board.now) Right row part.now) result }
+{
+    let (_width, _height) = board.size();
+    let mut columns = Columns::below(SIDE_LIMIT);
+    let mut steps = 0;
+    for cell in part {
+        if columns.is_empty() {
+            return columns;
+        }
+        if SIDE_LIMIT <= steps {
+            return Columns::none();
+        }
+        columns = columns.both(board.scan(&cell.mask, row).behind(steps));
+        steps += 1;
+    }
+    columns
+}
+
+/// The columns of a row of the board where a part fits that goes down, its first cell there, and doesn't reach beyond
+/// the lower edge.
+pub fn columns_down<B: Scan>(board: &B, part: &[CompiledCell], row: u32) -> Columns
+    requires { row < (B.grid board.now).height }
+    ensures { AreWhere (begins_down (B.grid board.now) (B.table board.now) part.now row) result }
+{
+    let (width, height) = board.size();
+    let mut columns = Columns::below(width);
+    let mut below = row;
+    for cell in part {
+        if columns.is_empty() {
+            return columns;
+        }
+        if height <= below {
+            return Columns::none();
+        }
+        columns = columns.both(board.scan(&cell.mask, below));
+        below += 1;
+    }
+    columns
+}
