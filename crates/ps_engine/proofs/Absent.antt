@@ -1,5 +1,5 @@
 -- A rule that needs an object which is nowhere on the board, or asks for a motion that nothing there has, has no combination.
-use Rattle.std.proofs.Common.{◌≡◌, ◌∙◌, ℕ, suc, zero, ◌<◌, ◌+◌, ◌*◌, ◌/◌, ◌%◌, ◌&&◌, ◌⊎◌, inl, inr, Bool, true, false, cond, Option, Some, None, List, [], ◌∷◌, ◌++◌, length, map, filter, get_or, refl, sym, subst, ap, arith}
+use Rattle.std.proofs.Common.{◌≡◌, ◌∙◌, ℕ, suc, zero, ◌<◌, ◌+◌, ◌*◌, ◌/◌, ◌%◌, ◌&&◌, ◌⊎◌, inl, inr, Bool, false, cond, Option, Some, None, List, [], ◌∷◌, ◌++◌, length, map, filter, get_or, refl, sym, subst, ap, arith}
 use Rattle.std.specs.Prelude.{not, slice_get}
 use Rattle.std.specs.List.{flat_map, list_all, list_any, Contains}
 use Rattle.std.proofs.Math.Bool.{and-false}
@@ -25,6 +25,9 @@ use Rattle.ps_match.specs.Nowhere.{HasMovesIn, IsNowhere, NoneMovesOnRow}
 use Rattle.ps_program.specs.declared.rows.CompiledRow.{CompiledRow}
 use Rattle.ps_places.specs.Lines.{cell_meaning}
 use Rattle.ps_places.specs.RowPlaces.{cells_meaning, parts_meaning, row_meaning}
+use Rattle.ps_places.proofs.CellByCell.{if_here, if_rest}
+use Rattle.ps_places.proofs.OnlyOn.{last_off}
+use Rattle.ps_places.proofs.Ranges.{flat_map-none}
 use Rattle.ps_engine.proofs.Choosing.{cells_in-meant}
 use Rattle.ps_engine.proofs.Combinations.{get-shown_twice, no_combination}
 
@@ -68,10 +71,6 @@ cells_meaning-all table [] = refl
 cells_meaning-all table (part ∷ parts) =
     ap (λ (ms : List CellMeaning). map (cell_meaning table) part ++ ms) (cells_meaning-all table parts) ∙ sym (map-append (cell_meaning table) part (all_cells parts))
 
-flat_map-none : {X Y : Type 0} (f : X → List Y) (xs : List X) → ((x : X) → f x ≡ []) → flat_map f xs ≡ []
-flat_map-none f [] none = refl
-flat_map-none f (x ∷ xs) none = ap (λ (ys : List _). ys ++ flat_map f xs) (none x) ∙ flat_map-none f xs none
-
 -- what the parts ask for is what their cells ask for
 asked_joined : {X : Type 0} (asked : CompiledCell → List X) (parts : List (List CompiledCell)) → flat_map (asked_by_part asked) parts ≡ flat_map asked (all_cells parts)
 asked_joined asked [] = refl
@@ -87,13 +86,6 @@ not_all test x off (first ∷ xs) (zero, low, e) = ap (λ (b : Bool). b && list_
 not_all test x off (first ∷ xs) (suc k, low, e) = ap (λ (b : Bool). test first && b) (not_all test x off xs (k, omega (arith, low), e)) ∙ and-false (test first)
 
 -- a cell, a row, a rule --------------------------------------------------------------------------------------------------
-
-if_rest : (test rest : Bool) → rest ≡ false → (elim test [ true ↦ rest | false ↦ false ]) ≡ false
-if_rest true rest e = e
-if_rest false rest e = refl
-
-if_here : (test rest : Bool) → test ≡ false → (elim test [ true ↦ rest | false ↦ false ]) ≡ false
-if_here test rest e = rw e refl
 
 -- a cell that asks for that fits nowhere
 abbrev FitsNowhere : {X : Type 0} → Grid → Option (List ℕ) → (CompiledCell → List X) → X → Type 0
@@ -161,12 +153,6 @@ rule_lacking g table direction rows objects k d is low nowhere =
     direction rows objects k d is low refl
 
 -- a motion that nothing has ------------------------------------------------------------------------------------------------
-
-last_off : (a b c d : Bool) → d ≡ false → (a && (b && (c && d))) ≡ false
-last_off true true true d e = e
-last_off true true false d e = refl
-last_off true false c d e = refl
-last_off false b c d e = refl
 
 -- no row of the board has it
 abbrev pub MovesNowhere : Grid → MotionTest → Type 0

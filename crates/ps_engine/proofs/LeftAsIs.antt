@@ -1,7 +1,6 @@
 -- Cells that are written to themselves.
-use Rattle.std.proofs.Common.{◌≡◌, ◌∙◌, ℕ, suc, zero, ◌+◌, ◌<◌, ◌≤◌, Bool, true, false, Option, List, [], ◌∷◌, length, map, refl, sym, ap, ap₂, arith}
+use Rattle.std.proofs.Common.{◌≡◌, ◌∙◌, ℕ, ◌<◌, Bool, true, false, Option, List, [], length, refl, sym, ap, ap₂, arith}
 use Rattle.std.specs.Prelude.{slice_get}
-use Rattle.std.specs.List.{range_with_len}
 use Rattle.std.proofs.lemmas.Option.{slice_get-get_or}
 use Rattle.ps_model.specs.declared.pieces.Slot.{Slot}
 use Rattle.ps_model.specs.board.Grid.{Grid, cell_at}
@@ -11,14 +10,10 @@ use Rattle.ps_match.specs.Together.{cell_where, changes_where, rewritten_where}
 use Rattle.ps_match.proofs.Chosen.{any_agree, rewritten_of, where-none}
 use Rattle.ps_match.proofs.RowWritten.{told}
 use Rattle.ps_places.specs.Lines.{cell_meaning}
+use Rattle.ps_places.proofs.Ranges.{map-range-agree}
 use Rattle.ps_places.proofs.WrittenToItself.{cell_itself, written_to_itself}
 
 -- where each cell that is chosen becomes itself, nothing changes
-map_agree : {X : Type 0} (f h : ℕ → X) (a n : ℕ) → ((k : ℕ) → a ≤ k → k < a + n → f k ≡ h k) → map f (range_with_len a n) ≡ map h (range_with_len a n)
-map_agree f h a zero same = refl
-map_agree f h a (suc n) same =
-    ap₂ (λ (x : _) (xs : List _). x ∷ xs) (same a (omega arith) (omega arith)) (map_agree f h (a + 1) n (λ k low high. same k (omega (arith, low)) (omega (arith, high))))
-
 module _ (g : Grid) (becomes : List Slot → List Slot) (chosen : ℕ → Bool) (stays : (n : ℕ) → n < length g.cells → chosen n ≡ true → becomes (cell_at g n) ≡ cell_at g n) where
   cell_by : (n : ℕ) (b : Bool) → n < length g.cells → chosen n ≡ b → cell_where g becomes chosen n ≡ cell_at g n
   cell_by n true low e = rw e (stays n low e)
@@ -32,7 +27,7 @@ module _ (g : Grid) (becomes : List Slot → List Slot) (chosen : ℕ → Bool) 
   unfolding rewritten_where
   where_still =
       ap₂ (rewritten_of g)
-      (map_agree (cell_where g becomes chosen) (cell_where g becomes (λ n. false)) 0 (length g.cells) (λ n low high. cell_by n (chosen n) (omega (arith, high)) refl))
+      (map-range-agree (cell_where g becomes chosen) (cell_where g becomes (λ n. false)) 0 (length g.cells) (λ n low high. cell_by n (chosen n) (omega (arith, high)) refl))
       (any_agree (changes_where g becomes chosen) (changes_where g becomes (λ n. false)) 0 (length g.cells) (λ n low high. change_by n (chosen n) (omega (arith, high)) refl))
       ∙ where-none g becomes (λ n. false) (λ n low. refl)
 

@@ -2,6 +2,7 @@
 use Rattle.std.proofs.Common.{◌≡◌, ◌≢◌, ◌∙◌, ℕ, zero, suc, ◌+◌, ◌-◌, ◌*◌, ◌/◌, ◌%◌, ◌<◌, ◌≤◌, ◌||◌, ◌&&◌, inl, inr, cond, Bool, true, false, Option, Some, None, List, [], ◌∷◌, ◌++◌, length, map, filter, fold, reverse, take, refl, sym, ap, arith}
 use Rattle.std.specs.Prelude.{nat_eq, nat_lt, nat_le, slice_get}
 use Rattle.std.specs.List.{flat_map, range_with_len}
+use Rattle.std.proofs.Math.Bool.{and-false}
 use Rattle.std.proofs.lemmas.Bool.{cases_eq, eqb-true, eq-eqb, ne_eqb, lt-ltb, le-ltb}
 use Rattle.std.proofs.lemmas.Grind.{flat_map-append, fold-append}
 use Rattle.std.proofs.lemmas.List.{map-append}
@@ -83,10 +84,6 @@ applied_one h any m n cell there fits = rw (there, fits) (ap (rewritten_cell (to
 abbrev pub done_where : Grid → CellMeaning → (ℕ → Bool) → Rewritten
 done_where g m done = rewritten_where g m.rewritten (λ n. done n && fits_cell g m n)
 
-and_no : (b : Bool) → (b && false) ≡ false
-and_no true = refl
-and_no false = refl
-
 left_alone : (g : Grid) (m : CellMeaning) (done more : ℕ → Bool) (n : ℕ) → fits_cell g m n ≡ false → ((k : ℕ) → k < length g.cells → more k ≡ (done k || nat_eq k n)) →
     done_where g m done ≡ done_where g m more
 left_alone g m done more n fails e =
@@ -94,7 +91,7 @@ left_alone g m done more n fails e =
     (λ k low. elim (cases_eq k n) [
       | inl same ↦
           let fails_here : fits_cell g m k ≡ false = ap (fits_cell g m) same ∙ fails in
-          rw (fails_here, and_no, and_no) refl
+          rw (fails_here, and-false, and-false) refl
       | inr other ↦ let stays : more k ≡ done k = e k low ∙ rw (ne_eqb k n other) (or_nothing (done k)) in rw stays refl
     ])
 
@@ -234,7 +231,7 @@ module _ (g : Grid) (direction : Direction) (m : CellMeaning) (some : 0 < g.heig
       ∙ ap (λ (b : Bool). nat_lt (k % g.height) row || b) (and_yes (nat_eq (k % g.height) row))
       ∙ sym (below_next row (k % g.height))
       ∙ sym (ap (λ (b : Bool). nat_lt (k % g.height) (row + 1) || (nat_eq (k % g.height) (row + 1) && b)) (le-ltb (k / g.height) 0 high)
-      ∙ ap (λ (b : Bool). nat_lt (k % g.height) (row + 1) || b) (and_no (nat_eq (k % g.height) (row + 1)))
+      ∙ ap (λ (b : Bool). nat_lt (k % g.height) (row + 1) || b) (and-false (nat_eq (k % g.height) (row + 1)))
       ∙ or_nothing (nat_lt (k % g.height) (row + 1))))) where
         and_yes : (b : Bool) → (b && true) ≡ b
         and_yes true = refl
@@ -276,7 +273,7 @@ module _ (g : Grid) (direction : Direction) (m : CellMeaning) (some : 0 < g.heig
       (none_done (above 0 0) (λ k low.
       let top : 0 ≤ k % g.height = omega arith in
       let left : 0 ≤ k / g.height = omega arith in
-      rw (le-ltb (k % g.height) 0 top, le-ltb (k / g.height) 0 left) (and_no (nat_eq (k % g.height) 0))))
+      rw (le-ltb (k % g.height) 0 top, le-ltb (k / g.height) 0 left) (and-false (nat_eq (k % g.height) 0))))
       ∙ rows_walked 0 g.height (omega arith)
       ∙ all_done (above (0 + g.height) 0) (λ k low.
       let under : k % g.height < 0 + g.height = let row : k % g.height < g.height = mod_below k g.height some in omega arith in

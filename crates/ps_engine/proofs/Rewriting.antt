@@ -1,6 +1,7 @@
 -- The rows of a rule rewritten at the places that are chosen, row by row.
 use Rattle.std.proofs.Common.{◌≡◌, ◌∙◌, ℕ, suc, zero, ◌<◌, ◌≤◌, Bool, true, false, Option, Some, List, [], ◌∷◌, length, drop, fold, refl, sym, ap, ap₂, arith}
 use Rattle.std.specs.Prelude.{slice_get}
+use Rattle.std.proofs.lemmas.List.{drop_all}
 use Rattle.ps_match.specs.InRoom.{sides_of}
 use Rattle.ps_model.specs.board.Grid.{Grid}
 use Rattle.ps_model.specs.board.Attempts.{Rewritten, all_fit, applied, rewritten_along, rewritten_rows}
@@ -33,14 +34,8 @@ rewritten_more table height (suc n) m (x ∷ rows) (y ∷ rooms) row room r is t
     rewritten_more table height n (suc n) rows rooms row room r is there refl
     ∙ ap (λ (k : ℕ). rewritten_from table height (x ∷ rows) (y ∷ rooms) k (rewritten_along r (cells_meaning table row.parts) (place_at height row room))) (sym next)
 
-none_left : {X : Type 0} (xs : List X) (n : ℕ) → length xs ≤ n → drop n xs ≡ []
-none_left [] zero h = refl
-none_left [] (suc n) h = refl
-none_left (x ∷ xs) zero h = absurd (omega arith)
-none_left (x ∷ xs) (suc n) h = none_left xs n (omega arith)
-
 pub rewritten_end : (table : Option (List ℕ)) (height n : ℕ) (rows : List CompiledRow) (rooms : List RowRoom) (r : Rewritten) → length rows ≤ n → rewritten_from table height rows rooms n r ≡ r
-rewritten_end table height n rows rooms r h = ap (λ (rs : List CompiledRow). rewritten_rows r (rows_meaning table rs) (chosen (choices_of height rs (drop n rooms)))) (none_left rows n h)
+rewritten_end table height n rows rooms r h = ap (λ (rs : List CompiledRow). rewritten_rows r (rows_meaning table rs) (chosen (choices_of height rs (drop n rooms)))) (drop_all n rows h)
 
 pub same_height : (now start : Grid) → sides_of now ≡ sides_of start → now.height ≡ start.height
 same_height now start same = ap (λ (s : ℕ × ℕ × ℕ). s.1) same

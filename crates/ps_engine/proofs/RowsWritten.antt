@@ -21,6 +21,7 @@ use Rattle.ps_match.specs.Together.{is_on_row, rewritten_where}
 use Rattle.ps_match.proofs.Chosen.{cell_at-where, length-where, or_nothing, where-agree, where-none}
 use Rattle.ps_match.proofs.RowWritten.{height-where, told, told-more}
 use Rattle.ps_places.specs.Candidates.{FitsOnlyOn}
+use Rattle.ps_places.proofs.CellByCell.{fits_by_mask}
 use Rattle.ps_engine.proofs.LeftAsIs.{stays_where}
 use Rattle.ps_engine.specs.OneCell.{FitsNowhere, FitsSomewhere, fits_cell}
 use Rattle.ps_places.specs.Lines.{cell_meaning}
@@ -148,11 +149,6 @@ row_empty start now m mask set left row columns any shape alike taken so scanned
     ∙ nothing_more (fits_passed start m set n) (nat_eq (n % start.height) row)))
 
 -- whether a cell fits --------------------------------------------------------------------------------------------------
-
--- a cell fits by its mask alone
-pub fits_by_mask : (table : Option (List ℕ)) (c : CompiledCell) (cell : Option (List Slot)) → fits_there (meaning_of_mask (mask_shown c.mask)) cell ≡ fits_there (cell_meaning table c) cell
-fits_by_mask table c None = refl
-fits_by_mask table c (Some cell) = refl
 
 -- no cell fits of the rows that aren't left
 abbrev pub NoneOfPassed : Grid → CellMeaning → List Bool → Type 0

@@ -1,6 +1,8 @@
 -- Rounds, groups, passes and loops, one step at a time.
 use Rattle.std.proofs.Common.{◌≡◌, ◌∙◌, ℕ, ◌+◌, ◌<◌, ◌≤◌, ◌||◌, suc, zero, Bool, true, false, List, [], ◌∷◌, length, map, drop, get_or, refl, sym, ap, arith}
+use Rattle.std.proofs.Math.Bool.{or-false}
 use Rattle.std.proofs.Math.Seq.{drop-cons}
+use Rattle.std.proofs.lemmas.List.{drop_all}
 use Rattle.ps_model.specs.declared.limits.TheConstants.{ROUND_LIMIT, REPEAT_LIMIT}
 use Rattle.ps_model.specs.board.Attempts.{State, Result, attempt}
 use Rattle.ps_model.specs.board.Programs.{Section, Progress, after_change, round, settled, group, pass, looped, section_run, sections_run, program_run}
@@ -10,26 +12,16 @@ or_assoc : (a b c : Bool) → (a || (b || c)) ≡ ((a || b) || c)
 or_assoc true b c = refl
 or_assoc false b c = refl
 
-or_false : (a : Bool) → a ≡ (a || false)
-or_false true = refl
-or_false false = refl
-
 changed_twice : (a b : Bool) (r : Result) → after_change a (after_change b r) ≡ after_change (a || b) r
 changed_twice a b r = ap (λ (c : Bool). let s : Result = record { state = r.state; changed = c } in s) (or_assoc a b r.changed)
 
 -- nothing is left
 pub changed_end : (a : Bool) (state : State) → (let s : Result = record { state = state; changed = a } in s) ≡ after_change a (record { state = state; changed = false })
-changed_end a state = ap (λ (c : Bool). let s : Result = record { state = state; changed = c } in s) (or_false a)
-
-none_left : {X : Type 0} (xs : List X) (n : ℕ) → length xs ≤ n → drop n xs ≡ []
-none_left [] zero h = refl
-none_left [] (suc n) h = refl
-none_left (x ∷ xs) zero h = absurd (omega arith)
-none_left (x ∷ xs) (suc n) h = none_left xs n (omega arith)
+changed_end a state = ap (λ (c : Bool). let s : Result = record { state = state; changed = c } in s) (sym (or-false a))
 
 module _ {R : Type 0} (meaning : R → RuleMeaning) (rules : List R) (n : ℕ) where
   pub round_end : (changed : Bool) (state : State) → length rules ≤ n → (let s : Result = record { state = state; changed = changed } in s) ≡ after_change changed (round (map meaning (drop n rules)) state)
-  round_end changed state h = changed_end changed state ∙ ap (λ (rs : List R). after_change changed (round (map meaning rs) state)) (sym (none_left rules n h))
+  round_end changed state h = changed_end changed state ∙ ap (λ (rs : List R). after_change changed (round (map meaning rs) state)) (sym (drop_all n rules h))
 
   pub round_more : (rule : R) (changed more : Bool) (state next : State) → n < length rules → rule ≡ get_or rules n rule →
       (let s : Result = record { state = next; changed = more } in s) ≡ attempt (meaning rule) state →
@@ -44,7 +36,7 @@ module _ {R : Type 0} (meaning : R → RuleMeaning) (rules : List R) (n : ℕ) w
 
 module _ {R : Type 0} (meaning : R → List RuleMeaning) (groups : List R) (n : ℕ) where
   pub pass_end : (changed : Bool) (state : State) → length groups ≤ n → (let s : Result = record { state = state; changed = changed } in s) ≡ after_change changed (pass (map meaning (drop n groups)) state)
-  pass_end changed state h = changed_end changed state ∙ ap (λ (rs : List R). after_change changed (pass (map meaning rs) state)) (sym (none_left groups n h))
+  pass_end changed state h = changed_end changed state ∙ ap (λ (rs : List R). after_change changed (pass (map meaning rs) state)) (sym (drop_all n groups h))
 
   pub pass_more : (rules : R) (changed more : Bool) (state next : State) → n < length groups → rules ≡ get_or groups n rules →
       (let s : Result = record { state = next; changed = more } in s) ≡ group (meaning rules) state →
@@ -120,4 +112,4 @@ module _ {R : Type 0} (meaning : R → Section) (sections : List R) (n : ℕ) (s
       ∙ sections_split h e
 
 pub sections_end : {R : Type 0} (meaning : R → Section) (sections : List R) (n repeats : ℕ) (state : State) → length sections ≤ n → state ≡ sections_run (map meaning (drop n sections)) repeats state
-sections_end meaning sections n repeats state h = ap (λ (rs : List _). sections_run (map meaning rs) repeats state) (sym (none_left sections n h))
+sections_end meaning sections n repeats state h = ap (λ (rs : List _). sections_run (map meaning rs) repeats state) (sym (drop_all n sections h))

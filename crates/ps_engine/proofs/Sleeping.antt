@@ -8,6 +8,7 @@ use Rattle.ps_model.specs.board.Grid.{Grid}
 use Rattle.ps_model.specs.board.Places.{fits_along, fits_there, cells_in}
 use Rattle.ps_model.specs.board.Attempts.{Rewritten, all_fit, applied, rewritten_along, rewritten_cell, rewritten_rows}
 use Rattle.ps_model.specs.meaning.RuleMeanings.{CellMeaning}
+use Rattle.ps_places.proofs.CellByCell.{if_here, if_rest}
 
 -- where a cell doesn't fit, it doesn't behind another one's write
 abbrev pub Sleeps : CellMeaning → CellMeaning → Type 0
@@ -42,17 +43,9 @@ cell_off a b asleep r n m (Some cell) e h = put_off a cell (b.rewritten cell) (r
 -- places ----------------------------------------------------------------------------------------------------------------------
 
 -- cells that don't fit along a place don't behind one write
-first_off : (test : Bool) (others : Bool) → test ≡ false → (elim test [ true ↦ others | false ↦ false ]) ≡ false
-first_off true others e = absurd (cc)
-first_off false others e = refl
-
 off_parts : (test others : Bool) (P : Type 0) → (elim test [ true ↦ others | false ↦ false ]) ≡ false → (test ≡ false → P) → (others ≡ false → P) → P
 off_parts true others P h one other = other h
 off_parts false others P h one other = one refl
-
-rest_off : (test others : Bool) → others ≡ false → (elim test [ true ↦ others | false ↦ false ]) ≡ false
-rest_off true others e = e
-rest_off false others e = refl
 
 along_off : (b : CellMeaning) (r : Rewritten) (m : ℕ) (asking : List CellMeaning) (place : List ℕ) →
     All (Sleeps b) asking → fits_along r.grid asking place ≡ false →
@@ -63,8 +56,8 @@ along_off b r m (a ∷ asking) [] asleep h = refl
 along_off b r m (a ∷ asking) (cell ∷ cells) asleep h =
     off_parts (fits_there a (slice_get (r.grid).cells cell)) (fits_along r.grid asking cells)
     (fits_along (rewritten_cell r b m (slice_get (r.grid).cells m)).grid (a ∷ asking) (cell ∷ cells) ≡ false) h
-    (λ off. first_off _ _ (cell_off a b (All-head (Sleeps b) a asking asleep) r cell m (slice_get (r.grid).cells m) refl off))
-    (λ off. rest_off _ _ (along_off b r m asking cells (All-tail (Sleeps b) a asking asleep) off))
+    (λ off. if_here _ _ (cell_off a b (All-head (Sleeps b) a asking asleep) r cell m (slice_get (r.grid).cells m) refl off))
+    (λ off. if_rest _ _ (along_off b r m asking cells (All-tail (Sleeps b) a asking asleep) off))
 
 -- nor behind the writes along another place
 row_off : (r : Rewritten) (writing : List CellMeaning) (at : List ℕ) (asking : List CellMeaning) (place : List ℕ) →
@@ -88,8 +81,8 @@ all_off r writing at (row ∷ asking) [] asleep h = refl
 all_off r writing at (row ∷ asking) (place ∷ places) asleep h =
     off_parts (fits_along r.grid (cells_in row) place) (all_fit r.grid asking places)
     (all_fit (rewritten_along r (cells_in writing) at).grid (row ∷ asking) (place ∷ places) ≡ false) h
-    (λ off. first_off _ _ (row_off r (cells_in writing) at (cells_in row) place (All-head (λ other. LetSleep (cells_in writing) (cells_in other)) row asking asleep) off))
-    (λ off. rest_off _ _ (all_off r writing at asking places (All-tail (λ other. LetSleep (cells_in writing) (cells_in other)) row asking asleep) off))
+    (λ off. if_here _ _ (row_off r (cells_in writing) at (cells_in row) place (All-head (λ other. LetSleep (cells_in writing) (cells_in other)) row asking asleep) off))
+    (λ off. if_rest _ _ (all_off r writing at asking places (All-tail (λ other. LetSleep (cells_in writing) (cells_in other)) row asking asleep) off))
 
 -- nor behind those of all rows
 rows_off : (r : Rewritten) (writing : List (List (List CellMeaning))) (at : List (List ℕ))

@@ -6,7 +6,7 @@ use Rattle.std.specs.List.{range_with_len}
 use Rattle.std.proofs.Math.Nat.{add-mul}
 use Rattle.std.proofs.Math.Seq.{drop-cons}
 use Rattle.std.proofs.lemmas.Option.{slice_get_within, get_or_from_slice_get}
-use Rattle.std.proofs.lemmas.Grind.{common_steps}
+use Rattle.std.proofs.lemmas.List.{drop_all}
 use Rattle.ps_model.specs.declared.pieces.Slot.{Slot}
 use Rattle.ps_model.specs.board.Grid.{Grid}
 use Rattle.ps_model.specs.board.Places.{fits_there, fits_along}
@@ -51,8 +51,12 @@ split g table cells at size index c e h =
 unless : (test : Bool) (then_ : Bool) → test ≡ true → (elim test [ true ↦ then_ | false ↦ false ]) ≡ then_
 unless test then_ e = rw e refl
 
-nothing : (test : Bool) (then_ : Bool) → test ≡ false → (elim test [ true ↦ then_ | false ↦ false ]) ≡ false
-nothing test then_ e = rw e refl
+pub if_here : (test rest : Bool) → test ≡ false → (elim test [ true ↦ rest | false ↦ false ]) ≡ false
+if_here test rest e = rw e refl
+
+pub if_rest : (test rest : Bool) → rest ≡ false → (elim test [ true ↦ rest | false ↦ false ]) ≡ false
+if_rest true rest e = e
+if_rest false rest e = refl
 
 pub fits_from-on : (g : Grid) (table : Option (List ℕ)) (cells : List CompiledCell) (at : ℕ → ℕ) (size index : ℕ)
     (c : CompiledCell) → slice_get cells index ≡ Some c → index < size →
@@ -72,17 +76,14 @@ pub fits_from-off : (g : Grid) (table : Option (List ℕ)) (cells : List Compile
     fits_from g table cells at size index ≡ false
 fits_from-off g table cells at size index c e h fit =
     split g table cells at size index c e h
-    ∙ nothing (fits_there (cell_meaning table c) (slice_get g.cells (at index))) _
+    ∙ if_here (fits_there (cell_meaning table c) (slice_get g.cells (at index))) _
     (sym (fits_by_mask table c (slice_get g.cells (at index))) ∙ fit)
 
 -- all cells were looked at
-none_left : {X : Type 0} (xs : List X) (n : ℕ) → length xs ≤ n → drop n xs ≡ []
-none_left xs n h = grind (arith, common_steps)
-
 pub fits_from-end : (g : Grid) (table : Option (List ℕ)) (cells : List CompiledCell) (at : ℕ → ℕ) (size index : ℕ) →
     length cells ≡ size → size ≤ index → fits_from g table cells at size index ≡ true
 fits_from-end g table cells at size index e h = let n : size - index ≡ 0 = omega arith in
-    rw (n, none_left cells index (omega arith)) refl
+    rw (n, drop_all index cells (omega arith)) refl
 
 -- one cell more
 pub fits_from-by : (g : Grid) (table : Option (List ℕ)) (cells : List CompiledCell) (at : ℕ → ℕ) (size index : ℕ)
@@ -93,13 +94,6 @@ fits_from-by g table cells at size index c true e h fit = fits_from-on g table c
 fits_from-by g table cells at size index c false e h fit = fits_from-off g table cells at size index c e h fit
 
 -- a part one of whose cells doesn't fit
-if_rest : (test rest : Bool) → rest ≡ false → (elim test [ true ↦ rest | false ↦ false ]) ≡ false
-if_rest true rest e = e
-if_rest false rest e = refl
-
-if_here : (test rest : Bool) → test ≡ false → (elim test [ true ↦ rest | false ↦ false ]) ≡ false
-if_here test rest e = rw e refl
-
 one_off : (g : Grid) (table : Option (List ℕ)) (cells : List CompiledCell) (at : ℕ → ℕ) (a n i : ℕ) (c : CompiledCell) →
     slice_get cells i ≡ Some c → i < n →
     fits_there (cell_meaning table c) (slice_get g.cells (at (a + i))) ≡ false →

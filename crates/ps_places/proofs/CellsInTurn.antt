@@ -2,8 +2,7 @@
 use Rattle.std.proofs.Common.{◌≡◌, ◌∙◌, ℕ, ◌+◌, ◌-◌, ◌*◌, ◌<◌, ◌≤◌, suc, zero, Bool, true, false, Option, Some, None, List, [], ◌∷◌, length, map, drop, get_or, refl, sym, ap, ap₂, arith, drop-cons, add-one}
 use Rattle.std.specs.Prelude.{slice_get}
 use Rattle.std.specs.List.{range_with_len}
-use Rattle.std.proofs.lemmas.Grind.{common_steps}
-use Rattle.std.proofs.lemmas.List.{length-set}
+use Rattle.std.proofs.lemmas.List.{drop_all, length-set}
 use Rattle.std.proofs.lemmas.Option.{slice_get_past}
 use Rattle.std.proofs.Math.Nat.{mul-le-mul}
 use Rattle.ps_model.specs.declared.pieces.Slot.{Slot}
@@ -16,13 +15,9 @@ use Rattle.ps_program.specs.declared.cells.CompiledCell.{CompiledCell}
 use Rattle.ps_program.specs.ProgramShown.{mask_shown, write_shown}
 use Rattle.ps_match.specs.InRoom.{meaning_of_mask, meaning_of_write, write_in_room}
 use Rattle.ps_places.specs.Lines.{cell_meaning, cells_from, part_meaning}
+use Rattle.ps_places.proofs.CellByCell.{fits_by_mask}
 
--- a cell fits by its mask alone, and is rewritten by its write alone
-pub fits_by_mask : (table : Option (List ℕ)) (c : CompiledCell) (cell : Option (List Slot)) →
-    fits_there (meaning_of_mask (mask_shown c.mask)) cell ≡ fits_there (cell_meaning table c) cell
-fits_by_mask table c None = refl
-fits_by_mask table c (Some cell) = refl
-
+-- a cell is rewritten by its write alone
 pub rewritten_by_write : (r : Rewritten) (table : Option (List ℕ)) (c : CompiledCell) (n : ℕ)
     (cell : Option (List Slot)) →
     rewritten_cell r (meaning_of_write (write_in_room table (write_shown c.write))) n cell
@@ -120,17 +115,14 @@ same_length r m n None = refl
 same_length r m n (Some cell) = length-set (r.grid).cells n (m.rewritten cell)
 
 -- all cells were looked at
-none_left : {X : Type 0} (xs : List X) (n : ℕ) → length xs ≤ n → drop n xs ≡ []
-none_left xs n h = grind (arith, common_steps)
-
 pub fits_from-end : (g : Grid) (table : Option (List ℕ)) (part : List CompiledCell) (step index number : ℕ) →
     length part ≤ index → fits_from g table part step index number ≡ true
 fits_from-end g table part step index number h = let n : length part - index
-    ≡ 0 = omega arith in rw (n, none_left part index h) refl
+    ≡ 0 = omega arith in rw (n, drop_all index part h) refl
 
 pub rewritten_from-end : (r : Rewritten) (table : Option (List ℕ)) (part : List CompiledCell) (step index number : ℕ) →
     length part ≤ index → rewritten_from r table part step index number ≡ r
-rewritten_from-end r table part step index number h = rw (none_left part index h) refl
+rewritten_from-end r table part step index number h = rw (drop_all index part h) refl
 
 -- the next cell rewritten
 pub rewritten_from-on : (r : Rewritten) (table : Option (List ℕ)) (part : List CompiledCell) (step index number : ℕ)

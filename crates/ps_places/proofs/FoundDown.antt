@@ -2,8 +2,8 @@
 use Rattle.std.proofs.Common.{◌≡◌, ◌≢◌, ◌∙◌, ℕ, ◌+◌, ◌*◌, ◌<◌, ◌≤◌, ◌&&◌, ◌||◌, ◌⊎◌, inl, inr, Bool, true, false}
 use Rattle.std.proofs.Common.{Option, List, [], ◌∷◌, length, refl, sym, ap, ap₂, arith}
 use Rattle.std.specs.Prelude.{nat_eq, nat_le, nat_lt, if◌then◌else◌, slice_set}
-use Rattle.std.proofs.Math.Bool.{and-false}
-use Rattle.std.proofs.lemmas.Bool.{cases_eq, cases_lt}
+use Rattle.std.proofs.Math.Bool.{and-false, and-true, or-false}
+use Rattle.std.proofs.lemmas.Bool.{and_parts, cases_eq, cases_lt}
 use Rattle.std.proofs.lemmas.Bool.Decides.{nat_tests}
 use Rattle.std.proofs.lemmas.List.{get_or-set_same, get_or-set_other}
 use Rattle.ps_model.specs.declared.limits.TheConstants.{SIDE_LIMIT}
@@ -19,7 +19,6 @@ use Rattle.ps_places.specs.FoundStarts.{AreLinesFound, BeginInSets, HasNoWay, Is
 use Rattle.ps_places.specs.FoundStarts.{begins_on, part_of, set_of, with_row}
 use Rattle.ps_places.specs.Lines.{part_fits}
 use Rattle.ps_places.specs.Starts.{AreWhere, begins_down}
-use Rattle.ps_places.proofs.PartColumns.{and_true}
 use Rattle.ps_places.proofs.LineSets.{apart, none_has, with_here, with_other}
 
 -- a row added to the sets of some columns -----------------------------------------------------------------------------------
@@ -187,10 +186,6 @@ gathering-init g table part within count number old found rows below left grid s
       others = λ x other low n. refl;
     }
 
-or_false : (a : Bool) → (a || false) ≡ a
-or_false true = refl
-or_false false = refl
-
 -- one row more in one column: it is in these columns, and something was found there before
 more_by : (here found : Bool) (set : List Bool) (k y : ℕ) (left rest wants : Bool) → y < SIDE_LIMIT →
     (y ≡ k) ⊎ (y ≢ k) → (y ≡ k → wants ≡ here) → (y ≢ k → left ≡ rest) →
@@ -214,10 +209,10 @@ more_by false found set k y left rest wants low (inl same) want still inv =
     let no : wants ≡ false = want same in
     let off : ((found && column_at set y) || (left && false)) ≡ false =
     ap (λ (b : Bool). (found && column_at set y) || (left && b)) (sym no) ∙ inv ∙ no in
-    ap₂ (λ (b c : Bool). (b && column_at set y) || (rest && c)) (or_false found) no
+    ap₂ (λ (b c : Bool). (b && column_at set y) || (rest && c)) (or-false found) no
     ∙ ap (λ (b : Bool). (found && column_at set y) || b) (and-false rest ∙ sym (and-false left)) ∙ off ∙ sym no
 more_by false found set k y left rest wants low (inr other) want still inv =
-    ap₂ (λ (b c : Bool). (b && column_at set y) || (c && wants)) (or_false found) (sym (still other)) ∙ inv
+    ap₂ (λ (b c : Bool). (b && column_at set y) || (c && wants)) (or-false found) (sym (still other)) ∙ inv
 
 either_at : (found columns more : List Bool) (x : ℕ) → more ≡ either_columns found columns → x < SIDE_LIMIT →
     column_at more x ≡ (column_at found x || column_at columns x)
@@ -234,10 +229,6 @@ inside_by : (found here : Bool) (inside : Bool) → (found ≡ true → inside �
 inside_by true here inside e d is = e refl
 inside_by false true inside e d is = d refl
 inside_by false false inside e d is = absurd (cc)
-
-second : (a b : Bool) → (a && b) ≡ true → b ≡ true
-second true b e = e
-second false b e = absurd (cc)
 
 pub gathering-more : (g : Grid) (table : Option (List ℕ)) (part : List CompiledCell) (within : List Bool)
     (count number row : ℕ) (old now more : List (List Bool)) (found left rest fits columns found_now : List Bool) →
@@ -262,7 +253,10 @@ gathering-more g table part within count number row old now more found left rest
       inside = λ x is. elim (cases_lt x SIDE_LIMIT) [
         | inl low ↦
             inside_by (column_at found x) (column_at columns x) (column_at within x) (gathering.inside x)
-            (λ yes. second (column_at fits x) (column_at within x) (sym (both_at fits within columns x c low) ∙ yes))
+            (λ yes.
+            let both = and_parts (column_at fits x) (column_at within x)
+            (sym (both_at fits within columns x c low) ∙ yes) in
+            both.1)
             (sym (either_at found columns found_now x f low) ∙ is)
         | inr far ↦
             let out : column_at found_now x ≡ false =
@@ -280,7 +274,7 @@ all_found : (g : Grid) (table : Option (List ℕ)) (part : List CompiledCell) (w
     has_found now count number found x y ≡ wanted g table part within x y
 all_found g table part within count number old now found left none gathering x y low near =
     sym (ap (λ (b : Bool). has_found now count number found x y || (b && wanted g table part within x y))
-    (none_in left y none near) ∙ or_false (has_found now count number found x y))
+    (none_in left y none near) ∙ or-false (has_found now count number found x y))
     ∙ gathering.all x y low near
 
 wanted_in : (g : Grid) (table : Option (List ℕ)) (part : List CompiledCell) (within : List Bool) (x y : ℕ) →
@@ -289,7 +283,7 @@ wanted_in : (g : Grid) (table : Option (List ℕ)) (part : List CompiledCell) (w
 wanted_in g table part within x y is low =
     let across : nat_lt x g.width ≡ true = grind (arith, nat_tests, low) in
     ap₂ (λ (a b : Bool). (a && begins_on g table Down x part y) && b) across is
-    ∙ and_true (begins_on g table Down x part y)
+    ∙ and-true (begins_on g table Down x part y)
 
 pub gathered-down : (g : Grid) (table : Option (List ℕ)) (part : List CompiledCell) (within : List Bool)
     (count number : ℕ) (old now : List (List Bool)) (found left : List Bool) → IsGrid g →

@@ -46,7 +46,7 @@ if_and : (test a b : Bool) → (elim test [ true ↦ a && b | false ↦ false ])
 if_and true a b = refl
 if_and false a b = refl
 
-fits_along-append : (g : Grid) (part others : List CellMeaning) (cells more : List ℕ) → length part ≡ length cells →
+pub fits_along-append : (g : Grid) (part others : List CellMeaning) (cells more : List ℕ) → length part ≡ length cells →
     fits_along g (part ++ others) (cells ++ more) ≡ (fits_along g part cells && fits_along g others more)
 fits_along-append g [] others [] more e = refl
 fits_along-append g [] others (cell ∷ cells) more e = absurd (omega arith)

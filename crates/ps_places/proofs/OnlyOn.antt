@@ -121,7 +121,7 @@ not_all_move slots test off (first ∷ tests) (suc k) e =
     ap (λ (b : Bool). moves_as_asked slots first && b) (not_all_move slots test off tests k e)
     ∙ and-false (moves_as_asked slots first)
 
-last_off : (a b c d : Bool) → d ≡ false → (a && (b && (c && d))) ≡ false
+pub last_off : (a b c d : Bool) → d ≡ false → (a && (b && (c && d))) ≡ false
 last_off true true true d e = e
 last_off true true false d e = refl
 last_off true false c d e = refl

@@ -3,7 +3,7 @@ use Rattle.std.proofs.Common.{◌≡◌, ◌∙◌, ℕ, ◌+◌, ◌-◌, ◌*�
 use Rattle.std.proofs.Common.{length, map, refl, sym, ap, ap₂, arith}
 use Rattle.std.specs.Prelude.{nat_le, nat_lt, slice_get}
 use Rattle.std.specs.List.{range_with_len}
-use Rattle.std.proofs.Math.Bool.{and-false}
+use Rattle.std.proofs.Math.Bool.{and-false, and-true, and_assoc}
 use Rattle.std.proofs.lemmas.Bool.Decides.{nat_tests}
 use Rattle.ps_model.specs.declared.limits.TheConstants.{SIDE_LIMIT}
 use Rattle.ps_model.specs.board.Grid.{Grid, IsGrid}
@@ -23,14 +23,6 @@ use Rattle.ps_places.specs.Starts.{AreWhere, begins_down}
 use Rattle.ps_places.proofs.CellByCell.{fits_from, fits_from-by, fits_from-end, fits_from-off, moved_on}
 
 -- both of two tests
-pub and_true : (a : Bool) → (a && true) ≡ a
-and_true true = refl
-and_true false = refl
-
-and_assoc : (a b c : Bool) → ((a && b) && c) ≡ (a && (b && c))
-and_assoc true b c = refl
-and_assoc false b c = refl
-
 and_swap : (a b c d : Bool) → ((a && b) && (c && d)) ≡ (a && (c && (b && d)))
 and_swap true true c d = refl
 and_swap true false true d = refl
@@ -142,7 +134,7 @@ across-all g table part row index columns all left =
       at = λ x low.
           sym (ap (λ (b : Bool). column_at columns x && b)
           (fits_from-end g table part (λ k. x * g.height + row + k * g.height) (length part) index refl all)
-          ∙ and_true (column_at columns x))
+          ∙ and-true (column_at columns x))
           ∙ left.at x low;
     }
 
@@ -235,6 +227,6 @@ down-all g table part row index columns all room left =
           let fits : nat_le (row + length part) g.height ≡ true = grind (arith, nat_tests, room) in
           sym (ap₂ (λ (b c : Bool). column_at columns x && (b && c)) fits
           (fits_from-end g table part (λ k. x * g.height + row + k * 1) (length part) index refl all)
-          ∙ and_true (column_at columns x))
+          ∙ and-true (column_at columns x))
           ∙ left.at x low;
     }

@@ -1,12 +1,9 @@
 -- The place of a way: it fits where each part does, and is rewritten part by part.
-use Rattle.std.proofs.Common.{◌≡◌, ◌∙◌, ℕ, ◌+◌, ◌<◌, ◌*◌, ◌≤◌, ◌&&◌, inl, inr, Bool, true, false, Option, List, [], ◌∷◌, ◌++◌, length, map, drop, get_or, refl, sym, ap, ap₂, arith, drop-cons, add-one}
+use Rattle.std.proofs.Common.{◌≡◌, ◌∙◌, ℕ, ◌+◌, ◌<◌, ◌*◌, ◌≤◌, ◌&&◌, Bool, true, Option, List, [], ◌∷◌, ◌++◌, length, map, drop, get_or, refl, sym, ap, ap₂, arith, drop-cons, add-one}
 use Rattle.std.specs.Prelude.{All, slice_get}
-use Rattle.std.proofs.lemmas.Bool.{cases_Bool}
-use Rattle.std.proofs.lemmas.Grind.{common_steps}
-use Rattle.std.proofs.lemmas.List.{length-map}
+use Rattle.std.proofs.lemmas.List.{drop_all, length-map}
 use Rattle.std.proofs.lemmas.List.FromFn.{length-map-range_with_len}
 use Rattle.ps_model.specs.board.Grid.{Grid}
-use Rattle.ps_model.specs.board.Places.{fits_along, fits_there}
 use Rattle.ps_model.specs.board.Attempts.{Rewritten, rewritten_along, rewritten_cell}
 use Rattle.ps_model.specs.meaning.RuleMeanings.{CellMeaning}
 use Rattle.ps_program.specs.declared.cells.CompiledCell.{CompiledCell}
@@ -16,23 +13,9 @@ use Rattle.ps_places.specs.FittingWays.{way_fits}
 use Rattle.ps_places.specs.RowPlaces.{cells_meaning, part_sizes, place_fits, way_cells}
 use Rattle.ps_places.specs.Ways.{from_first}
 use Rattle.ps_places.proofs.FirstOf.{first-map}
+use Rattle.ps_places.proofs.LineWays.{fits_along-append}
 
 -- lists of as many cells and meanings behind others
-fits-append : (g : Grid) (ms ns : List CellMeaning) (cs ds : List ℕ) → length ms ≡ length cs →
-    fits_along g (ms ++ ns) (cs ++ ds) ≡ (fits_along g ms cs && fits_along g ns ds)
-fits-append g [] ns [] ds e = refl
-fits-append g [] ns (c ∷ cs) ds e = absurd (omega (arith, e))
-fits-append g (m ∷ ms) ns [] ds e = absurd (omega (arith, e))
-fits-append g (m ∷ ms) ns (c ∷ cs) ds e = elim (cases_Bool (fits_there m (slice_get g.cells c))) [
-  | inl fit ↦
-      ap (λ (b : Bool). elim b [ true ↦ fits_along g (ms ++ ns) (cs ++ ds) | false ↦ false ]) fit
-      ∙ fits-append g ms ns cs ds (omega (arith, e))
-      ∙ ap (λ (b : Bool). elim b [ true ↦ fits_along g ms cs | false ↦ false ] && fits_along g ns ds) (sym fit)
-  | inr out ↦
-      ap (λ (b : Bool). elim b [ true ↦ fits_along g (ms ++ ns) (cs ++ ds) | false ↦ false ]) out
-      ∙ ap (λ (b : Bool). elim b [ true ↦ fits_along g ms cs | false ↦ false ] && fits_along g ns ds) (sym out)
-]
-
 rewritten-append : (r : Rewritten) (ms ns : List CellMeaning) (cs ds : List ℕ) → length ms ≡ length cs →
     rewritten_along r (ms ++ ns) (cs ++ ds) ≡ rewritten_along (rewritten_along r ms cs) ns ds
 rewritten-append r [] ns [] ds e = refl
@@ -58,7 +41,7 @@ place-fits-way g table axis line [] [] e = refl
 place-fits-way g table axis line [] (p ∷ way) e = absurd (omega (arith, e))
 place-fits-way g table axis line (part ∷ parts) [] e = absurd (omega (arith, e))
 place-fits-way g table axis line (part ∷ parts) (p ∷ way) e =
-    fits-append g (part_meaning table part) (cells_meaning table parts) (line_cells axis g.height line p (length part))
+    fits_along-append g (part_meaning table part) (cells_meaning table parts) (line_cells axis g.height line p (length part))
     (way_cells axis g.height line (part_sizes parts) way)
     (as_many table axis g.height line p part)
     ∙ ap (λ (b : Bool). part_fits g table axis line part p && b)
@@ -90,13 +73,10 @@ way-fits-next g table axis line parts way i part d fit low short e f =
     (drop (i + 1) parts) (drop (i + 1) way)) (sym e)
     ∙ ap (λ (b : Bool). b && way_fits g table axis line (drop (i + 1) parts) (drop (i + 1) way)) f
 
-none_left : {X : Type 0} (xs : List X) (n : ℕ) → length xs ≤ n → drop n xs ≡ []
-none_left xs n h = grind (arith, common_steps)
-
 pub way-fits-end : (g : Grid) (table : Option (List ℕ)) (axis : Axis) (line : ℕ) (parts : List (List CompiledCell))
     (way : List ℕ) (i : ℕ) → length parts ≤ i → length way ≤ i →
     way_fits g table axis line (drop i parts) (drop i way) ≡ true
-way-fits-end g table axis line parts way i few short = rw (none_left parts i few, none_left way i short) refl
+way-fits-end g table axis line parts way i few short = rw (drop_all i parts few, drop_all i way short) refl
 
 -- what is left of a row from a part on, rewritten
 abbrev pub row_rewritten_from : Rewritten → Option (List ℕ) → Axis → ℕ → ℕ → List (List CompiledCell) → List ℕ → ℕ →
@@ -124,4 +104,4 @@ row-rewritten-next r table axis height line parts way i part d low short e =
 pub row-rewritten-end : (r : Rewritten) (table : Option (List ℕ)) (axis : Axis) (height line : ℕ)
     (parts : List (List CompiledCell)) (way : List ℕ) (i : ℕ) → length parts ≤ i →
     row_rewritten_from r table axis height line parts way i ≡ r
-row-rewritten-end r table axis height line parts way i few = rw (none_left parts i few) refl
+row-rewritten-end r table axis height line parts way i few = rw (drop_all i parts few) refl

@@ -3,7 +3,8 @@ use Rattle.std.proofs.Common.{◌≡◌, ◌∙◌, ℕ, suc, zero, ◌&&◌, �
 use Rattle.std.proofs.Common.{filter, refl, sym, ap, ap₂}
 use Rattle.std.specs.Prelude.{not, slice_get, slice_set}
 use Rattle.std.specs.List.{list_all}
-use Rattle.std.proofs.lemmas.Bool.{and_parts, eq-eqb}
+use Rattle.std.proofs.Math.Bool.{or-false}
+use Rattle.std.proofs.lemmas.Bool.{and_parts, eq-eqb, not-false}
 use Rattle.ps_model.specs.declared.pieces.Slot.{Slot}
 use Rattle.ps_model.specs.declared.pieces.Slot.TheVariants.{Bare, Holds}
 use Rattle.ps_model.specs.meaning.Compiled as model
@@ -51,26 +52,18 @@ leaves_in_room (Some layers) cell stays =
     let parts = and_parts (list_all (is_listed mask.barred) write.gone) (list_all (keeps_layer mask) write.layers) stays in
     ap₂ (λ (a b : Bool). a && b) parts.0 (all_of_kept (keeps_layer mask) (has_room_for (Some layers)) write.layers parts.1)
 
-told-not : (changes leaving : Bool) → changes ≡ not leaving → changes ≡ false → leaving ≡ true
-told-not changes true tells e = refl
-told-not changes false tells e = absurd (cc)
-
 pub written_to_itself : (table : Option (List ℕ)) (cell : CompiledCell) → cell.changes ≡ false → (slots : List Slot) →
     mask_fits (mask_shown cell.mask) slots ≡ true →
     cell_written (write_in_room table (write_shown cell.write)) slots ≡ slots
 written_to_itself table cell idle slots fits =
     leaves-cell (cell_in_room table (cell_shown cell)) slots
-    (leaves_in_room table cell (told-not cell.changes (leaves (cell_shown cell)) cell.tells idle)) fits
+    (leaves_in_room table cell (not-false (leaves (cell_shown cell)) (sym cell.tells ∙ idle))) fits
 
 -- put in place of itself, it changes nothing
 set-same : {X : Type 0} (xs : List X) (n : ℕ) (x : X) → slice_get xs n ≡ Some x → slice_set xs n x ≡ xs
 set-same [] n x e = refl
 set-same (y ∷ ys) zero x e = let is : y ≡ x = cc in ap (λ (z : _). z ∷ ys) (sym is)
 set-same (y ∷ ys) (suc n) x e = ap (λ (zs : List _). y ∷ zs) (set-same ys n x e)
-
-or-false : (b : Bool) → (b || false) ≡ b
-or-false true = refl
-or-false false = refl
 
 -- a cell that stays, rewritten
 abbrev with_change : Rewritten → List (List Slot) → Bool → Rewritten

@@ -10,7 +10,8 @@ use Rattle.ps_match.specs.InRoom.{meaning_of_mask, sides_of, write_in_room}
 use Rattle.ps_match.specs.Together.{is_on_row, rewritten_where}
 use Rattle.ps_match.proofs.RowWritten.{height-where, sides-where, told}
 use Rattle.ps_places.specs.Lines.{cell_meaning}
-use Rattle.ps_engine.proofs.RowsWritten.{FitsNotAt, all_rows, fits_by_mask, fits_not_at, fits_nowhere, fits_passed, found_on_row, no_row_yet, none_at_first, none_of_row, one_row_more, row_empty, row_left}
+use Rattle.ps_places.proofs.CellByCell.{fits_by_mask}
+use Rattle.ps_engine.proofs.RowsWritten.{FitsNotAt, all_rows, fits_not_at, fits_nowhere, fits_passed, found_on_row, no_row_yet, none_at_first, none_of_row, one_row_more, row_empty, row_left}
 use Rattle.ps_engine.proofs.one_cell.write_all.Goals as goal
 
 pub loop-row-init : goal.loop-row-init
