@@ -24,11 +24,6 @@ pub fits_by_mask : (table : Option (List ℕ)) (c : CompiledCell) (cell : Option
 fits_by_mask table c None = refl
 fits_by_mask table c (Some cell) = refl
 
--- the element at an index, and the rest
-drop-at : {X : Type 0} (xs : List X) (i : ℕ) (x : X) → slice_get xs i ≡ Some x → drop i xs ≡ x ∷ drop (suc i) xs
-drop-at xs i x e = drop-cons xs i x (slice_get_within xs i x e)
-    ∙ ap (λ y. y ∷ drop (suc i) xs) (get_or_from_slice_get xs i x x e)
-
 -- what is left of a part from an index on
 abbrev pub fits_from : Grid → Option (List ℕ) → List CompiledCell → (ℕ → ℕ) → ℕ → ℕ → Bool
 fits_from g table cells at size index = fits_along g (map (cell_meaning table) (drop index cells))
@@ -43,8 +38,11 @@ split : (g : Grid) (table : Option (List ℕ)) (cells : List CompiledCell) (at :
     (at index ∷ map at (range_with_len (index + 1) (size - (index + 1))))
 split g table cells at size index c e h =
     let n : size - index ≡ suc (size - (index + 1)) = omega arith in
+    let rest : drop index cells ≡ c ∷ drop (suc index) cells =
+    drop-cons cells index c (slice_get_within cells index c e)
+    ∙ ap (λ (first : CompiledCell). first ∷ drop (suc index) cells) (get_or_from_slice_get cells index c c e) in
     ap (λ (cs : List CompiledCell). fits_along g (map (cell_meaning table) cs)
-    (map at (range_with_len index (size - index)))) (drop-at cells index c e)
+    (map at (range_with_len index (size - index)))) rest
     ∙ ap (λ (k : ℕ). fits_along g (map (cell_meaning table) (c ∷ drop (suc index) cells))
     (map at (range_with_len index k))) n
 

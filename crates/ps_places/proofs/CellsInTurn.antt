@@ -1,8 +1,8 @@
 -- A part of a row on a line, cell by cell.
-use Rattle.std.proofs.Common.{◌≡◌, ◌∙◌, ℕ, ◌+◌, ◌-◌, ◌*◌, ◌<◌, ◌≤◌, suc, zero, Bool, true, false, Option, Some, None, List, [], ◌∷◌, length, map, drop, get_or, refl, sym, ap, ap₂, arith, drop-cons, add-one}
+use Rattle.std.proofs.Common.{◌≡◌, ◌∙◌, ℕ, ◌+◌, ◌-◌, ◌*◌, ◌<◌, ◌≤◌, suc, zero, Bool, true, false, Option, Some, None, List, [], ◌∷◌, length, map, drop, get_or, refl, sym, ap, ap₂, arith}
 use Rattle.std.specs.Prelude.{slice_get}
 use Rattle.std.specs.List.{range_with_len}
-use Rattle.std.proofs.lemmas.List.{drop_all, length-set}
+use Rattle.std.proofs.lemmas.List.{drop_all, drop_more, length-set}
 use Rattle.std.proofs.lemmas.Option.{slice_get_past}
 use Rattle.std.proofs.Math.Nat.{mul-le-mul}
 use Rattle.ps_model.specs.declared.pieces.Slot.{Slot}
@@ -39,10 +39,6 @@ cells_from-next step first n m e =
     let start : first + 0 * step ≡ first = omega arith in
     rw e (ap₂ (λ (x : ℕ) (xs : List ℕ). x ∷ xs) start (later_on step first 0 m))
 
-drop-here : {X : Type 0} (xs : List X) (i : ℕ) (x : X) → i < length xs → x ≡ get_or xs i x →
-    drop i xs ≡ x ∷ drop (i + 1) xs
-drop-here xs i x low e = rw (add-one, drop-cons xs i x) (ap (λ (y : _). y ∷ drop (suc i) xs) (sym e))
-
 -- what is left of a part from a cell on
 abbrev pub fits_from : Grid → Option (List ℕ) → List CompiledCell → ℕ → ℕ → ℕ → Bool
 fits_from g table part step index number = fits_along g (part_meaning table (drop index part))
@@ -55,7 +51,9 @@ rewritten_from r table part step index number = rewritten_along r (part_meaning 
 split : (table : Option (List ℕ)) (part : List CompiledCell) (index : ℕ) (c : CompiledCell) → index < length part →
     c ≡ get_or part index c →
     part_meaning table (drop index part) ≡ cell_meaning table c ∷ part_meaning table (drop (index + 1) part)
-split table part index c low e = ap (part_meaning table) (drop-here part index c low e)
+split table part index c low e =
+    ap (part_meaning table) (drop_more part index c low)
+    ∙ ap (λ (first : CompiledCell). part_meaning table (first ∷ drop (index + 1) part)) (sym e)
 
 split_cells : (part : List CompiledCell) (step index number : ℕ) → index < length part →
     cells_from step number (length part - index) ≡ number ∷ cells_from step (number + step) (length part - (index + 1))

@@ -1,7 +1,7 @@
 -- The place of a way: it fits where each part does, and is rewritten part by part.
-use Rattle.std.proofs.Common.{◌≡◌, ◌∙◌, ℕ, ◌+◌, ◌<◌, ◌*◌, ◌≤◌, ◌&&◌, Bool, true, Option, List, [], ◌∷◌, ◌++◌, length, map, drop, get_or, refl, sym, ap, ap₂, arith, drop-cons, add-one}
+use Rattle.std.proofs.Common.{◌≡◌, ◌∙◌, ℕ, ◌+◌, ◌<◌, ◌*◌, ◌≤◌, ◌&&◌, Bool, true, Option, List, [], ◌∷◌, ◌++◌, length, map, drop, get_or, refl, sym, ap, ap₂, arith}
 use Rattle.std.specs.Prelude.{All, slice_get}
-use Rattle.std.proofs.lemmas.List.{drop_all, length-map}
+use Rattle.std.proofs.lemmas.List.{drop_all, drop_more, length-map}
 use Rattle.std.proofs.lemmas.List.FromFn.{length-map-range_with_len}
 use Rattle.ps_model.specs.board.Grid.{Grid}
 use Rattle.ps_model.specs.board.Attempts.{Rewritten, rewritten_along, rewritten_cell}
@@ -57,9 +57,6 @@ first-of-places g table axis line parts ways long =
     (λ k d low. place-fits-way g table axis line parts (get_or ways k d) (long k d low))
 
 -- the next part of a way
-pub drop-here : {X : Type 0} (xs : List X) (i : ℕ) (d : X) → i < length xs → drop i xs ≡ get_or xs i d ∷ drop (i + 1) xs
-drop-here xs i d low = rw (add-one, drop-cons xs i d) refl
-
 pub way-fits-next : (g : Grid) (table : Option (List ℕ)) (axis : Axis) (line : ℕ) (parts : List (List CompiledCell))
     (way : List ℕ) (i : ℕ) (part : List CompiledCell) (d : ℕ) (fit : Bool) →
     i < length parts → i < length way → part ≡ get_or parts i part →
@@ -67,8 +64,8 @@ pub way-fits-next : (g : Grid) (table : Option (List ℕ)) (axis : Axis) (line :
     way_fits g table axis line (drop i parts) (drop i way)
     ≡ (fit && way_fits g table axis line (drop (i + 1) parts) (drop (i + 1) way))
 way-fits-next g table axis line parts way i part d fit low short e f =
-    ap₂ (λ (ps : List (List CompiledCell)) (w : List ℕ). way_fits g table axis line ps w) (drop-here parts i part low)
-    (drop-here way i d short)
+    ap₂ (λ (ps : List (List CompiledCell)) (w : List ℕ). way_fits g table axis line ps w) (drop_more parts i part low)
+    (drop_more way i d short)
     ∙ ap (λ (p : List CompiledCell). part_fits g table axis line p (get_or way i d) && way_fits g table axis line
     (drop (i + 1) parts) (drop (i + 1) way)) (sym e)
     ∙ ap (λ (b : Bool). b && way_fits g table axis line (drop (i + 1) parts) (drop (i + 1) way)) f
@@ -94,8 +91,8 @@ pub row-rewritten-next : (r : Rewritten) (table : Option (List ℕ)) (axis : Axi
 row-rewritten-next r table axis height line parts way i part d low short e =
     ap₂ (λ (ps : List (List CompiledCell)) (w : List ℕ). rewritten_along r (cells_meaning table ps)
     (way_cells axis height line (part_sizes ps) w))
-    (drop-here parts i part low ∙ ap (λ (p : List CompiledCell). p ∷ drop (i + 1) parts) (sym e))
-    (drop-here way i d short)
+    (drop_more parts i part low ∙ ap (λ (p : List CompiledCell). p ∷ drop (i + 1) parts) (sym e))
+    (drop_more way i d short)
     ∙ rewritten-append r (part_meaning table part) (cells_meaning table (drop (i + 1) parts))
     (line_cells axis height line (get_or way i d) (length part))
     (way_cells axis height line (part_sizes (drop (i + 1) parts)) (drop (i + 1) way))

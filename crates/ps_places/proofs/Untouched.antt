@@ -5,6 +5,7 @@ use Rattle.std.specs.Prelude.{slice_get, slice_set, ⊤}
 use Rattle.std.specs.List.{range_with_len}
 use Rattle.std.proofs.Math.Nat.{add-mul}
 use Rattle.std.proofs.lemmas.Bool.{and_parts}
+use Rattle.std.proofs.lemmas.List.{drop_more}
 use Rattle.ps_model.specs.declared.pieces.Slot.{Slot}
 use Rattle.ps_model.specs.board.Grid.{Grid}
 use Rattle.ps_model.specs.board.Places.{fits_along, fits_there}
@@ -18,7 +19,7 @@ use Rattle.ps_places.specs.FittingWays.{way_fits}
 use Rattle.ps_places.specs.RowPlaces.{part_sizes}
 use Rattle.ps_places.specs.Spaced.{IsSpaced}
 use Rattle.ps_places.proofs.CellsInTurn.{fits_from}
-use Rattle.ps_places.proofs.PlacesOfWays.{drop-here, way-fits-next}
+use Rattle.ps_places.proofs.PlacesOfWays.{way-fits-next}
 
 -- the numbers are less than one, and they are it or greater
 abbrev pub AreBelow : ℕ → List ℕ → Type 0
@@ -181,9 +182,9 @@ pub rest-spaced : (parts : List (List CompiledCell)) (way : List ℕ) (i : ℕ) 
     IsSpaced (part_sizes (drop i parts)) from (drop i way) →
     IsSpaced (part_sizes (drop (i + 1) parts)) (get_or way i d + length part) (drop (i + 1) way)
 rest-spaced parts way i part d from low short e spaced =
-    let first : drop i parts ≡ part ∷ drop (i + 1) parts = drop-here parts i part low
+    let first : drop i parts ≡ part ∷ drop (i + 1) parts = drop_more parts i part low
     ∙ ap (λ (p : List CompiledCell). p ∷ drop (i + 1) parts) (sym e) in
-    let at : drop i way ≡ get_or way i d ∷ drop (i + 1) way = drop-here way i d short in
+    let at : drop i way ≡ get_or way i d ∷ drop (i + 1) way = drop_more way i d short in
     let split : IsSpaced (part_sizes (part ∷ drop (i + 1) parts)) from (get_or way i d ∷ drop (i + 1) way) =
     rw (first, at) at spaced in
     split.1

@@ -1,10 +1,12 @@
 -- A cell that fits a compiled cell whose write changes nothing that it fits is written to itself.
-use Rattle.std.proofs.Common.{◌≡◌, ◌∙◌, ℕ, suc, zero, ◌&&◌, ◌||◌, Bool, true, false, Option, Some, None, List, [], ◌∷◌}
+use Rattle.std.proofs.Common.{◌≡◌, ◌∙◌, ℕ, ◌&&◌, ◌||◌, Bool, true, false, Option, Some, None, List, [], ◌∷◌}
 use Rattle.std.proofs.Common.{filter, refl, sym, ap, ap₂}
 use Rattle.std.specs.Prelude.{not, slice_get, slice_set}
 use Rattle.std.specs.List.{list_all}
 use Rattle.std.proofs.Math.Bool.{or-false}
 use Rattle.std.proofs.lemmas.Bool.{and_parts, eq-eqb, not-false}
+use Rattle.std.proofs.lemmas.List.{set-get_or}
+use Rattle.std.proofs.lemmas.Option.{get_or_from_slice_get}
 use Rattle.ps_model.specs.declared.pieces.Slot.{Slot}
 use Rattle.ps_model.specs.declared.pieces.Slot.TheVariants.{Bare, Holds}
 use Rattle.ps_model.specs.meaning.Compiled as model
@@ -59,12 +61,6 @@ written_to_itself table cell idle slots fits =
     leaves-cell (cell_in_room table (cell_shown cell)) slots
     (leaves_in_room table cell (not-false (leaves (cell_shown cell)) (sym cell.tells ∙ idle))) fits
 
--- put in place of itself, it changes nothing
-set-same : {X : Type 0} (xs : List X) (n : ℕ) (x : X) → slice_get xs n ≡ Some x → slice_set xs n x ≡ xs
-set-same [] n x e = refl
-set-same (y ∷ ys) zero x e = let is : y ≡ x = cc in ap (λ (z : _). z ∷ ys) (sym is)
-set-same (y ∷ ys) (suc n) x e = ap (λ (zs : List _). y ∷ zs) (set-same ys n x e)
-
 -- a cell that stays, rewritten
 abbrev with_change : Rewritten → List (List Slot) → Bool → Rewritten
 with_change r cells changed = record {
@@ -80,6 +76,10 @@ idle_cell r table cell number None idle is fit = refl
 idle_cell r table cell number (Some slots) idle is fit =
     let same : cell_written (write_in_room table (write_shown cell.write)) slots ≡ slots =
     written_to_itself table cell idle slots fit in
-    ap (λ (new : List Slot). with_change r (slice_set (r.grid).cells number new) (not (same_cell slots new))) same
-    ∙ ap₂ (with_change r) (set-same (r.grid).cells number slots is) (ap not (cell_itself slots))
+    let cells : List (List Slot) = (r.grid).cells in
+    let put : slice_set cells number slots ≡ cells =
+    ap (slice_set cells number) (sym (get_or_from_slice_get cells number slots slots is))
+    ∙ set-get_or cells number slots in
+    ap (λ (new : List Slot). with_change r (slice_set cells number new) (not (same_cell slots new))) same
+    ∙ ap₂ (with_change r) put (ap not (cell_itself slots))
     ∙ ap (λ (b : Bool). let again : Rewritten = record { grid = r.grid; changed = b } in again) (or-false r.changed)
