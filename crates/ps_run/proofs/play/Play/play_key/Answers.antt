@@ -10,14 +10,14 @@ pub returns-in-Ok-clause-written : goal.returns-in-Ok-clause-written
 returns-in-Ok-clause-written g c =
     let before = writer_told (g.W.ByteWriter.contents c.args.writer.now) (g.W.ByteWriter.has_failed c.args.writer.now) (g.W.ByteWriter.calls c.args.writer.now) (g.W.ByteWriter.empty_calls c.args.writer.now) in
     let now =
-        writer_told (g.W.ByteWriter.contents c.write_screen.new.writer) (g.W.ByteWriter.has_failed c.write_screen.new.writer) (g.W.ByteWriter.calls c.write_screen.new.writer)
-        (g.W.ByteWriter.empty_calls c.write_screen.new.writer) in
+    writer_told (g.W.ByteWriter.contents c.write_screen.new.writer) (g.W.ByteWriter.has_failed c.write_screen.new.writer) (g.W.ByteWriter.calls c.write_screen.new.writer)
+    (g.W.ByteWriter.empty_calls c.write_screen.new.writer) in
     text_taken c.write_screen.result before now c.key.new.screen c.clear.new.self _ c.in-Ok.ensures.written c.clear.ensures c.write_screen.ensures.written
 
 pub returns-in-Ok-clause-stops : goal.returns-in-Ok-clause-stops
 returns-in-Ok-clause-stops g c =
     let before = writer_told (g.W.ByteWriter.contents c.args.writer.now) (g.W.ByteWriter.has_failed c.args.writer.now) (g.W.ByteWriter.calls c.args.writer.now) (g.W.ByteWriter.empty_calls c.args.writer.now) in
     let now =
-        writer_told (g.W.ByteWriter.contents c.write_screen.new.writer) (g.W.ByteWriter.has_failed c.write_screen.new.writer) (g.W.ByteWriter.calls c.write_screen.new.writer)
-        (g.W.ByteWriter.empty_calls c.write_screen.new.writer) in
+    writer_told (g.W.ByteWriter.contents c.write_screen.new.writer) (g.W.ByteWriter.has_failed c.write_screen.new.writer) (g.W.ByteWriter.calls c.write_screen.new.writer)
+    (g.W.ByteWriter.empty_calls c.write_screen.new.writer) in
     text_stopped c.write_screen.result before now c.key.new.screen c.clear.new.self _ c.in-Ok.ensures.written c.clear.ensures c.write_screen.ensures.stops
