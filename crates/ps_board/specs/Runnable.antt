@@ -4,7 +4,8 @@ use Rattle.std.specs.List.{list_all}
 use Rattle.ps_model.specs.declared.compiled.LayerWrite.{LayerWrite}
 use Rattle.ps_model.specs.declared.compiled.ObjectWrite.{ObjectWrite}
 use Rattle.ps_model.specs.declared.compiled.ObjectWrite.TheVariants.{Put, Leave, Clear}
-use Rattle.ps_model.specs.meaning.Compiled.{CompiledCell, CompiledRule, CompiledSection, CompiledGroup, CompiledLoop}
+use Rattle.ps_model.specs.board.RuleSections.{Group, Loop}
+use Rattle.ps_model.specs.meaning.Compiled.{CompiledCell, CompiledRule, CompiledSection}
 use Rattle.ps_board.specs.Rooms.{has_room}
 
 -- what is put has room on its layer
@@ -28,8 +29,8 @@ abbrev pub rule_runs : Option (List ℕ) → CompiledRule → Bool
 rule_runs table rule = list_all (row_runs table) rule.rows
 
 abbrev pub section_runs : Option (List ℕ) → CompiledSection → Bool
-section_runs table (CompiledGroup rules) = list_all (rule_runs table) rules
-section_runs table (CompiledLoop body) = list_all (list_all (rule_runs table)) body
+section_runs table (Group rules) = list_all (rule_runs table) rules
+section_runs table (Loop body) = list_all (list_all (rule_runs table)) body
 
 -- a program that a board can run as it is
 abbrev pub IsRunnable : Option (List ℕ) → List CompiledSection → Type 0

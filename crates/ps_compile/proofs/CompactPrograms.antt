@@ -1,10 +1,10 @@
 -- Compact programs run as the lines that they are made of mean: turning a rule round and leaving out one that can do nothing
 -- change no round.
-use Rattle.std.proofs.Common.{◌≡◌, Bool, true, false, not, cond, List, [], ◌∷◌, ◌++◌, map, filter, flat_map, filter_map, reverse, refl, sym, subst, ap, ap₂, ◌∙◌}
+use Rattle.std.proofs.Common.{◌≡◌, Bool, true, false, not, cond, List, [], ◌∷◌, map, flat_map, reverse, refl, sym, subst, ap, ap₂, ◌∙◌}
 use Rattle.std.specs.Prelude.{All}
-use Rattle.std.specs.List.{AllZip, slice_split}
+use Rattle.std.specs.List.{AllZip}
 use Rattle.std.proofs.lemmas.List.{map-append}
-use Rattle.std.proofs.lemmas.List.Elements.{All-head, All-tail, All-filter}
+use Rattle.std.proofs.lemmas.List.Elements.{All-head, All-tail}
 use Rattle.std.proofs.lemmas.Simd.{map-map}
 use Rattle.ps_model.specs.declared.pieces.Direction.{Direction}
 use Rattle.ps_model.specs.declared.pieces.Direction.TheVariants.{Up, Down, Left, Right}
@@ -13,27 +13,25 @@ use Rattle.ps_model.specs.names.Names.{Names}
 use Rattle.ps_model.specs.rules.SourceRules.{SourceRule, RuleLine, Commands}
 use Rattle.ps_model.specs.board.GameGrids.{IsGridOf}
 use Rattle.ps_model.specs.board.Attempts.{Result}
-use Rattle.ps_model.specs.board.Programs.{Section, Group, after_change, round}
-use Rattle.ps_model.specs.board.RulePrograms.{is_in_part, rule_in, is_start, is_end, groups_of, groups_in, groups_outside, loop_and_rest, sections_of_pieces, program_of}
+use Rattle.ps_model.specs.board.Programs.{after_change, round}
+use Rattle.ps_model.specs.board.RulePrograms.{program_of}
 use Rattle.ps_model.specs.meaning.GameRules.{IsRuleOf, IsLineOf}
 use Rattle.ps_model.specs.meaning.TurnedRound.{row_turned, forwards}
 use Rattle.ps_model.specs.meaning.RuleMeanings.{CellMeaning, RuleMeaning}
 use Rattle.ps_model.specs.meaning.ReadingMeanings.{meanings}
-use Rattle.ps_model.specs.meaning.Compiled.{CompiledCell, CompiledRule, CompiledSection, CompiledGroup, meaning_of_cell, meaning_of_rule, meaning_of_section, meaning_of_program}
+use Rattle.ps_model.specs.meaning.Compiled.{CompiledCell, CompiledRule, CompiledSection, meaning_of_cell, meaning_of_rule, meaning_of_program}
 use Rattle.ps_model.specs.meaning.CompiledRules.{compiled_rules}
 use Rattle.ps_laws.specs.EqualMeanings.{SameRule, EqualResults}
 use Rattle.ps_laws.specs.IdleRules.{IsIdle}
 use Rattle.ps_laws.specs.AlikeRounds.{Alike, AlikeSection}
-use Rattle.ps_laws.proofs.common.Everywhere.{All-filter_map, All-slice_split}
-use Rattle.ps_laws.proofs.common.Zipped.{AllZip-append, AllZip-made, AllZip-flat_map}
-use Rattle.ps_laws.proofs.grids.KeptRules.{All-groups_of, rule_in-game}
+use Rattle.ps_laws.proofs.common.RuleSections.{rules-game, program-related}
 use Rattle.ps_laws.proofs.masks.AgreeingCells.{compiled_rules-same}
 use Rattle.ps_laws.proofs.alike.TurnedPlaces.{map-reverse}
 use Rattle.ps_laws.proofs.alike.AlikeRounds.{alike-append, alike-forwards}
 use Rattle.ps_laws.proofs.alike.EqualPrograms.{round-same}
 use Rattle.ps_laws.proofs.alike.AlikePrograms.{program_run-alike}
 use Rattle.ps_compile.specs.IdleRules.{is_idle}
-use Rattle.ps_compile.specs.CompactPrograms.{rule_forwards, compact, compact_rules, compact_groups, compact_outside, compact_loop_and_rest, compact_pieces, compact_program}
+use Rattle.ps_compile.specs.CompactPrograms.{rule_forwards, compact, compact_rules, compact_program}
 use Rattle.ps_compile.specs.AlikeRuns.{RunsAlike}
 use Rattle.ps_compile.proofs.IdleRules.{idle-so}
 
@@ -104,50 +102,9 @@ group-alike names (rule ∷ group) all =
     (compact-alike names (compiled_rules names rule) (meanings names rule) (compiled_rules-same names rule (All-head (IsRuleOf names) rule group all)))
     (group-alike names group (All-tail (IsRuleOf names) rule group all)))
 
--- the groups of lines
-groups-alike : (names : Names) (part : Part) (lines : List RuleLine) → All (IsLineOf names) lines → AllZip (Alike names) (map (map meaning_of_rule) (compact_groups names part lines)) (groups_in names part lines)
-groups-alike names part lines all =
-    let rules : List SourceRule = filter (is_in_part part) (filter_map rule_in lines) in
-    let game : All (IsRuleOf names) rules =
-    All-filter (is_in_part part) (IsRuleOf names) (filter_map rule_in lines) (All-filter_map (IsRuleOf names) (IsLineOf names) rule_in lines (rule_in-game names) all) in
-    AllZip-made (All (IsRuleOf names)) (Alike names) (flat_map (compact_rules names)) (map meaning_of_rule) (flat_map (meanings names)) (group-alike names) (groups_of rules) (All-groups_of (IsRuleOf names) rules game)
-
--- groups as sections
-sections-alike : (names : Names) (made : List (List CompiledRule)) (groups : List (List RuleMeaning)) → AllZip (Alike names) (map (map meaning_of_rule) made) groups →
-    AllZip (AlikeSection names) (map meaning_of_section (map CompiledGroup made)) (map Group groups)
-sections-alike names [] [] h = tt
-sections-alike names [] (group ∷ groups) h = absurd h
-sections-alike names (rules ∷ made) [] h = absurd h
-sections-alike names (rules ∷ made) (group ∷ groups) h = (h.0, sections-alike names made groups h.1)
-
-outside-alike : (names : Names) (part : Part) (lines : List RuleLine) → All (IsLineOf names) lines → AllZip (AlikeSection names) (map meaning_of_section (compact_outside names part lines)) (groups_outside names part lines)
-outside-alike names part lines all = sections-alike names (compact_groups names part lines) (groups_in names part lines) (groups-alike names part lines all)
-
-loop_and_rest-alike : (names : Names) (part : Part) (pieces : List (List RuleLine)) → All (All (IsLineOf names)) pieces →
-    AllZip (AlikeSection names) (map meaning_of_section (compact_loop_and_rest names part pieces)) (loop_and_rest names part pieces)
-loop_and_rest-alike names part [] all = tt
-loop_and_rest-alike names part (body ∷ others) all = (
-  groups-alike names part body (All-head (All (IsLineOf names)) body others all),
-  AllZip-flat_map (All (IsLineOf names)) (AlikeSection names) (compact_outside names part) meaning_of_section (groups_outside names part) (outside-alike names part) others
-      (All-tail (All (IsLineOf names)) body others all),
-)
-
-pieces-alike : (names : Names) (part : Part) (pieces : List (List RuleLine)) → All (All (IsLineOf names)) pieces →
-    AllZip (AlikeSection names) (map meaning_of_section (compact_pieces names part pieces)) (sections_of_pieces names part pieces)
-pieces-alike names part [] all = tt
-pieces-alike names part (before ∷ behind) all =
-    let made : List RuleLine → List CompiledSection = λ lines. compact_loop_and_rest names part (slice_split is_end lines) in
-    let meant : List RuleLine → List Section = λ lines. loop_and_rest names part (slice_split is_end lines) in
-    subst (λ sections. AllZip (AlikeSection names) sections (groups_outside names part before ++ flat_map meant behind))
-    (sym (map-append meaning_of_section (compact_outside names part before) (flat_map made behind)))
-    (AllZip-append (AlikeSection names) (map meaning_of_section (compact_outside names part before)) (groups_outside names part before) (map meaning_of_section (flat_map made behind)) (flat_map meant behind)
-    (outside-alike names part before (All-head (All (IsLineOf names)) before behind all))
-    (AllZip-flat_map (All (IsLineOf names)) (AlikeSection names) made meaning_of_section meant
-    (λ lines h. loop_and_rest-alike names part (slice_split is_end lines) (All-slice_split (IsLineOf names) is_end lines h)) behind (All-tail (All (IsLineOf names)) before behind all)))
-
 -- the compact program of lines runs as the lines mean
 pub runs-alike : (names : Names) (part : Part) (lines : List RuleLine) (sections : List CompiledSection) → sections ≡ compact_program names part lines → RunsAlike names part lines sections
 runs-alike names part lines sections e all =
     program_run-alike names (meaning_of_program sections) (program_of names part lines)
     (subst (λ (made : List CompiledSection). AllZip (AlikeSection names) (meaning_of_program made) (program_of names part lines)) (sym e)
-    (pieces-alike names part (slice_split is_start lines) (All-slice_split (IsLineOf names) is_start lines all)))
+    (program-related (IsRuleOf names) (Alike names) (compact_rules names) (map meaning_of_rule) (meanings names) (group-alike names) part lines (rules-game names lines all)))

@@ -2,6 +2,7 @@ pub mod CompactPrograms
 pub mod IdleCells
 pub mod IdleRules
 pub mod MadePieces
+pub mod MadeSections
 pub mod RunnablePrograms
 pub mod TurnedRules
 mod WholeRows

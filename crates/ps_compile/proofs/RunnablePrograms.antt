@@ -1,9 +1,9 @@
 -- Programs of a game run as they are on each board where the game's objects have room on their layers.
-use Rattle.std.proofs.Common.{◌≡◌, ℕ, ◌<◌, Bool, true, Option, Some, None, List, [], ◌∷◌, length, map, filter, flat_map, filter_map, reverse, get_or, slice_get, refl, sym, subst, ap, ◌∙◌, arith}
-use Rattle.std.specs.Prelude.{All, IfSome}
-use Rattle.std.specs.List.{list_all, slice_split}
+use Rattle.std.proofs.Common.{◌≡◌, ℕ, ◌<◌, Bool, true, Option, Some, None, List, length, map, filter, reverse, get_or, slice_get, refl, sym, subst, ap, ◌∙◌, arith}
+use Rattle.std.specs.Prelude.{All}
+use Rattle.std.specs.List.{list_all}
 use Rattle.std.proofs.lemmas.List.{length-map}
-use Rattle.std.proofs.lemmas.List.Elements.{All-nil, All-cons, All-head, All-tail, All-append, All-filter, All-weaker}
+use Rattle.std.proofs.lemmas.List.Elements.{All-filter, All-weaker}
 use Rattle.std.proofs.lemmas.List.Sums.{list_all-from_AllPass}
 use Rattle.std.proofs.lemmas.Option.{slice_get-map, slice_get-get_or, get_or_from_slice_get}
 use Rattle.ps_model.specs.declared.pieces.ObjectId.{ObjectId}
@@ -12,21 +12,20 @@ use Rattle.ps_model.specs.declared.compiled.ObjectWrite.{ObjectWrite}
 use Rattle.ps_model.specs.declared.compiled.ObjectWrite.TheVariants.{Put, Leave, Clear}
 use Rattle.ps_model.specs.declared.rules.Part.{Part}
 use Rattle.ps_model.specs.names.Names.{Names, layer_of, object_count}
-use Rattle.ps_model.specs.rules.SourceRules.{SourceRule, RuleLine, Rule, LoopStart, LoopEnd}
-use Rattle.ps_model.specs.board.RulePrograms.{is_in_part, rule_in, is_start, is_end, groups_of}
-use Rattle.ps_model.specs.meaning.GameRules.{IsRuleOf, IsLineOf}
+use Rattle.ps_model.specs.rules.SourceRules.{SourceRule, RuleLine}
+use Rattle.ps_model.specs.board.RuleSections.{Group, Loop}
 use Rattle.ps_model.specs.meaning.TurnedRound.{row_turned}
-use Rattle.ps_model.specs.meaning.Compiled.{CompiledRule, CompiledSection, CompiledGroup, CompiledLoop}
+use Rattle.ps_model.specs.meaning.Compiled.{CompiledRule, CompiledSection}
 use Rattle.ps_model.specs.meaning.CompiledRules.{compiled_rules}
-use Rattle.ps_laws.specs.WholeRows.{IsWholeRow, HasWholeRows, IsWholeLine}
+use Rattle.ps_laws.specs.WholeRows.{IsWholeRow, IsWholeLine}
 use Rattle.ps_laws.specs.CompiledGames.{PutsOwn, IsWriteOf, IsCompiledCellOf, IsCompiledRuleOf, IsSectionOf}
 use Rattle.ps_laws.proofs.common.WholeRows.{All-reverse, whole-turned}
-use Rattle.ps_laws.proofs.common.Everywhere.{either_one, All-mapped, All-flat_map, All-filter_map, All-slice_split}
-use Rattle.ps_laws.proofs.grids.KeptRules.{All-groups_of}
+use Rattle.ps_laws.proofs.common.Everywhere.{either_one, All-mapped}
+use Rattle.ps_laws.proofs.common.RuleSections.{IsWholeRuleOf, whole_rules-game, program-each}
 use Rattle.ps_laws.proofs.masks.OwnLayers.{compiled_rules-game}
 use Rattle.ps_board.specs.Rooms.{has_room, HaveRoom, layer_numbers}
 use Rattle.ps_board.specs.Runnable.{object_has_room, has_room_for, cell_has_room, row_runs, rule_runs, section_runs, IsRunnable}
-use Rattle.ps_compile.specs.CompactPrograms.{faces_back, rule_turned, rule_forwards, is_busy, compact_rules, compact_groups, compact_outside, compact_loop_and_rest, compact_pieces, compact_program}
+use Rattle.ps_compile.specs.CompactPrograms.{faces_back, rule_turned, rule_forwards, is_busy, compact_rules, compact_program}
 use Rattle.ps_compile.specs.RunnablePrograms.{RunsOnBoards}
 
 -- elements of a kind that passes a test pass it all
@@ -70,8 +69,8 @@ rule_runs-so names table layers e room rule h =
 -- a section of the game
 section_runs-so : (names : Names) (table : Option (List ℕ)) (layers : List LayerId) → layer_numbers layers ≡ names.layers → HaveRoom table layers → (section : CompiledSection) → IsSectionOf names section →
     section_runs table section ≡ true
-section_runs-so names table layers e room (CompiledGroup rules) h = all_pass (IsCompiledRuleOf names) (rule_runs table) (rule_runs-so names table layers e room) rules h
-section_runs-so names table layers e room (CompiledLoop body) h =
+section_runs-so names table layers e room (Group rules) h = all_pass (IsCompiledRuleOf names) (rule_runs table) (rule_runs-so names table layers e room) rules h
+section_runs-so names table layers e room (Loop body) h =
     all_pass (All (IsCompiledRuleOf names)) (list_all (rule_runs table)) (all_pass (IsCompiledRuleOf names) (rule_runs table) (rule_runs-so names table layers e room)) body h
 
 -- sections of the game
@@ -91,50 +90,11 @@ turned-game names rule h = record {
 }
 
 -- the compact rules of a game's rule
-compact_rules-game : (names : Names) (rule : SourceRule) → IsRuleOf names rule × HasWholeRows rule → All (IsCompiledRuleOf names) (compact_rules names rule)
+compact_rules-game : (names : Names) (rule : SourceRule) → IsWholeRuleOf names rule → All (IsCompiledRuleOf names) (compact_rules names rule)
 compact_rules-game names rule h =
     All-filter is_busy (IsCompiledRuleOf names) (map rule_forwards (compiled_rules names rule))
     (All-mapped (IsCompiledRuleOf names) (IsCompiledRuleOf names) rule_forwards (compiled_rules names rule)
     (λ made of_game. either_one (IsCompiledRuleOf names) (faces_back made.direction) (rule_turned made) made (turned-game names made of_game) of_game) (compiled_rules-game names rule h.0 h.1))
-
--- a rule of the game whose rows are whole, and a line that has such a rule, or none
-abbrev IsWholeRuleOf : Names → SourceRule → Type 0
-IsWholeRuleOf names rule = IsRuleOf names rule × HasWholeRows rule
-
-abbrev IsWholeLineOf : Names → RuleLine → Type 0
-IsWholeLineOf names line = IsLineOf names line × IsWholeLine line
-
-rule_in-whole : (names : Names) (line : RuleLine) → IsWholeLineOf names line → IfSome (rule_in line) (IsWholeRuleOf names)
-rule_in-whole names (Rule rule) h = h
-rule_in-whole names LoopStart h = tt
-rule_in-whole names LoopEnd h = tt
-
-groups-game : (names : Names) (part : Part) (lines : List RuleLine) → All (IsWholeLineOf names) lines → All (All (IsCompiledRuleOf names)) (compact_groups names part lines)
-groups-game names part lines all =
-    let rules : List SourceRule = filter (is_in_part part) (filter_map rule_in lines) in
-    let game : All (IsWholeRuleOf names) rules =
-    All-filter (is_in_part part) (IsWholeRuleOf names) (filter_map rule_in lines) (All-filter_map (IsWholeRuleOf names) (IsWholeLineOf names) rule_in lines (rule_in-whole names) all) in
-    All-mapped (All (IsCompiledRuleOf names)) (All (IsWholeRuleOf names)) (flat_map (compact_rules names)) (groups_of rules)
-    (λ group. All-flat_map (IsCompiledRuleOf names) (IsWholeRuleOf names) (compact_rules names) group (compact_rules-game names)) (All-groups_of (IsWholeRuleOf names) rules game)
-
-outside-game : (names : Names) (part : Part) (lines : List RuleLine) → All (IsWholeLineOf names) lines → All (IsSectionOf names) (compact_outside names part lines)
-outside-game names part lines all =
-    All-mapped (IsSectionOf names) (All (IsCompiledRuleOf names)) CompiledGroup (compact_groups names part lines) (λ rules h. h) (groups-game names part lines all)
-
-loop_and_rest-game : (names : Names) (part : Part) (pieces : List (List RuleLine)) → All (All (IsWholeLineOf names)) pieces → All (IsSectionOf names) (compact_loop_and_rest names part pieces)
-loop_and_rest-game names part [] all = All-nil (IsSectionOf names)
-loop_and_rest-game names part (body ∷ others) all =
-    All-cons (IsSectionOf names) (CompiledLoop (compact_groups names part body)) (flat_map (compact_outside names part) others)
-    (groups-game names part body (All-head (All (IsWholeLineOf names)) body others all))
-    (All-flat_map (IsSectionOf names) (All (IsWholeLineOf names)) (compact_outside names part) others (outside-game names part) (All-tail (All (IsWholeLineOf names)) body others all))
-
-pieces-game : (names : Names) (part : Part) (pieces : List (List RuleLine)) → All (All (IsWholeLineOf names)) pieces → All (IsSectionOf names) (compact_pieces names part pieces)
-pieces-game names part [] all = All-nil (IsSectionOf names)
-pieces-game names part (before ∷ behind) all =
-    All-append (IsSectionOf names) (compact_outside names part before) (flat_map (λ lines. compact_loop_and_rest names part (slice_split is_end lines)) behind)
-    (outside-game names part before (All-head (All (IsWholeLineOf names)) before behind all))
-    (All-flat_map (IsSectionOf names) (All (IsWholeLineOf names)) (λ lines. compact_loop_and_rest names part (slice_split is_end lines)) behind
-    (λ lines h. loop_and_rest-game names part (slice_split is_end lines) (All-slice_split (IsWholeLineOf names) is_end lines h)) (All-tail (All (IsWholeLineOf names)) before behind all))
 
 -- the compact program of lines
 pub runs-on-boards : (names : Names) (part : Part) (lines : List RuleLine) (sections : List CompiledSection) → sections ≡ compact_program names part lines → All IsWholeLine lines →
@@ -142,4 +102,4 @@ pub runs-on-boards : (names : Names) (part : Part) (lines : List RuleLine) (sect
 runs-on-boards names part lines sections e whole of_game table layers listed room =
     subst (λ (made : List CompiledSection). IsRunnable table made) (sym e)
     (sections-run names (compact_program names part lines)
-    (pieces-game names part (slice_split is_start lines) (All-slice_split (IsWholeLineOf names) is_start lines (λ k d within. (of_game k d within, whole k d within)))) table layers listed room)
+    (program-each (IsWholeRuleOf names) (IsCompiledRuleOf names) (compact_rules names) (compact_rules-game names) part lines (whole_rules-game names lines of_game whole)) table layers listed room)

@@ -1,7 +1,6 @@
 -- Compiled programs of the rules that can do something, all facing down or right: what is compiled of a game. A rule that
 -- faces up or left is turned round; of several rules that are the same each stays.
-use Rattle.std.specs.Prelude.{Bool, true, false, not, if◌then◌else◌, List, [], ◌∷◌, ◌++◌, map, filter}
-use Rattle.std.specs.List.{flat_map, filter_map, slice_split}
+use Rattle.std.specs.Prelude.{Bool, true, false, not, if◌then◌else◌, List, map, filter}
 use Rattle.ps_model.specs.declared.pieces.Direction.{Direction}
 use Rattle.ps_model.specs.declared.pieces.Direction.TheVariants.{Up, Down, Left, Right}
 use Rattle.ps_model.specs.declared.rules.Part.{Part}
@@ -9,9 +8,9 @@ use Rattle.ps_model.specs.names.Names.{Names}
 use Rattle.ps_model.specs.rules.SourceRules.{SourceRule, RuleLine}
 use Rattle.ps_model.specs.meaning.Directions.{opposite}
 use Rattle.ps_model.specs.meaning.TurnedRound.{row_turned}
-use Rattle.ps_model.specs.meaning.Compiled.{CompiledRule, CompiledSection, CompiledGroup, CompiledLoop}
+use Rattle.ps_model.specs.meaning.Compiled.{CompiledRule, CompiledSection}
 use Rattle.ps_model.specs.meaning.CompiledRules.{compiled_rules}
-use Rattle.ps_model.specs.board.RulePrograms.{is_in_part, rule_in, is_start, is_end, groups_of}
+use Rattle.ps_model.specs.board.RulePrograms.{program_by}
 use Rattle.ps_compile.specs.IdleRules.{is_idle}
 
 -- rules ----------------------------------------------------------------------------------------------------------------------
@@ -45,27 +44,6 @@ compact_rules names rule = compact (compiled_rules names rule)
 
 -- programs -------------------------------------------------------------------------------------------------------------------
 
--- the groups of one part that lines make
-abbrev pub compact_groups : Names → Part → List RuleLine → List (List CompiledRule)
-compact_groups names part lines =
-    map (flat_map (compact_rules names)) (groups_of (filter (is_in_part part) (filter_map rule_in lines)))
-
--- those outside of loops
-abbrev pub compact_outside : Names → Part → List RuleLine → List CompiledSection
-compact_outside names part lines = map CompiledGroup (compact_groups names part lines)
-
--- the lines behind the start of a loop, cut at its end
-abbrev pub compact_loop_and_rest : Names → Part → List (List RuleLine) → List CompiledSection
-compact_loop_and_rest names part [] = []
-compact_loop_and_rest names part (body ∷ others) =
-    CompiledLoop (compact_groups names part body) ∷ flat_map (compact_outside names part) others
-
--- the lines cut at the starts of loops
-abbrev pub compact_pieces : Names → Part → List (List RuleLine) → List CompiledSection
-compact_pieces names part [] = []
-compact_pieces names part (before ∷ behind) =
-    compact_outside names part before ++ flat_map (λ lines. compact_loop_and_rest names part (slice_split is_end lines)) behind
-
 -- the program of a part of a turn
 abbrev pub compact_program : Names → Part → List RuleLine → List CompiledSection
-compact_program names part lines = compact_pieces names part (slice_split is_start lines)
+compact_program names part lines = program_by (compact_rules names) part lines

@@ -1,18 +1,14 @@
 //! The two compiled programs of a game's rules.
 
-ghost use Rattle.std.specs.Prelude.{◌≡◌, ◌++◌, All, IfOk, OnOk, map};
-ghost use Rattle.std.specs.List.{flat_map};
+ghost use Rattle.std.specs.Prelude.{◌≡◌, ◌++◌, All, IfOk, OnOk};
 ghost use Rattle.ps_model.specs.declared.rules.Part.TheVariants.{Plain, Late};
 ghost use Rattle.ps_model.specs.board.RulePrograms.{is_in_part};
-ghost use Rattle.ps_model.specs.meaning.Compiled.{CompiledGroup};
 ghost use Rattle.ps_laws.specs.WholeRows.{IsWholeLine};
-ghost use Rattle.ps_compile.specs.CompactPrograms.{compact_groups, compact_outside, compact_loop_and_rest};
-ghost use Rattle.ps_compile.specs.CompactPrograms.{compact_pieces, compact_program};
+ghost use Rattle.ps_compile.specs.CompactPrograms.{compact_program};
 ghost use Rattle.ps_rules.specs.RulesShown.{rule_shown as source_shown, lines_shown};
 ghost use Rattle.ps_program.specs.ProgramShown.{groups_shown, sections_shown};
 ghost use Rattle.ps_compile.specs.AlikeRuns.{RunsAlike};
-ghost use Rattle.ps_compile.specs.PiecesShown.{pieces_shown};
-ghost use Rattle.ps_compile.specs.ProgramsMade.{sections_behind};
+ghost use Rattle.ps_compile.specs.ProgramsMade.{compact_groups, compact_outside, compact_behind};
 ghost use Rattle.ps_compile.specs.RunnablePrograms.{RunsOnBoards};
 
 use crate::groups::Groups;
@@ -64,21 +60,7 @@ fn compiled_groups<'r>(
     groups.finish()
 }
 
-/// Puts groups last, each as a section.
-fn push_groups<'r>(
-    sections: &mut Vec<CompiledSection<'r>>,
-    groups: Vec<List<CompiledRule<'r>>>,
-) -> Result<(), Memory>
-    ensures { OnOk result (sections_shown sections.new.items
-        ≡ sections_shown sections.old.items ++ map CompiledGroup (groups_shown groups.entry.items)) }
-{
-    for group in groups {
-        sections.push(CompiledSection::Group(group))?;
-    }
-    Ok(())
-}
-
-/// Puts the sections of lines outside of loops last.
+/// Puts the groups of lines outside of loops last, each as a section.
 fn push_outside<'r>(
     alloc: Global,
     sections: &mut Vec<CompiledSection<'r>>,
@@ -90,49 +72,13 @@ fn push_outside<'r>(
     ensures { OnOk result (sections_shown sections.new.items
         ≡ sections_shown sections.old.items ++ compact_outside names.now part (lines_shown lines.entry.now)) }
 {
-    let groups = compiled_groups(alloc, names, part, lines)?;
-    push_groups(sections, groups)
-}
-
-/// Puts the sections of pieces outside of loops last.
-fn push_all_outside<'r>(
-    alloc: Global,
-    sections: &mut Vec<CompiledSection<'r>>,
-    names: &Names,
-    part: Part,
-    pieces: &[&'r [RuleLine]],
-) -> Result<(), Memory>
-    requires { All (All IsWholeLine) (pieces_shown pieces.now) }
-    ensures { OnOk result (sections_shown sections.new.items
-        ≡ sections_shown sections.old.items ++ flat_map (compact_outside names.now part) (pieces_shown pieces.now)) }
-{
-    for piece in pieces {
-        push_outside(alloc, sections, names, part, piece)?;
+    for group in compiled_groups(alloc, names, part, lines)? {
+        sections.push(CompiledSection::Group(group))?;
     }
     Ok(())
 }
 
-/// Puts the sections of pieces last of which the first is a loop's body.
-fn push_loop<'r>(
-    alloc: Global,
-    sections: &mut Vec<CompiledSection<'r>>,
-    names: &Names,
-    part: Part,
-    pieces: &[&'r [RuleLine]],
-) -> Result<(), Memory>
-    requires { All (All IsWholeLine) (pieces_shown pieces.now) }
-    ensures { OnOk result (sections_shown sections.new.items
-        ≡ sections_shown sections.old.items ++ compact_loop_and_rest names.now part (pieces_shown pieces.now)) }
-{
-    let Some((body, others)) = pieces.split_first() else {
-        return Ok(());
-    };
-    let groups = compiled_groups(alloc, names, part, body)?;
-    sections.push(CompiledSection::Loop(List::from_vec(groups)))?;
-    push_all_outside(alloc, sections, names, part, others)
-}
-
-/// Puts the sections of the lines behind the start of a loop last.
+/// Puts the sections of the lines behind the start of a loop last: a loop, and what follows its end.
 fn push_behind<'r>(
     alloc: Global,
     sections: &mut Vec<CompiledSection<'r>>,
@@ -142,50 +88,21 @@ fn push_behind<'r>(
 ) -> Result<(), Memory>
     requires { All IsWholeLine (lines_shown lines.now) }
     ensures { OnOk result (sections_shown sections.new.items
-        ≡ sections_shown sections.old.items ++ sections_behind names.now part (lines_shown lines.entry.now)) }
+        ≡ sections_shown sections.old.items ++ compact_behind names.now part (lines_shown lines.entry.now)) }
 {
     let pieces = cut_at_ends(alloc, lines)?;
-    push_loop(alloc, sections, names, part, &pieces)
-}
-
-/// Puts the sections of the lines behind each start of a loop last.
-fn push_all_behind<'r>(
-    alloc: Global,
-    sections: &mut Vec<CompiledSection<'r>>,
-    names: &Names,
-    part: Part,
-    pieces: &[&'r [RuleLine]],
-) -> Result<(), Memory>
-    requires { All (All IsWholeLine) (pieces_shown pieces.now) }
-    ensures { OnOk result (sections_shown sections.new.items
-        ≡ sections_shown sections.old.items ++ flat_map (sections_behind names.now part) (pieces_shown pieces.now)) }
-{
-    for piece in pieces {
-        push_behind(alloc, sections, names, part, piece)?;
+    let Some((inside, others)) = pieces.split_first() else {
+        return Ok(());
+    };
+    let groups = compiled_groups(alloc, names, part, inside)?;
+    sections.push(CompiledSection::Loop(List::from_vec(groups)))?;
+    for piece in others {
+        push_outside(alloc, sections, names, part, piece)?;
     }
     Ok(())
 }
 
-/// Puts the sections of lines last that are cut at the starts of loops.
-fn push_pieces<'r>(
-    alloc: Global,
-    sections: &mut Vec<CompiledSection<'r>>,
-    names: &Names,
-    part: Part,
-    pieces: &[&'r [RuleLine]],
-) -> Result<(), Memory>
-    requires { All (All IsWholeLine) (pieces_shown pieces.now) }
-    ensures { OnOk result (sections_shown sections.new.items
-        ≡ sections_shown sections.old.items ++ compact_pieces names.now part (pieces_shown pieces.now)) }
-{
-    let Some((before, behind)) = pieces.split_first() else {
-        return Ok(());
-    };
-    push_outside(alloc, sections, names, part, before)?;
-    push_all_behind(alloc, sections, names, part, behind)
-}
-
-/// The compiled program of one part of a turn.
+/// The compiled program of one part of a turn: the lines before the first start of a loop, and those behind each.
 fn program_of<'r>(
     alloc: Global,
     names: &Names,
@@ -195,9 +112,15 @@ fn program_of<'r>(
     requires { All IsWholeLine (lines_shown lines.now) }
     ensures { IfOk result (λ program. program ≡ compact_program names.now part (lines_shown lines.entry.now)) }
 {
-    let pieces = cut_at_starts(alloc, lines)?;
     let mut sections = Vec::new(alloc);
-    push_pieces(alloc, &mut sections, names, part, &pieces)?;
+    let pieces = cut_at_starts(alloc, lines)?;
+    let Some((before, others)) = pieces.split_first() else {
+        return Ok(Program::from_sections(sections));
+    };
+    push_outside(alloc, &mut sections, names, part, before)?;
+    for piece in others {
+        push_behind(alloc, &mut sections, names, part, piece)?;
+    }
     Ok(Program::from_sections(sections))
 }
 

@@ -6,6 +6,7 @@ pub mod Foldings
 pub mod LinesInOrder
 pub mod Neighbours
 pub mod OptionalSteps
+pub mod RuleSections
 pub mod Slots
 pub mod StagedReadings
 pub mod Stages

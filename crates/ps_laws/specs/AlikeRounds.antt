@@ -8,7 +8,8 @@ use Rattle.ps_model.specs.names.Names.{Names}
 use Rattle.ps_model.specs.board.GameGrids.{IsGridOf}
 use Rattle.ps_model.specs.meaning.RuleMeanings.{RuleMeaning}
 use Rattle.ps_model.specs.board.Attempts.{State}
-use Rattle.ps_model.specs.board.Programs.{Section, Group, Loop, round, group, pass, looped, section_run, program_run}
+use Rattle.ps_model.specs.board.Programs.{Section, round, group, pass, looped, section_run, program_run}
+use Rattle.ps_laws.specs.EachGroup.{GroupByGroup}
 use Rattle.ps_laws.specs.EqualMeanings.{SameGroup, EqualResults, EqualProgress, EqualStates}
 use Rattle.ps_model.specs.meaning.TurnedRound.{forwards}
 use Rattle.ps_laws.specs.KeptGrids.{Keeps}
@@ -24,10 +25,7 @@ Alike names a b = (state : State) → IsGridOf names state.grid → EqualResults
 -- two sections are alike: both are groups whose rules are alike, or both are loops over groups that are alike one by
 -- one
 abbrev pub AlikeSection : Names → Section → Section → Type 0
-AlikeSection names (Group a) (Group b) = Alike names a b
-AlikeSection names (Group a) (Loop b) = ⊥
-AlikeSection names (Loop a) (Group b) = ⊥
-AlikeSection names (Loop a) (Loop b) = AllZip (Alike names) a b
+AlikeSection names a b = GroupByGroup (Alike names) a b
 
 -- what is alike --------------------------------------------------------------------------------------------------------------
 

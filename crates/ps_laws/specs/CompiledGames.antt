@@ -8,8 +8,9 @@ use Rattle.ps_model.specs.declared.compiled.LayerWrite.{LayerWrite}
 use Rattle.ps_model.specs.names.Names.{Names, layer_of, object_count}
 use Rattle.ps_model.specs.rules.SourceRules.{SourceRule, RuleLine}
 use Rattle.ps_model.specs.meaning.GameRules.{IsRuleOf, IsLineOf}
-use Rattle.ps_model.specs.meaning.Compiled.{CompiledCell, CompiledRule, CompiledSection, CompiledGroup, CompiledLoop}
+use Rattle.ps_model.specs.meaning.Compiled.{CompiledCell, CompiledRule, CompiledSection}
 use Rattle.ps_model.specs.meaning.CompiledRules.{compiled_rules, compiled_program}
+use Rattle.ps_laws.specs.EachGroup.{EachGroup}
 use Rattle.ps_laws.specs.WholeRows.{IsWholeRow, HasWholeRows, IsWholeLine}
 
 -- what is put on a layer is an object of the game that lies there
@@ -33,8 +34,7 @@ pub record IsCompiledRuleOf (names : Names) (rule : CompiledRule) : Type 0 where
 
 -- a section of such rules
 abbrev pub IsSectionOf : Names → CompiledSection → Type 0
-IsSectionOf names (CompiledGroup rules) = All (IsCompiledRuleOf names) rules
-IsSectionOf names (CompiledLoop body) = All (All (IsCompiledRuleOf names)) body
+IsSectionOf names section = EachGroup (All (IsCompiledRuleOf names)) section
 
 -- the laws -----------------------------------------------------------------------------------------------------------------
 

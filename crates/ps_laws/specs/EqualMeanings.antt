@@ -9,8 +9,9 @@ use Rattle.ps_model.specs.names.Names.{Names}
 use Rattle.ps_model.specs.board.GameGrids.{IsCellOf, IsGridOf}
 use Rattle.ps_model.specs.meaning.RuleMeanings.{CellMeaning, RuleMeaning}
 use Rattle.ps_model.specs.board.Attempts.{State, Result, attempt}
-use Rattle.ps_model.specs.board.Programs.{Section, Group, Loop, Progress, round, group, pass, looped, section_run}
+use Rattle.ps_model.specs.board.Programs.{Section, Progress, round, group, pass, looped, section_run}
 use Rattle.ps_model.specs.board.Programs.{program_run}
+use Rattle.ps_laws.specs.EachGroup.{GroupByGroup}
 
 -- alike --------------------------------------------------------------------------------------------------------------------
 
@@ -35,10 +36,7 @@ SameGroup names a b = AllZip (SameRule names) a b
 
 -- two sections are alike: both are groups that are alike, or both are loops over groups that are alike one by one
 abbrev pub SameSection : Names → Section → Section → Type 0
-SameSection names (Group a) (Group b) = SameGroup names a b
-SameSection names (Group a) (Loop b) = ⊥
-SameSection names (Loop a) (Group b) = ⊥
-SameSection names (Loop a) (Loop b) = AllZip (SameGroup names) a b
+SameSection names a b = GroupByGroup (SameGroup names) a b
 
 -- equal --------------------------------------------------------------------------------------------------------------------
 

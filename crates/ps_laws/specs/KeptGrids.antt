@@ -13,12 +13,13 @@ use Rattle.ps_model.specs.meaning.Readings.{Reading, readings}
 use Rattle.ps_model.specs.meaning.RuleMeanings.{CellMeaning, RuleMeaning}
 use Rattle.ps_model.specs.meaning.ReadingMeanings.{cell_meaning, meanings}
 use Rattle.ps_model.specs.board.Attempts.{State, attempt}
-use Rattle.ps_model.specs.board.Programs.{Section, Group, Loop, round, settled, group, pass, looped, section_run}
+use Rattle.ps_model.specs.board.Programs.{Section, round, settled, group, pass, looped, section_run}
 use Rattle.ps_model.specs.board.Programs.{sections_run, program_run}
 use Rattle.ps_model.specs.board.RulePrograms.{program_of}
 use Rattle.ps_model.specs.board.Movement.{slid}
 use Rattle.ps_model.specs.board.Inputs.{with_input}
 use Rattle.ps_model.specs.game.Games.{Game}
+use Rattle.ps_laws.specs.EachGroup.{EachGroup}
 use Rattle.ps_model.specs.board.Turns.{Script, script_of, Outcome, Blocked, Restarted, Finished, turn}
 
 -- a cell of a rule makes of each cell of the game, whether it fits or not, a cell of the game
@@ -31,8 +32,7 @@ Keeps names rule = All (All (All (KeepsCells names))) rule.rows
 
 -- all rules of a section do
 abbrev pub KeepsInSection : Names → Section → Type 0
-KeepsInSection names (Group rules) = All (Keeps names) rules
-KeepsInSection names (Loop body) = All (All (Keeps names)) body
+KeepsInSection names section = EachGroup (All (Keeps names)) section
 
 -- the board that an outcome has, if it has one, is a grid of the game
 abbrev pub IsOutcomeOf : Names → Outcome → Type 0

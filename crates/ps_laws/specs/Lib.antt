@@ -1,6 +1,7 @@
 pub mod OneGame
 pub mod Stages
 pub mod Settling
+pub mod EachGroup
 pub mod EqualMeanings
 pub mod KeptGrids
 pub mod SameSides

@@ -2,6 +2,7 @@ pub mod Grid
 pub mod Levels
 pub mod Places
 pub mod Attempts
+pub mod RuleSections
 pub mod Programs
 pub mod RulePrograms
 pub mod Movement

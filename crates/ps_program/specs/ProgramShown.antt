@@ -1,5 +1,6 @@
 -- Compiled rules of the code as those of the definitions.
 use Rattle.std.specs.Prelude.{List, map}
+use Rattle.ps_model.specs.board.RuleSections.{Group as GroupOf, Loop as LoopOf}
 use Rattle.ps_model.specs.meaning.Compiled as model
 use Rattle.ps_rules.specs.RulesShown.{commands_shown}
 use Rattle.ps_program.specs.declared.cells.CompiledCell.{CompiledCell}
@@ -40,8 +41,8 @@ abbrev pub groups_shown : List (List CompiledRule) → List (List model.Compiled
 groups_shown groups = map rules_shown groups
 
 abbrev pub section_shown : CompiledSection → model.CompiledSection
-section_shown (Group rules) = model.CompiledGroup (rules_shown rules)
-section_shown (Loop body) = model.CompiledLoop (groups_shown body)
+section_shown (Group rules) = GroupOf (rules_shown rules)
+section_shown (Loop body) = LoopOf (groups_shown body)
 
 abbrev pub sections_shown : List CompiledSection → List model.CompiledSection
 sections_shown sections = map section_shown sections

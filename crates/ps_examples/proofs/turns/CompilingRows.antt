@@ -11,11 +11,12 @@ use Rattle.ps_model.specs.declared.pieces.Slot.TheVariants.{Bare, Holds}
 use Rattle.ps_model.specs.declared.rules.Part.TheVariants.{Plain, Late}
 use Rattle.ps_model.specs.rules.SourceRules.{RuleLine, no_commands}
 use Rattle.ps_model.specs.rules.RuleLines.{rules_read}
+use Rattle.ps_model.specs.board.RuleSections.{Group, Loop}
 use Rattle.ps_model.specs.board.RulePrograms.{rule_in}
 use Rattle.ps_model.specs.meaning.Wanted.{Wanted, Each, Any, Without}
 use Rattle.ps_model.specs.meaning.Fitting.{has}
 use Rattle.ps_model.specs.meaning.Rewriting.{rewritten_from}
-use Rattle.ps_model.specs.meaning.Compiled.{CellMask, CompiledCell, CompiledRule, CompiledGroup, CompiledLoop, mask_fits, cell_written}
+use Rattle.ps_model.specs.meaning.Compiled.{CellMask, CompiledCell, CompiledRule, mask_fits, cell_written}
 use Rattle.ps_model.specs.declared.compiled.LayeredObject.{LayeredObject}
 use Rattle.ps_model.specs.declared.compiled.ObjectWrite.TheVariants.{Put, Leave, Clear}
 use Rattle.ps_model.specs.meaning.CompiledCells.{mask_of, write_of}
@@ -168,10 +169,10 @@ again_rule = record {
 }
 
 -- groups, and a loop over groups; the late program has the loop too, with nothing in it
-plain_program : compiled_program base_names Plain some_lines ≡ CompiledGroup (player_rule ∷ []) ∷ CompiledLoop ((clearing_rule 1 ∷ a_rule ∷ []) ∷ (again_rule ∷ []) ∷ []) ∷ []
+plain_program : compiled_program base_names Plain some_lines ≡ Group (player_rule ∷ []) ∷ Loop ((clearing_rule 1 ∷ a_rule ∷ []) ∷ (again_rule ∷ []) ∷ []) ∷ []
 unfolding chars
 plain_program = refl
 
-late_program : compiled_program base_names Late some_lines ≡ CompiledGroup (clearing_rule 3 ∷ []) ∷ CompiledLoop [] ∷ []
+late_program : compiled_program base_names Late some_lines ≡ Group (clearing_rule 3 ∷ []) ∷ Loop [] ∷ []
 unfolding chars
 late_program = refl

@@ -6,11 +6,11 @@ use Rattle.std.specs.Prelude.{ℕ, zero, suc, Bool, true, false, ◌||◌, List,
 use Rattle.ps_model.specs.declared.limits.TheConstants.{ROUND_LIMIT, REPEAT_LIMIT}
 use Rattle.ps_model.specs.meaning.RuleMeanings.{RuleMeaning}
 use Rattle.ps_model.specs.board.Attempts.{State, Result, attempt}
+pub use Rattle.ps_model.specs.board.RuleSections.{SectionOf, Group, Loop}
 
--- a section of a program: a group of rules, or a loop over groups
-pub data Section : Type 0 where
-  Group : List RuleMeaning → Section
-  Loop : List (List RuleMeaning) → Section
+-- a section of a program
+abbrev pub Section : Type 0
+Section = SectionOf RuleMeaning
 
 -- a result, of which it is known whether something changed before
 abbrev pub after_change : Bool → Result → Result

@@ -7,9 +7,9 @@ use Rattle.ps_model.specs.declared.rules.Part.{Part}
 use Rattle.ps_model.specs.declared.rules.Part.TheVariants.{Plain, Late}
 use Rattle.ps_model.specs.names.Names.{Names}
 use Rattle.ps_model.specs.rules.SourceRules.{SourceRule, RuleLine, Rule, LoopStart, LoopEnd}
-use Rattle.ps_model.specs.meaning.RuleMeanings.{RuleMeaning}
 use Rattle.ps_model.specs.meaning.ReadingMeanings.{meanings}
-use Rattle.ps_model.specs.board.Programs.{Section, Group, Loop}
+use Rattle.ps_model.specs.board.RuleSections.{SectionOf, Group, Loop, section_by}
+use Rattle.ps_model.specs.board.Programs.{Section}
 
 -- the rule belongs to that part of a turn
 abbrev pub is_in_part : Part → SourceRule → Bool
@@ -49,27 +49,35 @@ abbrev pub groups_of : List SourceRule → List (List SourceRule)
 groups_of [] = []
 groups_of (rule ∷ rules) = before_groups rule (groups_of rules)
 
--- the groups of one part that lines make, by what their rules mean
-abbrev pub groups_in : Names → Part → List RuleLine → List (List RuleMeaning)
-groups_in names part lines =
-    map (flat_map (meanings names)) (groups_of (filter (is_in_part part) (filter_map rule_in lines)))
+-- the groups of one part that lines make
+abbrev pub groups_in : Part → List RuleLine → List (List SourceRule)
+groups_in part lines = groups_of (filter (is_in_part part) (filter_map rule_in lines))
 
--- groups outside of loops
-abbrev pub groups_outside : Names → Part → List RuleLine → List Section
-groups_outside names part lines = map Group (groups_in names part lines)
+-- lines outside of loops: each group is a section
+abbrev pub outside_loops : Part → List RuleLine → List (SectionOf SourceRule)
+outside_loops part lines = map Group (groups_in part lines)
 
--- the lines behind the start of a loop, cut at its end: the body is a loop, what follows is not
-abbrev pub loop_and_rest : Names → Part → List (List RuleLine) → List Section
-loop_and_rest names part [] = []
-loop_and_rest names part (body ∷ others) =
-    Loop (groups_in names part body) ∷ flat_map (groups_outside names part) others
+-- lines inside of a loop: all groups are one section
+abbrev pub inside_loop : Part → List RuleLine → List (SectionOf SourceRule)
+inside_loop part lines = Loop (groups_in part lines) ∷ []
 
--- the lines cut at the starts of loops: those before the first, and those behind each
-abbrev pub sections_of_pieces : Names → Part → List (List RuleLine) → List Section
-sections_of_pieces names part [] = []
-sections_of_pieces names part (before ∷ behind) =
-    groups_outside names part before ++ flat_map (λ lines. loop_and_rest names part (slice_split is_end lines)) behind
+-- what comes of pieces: of the first one, and then of each other one
+abbrev pub of_pieces : {A B : Type 0} → (A → List B) → (A → List B) → List A → List B
+of_pieces first other [] = []
+of_pieces first other (piece ∷ pieces) = first piece ++ flat_map other pieces
 
--- the program of a part of a turn
+-- the lines behind the start of a loop, cut at its end: inside are those before it
+abbrev pub behind_start : Part → List RuleLine → List (SectionOf SourceRule)
+behind_start part lines = of_pieces (inside_loop part) (outside_loops part) (slice_split is_end lines)
+
+-- the sections of lines, which are cut at the starts of loops: outside are those before the first start
+abbrev pub sections_of : Part → List RuleLine → List (SectionOf SourceRule)
+sections_of part lines = of_pieces (outside_loops part) (behind_start part) (slice_split is_start lines)
+
+-- the program that has in place of each rule those that it makes
+abbrev pub program_by : {A : Type 0} → (SourceRule → List A) → Part → List RuleLine → List (SectionOf A)
+program_by made part lines = map (section_by (flat_map made)) (sections_of part lines)
+
+-- the program of a part of a turn: by what the rules mean
 abbrev pub program_of : Names → Part → List RuleLine → List Section
-program_of names part lines = sections_of_pieces names part (slice_split is_start lines)
+program_of names part lines = program_by (meanings names) part lines

@@ -19,7 +19,8 @@ use Rattle.ps_model.specs.names.Names.{same_object}
 use Rattle.ps_model.specs.rules.SourceRules.{Commands}
 use Rattle.ps_model.specs.meaning.Fitting.{same_motion}
 use Rattle.ps_model.specs.meaning.RuleMeanings.{CellMeaning, RuleMeaning}
-use Rattle.ps_model.specs.board.Programs.{Section, Group, Loop}
+use Rattle.ps_model.specs.board.RuleSections.{SectionOf, section_by}
+use Rattle.ps_model.specs.board.Programs.{Section}
 
 -- masks ------------------------------------------------------------------------------------------------------------------
 
@@ -106,10 +107,9 @@ pub record CompiledRule : Type 0 where
   pub rewrites : Bool
   pub commands : Commands
 
--- a section of a compiled program: a group of rules, or a loop over groups
-pub data CompiledSection : Type 0 where
-  CompiledGroup : List CompiledRule → CompiledSection
-  CompiledLoop : List (List CompiledRule) → CompiledSection
+-- a section of a compiled program
+abbrev pub CompiledSection : Type 0
+CompiledSection = SectionOf CompiledRule
 
 -- the meaning of a compiled cell
 abbrev pub meaning_of_cell : CompiledCell → CellMeaning
@@ -126,8 +126,7 @@ meaning_of_rule rule = record {
 
 -- the meaning of a section
 abbrev pub meaning_of_section : CompiledSection → Section
-meaning_of_section (CompiledGroup rules) = Group (map meaning_of_rule rules)
-meaning_of_section (CompiledLoop body) = Loop (map (map meaning_of_rule) body)
+meaning_of_section section = section_by (map meaning_of_rule) section
 
 -- the meaning of a compiled program
 abbrev pub meaning_of_program : List CompiledSection → List Section

@@ -7,7 +7,8 @@ use Rattle.ps_model.specs.declared.pieces.Direction.{Direction}
 use Rattle.ps_model.specs.declared.pieces.Direction.TheVariants.{Up, Down, Left, Right}
 use Rattle.ps_model.specs.meaning.Directions.{opposite}
 use Rattle.ps_model.specs.meaning.RuleMeanings.{RuleMeaning}
-use Rattle.ps_model.specs.board.Programs.{Section, Group, Loop}
+use Rattle.ps_model.specs.board.RuleSections.{section_by}
+use Rattle.ps_model.specs.board.Programs.{Section}
 
 -- turned round -------------------------------------------------------------------------------------------------------------
 
@@ -32,5 +33,4 @@ forwards rule = turned_from rule.direction rule
 
 -- a section whose rules all face down or right
 abbrev pub section_forwards : Section → Section
-section_forwards (Group rules) = Group (map forwards rules)
-section_forwards (Loop body) = Loop (map (map forwards) body)
+section_forwards section = section_by (map forwards) section

@@ -4,7 +4,7 @@ use Rattle.std.specs.List.{filter_map}
 use Rattle.ps_model.specs.board.RulePrograms.{is_in_part, rule_in}
 use Rattle.ps_rules.specs.RulesShown.{lines_shown}
 use Rattle.ps_compile.specs.GroupsWith.{groups_with}
-use Rattle.ps_compile.specs.CompactPrograms.{compact_groups}
+use Rattle.ps_compile.specs.ProgramsMade.{compact_groups}
 use Rattle.ps_compile.proofs.program.compiled_groups.Given as goal
 
 abbrev pub invariant-loop-line : goal.invariant-loop-line

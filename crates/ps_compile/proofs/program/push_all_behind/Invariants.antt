@@ -1,9 +1,0 @@
-use Rattle.std.proofs.Common.{◌≡◌, ◌++◌, drop}
-use Rattle.std.specs.List.{flat_map}
-use Rattle.ps_compile.specs.ProgramsMade.{sections_behind}
-use Rattle.ps_program.specs.ProgramShown.{sections_shown}
-use Rattle.ps_compile.specs.PiecesShown.{pieces_shown}
-use Rattle.ps_compile.proofs.program.push_all_behind.Given as goal
-
-abbrev pub invariant-loop-piece : goal.invariant-loop-piece
-invariant-loop-piece l = sections_shown l.sections.items ++ flat_map (sections_behind l.names l.part) (pieces_shown (drop l.piece-index l.pieces)) ≡ sections_shown l.initial.sections.items ++ flat_map (sections_behind l.names l.part) (pieces_shown l.pieces)
