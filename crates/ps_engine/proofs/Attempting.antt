@@ -39,6 +39,12 @@ pub attempt_asked : (direction : Direction) (rows : List (List (List CellMeaning
     (let r : Result = record { state = record { grid = g; queue = queued queue commands }; changed = false } in r) ≡ attempt_by (rule_of direction rows rewrites commands) (record { grid = g; queue = queue }) all
 attempt_asked direction rows rewrites commands g queue all first others e idle = rw (e, idle) refl
 
+pub attempt_some : (direction : Direction) (rows : List (List (List CellMeaning))) (rewrites : Bool) (commands : Commands) (g : Grid) (queue : Commands) (all : List (List (List ℕ))) →
+    all ≢ [] → rewrites ≡ false →
+    (let r : Result = record { state = record { grid = g; queue = queued queue commands }; changed = false } in r) ≡ attempt_by (rule_of direction rows rewrites commands) (record { grid = g; queue = queue }) all
+attempt_some direction rows rewrites commands g queue [] some idle = absurd (some refl)
+attempt_some direction rows rewrites commands g queue (first ∷ others) some idle = attempt_asked direction rows rewrites commands g queue (first ∷ others) first others refl idle
+
 -- or all of some are applied
 pub attempt_written : (direction : Direction) (rows : List (List (List CellMeaning))) (rewrites : Bool) (commands : Commands) (g : Grid) (queue : Commands) (all : List (List (List ℕ))) (r : Rewritten) →
     rewrites ≡ true → all ≢ [] → r ≡ fold (applied rows) (unchanged g) all →

@@ -7,6 +7,7 @@ ghost use Rattle.ps_engine.specs.Choices.{behind, choices_of, chosen};
 ghost use Rattle.ps_engine.specs.Choosing.{ArePlaced, HaveLinesOf, rows_meaning};
 ghost use Rattle.ps_engine.specs.RulesInRoom.{rule_meaning};
 
+use crate::asking::attempt_commands;
 use crate::one_cell::{attempt_cell, only_cell};
 use crate::queue::Queue;
 use crate::walking::walk;
@@ -103,18 +104,17 @@ pub fn attempt<'r, B: Scan>(
     if lacks_needed(board, rule) {
         return false;
     }
+    if !rule.rewrites {
+        attempt_commands(rule, board, queue, rooms);
+        return false;
+    }
     let rows = rule.rows.as_slice();
-    if rule.rewrites {
-        if let Some(cell) = only_cell(rows) {
-            return attempt_cell(rule, cell, board, queue);
-        }
+    if let Some(cell) = only_cell(rows) {
+        return attempt_cell(rule, cell, board, queue);
     }
     if !choose_first(board, rule, rooms) {
         return false;
     }
     queue.enter(rule.commands);
-    if !rule.rewrites {
-        return false;
-    }
     walk(board, rows, rooms, rule.sleeps)
 }

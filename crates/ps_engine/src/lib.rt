@@ -1,6 +1,7 @@
 //! Runs compiled rules on a board: attempts, rounds, groups, loops and programs, as `ps_model` means them.
 #![tactic(auto)]
 
+mod asking;
 mod attempts;
 mod one_cell;
 mod programs;

@@ -6,6 +6,7 @@ pub mod Seeking
 pub mod Starts
 pub mod Forgetting
 pub mod FoundStarts
+pub mod Presence
 pub mod Candidates
 pub mod CellCandidates
 pub mod Spaced

@@ -6,11 +6,13 @@ mod chosen;
 mod columns;
 mod lines;
 mod parts;
+mod presence;
 mod room;
 mod starts;
 mod ways;
 
 pub use candidates::rows_of_mask;
+pub use presence::has_place;
 pub use room::RowRoom;
 pub use starts::find_starts;
 
