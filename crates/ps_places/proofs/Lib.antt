@@ -16,7 +16,7 @@ pub mod FoundPlaces
 pub mod LineSets
 pub mod FoundAcross
 pub mod FoundDown
-pub mod Presence
+pub mod PlacedParts
 pub mod Untouched
 pub mod WrittenToItself
 pub mod SpacedWays

@@ -1,5 +1,5 @@
 use Rattle.std.proofs.Common.{}
-use Rattle.ps_engine.proofs.Asking.{HavePlaces}
+use Rattle.ps_engine.proofs.AskedRows.{HavePlaces}
 use Rattle.ps_engine.proofs.asking.rows_have_places.Given as goal
 
 -- the rows passed by have places

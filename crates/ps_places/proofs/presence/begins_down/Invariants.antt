@@ -1,7 +1,7 @@
 use Rattle.std.proofs.Common.{length}
 use Rattle.ps_board.specs.ColumnSets.{set_columns}
 use Rattle.ps_board.proofs.Taken.{AreBelow, ArePassed}
-use Rattle.ps_places.proofs.Presence.{BeginsNotOn}
+use Rattle.ps_places.proofs.PlacedParts.{BeginsNotOn}
 use Rattle.ps_places.proofs.presence.begins_down.Given as goal
 
 -- the part begins in no column on the rows that aren't left

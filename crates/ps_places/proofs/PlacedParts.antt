@@ -1,5 +1,5 @@
 -- A part that is a row by itself has a place where it begins, and none where it begins nowhere.
-use Rattle.std.proofs.Common.{◌≡◌, ◌≢◌, ◌∙◌, ℕ, ◌+◌, ◌<◌, ◌≤◌, ◌×◌, inl, inr, suc, zero, Bool, true, false, ◌&&◌, Option, List, []}
+use Rattle.std.proofs.Common.{◌≡◌, ◌≢◌, ◌∙◌, ℕ, ◌+◌, ◌<◌, ◌≤◌, inl, inr, suc, zero, Bool, true, false, ◌&&◌, Option, List, []}
 use Rattle.std.proofs.Common.{◌∷◌, ◌++◌, length, map, refl, sym, ap, arith}
 use Rattle.std.specs.Prelude.{nat_lt}
 use Rattle.std.specs.List.{range_with_len, flat_map}
@@ -40,10 +40,10 @@ none_of_each : {X : Type 0} (f : ℕ → List X) (a n i : ℕ) → flat_map f (r
     f i ≡ []
 none_of_each f a zero i e low high = absurd (omega arith)
 none_of_each f a (suc n) i e low high =
-    let both = none_of_both (f a) (flat_map f (range_with_len (suc a) n)) e in
+    let both = none_of_both (f a) (flat_map f (range_with_len (a + 1) n)) e in
     elim (cases_eq i a) [
       | inl same ↦ ap f same ∙ both.0
-      | inr other ↦ none_of_each f (suc a) n i both.1 (omega arith) (omega arith)
+      | inr other ↦ none_of_each f (a + 1) n i both.1 (omega arith) (omega arith)
     ]
 
 no_positions : (f : List ℕ → List ℕ) (positions : List ℕ) →
@@ -70,7 +70,8 @@ begun-placed g table axis part grid whole some none =
     let lines : flat_map (places_along g axis meant) (range_with_len 0 (line_count axis g)) ≡ [] =
     sym (places-by_line g axis meant) ∙ none in
     let here : places_along g axis meant some.line ≡ [] =
-    none_of_each (places_along g axis meant) 0 (line_count axis g) some.line lines (omega arith) some.on_board in
+    none_of_each (places_along g axis meant) 0 (line_count axis g) some.line lines (omega arith)
+    (omega (arith, some.on_board)) in
     let ways : map (cells_of_way cell (map length meant)) (ways_from (set ∷ []) (map length meant) 0) ≡ [] =
     sym (ways_of g axis some.line meant (true_sets g cell long meant) (omega arith) (short_lines g axis grid)
     (true_sets-are g cell long meant (some-meant table (part ∷ []) (one_whole part whole)))) ∙ here in
@@ -145,6 +146,23 @@ column_with g table part row column columns others grid low are is =
       on_board = on;
       within = omega (arith, low, grid.rows);
       begins = both.1;
+    }
+
+beyond : (g : Grid) (table : Option (List ℕ)) (part : List CompiledCell) (row x : ℕ) → g.width ≤ x →
+    begins_down g table part row x ≡ false
+beyond g table part row x far =
+    let off : nat_lt x g.width ≡ false = grind (arith, nat_tests, far) in
+    ap (λ (b : Bool). b && begins_on g table Down x part row) off
+
+pub nowhere_down : (g : Grid) (table : Option (List ℕ)) (part : List CompiledCell) (row : ℕ) (columns : List Bool) →
+    IsGrid g → AreWhere (begins_down g table part row) columns → set_columns columns ≡ [] →
+    BeginsNotOn g table part row
+nowhere_down g table part row columns grid are none =
+    record {
+      at = λ x. elim (cases_lt x SIDE_LIMIT) [
+        | inl near ↦ sym (are.at x near) ∙ none_in columns x none near
+        | inr far ↦ beyond g table part row x (omega (arith, far, grid.columns))
+      ];
     }
 
 in_column : (g : Grid) (table : Option (List ℕ)) (part : List CompiledCell) (line position : ℕ) → line < g.width →
