@@ -146,7 +146,7 @@ rewritten_from-next r table part step index number c low e =
     (rewritten_by_write r table c number (slice_get (r.grid).cells number))
 
 -- what is left fits where the next cell does, and what is left behind it
-both_true : (here rest : Bool) → (elim here [ true ↦ rest | false ↦ false ]) ≡ true → (here ≡ true) × (rest ≡ true)
+pub both_true : (here rest : Bool) → (elim here [ true ↦ rest | false ↦ false ]) ≡ true → (here ≡ true) × (rest ≡ true)
 both_true true rest e = (refl, e)
 both_true false rest e = absurd (cc)
 
