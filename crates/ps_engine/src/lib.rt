@@ -3,6 +3,7 @@
 
 mod attempts;
 mod one_cell;
+mod one_part;
 mod programs;
 mod queue;
 mod rooms;
