@@ -1,4 +1,5 @@
--- A cell's write that keeps another one's mask keeps what that fits, on each board: a write without what has no room keeps no less than
+-- A cell's write that keeps another one's mask keeps what that fits, on each board: a write without what has no room
+-- keeps no less than
 -- the whole.
 use Rattle.std.proofs.Common.{◌≡◌, ℕ, Bool, true, ◌&&◌, ◌||◌, not, Option, Some, None, List, [], ◌∷◌, filter, refl}
 use Rattle.std.specs.List.{list_all}
@@ -10,7 +11,8 @@ use Rattle.ps_model.specs.meaning.Compiled.{CellMask, CellWrite, is_gone}
 use Rattle.ps_board.specs.Runnable.{has_room_for}
 use Rattle.ps_program.specs.declared.cells.CompiledCell.{CompiledCell}
 use Rattle.ps_program.specs.CellsShown.{mask_shown, write_shown}
-use Rattle.ps_program.specs.Keeping.{comes_not, frees, is_rest, keeps_asked, keeps_one, motion_stays, puts_not, stay_among, stays, stays_among, write_keeps}
+use Rattle.ps_program.specs.Keeping.{comes_not, frees, is_rest, keeps_asked, keeps_one, motion_stays, puts_not}
+use Rattle.ps_program.specs.Keeping.{stay_among, stays, stays_among, write_keeps}
 use Rattle.ps_program.proofs.KeepingCells.{keeps-what-fits}
 use Rattle.ps_match.specs.InRoom.{write_in_room}
 use Rattle.ps_places.specs.Lines.{cell_meaning}
@@ -49,7 +51,8 @@ module _ (keep : LayerWrite → Bool) (write : CellWrite) where
   motion_still : (test : MotionTest) → motion_stays write test ≡ true → motion_stays fewer_writes test ≡ true
   motion_still test all =
       let free : Bool = is_rest test.motion || not (frees write test.layer) in
-      both_said free (list_all (keeps_asked test) write.layers) free (list_all (keeps_asked test) (filter keep write.layers))
+      both_said free (list_all (keeps_asked test) write.layers) free
+          (list_all (keeps_asked test) (filter keep write.layers))
       (λ e. e) (all_of_kept (keeps_asked test) keep write.layers) all
 
   fewer_keep : (mask : CellMask) → write_keeps write mask ≡ true → write_keeps fewer_writes mask ≡ true
@@ -58,7 +61,8 @@ module _ (keep : LayerWrite → Bool) (write : CellWrite) where
       (both_said _ _ _ _ (all_said (comes_not write) (comes_not fewer_writes) mask.barred come_still)
       (both_said _ _ _ _
       (all_said (stay_among write) (stay_among fewer_writes) mask.one_of
-      (λ objects. all_said (stays_among write objects) (stays_among fewer_writes objects) objects (among_still objects)))
+      (λ objects. all_said (stays_among write objects) (stays_among fewer_writes objects) objects
+          (among_still objects)))
       (all_said (motion_stays write) (motion_stays fewer_writes) mask.motions motion_still)))
 
 in_room_keeps : (table : Option (List ℕ)) (write : CellWrite) (mask : CellMask) → write_keeps write mask ≡ true →
@@ -70,4 +74,5 @@ pub cell_keeps : (table : Option (List ℕ)) (writing asking : CompiledCell) →
     Keeps (cell_meaning table writing) (cell_meaning table asking)
 cell_keeps table writing asking e = λ cell fits.
     let write : CellWrite = write_in_room table (write_shown writing.write) in
-    keeps-what-fits write (mask_shown asking.mask) (in_room_keeps table (write_shown writing.write) (mask_shown asking.mask) e) cell fits
+    keeps-what-fits write (mask_shown asking.mask) (in_room_keeps table (write_shown writing.write)
+        (mask_shown asking.mask) e) cell fits

@@ -1,4 +1,5 @@
--- All places of a part that leave each other alone, applied in their order, come to each cell of the board written by the one cell of
+-- All places of a part that leave each other alone, applied in their order, come to each cell of the board written by
+-- the one cell of
 -- the part that changes it.
 use Rattle.std.proofs.Common.{◌≡◌, ◌∙◌, ℕ, ◌*◌, ◌<◌, ◌||◌, inl, inr, Bool, true, false, cond}
 use Rattle.std.proofs.Common.{List, [], ◌∷◌, ◌++◌, length, map, filter, fold, refl, sym, ap}
@@ -12,7 +13,8 @@ use Rattle.ps_model.specs.meaning.RuleMeanings.{CellMeaning}
 use Rattle.ps_places.specs.Lines.{cells_from}
 use Rattle.ps_match.proofs.Chosen.{or_nothing}
 use Rattle.ps_match.proofs.RowWritten.{told}
-use Rattle.ps_places.proofs.InGroups.{AreAlone, AreIdle, after, after-agree, after-none, during, during-end, during-start}
+use Rattle.ps_places.proofs.InGroups.{AreAlone, AreIdle, after, after-agree, after-none, during, during-end}
+use Rattle.ps_places.proofs.InGroups.{during-start}
 use Rattle.ps_places.proofs.InSearchOrder.{IsOneMore, alone, in_order}
 use Rattle.ps_places.proofs.PlacesInTurn.{place_written, still_fits}
 
@@ -25,14 +27,16 @@ abbrev pub rows_of : List CellMeaning → List (List (List CellMeaning))
 rows_of all = (all ∷ []) ∷ []
 
 abbrev if_fits : Rewritten → Rewritten → Bool → Rewritten
-if_fits r written fits = let all : Bool = elim fits [ true ↦ true | false ↦ false ] in elim all [ true ↦ written | false ↦ r ]
+if_fits r written fits = let all : Bool = elim fits [ true ↦ true | false ↦ false ] in
+    elim all [ true ↦ written | false ↦ r ]
 
 -- a combination of one place is applied
 applied_one : (r : Rewritten) (all : List CellMeaning) (place : List ℕ) → fits_along r.grid all place ≡ true →
     applied (rows_of all) r (place ∷ []) ≡ rewritten_along r all place
 applied_one r all place fits =
     let only : cells_in (all ∷ []) ≡ all = nothing_behind all in
-    let fit : fits_along r.grid (cells_in (all ∷ [])) place ≡ true = ap (λ (ms : List CellMeaning). fits_along r.grid ms place) only ∙ fits in
+    let fit : fits_along r.grid (cells_in (all ∷ [])) place ≡ true =
+        ap (λ (ms : List CellMeaning). fits_along r.grid ms place) only ∙ fits in
     ap (λ (b : Bool). if_fits r (rewritten_along r (cells_in (all ∷ [])) place) b) fit
     ∙ ap (λ (ms : List CellMeaning). rewritten_along r ms place) only
 
@@ -42,7 +46,8 @@ places_from g direction all n = filter (fits_along g (cells_in (all ∷ []))) (s
 
 module _ (g : Grid) (direction : Direction) (step : ℕ) (starts : ℕ → Bool) (all : List CellMeaning) (changes : ℕ → Bool)
     (apart : AreAlone starts step all changes) (idle : AreIdle all changes)
-    (place : (n : ℕ) → n < length g.cells → places_from g direction all n ≡ cond (starts n) (cells_from step n (length all) ∷ []) [])
+    (place : (n : ℕ) → n < length g.cells → places_from g direction all n
+        ≡ cond (starts n) (cells_from step n (length all) ∷ []) [])
     (fits : (n : ℕ) → n < length g.cells → starts n ≡ true → fits_along g all (cells_from step n (length all)) ≡ true)
     (some : 0 < g.height) (many : length g.cells ≡ g.width * g.height) where
   abbrev done_at : (ℕ → Bool) → Rewritten
@@ -51,18 +56,22 @@ module _ (g : Grid) (direction : Direction) (step : ℕ) (starts : ℕ → Bool)
   abbrev acts : Rewritten → List (List ℕ) → Rewritten
   acts r combination = applied (rows_of all) r combination
 
-  started : (done more : ℕ → Bool) (n : ℕ) → n < length g.cells → starts n ≡ true → done n ≡ false → IsOneMore g done more n →
+  started : (done more : ℕ → Bool) (n : ℕ) → n < length g.cells → starts n ≡ true → done n ≡ false →
+      IsOneMore g done more n →
       acts (done_at done) (cells_from step n (length all) ∷ []) ≡ done_at more
   started done more n low on free e =
       let here : ℕ → Bool = λ k. nat_eq k n in
       let first : Rewritten = during g starts step all changes apart done here 0 in
       let good : fits_along g all (cells_from step n (length all)) ≡ true = fits n low on in
-      ap (λ (r : Rewritten). acts r (cells_from step n (length all) ∷ [])) (during-start g starts step all changes apart done here)
-      ∙ applied_one first all (cells_from step n (length all)) (still_fits g starts step all changes apart idle done n on free good)
+      ap (λ (r : Rewritten). acts r (cells_from step n (length all) ∷ []))
+          (during-start g starts step all changes apart done here)
+      ∙ applied_one first all (cells_from step n (length all))
+          (still_fits g starts step all changes apart idle done n on free good)
       ∙ place_written g starts step all changes apart idle done n on free good
       ∙ during-end g starts step all changes apart done here more (λ k below yes. e k below)
 
-  not_started : (done more : ℕ → Bool) (n : ℕ) → starts n ≡ false → IsOneMore g done more n → done_at done ≡ done_at more
+  not_started : (done more : ℕ → Bool) (n : ℕ) → starts n ≡ false → IsOneMore g done more n →
+      done_at done ≡ done_at more
   not_started done more n off e =
       after-agree g starts step all changes apart done more
       (λ k low on. elim (cases_eq k n) [
@@ -79,7 +88,8 @@ module _ (g : Grid) (direction : Direction) (step : ℕ) (starts : ℕ → Bool)
             ap (λ (b : Bool). fold acts (done_at done) (map alone (cond b (cells_from step n (length all) ∷ []) []))) on
             ∙ started done more n low on free e
         | inr off ↦
-            ap (λ (b : Bool). fold acts (done_at done) (map alone (cond b (cells_from step n (length all) ∷ []) []))) off
+            ap (λ (b : Bool). fold acts (done_at done) (map alone (cond b (cells_from step n (length all) ∷ []) [])))
+                off
             ∙ not_started done more n off e
       ]
 
@@ -91,4 +101,5 @@ module _ (g : Grid) (direction : Direction) (step : ℕ) (starts : ℕ → Bool)
       (after-none g starts step all changes apart (λ k. false) (λ e low on. refl))
       ∙ ap (fold acts (done_at (λ k. false))) (nothing_behind (map alone (places g direction (all ∷ []))))
       ∙ in_order g (places_from g direction all) acts done_at
-      (λ first second same. after-agree g starts step all changes apart first second (λ e low on. same e low)) one_end some many direction
+      (λ first second same. after-agree g starts step all changes apart first second (λ e low on. same e low)) one_end
+          some many direction

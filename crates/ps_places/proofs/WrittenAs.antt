@@ -1,6 +1,8 @@
--- A grid of which each cell has become something, and whether one of them is another than it was: in several steps, each of which
+-- A grid of which each cell has become something, and whether one of them is another than it was: in several steps,
+-- each of which
 -- rewrites cells that are as they were.
-use Rattle.std.proofs.Common.{◌≡◌, ◌∙◌, ℕ, zero, suc, ◌+◌, ◌<◌, ◌≤◌, ◌||◌, inl, inr, Bool, true, false, not, Option, Some, None}
+use Rattle.std.proofs.Common.{◌≡◌, ◌∙◌, ℕ, zero, suc, ◌+◌, ◌<◌, ◌≤◌, ◌||◌, inl, inr, Bool, true, false, not, Option}
+use Rattle.std.proofs.Common.{Some, None}
 use Rattle.std.proofs.Common.{List, [], length, map, refl, sym, ap, ap₂, arith}
 use Rattle.std.specs.Prelude.{nat_eq, slice_get}
 use Rattle.std.specs.List.{list_any, range_with_len}
@@ -142,7 +144,8 @@ module _ (g : Grid) where
   with_one r m n (Some cell) is low =
       let same : cell_at r.grid n ≡ cell = get_or_from_slice_get (r.grid).cells n cell [] is in
       ap (λ (c : List Slot). rewritten_cell r m n (Some c)) (sym same)
-      ∙ sym (ap (λ (after : Rewritten). let both : Rewritten = record { grid = after.grid; changed = r.changed || after.changed } in both)
+      ∙ sym (ap (λ (after : Rewritten). let both : Rewritten =
+          record { grid = after.grid; changed = r.changed || after.changed } in both)
       (where-one r.grid m.rewritten n low))
 
   pub as-one : (first second : ℕ → List Slot) (m : CellMeaning) (n : ℕ) → n < length g.cells →

@@ -1,6 +1,8 @@
--- Places of a part that leave each other alone: cells of it that may lie on one cell of the board don't both change it, and what one
+-- Places of a part that leave each other alone: cells of it that may lie on one cell of the board don't both change it,
+-- and what one
 -- of them asks for stays where the other changes it.
-use Rattle.std.specs.Prelude.{◌≡◌, ℕ, ◌+◌, ◌<◌, Bool, true, false, ◌&&◌, ◌||◌, not, if◌then◌else◌, Some, List, length, slice_get}
+use Rattle.std.specs.Prelude.{◌≡◌, ℕ, ◌+◌, ◌<◌, Bool, true, false, ◌&&◌, ◌||◌, not, if◌then◌else◌, Some, List, length}
+use Rattle.std.specs.Prelude.{slice_get}
 use Rattle.ps_model.specs.declared.limits.TheConstants.{SIDE_LIMIT}
 use Rattle.ps_program.specs.declared.cells.CompiledCell.{CompiledCell}
 use Rattle.ps_program.specs.declared.rows.Axis.{Axis}
@@ -16,7 +18,8 @@ keeps_mask writing asking = write_keeps (write_shown writing.write) (mask_shown 
 -- two cells of a rule leave each other alone on one cell of the board
 abbrev pub leave_alone : CompiledCell → CompiledCell → Bool
 leave_alone first second =
-    if first.changes then not second.changes && keeps_mask first second else (not second.changes || keeps_mask second first)
+    if first.changes then not second.changes && keeps_mask first second else
+        (not second.changes || keeps_mask second first)
 
 -- so do all cells of a part that lie so many cells apart
 pub record LieAlone (part : List CompiledCell) (distance : ℕ) : Type 0 where

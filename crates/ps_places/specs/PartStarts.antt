@@ -1,4 +1,5 @@
--- Where the only part of a row of a rule begins on a board, row by row of the board: a set of columns for each of some rows.
+-- Where the only part of a row of a rule begins on a board, row by row of the board: a set of columns for each of some
+-- rows.
 use Rattle.std.specs.Prelude.{◌≡◌, ℕ, ◌<◌, Bool, true, ◌&&◌, Option, List, [], length, slice_index_or}
 use Rattle.ps_model.specs.declared.limits.TheConstants.{SIDE_LIMIT}
 use Rattle.ps_model.specs.board.Grid.{Grid}
@@ -21,7 +22,8 @@ columns_on starts row = slice_index_or starts row []
 abbrev pub is_start : List Bool → List (List Bool) → ℕ → ℕ → Bool
 is_start rows starts row x = column_at rows row && column_at (columns_on starts row) x
 
--- the part begins on a row in the columns that are kept, if it is one of these rows, and then there is one; else nowhere
+-- the part begins on a row in the columns that are kept, if it is one of these rows, and then there is one; else
+-- nowhere
 pub record IsRowFound (g : Grid) (table : Option (List ℕ)) (axis : Axis) (part : List CompiledCell) (rows : List Bool)
     (starts : List (List Bool)) (row : ℕ) : Type 0 where
   pub at : (x : ℕ) → x < SIDE_LIMIT → is_start rows starts row x ≡ begins_at g table axis part row x

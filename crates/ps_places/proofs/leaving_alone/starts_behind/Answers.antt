@@ -10,4 +10,5 @@ returns-in-Right c = λ x low.
     ap (λ (cs : List Bool). column_at cs x) c.behind.ensures
     ∙ column_at-where (λ y. column_at c.kept_on_row-in-Right.result (y + c.args.distance)) x low
     ∙ c.kept_on_row-in-Right.ensures (x + c.args.distance)
-    ∙ ap (λ (axis : Axis). starts_behind axis c.args.rows c.args.starts.now c.args.distance c.args.row x) (sym c.in-Right.is)
+    ∙ ap (λ (axis : Axis). starts_behind axis c.args.rows c.args.starts.now c.args.distance c.args.row x)
+        (sym c.in-Right.is)

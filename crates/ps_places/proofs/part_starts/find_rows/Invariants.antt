@@ -10,7 +10,8 @@ invariant-loop-row g l =
     let grid = g.B.Board.grid l.board in
     record {
       low : AreBelow grid.height l.left;
-      passed : ArePassed (IsRowFound grid (g.B.Board.table l.board) l.fn.axis l.part l.rows l.starts) grid.height l.left;
+      passed : ArePassed (IsRowFound grid (g.B.Board.table l.board) l.fn.axis l.part l.rows l.starts) grid.height
+          l.left;
       below : (row : ℕ) → column_at l.rows row ≡ true → row < grid.height;
       long : length l.starts ≡ length l.fn.starts;
     }

@@ -16,9 +16,11 @@ returns-in-Down-clause-rewritten g c =
     let before : Rewritten = record { grid = grid; changed = c.args.changed } in
     let does : cell.changes ≡ true = search rules in
     let chosen : ℕ → Bool = is_on_row grid.height (c.args.row + c.args.steps) c.args.columns in
-    ap (λ (r : Rewritten). let after : Rewritten = record { grid = r.grid; changed = c.args.changed || r.changed } in after) c.rewrite.ensures.rewritten
+    ap (λ (r : Rewritten). let after : Rewritten = record { grid = r.grid; changed = c.args.changed || r.changed } in
+        after) c.rewrite.ensures.rewritten
     ∙ sym (ap (λ (b : Bool). if_changes b (then_where before (cell_meaning table cell).rewritten chosen) before) does)
-    ∙ ap (λ (axis : Axis). cell_changed before table axis c.args.row c.args.columns c.args.steps cell) (sym c.in-Down.is)
+    ∙ ap (λ (axis : Axis). cell_changed before table axis c.args.row c.args.columns c.args.steps cell)
+        (sym c.in-Down.is)
 
 pub returns-in-Right-clause-rewritten : goal.returns-in-Right-clause-rewritten
 returns-in-Right-clause-rewritten g c =
@@ -29,7 +31,11 @@ returns-in-Right-clause-rewritten g c =
     let does : cell.changes ≡ true = search rules in
     let chosen : List Bool → ℕ → Bool = is_on_row grid.height c.args.row in
     let moved : List Bool = columns_ahead c.args.columns c.args.steps in
-    ap (λ (r : Rewritten). let after : Rewritten = record { grid = r.grid; changed = c.args.changed || r.changed } in after) c.rewrite-in-Right.ensures.rewritten
-    ∙ ap (λ (columns : List Bool). then_where before (cell_meaning table cell).rewritten (chosen columns)) c.ahead.ensures
-    ∙ sym (ap (λ (b : Bool). if_changes b (then_where before (cell_meaning table cell).rewritten (chosen moved)) before) does)
-    ∙ ap (λ (axis : Axis). cell_changed before table axis c.args.row c.args.columns c.args.steps cell) (sym c.in-Right.is)
+    ap (λ (r : Rewritten). let after : Rewritten = record { grid = r.grid; changed = c.args.changed || r.changed } in
+        after) c.rewrite-in-Right.ensures.rewritten
+    ∙ ap (λ (columns : List Bool). then_where before (cell_meaning table cell).rewritten (chosen columns))
+        c.ahead.ensures
+    ∙ sym (ap (λ (b : Bool). if_changes b (then_where before (cell_meaning table cell).rewritten (chosen moved)) before)
+        does)
+    ∙ ap (λ (axis : Axis). cell_changed before table axis c.args.row c.args.columns c.args.steps cell)
+        (sym c.in-Right.is)
