@@ -7,7 +7,7 @@ ghost use Rattle.ps_engine.specs.RulesInRoom.{rule_meaning};
 
 use crate::queue::Queue;
 use ps_match::Scan;
-use ps_places::{RowRoom, find_starts, has_place};
+use ps_places::{RowRoom, find_starts};
 use ps_program::{CompiledRow, CompiledRule};
 
 /// Whether a row has a place on the board as it is. What its room keeps is anything afterwards.
@@ -18,18 +18,16 @@ fn row_has_place<B: Scan>(board: &B, row: &CompiledRow, room: &mut RowRoom) -> b
     let (_width, _height) = board.size();
     let parts = row.parts.as_slice();
     if parts.len() == 1 {
-        return has_place(board, row.axis, parts[0].as_slice());
+        return !room
+            .find_part(board, row.axis, parts[0].as_slice())
+            .is_empty();
     }
     find_starts(board, row, room);
     room.first_place(board, row)
 }
 
 /// Whether each row of a rule has a place on the board as it is: whether the rule has a combination.
-fn rows_have_places<'r, B: Scan>(
-    board: &B,
-    rule: &CompiledRule<'r>,
-    rooms: &mut [RowRoom],
-) -> bool
+fn rows_have_places<'r, B: Scan>(board: &B, rule: &CompiledRule<'r>, rooms: &mut [RowRoom]) -> bool
     requires { length rule.now.rows ≤ length rooms.old }
     ensures some { result ≡ true →
         combinations_on (B.grid board.now) (rule_meaning (B.table board.now) rule.now) ≢ [] }

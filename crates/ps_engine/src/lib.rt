@@ -4,6 +4,7 @@
 mod asking;
 mod attempts;
 mod one_cell;
+mod one_part;
 mod programs;
 mod queue;
 mod rooms;

@@ -6,7 +6,9 @@ pub mod Seeking
 pub mod Starts
 pub mod Forgetting
 pub mod FoundStarts
-pub mod Presence
 pub mod Candidates
 pub mod CellCandidates
 pub mod Spaced
+pub mod PartStarts
+pub mod LeavingAlone
+pub mod WrittenTogether

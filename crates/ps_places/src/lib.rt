@@ -4,15 +4,16 @@
 mod candidates;
 mod chosen;
 mod columns;
+mod leaving_alone;
 mod lines;
+mod part_starts;
 mod parts;
-mod presence;
+mod rewriting;
 mod room;
 mod starts;
 mod ways;
 
 pub use candidates::rows_of_mask;
-pub use presence::has_place;
 pub use room::RowRoom;
 pub use starts::find_starts;
 
