@@ -27,8 +27,10 @@ pub no_start : (axis : Axis) (rows : List Bool) (starts : List (List Bool)) (dis
     column_at rows row ≡ false →
     NotApartOn axis rows starts distance row
 no_start axis rows starts distance row out =
-    record { at = λ x low on. let clash : false ≡ true =
-        sym (ap (λ (b : Bool). b && column_at (columns_on starts row) x) out) ∙ on in absurd (cc) }
+    record {
+      at = λ x low on. let clash : false ≡ true =
+          sym (ap (λ (b : Bool). b && column_at (columns_on starts row) x) out) ∙ on in absurd (cc);
+    }
 
 -- a set without its first number
 pub taken_among : (set left : List Bool) (k row : ℕ) → set_columns set ≡ k ∷ set_columns left → row < SIDE_LIMIT →

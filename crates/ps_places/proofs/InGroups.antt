@@ -27,7 +27,7 @@ by-none : (done : ℕ → ℕ → Bool) (k : ℕ) (ms : List CellMeaning) (n : �
 by-none done k [] n cell none = refl
 by-none done k (m ∷ ms) n cell none =
     rw (none k (omega arith) (omega arith))
-        (by-none done (k + 1) ms n cell (λ j low high. none j (omega arith) (omega arith)))
+    (by-none done (k + 1) ms n cell (λ j low high. none j (omega arith) (omega arith)))
 
 by-agree : (first second : ℕ → ℕ → Bool) (k : ℕ) (ms : List CellMeaning) (n : ℕ) (cell : List Slot) →
     ((j : ℕ) → k ≤ j → j < k + length ms → first j n ≡ second j n) →
@@ -66,7 +66,7 @@ by-cases done k (m ∷ ms) n cell Holds itself each = elim (cases_Bool (done k n
       subst Holds (sym (rest not_now))
       (by-cases done (k + 1) ms n cell Holds itself
       (λ j other is there. let next : k + 1 + j ≡ k + suc j = omega arith in
-          each (suc j) other is (ap (λ (i : ℕ). done i n) (sym next) ∙ there)))
+      each (suc j) other is (ap (λ (i : ℕ). done i n) (sym next) ∙ there)))
 ] where
   here : done k n ≡ true → written_by done k (m ∷ ms) n cell ≡ m.rewritten cell
   here now = rw now refl
@@ -144,7 +144,7 @@ module _ (g : Grid) (starts : ℕ → Bool) (step : ℕ) (all : List CellMeaning
       let place : n - i * step + distance * step ≡ n - j * step = omega (arith, parts, second.0) in
       subst (LeaveAlone all changes j) whole
       (alone.at (n - i * step) distance j (omega (arith, less)) (omega (arith, less, low)) second.1 (ap starts place
-          ∙ first.1))
+      ∙ first.1))
 
   pub keeps_pair : (j i n : ℕ) → j < length all → i < length all → covers starts step j n ≡ true →
       covers starts step i n ≡ true → j ≢ i →
@@ -233,7 +233,7 @@ module _ (g : Grid) (starts : ℕ → Bool) (step : ℕ) (all : List CellMeaning
       grouped done now (length all) k n ≡ covered more k n
   all_now done now more e k n low most =
       ap (λ (b : Bool). (changes k && covers starts step k n) && (done (n - k * step) || (b && now (n - k * step))))
-          (lt-ltb k (length all) most)
+      (lt-ltb k (length all) most)
       ∙ same_done (λ x. done x || now x) more (λ x small on. sym (e x small on)) k n low
 
   pub during-end : (done now more : ℕ → Bool) → ((e : ℕ) → e < length g.cells → starts e ≡ true →
@@ -254,7 +254,7 @@ module _ (g : Grid) (starts : ℕ → Bool) (step : ℕ) (all : List CellMeaning
   other_index : (done now : ℕ → Bool) (i j n : ℕ) → j ≢ i → grouped done now (i + 1) j n ≡ grouped done now i j n
   other_index done now i j n other =
       ap (λ (b : Bool). (changes j && covers starts step j n) && (done (n - j * step) || (b && now (n - j * step))))
-          (lt_next j i other)
+      (lt_next j i other)
 
   -- nothing of such a cell is done, and then its index is
   none_before : (done now : ℕ → Bool) → ((e : ℕ) → now e ≡ true → done e ≡ false) → (i n j : ℕ) → i < length all →
@@ -285,7 +285,7 @@ module _ (g : Grid) (starts : ℕ → Bool) (step : ℕ) (all : List CellMeaning
         let least : i ≤ i = omega arith in
         let less : i < i + 1 = omega arith in
         rw (same, le-ltb i i least, lt-ltb i (i + 1) less) (nothing_more (changes i && covers starts step i n)
-            (done (n - i * step)) (now (n - i * step)) off)
+        (done (n - i * step)) (now (n - i * step)) off)
     | inr other ↦ other_index done now i j n other
   ] where
     nothing_more : (a b c : Bool) → (a && c) ≡ false → (a && (b || c)) ≡ (a && (b || false))

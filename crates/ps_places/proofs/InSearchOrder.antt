@@ -31,7 +31,7 @@ IsOneMore g done more n = (k : ℕ) → k < length g.cells → more k ≡ (done 
 module _ (g : Grid) (from : ℕ → List (List ℕ)) (act : Rewritten → List (List ℕ) → Rewritten) (after : (ℕ → Bool) →
     Rewritten)
     (agree : (first second : ℕ → Bool) → ((k : ℕ) → k < length g.cells → first k ≡ second k) →
-        after first ≡ after second)
+    after first ≡ after second)
     (one : (done more : ℕ → Bool) (n : ℕ) → n < length g.cells → done n ≡ false → IsOneMore g done more n →
     fold act (after done) (map alone (from n)) ≡ after more)
     (some : 0 < g.height) (many : length g.cells ≡ g.width * g.height) where
@@ -52,7 +52,7 @@ module _ (g : Grid) (from : ℕ → List (List ℕ)) (act : Rewritten → List (
       walk-append (after done) (n ∷ []) others
       ∙ ap (λ (r : Rewritten). walk r others)
       (ap (λ (ps : List (List ℕ)). fold act (after done) (map alone ps)) (no_more (from n))
-          ∙ one done more n (rw many low) free e) where
+      ∙ one done more n (rw many low) free e) where
         no_more : (ps : List (List ℕ)) → ps ++ [] ≡ ps
         no_more [] = refl
         no_more (p ∷ ps) = ap (λ (rest : List (List ℕ)). p ∷ rest) (no_more ps)
@@ -75,7 +75,7 @@ module _ (g : Grid) (from : ℕ → List (List ℕ)) (act : Rewritten → List (
       let e : a + suc n ≡ a + 1 + n = omega arith in
       let high : a ≤ a = omega arith in
       one_step (λ k. nat_lt k a) (λ k. nat_lt k (a + 1)) a (range_with_len (a + 1) n) (omega arith) (le-ltb a a high)
-          (λ k low. below_next a k)
+      (λ k low. below_next a k)
       ∙ numbers_walked (a + 1) n (omega arith) ∙ ap (λ (count : ℕ). after (λ k. nat_lt k count)) (sym e)
 
   -- row by row: the rows above, and of this one the columns to the left
@@ -90,8 +90,16 @@ module _ (g : Grid) (from : ℕ → List (List ℕ)) (act : Rewritten → List (
       let low : x < x + 1 = omega arith in
       let high : row ≤ row = omega arith in
       elim (cases_eq k cell) [
-        | inl e ↦ rw (e, quotient, remainder, le-ltb row row high, eq-eqb row row refl, lt-ltb x (x + 1) low, eq-eqb
-            cell cell refl) (sym (or_all (nat_lt x x)))
+        | inl e ↦ rw (
+          e,
+          quotient,
+          remainder,
+          le-ltb row row high,
+          eq-eqb row row refl,
+          lt-ltb x (x + 1) low,
+          eq-eqb
+              cell cell refl,
+        ) (sym (or_all (nat_lt x x)))
         | inr other ↦ same_above row x k cell quotient remainder other
             ∙ sym (ap (λ (b : Bool). above row x k || b) (ne_eqb k cell other) ∙ or_nothing (above row x k))
       ] where
@@ -104,7 +112,7 @@ module _ (g : Grid) (from : ℕ → List (List ℕ)) (act : Rewritten → List (
         same_above row x k cell quotient remainder other = elim (cases_eq (k / g.height) x) [
           | inl q ↦
               let apart : k % g.height ≢ row = λ r.
-                  other (cell_known g.height k cell (r ∙ sym remainder) (q ∙ sym quotient)) in
+              other (cell_known g.height k cell (r ∙ sym remainder) (q ∙ sym quotient)) in
               rw (ne_eqb (k % g.height) row apart) refl
           | inr q ↦ ap (λ (b : Bool). nat_lt (k % g.height) row || (nat_eq (k % g.height) row && b))
               (lt_next (k / g.height) x q)
@@ -121,9 +129,9 @@ module _ (g : Grid) (from : ℕ → List (List ℕ)) (act : Rewritten → List (
       let free : above row a cell ≡ false =
       let here : row ≤ row = omega arith in
       let there : a ≤ a = omega arith in
-          rw (quotient, remainder, le-ltb row row here, le-ltb a a there, eq-eqb row row refl) refl in
+      rw (quotient, remainder, le-ltb row row here, le-ltb a a there, eq-eqb row row refl) refl in
       one_step (above row a) (above row (a + 1)) cell (map (λ x. x * g.height + row) (range_with_len (a + 1) n))
-          (cell_below g.width g.height a row (omega arith) under) free
+      (cell_below g.width g.height a row (omega arith) under) free
       (λ k low. above_next row a k under)
       ∙ row_walked row (a + 1) n under (omega arith) ∙ ap (λ (count : ℕ). after (above row count)) (sym e)
 
@@ -137,11 +145,11 @@ module _ (g : Grid) (from : ℕ → List (List ℕ)) (act : Rewritten → List (
       let column : k / g.height < g.width = div_below k g.height g.width some (rw (← many) low) in
       let high : 0 ≤ k / g.height = omega arith in
       ap (λ (b : Bool). nat_lt (k % g.height) row || (nat_eq (k % g.height) row && b))
-          (lt-ltb (k / g.height) g.width column)
+      (lt-ltb (k / g.height) g.width column)
       ∙ ap (λ (b : Bool). nat_lt (k % g.height) row || b) (and_yes (nat_eq (k % g.height) row))
       ∙ sym (below_next row (k % g.height))
       ∙ sym (ap (λ (b : Bool). nat_lt (k % g.height) (row + 1) || (nat_eq (k % g.height) (row + 1) && b))
-          (le-ltb (k / g.height) 0 high)
+      (le-ltb (k / g.height) 0 high)
       ∙ ap (λ (b : Bool). nat_lt (k % g.height) (row + 1) || b) (and-false (nat_eq (k % g.height) (row + 1)))
       ∙ or_nothing (nat_lt (k % g.height) (row + 1)))) where
         and_yes : (b : Bool) → (b && true) ≡ b
@@ -167,11 +175,11 @@ module _ (g : Grid) (from : ℕ → List (List ℕ)) (act : Rewritten → List (
   by_columns =
       let none : 0 + g.width * g.height ≡ g.width * g.height = omega arith in
       ap (λ (r : Rewritten). walk r (column_by_column g))
-          (agree (λ k. false) (λ k. nat_lt k 0) (λ k low. let high : 0 ≤ k = omega arith in sym (le-ltb k 0 high)))
+      (agree (λ k. false) (λ k. nat_lt k 0) (λ k low. let high : 0 ≤ k = omega arith in sym (le-ltb k 0 high)))
       ∙ numbers_walked 0 (g.width * g.height) (omega arith)
       ∙ agree (λ k. nat_lt k (0 + g.width * g.height)) (λ k. true)
       (λ k low. let below : k < 0 + g.width * g.height = rw (none, ← many) low in
-          lt-ltb k (0 + g.width * g.height) below)
+      lt-ltb k (0 + g.width * g.height) below)
 
   by_rows : walk (after (λ k. false)) (row_by_row g) ≡ after (λ k. true)
   by_rows =
@@ -183,9 +191,9 @@ module _ (g : Grid) (from : ℕ → List (List ℕ)) (act : Rewritten → List (
       ∙ rows_walked 0 g.height (omega arith)
       ∙ agree (above (0 + g.height) 0) (λ k. true) (λ k low.
       let under : k % g.height < 0 + g.height = let row : k % g.height < g.height = mod_below k g.height some in
-          omega arith in
+      omega arith in
       ap (λ (b : Bool). b || (nat_eq (k % g.height) (0 + g.height) && nat_lt (k / g.height) 0))
-          (lt-ltb (k % g.height) (0 + g.height) under))
+      (lt-ltb (k % g.height) (0 + g.height) under))
 
   -- all combinations of the places from all cells
   pub in_order : (d : Direction) → fold act (after (λ k. false)) (map alone (flat_map from (search_order g d)))
@@ -233,13 +241,13 @@ searched_across g f n some low none =
     let across : column < g.width = div_below n g.height g.width some low in
     let cells : ℕ → List ℕ = λ r. map (λ x. x * g.height + r) (range_with_len 0 g.width) in
     let rows : flat_map (λ r. flat_map f (cells r)) (range_with_len 0 g.height) ≡ [] =
-        sym (over_twice f cells (range_with_len 0 g.height)) ∙ none in
+    sym (over_twice f cells (range_with_len 0 g.height)) ∙ none in
     let own : flat_map f (cells row) ≡ [] = none_of_range (λ r. flat_map f (cells r)) 0 g.height row rows (omega arith)
-        (omega (arith, under)) in
+    (omega (arith, under)) in
     let there : f (column * g.height + row) ≡ [] =
     none_of_range (λ x. f (x * g.height + row)) 0 g.width column
-        (sym (over_mapped f (λ x. x * g.height + row) (range_with_len 0 g.width)) ∙ own) (omega arith)
-        (omega (arith, across)) in
+    (sym (over_mapped f (λ x. x * g.height + row) (range_with_len 0 g.width)) ∙ own) (omega arith)
+    (omega (arith, across)) in
     let place : column * g.height + row ≡ n = div-add-mod' n g.height in
     ap f (sym place) ∙ there
 

@@ -52,7 +52,7 @@ module _ (keep : LayerWrite → Bool) (write : CellWrite) where
   motion_still test all =
       let free : Bool = is_rest test.motion || not (frees write test.layer) in
       both_said free (list_all (keeps_asked test) write.layers) free
-          (list_all (keeps_asked test) (filter keep write.layers))
+      (list_all (keeps_asked test) (filter keep write.layers))
       (λ e. e) (all_of_kept (keeps_asked test) keep write.layers) all
 
   fewer_keep : (mask : CellMask) → write_keeps write mask ≡ true → write_keeps fewer_writes mask ≡ true
@@ -62,7 +62,7 @@ module _ (keep : LayerWrite → Bool) (write : CellWrite) where
       (both_said _ _ _ _
       (all_said (stay_among write) (stay_among fewer_writes) mask.one_of
       (λ objects. all_said (stays_among write objects) (stays_among fewer_writes objects) objects
-          (among_still objects)))
+      (among_still objects)))
       (all_said (motion_stays write) (motion_stays fewer_writes) mask.motions motion_still)))
 
 in_room_keeps : (table : Option (List ℕ)) (write : CellWrite) (mask : CellMask) → write_keeps write mask ≡ true →
@@ -75,4 +75,4 @@ pub cell_keeps : (table : Option (List ℕ)) (writing asking : CompiledCell) →
 cell_keeps table writing asking e = λ cell fits.
     let write : CellWrite = write_in_room table (write_shown writing.write) in
     keeps-what-fits write (mask_shown asking.mask) (in_room_keeps table (write_shown writing.write)
-        (mask_shown asking.mask) e) cell fits
+    (mask_shown asking.mask) e) cell fits

@@ -56,11 +56,11 @@ on_line f size long test e =
     ∙ by test e where
       by : (b : Bool) → nat_le size long ≡ b →
           cond b ((take size (map f (range_with_len 0 long)) ++ []) ∷ []) []
-              ≡ cond b (map f (range_with_len 0 size) ∷ []) []
+          ≡ cond b (map f (range_with_len 0 size) ∷ []) []
       by true room =
           let fits : size ≤ long = grind (arith, nat_tests) in
           ap (λ (place : List ℕ). place ∷ []) (nothing_behind (take size (map f (range_with_len 0 long)))
-              ∙ first_cells f 0 size long fits)
+          ∙ first_cells f 0 size long fits)
       by false room = refl
 
 stretch_is : (g : Grid) (axis : Axis) (size n : ℕ) → stretches g (direction_of axis) (size ∷ []) n
@@ -80,12 +80,12 @@ kept_by test place false fits e = refl
 
 pub from_is : (g : Grid) (axis : Axis) (all : List CellMeaning) (n : ℕ) →
     places_from g (direction_of axis) all n ≡ cond (begins_from axis g all n)
-        (cells_from (step_along axis g.height) n (length all) ∷ []) []
+    (cells_from (step_along axis g.height) n (length all) ∷ []) []
 from_is g axis all n =
     let place : List ℕ = cells_from (step_along axis g.height) n (length all) in
     ap (filter (fits_along g (cells_in (all ∷ [])))) (stretch_is g axis (length all) n)
     ∙ kept_by (fits_along g (cells_in (all ∷ []))) place (nat_le (length all) (long_from axis g n))
-        (fits_along g all place)
+    (fits_along g all place)
     (ap (λ (ms : List CellMeaning). fits_along g ms place) (nothing_behind all))
 
 -- no part begins beyond the board
@@ -95,14 +95,14 @@ beyond_by g [] step n some high = absurd (omega arith)
 beyond_by g (m ∷ ms) step n some high =
     ap (fits_along g (m ∷ ms)) (cells_from-next step n (suc (length ms)) (length ms) refl)
     ∙ ap (λ (found : Option (List Slot)). elim (fits_there m found) as
-        (λ b. Bool) [ true ↦ fits_along g ms (cells_from step (n + step) (length ms)) | false ↦ false ])
+    (λ b. Bool) [ true ↦ fits_along g ms (cells_from step (n + step) (length ms)) | false ↦ false ])
     (slice_get_past g.cells n high)
 
 pub begins_beyond : (g : Grid) (axis : Axis) (all : List CellMeaning) (n : ℕ) → 0 < length all → length g.cells ≤ n →
     begins_from axis g all n ≡ false
 begins_beyond g axis all n some high =
     ap (λ (b : Bool). nat_le (length all) (long_from axis g n) && b)
-        (beyond_by g all (step_along axis g.height) n some high)
+    (beyond_by g all (step_along axis g.height) n some high)
     ∙ and_no (nat_le (length all) (long_from axis g n)) where
       and_no : (b : Bool) → (b && false) ≡ false
       and_no true = refl
@@ -126,7 +126,7 @@ room_down a b c low = elim (cases_lt (c - a) b) [
 pub begins_there : (g : Grid) (table : Option (List ℕ)) (axis : Axis) (part : List CompiledCell) (n : ℕ) → IsGrid g →
     0 < length part →
     n < length g.cells → begins_at g table axis part (n % g.height) (n / g.height) ≡ begins_from axis g
-        (part_meaning table part) n
+    (part_meaning table part) n
 begins_there g table Down part n grid some low =
     let row : ℕ = n % g.height in
     let x : ℕ = n / g.height in
@@ -135,9 +135,9 @@ begins_there g table Down part n grid some low =
     let place : x * g.height + row ≡ n = div-add-mod' n g.height in
     let size : length (part_meaning table part) ≡ length part = length-map part (cell_meaning table) in
     ap (λ (b : Bool). b && (nat_le (row + length part) g.height && part_fits g table Down x part row))
-        (lt-ltb x g.width across)
+    (lt-ltb x g.width across)
     ∙ ap₂ (λ (b c : Bool). b && c) (room_down row (length part) g.height under
-        ∙ ap (λ (k : ℕ). nat_le k (g.height - row)) (sym size))
+    ∙ ap (λ (k : ℕ). nat_le k (g.height - row)) (sym size))
     (ap₂ (λ (first count : ℕ). fits_along g (part_meaning table part) (cells_from 1 first count)) place (sym size))
 begins_there g table Right part n grid some low =
     let row : ℕ = n % g.height in
@@ -148,6 +148,6 @@ begins_there g table Right part n grid some low =
     let size : length (part_meaning table part) ≡ length part = length-map part (cell_meaning table) in
     fits_with_room g table part row x grid under some
     ∙ ap₂ (λ (b c : Bool). b && c) (room_down x (length part) g.width across ∙ ap (λ (k : ℕ). nat_le k (g.width - x))
-        (sym size))
+    (sym size))
     (ap₂ (λ (first count : ℕ). fits_along g (part_meaning table part) (cells_from g.height first count)) place
-        (sym size))
+    (sym size))

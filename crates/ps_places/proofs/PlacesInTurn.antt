@@ -23,8 +23,11 @@ use Rattle.ps_places.proofs.InGroups.{grouped, idle_step, keeps_pair, next_cells
 -- each fits where all do
 cells_next : (g : Grid) (m : CellMeaning) (ms : List CellMeaning) (step first : ℕ) →
     fits_along g (m ∷ ms) (cells_from step first (suc (length ms)))
-    ≡ (elim (fits_there m (slice_get g.cells first)) [ true ↦ fits_along g ms
-        (cells_from step (first + step) (length ms)) | false ↦ false ])
+    ≡ (elim (fits_there m (slice_get g.cells first)) [
+      | true ↦ fits_along g ms
+          (cells_from step (first + step) (length ms))
+      | false ↦ false
+    ])
 cells_next g m ms step first = ap (fits_along g (m ∷ ms)) (cells_from-next step first (suc (length ms))
     (length ms) refl)
 
@@ -34,13 +37,13 @@ pub fits_each : (g : Grid) (ms : List CellMeaning) (step first : ℕ) →
 fits_each g [] step first fits k m is = absurd (cc)
 fits_each g (one ∷ ms) step first fits zero m is =
     let both = both_true (fits_there one (slice_get g.cells first))
-        (fits_along g ms (cells_from step (first + step) (length ms))) (sym (cells_next g one ms step first) ∙ fits) in
+    (fits_along g ms (cells_from step (first + step) (length ms))) (sym (cells_next g one ms step first) ∙ fits) in
     let same : one ≡ m = cc in
     let at : first + 0 * step ≡ first = omega arith in
     rw (at, ← same) both.0
 fits_each g (one ∷ ms) step first fits (suc k) m is =
     let both = both_true (fits_there one (slice_get g.cells first))
-        (fits_along g ms (cells_from step (first + step) (length ms))) (sym (cells_next g one ms step first) ∙ fits) in
+    (fits_along g ms (cells_from step (first + step) (length ms))) (sym (cells_next g one ms step first) ∙ fits) in
     let at : first + suc k * step ≡ first + step + k * step = omega arith in
     rw at (fits_each g ms step (first + step) both.1 k m is)
 
@@ -52,10 +55,10 @@ fits_all g [] step first each = refl
 fits_all g (one ∷ ms) step first each =
     let at : first + 0 * step ≡ first = omega arith in
     let here : fits_there one (slice_get g.cells first) ≡ true = ap (λ (n : ℕ). fits_there one (slice_get g.cells n))
-        (sym at) ∙ each 0 one refl in
+    (sym at) ∙ each 0 one refl in
     cells_next g one ms step first
     ∙ rw here (fits_all g ms step (first + step) (λ k m is. let next : first + suc k * step ≡ first + step + k * step =
-        omega arith in
+    omega arith in
     ap (λ (n : ℕ). fits_there m (slice_get g.cells n)) (sym next) ∙ each (suc k) m is))
 
 -- one place -----------------------------------------------------------------------------------------------------------
@@ -80,7 +83,7 @@ module _ (g : Grid) (starts : ℕ → Bool) (step : ℕ) (all : List CellMeaning
   fits_first : (k : ℕ) (m : CellMeaning) → slice_get all k ≡ Some m → m.fits (cell_at g (e + k * step)) ≡ true
   fits_first k m is =
       ap (fits_there m) (sym (slice_get-get_or g.cells (e + k * step) [] (inside k m is)))
-          ∙ fits_each g all step e fits k m is
+      ∙ fits_each g all step e fits k m is
 
   -- a cell of it that has not had its turn yet fits
   fits_now : (i k : ℕ) (m : CellMeaning) → i ≤ k → slice_get all k ≡ Some m →
@@ -89,26 +92,26 @@ module _ (g : Grid) (starts : ℕ → Bool) (step : ℕ) (all : List CellMeaning
       let n : ℕ = e + k * step in
       let low : k < length all = slice_get_within all k m is in
       by-cases (grouped g starts step all changes alone done this i) 0 all n (cell_at g n) (λ cell. m.fits cell ≡ true)
-          (fits_first k m is)
+      (fits_first k m is)
       (λ j writing writes there.
       let none : 0 + j ≡ j = omega arith in
       let here : grouped g starts step all changes alone done this i j n ≡ true =
-          ap (λ (x : ℕ). grouped g starts step all changes alone done this i x n) (sym none) ∙ there in
+      ap (λ (x : ℕ). grouped g starts step all changes alone done this i x n) (sym none) ∙ there in
       let parts = and_parts (changes j && covers starts step j n)
-          (done (n - j * step) || (nat_lt j i && this (n - j * step))) here in
+      (done (n - j * step) || (nat_lt j i && this (n - j * step))) here in
       let both = and_parts (changes j) (covers starts step j n) parts.0 in
       elim (cases_eq j k) [
         | inl same ↦
             let back : e + k * step - k * step ≡ e = omega arith in
             let late : nat_lt k i ≡ false = le-ltb k i due in
             let no : (done (n - k * step) || (nat_lt k i && this (n - k * step))) ≡ false =
-                rw (back, left, late) refl in
+            rw (back, left, late) refl in
             let clash : true ≡ false = sym parts.1
-                ∙ ap (λ (x : ℕ). done (n - x * step) || (nat_lt x i && this (n - x * step))) same ∙ no in
+            ∙ ap (λ (x : ℕ). done (n - x * step) || (nat_lt x i && this (n - x * step))) same ∙ no in
             absurd (cc)
         | inr other ↦
             keeps_pair g starts step all changes alone j k n (slice_get_within all j writing writes) low both.1
-                (covers-on starts step k e on) other both.0
+            (covers-on starts step k e on) other both.0
             writing m writes is (cell_at g n) (fits_first k m is)
       ])
 
@@ -136,7 +139,7 @@ module _ (g : Grid) (starts : ℕ → Bool) (step : ℕ) (all : List CellMeaning
     | inl same ↦
         let back : e + i * step - i * step ≡ e = omega arith in
         rw (same, eq-eqb (e + i * step) (e + i * step) refl, does, covers-on starts step i e on, back, eq-eqb e e refl)
-            refl
+        refl
     | inr other ↦ ne_eqb n (e + i * step) other ∙ sym (elim (cases_Bool (covers starts step i n)) [
       | inl here ↦
           let parts = covers-parts starts step i n here in
@@ -153,16 +156,16 @@ module _ (g : Grid) (starts : ℕ → Bool) (step : ℕ) (all : List CellMeaning
   one_cell i m is = elim (cases_Bool (changes i)) [
     | inl does ↦
         as-one g (cell_now g starts step all changes alone done this i)
-            (cell_now g starts step all changes alone done this (i + 1)) m (e + i * step) (inside i m is)
+        (cell_now g starts step all changes alone done this (i + 1)) m (e + i * step) (inside i m is)
         (λ n low. next_step g starts step all changes alone done this fresh i m (slice_get_within all i m is) is
-            (λ k. nat_eq k (e + i * step)) n (this_cell i n does))
+        (λ k. nat_eq k (e + i * step)) n (this_cell i n does))
     | inr not_does ↦
         let least : i ≤ i = omega arith in
         kept_cell (during g starts step all changes alone done this i) m (e + i * step)
         (slice_get (during g starts step all changes alone done this i).grid.cells (e + i * step)) refl
         (λ slots there.
         let same : cell_now g starts step all changes alone done this i (e + i * step) ≡ slots =
-            cc (read_now i i m is, there) in
+        cc (read_now i i m is, there) in
         idle i m is not_does slots (ap m.fits (sym same) ∙ fits_now i i m least is))
         ∙ idle_step g starts step all changes alone done this i not_does
   ]
@@ -171,7 +174,7 @@ module _ (g : Grid) (starts : ℕ → Bool) (step : ℕ) (all : List CellMeaning
   cells_written : (i : ℕ) (ms : List CellMeaning) → ((j : ℕ) (m : CellMeaning) → slice_get ms j ≡ Some m →
       slice_get all (i + j) ≡ Some m) →
       rewritten_along (during g starts step all changes alone done this i) ms
-          (cells_from step (e + i * step) (length ms))
+      (cells_from step (e + i * step) (length ms))
       ≡ during g starts step all changes alone done this (i + length ms)
   cells_written i [] same = let end : i + 0 ≡ i = omega arith in rw end refl
   cells_written i (m ∷ ms) same =
@@ -180,13 +183,13 @@ module _ (g : Grid) (starts : ℕ → Bool) (step : ℕ) (all : List CellMeaning
       let next : e + i * step + step ≡ e + (i + 1) * step = omega arith in
       let end : i + 1 + length ms ≡ i + suc (length ms) = omega arith in
       ap (rewritten_along (during g starts step all changes alone done this i) (m ∷ ms))
-          (cells_from-next step (e + i * step) (suc (length ms)) (length ms) refl)
+      (cells_from-next step (e + i * step) (suc (length ms)) (length ms) refl)
       ∙ ap (λ (r : Rewritten). rewritten_along r ms (cells_from step (e + i * step + step) (length ms)))
-          (one_cell i m is)
+      (one_cell i m is)
       ∙ ap (λ (first : ℕ). rewritten_along (during g starts step all changes alone done this (i + 1)) ms
-          (cells_from step first (length ms))) next
+      (cells_from step first (length ms))) next
       ∙ cells_written (i + 1) ms (λ j other there. let on_from : i + 1 + j ≡ i + suc j = omega arith in
-          ap (slice_get all) on_from ∙ same (suc j) other there)
+      ap (slice_get all) on_from ∙ same (suc j) other there)
       ∙ ap (during g starts step all changes alone done this) end
 
   pub place_written : rewritten_along (during g starts step all changes alone done this 0) all
@@ -196,6 +199,6 @@ module _ (g : Grid) (starts : ℕ → Bool) (step : ℕ) (all : List CellMeaning
       let start : e + 0 * step ≡ e = omega arith in
       let none : 0 + length all ≡ length all = omega arith in
       ap (λ (first : ℕ). rewritten_along (during g starts step all changes alone done this 0) all
-          (cells_from step first (length all))) (sym start)
+      (cells_from step first (length all))) (sym start)
       ∙ cells_written 0 all (λ j m is. let at : 0 + j ≡ j = omega arith in ap (slice_get all) at ∙ is)
       ∙ ap (during g starts step all changes alone done this) none

@@ -36,7 +36,7 @@ applied_one : (r : Rewritten) (all : List CellMeaning) (place : List ℕ) → fi
 applied_one r all place fits =
     let only : cells_in (all ∷ []) ≡ all = nothing_behind all in
     let fit : fits_along r.grid (cells_in (all ∷ [])) place ≡ true =
-        ap (λ (ms : List CellMeaning). fits_along r.grid ms place) only ∙ fits in
+    ap (λ (ms : List CellMeaning). fits_along r.grid ms place) only ∙ fits in
     ap (λ (b : Bool). if_fits r (rewritten_along r (cells_in (all ∷ [])) place) b) fit
     ∙ ap (λ (ms : List CellMeaning). rewritten_along r ms place) only
 
@@ -47,7 +47,7 @@ places_from g direction all n = filter (fits_along g (cells_in (all ∷ []))) (s
 module _ (g : Grid) (direction : Direction) (step : ℕ) (starts : ℕ → Bool) (all : List CellMeaning) (changes : ℕ → Bool)
     (apart : AreAlone starts step all changes) (idle : AreIdle all changes)
     (place : (n : ℕ) → n < length g.cells → places_from g direction all n
-        ≡ cond (starts n) (cells_from step n (length all) ∷ []) [])
+    ≡ cond (starts n) (cells_from step n (length all) ∷ []) [])
     (fits : (n : ℕ) → n < length g.cells → starts n ≡ true → fits_along g all (cells_from step n (length all)) ≡ true)
     (some : 0 < g.height) (many : length g.cells ≡ g.width * g.height) where
   abbrev done_at : (ℕ → Bool) → Rewritten
@@ -64,9 +64,9 @@ module _ (g : Grid) (direction : Direction) (step : ℕ) (starts : ℕ → Bool)
       let first : Rewritten = during g starts step all changes apart done here 0 in
       let good : fits_along g all (cells_from step n (length all)) ≡ true = fits n low on in
       ap (λ (r : Rewritten). acts r (cells_from step n (length all) ∷ []))
-          (during-start g starts step all changes apart done here)
+      (during-start g starts step all changes apart done here)
       ∙ applied_one first all (cells_from step n (length all))
-          (still_fits g starts step all changes apart idle done n on free good)
+      (still_fits g starts step all changes apart idle done n on free good)
       ∙ place_written g starts step all changes apart idle done n on free good
       ∙ during-end g starts step all changes apart done here more (λ k below yes. e k below)
 
@@ -89,7 +89,7 @@ module _ (g : Grid) (direction : Direction) (step : ℕ) (starts : ℕ → Bool)
             ∙ started done more n low on free e
         | inr off ↦
             ap (λ (b : Bool). fold acts (done_at done) (map alone (cond b (cells_from step n (length all) ∷ []) [])))
-                off
+            off
             ∙ not_started done more n off e
       ]
 
@@ -102,4 +102,4 @@ module _ (g : Grid) (direction : Direction) (step : ℕ) (starts : ℕ → Bool)
       ∙ ap (fold acts (done_at (λ k. false))) (nothing_behind (map alone (places g direction (all ∷ []))))
       ∙ in_order g (places_from g direction all) acts done_at
       (λ first second same. after-agree g starts step all changes apart first second (λ e low on. same e low)) one_end
-          some many direction
+      some many direction

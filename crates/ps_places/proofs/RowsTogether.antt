@@ -55,7 +55,7 @@ true_le a b on = grind (arith, nat_tests, on)
 module _ (g : Grid) (table : Option (List ℕ)) (axis : Axis) (part : List CompiledCell) (rows : List Bool)
     (starts : List (List Bool))
     (grid : IsGrid g) (some : 0 < length part) (found : AreStarts g table axis part rows starts)
-        (alone : PlacesLieAlone axis part rows starts) where
+    (alone : PlacesLieAlone axis part rows starts) where
   abbrev starting : ℕ → Bool
   starting = starts_number g rows starts
 
@@ -91,14 +91,14 @@ module _ (g : Grid) (table : Option (List ℕ)) (axis : Axis) (part : List Compi
       let remainder : e % g.height ≡ row = ap (λ (k : ℕ). k % g.height) is ∙ mod-mul-add x g.height row under in
       let low : e < length g.cells = rw (grid.cells, is) (cell_below g.width g.height x row across under) in
       true_and (nat_lt e (length g.cells)) (is_start rows starts (e % g.height) (e / g.height))
-          (lt-ltb e (length g.cells) low)
+      (lt-ltb e (length g.cells) low)
       (ap₂ (is_start rows starts) remainder quotient
-          ∙ true_and (column_at rows row) (column_at (columns_on starts row) x) on here)
+      ∙ true_and (column_at rows row) (column_at (columns_on starts row) x) on here)
 
   here_down : axis ≡ Down → (row i n : ℕ) → row < g.height → column_at rows row ≡ true → n < length g.cells →
       i < length part →
       is_on_row g.height (row + i) (columns_on starts row) n
-          ≡ (covers (starts_number g rows starts) 1 i n && on_this row (n - i * 1))
+      ≡ (covers (starts_number g rows starts) 1 i n && on_this row (n - i * 1))
   here_down down row i n under on low few = both_ways _ _
       (λ here.
       let both = and_parts (nat_eq (n % g.height) (row + i)) (column_at (columns_on starts row) (n / g.height)) here in
@@ -110,7 +110,7 @@ module _ (g : Grid) (table : Option (List ℕ)) (axis : Axis) (part : List Compi
       let far : i * 1 ≤ n = omega (arith, at, place) in
       true_and (covers (starts_number g rows starts) 1 i n) (on_this row (n - i * 1))
       (true_and (nat_le (i * 1) n) (starts_number g rows starts (n - i * 1)) (le_true (i * 1) n far)
-          (started (n - i * 1) row x under across first on both.1))
+      (started (n - i * 1) row x under across first on both.1))
       (eq_true ((n - i * 1) % g.height) row (ap (λ (k : ℕ). k % g.height) first ∙ mod-mul-add x g.height row under)))
       (λ there.
       let both = and_parts (covers (starts_number g rows starts) 1 i n) (on_this row (n - i * 1)) there in
@@ -122,7 +122,7 @@ module _ (g : Grid) (table : Option (List ℕ)) (axis : Axis) (part : List Compi
       let room : e % g.height + length part ≤ g.height =
       room_by g table part (e % g.height) x
       (subst (λ (a : Axis). begins_at g table a part (e % g.height) x ≡ true) down
-          (begins_good g table axis part rows starts grid some found e parts.1)) in
+      (begins_good g table axis part rows starts grid some found e parts.1)) in
       let is : n ≡ x * g.height + (row + i) = omega (arith, place, at, parts.0) in
       let below : row + i < g.height = omega (arith, room, at, few) in
       let start = begins_start g table axis part rows starts grid some found e parts.1 in
@@ -134,14 +134,14 @@ module _ (g : Grid) (table : Option (List ℕ)) (axis : Axis) (part : List Compi
 
   here_right : (row i n : ℕ) → row < g.height → column_at rows row ≡ true → n < length g.cells →
       is_on_row g.height row (columns_ahead (columns_on starts row) i) n
-          ≡ (covers (starts_number g rows starts) g.height i n && on_this row (n - i * g.height))
+      ≡ (covers (starts_number g rows starts) g.height i n && on_this row (n - i * g.height))
   here_right row i n under on low =
       let x : ℕ = n / g.height in
       let across : x < g.width = div_below n g.height g.width grid.some_row (rw (← grid.cells) low) in
       let wide : g.width ≤ SIDE_LIMIT = grid.columns in
       let place : x * g.height + n % g.height ≡ n = div-add-mod' n g.height in
       let moved : column_at (columns_ahead (columns_on starts row) i) x
-          ≡ (nat_le i x && column_at (columns_on starts row) (x - i)) =
+      ≡ (nat_le i x && column_at (columns_on starts row) (x - i)) =
       column_at-where (λ y. nat_le i y && column_at (columns_on starts row) (y - i)) x (omega (arith, across, wide)) in
       ap (λ (b : Bool). nat_eq (n % g.height) row && b) moved
       ∙ both_ways _ _
@@ -157,10 +157,10 @@ module _ (g : Grid) (table : Option (List ℕ)) (axis : Axis) (part : List Compi
       let far : i * g.height ≤ n = omega (arith, place, parts) in
       true_and (covers (starts_number g rows starts) g.height i n) (on_this row (n - i * g.height))
       (true_and (nat_le (i * g.height) n) (starts_number g rows starts (n - i * g.height))
-          (le_true (i * g.height) n far)
+      (le_true (i * g.height) n far)
       (started (n - i * g.height) row (x - i) under (omega (arith, across)) first on more.1))
       (eq_true ((n - i * g.height) % g.height) row (ap (λ (k : ℕ). k % g.height) first
-          ∙ mod-mul-add (x - i) g.height row under)))
+      ∙ mod-mul-add (x - i) g.height row under)))
       (λ there.
       let both = and_parts (covers (starts_number g rows starts) g.height i n) (on_this row (n - i * g.height)) there in
       let parts = covers-parts (starts_number g rows starts) g.height i n both.0 in
@@ -183,8 +183,8 @@ module _ (g : Grid) (table : Option (List ℕ)) (axis : Axis) (part : List Compi
   here_by : (a : Axis) → axis ≡ a → (row i n : ℕ) → row < g.height → column_at rows row ≡ true → n < length g.cells →
       i < length part →
       cells_behind a g.height row (columns_on starts row) i n
-          ≡ (covers (starts_number g rows starts) (step_along a g.height) i n && on_this row
-          (n - i * step_along a g.height))
+      ≡ (covers (starts_number g rows starts) (step_along a g.height) i n && on_this row
+      (n - i * step_along a g.height))
   here_by Down same row i n under on low few = here_down same row i n under on low few
   here_by Right same row i n under on low few = here_right row i n under on low
 
@@ -203,33 +203,33 @@ module _ (g : Grid) (table : Option (List ℕ)) (axis : Axis) (part : List Compi
         let few : i < length part = slice_get_within part i cell is in
         let size : length (part_meaning table part) ≡ length part = length-map part (cell_meaning table) in
         let first : ℕ → _ = cell_now g (starts_number g rows starts) (step_along axis g.height)
-            (part_meaning table part) (changes_of part) apart (done_but left) (on_this row) i in
+        (part_meaning table part) (changes_of part) apart (done_but left) (on_this row) i in
         let second : ℕ → _ = cell_now g (starts_number g rows starts) (step_along axis g.height)
-            (part_meaning table part) (changes_of part) apart (done_but left) (on_this row) (i + 1) in
+        (part_meaning table part) (changes_of part) apart (done_but left) (on_this row) (i + 1) in
         let meant : slice_get (part_meaning table part) i ≡ Some (cell_meaning table cell) =
-            slice_get-map-some table part i cell is in
+        slice_get-map-some table part i cell is in
         let chosen : ℕ → Bool = cells_behind axis g.height row (columns_on starts row) i in
         let on_index : changes_of part i ≡ true = ap changes_in is ∙ does in
         ap (λ (b : Bool). if_changes b (then_where (row_done left row i) (cell_meaning table cell).rewritten
-            (cells_behind axis (row_done left row i).grid.height row (columns_on starts row) i)) (row_done left row i))
-            does
+        (cells_behind axis (row_done left row i).grid.height row (columns_on starts row) i)) (row_done left row i))
+        does
         ∙ (ap (λ (h : ℕ). then_where (row_done left row i) (cell_meaning table cell).rewritten
-            (cells_behind axis h row (columns_on starts row) i)) (height-as g first)
+        (cells_behind axis h row (columns_on starts row) i)) (height-as g first)
         ∙ as_then g first second (cell_meaning table cell).rewritten chosen
         (λ n low.
         next_step g (starts_number g rows starts) (step_along axis g.height) (part_meaning table part)
-            (changes_of part) apart (done_but left) (on_this row)
+        (changes_of part) apart (done_but left) (on_this row)
         (fresh left row still) i (cell_meaning table cell) (omega (arith, few, size)) meant chosen n
         (here_by axis refl row i n under on low few
         ∙ ap (λ (b : Bool). (b && covers (starts_number g rows starts) (step_along axis g.height) i n) && on_this row
-            (n - i * step_along axis g.height)) (sym on_index))))
+        (n - i * step_along axis g.height)) (sym on_index))))
     | inr not_does ↦
         let off : changes_of part i ≡ false = ap changes_in is ∙ not_does in
         ap (λ (b : Bool). if_changes b (then_where (row_done left row i) (cell_meaning table cell).rewritten
-            (cells_behind axis (row_done left row i).grid.height row (columns_on starts row) i)) (row_done left row i))
-            not_does
+        (cells_behind axis (row_done left row i).grid.height row (columns_on starts row) i)) (row_done left row i))
+        not_does
         ∙ (idle_step g (starts_number g rows starts) (step_along axis g.height) (part_meaning table part)
-            (changes_of part) apart (done_but left) (on_this row) i off)
+        (changes_of part) apart (done_but left) (on_this row) i off)
   ] where
     slice_get-map-some : (t : Option (List ℕ)) (cells : List CompiledCell) (k : ℕ) (one : CompiledCell) →
         slice_get cells k ≡ Some one →
@@ -243,17 +243,17 @@ module _ (g : Grid) (table : Option (List ℕ)) (axis : Axis) (part : List Compi
       column_at left row ≡ true →
       ((j : ℕ) (cell : CompiledCell) → slice_get cells j ≡ Some cell → slice_get part (i + j) ≡ Some cell) →
       cells_changed (row_done left row i) table axis row (columns_on starts row) i cells
-          ≡ row_done left row (i + length cells)
+      ≡ row_done left row (i + length cells)
   cells_step left row i [] under on still same = let none : i + 0 ≡ i = omega arith in rw none refl
   cells_step left row i (cell ∷ cells) under on still same =
       let at : i + 0 ≡ i = omega arith in
       let is : slice_get part i ≡ Some cell = ap (slice_get part) (sym at) ∙ same 0 cell refl in
       let end : i + 1 + length cells ≡ i + suc (length cells) = omega arith in
       ap (λ (r : Rewritten). cells_changed r table axis row (columns_on starts row) (i + 1) cells)
-          (cell_step left row i cell under on still is)
+      (cell_step left row i cell under on still is)
       ∙ cells_step left row (i + 1) cells under on still
       (λ j other there. let next : i + 1 + j ≡ i + suc j = omega arith in ap (slice_get part) next
-          ∙ same (suc j) other there)
+      ∙ same (suc j) other there)
       ∙ ap (row_done left row) end
 
   -- one row more ------------------------------------------------------------------------------------------------------
@@ -266,7 +266,7 @@ module _ (g : Grid) (table : Option (List ℕ)) (axis : Axis) (part : List Compi
         rw (gone, eq-eqb r row same) (sym (or_true (not (column_at left r))))
     | inr other ↦
         let alike : column_at left r ≡ column_at rest r = taken_out left rest row r is low
-            ∙ ap (λ (b : Bool). b || column_at rest r) (ne_eqb r row other) in
+        ∙ ap (λ (b : Bool). b || column_at rest r) (ne_eqb r row other) in
         rw (alike, ne_eqb r row other) (sym (or_no (not (column_at rest r))))
   ] where
     or_true : (b : Bool) → (b || true) ≡ true
@@ -280,7 +280,7 @@ module _ (g : Grid) (table : Option (List ℕ)) (axis : Axis) (part : List Compi
   pub row_more : (left rest : List Bool) (row : ℕ) (now next : Rewritten) → set_columns left ≡ row ∷ set_columns rest →
       column_at rows row ≡ true →
       now ≡ rows_done left → next ≡ cells_changed now table axis row (columns_on starts row) 0 part →
-          next ≡ rows_done rest
+      next ≡ rows_done rest
   row_more left rest row now next is on so made =
       let still = (first_in left row (set_columns rest) is).0 in
       let under : row < g.height = found.below row on in
@@ -290,12 +290,12 @@ module _ (g : Grid) (table : Option (List ℕ)) (axis : Axis) (part : List Compi
       made
       ∙ ap (λ (r : Rewritten). cells_changed r table axis row (columns_on starts row) 0 part)
       (so ∙ during-start g (starts_number g rows starts) (step_along axis g.height) (part_meaning table part)
-          (changes_of part) apart (done_but left) (on_this row))
+      (changes_of part) apart (done_but left) (on_this row))
       ∙ cells_step left row 0 part under on still (λ j cell there. let at : 0 + j ≡ j = omega arith in
-          ap (slice_get part) at ∙ there)
+      ap (slice_get part) at ∙ there)
       ∙ ap (row_done left row) none
       ∙ during-end g (starts_number g rows starts) (step_along axis g.height) (part_meaning table part)
-          (changes_of part) apart (done_but left) (on_this row) (done_but rest)
+      (changes_of part) apart (done_but left) (on_this row) (done_but rest)
       (λ n low begins. let inside : n % g.height < g.height = mod_below n g.height grid.some_row in
       one_more_by left rest row (n % g.height) is (omega (arith, inside, high)))
 
@@ -303,20 +303,20 @@ module _ (g : Grid) (table : Option (List ℕ)) (axis : Axis) (part : List Compi
   pub rows_none : told g false ≡ rows_done rows
   rows_none =
       after-none g (starts_number g rows starts) (step_along axis g.height) (part_meaning table part)
-          (changes_of part) apart (done_but rows)
+      (changes_of part) apart (done_but rows)
       (λ n low begins.
       let start = begins_start g table axis part rows starts grid some found n begins in
       let on : column_at rows (n % g.height) ≡ true =
-          (and_parts (column_at rows (n % g.height)) (column_at (columns_on starts (n % g.height)) (n / g.height))
-          start).0 in
+      (and_parts (column_at rows (n % g.height)) (column_at (columns_on starts (n % g.height)) (n / g.height))
+      start).0 in
       ap not on)
 
   pub rows_all : (left : List Bool) → set_columns left ≡ [] → rows_done left
       ≡ after g (starts_number g rows starts) (step_along axis g.height) (part_meaning table part)
-          (changes_of part) apart (λ n. true)
+      (changes_of part) apart (λ n. true)
   rows_all left none =
       after-agree g (starts_number g rows starts) (step_along axis g.height) (part_meaning table part)
-          (changes_of part) apart (done_but left) (λ n. true)
+      (changes_of part) apart (done_but left) (λ n. true)
       (λ n low begins. let inside : n % g.height < g.height = mod_below n g.height grid.some_row in
       let high : g.height ≤ SIDE_LIMIT = grid.rows in
       ap not (none_in left (n % g.height) none (omega (arith, inside, high))))
@@ -325,7 +325,7 @@ module _ (g : Grid) (table : Option (List ℕ)) (axis : Axis) (part : List Compi
   pub all_done : (left : List Bool) → set_columns left ≡ [] →
       rows_done left
       ≡ fold (applied ((part_meaning table part ∷ []) ∷ [])) (told g false)
-          (combinations (places g (direction_of axis) (part_meaning table part ∷ []) ∷ []))
+      (combinations (places g (direction_of axis) (part_meaning table part ∷ []) ∷ []))
   all_done left none = rows_all left none ∙ sym (all_applied g table axis part rows starts grid some found alone)
 
 -- a row with a place has room for all of its cells
@@ -339,7 +339,7 @@ room_in g table Right part row k x under low good = under
 pub room_on_row : (g now : Grid) (table : Option (List ℕ)) (axis : Axis) (part : List CompiledCell) (rows : List Bool)
     (starts : List (List Bool)) →
     AreStarts g table axis part rows starts → sides_of now ≡ sides_of g → (row k : ℕ) → column_at rows row ≡ true →
-        k < length part →
+    k < length part →
     row_at axis row k < now.height
 room_on_row g now table axis part rows starts found sides row k on low =
     let high : now.height ≡ g.height = ap (λ (s : ℕ × ℕ × ℕ). s.1) sides in
@@ -352,4 +352,4 @@ room_on_row g now table axis part rows starts found sides row k on low =
           let first = first_in (columns_on starts row) x xs e in
           room_in g table axis part row k x under low
           (sym ((found.each row under).at x first.1)
-              ∙ true_and (column_at rows row) (column_at (columns_on starts row) x) on first.0)
+          ∙ true_and (column_at rows row) (column_at (columns_on starts row) x) on first.0)

@@ -83,7 +83,7 @@ cells_alone table part k distance alone low =
           let second = meaning_of table part (k + distance) asking a in
           let does : first.cell.changes ≡ true = ap changes_in (sym first.is) ∙ on in
           let both = alone_parts first.cell.changes second.cell.changes (keeps_mask first.cell second.cell)
-              (keeps_mask second.cell first.cell)
+          (keeps_mask second.cell first.cell)
           (alone.at k first.cell second.cell first.is second.is) does in
           keeps_of first.cell second.cell writing asking first.means second.means both.1;
       second = λ on writing asking w a.
@@ -91,7 +91,7 @@ cells_alone table part k distance alone low =
           let second = meaning_of table part (k + distance) writing w in
           let does : second.cell.changes ≡ true = ap changes_in (sym second.is) ∙ on in
           let kept = alone_second first.cell.changes second.cell.changes (keeps_mask first.cell second.cell)
-              (keeps_mask second.cell first.cell)
+          (keeps_mask second.cell first.cell)
           (alone.at k first.cell second.cell first.is second.is) does in
           keeps_of second.cell first.cell writing asking second.means first.means kept;
     } where
@@ -103,7 +103,7 @@ cells_alone table part k distance alone low =
       by (Some first) (Some second) i j on =
           let does : first.changes ≡ true = ap changes_in (sym i) ∙ on in
           let both = alone_parts first.changes second.changes (keeps_mask first second) (keeps_mask second first)
-              (alone.at k first second i j) does in
+          (alone.at k first second i j) does in
           ap changes_in j ∙ both.0
 
       keeps_of : (writing asking : CompiledCell) (w a : CellMeaning) → cell_meaning table writing ≡ w →
@@ -111,7 +111,7 @@ cells_alone table part k distance alone low =
           keeps_mask writing asking ≡ true → Keeps w a
       keeps_of writing asking w a i j kept =
           subst (λ (m : CellMeaning). Keeps m a) i (subst (λ (m : CellMeaning). Keeps (cell_meaning table writing) m) j
-              (cell_keeps table writing asking kept))
+          (cell_keeps table writing asking kept))
 
 pub cells_idle : (table : Option (List ℕ)) (part : List CompiledCell) →
     AreIdle (part_meaning table part) (changes_of part)
@@ -127,11 +127,11 @@ pub within_by : (g : Grid) (table : Option (List ℕ)) (axis : Axis) (part : Lis
     row < g.height → begins_at g table axis part row x ≡ true → x < g.width
 within_by g table Down part row x grid some under good =
     let both = and_parts (nat_lt x g.width) (nat_le (row + length part) g.height && part_fits g table Down x part row)
-        good in
+    good in
     let first : nat_lt x g.width ≡ true = both.0 in grind (arith, nat_tests, first)
 within_by g table Right part row x grid some under good =
     let both = and_parts (nat_le (x + length part) g.width) (part_fits g table Right row part x)
-        (sym (fits_with_room g table part row x grid under some) ∙ good) in
+    (sym (fits_with_room g table part row x grid under some) ∙ good) in
     let first : nat_le (x + length part) g.width ≡ true = both.0 in
     let room : x + length part ≤ g.width = grind (arith, nat_tests, first) in omega (arith, room, some)
 
@@ -141,7 +141,7 @@ pub room_by : (g : Grid) (table : Option (List ℕ)) (part : List CompiledCell) 
     row + length part ≤ g.height
 room_by g table part row x good =
     let both = and_parts (nat_lt x g.width) (nat_le (row + length part) g.height && part_fits g table Down x part row)
-        good in
+    good in
     let more = and_parts (nat_le (row + length part) g.height) (part_fits g table Down x part row) both.1 in
     let room : nat_le (row + length part) g.height ≡ true = more.0 in grind (arith, nat_tests, room)
 
@@ -188,15 +188,15 @@ module _ (g : Grid) (table : Option (List ℕ)) (axis : Axis) (part : List Compi
   place_is n low =
       from_is g axis (part_meaning table part) n
       ∙ ap (λ (b : Bool). cond b (cells_from (step_along axis g.height) n (length (part_meaning table part)) ∷ []) [])
-          (sym (number_begins n low))
+      (sym (number_begins n low))
 
   pub fits_there : (n : ℕ) → n < length g.cells → begins n ≡ true →
       fits_along g (part_meaning table part)
-          (cells_from (step_along axis g.height) n (length (part_meaning table part))) ≡ true
+      (cells_from (step_along axis g.height) n (length (part_meaning table part))) ≡ true
   fits_there n low on =
       (and_parts _ (fits_along g (part_meaning table part)
-          (cells_from (step_along axis g.height) n (length (part_meaning table part)))) (sym (number_begins n low)
-          ∙ on)).1
+      (cells_from (step_along axis g.height) n (length (part_meaning table part)))) (sym (number_begins n low)
+      ∙ on)).1
 
   -- without a row there is none
   none_from : set_columns rows ≡ [] → (n : ℕ) → places_from g (direction_of axis) (part_meaning table part) n ≡ []
@@ -205,13 +205,13 @@ module _ (g : Grid) (table : Option (List ℕ)) (axis : Axis) (part : List Compi
         let under : n % g.height < g.height = mod_below n g.height grid.some_row in
         let few : g.height ≤ SIDE_LIMIT = grid.rows in
         let out : column_at rows (n % g.height) ≡ false = none_in rows (n % g.height) none (omega (arith, under, few))
-            in
+        in
         let off : begins n ≡ false =
         ap (λ (b : Bool). nat_lt n (length g.cells) && (b && column_at (columns_on starts (n % g.height))
-            (n / g.height))) out
+        (n / g.height))) out
         ∙ and_no (nat_lt n (length g.cells)) in
         place_is n low ∙ ap (λ (b : Bool).
-            cond b (cells_from (step_along axis g.height) n (length (part_meaning table part)) ∷ []) []) off
+        cond b (cells_from (step_along axis g.height) n (length (part_meaning table part)) ∷ []) []) off
     | inr high ↦
         from_is g axis (part_meaning table part) n
         ∙ ap (λ (b : Bool). cond b (cells_from (step_along axis g.height) n (length (part_meaning table part)) ∷ []) [])
@@ -243,7 +243,7 @@ module _ (g : Grid) (table : Option (List ℕ)) (axis : Axis) (part : List Compi
             let on_column = first_in (columns_on starts row) x xs e in
             let start : is_start rows starts row x ≡ true = rw (on_row, on_column.0) refl in
             let good : begins_at g table axis part row x ≡ true = sym ((found.each row under).at x on_column.1)
-                ∙ start in
+            ∙ start in
             let across : x < g.width = column_within row x under good in
             let n : ℕ = x * g.height + row in
             let low : n < length g.cells = rw grid.cells (cell_below g.width g.height x row across under) in
@@ -251,15 +251,15 @@ module _ (g : Grid) (table : Option (List ℕ)) (axis : Axis) (part : List Compi
             let remainder : n % g.height ≡ row = mod-mul-add x g.height row under in
             let here : begins n ≡ true =
             ap₂ (λ (a b : Bool). a && b) (lt-ltb n (length g.cells) low) (ap₂ (is_start rows starts) remainder quotient
-                ∙ start) in
+            ∙ start) in
             let empty : places_from g (direction_of axis) (part_meaning table part) n ≡ [] =
             searched g (direction_of axis) (places_from g (direction_of axis) (part_meaning table part)) n grid.some_row
-                (rw (← grid.cells) low) none in
+            (rw (← grid.cells) low) none in
             let one : cond true (cells_from (step_along axis g.height) n (length (part_meaning table part)) ∷ []) []
-                ≡ [] =
+            ≡ [] =
             ap (λ (b : Bool). cond b
-                (cells_from (step_along axis g.height) n (length (part_meaning table part)) ∷ []) []) (sym here)
-                ∙ sym (place_is n low) ∙ empty in
+            (cells_from (step_along axis g.height) n (length (part_meaning table part)) ∷ []) []) (sym here)
+            ∙ sym (place_is n low) ∙ empty in
             absurd (cc)
 
   pub place_somewhere : 0 < length (set_columns rows) → places g (direction_of axis) (part_meaning table part ∷ []) ≢ []
@@ -272,18 +272,18 @@ module _ (g : Grid) (table : Option (List ℕ)) (axis : Axis) (part : List Compi
   -- places that lie so many cells apart
   behind_by : (a : Axis) → a ≡ axis → (n distance : ℕ) → distance < length part → begins n ≡ true →
       begins (n + distance * step_along a g.height) ≡ true → starts_behind a rows starts distance (n % g.height)
-          (n / g.height) ≡ true
+      (n / g.height) ≡ true
   behind_by Down same n distance low on there =
       let row : ℕ = n % g.height in
       let x : ℕ = n / g.height in
       let place : x * g.height + row ≡ n = div-add-mod' n g.height in
       let room : row + length part ≤ g.height = room_by g table part row x
-          (subst (λ (a : Axis). begins_at g table a part row x ≡ true) (sym same) (begins_good n on)) in
+      (subst (λ (a : Axis). begins_at g table a part row x ≡ true) (sym same) (begins_good n on)) in
       let under : row + distance < g.height = omega (arith, room, low) in
       let next : n + distance * 1 ≡ x * g.height + (row + distance) = omega (arith, place) in
       let start = begins_start (n + distance * 1) there in
       ap₂ (is_start rows starts)
-          (sym (ap (λ (k : ℕ). k % g.height) next ∙ mod-mul-add x g.height (row + distance) under))
+      (sym (ap (λ (k : ℕ). k % g.height) next ∙ mod-mul-add x g.height (row + distance) under))
       (sym (ap (λ (k : ℕ). k / g.height) next ∙ div-mul-add x g.height (row + distance) under)) ∙ start
   behind_by Right same n distance low on there =
       let row : ℕ = n % g.height in
@@ -294,7 +294,7 @@ module _ (g : Grid) (table : Option (List ℕ)) (axis : Axis) (part : List Compi
       let next : n + distance * g.height ≡ (x + distance) * g.height + row = omega (arith, place, split) in
       let start = begins_start (n + distance * g.height) there in
       ap₂ (is_start rows starts)
-          (sym (ap (λ (k : ℕ). k % g.height) next ∙ mod-mul-add (x + distance) g.height row under))
+      (sym (ap (λ (k : ℕ). k % g.height) next ∙ mod-mul-add (x + distance) g.height row under))
       (sym (ap (λ (k : ℕ). k / g.height) next ∙ div-mul-add (x + distance) g.height row under)) ∙ start
 
   -- leave each other alone
@@ -308,12 +308,12 @@ module _ (g : Grid) (table : Option (List ℕ)) (axis : Axis) (part : List Compi
             let small : n < length g.cells = begins_low n on in
             let under : n % g.height < g.height = mod_below n g.height grid.some_row in
             let across : n / g.height < g.width = div_below n g.height g.width grid.some_row (rw (← grid.cells) small)
-                in
+            in
             let high : g.height ≤ SIDE_LIMIT = grid.rows in
             let wide : g.width ≤ SIDE_LIMIT = grid.columns in
             cells_alone table part k distance
             ((alone.each distance more few).at (n % g.height) (n / g.height) (omega (arith, under, high))
-                (omega (arith, across, wide)) (begins_start n on)
+            (omega (arith, across, wide)) (begins_start n on)
             (behind_by axis refl n distance few on there))
             (omega (arith, low, size));
       }
@@ -321,10 +321,10 @@ module _ (g : Grid) (table : Option (List ℕ)) (axis : Axis) (part : List Compi
   -- all of them, applied in their order
   pub all_applied : (alone : PlacesLieAlone axis part rows starts) →
       fold (applied ((part_meaning table part ∷ []) ∷ [])) (told g false)
-          (combinations (places g (direction_of axis) (part_meaning table part ∷ []) ∷ []))
+      (combinations (places g (direction_of axis) (part_meaning table part ∷ []) ∷ []))
       ≡ after g begins (step_along axis g.height) (part_meaning table part) (changes_of part) (places_alone alone)
-          (λ n. true)
+      (λ n. true)
   all_applied alone =
       all_written g (direction_of axis) (step_along axis g.height) begins (part_meaning table part) (changes_of part)
-          (places_alone alone)
+      (places_alone alone)
       (cells_idle table part) place_is fits_there grid.some_row grid.cells

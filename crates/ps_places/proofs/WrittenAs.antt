@@ -145,7 +145,7 @@ module _ (g : Grid) where
       let same : cell_at r.grid n ≡ cell = get_or_from_slice_get (r.grid).cells n cell [] is in
       ap (λ (c : List Slot). rewritten_cell r m n (Some c)) (sym same)
       ∙ sym (ap (λ (after : Rewritten). let both : Rewritten =
-          record { grid = after.grid; changed = r.changed || after.changed } in both)
+      record { grid = after.grid; changed = r.changed || after.changed } in both)
       (where-one r.grid m.rewritten n low))
 
   pub as-one : (first second : ℕ → List Slot) (m : CellMeaning) (n : ℕ) → n < length g.cells →

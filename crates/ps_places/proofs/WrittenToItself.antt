@@ -53,9 +53,9 @@ leaves_in_room (Some layers) cell stays =
     let mask : model.CellMask = mask_shown cell.mask in
     let write : model.CellWrite = write_shown cell.write in
     let parts = and_parts (list_all (is_listed mask.barred) write.gone) (list_all (keeps_layer mask) write.layers) stays
-        in
+    in
     ap₂ (λ (a b : Bool). a && b) parts.0 (all_of_kept (keeps_layer mask) (has_room_for (Some layers)) write.layers
-        parts.1)
+    parts.1)
 
 pub written_to_itself : (table : Option (List ℕ)) (cell : CompiledCell) → cell.changes ≡ false → (slots : List Slot) →
     mask_fits (mask_shown cell.mask) slots ≡ true →

@@ -19,7 +19,7 @@ keeps_mask writing asking = write_keeps (write_shown writing.write) (mask_shown 
 abbrev pub leave_alone : CompiledCell → CompiledCell → Bool
 leave_alone first second =
     if first.changes then not second.changes && keeps_mask first second else
-        (not second.changes || keeps_mask second first)
+    (not second.changes || keeps_mask second first)
 
 -- so do all cells of a part that lie so many cells apart
 pub record LieAlone (part : List CompiledCell) (distance : ℕ) : Type 0 where

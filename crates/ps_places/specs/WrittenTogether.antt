@@ -36,7 +36,7 @@ abbrev pub cell_changed : Rewritten → Option (List ℕ) → Axis → ℕ → L
 cell_changed r table axis row columns steps cell =
     let g : Grid = r.grid in
     if_changes cell.changes (then_where r (cell_meaning table cell).rewritten
-        (cells_behind axis g.height row columns steps)) r
+    (cells_behind axis g.height row columns steps)) r
 
 abbrev pub cells_changed : Rewritten → Option (List ℕ) → Axis → ℕ → List Bool → ℕ → List CompiledCell → Rewritten
 cells_changed r table axis row columns steps [] = r

@@ -9,9 +9,9 @@ loop-row-init c = λ row low out. no_start c.args.axis c.args.rows c.args.starts
 pub loop-row-preserved : goal.loop-row-preserved
 loop-row-preserved c =
     apart_more c.args.axis c.args.rows c.loop-row.left c.take_first.new.self c.args.starts.now c.args.distance
-        c.in-Some.row c.in-Some.ensures.some
+    c.in-Some.row c.in-Some.ensures.some
     (not_apart c.args.axis c.args.rows c.args.starts.now c.args.distance c.in-Some.row c.kept_on_row.result
-        c.starts_behind-others.result c.both.result
+    c.starts_behind-others.result c.both.result
     c.kept_on_row.ensures c.starts_behind-others.ensures c.both.ensures (c.is_empty.ensures.none (search rules)))
     c.loop-row.invariant
 

@@ -13,9 +13,9 @@ loop-number-preserved c = λ k first second low is other. elim (cases_eq (k + c.
       ∙ get_or_from_slice_get c.args.part.now k first c.index-part-number.result is in
       let two : c.index-part-number-in-loop-number.result ≡ second =
       c.index-part-number-in-loop-number.is
-          ∙ ap (λ (n : ℕ). get_or c.args.part.now n c.index-part-number-in-loop-number.result) (sym same)
+      ∙ ap (λ (n : ℕ). get_or c.args.part.now n c.index-part-number-in-loop-number.result) (sym same)
       ∙ get_or_from_slice_get c.args.part.now (k + c.args.distance) second c.index-part-number-in-loop-number.result
-          other in
+      other in
       let good : c.leave_alone.result ≡ true = search rules in
       ap₂ leave_alone (sym one) (sym two) ∙ sym c.leave_alone.ensures ∙ good
   | inr apart ↦ c.loop-number.invariant k first second (omega (arith, low, apart)) is other
@@ -25,6 +25,6 @@ pub returns : goal.returns
 returns c = λ e. record {
   at = λ k first second is other.
       let within : k + c.args.distance < length c.args.part.now = slice_get_within c.args.part.now (k + c.args.distance)
-          second other in
+      second other in
       c.loop-number.invariant k first second (omega (arith, within, c.loop-number-test.false)) is other;
 }

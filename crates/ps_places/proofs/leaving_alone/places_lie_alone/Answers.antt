@@ -8,6 +8,6 @@ loop-distance-preserved c = λ distance more low. elim (cases_eq distance c.loop
   | inl same ↦
       let good : c.apart_lie_alone.result ≡ true = search rules in
       subst (ApartLieAlone c.args.axis c.args.part.now c.args.rows c.args.starts.now) (sym same)
-          (c.apart_lie_alone.ensures good)
+      (c.apart_lie_alone.ensures good)
   | inr other ↦ c.loop-distance.invariant distance more (omega (arith, low, other))
 ]

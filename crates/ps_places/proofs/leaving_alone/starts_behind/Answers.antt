@@ -11,4 +11,4 @@ returns-in-Right c = λ x low.
     ∙ column_at-where (λ y. column_at c.kept_on_row-in-Right.result (y + c.args.distance)) x low
     ∙ c.kept_on_row-in-Right.ensures (x + c.args.distance)
     ∙ ap (λ (axis : Axis). starts_behind axis c.args.rows c.args.starts.now c.args.distance c.args.row x)
-        (sym c.in-Right.is)
+    (sym c.in-Right.is)

@@ -17,10 +17,10 @@ returns-in-Down-clause-rewritten g c =
     let does : cell.changes ≡ true = search rules in
     let chosen : ℕ → Bool = is_on_row grid.height (c.args.row + c.args.steps) c.args.columns in
     ap (λ (r : Rewritten). let after : Rewritten = record { grid = r.grid; changed = c.args.changed || r.changed } in
-        after) c.rewrite.ensures.rewritten
+    after) c.rewrite.ensures.rewritten
     ∙ sym (ap (λ (b : Bool). if_changes b (then_where before (cell_meaning table cell).rewritten chosen) before) does)
     ∙ ap (λ (axis : Axis). cell_changed before table axis c.args.row c.args.columns c.args.steps cell)
-        (sym c.in-Down.is)
+    (sym c.in-Down.is)
 
 pub returns-in-Right-clause-rewritten : goal.returns-in-Right-clause-rewritten
 returns-in-Right-clause-rewritten g c =
@@ -32,10 +32,10 @@ returns-in-Right-clause-rewritten g c =
     let chosen : List Bool → ℕ → Bool = is_on_row grid.height c.args.row in
     let moved : List Bool = columns_ahead c.args.columns c.args.steps in
     ap (λ (r : Rewritten). let after : Rewritten = record { grid = r.grid; changed = c.args.changed || r.changed } in
-        after) c.rewrite-in-Right.ensures.rewritten
+    after) c.rewrite-in-Right.ensures.rewritten
     ∙ ap (λ (columns : List Bool). then_where before (cell_meaning table cell).rewritten (chosen columns))
-        c.ahead.ensures
+    c.ahead.ensures
     ∙ sym (ap (λ (b : Bool). if_changes b (then_where before (cell_meaning table cell).rewritten (chosen moved)) before)
-        does)
+    does)
     ∙ ap (λ (axis : Axis). cell_changed before table axis c.args.row c.args.columns c.args.steps cell)
-        (sym c.in-Right.is)
+    (sym c.in-Right.is)

@@ -15,7 +15,7 @@ loop-row-init g c =
       among = λ row low on. on;
       rewritten = λ grid some found alone.
           rows_none (g.B.Board.grid c.args.board.now) (g.B.Board.table c.args.board.now) c.args.axis c.args.part.now
-              c.args.rows c.args.starts.now grid some found alone;
+          c.args.rows c.args.starts.now grid some found alone;
       table = refl;
       sides = refl;
     }
@@ -24,9 +24,9 @@ pub rewrite_row-changed-requires-clause-room : goal.rewrite_row-changed-requires
 rewrite_row-changed-requires-clause-room g c = λ k low.
     let first = first_in c.loop-row.left c.in-Some.row _ c.in-Some.ensures.some in
     room_on_row (g.B.Board.grid c.args.board.now) (g.B.Board.grid c.loop-row.board) (g.B.Board.table c.args.board.now)
-        c.args.axis c.args.part.now c.args.rows c.args.starts.now
+    c.args.axis c.args.part.now c.args.rows c.args.starts.now
     c.requires.starts c.loop-row.invariant.sides c.in-Some.row k
-        (c.loop-row.invariant.among c.in-Some.row first.1 first.0) low
+    (c.loop-row.invariant.among c.in-Some.row first.1 first.0) low
 
 pub loop-row-preserved : goal.loop-row-preserved
 loop-row-preserved g c =
@@ -40,17 +40,17 @@ loop-row-preserved g c =
     record {
       among = λ r low on.
           c.loop-row.invariant.among r low
-              (taken_among c.loop-row.left c.take_first.new.self row r c.in-Some.ensures.some low on);
+          (taken_among c.loop-row.left c.take_first.new.self row r c.in-Some.ensures.some low on);
       rewritten = λ grid some found alone.
           row_more start table c.args.axis c.args.part.now c.args.rows c.args.starts.now grid some found alone
-              c.loop-row.left c.take_first.new.self row now next
+          c.loop-row.left c.take_first.new.self row now next
           c.in-Some.ensures.some (c.loop-row.invariant.among row first.1 first.0)
-              (c.loop-row.invariant.rewritten grid some found alone)
+          (c.loop-row.invariant.rewritten grid some found alone)
           (c.rewrite_row-changed.ensures.rewritten
           ∙ ap₂ (λ (t : Option (List ℕ)) (cs : List Bool). cells_changed now t c.args.axis row cs 0 c.args.part.now)
-              c.loop-row.invariant.table
+          c.loop-row.invariant.table
           (c.index-starts-row.is ∙ get_or_default c.args.starts.now row columns []
-              (omega (arith, first.1, c.requires.long))));
+          (omega (arith, first.1, c.requires.long))));
       table = c.rewrite_row-changed.ensures.table ∙ c.loop-row.invariant.table;
       sides = c.rewrite_row-changed.ensures.sides ∙ c.loop-row.invariant.sides;
     }
@@ -61,5 +61,5 @@ returns-clause-rewritten g c =
     let table : Option (List ℕ) = g.B.Board.table c.args.board.now in
     c.loop-row.invariant.rewritten c.size-width.ensures.shape c.requires.whole c.requires.starts c.requires.alone
     ∙ all_done start table c.args.axis c.args.part.now c.args.rows c.args.starts.now c.size-width.ensures.shape
-        c.requires.whole c.requires.starts c.requires.alone
+    c.requires.whole c.requires.starts c.requires.alone
     c.loop-row.left (c.in_default.ensures.none refl)
