@@ -1,5 +1,5 @@
 -- Compiled sections in the making: what the pieces come to that lines are cut into.
-use Rattle.std.proofs.Common.{◌≡◌, List, [], ◌∷◌, ◌++◌, map, flat_map, refl, ap, ◌∙◌}
+use Rattle.std.proofs.Common.{◌≡◌, List, [], ◌∷◌, ◌++◌, map, flat_map, refl, sym, ap, ◌∙◌, append_assoc}
 use Rattle.std.specs.List.{slice_split}
 use Rattle.std.proofs.lemmas.List.{map-append}
 use Rattle.ps_model.specs.declared.rules.Part.{Part}
@@ -7,6 +7,7 @@ use Rattle.ps_model.specs.names.Names.{Names}
 use Rattle.ps_model.specs.rules.SourceRules.{RuleLine}
 use Rattle.ps_model.specs.board.RuleSections.{Group, Loop, section_by}
 use Rattle.ps_model.specs.board.RulePrograms.{is_start, is_end, groups_in, outside_loops, inside_loop, of_pieces, behind_start}
+use Rattle.ps_model.specs.meaning.Compiled.{CompiledSection}
 use Rattle.ps_compile.specs.GroupsMade.{compiled_group}
 use Rattle.ps_compile.specs.ProgramsMade.{compiled_sections, compact_groups, compact_outside, compact_behind}
 use Rattle.ps_compile.specs.CompactPrograms.{compact_program}
@@ -37,3 +38,15 @@ program-made names part lines before others e =
     ap (λ pieces. compiled_sections names (of_pieces (outside_loops part) (behind_start part) pieces)) e
     ∙ map-append (section_by (compiled_group names)) (outside_loops part before) (flat_map (behind_start part) others)
     ∙ ap (λ rest. compact_outside names part before ++ rest) (map-flat_map (section_by (compiled_group names)) (behind_start part) others)
+
+-- behind the loop that these begin with, the others are still to come
+pub behind-begun : {A : Type 0} (show : A → CompiledSection) (names : Names) (part : Part) (lines inside : List RuleLine) (others : List (List RuleLine)) (before begun : List A) (section : A) →
+    begun ≡ before ++ section ∷ [] → show section ≡ Loop (compact_groups names part inside) → slice_split is_end lines ≡ inside ∷ others →
+    map show begun ++ flat_map (compact_outside names part) others ≡ map show before ++ compact_behind names part lines
+behind-begun show names part lines inside others before begun section e shows cut =
+    let rest : List CompiledSection = flat_map (compact_outside names part) others in
+    ap (λ sections. map show sections ++ rest) e
+    ∙ ap (λ sections. sections ++ rest) (map-append show before (section ∷ []))
+    ∙ append_assoc (map show before) (show section ∷ []) rest
+    ∙ ap (λ shown. map show before ++ shown ∷ rest) shows
+    ∙ ap (λ sections. map show before ++ sections) (sym (behind-made names part lines inside others cut))

@@ -1,11 +1,14 @@
 -- Rows that are compiled of whole rows are whole.
 use Rattle.std.proofs.Common.{◌≡◌, ℕ, ◌+◌, ◌<◌, ◌≤◌, Bool, true, false, List, [], ◌∷◌, length, map, reverse, get_or, sym, subst, ap, ◌∙◌}
 use Rattle.std.specs.Prelude.{All}
+use Rattle.std.specs.List.{slice_split}
 use Rattle.std.proofs.lemmas.List.{length-map, get_or-map}
 use Rattle.std.proofs.lemmas.List.Elements.{All-nil, All-cons, All-head, All-tail}
 use Rattle.std.proofs.lemmas.Simd.{map-map}
 use Rattle.ps_model.specs.declared.limits.TheConstants.{ELLIPSIS_LIMIT}
-use Rattle.ps_laws.specs.WholeRows.{HasCells, IsWholeRow}
+use Rattle.ps_model.specs.rules.SourceRules.{RuleLine}
+use Rattle.ps_laws.specs.WholeRows.{HasCells, IsWholeRow, IsWholeLine}
+use Rattle.ps_laws.proofs.common.Everywhere.{All-slice_split}
 use Rattle.ps_laws.proofs.common.WholeRows.{whole-mapped, whole-turned}
 use Rattle.ps_compile.specs.TurnedRows.{row_from}
 
@@ -41,3 +44,8 @@ shown-first P show xs x others e all = All-head P (show x) (map show others) (su
 
 pub shown-others : {A B : Type 0} (P : B → Type 0) (show : A → B) (xs : List A) (x : A) (others : List A) → xs ≡ x ∷ others → All P (map show xs) → All P (map show others)
 shown-others P show xs x others e all = All-tail P (show x) (map show others) (subst (λ (list : List _). All P (map show list)) e all)
+
+-- the pieces of whole lines are whole
+pub cut-whole : {A : Type 0} (cuts : RuleLine → Bool) (show : A → List RuleLine) (pieces : List A) (lines : List RuleLine) → map show pieces ≡ slice_split cuts lines → All IsWholeLine lines →
+    All (All IsWholeLine) (map show pieces)
+cut-whole cuts show pieces lines e whole = subst (λ (cut : List (List RuleLine)). All (All IsWholeLine) cut) (sym e) (All-slice_split IsWholeLine cuts lines whole)

@@ -1,7 +1,8 @@
 //! The two compiled programs of a game's rules.
 
-ghost use Rattle.std.specs.Prelude.{◌≡◌, ◌++◌, All, IfOk, OnOk};
+ghost use Rattle.std.specs.Prelude.{◌≡◌, ◌++◌, All, IfOk, OnOk, map};
 ghost use Rattle.ps_model.specs.declared.rules.Part.TheVariants.{Plain, Late};
+ghost use Rattle.ps_model.specs.board.RuleSections.{Group};
 ghost use Rattle.ps_model.specs.board.RulePrograms.{is_in_part};
 ghost use Rattle.ps_laws.specs.WholeRows.{IsWholeLine};
 ghost use Rattle.ps_compile.specs.CompactPrograms.{compact_program};
@@ -60,7 +61,21 @@ fn compiled_groups<'r>(
     groups.finish()
 }
 
-/// Puts the groups of lines outside of loops last, each as a section.
+/// Puts groups last, each as a section.
+fn push_groups<'r>(
+    sections: &mut Vec<CompiledSection<'r>>,
+    groups: Vec<List<CompiledRule<'r>>>,
+) -> Result<(), Memory>
+    ensures { OnOk result (sections_shown sections.new.items
+        ≡ sections_shown sections.old.items ++ map Group (groups_shown groups.entry.items)) }
+{
+    for group in groups {
+        sections.push(CompiledSection::Group(group))?;
+    }
+    Ok(())
+}
+
+/// Puts the sections of lines outside of loops last.
 fn push_outside<'r>(
     alloc: Global,
     sections: &mut Vec<CompiledSection<'r>>,
@@ -72,10 +87,8 @@ fn push_outside<'r>(
     ensures { OnOk result (sections_shown sections.new.items
         ≡ sections_shown sections.old.items ++ compact_outside names.now part (lines_shown lines.entry.now)) }
 {
-    for group in compiled_groups(alloc, names, part, lines)? {
-        sections.push(CompiledSection::Group(group))?;
-    }
-    Ok(())
+    let groups = compiled_groups(alloc, names, part, lines)?;
+    push_groups(sections, groups)
 }
 
 /// Puts the sections of the lines behind the start of a loop last: a loop, and what follows its end.

@@ -1,9 +1,12 @@
 use Rattle.std.proofs.Common.{◌≡◌, ◌++◌, drop}
 use Rattle.std.specs.List.{flat_map}
+use Rattle.ps_rules.specs.RulesShown.{lines_shown}
 use Rattle.ps_program.specs.ProgramShown.{sections_shown}
+use Rattle.ps_compile.specs.CompactPrograms.{compact_program}
 use Rattle.ps_compile.specs.PiecesShown.{pieces_shown}
 use Rattle.ps_compile.specs.ProgramsMade.{compact_behind}
 use Rattle.ps_compile.proofs.program.program_of.Given as goal
 
 abbrev pub invariant-loop-piece : goal.invariant-loop-piece
-invariant-loop-piece l = sections_shown l.sections.items ++ flat_map (compact_behind l.names l.part) (pieces_shown (drop l.piece-index l.others)) ≡ sections_shown l.initial.sections.items ++ flat_map (compact_behind l.names l.part) (pieces_shown l.others)
+invariant-loop-piece l =
+    sections_shown l.sections.items ++ flat_map (compact_behind l.names l.part) (pieces_shown (drop l.piece-index l.others)) ≡ compact_program l.names l.part (lines_shown l.lines)
