@@ -4,12 +4,13 @@
 //! `data/` are, and who says what each must do, stands in `data/README.md`.
 #![tactic(auto)]
 
+mod difference;
 mod playing;
 #[cfg(test)]
 mod tests;
 mod verdict;
 
-use playing::writes_as_meant;
+use playing::first_complaint;
 use std::rt::Files;
 use std::{fs, io};
 use verdict::{Verdict, judge};
@@ -34,17 +35,17 @@ fn told<R: Files + AllocGlobal>(rt: &R, name: &str) -> io::Result<String> {
     Ok(format!(in rt.alloc(); "{name}: {fault}")?)
 }
 
-/// Whether the game of that name writes what it must.
-fn played<R: Files + AllocGlobal>(rt: &R, name: &str, text: &[u8]) -> io::Result<&'static str> {
+/// Whether the game of that name writes what it must, and if not, in which line it doesn't.
+fn played<R: Files + AllocGlobal>(rt: &R, name: &str, text: &[u8]) -> io::Result<String> {
     let path = format!(in rt.alloc(); "{name}.keys")?;
     let keys = fs::read(rt, path.as_str())?;
     let path = format!(in rt.alloc(); "{name}.stdout")?;
     let wanted = fs::read(rt, path.as_str())?;
-    let same = writes_as_meant(rt.alloc(), text, &keys, &wanted).map_err(
+    let complaint = first_complaint(rt.alloc(), text, &keys, &wanted).map_err(
         |_| io::ErrorKind::OutOfMemory,
     )?;
-    if same {
-        return Ok("played as it must be");
+    match complaint {
+        Some(said) => Ok(said),
+        None => Ok(String::from_str(rt.alloc(), "played as it must be")?),
     }
-    Ok("played otherwise")
 }

@@ -1,16 +1,16 @@
 -- What an attempt comes to.
 use Rattle.std.proofs.Common.{◌≡◌, ◌≢◌, ◌∙◌, ℕ, Bool, true, false, Option, List, [], ◌∷◌, map, fold, refl, sym, ap, ap₂}
 use Rattle.ps_model.specs.board.Grid.{Grid}
-use Rattle.ps_model.specs.board.Attempts.{Result, Rewritten, applied, attempt_by, queued}
+use Rattle.ps_model.specs.board.Attempts.{Result, Rewritten, applied, attempt_by, combinations, queued}
 use Rattle.ps_model.specs.rules.SourceRules.{Commands}
 use Rattle.ps_model.specs.meaning.RuleMeanings.{CellMeaning, RuleMeaning}
 use Rattle.ps_model.specs.declared.pieces.Direction.{Direction}
 use Rattle.ps_program.specs.declared.cells.CompiledCell.{CompiledCell}
 use Rattle.ps_program.specs.declared.rows.CompiledRow.{CompiledRow}
-use Rattle.ps_places.specs.Lines.{cell_meaning}
+use Rattle.ps_places.specs.Lines.{cell_meaning, part_meaning}
 use Rattle.ps_places.specs.RowPlaces.{parts_meaning, row_meaning}
 use Rattle.ps_engine.specs.Choosing.{rows_meaning}
-use Rattle.ps_engine.specs.OneCell.{one_cell, rows_parts}
+use Rattle.ps_engine.specs.OneCell.{one_cell, one_part, rows_parts}
 
 -- a grid as it was
 abbrev pub unchanged : Grid → Rewritten
@@ -39,6 +39,12 @@ pub attempt_asked : (direction : Direction) (rows : List (List (List CellMeaning
     (let r : Result = record { state = record { grid = g; queue = queued queue commands }; changed = false } in r) ≡ attempt_by (rule_of direction rows rewrites commands) (record { grid = g; queue = queue }) all
 attempt_asked direction rows rewrites commands g queue all first others e idle = rw (e, idle) refl
 
+pub attempt_some : (direction : Direction) (rows : List (List (List CellMeaning))) (rewrites : Bool) (commands : Commands) (g : Grid) (queue : Commands) (all : List (List (List ℕ))) →
+    all ≢ [] → rewrites ≡ false →
+    (let r : Result = record { state = record { grid = g; queue = queued queue commands }; changed = false } in r) ≡ attempt_by (rule_of direction rows rewrites commands) (record { grid = g; queue = queue }) all
+attempt_some direction rows rewrites commands g queue [] some idle = absurd (some refl)
+attempt_some direction rows rewrites commands g queue (first ∷ others) some idle = attempt_asked direction rows rewrites commands g queue (first ∷ others) first others refl idle
+
 -- or all of some are applied
 pub attempt_written : (direction : Direction) (rows : List (List (List CellMeaning))) (rewrites : Bool) (commands : Commands) (g : Grid) (queue : Commands) (all : List (List (List ℕ))) (r : Rewritten) →
     rewrites ≡ true → all ≢ [] → r ≡ fold (applied rows) (unchanged g) all →
@@ -47,9 +53,23 @@ attempt_written direction rows rewrites commands g queue [] r does some made = a
 attempt_written direction rows rewrites commands g queue (first ∷ others) r does some made =
     attempt_walked direction rows rewrites commands g queue (first ∷ others) first others r refl does made
 
--- what the only cell of rows means
-pub only_cell_meant : (table : Option (List ℕ)) (rows : List CompiledRow) (cell : CompiledCell) → rows_parts rows ≡ one_cell cell → rows_meaning table rows ≡ ((cell_meaning table cell ∷ []) ∷ []) ∷ []
-only_cell_meant table rows cell only = twice rows ∙ ap (map (parts_meaning table)) only where
-  twice : (rs : List CompiledRow) → rows_meaning table rs ≡ map (parts_meaning table) (rows_parts rs)
-  twice [] = refl
-  twice (row ∷ rs) = ap (λ (ms : List (List (List CellMeaning))). row_meaning table row ∷ ms) (twice rs)
+-- what the only part of rows means, and the only cell
+pub rows_by_parts : (table : Option (List ℕ)) (rows : List CompiledRow) → rows_meaning table rows ≡ map (parts_meaning table) (rows_parts rows)
+rows_by_parts table [] = refl
+rows_by_parts table (row ∷ rows) = ap (λ (ms : List (List (List CellMeaning))). row_meaning table row ∷ ms) (rows_by_parts table rows)
+
+pub only_part_meant : (table : Option (List ℕ)) (rows : List CompiledRow) (part : List CompiledCell) → rows_parts rows ≡ one_part part →
+    rows_meaning table rows ≡ (part_meaning table part ∷ []) ∷ []
+only_part_meant table rows part only = rows_by_parts table rows ∙ ap (map (parts_meaning table)) only
+
+pub only_cell_meant : (table : Option (List ℕ)) (rows : List CompiledRow) (cell : CompiledCell) → rows_parts rows ≡ one_cell cell →
+    rows_meaning table rows ≡ ((cell_meaning table cell ∷ []) ∷ []) ∷ []
+only_cell_meant table rows cell only = rows_by_parts table rows ∙ ap (map (parts_meaning table)) only
+
+-- one row has combinations where it has places
+pub some_alone : (ps : List (List ℕ)) → ps ≢ [] → combinations (ps ∷ []) ≢ []
+some_alone [] some none = some refl
+some_alone (p ∷ ps) some none = absurd (cc)
+
+pub none_alone : (ps : List (List ℕ)) → ps ≡ [] → combinations (ps ∷ []) ≡ []
+none_alone ps none = ap (λ (xs : List (List ℕ)). combinations (xs ∷ [])) none

@@ -18,7 +18,7 @@ use Rattle.ps_places.specs.RowPlaces.{all_places, place_at, place_fits, places_b
 use Rattle.ps_places.specs.Starts.{HasLinesOf, HaveSameStarts}
 use Rattle.ps_places.specs.Ways.{from_first}
 use Rattle.ps_engine.specs.Choices.{Choice, behind, choices_of, chosen, spread}
-use Rattle.ps_engine.specs.Choosing.{IsChosenOf, IsPlaced, OfEach, rows_meaning}
+use Rattle.ps_engine.specs.Choosing.{IsChosenOf, IsPlaced, OfEach, row_places, rows_meaning}
 use Rattle.ps_engine.proofs.Choosing.{cells_in-meant, chosen_fits, inside, same_places}
 use Rattle.ps_engine.proofs.RoomsChanged.{get_other, get_same}
 use Rattle.ps_engine.proofs.Sought.{first_is, found_or, from_first-append, from_first-yes}
@@ -88,6 +88,17 @@ module _ (g : Grid) (table : Option (List ℕ)) where
       ap₂ spread own (all_combinations axis rows rooms (λ k d low. along (suc k) d (omega (arith, low))) (omega arith) (λ k r o low is there. each (suc k) r o (omega arith) is there))
       ∙ ap (λ (ps : List (List ℕ)). map (λ place. place ∷ chosen others) (place_at g.height row room ∷ places_behind g.height row room) ++ spread ps (behind others)) (sym here.first)
 
+  -- a row without a place
+  pub none_of_row : (row : CompiledRow) (axis : Axis) (rows : List CompiledRow) (n : ℕ) → All (LiesAlong axis) rows → n < length rows → row ≡ get_or rows n row →
+      row_places g table row ≡ [] → combinations (map (places g (direction_of axis)) (rows_meaning table rows)) ≡ []
+  none_of_row row axis rows n along low is none =
+      let lies : row.axis ≡ axis = ap (λ (r : CompiledRow). r.axis) is ∙ along n row low in
+      let at : List (List (List CellMeaning)) = rows_meaning table rows in
+      let within : n < length (map (places g (direction_of axis)) at) = rw (length-map at (places g (direction_of axis)), length-map rows (row_meaning table)) low in
+      no_combination (map (places g (direction_of axis)) at) n [] within
+      (get-shown_twice (row_meaning table) (places g (direction_of axis)) rows n row [] low is
+      ∙ ap (λ (a : Axis). places g (direction_of a) (row_meaning table row)) (sym lies) ∙ none)
+
   -- the first place is chosen among those that were found
   module _ (row : CompiledRow) (found : RowRoom) (places_are : places g (direction_of row.axis) (row_meaning table row) ≡ all_places g.height row found) where
     sought : from_first (place_fits g table row.parts) (all_places g.height row found) ≡ places g (direction_of row.axis) (row_meaning table row)
@@ -106,13 +117,7 @@ module _ (g : Grid) (table : Option (List ℕ)) where
 
     pub none_first : (axis : Axis) (rows : List CompiledRow) (n : ℕ) → All (LiesAlong axis) rows → n < length rows → row ≡ get_or rows n row →
         from_first (place_fits g table row.parts) (all_places g.height row found) ≡ [] → combinations (map (places g (direction_of axis)) (rows_meaning table rows)) ≡ []
-    none_first axis rows n along low is none =
-        let lies : row.axis ≡ axis = ap (λ (r : CompiledRow). r.axis) is ∙ along n row low in
-        let at : List (List (List CellMeaning)) = rows_meaning table rows in
-        let within : n < length (map (places g (direction_of axis)) at) = rw (length-map at (places g (direction_of axis)), length-map rows (row_meaning table)) low in
-        no_combination (map (places g (direction_of axis)) at) n [] within
-        (get-shown_twice (row_meaning table) (places g (direction_of axis)) rows n row [] low is
-        ∙ ap (λ (a : Axis). places g (direction_of a) (row_meaning table row)) (sym lies) ∙ sym sought ∙ none)
+    none_first axis rows n along low is none = none_of_row row axis rows n along low is (sym sought ∙ none)
 
   pub first_more : (rows : List CompiledRow) (rooms : List RowRoom) (n m : ℕ) (row : CompiledRow) (room : RowRoom) → m ≡ suc n → slice_get rows n ≡ Some row → n < length rooms →
       HasFirst row room → OfEach (λ k. k < n) rows rooms HasFirst → OfEach (λ k. k < m) rows (slice_set rooms n room) HasFirst

@@ -4,6 +4,7 @@ pub mod Rewriting
 pub mod RoomsChanged
 pub mod Attempting
 pub mod Combinations
+pub mod AskedRows
 pub mod Sequences
 pub mod AsTheyAre
 pub mod OneByOne

@@ -1,5 +1,5 @@
 -- Rows that are told to let each other sleep do, on each board: a write without what has no room wakes no more than the whole.
-use Rattle.std.proofs.Common.{◌≡◌, ℕ, Bool, true, false, ◌&&◌, ◌||◌, not, Option, Some, None, List, [], ◌∷◌, map, filter, refl}
+use Rattle.std.proofs.Common.{◌≡◌, ℕ, Bool, true, false, ◌||◌, not, Option, Some, None, List, [], ◌∷◌, map, filter, refl}
 use Rattle.std.specs.Prelude.{All}
 use Rattle.std.specs.List.{list_all}
 use Rattle.std.proofs.lemmas.Bool.{and_parts}
@@ -21,21 +21,9 @@ use Rattle.ps_match.specs.InRoom.{write_in_room}
 use Rattle.ps_places.specs.Lines.{cell_meaning, part_meaning}
 use Rattle.ps_places.specs.RowPlaces.{parts_meaning, row_meaning}
 use Rattle.ps_engine.specs.Choosing.{rows_meaning}
+use Rattle.ps_places.proofs.KeepingMasks.{all_said, both_said}
 use Rattle.ps_places.proofs.WrittenToItself.{all_of_kept}
 use Rattle.ps_engine.proofs.Sleeping.{LetSleep, RowsLetSleep, Sleeps}
-
--- a test of all that says less
-all_said : {X : Type 0} (f h : X → Bool) (xs : List X) → ((x : X) → f x ≡ true → h x ≡ true) →
-    list_all f xs ≡ true → list_all h xs ≡ true
-all_said f h [] less all = refl
-all_said f h (x ∷ xs) less all =
-    let parts = and_parts (f x) (list_all f xs) all in
-    rw (less x parts.0) (all_said f h xs less parts.1)
-
-both_said : (a b c d : Bool) → (a ≡ true → c ≡ true) → (b ≡ true → d ≡ true) → (a && b) ≡ true → (c && d) ≡ true
-both_said a b c d first second all =
-    let parts = and_parts a b all in
-    rw (first parts.0) (second parts.1)
 
 -- some of a write's layers wake no more than all
 module _ (keep : LayerWrite → Bool) (write : CellWrite) where

@@ -2,7 +2,9 @@
 use Rattle.std.specs.Prelude.{◌≡◌, ℕ, ◌<◌, ◌≤◌, Bool, true, fold, Option, Some, List, [], ◌∷◌, length, map, slice_get}
 use Rattle.ps_model.specs.board.Grid.{Grid}
 use Rattle.ps_model.specs.board.Attempts.{Rewritten, applied}
+use Rattle.ps_model.specs.board.Places.{places}
 use Rattle.ps_model.specs.meaning.RuleMeanings.{CellMeaning}
+use Rattle.ps_program.specs.Axes.{direction_of}
 use Rattle.ps_program.specs.declared.rows.CompiledRow.{CompiledRow}
 use Rattle.ps_places.specs.declared.room.RowRoom.{RowRoom}
 use Rattle.ps_places.specs.Forgetting.{HaveForgotten, IsAmong}
@@ -14,6 +16,10 @@ use Rattle.ps_places.specs.Ways.{from_first}
 -- what rows mean on a board with that table
 abbrev pub rows_meaning : Option (List ℕ) → List CompiledRow → List (List (List CellMeaning))
 rows_meaning table rows = map (row_meaning table) rows
+
+-- the places of a row on a board with that table
+abbrev pub row_places : Grid → Option (List ℕ) → CompiledRow → List (List ℕ)
+row_places g table row = places g (direction_of row.axis) (row_meaning table row)
 
 -- something holds of each of the rows with such a number and its room
 abbrev pub OfEach : (ℕ → Type 0) → List CompiledRow → List RowRoom → (CompiledRow → RowRoom → Type 0) → Type 0

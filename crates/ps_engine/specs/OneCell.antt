@@ -1,4 +1,4 @@
--- Rules of one row of one cell: the cells of a grid where one fits.
+-- Rules of one row of one part, and of one cell: the cells of a grid where it fits.
 use Rattle.std.specs.Prelude.{◌≡◌, ℕ, Bool, true, false, List, [], ◌∷◌, map, slice_get}
 use Rattle.ps_model.specs.board.Grid.{Grid}
 use Rattle.ps_model.specs.board.Places.{fits_there}
@@ -18,9 +18,12 @@ pub record FitsSomewhere (g : Grid) (meaning : CellMeaning) : Type 0 where
 abbrev pub FitsNowhere : Grid → CellMeaning → Type 0
 FitsNowhere g meaning = (n : ℕ) → fits_cell g meaning n ≡ false
 
--- the parts of rows, and those of the rows of such a rule
+-- the parts of rows, and those of the rows of such rules
 abbrev pub rows_parts : List CompiledRow → List (List (List CompiledCell))
 rows_parts rows = map (λ row. row.parts) rows
 
 abbrev pub one_cell : CompiledCell → List (List (List CompiledCell))
 one_cell cell = ((cell ∷ []) ∷ []) ∷ []
+
+abbrev pub one_part : List CompiledCell → List (List (List CompiledCell))
+one_part part = (part ∷ []) ∷ []

@@ -7,7 +7,9 @@ ghost use Rattle.ps_engine.specs.Choices.{behind, choices_of, chosen};
 ghost use Rattle.ps_engine.specs.Choosing.{ArePlaced, HaveLinesOf, rows_meaning};
 ghost use Rattle.ps_engine.specs.RulesInRoom.{rule_meaning};
 
+use crate::asking::attempt_commands;
 use crate::one_cell::{attempt_cell, only_cell};
+use crate::one_part::{attempt_part, only_part};
 use crate::queue::Queue;
 use crate::walking::walk;
 use ps_match::Scan;
@@ -83,6 +85,33 @@ fn choose_first<'r, B: Scan>(board: &B, rule: &CompiledRule<'r>, rooms: &mut [Ro
     true
 }
 
+/// An attempt of a rule that rewrites cells, its combinations walked one after the other: each is applied if every row
+/// still fits, and the rule's commands enter the queue, if it has one. Answers whether a cell changed. No memory is
+/// taken.
+pub fn attempt_rows<'r, B: Scan>(
+    rule: &CompiledRule<'r>,
+    board: &mut B,
+    queue: &mut Queue<'r>,
+    rooms: &mut [RowRoom],
+) -> bool
+    requires long { length rule.now.rows ≤ length rooms.old }
+    requires rewrites { rule.now.rewrites ≡ true }
+    ensures attempt { let before : State = record { grid = B.grid board.old; queue = queue.old } in
+        let after : State = record { grid = B.grid board.new; queue = queue.new } in
+        let all : Meant = record { state = after; changed = result } in
+        all ≡ attempt (rule_meaning (B.table board.old) rule.now) before }
+    ensures table { B.table board.new ≡ B.table board.old }
+    ensures sides { sides_of (B.grid board.new) ≡ sides_of (B.grid board.old) }
+    ensures rooms { length rooms.new ≡ length rooms.old }
+{
+    let rows = rule.rows.as_slice();
+    if !choose_first(board, rule, rooms) {
+        return false;
+    }
+    queue.enter(rule.commands);
+    walk(board, rows, rooms, rule.sleeps)
+}
+
 /// An attempt of a rule: all combinations of its places are applied in order, each if every row still fits, and its
 /// commands enter the queue, if it has a combination. Answers whether a cell changed. No memory is taken.
 pub fn attempt<'r, B: Scan>(
@@ -103,18 +132,16 @@ pub fn attempt<'r, B: Scan>(
     if lacks_needed(board, rule) {
         return false;
     }
-    let rows = rule.rows.as_slice();
-    if rule.rewrites {
-        if let Some(cell) = only_cell(rows) {
-            return attempt_cell(rule, cell, board, queue);
-        }
-    }
-    if !choose_first(board, rule, rooms) {
-        return false;
-    }
-    queue.enter(rule.commands);
     if !rule.rewrites {
+        attempt_commands(rule, board, queue, rooms);
         return false;
     }
-    walk(board, rows, rooms, rule.sleeps)
+    let rows = rule.rows.as_slice();
+    if let Some(cell) = only_cell(rows) {
+        return attempt_cell(rule, cell, board, queue);
+    }
+    if let Some(part) = only_part(rows) {
+        return attempt_part(rule, part, board, queue, rooms);
+    }
+    attempt_rows(rule, board, queue, rooms)
 }

@@ -1,8 +1,10 @@
 //! Runs compiled rules on a board: attempts, rounds, groups, loops and programs, as `ps_model` means them.
 #![tactic(auto)]
 
+mod asking;
 mod attempts;
 mod one_cell;
+mod one_part;
 mod programs;
 mod queue;
 mod rooms;

@@ -1,4 +1,4 @@
-//! Small rules on small boards of one layer; a dot is an empty cell.
+//! Small rules on small boards; a dot is an empty cell. Letters stand on the lower layer, marks on the upper one.
 
 ghost use Rattle.std.specs.Prelude.{◌≡◌, All, IfOk, IfSome};
 ghost use Rattle.ps_program.specs.Axes.{LiesAlong};
@@ -22,6 +22,8 @@ use std::test::Fail;
 
 const LOWEST: LayerId = LayerId(0);
 
+const UPPER: LayerId = LayerId(1);
+
 fn nothing() -> Commands {
     Commands {
         cancel: false,
@@ -33,11 +35,11 @@ fn nothing() -> Commands {
     }
 }
 
-/// Puts an object in a column, if the letter isn't a dot.
-fn lay(board: &mut ListBoard, x: u32, letter: u8) {
+/// Puts an object on a cell, if the letter isn't a dot.
+fn lay(board: &mut ListBoard, cell: u32, letter: u8) {
     let (width, height) = board.size();
-    if letter != b'.' && x < width * height && 0 < board.layers() {
-        board.put(x, LOWEST, Some(ObjectId(letter as u32)), Motion::Still);
+    if letter != b'.' && cell < width * height && 0 < board.layers() {
+        board.put(cell, LOWEST, Some(ObjectId(letter as u32)), Motion::Still);
     }
 }
 
@@ -45,7 +47,7 @@ fn lay(board: &mut ListBoard, x: u32, letter: u8) {
 fn board_of(alloc: Global, row: &[u8]) -> Result<ListBoard, Memory> {
     let fits = row.len() != 0 && row.len() <= SIDE_LIMIT as usize;
     let width = if fits { row.len() as u32 } else { 1 };
-    let mut board = ListBoard::try_empty(alloc, width, 1, 1, &[])?;
+    let mut board = ListBoard::try_empty(alloc, width, 1, 2, &[])?;
     for x in 0..width {
         if let Some(letter) = row.get(x as usize) {
             lay(&mut board, x, *letter);
@@ -54,17 +56,59 @@ fn board_of(alloc: Global, row: &[u8]) -> Result<ListBoard, Memory> {
     Ok(board)
 }
 
-/// The row of a board shows these letters.
-fn check(rt: &impl Abort, board: &ListBoard, row: &[u8]) {
+/// A board of columns of three cells.
+fn board_of_columns(alloc: Global, columns: &[[u8; 3]]) -> Result<ListBoard, Memory> {
+    let fits = columns.len() != 0 && columns.len() <= SIDE_LIMIT as usize;
+    let width = if fits { columns.len() as u32 } else { 1 };
+    let mut board = ListBoard::try_empty(alloc, width, 3, 2, &[])?;
+    for x in 0..width {
+        if let Some(letters) = columns.get(x as usize) {
+            lay(&mut board, 3 * x, letters[0]);
+            lay(&mut board, 3 * x + 1, letters[1]);
+            lay(&mut board, 3 * x + 2, letters[2]);
+        }
+    }
+    Ok(board)
+}
+
+/// A cell shows this letter on a layer.
+fn check_cell(rt: &impl Abort, board: &ListBoard, cell: u32, layer: LayerId, letter: u8) {
     let (width, height) = board.size();
+    if cell < width * height && (layer.0 as u32) < board.layers() {
+        let wanted = if letter == b'.' {
+            None
+        } else {
+            Some(ObjectId(letter as u32))
+        };
+        assert_eq!(rt; board.object(cell, layer), wanted, "in cell {cell}");
+    }
+}
+
+/// The row of a board shows these letters on a layer.
+fn check_on(rt: &impl Abort, board: &ListBoard, layer: LayerId, row: &[u8]) {
+    let (width, _height) = board.size();
     assert_eq!(rt; width as usize, row.len());
     for x in 0..width {
-        if x < width * height && 0 < board.layers() {
-            let wanted = match row.get(x as usize) {
-                Some(letter) if *letter != b'.' => Some(ObjectId(*letter as u32)),
-                _ => None,
-            };
-            assert_eq!(rt; board.object(x, LOWEST), wanted, "in column {x}");
+        if let Some(letter) = row.get(x as usize) {
+            check_cell(rt, board, x, layer, *letter);
+        }
+    }
+}
+
+/// The row of a board shows these letters.
+fn check(rt: &impl Abort, board: &ListBoard, row: &[u8]) {
+    check_on(rt, board, LOWEST, row);
+}
+
+/// The columns of a board show these letters on a layer.
+fn check_columns(rt: &impl Abort, board: &ListBoard, layer: LayerId, columns: &[[u8; 3]]) {
+    let (width, _height) = board.size();
+    assert_eq!(rt; width as usize, columns.len());
+    for x in 0..width {
+        if let Some(letters) = columns.get(x as usize) {
+            check_cell(rt, board, 3 * x, layer, letters[0]);
+            check_cell(rt, board, 3 * x + 1, layer, letters[1]);
+            check_cell(rt, board, 3 * x + 2, layer, letters[2]);
         }
     }
 }
@@ -92,6 +136,39 @@ fn cell(alloc: Global, left: u8, right: u8) -> Result<CompiledCell, Memory> {
     let mask = CellMask {
         needed: List::from_vec(needed),
         barred: List::from_vec(Vec::new(alloc)),
+        one_of: List::from_vec(Vec::new(alloc)),
+        motions: List::from_vec(Vec::new(alloc)),
+    };
+    let write = CellWrite {
+        gone: List::from_vec(Vec::new(alloc)),
+        layers: List::from_vec(layers),
+    };
+    Ok(CompiledCell::new(mask, write))
+}
+
+/// The objects of letters on a layer.
+fn objects(alloc: Global, layer: LayerId, letters: &[u8]) -> Result<List<LayeredObject>, Memory> {
+    let mut all = Vec::new(alloc);
+    for letter in letters {
+        let object = ObjectId(*letter as u32);
+        all.push(LayeredObject { object, layer })?;
+    }
+    Ok(List::from_vec(all))
+}
+
+/// A cell of a rule that needs an object, bars marks, and puts marks; no letter stays or goes by it.
+fn marking(alloc: Global, left: u8, barred: &[u8], marks: &[u8]) -> Result<CompiledCell, Memory> {
+    let mut layers = Vec::new(alloc);
+    for mark in marks {
+        layers.push(LayerWrite {
+            layer: UPPER,
+            object: ObjectWrite::Put(ObjectId(*mark as u32)),
+            motion: None,
+        })?;
+    }
+    let mask = CellMask {
+        needed: objects(alloc, LOWEST, &[left])?,
+        barred: objects(alloc, UPPER, barred)?,
         one_of: List::from_vec(Vec::new(alloc)),
         motions: List::from_vec(Vec::new(alloc)),
     };
@@ -293,5 +370,106 @@ fn on_one_row_gaps_lie_right_alone(rt: HostRuntime) -> Result<(), Fail> {
     check(&rt, &board, b"C.CAB.B");
     let (board, _changed) = attempted(rt.alloc(), Axis::Down, &backwards, start)?;
     check(&rt, &board, start);
+    Ok(())
+}
+
+/// A board of columns behind an attempt of a rule of one part, and whether it changed something.
+fn attempted_down(
+    alloc: Global,
+    axis: Axis,
+    cells: &[(u8, u8)],
+    columns: &[[u8; 3]],
+) -> Result<(ListBoard, bool), Memory> {
+    let commands = nothing();
+    let parts: [&[(u8, u8)]; 1] = [cells];
+    let rows: [&[&[(u8, u8)]]; 1] = [&parts];
+    let written = rule(alloc, axis, &rows, &commands)?;
+    let mut rooms = rooms_of(alloc, written.rows.as_slice().len())?;
+    let mut board = board_of_columns(alloc, columns)?;
+    let mut queue = Queue::empty();
+    let changed = attempt(&written, &mut board, &mut queue, rooms.as_mut_slice());
+    Ok((board, changed))
+}
+
+#[test]
+fn places_that_touch_are_written_together(rt: HostRuntime) -> Result<(), Fail> {
+    let swap: [&[&[(u8, u8)]]; 1] = [&[&[(b'A', b'B'), (b'B', b'A')]]];
+    let (board, changed) = attempted(rt.alloc(), Axis::Right, &swap, b"ABAB.ABBA")?;
+    assert!(&rt; changed);
+    check(&rt, &board, b"BABA.BABA");
+    let cells = [(b'A', b'B'), (b'B', b'A')];
+    let columns = [*b"ABA", *b"BAB", *b"AB."];
+    let (board, changed) = attempted_down(rt.alloc(), Axis::Down, &cells, &columns)?;
+    assert!(&rt; changed);
+    check_columns(&rt, &board, LOWEST, &[*b"BAA", *b"BBA", *b"BA."]);
+    let (board, changed) = attempted_down(rt.alloc(), Axis::Right, &cells, &columns)?;
+    assert!(&rt; changed);
+    check_columns(&rt, &board, LOWEST, &[*b"BBB", *b"ABA", *b"AA."]);
+    Ok(())
+}
+
+#[test]
+fn places_that_share_a_cell_take_turns(rt: HostRuntime) -> Result<(), Fail> {
+    let pairs: [&[&[(u8, u8)]]; 1] = [&[&[(b'A', b'B'), (b'A', b'C')]]];
+    let (board, _changed) = attempted(rt.alloc(), Axis::Right, &pairs, b"AAAAA")?;
+    check(&rt, &board, b"BCBCA");
+    let first: [&[&[(u8, u8)]]; 1] = [&[&[(b'A', b'.'), (b'A', b'A')]]];
+    let (board, _changed) = attempted(rt.alloc(), Axis::Right, &first, b"AAAA")?;
+    check(&rt, &board, b"...A");
+    let second: [&[&[(u8, u8)]]; 1] = [&[&[(b'A', b'A'), (b'A', b'.')]]];
+    let (board, _changed) = attempted(rt.alloc(), Axis::Right, &second, b"AAAA")?;
+    check(&rt, &board, b"A.A.");
+    let cells = [(b'A', b'B'), (b'A', b'C')];
+    let columns = [*b"AAA", *b".AA", *b"A.A"];
+    let (board, _changed) = attempted_down(rt.alloc(), Axis::Down, &cells, &columns)?;
+    check_columns(&rt, &board, LOWEST, &[*b"BCA", *b".BC", *b"A.A"]);
+    let (board, _changed) = attempted_down(rt.alloc(), Axis::Right, &cells, &columns)?;
+    check_columns(&rt, &board, LOWEST, &[*b"ABB", *b".CC", *b"A.A"]);
+    Ok(())
+}
+
+#[test]
+fn places_may_share_their_ends_alone(rt: HostRuntime) -> Result<(), Fail> {
+    let ends: [&[&[(u8, u8)]]; 1] = [&[&[(b'A', b'C'), (b'B', b'B'), (b'A', b'D')]]];
+    let (board, _changed) = attempted(rt.alloc(), Axis::Right, &ends, b"ABABABA")?;
+    check(&rt, &board, b"CBDBCBD");
+    let (board, _changed) = attempted(rt.alloc(), Axis::Right, &ends, b"ABA.ABA")?;
+    check(&rt, &board, b"CBD.CBD");
+    Ok(())
+}
+
+/// The marks on a row of letters behind an attempt of `[ A | A ] -> [ A | A M ]`, where the first cell bars a mark or
+/// none.
+fn marked(alloc: Global, barred: &[u8], row: &[u8]) -> Result<ListBoard, Memory> {
+    let commands = nothing();
+    let mut cells = Vec::new(alloc);
+    cells.push(marking(alloc, b'A', barred, b"")?)?;
+    cells.push(marking(alloc, b'A', b"", b"M")?)?;
+    let mut board = board_of(alloc, row)?;
+    let mut parts = Vec::new(alloc);
+    if cells.len() != 0 {
+        parts.push(List::from_vec(cells))?;
+    }
+    let parts = List::from_vec(parts);
+    if parts.as_slice().len() != 1 {
+        return Ok(board);
+    }
+    let axis = Axis::Right;
+    let mut rows = Vec::new(alloc);
+    rows.push(CompiledRow { axis, parts })?;
+    let rule = CompiledRule::try_new(alloc, axis, List::from_vec(rows), true, &commands)?;
+    let mut rooms = rooms_of(alloc, rule.rows.as_slice().len())?;
+    let mut queue = Queue::empty();
+    attempt(&rule, &mut board, &mut queue, rooms.as_mut_slice());
+    Ok(board)
+}
+
+#[test]
+fn places_may_share_cells_that_one_of_them_changes(rt: HostRuntime) -> Result<(), Fail> {
+    let board = marked(rt.alloc(), b"", b"AAA.AA")?;
+    check_on(&rt, &board, UPPER, b".MM..M");
+    check(&rt, &board, b"AAA.AA");
+    let board = marked(rt.alloc(), b"M", b"AAAA.AA")?;
+    check_on(&rt, &board, UPPER, b".M.M..M");
     Ok(())
 }

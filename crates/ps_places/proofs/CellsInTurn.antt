@@ -1,5 +1,6 @@
 -- A part of a row on a line, cell by cell.
-use Rattle.std.proofs.Common.{◌≡◌, ◌∙◌, ℕ, ◌+◌, ◌-◌, ◌*◌, ◌<◌, ◌≤◌, suc, zero, Bool, true, false, Option, Some, None, List, [], ◌∷◌, length, map, drop, get_or, refl, sym, ap, ap₂, arith}
+use Rattle.std.proofs.Common.{◌≡◌, ◌∙◌, ℕ, ◌+◌, ◌-◌, ◌*◌, ◌<◌, ◌≤◌, suc, zero, Bool, true, false, Option, Some, None}
+use Rattle.std.proofs.Common.{List, [], ◌∷◌, length, map, drop, get_or, refl, sym, ap, ap₂, arith}
 use Rattle.std.specs.Prelude.{slice_get}
 use Rattle.std.specs.List.{range_with_len}
 use Rattle.std.proofs.lemmas.List.{drop_all, drop_more, length-set}
@@ -146,7 +147,7 @@ rewritten_from-next r table part step index number c low e =
     (rewritten_by_write r table c number (slice_get (r.grid).cells number))
 
 -- what is left fits where the next cell does, and what is left behind it
-both_true : (here rest : Bool) → (elim here [ true ↦ rest | false ↦ false ]) ≡ true → (here ≡ true) × (rest ≡ true)
+pub both_true : (here rest : Bool) → (elim here [ true ↦ rest | false ↦ false ]) ≡ true → (here ≡ true) × (rest ≡ true)
 both_true true rest e = (refl, e)
 both_true false rest e = absurd (cc)
 

@@ -19,3 +19,14 @@ pub mod FoundDown
 pub mod Untouched
 pub mod WrittenToItself
 pub mod SpacedWays
+pub mod WrittenAs
+pub mod InGroups
+pub mod PlacesInTurn
+pub mod InSearchOrder
+pub mod PlacesWritten
+pub mod KeepingMasks
+pub mod PartPlaces
+pub mod StartNumbers
+pub mod RowsTogether
+pub mod AlonePlaces
+pub mod FoundRows

@@ -12,6 +12,7 @@ use Rattle.ps_model.specs.declared.pieces.Slot.TheVariants.{Bare, Holds}
 use Rattle.ps_model.specs.meaning.Compiled as model
 use Rattle.ps_model.specs.meaning.Compiled.{cell_written, mask_fits}
 use Rattle.ps_model.specs.meaning.Fitting.{motion_number}
+use Rattle.ps_model.specs.meaning.RuleMeanings.{CellMeaning}
 use Rattle.ps_model.specs.board.Grid.{Grid}
 use Rattle.ps_model.specs.board.Places.{fits_there}
 use Rattle.ps_model.specs.board.Attempts.{Rewritten, rewritten_cell, same_cell, same_slot}
@@ -51,8 +52,10 @@ leaves_in_room None cell stays = stays
 leaves_in_room (Some layers) cell stays =
     let mask : model.CellMask = mask_shown cell.mask in
     let write : model.CellWrite = write_shown cell.write in
-    let parts = and_parts (list_all (is_listed mask.barred) write.gone) (list_all (keeps_layer mask) write.layers) stays in
-    ap₂ (λ (a b : Bool). a && b) parts.0 (all_of_kept (keeps_layer mask) (has_room_for (Some layers)) write.layers parts.1)
+    let parts = and_parts (list_all (is_listed mask.barred) write.gone) (list_all (keeps_layer mask) write.layers) stays
+    in
+    ap₂ (λ (a b : Bool). a && b) parts.0 (all_of_kept (keeps_layer mask) (has_room_for (Some layers)) write.layers
+    parts.1)
 
 pub written_to_itself : (table : Option (List ℕ)) (cell : CompiledCell) → cell.changes ≡ false → (slots : List Slot) →
     mask_fits (mask_shown cell.mask) slots ≡ true →
@@ -68,18 +71,24 @@ with_change r cells changed = record {
   changed = r.changed || changed;
 }
 
-pub idle_cell : (r : Rewritten) (table : Option (List ℕ)) (cell : CompiledCell) (number : ℕ)
-    (found : Option (List Slot)) → cell.changes ≡ false → slice_get (r.grid).cells number ≡ found →
-    fits_there (cell_meaning table cell) found ≡ true →
-    rewritten_cell r (cell_meaning table cell) number found ≡ r
-idle_cell r table cell number None idle is fit = refl
-idle_cell r table cell number (Some slots) idle is fit =
-    let same : cell_written (write_in_room table (write_shown cell.write)) slots ≡ slots =
-    written_to_itself table cell idle slots fit in
+pub kept_cell : (r : Rewritten) (m : CellMeaning) (number : ℕ) (found : Option (List Slot)) →
+    slice_get (r.grid).cells number ≡ found → ((slots : List Slot) → found ≡ Some slots → m.rewritten slots ≡ slots) →
+    rewritten_cell r m number found ≡ r
+kept_cell r m number None is stays = refl
+kept_cell r m number (Some slots) is stays =
     let cells : List (List Slot) = (r.grid).cells in
     let put : slice_set cells number slots ≡ cells =
     ap (slice_set cells number) (sym (get_or_from_slice_get cells number slots slots is))
     ∙ set-get_or cells number slots in
-    ap (λ (new : List Slot). with_change r (slice_set cells number new) (not (same_cell slots new))) same
+    ap (λ (new : List Slot). with_change r (slice_set cells number new) (not (same_cell slots new))) (stays slots refl)
     ∙ ap₂ (with_change r) put (ap not (cell_itself slots))
     ∙ ap (λ (b : Bool). let again : Rewritten = record { grid = r.grid; changed = b } in again) (or-false r.changed)
+
+pub idle_cell : (r : Rewritten) (table : Option (List ℕ)) (cell : CompiledCell) (number : ℕ)
+    (found : Option (List Slot)) → cell.changes ≡ false → slice_get (r.grid).cells number ≡ found →
+    fits_there (cell_meaning table cell) found ≡ true →
+    rewritten_cell r (cell_meaning table cell) number found ≡ r
+idle_cell r table cell number found idle is fit =
+    kept_cell r (cell_meaning table cell) number found is
+    (λ slots same. written_to_itself table cell idle slots
+    (ap (fits_there (cell_meaning table cell)) (sym same) ∙ fit))

@@ -9,3 +9,6 @@ pub mod FoundStarts
 pub mod Candidates
 pub mod CellCandidates
 pub mod Spaced
+pub mod PartStarts
+pub mod LeavingAlone
+pub mod WrittenTogether

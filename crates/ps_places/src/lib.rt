@@ -4,8 +4,11 @@
 mod candidates;
 mod chosen;
 mod columns;
+mod leaving_alone;
 mod lines;
+mod part_starts;
 mod parts;
+mod rewriting;
 mod room;
 mod starts;
 mod ways;

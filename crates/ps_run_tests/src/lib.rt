@@ -1,13 +1,12 @@
-//! Tests of whole runs, by the public call `run`. They stand above the crate that they test, since a crate with tests
-//! is proved twice.
+//! Tests of whole runs, by the public call `run`: runs with devices, and with memory, of their own. Games of which a
+//! text, keys and an output say all are played by `ps_cases`. They stand above the crate that they test, since a crate
+//! with tests is proved twice.
 #![tactic(auto)]
 
 #[cfg(test)]
 mod devices;
 #[cfg(test)]
 mod games;
-#[cfg(test)]
-mod large;
 #[cfg(test)]
 mod memory;
 mod playable;
@@ -16,8 +15,4 @@ mod refusals;
 #[cfg(test)]
 mod refused_keys;
 #[cfg(test)]
-mod sessions;
-#[cfg(test)]
 mod watched;
-#[cfg(test)]
-mod whole;

@@ -1,0 +1,49 @@
+use Rattle.std.proofs.Common.{◌≡◌, ◌∙◌, ℕ, true, false, Option, List, ◌∷◌, fold, sym, subst, ap, rules}
+use Rattle.ps_model.specs.board.Grid.{Grid}
+use Rattle.ps_model.specs.board.Attempts.{Result, Rewritten, applied, combinations_on}
+use Rattle.ps_model.specs.rules.SourceRules.{Commands}
+use Rattle.ps_rules.specs.RulesShown.{commands_shown}
+use Rattle.ps_program.specs.declared.rows.CompiledRow.{CompiledRow}
+use Rattle.ps_program.specs.Axes.{direction_of}
+use Rattle.ps_engine.specs.Choices.{Choice, behind, choices_of, chosen}
+use Rattle.ps_engine.specs.Choosing.{ArePlaced, HaveLinesOf, rows_meaning}
+use Rattle.ps_engine.specs.RulesInRoom.{rule_meaning}
+use Rattle.ps_engine.proofs.Attempting.{attempt_none, attempt_walked, unchanged}
+use Rattle.ps_engine.proofs.attempts.attempt_rows.Goals as goal
+
+pub returns-then-not-choose_first-clause-attempt : goal.returns-then-not-choose_first-clause-attempt
+returns-then-not-choose_first-clause-attempt g c =
+    let grid : Grid = g.B.Board.grid c.args.board.now in
+    let table : Option (List ℕ) = g.B.Board.table c.args.board.now in
+    let rule = c.args.rule.now in
+    let no : c.choose_first.result ≡ false = search rules in
+    attempt_none (direction_of rule.axis) (rows_meaning table rule.rows) rule.rewrites (commands_shown rule.commands.now) grid c.args.queue.now
+    (combinations_on grid (rule_meaning table rule)) (c.choose_first.ensures.none no)
+
+pub walk-requires-clause-lines : goal.walk-requires-clause-lines
+walk-requires-clause-lines g c =
+    let yes : c.choose_first.result ≡ true = search rules in
+    subst (λ (rows : List CompiledRow). HaveLinesOf (g.B.Board.grid c.args.board.now) rows c.choose_first.new.rooms) (sym c.as_slice-rows.ensures) (c.choose_first.ensures.lines yes)
+
+pub walk-requires-clause-places : goal.walk-requires-clause-places
+walk-requires-clause-places g c =
+    let yes : c.choose_first.result ≡ true = search rules in
+    subst (λ (rows : List CompiledRow). ArePlaced (g.B.Board.grid c.args.board.now) rows c.choose_first.new.rooms) (sym c.as_slice-rows.ensures) (c.choose_first.ensures.places yes)
+
+pub returns-clause-attempt : goal.returns-clause-attempt
+returns-clause-attempt g c =
+    let grid : Grid = g.B.Board.grid c.args.board.now in
+    let table : Option (List ℕ) = g.B.Board.table c.args.board.now in
+    let rule = c.args.rule.now in
+    let yes : c.choose_first.result ≡ true = search rules in
+    let does : rule.rewrites ≡ true = c.requires.rewrites in
+    let choices : List Choice = choices_of grid.height rule.rows c.choose_first.new.rooms in
+    let all : combinations_on grid (rule_meaning table rule) ≡ chosen choices ∷ behind choices = c.choose_first.ensures.found yes in
+    let after : Rewritten = record { grid = g.B.Board.grid c.walk.new.board; changed = c.walk.result } in
+    let made : after ≡ fold (applied (rows_meaning table rule.rows)) (unchanged grid) (combinations_on grid (rule_meaning table rule)) =
+    c.walk.ensures.rewritten
+    ∙ ap (λ (rs : List CompiledRow). let first : List Choice = choices_of grid.height rs c.choose_first.new.rooms in fold (applied (rows_meaning table rs)) (unchanged grid) (chosen first ∷ behind first)) c.as_slice-rows.ensures
+    ∙ ap (fold (applied (rows_meaning table rule.rows)) (unchanged grid)) (sym all) in
+    ap (λ (q : Commands). let r : Result = record { state = record { grid = after.grid; queue = q }; changed = after.changed } in r) c.enter.ensures
+    ∙ attempt_walked (direction_of rule.axis) (rows_meaning table rule.rows) rule.rewrites (commands_shown rule.commands.now) grid c.args.queue.now
+    (combinations_on grid (rule_meaning table rule)) (chosen choices) (behind choices) after all does made

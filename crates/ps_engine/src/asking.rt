@@ -1,0 +1,68 @@
+//! An attempt of a rule of commands alone: it asks whether each row has a place, and no place is kept.
+
+ghost use Rattle.std.specs.Prelude.{◌≡◌, ◌≢◌, ◌≤◌, [], false, length, true};
+ghost use Rattle.ps_model.specs.board.Attempts.{Result as Meant, State, attempt, combinations_on};
+ghost use Rattle.ps_engine.specs.Choosing.{row_places};
+ghost use Rattle.ps_engine.specs.RulesInRoom.{rule_meaning};
+
+use crate::queue::Queue;
+use ps_match::Scan;
+use ps_places::{RowRoom, find_starts};
+use ps_program::{CompiledRow, CompiledRule};
+
+/// Whether a row has a place on the board as it is. What its room keeps is anything afterwards.
+fn row_has_place<B: Scan>(board: &B, row: &CompiledRow, room: &mut RowRoom) -> bool
+    ensures some { result ≡ true → row_places (B.grid board.now) (B.table board.now) row.now ≢ [] }
+    ensures none { result ≡ false → row_places (B.grid board.now) (B.table board.now) row.now ≡ [] }
+{
+    let (_width, _height) = board.size();
+    let parts = row.parts.as_slice();
+    if parts.len() == 1 {
+        return !room
+            .find_part(board, row.axis, parts[0].as_slice())
+            .is_empty();
+    }
+    find_starts(board, row, room);
+    room.first_place(board, row)
+}
+
+/// Whether each row of a rule has a place on the board as it is: whether the rule has a combination.
+fn rows_have_places<'r, B: Scan>(board: &B, rule: &CompiledRule<'r>, rooms: &mut [RowRoom]) -> bool
+    requires { length rule.now.rows ≤ length rooms.old }
+    ensures some { result ≡ true →
+        combinations_on (B.grid board.now) (rule_meaning (B.table board.now) rule.now) ≢ [] }
+    ensures none { result ≡ false →
+        combinations_on (B.grid board.now) (rule_meaning (B.table board.now) rule.now) ≡ [] }
+    ensures long { length rooms.new ≡ length rooms.old }
+{
+    let (_width, _height) = board.size();
+    let rows = rule.rows.as_slice();
+    for number in 0..rows.len() {
+        if !row_has_place(board, &rows[number], &mut rooms[number]) {
+            return false;
+        }
+    }
+    true
+}
+
+/// An attempt of a rule that rewrites nothing: its commands enter the queue, if it has a combination. No memory is
+/// taken.
+pub fn attempt_commands<'r, B: Scan>(
+    rule: &CompiledRule<'r>,
+    board: &B,
+    queue: &mut Queue<'r>,
+    rooms: &mut [RowRoom],
+)
+    requires long { length rule.now.rows ≤ length rooms.old }
+    requires commands { rule.now.rewrites ≡ false }
+    ensures attempt { let before : State = record { grid = B.grid board.now; queue = queue.old } in
+        let after : State = record { grid = B.grid board.now; queue = queue.new } in
+        let all : Meant = record { state = after; changed = false } in
+        all ≡ attempt (rule_meaning (B.table board.now) rule.now) before }
+    ensures rooms { length rooms.new ≡ length rooms.old }
+{
+    let (_width, _height) = board.size();
+    if rows_have_places(board, rule, rooms) {
+        queue.enter(rule.commands);
+    }
+}

@@ -1,0 +1,63 @@
+//! An attempt of a rule of one row of one part. Where its places leave each other alone, each still fits when its turn
+//! comes, and so all are written together, row by row of the board.
+
+ghost use Rattle.std.specs.Prelude.{◌≡◌, ◌≤◌, IfSome, length, true};
+ghost use Rattle.ps_model.specs.board.Attempts.{Result as Meant, State, attempt};
+ghost use Rattle.ps_match.specs.InRoom.{sides_of};
+ghost use Rattle.ps_program.specs.Parts.{HasCell};
+ghost use Rattle.ps_engine.specs.OneCell.{one_part, rows_parts};
+ghost use Rattle.ps_engine.specs.RulesInRoom.{rule_meaning};
+
+use crate::attempts::attempt_rows;
+use crate::queue::Queue;
+use ps_match::Scan;
+use ps_places::RowRoom;
+use ps_program::{CompiledCell, CompiledRow, CompiledRule};
+
+/// The part of rows that are one row of one part; nothing, where there is more or less.
+pub fn only_part(rows: &[CompiledRow]) -> Option<&[CompiledCell]>
+    ensures only { IfSome result (λ part. rows_parts rows.entry.now ≡ one_part part.now) }
+    ensures whole { IfSome result (λ part. HasCell part.now) }
+{
+    if rows.len() != 1 {
+        return None;
+    }
+    let parts = rows[0].parts.as_slice();
+    if parts.len() != 1 {
+        return None;
+    }
+    Some(parts[0].as_slice())
+}
+
+/// An attempt of a rule whose only part this is. Where a place of it asks for what another one's cells may change, its
+/// combinations are walked one after the other. Answers whether a cell changed. No memory is taken.
+pub fn attempt_part<'r, B: Scan>(
+    rule: &CompiledRule<'r>,
+    part: &[CompiledCell],
+    board: &mut B,
+    queue: &mut Queue<'r>,
+    rooms: &mut [RowRoom],
+) -> bool
+    requires only { rows_parts rule.now.rows ≡ one_part part.now }
+    requires whole { HasCell part.now }
+    requires rewrites { rule.now.rewrites ≡ true }
+    requires rooms { length rule.now.rows ≤ length rooms.old }
+    ensures attempt { let before : State = record { grid = B.grid board.old; queue = queue.old } in
+        let after : State = record { grid = B.grid board.new; queue = queue.new } in
+        let all : Meant = record { state = after; changed = result } in
+        all ≡ attempt (rule_meaning (B.table board.old) rule.now) before }
+    ensures table { B.table board.new ≡ B.table board.old }
+    ensures sides { sides_of (B.grid board.new) ≡ sides_of (B.grid board.old) }
+    ensures rooms { length rooms.new ≡ length rooms.old }
+{
+    let room = &mut rooms[0];
+    let starts = room.find_part(board, rule.axis, part);
+    if starts.is_empty() {
+        return false;
+    }
+    if !room.lie_alone(rule.axis, part, starts) {
+        return attempt_rows(rule, board, queue, rooms);
+    }
+    queue.enter(rule.commands);
+    room.rewrite_places(board, rule.axis, part, starts)
+}

@@ -1,0 +1,119 @@
+//! Whether the places of a part leave each other alone where they share cells of the board: then each of them still
+//! fits when its turn comes.
+
+ghost use Rattle.std.specs.Prelude.{◌≡◌, ℕ, ◌+◌, ◌<◌, ◌≤◌, Some, false, length, slice_get, true};
+ghost use Rattle.ps_model.specs.declared.limits.TheConstants.{SIDE_LIMIT};
+ghost use Rattle.ps_board.specs.ColumnSets.{column_at};
+ghost use Rattle.ps_places.specs.LeavingAlone.{ApartLieAlone, AreNotApart, LieAlone, PlacesLieAlone, leave_alone};
+ghost use Rattle.ps_places.specs.LeavingAlone.{starts_behind};
+ghost use Rattle.ps_places.specs.PartStarts.{is_start};
+
+use crate::room::RowRoom;
+use ps_match::Columns;
+use ps_model::SIDE_LIMIT;
+use ps_program::{Axis, CompiledCell, write_keeps};
+
+/// Whether two cells of a rule leave each other alone on one cell of the board: one of them at most changes it, and
+/// what the other asks for stays.
+fn leave_alone(first: &CompiledCell, second: &CompiledCell) -> bool
+    ensures { result ≡ leave_alone first.now second.now }
+{
+    if first.changes {
+        return !second.changes && write_keeps(&first.write, &second.mask);
+    }
+    !second.changes || write_keeps(&second.write, &first.mask)
+}
+
+/// Whether all cells of a part that lie so many cells apart leave each other alone.
+fn lie_alone(part: &[CompiledCell], distance: usize) -> bool
+    ensures { result ≡ true → LieAlone part.now distance }
+{
+    for number in distance..part.len() {
+        if !leave_alone(&part[number - distance], &part[number]) {
+            return false;
+        }
+    }
+    true
+}
+
+/// The columns of a row of the board that are kept, if it is one of these rows.
+fn kept_on_row(rows: Columns, starts: &[Columns], row: u32) -> Columns
+    ensures { (x : ℕ) → column_at result x ≡ is_start rows starts.now row x }
+{
+    if !rows.has(row) {
+        return Columns::none();
+    }
+    if starts.len() <= row as usize {
+        return Columns::none();
+    }
+    starts[row as usize]
+}
+
+/// The columns of a row of the board so many cells behind which, along an axis, a place begins.
+fn starts_behind(axis: Axis, rows: Columns, starts: &[Columns], distance: u32, row: u32) -> Columns
+    requires distance { distance ≤ SIDE_LIMIT }
+    requires row { row ≤ SIDE_LIMIT }
+    ensures { (x : ℕ) → x < SIDE_LIMIT → column_at result x ≡ starts_behind axis rows starts.now distance row x }
+{
+    match axis {
+        Axis::Down => kept_on_row(rows, starts, row + distance),
+        Axis::Right => kept_on_row(rows, starts, row).behind(distance),
+    }
+}
+
+/// Whether two places begin so many cells apart.
+fn are_apart(axis: Axis, rows: Columns, starts: &[Columns], distance: u32) -> bool
+    requires { distance ≤ SIDE_LIMIT }
+    ensures { result ≡ false → AreNotApart axis rows starts.now distance }
+{
+    let mut left = rows;
+    while let Some(row) = left.take_first() {
+        let others = starts_behind(axis, rows, starts, distance, row);
+        if !kept_on_row(rows, starts, row).both(others).is_empty() {
+            return true;
+        }
+    }
+    false
+}
+
+/// Whether places of a part leave each other alone that begin so many cells apart.
+fn apart_lie_alone(
+    axis: Axis,
+    part: &[CompiledCell],
+    rows: Columns,
+    starts: &[Columns],
+    distance: usize,
+) -> bool
+    requires { distance ≤ SIDE_LIMIT }
+    ensures { result ≡ true → ApartLieAlone axis part.now rows starts.now distance }
+{
+    if !are_apart(axis, rows, starts, distance as u32) {
+        return true;
+    }
+    lie_alone(part, distance)
+}
+
+/// Whether places of a part that share a cell of the board leave each other alone there.
+fn places_lie_alone(axis: Axis, part: &[CompiledCell], rows: Columns, starts: &[Columns]) -> bool
+    ensures { result ≡ true → PlacesLieAlone axis part.now rows starts.now }
+{
+    if SIDE_LIMIT as usize <= part.len() {
+        return false;
+    }
+    for distance in 1..part.len() {
+        if !apart_lie_alone(axis, part, rows, starts, distance) {
+            return false;
+        }
+    }
+    true
+}
+
+impl RowRoom {
+    /// Whether the places of a part that are kept for these rows of the board leave each other alone: those that share
+    /// a cell don't both change it, and what one asks for there stays where the other changes it.
+    pub fn lie_alone(&self, axis: Axis, part: &[CompiledCell], rows: Columns) -> bool
+        ensures { result ≡ true → PlacesLieAlone axis part.now rows self.now.starts.items }
+    {
+        places_lie_alone(axis, part, rows, self.starts.as_slice())
+    }
+}

@@ -1,0 +1,127 @@
+//! The places of a part that leave each other alone, rewritten all together.
+
+ghost use Rattle.std.specs.Prelude.{◌≡◌, ◌<◌, ◌≤◌, ◌∷◌, [], ℕ, false, fold, length};
+ghost use Rattle.ps_model.specs.declared.limits.TheConstants.{SIDE_LIMIT};
+ghost use Rattle.ps_model.specs.board.Attempts.{Rewritten, applied, combinations};
+ghost use Rattle.ps_model.specs.board.Places.{places};
+ghost use Rattle.ps_match.specs.InRoom.{sides_of};
+ghost use Rattle.ps_program.specs.Axes.{direction_of};
+ghost use Rattle.ps_program.specs.Parts.{HasCell};
+ghost use Rattle.ps_places.specs.Lines.{part_meaning};
+ghost use Rattle.ps_places.specs.LeavingAlone.{PlacesLieAlone};
+ghost use Rattle.ps_places.specs.PartStarts.{AreStarts};
+ghost use Rattle.ps_places.specs.WrittenTogether.{cell_changed, cells_changed, row_at};
+
+use crate::room::RowRoom;
+use ps_match::{Columns, Scan};
+use ps_program::{Axis, CompiledCell};
+
+/// Rewrites one cell of a part, so many steps behind the first one, of all places that begin in some columns of a row
+/// of the board, if that can change one. Answers whether one changed, or something had `changed` before.
+fn rewrite_cell<B: Scan>(
+    board: &mut B,
+    axis: Axis,
+    cell: &CompiledCell,
+    row: u32,
+    columns: Columns,
+    steps: u32,
+    changed: bool,
+) -> bool
+    requires { row_at axis row steps < (B.grid board.old).height }
+    ensures rewritten { let before : Rewritten = record { grid = B.grid board.old; changed = changed } in
+        record { grid = B.grid board.new; changed = result }
+        ≡ cell_changed before (B.table board.old) axis row columns steps cell.now }
+    ensures table { B.table board.new ≡ B.table board.old }
+    ensures sides { sides_of (B.grid board.new) ≡ sides_of (B.grid board.old) }
+{
+    let (_width, _height) = board.size();
+    if !cell.changes {
+        return changed;
+    }
+    match axis {
+        Axis::Down => changed | board.rewrite(&cell.write, row + steps, columns),
+        Axis::Right => changed | board.rewrite(&cell.write, row, columns.ahead(steps)),
+    }
+}
+
+/// Rewrites all places of a part that begin in some columns of a row of the board, one cell of the part after the
+/// other. Answers whether a cell changed, or something had `changed` before.
+fn rewrite_row<B: Scan>(
+    board: &mut B,
+    axis: Axis,
+    part: &[CompiledCell],
+    row: u32,
+    columns: Columns,
+    changed: bool,
+) -> bool
+    requires few { length part.now ≤ SIDE_LIMIT }
+    requires room { (k : ℕ) → k < length part.now → row_at axis row k < (B.grid board.old).height }
+    ensures rewritten { let before : Rewritten = record { grid = B.grid board.old; changed = changed } in
+        record { grid = B.grid board.new; changed = result }
+        ≡ cells_changed before (B.table board.old) axis row columns 0 part.now }
+    ensures table { B.table board.new ≡ B.table board.old }
+    ensures sides { sides_of (B.grid board.new) ≡ sides_of (B.grid board.old) }
+{
+    let mut any = changed;
+    let mut steps = 0;
+    for cell in part {
+        any = rewrite_cell(board, axis, cell, row, columns, steps, any);
+        steps += 1;
+    }
+    any
+}
+
+/// Rewrites all places of a part that begin in columns of some rows of the board. Answers whether a cell changed.
+fn rewrite_rows<B: Scan>(
+    board: &mut B,
+    axis: Axis,
+    part: &[CompiledCell],
+    rows: Columns,
+    starts: &[Columns],
+) -> bool
+    requires whole { HasCell part.now }
+    requires long { SIDE_LIMIT ≤ length starts.now }
+    requires starts { AreStarts (B.grid board.old) (B.table board.old) axis part.now rows starts.now }
+    requires alone { PlacesLieAlone axis part.now rows starts.now }
+    ensures rewritten { let before : Rewritten = record { grid = B.grid board.old; changed = false } in
+        let meant = part_meaning (B.table board.old) part.now in
+        let all = places (B.grid board.old) (direction_of axis) (meant ∷ []) in
+        record { grid = B.grid board.new; changed = result }
+        ≡ fold (applied ((meant ∷ []) ∷ [])) before (combinations (all ∷ [])) }
+    ensures table { B.table board.new ≡ B.table board.old }
+    ensures sides { sides_of (B.grid board.new) ≡ sides_of (B.grid board.old) }
+{
+    let (_width, _height) = board.size();
+    let mut changed = false;
+    let mut left = rows;
+    while let Some(row) = left.take_first() {
+        changed = rewrite_row(board, axis, part, row, starts[row as usize], changed);
+    }
+    changed
+}
+
+impl RowRoom {
+    /// Rewrites all places of a part that are kept for these rows of the board: each comes to the same as in its turn,
+    /// since they leave each other alone. Answers whether a cell changed. No memory is taken.
+    pub fn rewrite_places<B: Scan>(
+        &self,
+        board: &mut B,
+        axis: Axis,
+        part: &[CompiledCell],
+        rows: Columns,
+    ) -> bool
+        requires whole { HasCell part.now }
+        requires starts { let starts = self.now.starts.items in
+            AreStarts (B.grid board.old) (B.table board.old) axis part.now rows starts }
+        requires alone { PlacesLieAlone axis part.now rows self.now.starts.items }
+        ensures rewritten { let before : Rewritten = record { grid = B.grid board.old; changed = false } in
+            let meant = part_meaning (B.table board.old) part.now in
+            let all = places (B.grid board.old) (direction_of axis) (meant ∷ []) in
+            record { grid = B.grid board.new; changed = result }
+            ≡ fold (applied ((meant ∷ []) ∷ [])) before (combinations (all ∷ [])) }
+        ensures table { B.table board.new ≡ B.table board.old }
+        ensures sides { sides_of (B.grid board.new) ≡ sides_of (B.grid board.old) }
+    {
+        rewrite_rows(board, axis, part, rows, self.starts.as_slice())
+    }
+}

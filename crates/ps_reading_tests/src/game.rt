@@ -1,6 +1,0 @@
-//! Tests of the reading of whole games.
-
-mod possible;
-mod readings;
-mod sections;
-mod whole;

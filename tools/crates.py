@@ -1,0 +1,19 @@
+"""The crates of this repository, and on what each stands."""
+import pathlib
+
+TOP = pathlib.Path(__file__).resolve().parent.parent
+
+
+def read_uses():
+    """Of each crate in crates.txt the names of those that it stands on, its own and the toolchain's."""
+    lines = [line.partition("#")[0].partition(":") for line in (TOP / "crates.txt").read_text().splitlines()]
+    return {name.split()[0]: rest.split() for name, colon, rest in lines if colon}
+
+
+def in_order(names, uses):
+    """These crates and those of this repository that they stand on, each behind those that it stands on itself."""
+    order = []
+    for name in names:
+        if name in uses:
+            order += [crate for crate in [*in_order(uses[name], uses), name] if crate not in order]
+    return order
