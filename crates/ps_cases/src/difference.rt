@@ -74,7 +74,8 @@ impl<'a> Difference<'a> {
     pub fn of(wanted: &'a [u8], written: &'a [u8]) -> Option<Difference<'a>>
         ensures none { result ≡ None → wanted.entry.now ≡ written.entry.now }
         ensures some { IsSome result → wanted.entry.now ≢ written.entry.now }
-        ensures front { IfSome result (λ found. take found.start wanted.entry.now ≡ take found.start written.entry.now) }
+        ensures front { IfSome result (λ found.
+            take found.start wanted.entry.now ≡ take found.start written.entry.now) }
         ensures number { IfSome result (λ found.
             found.number ≡ length (filter (λ byte. byte == 10) (take found.start wanted.entry.now)) + 1) }
         ensures wanted { IfSome result (λ found.

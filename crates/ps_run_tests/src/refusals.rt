@@ -21,7 +21,13 @@ fn expect_refused(rt: &(impl Abort + AllocGlobal), text: &[u8], kind: FaultKind,
 
 #[test]
 fn a_small_text_is_refused_for_its_fault(rt: HostRuntime) {
-    let text = repeated(&rt, "title T\n", NAMES, 1, "RULES\n[ A ] -> [ X ]\nLEVELS\nP?\n");
+    let text = repeated(
+        &rt,
+        "title T\n",
+        NAMES,
+        1,
+        "RULES\n[ A ] -> [ X ]\nLEVELS\nP?\n",
+    );
     expect_refused(&rt, text.as_bytes(), FaultKind::UnknownWord, 30);
 }
 
