@@ -17,7 +17,7 @@ any_agree p q a zero same = refl
 any_agree p q a (suc n) same =
     ap₂ (λ (b others : Bool). b || others) (same a (omega arith) (omega arith)) (any_agree p q (a + 1) n (λ k low high. same k (omega arith) (omega arith)))
 
-or_across : (a b c d : Bool) → ((a || b) || (c || d)) ≡ ((a || c) || (b || d))
+pub or_across : (a b c d : Bool) → ((a || b) || (c || d)) ≡ ((a || c) || (b || d))
 or_across true b c d = refl
 or_across false true true d = refl
 or_across false true false d = refl

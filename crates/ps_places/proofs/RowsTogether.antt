@@ -43,9 +43,6 @@ both_ways false false there back = refl
 true_and : (a b : Bool) → a ≡ true → b ≡ true → (a && b) ≡ true
 true_and a b e f = rw (e, f) refl
 
-eq_true : (a b : ℕ) → a ≡ b → nat_eq a b ≡ true
-eq_true a b e = eq-eqb a b e
-
 le_true : (a b : ℕ) → a ≤ b → nat_le a b ≡ true
 le_true a b low = grind (arith, nat_tests, low)
 
@@ -111,7 +108,7 @@ module _ (g : Grid) (table : Option (List ℕ)) (axis : Axis) (part : List Compi
       true_and (covers (starts_number g rows starts) 1 i n) (on_this row (n - i * 1))
       (true_and (nat_le (i * 1) n) (starts_number g rows starts (n - i * 1)) (le_true (i * 1) n far)
       (started (n - i * 1) row x under across first on both.1))
-      (eq_true ((n - i * 1) % g.height) row (ap (λ (k : ℕ). k % g.height) first ∙ mod-mul-add x g.height row under)))
+      (eq-eqb ((n - i * 1) % g.height) row (ap (λ (k : ℕ). k % g.height) first ∙ mod-mul-add x g.height row under)))
       (λ there.
       let both = and_parts (covers (starts_number g rows starts) 1 i n) (on_this row (n - i * 1)) there in
       let parts = covers-parts (starts_number g rows starts) 1 i n both.0 in
@@ -128,7 +125,7 @@ module _ (g : Grid) (table : Option (List ℕ)) (axis : Axis) (part : List Compi
       let start = begins_start g table axis part rows starts grid some found e parts.1 in
       let own = (and_parts (column_at rows (e % g.height)) (column_at (columns_on starts (e % g.height)) x) start).1 in
       true_and (nat_eq (n % g.height) (row + i)) (column_at (columns_on starts row) (n / g.height))
-      (eq_true (n % g.height) (row + i) (ap (λ (k : ℕ). k % g.height) is ∙ mod-mul-add x g.height (row + i) below))
+      (eq-eqb (n % g.height) (row + i) (ap (λ (k : ℕ). k % g.height) is ∙ mod-mul-add x g.height (row + i) below))
       (ap (column_at (columns_on starts row)) (ap (λ (k : ℕ). k / g.height) is ∙ div-mul-add x g.height (row + i) below)
       ∙ ap (λ (r : ℕ). column_at (columns_on starts r) x) (sym at) ∙ own))
 
@@ -159,7 +156,7 @@ module _ (g : Grid) (table : Option (List ℕ)) (axis : Axis) (part : List Compi
       (true_and (nat_le (i * g.height) n) (starts_number g rows starts (n - i * g.height))
       (le_true (i * g.height) n far)
       (started (n - i * g.height) row (x - i) under (omega (arith, across)) first on more.1))
-      (eq_true ((n - i * g.height) % g.height) row (ap (λ (k : ℕ). k % g.height) first
+      (eq-eqb ((n - i * g.height) % g.height) row (ap (λ (k : ℕ). k % g.height) first
       ∙ mod-mul-add (x - i) g.height row under)))
       (λ there.
       let both = and_parts (covers (starts_number g rows starts) g.height i n) (on_this row (n - i * g.height)) there in
@@ -176,7 +173,7 @@ module _ (g : Grid) (table : Option (List ℕ)) (axis : Axis) (part : List Compi
       let start = begins_start g table axis part rows starts grid some found e parts.1 in
       let own = (and_parts (column_at rows (e % g.height)) (column_at (columns_on starts (e % g.height)) y) start).1 in
       true_and (nat_eq (n % g.height) row) (nat_le i x && column_at (columns_on starts row) (x - i))
-      (eq_true (n % g.height) row (ap (λ (k : ℕ). k % g.height) is ∙ mod-mul-add (y + i) g.height row under))
+      (eq-eqb (n % g.height) row (ap (λ (k : ℕ). k % g.height) is ∙ mod-mul-add (y + i) g.height row under))
       (true_and (nat_le i x) (column_at (columns_on starts row) (x - i)) (le_true i x near)
       (ap (column_at (columns_on starts row)) back ∙ ap (λ (r : ℕ). column_at (columns_on starts r) y) (sym at) ∙ own)))
 

@@ -15,7 +15,7 @@ use Rattle.ps_model.specs.board.Attempts.{Rewritten, rewritten_cell, same_cell}
 use Rattle.ps_model.specs.meaning.RuleMeanings.{CellMeaning}
 use Rattle.ps_match.specs.Together.{cell_where, changes_where, rewritten_where}
 use Rattle.ps_places.specs.WrittenTogether.{then_where}
-use Rattle.ps_match.proofs.Chosen.{any_agree, or_nothing, rewritten_of, where-none, where-one}
+use Rattle.ps_match.proofs.Chosen.{or_across, any_agree, or_nothing, rewritten_of, where-none, where-one}
 use Rattle.ps_match.proofs.RowWritten.{told}
 use Rattle.ps_places.proofs.WrittenToItself.{cell_itself}
 use Rattle.ps_places.proofs.Ranges.{map-range-agree}
@@ -38,13 +38,6 @@ pub record IsStep (g : Grid) (first second : ℕ → List Slot) (made : List Slo
   pub left : chosen n ≡ false → second n ≡ first n
 
 -- one of a kind, or of another
-or_across : (a b c d : Bool) → ((a || b) || (c || d)) ≡ ((a || c) || (b || d))
-or_across true b c d = refl
-or_across false true true d = refl
-or_across false true false d = refl
-or_across false false true d = refl
-or_across false false false d = refl
-
 any_either : (p q r : ℕ → Bool) (a n : ℕ) → ((k : ℕ) → a ≤ k → k < a + n → r k ≡ (p k || q k)) →
     (list_any p (range_with_len a n) || list_any q (range_with_len a n)) ≡ list_any r (range_with_len a n)
 any_either p q r a zero e = refl
