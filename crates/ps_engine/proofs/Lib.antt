@@ -9,6 +9,7 @@ pub mod AsTheyAre
 pub mod OneByOne
 pub mod RowsWritten
 pub mod LeftAsIs
+pub mod WrittenOnce
 pub mod Absent
 pub mod RoomsFor
 pub mod Sleeping

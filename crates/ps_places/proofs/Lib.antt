@@ -19,3 +19,5 @@ pub mod FoundDown
 pub mod Untouched
 pub mod WrittenToItself
 pub mod SpacedWays
+pub mod AnyOf
+pub mod TargetCells

@@ -9,3 +9,4 @@ pub mod FoundStarts
 pub mod Candidates
 pub mod CellCandidates
 pub mod Spaced
+pub mod PartTargets
