@@ -52,7 +52,7 @@ or_across false true false d = refl
 or_across false false true d = refl
 or_across false false false d = refl
 
-any-either : {X : Type 0} (f h : X → Bool) (xs : List X) → list_any (λ x. f x || h x) xs ≡ (list_any f xs || list_any h xs)
+pub any-either : {X : Type 0} (f h : X → Bool) (xs : List X) → list_any (λ x. f x || h x) xs ≡ (list_any f xs || list_any h xs)
 any-either f h [] = refl
 any-either f h (x ∷ xs) = ap (λ (b : Bool). (f x || h x) || b) (any-either f h xs) ∙ or_across (f x) (h x) (list_any f xs) (list_any h xs)
 

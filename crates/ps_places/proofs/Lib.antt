@@ -21,3 +21,5 @@ pub mod WrittenToItself
 pub mod SpacedWays
 pub mod AnyOf
 pub mod TargetCells
+pub mod TargetColumns
+pub mod TargetRows

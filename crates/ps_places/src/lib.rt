@@ -8,6 +8,7 @@ mod lines;
 mod parts;
 mod room;
 mod starts;
+mod targets;
 mod ways;
 
 pub use candidates::rows_of_mask;
