@@ -25,14 +25,14 @@ use Rattle.ps_places.proofs.WrittenToItself.{all_of_kept}
 use Rattle.ps_engine.proofs.Sleeping.{LetSleep, RowsLetSleep, Sleeps}
 
 -- a test of all that says less
-all_said : {X : Type 0} (f h : X → Bool) (xs : List X) → ((x : X) → f x ≡ true → h x ≡ true) →
+pub all_said : {X : Type 0} (f h : X → Bool) (xs : List X) → ((x : X) → f x ≡ true → h x ≡ true) →
     list_all f xs ≡ true → list_all h xs ≡ true
 all_said f h [] less all = refl
 all_said f h (x ∷ xs) less all =
     let parts = and_parts (f x) (list_all f xs) all in
     rw (less x parts.0) (all_said f h xs less parts.1)
 
-both_said : (a b c d : Bool) → (a ≡ true → c ≡ true) → (b ≡ true → d ≡ true) → (a && b) ≡ true → (c && d) ≡ true
+pub both_said : (a b c d : Bool) → (a ≡ true → c ≡ true) → (b ≡ true → d ≡ true) → (a && b) ≡ true → (c && d) ≡ true
 both_said a b c d first second all =
     let parts = and_parts a b all in
     rw (first parts.0) (second parts.1)
@@ -91,7 +91,7 @@ cell_asleep table writing asking e = λ cell off.
     lets-sleep (write_in_room table write) mask (not_so (lets_sleep (write_in_room table write) mask) still) cell off
 
 -- all elements of a list, made into others; all cells of some parts
-all_made : {X Y : Type 0} (test : X → Bool) (f : X → Y) (P : Y → Type 0) (xs : List X) →
+pub all_made : {X Y : Type 0} (test : X → Bool) (f : X → Y) (P : Y → Type 0) (xs : List X) →
     ((x : X) → test x ≡ true → P (f x)) → list_all test xs ≡ true → All P (map f xs)
 all_made test f P [] each all = All-nil P
 all_made test f P (x ∷ xs) each all =

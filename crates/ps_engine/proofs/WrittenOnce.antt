@@ -9,24 +9,14 @@ use Rattle.std.proofs.lemmas.List.{set-get_or}
 use Rattle.std.proofs.lemmas.List.Elements.{All-head, All-tail}
 use Rattle.std.proofs.lemmas.Option.{get_or_from_slice_get, slice_get-get_or, slice_get_within}
 use Rattle.ps_model.specs.declared.pieces.Slot.{Slot}
-use Rattle.ps_model.specs.declared.pieces.Slot.TheVariants.{Bare, Holds}
 use Rattle.ps_model.specs.board.Grid.{Grid, cell_at}
 use Rattle.ps_model.specs.board.Places.{cells_in, fits_along, fits_there}
-use Rattle.ps_model.specs.board.Attempts.{Rewritten, applied, rewritten_along, rewritten_cell, same_cell, same_slot, with_cell}
-use Rattle.ps_model.specs.meaning.Fitting.{motion_number}
+use Rattle.ps_model.specs.board.Attempts.{Rewritten, applied, rewritten_along, rewritten_cell, same_cell, with_cell}
 use Rattle.ps_model.specs.meaning.RuleMeanings.{CellMeaning}
 use Rattle.ps_match.specs.Together.{cell_where, rewritten_where}
+use Rattle.ps_places.proofs.WrittenToItself.{cell_itself}
 use Rattle.ps_match.proofs.Chosen.{cell_at-where, length-where, or_nothing, where-agree, where-one}
 use Rattle.ps_match.proofs.RowWritten.{told, told-more}
-
-slot_itself : (slot : Slot) → same_slot slot slot ≡ true
-slot_itself Bare = refl
-slot_itself (Holds object motion) =
-    rw (eq-eqb object.0 object.0 refl, eq-eqb (motion_number motion) (motion_number motion) refl) refl
-
-cell_itself : (cell : List Slot) → same_cell cell cell ≡ true
-cell_itself [] = refl
-cell_itself (slot ∷ slots) = rw (slot_itself slot) (cell_itself slots)
 
 -- a cell of a rule leaves what it fits as it is, and what fits it fits it behind a writing
 pub record StandsAside (becomes : List Slot → List Slot) (a : CellMeaning) : Type 0 where
@@ -126,7 +116,7 @@ rest_still becomes (a ∷ others) aside r (n ∷ place) e =
     ∙ rest_still becomes others (All-tail (StandsAside becomes) a others aside) r place parts.1
 
 module _ (m : CellMeaning) (after : List CellMeaning) where
-  target_fits : (h : Grid) (before : List CellMeaning) (place : List ℕ) → fits_along h (before ++ m ∷ after) place ≡ true →
+  pub target_fits : (h : Grid) (before : List CellMeaning) (place : List ℕ) → fits_along h (before ++ m ∷ after) place ≡ true →
       fits_there m (slice_get h.cells (target_of (length before) place)) ≡ true
   target_fits h [] [] e = absurd (cc)
   target_fits h [] (n ∷ place) e = (both_of (fits_there m (slice_get h.cells n)) (fits_along h after place) e).0
@@ -261,7 +251,7 @@ module _ (g : Grid) (before after : List CellMeaning) (m : CellMeaning) (aside :
   or_three true b c = refl
   or_three false b c = refl
 
-  places_from : (done : ℕ → Bool) (places : List (List ℕ)) → All Fits places →
+  pub places_from : (done : ℕ → Bool) (places : List (List ℕ)) → All Fits places →
       fold (applied_along whole) (now done) places ≡ now (λ n. done n || is_target places n)
   places_from done [] fit = where-agree g m.rewritten done (λ n. done n || false) (λ k low. sym (or_nothing (done k)))
   places_from done (place ∷ places) fit =

@@ -10,6 +10,7 @@ ghost use Rattle.ps_engine.specs.RulesInRoom.{rule_meaning};
 use crate::one_cell::{attempt_cell, only_cell};
 use crate::queue::Queue;
 use crate::walking::walk;
+use crate::writing::attempt_writer;
 use ps_match::Scan;
 use ps_places::{RowRoom, find_starts};
 use ps_program::CompiledRule;
@@ -107,6 +108,9 @@ pub fn attempt<'r, B: Scan>(
     if rule.rewrites {
         if let Some(cell) = only_cell(rows) {
             return attempt_cell(rule, cell, board, queue);
+        }
+        if let Some(writer) = rule.writer {
+            return attempt_writer(rule, writer, board, queue, &mut rooms[0]);
         }
     }
     if !choose_first(board, rule, rooms) {
