@@ -10,6 +10,11 @@ pub mod AsTheyAre
 pub mod OneByOne
 pub mod RowsWritten
 pub mod LeftAsIs
+pub mod WrittenOnce
+pub mod WritersAside
+pub mod WrittenBehind
+pub mod WriterPlaces
+pub mod WriterAttempts
 pub mod Absent
 pub mod RoomsFor
 pub mod Sleeping

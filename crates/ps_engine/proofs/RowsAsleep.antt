@@ -79,7 +79,7 @@ cell_asleep table writing asking e = λ cell off.
     lets-sleep (write_in_room table write) mask (not_so (lets_sleep (write_in_room table write) mask) still) cell off
 
 -- all elements of a list, made into others; all cells of some parts
-all_made : {X Y : Type 0} (test : X → Bool) (f : X → Y) (P : Y → Type 0) (xs : List X) →
+pub all_made : {X Y : Type 0} (test : X → Bool) (f : X → Y) (P : Y → Type 0) (xs : List X) →
     ((x : X) → test x ≡ true → P (f x)) → list_all test xs ≡ true → All P (map f xs)
 all_made test f P [] each all = All-nil P
 all_made test f P (x ∷ xs) each all =

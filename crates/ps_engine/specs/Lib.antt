@@ -3,3 +3,4 @@ pub mod Choosing
 pub mod RulesInRoom
 pub mod OneCell
 pub mod Rooms
+pub mod Writing

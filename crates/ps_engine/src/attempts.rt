@@ -12,6 +12,7 @@ use crate::one_cell::{attempt_cell, only_cell};
 use crate::one_part::{attempt_part, only_part};
 use crate::queue::Queue;
 use crate::walking::walk;
+use crate::writing::attempt_writer;
 use ps_match::Scan;
 use ps_places::{RowRoom, find_starts};
 use ps_program::CompiledRule;
@@ -142,6 +143,9 @@ pub fn attempt<'r, B: Scan>(
     }
     if let Some(part) = only_part(rows) {
         return attempt_part(rule, part, board, queue, rooms);
+    }
+    if let Some(writer) = rule.writer {
+        return attempt_writer(rule, writer, board, queue, &mut rooms[0]);
     }
     attempt_rows(rule, board, queue, rooms)
 }

@@ -10,6 +10,7 @@ mod queue;
 mod rooms;
 mod rounds;
 mod walking;
+mod writing;
 
 pub use programs::run_program;
 pub use ps_match::{ListBoard, Scan};

@@ -37,7 +37,7 @@ ways-init g table parts rows grid is =
           not_left_out rows row is (omega (arith, low, grid.rows)) out in absurd (cc);
     }
 
-nowhere_by : (g : Grid) (table : Option (List ℕ)) (part : List CompiledCell) (row : ℕ) (own : List Bool) →
+pub nowhere_by : (g : Grid) (table : Option (List ℕ)) (part : List CompiledCell) (row : ℕ) (own : List Bool) →
     BeginsOnlyOn g table Right part own → row < g.height → column_at own row ≡ false →
     BeginsNowhere g table Right part row
 nowhere_by g table part row own only low out =
@@ -90,7 +90,7 @@ pub fits_with_room : (g : Grid) (table : Option (List ℕ)) (part : List Compile
 fits_with_room g table part row x grid low some = room_by g table part row x
     (nat_le (x + length part) g.width) refl grid low some
 
-begins-are : (g : Grid) (table : Option (List ℕ)) (part : List CompiledCell) (row : ℕ) (columns : List Bool) →
+pub begins-are : (g : Grid) (table : Option (List ℕ)) (part : List CompiledCell) (row : ℕ) (columns : List Bool) →
     IsGrid g → row < g.height → 0 < length part →
     AreWhere (part_fits g table Right row part) columns → AreWhere (begins_on g table Right row part) columns
 begins-are g table part row columns grid low some are =

@@ -144,7 +144,7 @@ pub record IsGathering (g : Grid) (table : Option (List ℕ)) (part : List Compi
   pub inside : (x : ℕ) → column_at found x ≡ true → column_at within x ≡ true
   pub others : (x other : ℕ) → other < count → other ≢ number → set_of now count x other ≡ set_of old count x other
 
-room_by : (g : Grid) (table : Option (List ℕ)) (part : List CompiledCell) (rows : List Bool) (x y : ℕ) (room : Bool) →
+pub room_by : (g : Grid) (table : Option (List ℕ)) (part : List CompiledCell) (rows : List Bool) (x y : ℕ) (room : Bool) →
     nat_le (y + length part) g.height ≡ room → BeginsOnlyOn g table Down part rows →
     y < g.height → column_at rows y ≡ false → (nat_lt x g.width && (room && part_fits g table Down x part y)) ≡ false
 room_by g table part rows x y true t only low out =
@@ -152,7 +152,7 @@ room_by g table part rows x y true t only low out =
     ap (λ (b : Bool). nat_lt x g.width && b) (only.at y x low (λ e. fits) out) ∙ and-false (nat_lt x g.width)
 room_by g table part rows x y false t only low out = and-false (nat_lt x g.width)
 
-below_edge : (g : Grid) (table : Option (List ℕ)) (part : List CompiledCell) (x y : ℕ) → 0 < length part →
+pub below_edge : (g : Grid) (table : Option (List ℕ)) (part : List CompiledCell) (x y : ℕ) → 0 < length part →
     g.height ≤ y → begins_down g table part y x ≡ false
 below_edge g table part x y some far =
     let off : nat_le (y + length part) g.height ≡ false = grind (arith, nat_tests, some, far) in

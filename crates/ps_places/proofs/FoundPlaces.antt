@@ -29,7 +29,7 @@ use Rattle.ps_places.proofs.LineWays.{AreSetsOf, cells_of_way, fits_from_positio
 use Rattle.ps_places.proofs.Ranges.{flat_map-none, none_there, passing-agree}
 
 -- a part begins where its meaning has room and fits
-begins_on-meant : (g : Grid) (table : Option (List ℕ)) (axis : Axis) (line : ℕ) (part : List CompiledCell)
+pub begins_on-meant : (g : Grid) (table : Option (List ℕ)) (axis : Axis) (line : ℕ) (part : List CompiledCell)
     (position : ℕ) →
     begins_on g table axis line part position ≡ fits_from_position g (cell_on axis g.height line) (line_long axis g)
     (part_meaning table part) position
@@ -65,7 +65,7 @@ sets-are g table axis line (part ∷ parts) (set ∷ sets) e some are =
     )
 
 -- the places on a line
-ways_of : (g : Grid) (axis : Axis) (line : ℕ) (parts : List (List CellMeaning)) (sets : List (List Bool)) →
+pub ways_of : (g : Grid) (axis : Axis) (line : ℕ) (parts : List (List CellMeaning)) (sets : List (List Bool)) →
     0 < length parts → line_long axis g ≤ SIDE_LIMIT →
     AreSetsOf g (cell_on axis g.height line) (line_long axis g) parts sets →
     places_along g axis parts line ≡ map (cells_of_way (cell_on axis g.height line) (map length parts))
@@ -89,10 +89,10 @@ ways-meant axis height line sizes (way ∷ ways) = ap₂ (λ (x : List ℕ) (xs 
     (sym (way_cells-are axis height line sizes way)) (ways-meant axis height line sizes ways)
 
 -- a line on which one of the parts begins nowhere
-abbrev true_sets : Grid → (ℕ → ℕ) → ℕ → List (List CellMeaning) → List (List Bool)
+abbrev pub true_sets : Grid → (ℕ → ℕ) → ℕ → List (List CellMeaning) → List (List Bool)
 true_sets g cell long parts = map (λ part. columns_where (fits_from_position g cell long part)) parts
 
-true_sets-are : (g : Grid) (cell : ℕ → ℕ) (long : ℕ) (parts : List (List CellMeaning)) →
+pub true_sets-are : (g : Grid) (cell : ℕ → ℕ) (long : ℕ) (parts : List (List CellMeaning)) →
     ((i : ℕ) → i < length parts → 0 < length (slice_index_or parts i [])) →
     AreSetsOf g cell long parts (true_sets g cell long parts)
 true_sets-are g cell long [] some = tt
@@ -127,7 +127,7 @@ part_of-meant table [] i low = absurd (omega arith)
 part_of-meant table (part ∷ parts) zero low = refl
 part_of-meant table (part ∷ parts) (suc i) low = part_of-meant table parts i (omega arith)
 
-some-meant : (table : Option (List ℕ)) (parts : List (List CompiledCell)) →
+pub some-meant : (table : Option (List ℕ)) (parts : List (List CompiledCell)) →
     ((i : ℕ) → i < length parts → 0 < length (part_of parts i)) → (i : ℕ) → i < length (parts_meaning table parts) →
     0 < length (slice_index_or (parts_meaning table parts) i [])
 some-meant table parts some i low =

@@ -65,7 +65,7 @@ module _ (keep : LayerWrite → Bool) (write : CellWrite) where
       (among_still objects)))
       (all_said (motion_stays write) (motion_stays fewer_writes) mask.motions motion_still)))
 
-in_room_keeps : (table : Option (List ℕ)) (write : CellWrite) (mask : CellMask) → write_keeps write mask ≡ true →
+pub in_room_keeps : (table : Option (List ℕ)) (write : CellWrite) (mask : CellMask) → write_keeps write mask ≡ true →
     write_keeps (write_in_room table write) mask ≡ true
 in_room_keeps None write mask e = e
 in_room_keeps (Some layers) write mask e = fewer_keep (has_room_for (Some layers)) write mask e

@@ -30,3 +30,7 @@ pub mod StartNumbers
 pub mod RowsTogether
 pub mod AlonePlaces
 pub mod FoundRows
+pub mod AnyOf
+pub mod TargetCells
+pub mod TargetColumns
+pub mod TargetRows

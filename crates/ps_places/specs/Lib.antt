@@ -12,3 +12,4 @@ pub mod Spaced
 pub mod PartStarts
 pub mod LeavingAlone
 pub mod WrittenTogether
+pub mod PartTargets

@@ -11,6 +11,7 @@ mod parts;
 mod rewriting;
 mod room;
 mod starts;
+mod targets;
 mod ways;
 
 pub use candidates::rows_of_mask;

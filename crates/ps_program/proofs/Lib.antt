@@ -1,3 +1,4 @@
 pub mod FittingMasks
 pub mod KeepingCells
 pub mod LeavingCells
+pub mod SettlingCells

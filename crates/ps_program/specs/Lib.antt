@@ -7,4 +7,5 @@ pub mod Needs
 pub mod Axes
 pub mod Parts
 pub mod Sleeping
+pub mod Writers
 pub mod ProgramShown

@@ -17,7 +17,7 @@ use ps_model::{LayerId, LayerWrite, LayeredObject, Motion, MotionTest, ObjectId,
 use ps_text::List;
 
 /// Whether the object goes from the layer.
-fn is_gone(gone: &[LayeredObject], layer: LayerId, object: ObjectId) -> bool
+pub fn is_gone(gone: &[LayeredObject], layer: LayerId, object: ObjectId) -> bool
     ensures { result ≡ is_gone gone.now layer.0 object }
 {
     gone.iter().any(|each| each.layer.0 == layer.0 && each.object.0 == object.0)

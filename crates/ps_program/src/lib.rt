@@ -9,6 +9,7 @@ mod program;
 mod rows;
 mod rules;
 mod sleeping;
+mod writers;
 
 pub use cells::{CellMask, CellWrite, CompiledCell};
 pub use keeping::{keeping_cells, sleeping_cells, write_keeps, write_wakes};
@@ -18,3 +19,4 @@ pub use ps_model::{LayerWrite, LayeredObject, MotionTest, ObjectWrite};
 pub use ps_rules::Commands;
 pub use rows::{Axis, CompiledRow, PART_LIMIT};
 pub use rules::CompiledRule;
+pub use writers::{Writer, settling_cells};

@@ -4,10 +4,12 @@ ghost use Rattle.std.specs.Prelude.{◌≡◌, All, IfOk, true};
 ghost use Rattle.ps_program.specs.Needs.{rows_move, rows_need};
 ghost use Rattle.ps_program.specs.Axes.{LiesAlong};
 ghost use Rattle.ps_program.specs.Sleeping.{rows_sleep};
+ghost use Rattle.ps_program.specs.Writers.{rows_writer};
 
 use crate::needs::asked_by;
 use crate::rows::{Axis, CompiledRow};
 use crate::sleeping::told_to_sleep;
+use crate::writers::{Writer, writer_of};
 use ps_model::{LayeredObject, Memory, MotionTest};
 use ps_rules::Commands;
 use ps_text::List;
@@ -31,10 +33,14 @@ pub struct CompiledRule<'r> {
     /// No write of its cells may wake a mask of its cells: where a row doesn't fit, it doesn't in the rest of an
     /// attempt. Where this isn't set, it may be so or not.
     pub sleeps: bool,
+    /// The cell that alone changes anything, where the rule is one row of two parts and the cell's write keeps the masks of
+    /// all others. Where this isn't told, it may be so or not.
+    pub writer: Option<Writer>,
     ghost along: { All (LiesAlong axis) rows },
     ghost needs: { needed ≡ rows_need rows },
     ghost moves: { moving ≡ rows_move rows },
     ghost asleep: { sleeps ≡ true → rows_sleep rows ≡ true },
+    ghost alone: { rows_writer rows writer ≡ true },
 }
 
 impl<'r> CompiledRule<'r> {
@@ -54,6 +60,7 @@ impl<'r> CompiledRule<'r> {
     {
         let asked = asked_by(alloc, rows.as_slice())?;
         let sleeps = told_to_sleep(rows.as_slice());
+        let writer = writer_of(rows.as_slice());
         Ok(CompiledRule {
             axis,
             rows,
@@ -62,6 +69,7 @@ impl<'r> CompiledRule<'r> {
             needed: asked.objects,
             moving: asked.motions,
             sleeps,
+            writer,
         })
     }
 }

@@ -1,0 +1,117 @@
+//! An attempt of a rule of one row of two parts of which one cell alone changes anything, and whose write keeps the masks of
+//! all others. Wherever the row fits at the start it comes to that cell written, once: no place is kept, and the cells are
+//! written row by row of the board.
+
+ghost use Rattle.std.specs.Prelude.{◌≡◌, ◌<◌, Some, slice_get, true};
+ghost use Rattle.ps_model.specs.board.Attempts.{Result as Meant, State, attempt};
+ghost use Rattle.ps_model.specs.meaning.Compiled.{cell_written};
+ghost use Rattle.ps_program.specs.CellsShown.{write_shown};
+ghost use Rattle.ps_program.specs.Writers.{parts_writer};
+ghost use Rattle.ps_match.specs.InRoom.{sides_of, write_in_room};
+ghost use Rattle.ps_match.specs.Together.{rewritten_where};
+ghost use Rattle.ps_places.specs.FoundStarts.{part_of};
+ghost use Rattle.ps_places.specs.PartTargets.{own_part};
+ghost use Rattle.ps_engine.specs.RulesInRoom.{rule_meaning};
+ghost use Rattle.ps_engine.specs.Writing.{AreWithin, is_behind, is_written, row_behind};
+
+use crate::queue::Queue;
+use ps_match::{Columns, Scan};
+use ps_places::RowRoom;
+use ps_program::{Axis, CellWrite, CompiledCell, CompiledRow, CompiledRule, Writer};
+
+/// The cell of a row's two parts that is its writer.
+fn writing_cell(row: &CompiledRow, writer: Writer) -> &CompiledCell
+    requires { parts_writer row.now.parts writer ≡ true }
+    ensures { let parts = row.entry.now.parts in
+        slice_get (own_part writer.leads (part_of parts 0) (part_of parts 1)) writer.cell ≡ Some result.now }
+{
+    let parts = row.parts.as_slice();
+    let part = if writer.leads {
+        parts[0].as_slice()
+    } else {
+        parts[1].as_slice()
+    };
+    &part[writer.cell as usize]
+}
+
+/// Writes the cells that lie so many steps along an axis from some columns of a row of the board, and answers whether one
+/// of them changed.
+fn write_behind<B: Scan>(
+    board: &mut B,
+    write: &CellWrite,
+    axis: Axis,
+    steps: u32,
+    row: u32,
+    columns: Columns,
+) -> bool
+    requires { row_behind axis row steps < (B.grid board.old).height }
+    ensures rewritten { let before = B.grid board.old in
+        let becomes = cell_written (write_in_room (B.table board.old) (write_shown write.now)) in
+        record { grid = B.grid board.new; changed = result }
+        ≡ rewritten_where before becomes (is_behind axis before.height steps row columns) }
+    ensures table { B.table board.new ≡ B.table board.old }
+    ensures sides { sides_of (B.grid board.new) ≡ sides_of (B.grid board.old) }
+{
+    let (_width, _height) = board.size();
+    match axis {
+        Axis::Down => board.rewrite(write, row + steps, columns),
+        Axis::Right => board.rewrite(write, row, columns.ahead(steps)),
+    }
+}
+
+/// Writes the cells that lie so many steps along an axis from the columns that a room keeps of these rows of the board, and
+/// answers whether one of them changed.
+fn write_targets<B: Scan>(
+    board: &mut B,
+    write: &CellWrite,
+    axis: Axis,
+    steps: u32,
+    rows: Columns,
+    room: &RowRoom,
+) -> bool
+    requires { AreWithin axis (B.grid board.old).height steps rows }
+    ensures rewritten { let before = B.grid board.old in
+        let becomes = cell_written (write_in_room (B.table board.old) (write_shown write.now)) in
+        record { grid = B.grid board.new; changed = result }
+        ≡ rewritten_where before becomes (is_written axis before.height steps rows room.now.starts.items) }
+    ensures table { B.table board.new ≡ B.table board.old }
+    ensures sides { sides_of (B.grid board.new) ≡ sides_of (B.grid board.old) }
+{
+    let (_width, _height) = board.size();
+    let mut left = rows;
+    let mut changed = false;
+    while let Some(row) = left.take_first() {
+        let columns = room.targets_on(row);
+        changed |= write_behind(board, write, axis, steps, row, columns);
+    }
+    changed
+}
+
+/// An attempt of a rule whose writer this is: each start of the writer's part that has a partner gets the writer's write,
+/// and if there is one, the rule's commands enter the queue. Answers whether a cell changed. No memory is taken.
+pub fn attempt_writer<'r, B: Scan>(
+    rule: &CompiledRule<'r>,
+    writer: Writer,
+    board: &mut B,
+    queue: &mut Queue<'r>,
+    room: &mut RowRoom,
+) -> bool
+    requires writer { rule.now.writer ≡ Some writer }
+    requires rewrites { rule.now.rewrites ≡ true }
+    ensures attempt { let before : State = record { grid = B.grid board.old; queue = queue.old } in
+        let after : State = record { grid = B.grid board.new; queue = queue.new } in
+        let all : Meant = record { state = after; changed = result } in
+        all ≡ attempt (rule_meaning (B.table board.old) rule.now) before }
+    ensures table { B.table board.new ≡ B.table board.old }
+    ensures sides { sides_of (B.grid board.new) ≡ sides_of (B.grid board.old) }
+{
+    let (_width, _height) = board.size();
+    let row = &rule.rows.as_slice()[0];
+    let cell = writing_cell(row, writer);
+    let rows = room.find_targets(board, row, writer.leads);
+    if rows.is_empty() {
+        return false;
+    }
+    queue.enter(rule.commands);
+    write_targets(board, &cell.write, row.axis, writer.cell, rows, room)
+}

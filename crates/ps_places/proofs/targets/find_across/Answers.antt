@@ -1,0 +1,70 @@
+use Rattle.std.proofs.Common.{◌≡◌, ◌∙◌, ◌<◌, ◌≤◌, ℕ, Option, List, refl, ap, arith}
+use Rattle.ps_model.specs.declared.limits.TheConstants.{SIDE_LIMIT}
+use Rattle.ps_model.specs.board.Grid.{Grid}
+use Rattle.ps_program.specs.declared.rows.Axis.TheVariants.{Right}
+use Rattle.ps_board.specs.ColumnSets.{columns_below}
+use Rattle.ps_board.proofs.Taken.{below-init, below-more, passed-all, passed-changed, passed-init, taken_below}
+use Rattle.ps_places.specs.PartTargets.{IsRowOfTargets}
+use Rattle.ps_places.proofs.TargetRows.{across-init, across-targets, kept-none, row-here, row-other}
+use Rattle.ps_places.proofs.targets.find_across.Goals as goal
+
+pub loop-row-init : goal.loop-row-init
+loop-row-init g c =
+    let grid : Grid = g.B.Board.grid c.args.board.now in
+    let table : Option (List ℕ) = g.B.Board.table c.args.board.now in
+    let below : c.below.result ≡ columns_below grid.height = c.below.ensures ∙ ap columns_below c.size-width.ensures.height in
+    record {
+      low = below-init c.both.result c.below.result c.both-left.result grid.height below c.both-left.ensures;
+      done =
+          passed-init (IsRowOfTargets grid table Right c.args.leads c.args.first.now c.args.second.now c.none-rows.result c.args.starts.now)
+          c.both.result c.below.result c.both-left.result grid.height c.size-width.ensures.shape.rows below c.both-left.ensures
+          (across-init grid table c.args.leads c.args.first.now c.args.second.now c.none-rows.result c.rows_of_part-fronts_on.result
+          c.rows_of_part-backs_on.result c.both.result c.args.starts.now c.size-width.ensures.shape c.rows_of_part-fronts_on.ensures
+          c.rows_of_part-backs_on.ensures c.both.ensures c.none-rows.ensures);
+      kept = kept-none grid.height c.none-rows.result c.args.starts.now c.none-rows.ensures;
+      long = refl;
+    }
+
+pub columns_across-fronts-requires : goal.columns_across-fronts-requires
+columns_across-fronts-requires g c =
+    taken_below c.loop-row.left c.take_first.new.self (g.B.Board.grid c.args.board.now).height c.in-Some.row c.in-Some.ensures.some c.loop-row.invariant.low
+
+pub columns_across-backs-requires : goal.columns_across-backs-requires
+columns_across-backs-requires g c =
+    taken_below c.loop-row.left c.take_first.new.self (g.B.Board.grid c.args.board.now).height c.in-Some.row c.in-Some.ensures.some c.loop-row.invariant.low
+
+pub loop-row-preserved : goal.loop-row-preserved
+loop-row-preserved g c =
+    let grid : Grid = g.B.Board.grid c.args.board.now in
+    let table : Option (List ℕ) = g.B.Board.table c.args.board.now in
+    let row : ℕ = c.in-Some.row in
+    let few : grid.height ≤ SIDE_LIMIT = c.size-width.ensures.shape.rows in
+    let low : row < grid.height = taken_below c.loop-row.left c.take_first.new.self grid.height row c.in-Some.ensures.some c.loop-row.invariant.low in
+    record {
+      low = below-more c.loop-row.left c.take_first.new.self grid.height row c.in-Some.ensures.some c.loop-row.invariant.low;
+      done =
+          passed-changed (IsRowOfTargets grid table Right c.args.leads c.args.first.now c.args.second.now c.loop-row.rows c.loop-row.starts)
+          _ c.loop-row.left c.take_first.new.self grid.height row few c.in-Some.ensures.some
+          (row-here grid table Right c.args.leads c.args.first.now c.args.second.now c.loop-row.rows c.loop-row.starts row
+          c.paired-columns.result c.keep_row-rows.result c.keep_row-rows.new.starts c.keep_row-rows.ensures.kept
+          (across-targets grid table c.args.leads c.args.first.now c.args.second.now c.args.size row c.columns_across-fronts.result
+          c.columns_across-backs.result c.paired-columns.result c.size-width.ensures.shape low c.requires.first c.requires.second c.requires.size
+          c.columns_across-fronts.ensures c.columns_across-backs.ensures c.paired-columns.ensures))
+          (λ other near apart found.
+          row-other grid table Right c.args.leads c.args.first.now c.args.second.now c.loop-row.rows c.loop-row.starts row
+          c.paired-columns.result c.keep_row-rows.result c.keep_row-rows.new.starts other c.keep_row-rows.ensures.kept (omega (arith, near, few)) apart found)
+          c.loop-row.invariant.done;
+      kept = (c.keep_row-rows.ensures.kept).kept grid.height low c.loop-row.invariant.kept;
+      long = c.keep_row-rows.ensures.long ∙ c.loop-row.invariant.long;
+    }
+
+pub returns-clause-targets : goal.returns-clause-targets
+returns-clause-targets g c =
+    let grid : Grid = g.B.Board.grid c.args.board.now in
+    let table : Option (List ℕ) = g.B.Board.table c.args.board.now in
+    record {
+      each = λ row low.
+          passed-all (IsRowOfTargets grid table Right c.args.leads c.args.first.now c.args.second.now c.loop-row.rows c.loop-row.starts)
+          c.loop-row.left grid.height row c.size-width.ensures.shape.rows (c.in_default.ensures.none refl) c.loop-row.invariant.done low;
+      kept = c.loop-row.invariant.kept;
+    }

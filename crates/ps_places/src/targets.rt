@@ -1,0 +1,223 @@
+//! Where one of the two parts of a row begins and has a partner: the other part begins on the same line of the board, where
+//! both have room.
+
+ghost use Rattle.std.specs.Prelude.{◌≡◌, ℕ, ◌+◌, ◌<◌, ◌≤◌, List, Bool, [], false, length, slice_index_or, true};
+ghost use Rattle.ps_model.specs.declared.limits.TheConstants.{SIDE_LIMIT};
+ghost use Rattle.ps_program.specs.Parts.{HasCell};
+ghost use Rattle.ps_program.specs.declared.rows.Axis.TheVariants.{Down, Right};
+ghost use Rattle.ps_places.specs.Candidates.{BeginsOnlyOn};
+ghost use Rattle.ps_places.specs.FoundStarts.{part_of};
+ghost use Rattle.ps_places.specs.PartTargets.{AreTargets, IsReach, IsRowKept, is_paired, is_passed, is_target};
+ghost use Rattle.ps_places.specs.Starts.{AreWhere, begins_down};
+
+use crate::candidates::rows_of_part;
+use crate::columns::{columns_across, columns_down};
+use crate::room::RowRoom;
+use ps_match::{Columns, Scan};
+use ps_model::SIDE_LIMIT;
+use ps_program::{Axis, CompiledCell, CompiledRow};
+
+/// Reaches twice as far to the left: what has one of a set less than so many columns to its right has it less than
+/// twice as many.
+fn reach_twice(reach: Columns, steps: u32) -> Columns
+    ensures { (set : List Bool) → IsReach set reach steps → IsReach set result (steps + steps) }
+{
+    reach.either(reach.behind(steps))
+}
+
+/// The columns of a set, and all to the left of one of them.
+fn up_to(set: Columns) -> Columns
+    ensures { IsReach set result SIDE_LIMIT }
+{
+    let one = set.both(Columns::below(SIDE_LIMIT));
+    let two = reach_twice(one, 1);
+    let four = reach_twice(two, 2);
+    let eight = reach_twice(four, 4);
+    let sixteen = reach_twice(eight, 8);
+    let half = reach_twice(sixteen, 16);
+    reach_twice(half, 32)
+}
+
+/// The columns of a set, and all to the right of one of them.
+fn from_first(set: Columns) -> Columns
+    ensures { AreWhere (is_passed set) result }
+{
+    let mut left = set;
+    let Some(first) = left.take_first() else {
+        return Columns::none();
+    };
+    Columns::below(SIDE_LIMIT).without(Columns::below(first))
+}
+
+/// Of the columns in which the first part begins on a row of the board and of those of the second, those of the first if
+/// it `leads`, else of the second, that have one of the others where both have room. The first part is so long.
+fn paired(leads: bool, size: u32, fronts: Columns, backs: Columns) -> Columns
+    requires { size < SIDE_LIMIT }
+    ensures { AreWhere (is_paired leads size fronts backs) result }
+{
+    if leads {
+        fronts.both(up_to(backs).behind(size))
+    } else {
+        backs.both(from_first(fronts).ahead(size))
+    }
+}
+
+/// Keeps columns of a row of the board, and adds the row to those of which some are kept, if there are any.
+fn keep_row(starts: &mut [Columns], rows: Columns, row: u32, columns: Columns) -> Columns
+    requires within { row < SIDE_LIMIT }
+    requires room { SIDE_LIMIT ≤ length starts.old }
+    ensures kept { IsRowKept rows starts.old row columns result starts.new }
+    ensures long { length starts.new ≡ length starts.old }
+{
+    starts[row as usize] = columns;
+    rows.with(row, !columns.is_empty())
+}
+
+/// Finds the targets of parts that go right, and answers the rows of the board that have one.
+fn find_across<B: Scan>(
+    board: &B,
+    first: &[CompiledCell],
+    second: &[CompiledCell],
+    leads: bool,
+    size: u32,
+    starts: &mut [Columns],
+) -> Columns
+    requires first { HasCell first.now }
+    requires second { HasCell second.now }
+    requires size { size ≡ length first.now }
+    requires short { size < SIDE_LIMIT }
+    requires room { SIDE_LIMIT ≤ length starts.old }
+    ensures targets { let grid = B.grid board.now in
+        AreTargets grid (B.table board.now) Right leads first.now second.now result starts.new }
+    ensures long { length starts.new ≡ length starts.old }
+{
+    let (_width, height) = board.size();
+    let fronts_on = rows_of_part(board, Axis::Right, first);
+    let backs_on = rows_of_part(board, Axis::Right, second);
+    let mut left = fronts_on.both(backs_on).both(Columns::below(height));
+    let mut rows = Columns::none();
+    while let Some(row) = left.take_first() {
+        let fronts = columns_across(board, first, row);
+        let backs = columns_across(board, second, row);
+        let columns = paired(leads, size, fronts, backs);
+        rows = keep_row(starts, rows, row, columns);
+    }
+    rows
+}
+
+/// The columns of a row of the board where a part begins that goes down; `rows` are the only ones of the board on which it
+/// may. Below the board it begins nowhere.
+fn columns_begun<B: Scan>(board: &B, part: &[CompiledCell], rows: Columns, row: u32) -> Columns
+    requires part { HasCell part.now }
+    requires rows { BeginsOnlyOn (B.grid board.now) (B.table board.now) Down part.now rows }
+    ensures { AreWhere (begins_down (B.grid board.now) (B.table board.now) part.now row) result }
+{
+    let (_width, height) = board.size();
+    if height <= row {
+        return Columns::none();
+    }
+    if !rows.has(row) {
+        return Columns::none();
+    }
+    columns_down(board, part, row)
+}
+
+/// Finds the targets of the second of two parts that go down, and answers the rows of the board that have one. It is gone
+/// downwards, and all columns are held in which the first part begins high enough.
+fn find_below<B: Scan>(
+    board: &B,
+    first: &[CompiledCell],
+    second: &[CompiledCell],
+    size: u32,
+    starts: &mut [Columns],
+) -> Columns
+    requires first { HasCell first.now }
+    requires second { HasCell second.now }
+    requires size { size ≡ length first.now }
+    requires short { size < SIDE_LIMIT }
+    requires room { SIDE_LIMIT ≤ length starts.old }
+    ensures targets { let grid = B.grid board.now in
+        AreTargets grid (B.table board.now) Down false first.now second.now result starts.new }
+    ensures long { length starts.new ≡ length starts.old }
+{
+    let (_width, height) = board.size();
+    let fronts_on = rows_of_part(board, Axis::Down, first);
+    let backs_on = rows_of_part(board, Axis::Down, second);
+    let mut seen = Columns::none();
+    let mut rows = Columns::none();
+    for row in size..height {
+        seen = seen.either(columns_begun(board, first, fronts_on, row - size));
+        let columns = columns_begun(board, second, backs_on, row).both(seen);
+        rows = keep_row(starts, rows, row, columns);
+    }
+    rows
+}
+
+/// Finds the targets of the first of two parts that go down, and answers the rows of the board that have one. It is gone
+/// upwards, and all columns are held in which the second part begins low enough.
+fn find_above<B: Scan>(
+    board: &B,
+    first: &[CompiledCell],
+    second: &[CompiledCell],
+    size: u32,
+    starts: &mut [Columns],
+) -> Columns
+    requires first { HasCell first.now }
+    requires second { HasCell second.now }
+    requires size { size ≡ length first.now }
+    requires short { size < SIDE_LIMIT }
+    requires room { SIDE_LIMIT ≤ length starts.old }
+    ensures targets { let grid = B.grid board.now in
+        AreTargets grid (B.table board.now) Down true first.now second.now result starts.new }
+    ensures long { length starts.new ≡ length starts.old }
+{
+    let (_width, height) = board.size();
+    let fronts_on = rows_of_part(board, Axis::Down, first);
+    let backs_on = rows_of_part(board, Axis::Down, second);
+    let mut seen = Columns::none();
+    let mut rows = Columns::none();
+    let mut row = height;
+    while 0 < row {
+        row -= 1;
+        seen = seen.either(columns_begun(board, second, backs_on, row + size));
+        let columns = columns_begun(board, first, fronts_on, row).both(seen);
+        rows = keep_row(starts, rows, row, columns);
+    }
+    rows
+}
+
+impl RowRoom {
+    /// Finds where one of a row's two parts begins and has a partner as the board is, the first part if it `leads`, else the
+    /// second: a set of columns for each row of the board. Answers the rows that have one. What the room kept before is
+    /// forgotten. No memory is taken.
+    pub fn find_targets<B: Scan>(&mut self, board: &B, row: &CompiledRow, leads: bool) -> Columns
+        requires { length row.now.parts ≡ 2 }
+        ensures { let parts = row.now.parts in
+            let grid = B.grid board.now in
+            AreTargets grid (B.table board.now) row.now.axis leads (part_of parts 0) (part_of parts 1) result
+            self.new.starts.items }
+    {
+        let (_width, _height) = board.size();
+        let parts = row.parts.as_slice();
+        let first = parts[0].as_slice();
+        let second = parts[1].as_slice();
+        let starts = self.starts.as_mut_slice();
+        if SIDE_LIMIT as usize <= first.len() {
+            return Columns::none();
+        }
+        let size = first.len() as u32;
+        match row.axis {
+            Axis::Down if leads => find_above(board, first, second, size, starts),
+            Axis::Down => find_below(board, first, second, size, starts),
+            Axis::Right => find_across(board, first, second, leads, size, starts),
+        }
+    }
+
+    /// The columns of a row of the board that [`find_targets`](RowRoom::find_targets) found.
+    pub fn targets_on(&self, row: u32) -> Columns
+        requires { row < SIDE_LIMIT }
+        ensures { result ≡ slice_index_or self.now.starts.items row [] }
+    {
+        self.starts.as_slice()[row as usize]
+    }
+}
