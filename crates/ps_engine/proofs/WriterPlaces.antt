@@ -37,6 +37,8 @@ use Rattle.ps_places.proofs.TargetCells.{line_of-on, position_of-on, targets-are
 use Rattle.ps_engine.specs.Writing.{AreWithin, is_written, row_behind, start_column, start_row}
 use Rattle.ps_engine.proofs.WrittenOnce.{StandsAside, applied_along, fits_within, places_from, target_fits, target_of}
 use Rattle.ps_engine.proofs.WritersAside.{cells_aside, written_twice}
+use Rattle.ps_places.proofs.NextWays.{all-flat_map}
+use Rattle.ps_places.proofs.PlacesWritten.{nothing_behind}
 
 -- one row alone -----------------------------------------------------------------------------------------------------------------
 
@@ -64,10 +66,6 @@ fold_alone row r (place ∷ ps) =
     ap (λ (s : Rewritten). fold (applied (row ∷ [])) s (map alone ps)) (applied_alone row r place)
     ∙ fold_alone row (applied_along (cells_in row) r place) ps
 
-pub no_more : {X : Type 0} (xs : List X) → xs ++ [] ≡ xs
-no_more [] = refl
-no_more (x ∷ xs) = ap (λ (rest : List _). x ∷ rest) (no_more xs)
-
 -- each place fits
 kept_all : {X : Type 0} (test : X → Bool) (xs : List X) → All (λ x. test x ≡ true) (filter test xs)
 kept_all test [] = All-nil (λ x. test x ≡ true)
@@ -75,10 +73,6 @@ kept_all test (x ∷ xs) = by (test x) refl (kept_all test xs) where
   by : (b : Bool) → test x ≡ b → All (λ x. test x ≡ true) (filter test xs) → All (λ x. test x ≡ true) (cond b (x ∷ filter test xs) (filter test xs))
   by true e rest = All-cons (λ x. test x ≡ true) x (filter test xs) e rest
   by false e rest = rest
-
-all_of_each : {X Y : Type 0} (P : Y → Type 0) (f : X → List Y) (xs : List X) → ((x : X) → All P (f x)) → All P (flat_map f xs)
-all_of_each P f [] each = All-nil P
-all_of_each P f (x ∷ xs) each = All-append P (f x) (flat_map f xs) (each x) (all_of_each P f xs each)
 
 -- a part and its cell with a number
 parted : (part : List CompiledCell) (number : ℕ) (cell : CompiledCell) → slice_get part number ≡ Some cell →
@@ -319,7 +313,7 @@ module _ (g : Grid) (table : Option (List ℕ)) (axis : Axis) (first second : Li
 
   all_kept : All (λ place. fits_along g (cells_in meant) place ≡ true) all
   all_kept =
-      all_of_each (λ place. fits_along g (cells_in meant) place ≡ true)
+      all-flat_map (λ place. fits_along g (cells_in meant) place ≡ true)
       (λ end. filter (fits_along g (cells_in meant)) (stretches g (direction_of axis) (map length meant) end)) (search_order g (direction_of axis))
       (λ end. kept_all (fits_along g (cells_in meant)) (stretches g (direction_of axis) (map length meant) end))
 
@@ -356,7 +350,7 @@ module _ (g : Grid) (table : Option (List ℕ)) (axis : Axis) (first second : Li
   pub places_written : fold (applied (meant ∷ [])) (told g false) (combinations (all ∷ []))
       ≡ rewritten_where g m.rewritten (is_written axis g.height steps rows starts)
   places_written =
-      ap (fold (applied (meant ∷ [])) (told g false)) (no_more (map alone all))
+      ap (fold (applied (meant ∷ [])) (told g false)) (nothing_behind (map alone all))
       ∙ fold_alone meant (told g false) all
       ∙ ap (λ (ms : List CellMeaning). fold (applied_along ms) (told g false) all) whole_is
       ∙ ap (λ (r : Rewritten). fold (applied_along (before ++ m ∷ behind)) r all) (sym (where-none g m.rewritten (λ n. false) (λ n low. refl)))
@@ -393,7 +387,7 @@ module _ (g : Grid) (table : Option (List ℕ)) (axis : Axis) (first second : Li
       absurd (cc)
 
   pub nothing_found : set_columns rows ≡ [] → combinations (all ∷ []) ≡ []
-  nothing_found none = no_more (map alone all) ∙ ap (map alone) (no_place all refl none)
+  nothing_found none = nothing_behind (map alone all) ∙ ap (map alone) (no_place all refl none)
 
   pub something_found : 0 < length (set_columns rows) → combinations (all ∷ []) ≢ []
   something_found found none =

@@ -19,6 +19,7 @@ use Rattle.ps_program.specs.declared.rows.Axis.{Axis}
 use Rattle.ps_program.specs.declared.rows.Axis.TheVariants.{Down, Right}
 use Rattle.ps_places.specs.PartTargets.{is_kept, position_of}
 use Rattle.ps_engine.specs.Writing.{is_behind, is_written, start_column, start_row}
+use Rattle.ps_places.proofs.RowsTogether.{true_le}
 
 -- the rows that are left are some of them
 pub record AreOf (rows left : List Bool) : Type 0 where
@@ -38,9 +39,6 @@ fewer-of rows set left k is all =
 -- the cells that are written but for those of the rows that are left
 abbrev pub passed_by : Axis → ℕ → ℕ → List Bool → List (List Bool) → List Bool → ℕ → Bool
 passed_by axis height steps rows starts left n = not (column_at left (start_row axis height steps n)) && is_written axis height steps rows starts n
-
-le_told : (a b : ℕ) → nat_le a b ≡ true → a ≤ b
-le_told a b t = grind (arith, nat_tests, t)
 
 -- the row that a cell is written from
 behind_start : (axis : Axis) (height steps row : ℕ) (columns : List Bool) (n : ℕ) → is_behind axis height steps row columns n ≡ true →
@@ -63,7 +61,7 @@ down_here : (height steps row n : ℕ) (rows columns : List Bool) (starts : List
     n % height - steps ≡ row → column_at rows row ≡ true → columns ≡ slice_index_or starts row [] →
     is_behind Down height steps row columns n ≡ (reach && is_kept rows starts (n % height - steps) (n / height))
 down_here height steps row n rows columns starts true t here kept is =
-    let far : steps ≤ n % height = le_told steps (n % height) t in
+    let far : steps ≤ n % height = true_le steps (n % height) t in
     let same : n % height ≡ row + steps = omega (arith, far, here) in
     ap₂ (λ (b : Bool) (cs : List Bool). b && column_at cs (n / height)) (eq-eqb (n % height) (row + steps) same) is
     ∙ sym (ap (λ (r : ℕ). is_kept rows starts r (n / height)) here ∙ ap (λ (b : Bool). b && column_at (slice_index_or starts row []) (n / height)) kept)

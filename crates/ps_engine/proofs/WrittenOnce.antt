@@ -14,9 +14,10 @@ use Rattle.ps_model.specs.board.Places.{cells_in, fits_along, fits_there}
 use Rattle.ps_model.specs.board.Attempts.{Rewritten, applied, rewritten_along, rewritten_cell, same_cell, with_cell}
 use Rattle.ps_model.specs.meaning.RuleMeanings.{CellMeaning}
 use Rattle.ps_match.specs.Together.{cell_where, rewritten_where}
-use Rattle.ps_places.proofs.WrittenToItself.{cell_itself}
+use Rattle.ps_places.proofs.WrittenToItself.{cell_itself, with_change}
 use Rattle.ps_match.proofs.Chosen.{cell_at-where, length-where, or_nothing, where-agree, where-one}
 use Rattle.ps_match.proofs.RowWritten.{told, told-more}
+use Rattle.ps_places.proofs.CellsInTurn.{both_true}
 
 -- a cell of a rule leaves what it fits as it is, and what fits it fits it behind a writing
 pub record StandsAside (becomes : List Slot → List Slot) (a : CellMeaning) : Type 0 where
@@ -34,10 +35,6 @@ applied_along meanings r place =
 
 -- tests in a row -------------------------------------------------------------------------------------------------------------
 
-both_of : (test rest : Bool) → (elim test [ true ↦ rest | false ↦ false ]) ≡ true → (test ≡ true) × (rest ≡ true)
-both_of true rest e = (refl, e)
-both_of false rest e = absurd (cc)
-
 if_both : (test rest : Bool) → test ≡ true → rest ≡ true → (elim test [ true ↦ rest | false ↦ false ]) ≡ true
 if_both test rest e d = rw (e, d) refl
 
@@ -50,11 +47,6 @@ fits_within h a n fits = by (slice_get h.cells n) refl fits where
   by (Some cell) e good = slice_get_within h.cells n cell e
 
 -- a cell put where it stands
-abbrev with_change : Rewritten → List (List Slot) → Bool → Rewritten
-with_change r cells changed = record {
-  grid = let g : Grid = r.grid in record g { cells = cells };
-  changed = r.changed || changed;
-}
 
 put_again : (r : Rewritten) (n : ℕ) (cell : List Slot) → slice_get (r.grid).cells n ≡ Some cell → with_cell r n cell cell ≡ r
 put_again r n cell is =
@@ -101,7 +93,7 @@ rest_fits g m [] aside chosen [] e = refl
 rest_fits g m [] aside chosen (n ∷ place) e = absurd (cc)
 rest_fits g m (a ∷ others) aside chosen [] e = absurd (cc)
 rest_fits g m (a ∷ others) aside chosen (n ∷ place) e =
-    let parts = both_of (fits_there a (slice_get g.cells n)) (fits_along g others place) e in
+    let parts = both_true (fits_there a (slice_get g.cells n)) (fits_along g others place) e in
     if_both _ _ (still_fits g m a (All-head (StandsAside m.rewritten) a others aside) chosen n (chosen n) refl parts.0)
     (rest_fits g m others (All-tail (StandsAside m.rewritten) a others aside) chosen place parts.1)
 
@@ -110,7 +102,7 @@ rest_still : (becomes : List Slot → List Slot) (others : List CellMeaning) →
 rest_still becomes [] aside r place e = refl
 rest_still becomes (a ∷ others) aside r [] e = refl
 rest_still becomes (a ∷ others) aside r (n ∷ place) e =
-    let parts = both_of (fits_there a (slice_get (r.grid).cells n)) (fits_along r.grid others place) e in
+    let parts = both_true (fits_there a (slice_get (r.grid).cells n)) (fits_along r.grid others place) e in
     ap (λ (x : Rewritten). rewritten_along x others place)
     (idle_there becomes r a (All-head (StandsAside becomes) a others aside) n (slice_get (r.grid).cells n) refl parts.0)
     ∙ rest_still becomes others (All-tail (StandsAside becomes) a others aside) r place parts.1
@@ -119,18 +111,18 @@ module _ (m : CellMeaning) (after : List CellMeaning) where
   pub target_fits : (h : Grid) (before : List CellMeaning) (place : List ℕ) → fits_along h (before ++ m ∷ after) place ≡ true →
       fits_there m (slice_get h.cells (target_of (length before) place)) ≡ true
   target_fits h [] [] e = absurd (cc)
-  target_fits h [] (n ∷ place) e = (both_of (fits_there m (slice_get h.cells n)) (fits_along h after place) e).0
+  target_fits h [] (n ∷ place) e = (both_true (fits_there m (slice_get h.cells n)) (fits_along h after place) e).0
   target_fits h (b ∷ before) [] e = absurd (cc)
   target_fits h (b ∷ before) (n ∷ place) e =
-      target_fits h before place (both_of (fits_there b (slice_get h.cells n)) (fits_along h (before ++ m ∷ after) place) e).1
+      target_fits h before place (both_true (fits_there b (slice_get h.cells n)) (fits_along h (before ++ m ∷ after) place) e).1
 
   after_fits : (h : Grid) (before : List CellMeaning) (place : List ℕ) → fits_along h (before ++ m ∷ after) place ≡ true →
       fits_along h after (drop (suc (length before)) place) ≡ true
   after_fits h [] [] e = absurd (cc)
-  after_fits h [] (n ∷ place) e = (both_of (fits_there m (slice_get h.cells n)) (fits_along h after place) e).1
+  after_fits h [] (n ∷ place) e = (both_true (fits_there m (slice_get h.cells n)) (fits_along h after place) e).1
   after_fits h (b ∷ before) [] e = absurd (cc)
   after_fits h (b ∷ before) (n ∷ place) e =
-      after_fits h before place (both_of (fits_there b (slice_get h.cells n)) (fits_along h (before ++ m ∷ after) place) e).1
+      after_fits h before place (both_true (fits_there b (slice_get h.cells n)) (fits_along h (before ++ m ∷ after) place) e).1
 
   fits_again : (g : Grid) → All (StandsAside m.rewritten) after → (before : List CellMeaning) → All (StandsAside m.rewritten) before →
       (chosen : ℕ → Bool) (place : List ℕ) → fits_along g (before ++ m ∷ after) place ≡ true →
@@ -138,10 +130,10 @@ module _ (m : CellMeaning) (after : List CellMeaning) where
       fits_along (rewritten_where g m.rewritten chosen).grid (before ++ m ∷ after) place ≡ true
   fits_again g behind [] aside chosen [] e here = absurd (cc)
   fits_again g behind [] aside chosen (n ∷ place) e here =
-      if_both _ _ here (rest_fits g m after behind chosen place (both_of (fits_there m (slice_get g.cells n)) (fits_along g after place) e).1)
+      if_both _ _ here (rest_fits g m after behind chosen place (both_true (fits_there m (slice_get g.cells n)) (fits_along g after place) e).1)
   fits_again g behind (b ∷ before) aside chosen [] e here = absurd (cc)
   fits_again g behind (b ∷ before) aside chosen (n ∷ place) e here =
-      let parts = both_of (fits_there b (slice_get g.cells n)) (fits_along g (before ++ m ∷ after) place) e in
+      let parts = both_true (fits_there b (slice_get g.cells n)) (fits_along g (before ++ m ∷ after) place) e in
       if_both _ _ (still_fits g m b (All-head (StandsAside m.rewritten) b before aside) chosen n (chosen n) refl parts.0)
       (fits_again g behind before (All-tail (StandsAside m.rewritten) b before aside) chosen place parts.1 here)
 
@@ -154,7 +146,7 @@ module _ (m : CellMeaning) (after : List CellMeaning) where
   written_through r [] aside (n ∷ place) e = refl
   written_through r (b ∷ before) aside [] e = absurd (cc)
   written_through r (b ∷ before) aside (n ∷ place) e =
-      let parts = both_of (fits_there b (slice_get (r.grid).cells n)) (fits_along r.grid (before ++ m ∷ after) place) e in
+      let parts = both_true (fits_there b (slice_get (r.grid).cells n)) (fits_along r.grid (before ++ m ∷ after) place) e in
       ap (λ (x : Rewritten). rewritten_along x (before ++ m ∷ after) place)
       (idle_there m.rewritten r b (All-head (StandsAside m.rewritten) b before aside) n (slice_get (r.grid).cells n) refl parts.0)
       ∙ written_through r before (All-tail (StandsAside m.rewritten) b before aside) place parts.1

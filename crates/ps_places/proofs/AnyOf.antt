@@ -8,6 +8,7 @@ use Rattle.ps_model.specs.declared.limits.TheConstants.{SIDE_LIMIT}
 use Rattle.ps_board.specs.ColumnSets.{columns_where, set_columns}
 use Rattle.ps_board.proofs.ColumnLaws.{set_columns-where}
 use Rattle.ps_places.specs.Ways.{positions_from}
+use Rattle.ps_match.proofs.Chosen.{or_across}
 
 pub any-alike : {X : Type 0} (f h : X → Bool) (xs : List X) → ((x : X) → f x ≡ h x) → list_any f xs ≡ list_any h xs
 any-alike f h [] same = refl
@@ -44,13 +45,6 @@ any-both b f (x ∷ xs) = ap (λ (c : Bool). (b && f x) || c) (any-both b f xs) 
 none_any : {X : Type 0} (xs : List X) → list_any (λ x. false) xs ≡ false
 none_any [] = refl
 none_any (x ∷ xs) = none_any xs
-
-or_across : (a b c d : Bool) → ((a || b) || (c || d)) ≡ ((a || c) || (b || d))
-or_across true b c d = refl
-or_across false true true d = refl
-or_across false true false d = refl
-or_across false false true d = refl
-or_across false false false d = refl
 
 pub any-either : {X : Type 0} (f h : X → Bool) (xs : List X) → list_any (λ x. f x || h x) xs ≡ (list_any f xs || list_any h xs)
 any-either f h [] = refl

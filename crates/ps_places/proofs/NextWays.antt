@@ -138,7 +138,7 @@ next_way-unfit kind here others set sets size sizes p way made out =
 
 -- each way has a position for each part -----------------------------------------------------------------------------
 
-all-flat_map : {X Y : Type 0} (P : Y → Type 0) (f : X → List Y) (xs : List X) → ((x : X) → All P (f x)) →
+pub all-flat_map : {X Y : Type 0} (P : Y → Type 0) (f : X → List Y) (xs : List X) → ((x : X) → All P (f x)) →
     All P (flat_map f xs)
 all-flat_map P f [] all = All-nil P
 all-flat_map P f (x ∷ xs) all = All-append P (f x) (flat_map f xs) (all x) (all-flat_map P f xs all)

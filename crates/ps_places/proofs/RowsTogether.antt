@@ -33,20 +33,17 @@ use Rattle.ps_places.proofs.InGroups.{during-end, during-start, idle_step, next_
 use Rattle.ps_places.proofs.StartNumbers.{all_applied, begins_good, begins_start, changes_in, changes_of, places_alone}
 use Rattle.ps_places.proofs.StartNumbers.{room_by, starts_number}
 use Rattle.ps_places.proofs.WrittenAs.{as_then, height-as}
+use Rattle.ps_places.proofs.AnyOf.{same_tests}
 
 -- two tests that hold together
-both_ways : (a b : Bool) → (a ≡ true → b ≡ true) → (b ≡ true → a ≡ true) → a ≡ b
-both_ways true b there back = sym (there refl)
-both_ways false true there back = back refl
-both_ways false false there back = refl
 
 true_and : (a b : Bool) → a ≡ true → b ≡ true → (a && b) ≡ true
 true_and a b e f = rw (e, f) refl
 
-le_true : (a b : ℕ) → a ≤ b → nat_le a b ≡ true
+pub le_true : (a b : ℕ) → a ≤ b → nat_le a b ≡ true
 le_true a b low = grind (arith, nat_tests, low)
 
-true_le : (a b : ℕ) → nat_le a b ≡ true → a ≤ b
+pub true_le : (a b : ℕ) → nat_le a b ≡ true → a ≤ b
 true_le a b on = grind (arith, nat_tests, on)
 
 module _ (g : Grid) (table : Option (List ℕ)) (axis : Axis) (part : List CompiledCell) (rows : List Bool)
@@ -96,7 +93,7 @@ module _ (g : Grid) (table : Option (List ℕ)) (axis : Axis) (part : List Compi
       i < length part →
       is_on_row g.height (row + i) (columns_on starts row) n
       ≡ (covers (starts_number g rows starts) 1 i n && on_this row (n - i * 1))
-  here_down down row i n under on low few = both_ways _ _
+  here_down down row i n under on low few = same_tests _ _
       (λ here.
       let both = and_parts (nat_eq (n % g.height) (row + i)) (column_at (columns_on starts row) (n / g.height)) here in
       let x : ℕ = n / g.height in
@@ -141,7 +138,7 @@ module _ (g : Grid) (table : Option (List ℕ)) (axis : Axis) (part : List Compi
       ≡ (nat_le i x && column_at (columns_on starts row) (x - i)) =
       column_at-where (λ y. nat_le i y && column_at (columns_on starts row) (y - i)) x (omega (arith, across, wide)) in
       ap (λ (b : Bool). nat_eq (n % g.height) row && b) moved
-      ∙ both_ways _ _
+      ∙ same_tests _ _
       (λ here.
       let both = and_parts (nat_eq (n % g.height) row) (nat_le i x && column_at (columns_on starts row) (x - i)) here in
       let more = and_parts (nat_le i x) (column_at (columns_on starts row) (x - i)) both.1 in

@@ -19,6 +19,7 @@ use Rattle.ps_places.specs.Starts.{AreWhere, begins_down}
 use Rattle.ps_places.proofs.AnyOf.{IsFound, any-found, any-here, same_tests}
 use Rattle.ps_places.proofs.FoundDown.{below_edge, room_by}
 use Rattle.ps_places.proofs.LineSets.{none_has, with_below, with_here, with_other}
+use Rattle.ps_places.proofs.RowsTogether.{le_true, true_le}
 
 -- all columns there may be
 abbrev all : List ℕ
@@ -176,33 +177,27 @@ paired-leading size fronts backs reach behind pairs is b e =
           (ap (λ (cs : List Bool). column_at cs x) b ∙ column_at-where (λ y. column_at reach (y + size)) x low ∙ is.at (x + size) ∙ reached backs (x + size));
     }
 
-le_told : (a b : ℕ) → nat_le a b ≡ true → a ≤ b
-le_told a b t = grind (arith, nat_tests, t)
-
-le_tells : (a b : ℕ) → a ≤ b → nat_le a b ≡ true
-le_tells a b low = grind (arith, nat_tests, low)
-
 passed_on : (set : List Bool) (size x : ℕ) →
     (nat_le size x && is_passed set (x - size)) ≡ list_any (λ o. nat_le (o + size) x && column_at set o) all
 passed_on set size x =
     same_tests _ _
     (λ e.
     let both = and_parts (nat_le size x) (is_passed set (x - size)) e in
-    let far : size ≤ x = le_told size x both.0 in
+    let far : size ≤ x = true_le size x both.0 in
     let found = any-found (λ o. nat_le o (x - size) && column_at set o) 0 SIDE_LIMIT both.1 in
     let one = and_parts (nat_le found.number (x - size)) (column_at set found.number) found.is in
-    let near : found.number ≤ x - size = le_told found.number (x - size) one.0 in
+    let near : found.number ≤ x - size = true_le found.number (x - size) one.0 in
     let reach : found.number + size ≤ x = omega (arith, far, near) in
-    let yes : nat_le (found.number + size) x ≡ true = le_tells (found.number + size) x reach in
+    let yes : nat_le (found.number + size) x ≡ true = le_true (found.number + size) x reach in
     any-here (λ o. nat_le (o + size) x && column_at set o) 0 SIDE_LIMIT found.number found.near found.far (ap₂ (λ (s t : Bool). s && t) yes one.1))
     (λ e.
     let found = any-found (λ o. nat_le (o + size) x && column_at set o) 0 SIDE_LIMIT e in
     let one = and_parts (nat_le (found.number + size) x) (column_at set found.number) found.is in
-    let reach : found.number + size ≤ x = le_told (found.number + size) x one.0 in
+    let reach : found.number + size ≤ x = true_le (found.number + size) x one.0 in
     let far : size ≤ x = omega (arith, reach) in
     let near : found.number ≤ x - size = omega (arith, reach) in
-    let first : nat_le size x ≡ true = le_tells size x far in
-    let second : nat_le found.number (x - size) ≡ true = le_tells found.number (x - size) near in
+    let first : nat_le size x ≡ true = le_true size x far in
+    let second : nat_le found.number (x - size) ≡ true = le_true found.number (x - size) near in
     ap₂ (λ (s t : Bool). s && t) first
     (any-here (λ o. nat_le o (x - size) && column_at set o) 0 SIDE_LIMIT found.number found.near found.far (ap₂ (λ (s t : Bool). s && t) second one.1)))
 

@@ -65,7 +65,7 @@ written_to_itself table cell idle slots fits =
     (leaves_in_room table cell (not-false (leaves (cell_shown cell)) (sym cell.tells ∙ idle))) fits
 
 -- a cell that stays, rewritten
-abbrev with_change : Rewritten → List (List Slot) → Bool → Rewritten
+abbrev pub with_change : Rewritten → List (List Slot) → Bool → Rewritten
 with_change r cells changed = record {
   grid = let g : Grid = r.grid in record g { cells = cells };
   changed = r.changed || changed;
