@@ -1,20 +1,15 @@
 -- The cells of a rule beside its writer stand aside on each board: they leave what they fit as it is, and fit what they fitted behind
 -- the writer's write. A write without what has no room settles as well as the whole.
-use Rattle.std.proofs.Common.{◌≡◌, ◌∙◌, ℕ, Bool, true, false, ◌&&◌, ◌||◌, not, Option, Some, None, List, [], ◌∷◌, map, filter, refl, sym, ap}
+use Rattle.std.proofs.Common.{◌≡◌, ℕ, true, not, Option, Some, None, List}
 use Rattle.std.specs.Prelude.{All}
 use Rattle.std.specs.List.{list_all}
 use Rattle.std.proofs.lemmas.Bool.{and_parts, not-true}
-use Rattle.std.proofs.lemmas.List.Elements.{All-nil, All-cons}
 use Rattle.ps_model.specs.declared.pieces.Slot.{Slot}
-use Rattle.ps_model.specs.declared.compiled.LayeredObject.{LayeredObject}
-use Rattle.ps_model.specs.declared.compiled.LayerWrite.{LayerWrite}
-use Rattle.ps_model.specs.declared.compiled.MotionTest.{MotionTest}
-use Rattle.ps_model.specs.meaning.Compiled.{CellMask, CellWrite, cell_written, is_gone}
-use Rattle.ps_model.specs.meaning.RuleMeanings.{CellMeaning}
+use Rattle.ps_model.specs.meaning.Compiled.{CellMask, CellWrite}
 use Rattle.ps_board.specs.Runnable.{has_room_for}
 use Rattle.ps_program.specs.declared.cells.CompiledCell.{CompiledCell}
 use Rattle.ps_program.specs.CellsShown.{mask_shown, write_shown}
-use Rattle.ps_program.specs.Keeping.{comes_not, frees, is_rest, keeps_asked, keeps_one, motion_stays, puts_not, stay_among, stays, stays_among, write_keeps}
+use Rattle.ps_program.specs.Keeping.{write_keeps}
 use Rattle.ps_program.specs.Writers.{layer_lasts, settles, stands_aside}
 use Rattle.ps_program.proofs.KeepingCells.{keeps-what-fits}
 use Rattle.ps_program.proofs.SettlingCells.{settles-at-once}
