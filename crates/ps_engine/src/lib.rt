@@ -18,3 +18,6 @@ pub use rooms::rooms_for;
 
 #[cfg(test)]
 mod tests;
+
+#[cfg(test)]
+mod writer_tests;
