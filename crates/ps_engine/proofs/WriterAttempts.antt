@@ -1,11 +1,11 @@
 -- What an attempt of a rule with a writer comes to.
-use Rattle.std.proofs.Common.{◌≡◌, ◌≢◌, ◌∙◌, ℕ, zero, suc, ◌+◌, ◌<◌, Bool, true, false, Option, Some, None, List, [], ◌∷◌, length, map, fold, refl, sym, subst, ap, ap₂, arith}
+use Rattle.std.proofs.Common.{◌≡◌, ◌≢◌, ◌∙◌, ℕ, ◌+◌, ◌<◌, Bool, true, false, Option, Some, List, [], ◌∷◌, length, map, fold, sym, subst, ap, ap₂, arith}
 use Rattle.std.specs.Prelude.{All, slice_get, slice_index_or, take, drop}
 use Rattle.std.proofs.lemmas.List.Elements.{All-get_or, All-head}
 use Rattle.std.proofs.lemmas.Option.{slice_get_within}
 use Rattle.ps_model.specs.board.Grid.{Grid, IsGrid}
 use Rattle.ps_model.specs.board.Places.{places}
-use Rattle.ps_model.specs.board.Attempts.{Rewritten, applied, combinations, combinations_on}
+use Rattle.ps_model.specs.board.Attempts.{applied, combinations, combinations_on}
 use Rattle.ps_model.specs.meaning.RuleMeanings.{CellMeaning}
 use Rattle.ps_board.specs.ColumnSets.{set_columns}
 use Rattle.ps_match.specs.Together.{rewritten_where}

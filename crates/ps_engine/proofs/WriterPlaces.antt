@@ -1,5 +1,5 @@
 -- The places of a row of two parts that has a writer come to the cells written that are found row by row of the board.
-use Rattle.std.proofs.Common.{◌≡◌, ◌≢◌, ◌∙◌, ℕ, zero, suc, ◌+◌, ◌-◌, ◌*◌, ◌/◌, ◌%◌, ◌<◌, ◌≤◌, ◌||◌, ◌&&◌, cond, Bool, true, false, Option, Some, None, List, [], ◌∷◌, ◌++◌, length, map, filter, fold, take, drop, refl, sym, subst, ap, ap₂, arith}
+use Rattle.std.proofs.Common.{◌≡◌, ◌≢◌, ◌∙◌, ℕ, suc, ◌+◌, ◌-◌, ◌*◌, ◌/◌, ◌%◌, ◌<◌, ◌≤◌, ◌||◌, ◌&&◌, cond, Bool, true, false, Option, Some, List, [], ◌∷◌, ◌++◌, length, map, filter, fold, take, drop, refl, sym, subst, ap, ap₂, arith}
 use Rattle.std.specs.Prelude.{All, nat_eq, nat_le, nat_lt, slice_get, slice_index_or, if◌then◌else◌}
 use Rattle.std.specs.List.{flat_map, list_all, list_any}
 use Rattle.std.proofs.Math.Seq.{drop-cons}
@@ -10,7 +10,6 @@ use Rattle.std.proofs.lemmas.List.Elements.{All-append, All-cons, All-head, All-
 use Rattle.std.proofs.lemmas.Nat.{div_below, mod_below}
 use Rattle.std.proofs.lemmas.Option.{get_or_from_slice_get, slice_get_within}
 use Rattle.ps_model.specs.declared.limits.TheConstants.{SIDE_LIMIT}
-use Rattle.ps_model.specs.declared.pieces.Slot.{Slot}
 use Rattle.ps_model.specs.board.Grid.{Grid, IsGrid}
 use Rattle.ps_model.specs.board.Places.{cells_in, fits_along, places, search_order, stretches}
 use Rattle.ps_model.specs.board.Attempts.{Rewritten, applied, combinations}
@@ -30,11 +29,11 @@ use Rattle.ps_program.specs.declared.writers.Writer.{Writer}
 use Rattle.ps_program.specs.declared.rows.Axis.{Axis}
 use Rattle.ps_program.specs.declared.rows.Axis.TheVariants.{Down, Right}
 use Rattle.ps_places.specs.FoundStarts.{begins_on, part_of}
-use Rattle.ps_places.specs.Lines.{cell_meaning, cell_on, line_count, line_long, part_meaning}
+use Rattle.ps_places.specs.Lines.{cell_meaning, line_long, part_meaning}
 use Rattle.ps_places.specs.PartTargets.{AreTargets, has_partner, is_kept, is_reached, is_target, line_of, number_in_row, other_part, own_part, position_of, target_at}
 use Rattle.ps_places.specs.RowPlaces.{parts_meaning}
 use Rattle.ps_places.proofs.TargetCells.{line_of-on, position_of-on, targets-are}
-use Rattle.ps_engine.specs.Writing.{AreWithin, is_written, row_behind, start_column, start_row}
+use Rattle.ps_engine.specs.Writing.{AreWithin, is_written, start_column, start_row}
 use Rattle.ps_engine.proofs.WrittenOnce.{StandsAside, applied_along, fits_within, places_from, target_fits, target_of}
 use Rattle.ps_engine.proofs.WritersAside.{cells_aside, written_twice}
 

@@ -1,16 +1,14 @@
 -- The cells of a rule beside its writer stand aside on each board: they leave what they fit as it is, and fit what they fitted behind
 -- the writer's write. A write without what has no room keeps no less than the whole, and settles as well.
-use Rattle.std.proofs.Common.{◌≡◌, ◌∙◌, ℕ, Bool, true, false, ◌&&◌, ◌||◌, not, Option, Some, None, List, [], ◌∷◌, map, filter, refl, sym, ap}
+use Rattle.std.proofs.Common.{◌≡◌, ℕ, Bool, true, ◌||◌, not, Option, Some, None, List, [], ◌∷◌, filter}
 use Rattle.std.specs.Prelude.{All}
 use Rattle.std.specs.List.{list_all}
 use Rattle.std.proofs.lemmas.Bool.{and_parts, not-true}
-use Rattle.std.proofs.lemmas.List.Elements.{All-nil, All-cons}
 use Rattle.ps_model.specs.declared.pieces.Slot.{Slot}
 use Rattle.ps_model.specs.declared.compiled.LayeredObject.{LayeredObject}
 use Rattle.ps_model.specs.declared.compiled.LayerWrite.{LayerWrite}
 use Rattle.ps_model.specs.declared.compiled.MotionTest.{MotionTest}
-use Rattle.ps_model.specs.meaning.Compiled.{CellMask, CellWrite, cell_written, is_gone}
-use Rattle.ps_model.specs.meaning.RuleMeanings.{CellMeaning}
+use Rattle.ps_model.specs.meaning.Compiled.{CellMask, CellWrite, is_gone}
 use Rattle.ps_board.specs.Runnable.{has_room_for}
 use Rattle.ps_program.specs.declared.cells.CompiledCell.{CompiledCell}
 use Rattle.ps_program.specs.CellsShown.{mask_shown, write_shown}

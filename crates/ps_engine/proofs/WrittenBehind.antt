@@ -2,7 +2,7 @@
 use Rattle.std.proofs.Common.{◌≡◌, ◌≢◌, ◌∙◌, ℕ, ◌+◌, ◌-◌, ◌*◌, ◌/◌, ◌%◌, ◌<◌, ◌≤◌, ◌||◌, ◌&&◌, inl, inr, Bool, true, false, not, List, [], ◌∷◌, length, refl, sym, ap, ap₂, arith}
 use Rattle.std.specs.Prelude.{nat_eq, nat_le, slice_index_or}
 use Rattle.std.proofs.Math.Bool.{and-false}
-use Rattle.std.proofs.lemmas.Bool.{and_parts, cases_Bool, cases_eq, eqb-true, eq-eqb, ne_eqb}
+use Rattle.std.proofs.lemmas.Bool.{and_parts, cases_eq, eqb-true, eq-eqb, ne_eqb}
 use Rattle.std.proofs.lemmas.Bool.Decides.{nat_tests}
 use Rattle.std.proofs.lemmas.Nat.{div_below, mod_below}
 use Rattle.ps_model.specs.declared.limits.TheConstants.{SIDE_LIMIT}
@@ -12,7 +12,7 @@ use Rattle.ps_model.specs.board.Attempts.{Rewritten}
 use Rattle.ps_board.specs.ColumnSets.{column_at, columns_ahead, set_columns}
 use Rattle.ps_board.proofs.ColumnLaws.{column_at-where, first_in, none_in}
 use Rattle.ps_board.proofs.Taken.{taken_gone, taken_out}
-use Rattle.ps_match.specs.Together.{is_on_row, rewritten_where}
+use Rattle.ps_match.specs.Together.{rewritten_where}
 use Rattle.ps_match.proofs.Chosen.{or_nothing, where-agree, where-none}
 use Rattle.ps_match.proofs.RowWritten.{told, told-more}
 use Rattle.ps_program.specs.declared.rows.Axis.{Axis}

@@ -1,17 +1,17 @@
 -- A row of a rule of which one cell alone changes anything, and whose write keeps what the others fit: the places where it fits at the
 -- start come to that cell rewritten at each of them, once.
-use Rattle.std.proofs.Common.{◌≡◌, ◌∙◌, ℕ, suc, ◌<◌, ◌||◌, inl, inr, Bool, true, false, not, Option, Some, None, List, [], ◌∷◌, ◌++◌, length, map, fold, drop, refl, sym, ap, ap₂, arith}
+use Rattle.std.proofs.Common.{◌≡◌, ◌∙◌, ℕ, suc, ◌<◌, ◌||◌, inl, inr, Bool, true, false, not, Option, Some, None, List, [], ◌∷◌, ◌++◌, length, fold, drop, refl, sym, ap, ap₂}
 use Rattle.std.specs.Prelude.{All, nat_eq, slice_get, slice_index_or, slice_set}
 use Rattle.std.specs.List.{list_any}
 use Rattle.std.proofs.Math.Bool.{or-false}
-use Rattle.std.proofs.lemmas.Bool.{cases_Bool, cases_eq, eqb-true, eq-eqb, ne_eqb}
+use Rattle.std.proofs.lemmas.Bool.{cases_eq, eqb-true, ne_eqb}
 use Rattle.std.proofs.lemmas.List.{set-get_or}
 use Rattle.std.proofs.lemmas.List.Elements.{All-head, All-tail}
 use Rattle.std.proofs.lemmas.Option.{get_or_from_slice_get, slice_get-get_or, slice_get_within}
 use Rattle.ps_model.specs.declared.pieces.Slot.{Slot}
 use Rattle.ps_model.specs.board.Grid.{Grid, cell_at}
-use Rattle.ps_model.specs.board.Places.{cells_in, fits_along, fits_there}
-use Rattle.ps_model.specs.board.Attempts.{Rewritten, applied, rewritten_along, rewritten_cell, same_cell, with_cell}
+use Rattle.ps_model.specs.board.Places.{fits_along, fits_there}
+use Rattle.ps_model.specs.board.Attempts.{Rewritten, rewritten_along, rewritten_cell, with_cell}
 use Rattle.ps_model.specs.meaning.RuleMeanings.{CellMeaning}
 use Rattle.ps_match.specs.Together.{cell_where, rewritten_where}
 use Rattle.ps_places.proofs.WrittenToItself.{cell_itself}

@@ -1,5 +1,5 @@
 -- Rules of one row of two parts of which one cell alone is written: the cells of the board that are, as they are found row by row.
-use Rattle.std.specs.Prelude.{◌≡◌, ℕ, ◌+◌, ◌-◌, ◌/◌, ◌%◌, ◌<◌, nat_le, Bool, true, false, ◌&&◌, List}
+use Rattle.std.specs.Prelude.{◌≡◌, ℕ, ◌+◌, ◌-◌, ◌/◌, ◌%◌, ◌<◌, nat_le, Bool, true, ◌&&◌, List}
 use Rattle.ps_board.specs.ColumnSets.{column_at, columns_ahead}
 use Rattle.ps_match.specs.Together.{is_on_row}
 use Rattle.ps_program.specs.declared.rows.Axis.{Axis}

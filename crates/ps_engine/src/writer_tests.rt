@@ -1,5 +1,5 @@
-//! Rules of one row of two parts of which one cell alone is written, on small boards of two layers. E is an emitter, M a
-//! mirror, m a mirror with a beam, and a dot an empty cell.
+//! Rules of one row of two parts of which one cell alone is written, on small boards of two layers. E is an emitter,
+//! M a mirror, m a mirror with a beam, and a dot an empty cell.
 
 ghost use Rattle.std.specs.Prelude.{◌≡◌, All, IfOk, IfSome};
 ghost use Rattle.ps_program.specs.Axes.{LiesAlong};
@@ -10,16 +10,22 @@ use crate::rooms::rooms_of;
 use crate::{ListBoard, Queue};
 use ps_board::Board;
 use ps_model::{LayerId, LayerWrite, LayeredObject, Memory, Motion, ObjectId, ObjectWrite};
-use ps_program::{Axis, CellMask, CellWrite, Commands, CompiledCell, CompiledRow, CompiledRule, PART_LIMIT};
+use ps_program::{
+    Axis, CellMask, CellWrite, Commands, CompiledCell, CompiledRow, CompiledRule, PART_LIMIT,
+};
 use ps_text::List;
 use std::alloc::Global;
 use std::process::Abort;
 use std::test::Fail;
 
 const LOWEST: LayerId = LayerId(0);
+
 const HIGHEST: LayerId = LayerId(1);
+
 const EMITTER: ObjectId = ObjectId(1);
+
 const MIRROR: ObjectId = ObjectId(2);
+
 const BEAM: ObjectId = ObjectId(3);
 
 fn nothing() -> Commands {
@@ -84,8 +90,8 @@ fn check(rt: &impl Abort, board: &ListBoard, letters: &[u8]) {
     }
 }
 
-/// A cell of a rule: the object that must stand on the lowest layer, if there is one, and whether a beam is put above it,
-/// where there is none yet.
+/// A cell of a rule: the object that must stand on the lowest layer, if there is one, and whether a beam is put above
+/// it, where there is none yet.
 fn cell(alloc: Global, ground: Option<ObjectId>, beams: bool) -> Result<CompiledCell, Memory> {
     let mut needed = Vec::new(alloc);
     if let Some(object) = ground {
@@ -188,12 +194,7 @@ fn attempted(
     assert!(rt; written.writer.is_some());
     let mut rooms = rooms_of(alloc, written.rows.as_slice().len())?;
     let mut queue = Queue::empty();
-    Ok(attempt(
-        &written,
-        board,
-        &mut queue,
-        rooms.as_mut_slice(),
-    ))
+    Ok(attempt(&written, board, &mut queue, rooms.as_mut_slice()))
 }
 
 /// What becomes of a line of cells that goes right, and of one that goes down.
@@ -205,12 +206,22 @@ fn check_line(
     after: &[u8],
     changes: bool,
 ) -> Result<(), Memory> {
-    let long = if before.len() <= 8 { before.len() as u32 } else { 1 };
+    let long = if before.len() <= 8 {
+        before.len() as u32
+    } else {
+        1
+    };
     let mut across = board_of(alloc, long, 1, before)?;
-    assert_eq!(rt; attempted(rt, alloc, Axis::Right, parts, &mut across)?, changes);
+    assert_eq!(rt;
+        attempted(rt, alloc, Axis::Right, parts, &mut across)?,
+        changes
+    );
     check(rt, &across, after);
     let mut down = board_of(alloc, 1, long, before)?;
-    assert_eq!(rt; attempted(rt, alloc, Axis::Down, parts, &mut down)?, changes);
+    assert_eq!(rt;
+        attempted(rt, alloc, Axis::Down, parts, &mut down)?,
+        changes
+    );
     check(rt, &down, after);
     Ok(())
 }

@@ -1,6 +1,6 @@
 -- The cells of the places of a row of two parts that have one number in the row: they are those that lie so many steps behind each
 -- beginning of the part that they are of, where it has a partner.
-use Rattle.std.proofs.Common.{◌≡◌, ◌∙◌, ℕ, zero, suc, ◌+◌, ◌-◌, ◌*◌, ◌/◌, ◌%◌, ◌<◌, ◌≤◌, ◌&&◌, ◌||◌, Bool, true, false, Option, List, [], ◌∷◌, ◌++◌, length, map, refl, sym, ap, ap₂, arith}
+use Rattle.std.proofs.Common.{◌≡◌, ◌∙◌, ℕ, zero, suc, ◌+◌, ◌-◌, ◌*◌, ◌<◌, ◌≤◌, ◌&&◌, ◌||◌, Bool, true, false, Option, List, [], ◌∷◌, ◌++◌, length, map, refl, sym, ap, ap₂, arith}
 use Rattle.std.specs.Prelude.{nat_eq, nat_le, slice_index_or}
 use Rattle.std.specs.List.{flat_map, list_any, range_with_len}
 use Rattle.std.proofs.lemmas.Bool.{and_parts, eqb-true, eq-eqb}
@@ -24,8 +24,8 @@ use Rattle.ps_places.specs.Ways.{positions_from, ways_from}
 use Rattle.ps_places.proofs.FoundPlaces.{begins_on-meant, short_lines, some-meant, true_sets, true_sets-are, ways_of}
 use Rattle.ps_places.proofs.LinePlaces.{places-by_line, places_along}
 use Rattle.ps_places.proofs.LineWays.{cells_of_way, fits_from_position}
-use Rattle.ps_places.specs.PartTargets.{is_apart, is_reached, is_target, has_partner, line_of, number_in_row, other_part, own_part, position_of}
-use Rattle.ps_places.proofs.AnyOf.{IsFound, any-alike, any-both, any-filter, any-flat_map, any-found, any-here, any-map, any-positions, any-swap, same_tests}
+use Rattle.ps_places.specs.PartTargets.{is_reached, is_target, has_partner, line_of, number_in_row, own_part, position_of}
+use Rattle.ps_places.proofs.AnyOf.{any-alike, any-both, any-flat_map, any-found, any-here, any-map, any-positions, any-swap, same_tests}
 
 -- all positions there may be
 abbrev all : List ℕ

@@ -1,9 +1,9 @@
 -- Columns of a row of the board that have one of another set apart from them.
-use Rattle.std.proofs.Common.{◌≡◌, ◌≢◌, ◌∙◌, ℕ, zero, suc, ◌+◌, ◌-◌, ◌<◌, ◌≤◌, ◌||◌, ◌&&◌, inl, inr, Bool, true, false, not, cond, Option, List, [], ◌∷◌, filter, length, refl, sym, ap, ap₂, arith}
+use Rattle.std.proofs.Common.{◌≡◌, ◌∙◌, ℕ, zero, suc, ◌+◌, ◌-◌, ◌<◌, ◌≤◌, ◌||◌, ◌&&◌, inl, inr, Bool, true, false, not, cond, Option, List, [], ◌∷◌, filter, length, refl, sym, ap, ap₂, arith}
 use Rattle.std.specs.Prelude.{nat_eq, nat_le, nat_lt, slice_index_or, slice_set}
 use Rattle.std.specs.List.{list_any, range_with_len}
 use Rattle.std.proofs.Math.Bool.{and-false}
-use Rattle.std.proofs.lemmas.Bool.{and_parts, cases_Bool, cases_eq, cases_lt, le-ltb, lt-ltb}
+use Rattle.std.proofs.lemmas.Bool.{and_parts, cases_eq, cases_lt, le-ltb, lt-ltb}
 use Rattle.std.proofs.lemmas.Bool.Decides.{nat_tests}
 use Rattle.std.proofs.lemmas.List.{get_or-set_same, get_or-set_other}
 use Rattle.ps_model.specs.declared.limits.TheConstants.{SIDE_LIMIT}
@@ -14,9 +14,9 @@ use Rattle.ps_match.proofs.Chosen.{any_none}
 use Rattle.ps_program.specs.declared.cells.CompiledCell.{CompiledCell}
 use Rattle.ps_program.specs.declared.rows.Axis.TheVariants.{Down}
 use Rattle.ps_places.specs.Candidates.{BeginsOnlyOn}
-use Rattle.ps_places.specs.PartTargets.{AreKept, IsReach, IsRowKept, is_apart, is_kept, is_paired, is_passed, is_within}
+use Rattle.ps_places.specs.PartTargets.{IsReach, IsRowKept, is_kept, is_paired, is_passed, is_within}
 use Rattle.ps_places.specs.Starts.{AreWhere, begins_down}
-use Rattle.ps_places.proofs.AnyOf.{IsFound, any-found, any-here, same_tests}
+use Rattle.ps_places.proofs.AnyOf.{any-found, any-here, same_tests}
 use Rattle.ps_places.proofs.FoundDown.{below_edge, room_by}
 use Rattle.ps_places.proofs.LineSets.{none_has, with_below, with_here, with_other}
 

@@ -1,4 +1,4 @@
-use Rattle.std.proofs.Common.{◌≡◌, ◌≢◌, ◌∙◌, ◌<◌, ℕ, [], true, false, Option, List, length, fold, ap, sym, rules}
+use Rattle.std.proofs.Common.{◌≡◌, ◌≢◌, ◌∙◌, ℕ, [], true, false, Option, List, fold, ap, rules}
 use Rattle.std.specs.Prelude.{slice_index_or}
 use Rattle.ps_model.specs.board.Grid.{Grid}
 use Rattle.ps_model.specs.board.Attempts.{Result, Rewritten, applied, combinations_on}
@@ -6,7 +6,6 @@ use Rattle.ps_model.specs.rules.SourceRules.{Commands}
 use Rattle.ps_rules.specs.RulesShown.{commands_shown}
 use Rattle.ps_program.specs.Axes.{direction_of}
 use Rattle.ps_program.specs.declared.rows.CompiledRow.{CompiledRow}
-use Rattle.ps_board.specs.ColumnSets.{set_columns}
 use Rattle.ps_engine.specs.Choosing.{rows_meaning}
 use Rattle.ps_engine.specs.RulesInRoom.{rule_meaning}
 use Rattle.ps_engine.proofs.Attempting.{attempt_none, attempt_written, unchanged}

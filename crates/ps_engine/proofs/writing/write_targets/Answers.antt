@@ -1,4 +1,4 @@
-use Rattle.std.proofs.Common.{◌≡◌, ◌∙◌, ◌||◌, ◌<◌, ◌+◌, ℕ, Bool, List, Option, refl, subst, sym, ap, rules}
+use Rattle.std.proofs.Common.{◌≡◌, ◌∙◌, ◌||◌, ℕ, Bool, List, Option, refl, ap}
 use Rattle.ps_model.specs.declared.pieces.Slot.{Slot}
 use Rattle.ps_model.specs.board.Grid.{Grid}
 use Rattle.ps_model.specs.board.Attempts.{Rewritten}
@@ -9,7 +9,7 @@ use Rattle.ps_board.specs.ColumnSets.{set_columns}
 use Rattle.ps_match.specs.InRoom.{sides_of, write_in_room}
 use Rattle.ps_match.specs.Together.{rewritten_where}
 use Rattle.ps_match.proofs.RowWritten.{height-where, sides-where, told}
-use Rattle.ps_engine.specs.Writing.{is_behind, row_behind}
+use Rattle.ps_engine.specs.Writing.{is_behind}
 use Rattle.ps_engine.proofs.WrittenBehind.{all-of, all_rows_behind, fewer-of, no_row_behind, one_row_behind, passed_by}
 use Rattle.ps_engine.proofs.writing.write_targets.Goals as goal
 

@@ -1,4 +1,4 @@
-use Rattle.std.proofs.Common.{◌≡◌, ◌≤◌, ◌<◌, ◌∙◌, ap, ℕ, false, sym, rules, arith}
+use Rattle.std.proofs.Common.{◌≡◌, ◌≤◌, ◌<◌, false, rules}
 use Rattle.ps_model.specs.board.Grid.{Grid}
 use Rattle.ps_board.specs.ColumnSets.{column_at}
 use Rattle.ps_places.proofs.TargetColumns.{begun-below, begun-out}

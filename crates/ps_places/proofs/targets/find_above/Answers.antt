@@ -1,4 +1,4 @@
-use Rattle.std.proofs.Common.{◌≡◌, ◌∙◌, ◌<◌, ◌≤◌, ◌+◌, ◌-◌, ℕ, Option, List, true, refl, subst, sym, ap, arith, rules}
+use Rattle.std.proofs.Common.{◌≡◌, ◌∙◌, ◌<◌, ◌≤◌, ◌+◌, ◌-◌, ℕ, Option, List, true, refl, subst, sym, arith}
 use Rattle.ps_model.specs.board.Grid.{Grid}
 use Rattle.ps_places.proofs.TargetRows.{AreRowsFound, AreSeenBelow, above-found, above-none, above-targets, kept-none, seen-init, seen-more}
 use Rattle.ps_places.proofs.targets.find_above.Goals as goal

@@ -1,4 +1,4 @@
-use Rattle.std.proofs.Common.{◌≡◌, refl}
+use Rattle.std.proofs.Common.{refl}
 use Rattle.ps_places.proofs.TargetColumns.{row-kept}
 use Rattle.ps_places.proofs.targets.keep_row.Goals as goal
 

@@ -1,4 +1,4 @@
-use Rattle.std.proofs.Common.{◌≡◌, ◌∙◌, false, true, sym, rules, subst, List, Bool}
+use Rattle.std.proofs.Common.{◌≡◌, false, true, sym, rules, subst, Bool}
 use Rattle.ps_places.specs.PartTargets.{is_paired}
 use Rattle.ps_places.specs.Starts.{AreWhere}
 use Rattle.ps_places.proofs.TargetColumns.{paired-following, paired-leading}
