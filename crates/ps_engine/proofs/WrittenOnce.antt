@@ -1,6 +1,7 @@
--- A row of a rule of which one cell alone changes anything, and whose write keeps what the others fit: the places where it fits at the
--- start come to that cell rewritten at each of them, once.
-use Rattle.std.proofs.Common.{◌≡◌, ◌∙◌, ℕ, suc, ◌<◌, ◌||◌, inl, inr, Bool, true, false, not, Option, Some, None, List, [], ◌∷◌, ◌++◌, length, fold, drop, refl, sym, ap, ap₂}
+-- A row of a rule of which one cell alone changes anything, and whose write keeps what the others fit: the places
+-- where it fits at the start come to that cell rewritten at each of them, once.
+use Rattle.std.proofs.Common.{◌≡◌, ◌∙◌, ℕ, suc, ◌<◌, ◌||◌, inl, inr, Bool, true, false, not, Option, Some, None, List}
+use Rattle.std.proofs.Common.{[], ◌∷◌, ◌++◌, length, fold, drop, refl, sym, ap, ap₂}
 use Rattle.std.specs.Prelude.{All, nat_eq, slice_get, slice_index_or, slice_set}
 use Rattle.std.specs.List.{list_any}
 use Rattle.std.proofs.Math.Bool.{or-false}
@@ -33,12 +34,12 @@ abbrev pub applied_along : List CellMeaning → Rewritten → List ℕ → Rewri
 applied_along meanings r place =
     elim (fits_along r.grid meanings place) [ true ↦ rewritten_along r meanings place | false ↦ r ]
 
--- tests in a row -------------------------------------------------------------------------------------------------------------
+-- tests in a row ------------------------------------------------------------------------------------------------------
 
 if_both : (test rest : Bool) → test ≡ true → rest ≡ true → (elim test [ true ↦ rest | false ↦ false ]) ≡ true
 if_both test rest e d = rw (e, d) refl
 
--- one cell of the board --------------------------------------------------------------------------------------------------------
+-- one cell of the board -----------------------------------------------------------------------------------------------
 
 pub fits_within : (h : Grid) (a : CellMeaning) (n : ℕ) → fits_there a (slice_get h.cells n) ≡ true → n < length h.cells
 fits_within h a n fits = by (slice_get h.cells n) refl fits where
@@ -48,7 +49,8 @@ fits_within h a n fits = by (slice_get h.cells n) refl fits where
 
 -- a cell put where it stands
 
-put_again : (r : Rewritten) (n : ℕ) (cell : List Slot) → slice_get (r.grid).cells n ≡ Some cell → with_cell r n cell cell ≡ r
+put_again : (r : Rewritten) (n : ℕ) (cell : List Slot) → slice_get (r.grid).cells n ≡ Some cell →
+    with_cell r n cell cell ≡ r
 put_again r n cell is =
     let cells : List (List Slot) = (r.grid).cells in
     let put : slice_set cells n cell ≡ cells =
@@ -68,7 +70,8 @@ module _ (g : Grid) (m : CellMeaning) where
       let inside : n < length h.cells = rw (length-where g m.rewritten chosen) low in
       slice_get-get_or h.cells n [] inside ∙ ap Some (cell_at-where g m.rewritten chosen n low)
 
-  fits_by : (a : CellMeaning) (n : ℕ) → n < length g.cells → fits_there a (slice_get g.cells n) ≡ true → a.fits (cell_at g n) ≡ true
+  fits_by : (a : CellMeaning) (n : ℕ) → n < length g.cells → fits_there a (slice_get g.cells n) ≡ true →
+      a.fits (cell_at g n) ≡ true
   fits_by a n low fits = ap (fits_there a) (sym (slice_get-get_or g.cells n [] low)) ∙ fits
 
   still_fits : (a : CellMeaning) → StandsAside m.rewritten a → (chosen : ℕ → Bool) (n : ℕ) (b : Bool) → chosen n ≡ b →
@@ -81,13 +84,15 @@ module _ (g : Grid) (m : CellMeaning) where
       ap (fits_there a) (found_there chosen n low) ∙ rw e (fits_by a n low fits)
 
 idle_there : (becomes : List Slot → List Slot) (r : Rewritten) (a : CellMeaning) → StandsAside becomes a → (n : ℕ)
-    (found : Option (List Slot)) → slice_get (r.grid).cells n ≡ found → fits_there a found ≡ true → rewritten_cell r a n found ≡ r
+    (found : Option (List Slot)) → slice_get (r.grid).cells n ≡ found → fits_there a found ≡ true →
+    rewritten_cell r a n found ≡ r
 idle_there becomes r a aside n None e fit = refl
 idle_there becomes r a aside n (Some cell) e fit = ap (with_cell r n cell) (aside.still cell fit) ∙ put_again r n cell e
 
--- the other cells of the row -----------------------------------------------------------------------------------------------------
+-- the other cells of the row ------------------------------------------------------------------------------------------
 
-rest_fits : (g : Grid) (m : CellMeaning) (others : List CellMeaning) → All (StandsAside m.rewritten) others → (chosen : ℕ → Bool) (place : List ℕ) →
+rest_fits : (g : Grid) (m : CellMeaning) (others : List CellMeaning) → All (StandsAside m.rewritten) others →
+    (chosen : ℕ → Bool) (place : List ℕ) →
     fits_along g others place ≡ true → fits_along (rewritten_where g m.rewritten chosen).grid others place ≡ true
 rest_fits g m [] aside chosen [] e = refl
 rest_fits g m [] aside chosen (n ∷ place) e = absurd (cc)
@@ -97,7 +102,8 @@ rest_fits g m (a ∷ others) aside chosen (n ∷ place) e =
     if_both _ _ (still_fits g m a (All-head (StandsAside m.rewritten) a others aside) chosen n (chosen n) refl parts.0)
     (rest_fits g m others (All-tail (StandsAside m.rewritten) a others aside) chosen place parts.1)
 
-rest_still : (becomes : List Slot → List Slot) (others : List CellMeaning) → All (StandsAside becomes) others → (r : Rewritten) (place : List ℕ) →
+rest_still : (becomes : List Slot → List Slot) (others : List CellMeaning) → All (StandsAside becomes) others →
+    (r : Rewritten) (place : List ℕ) →
     fits_along r.grid others place ≡ true → rewritten_along r others place ≡ r
 rest_still becomes [] aside r place e = refl
 rest_still becomes (a ∷ others) aside r [] e = refl
@@ -108,57 +114,71 @@ rest_still becomes (a ∷ others) aside r (n ∷ place) e =
     ∙ rest_still becomes others (All-tail (StandsAside becomes) a others aside) r place parts.1
 
 module _ (m : CellMeaning) (after : List CellMeaning) where
-  pub target_fits : (h : Grid) (before : List CellMeaning) (place : List ℕ) → fits_along h (before ++ m ∷ after) place ≡ true →
+  pub target_fits : (h : Grid) (before : List CellMeaning) (place : List ℕ) →
+      fits_along h (before ++ m ∷ after) place ≡ true →
       fits_there m (slice_get h.cells (target_of (length before) place)) ≡ true
   target_fits h [] [] e = absurd (cc)
   target_fits h [] (n ∷ place) e = (both_true (fits_there m (slice_get h.cells n)) (fits_along h after place) e).0
   target_fits h (b ∷ before) [] e = absurd (cc)
   target_fits h (b ∷ before) (n ∷ place) e =
-      target_fits h before place (both_true (fits_there b (slice_get h.cells n)) (fits_along h (before ++ m ∷ after) place) e).1
+      target_fits h before place (both_true (fits_there b (slice_get h.cells n)) (fits_along h
+      (before ++ m ∷ after) place) e).1
 
-  after_fits : (h : Grid) (before : List CellMeaning) (place : List ℕ) → fits_along h (before ++ m ∷ after) place ≡ true →
+  after_fits : (h : Grid) (before : List CellMeaning) (place : List ℕ) →
+      fits_along h (before ++ m ∷ after) place ≡ true →
       fits_along h after (drop (suc (length before)) place) ≡ true
   after_fits h [] [] e = absurd (cc)
   after_fits h [] (n ∷ place) e = (both_true (fits_there m (slice_get h.cells n)) (fits_along h after place) e).1
   after_fits h (b ∷ before) [] e = absurd (cc)
   after_fits h (b ∷ before) (n ∷ place) e =
-      after_fits h before place (both_true (fits_there b (slice_get h.cells n)) (fits_along h (before ++ m ∷ after) place) e).1
+      after_fits h before place (both_true (fits_there b (slice_get h.cells n)) (fits_along h
+      (before ++ m ∷ after) place) e).1
 
-  fits_again : (g : Grid) → All (StandsAside m.rewritten) after → (before : List CellMeaning) → All (StandsAside m.rewritten) before →
+  fits_again : (g : Grid) → All (StandsAside m.rewritten) after → (before : List CellMeaning) →
+      All (StandsAside m.rewritten) before →
       (chosen : ℕ → Bool) (place : List ℕ) → fits_along g (before ++ m ∷ after) place ≡ true →
-      fits_there m (slice_get (rewritten_where g m.rewritten chosen).grid.cells (target_of (length before) place)) ≡ true →
+      fits_there m (slice_get (rewritten_where g m.rewritten chosen).grid.cells (target_of
+      (length before) place)) ≡ true →
       fits_along (rewritten_where g m.rewritten chosen).grid (before ++ m ∷ after) place ≡ true
   fits_again g behind [] aside chosen [] e here = absurd (cc)
   fits_again g behind [] aside chosen (n ∷ place) e here =
-      if_both _ _ here (rest_fits g m after behind chosen place (both_true (fits_there m (slice_get g.cells n)) (fits_along g after place) e).1)
+      if_both _ _ here (rest_fits g m after behind chosen place (both_true (fits_there m (slice_get g.cells n))
+      (fits_along g after place) e).1)
   fits_again g behind (b ∷ before) aside chosen [] e here = absurd (cc)
   fits_again g behind (b ∷ before) aside chosen (n ∷ place) e here =
       let parts = both_true (fits_there b (slice_get g.cells n)) (fits_along g (before ++ m ∷ after) place) e in
-      if_both _ _ (still_fits g m b (All-head (StandsAside m.rewritten) b before aside) chosen n (chosen n) refl parts.0)
+      if_both _ _ (still_fits g m b (All-head (StandsAside m.rewritten) b before aside) chosen n
+      (chosen n) refl parts.0)
       (fits_again g behind before (All-tail (StandsAside m.rewritten) b before aside) chosen place parts.1 here)
 
-  written_through : (r : Rewritten) (before : List CellMeaning) → All (StandsAside m.rewritten) before → (place : List ℕ) →
+  written_through : (r : Rewritten) (before : List CellMeaning) → All (StandsAside m.rewritten) before →
+      (place : List ℕ) →
       fits_along r.grid (before ++ m ∷ after) place ≡ true →
       rewritten_along r (before ++ m ∷ after) place
-      ≡ rewritten_along (rewritten_cell r m (target_of (length before) place) (slice_get (r.grid).cells (target_of (length before) place))) after
+      ≡ rewritten_along (rewritten_cell r m (target_of (length before) place) (slice_get (r.grid).cells (target_of
+      (length before) place))) after
       (drop (suc (length before)) place)
   written_through r [] aside [] e = absurd (cc)
   written_through r [] aside (n ∷ place) e = refl
   written_through r (b ∷ before) aside [] e = absurd (cc)
   written_through r (b ∷ before) aside (n ∷ place) e =
-      let parts = both_true (fits_there b (slice_get (r.grid).cells n)) (fits_along r.grid (before ++ m ∷ after) place) e in
+      let parts = both_true (fits_there b (slice_get (r.grid).cells n)) (fits_along r.grid
+      (before ++ m ∷ after) place) e in
       ap (λ (x : Rewritten). rewritten_along x (before ++ m ∷ after) place)
-      (idle_there m.rewritten r b (All-head (StandsAside m.rewritten) b before aside) n (slice_get (r.grid).cells n) refl parts.0)
+      (idle_there m.rewritten r b (All-head (StandsAside m.rewritten) b before aside) n (slice_get
+      (r.grid).cells n) refl parts.0)
       ∙ written_through r before (All-tail (StandsAside m.rewritten) b before aside) place parts.1
 
--- one place --------------------------------------------------------------------------------------------------------------------
+-- one place -----------------------------------------------------------------------------------------------------------
 
-applied_by : (meanings : List CellMeaning) (r : Rewritten) (place : List ℕ) (fit : Bool) → fits_along r.grid meanings place ≡ fit →
+applied_by : (meanings : List CellMeaning) (r : Rewritten) (place : List ℕ) (fit : Bool) →
+    fits_along r.grid meanings place ≡ fit →
     applied_along meanings r place ≡ elim fit [ true ↦ rewritten_along r meanings place | false ↦ r ]
 applied_by meanings r place fit e = ap (λ (b : Bool). elim b [ true ↦ rewritten_along r meanings place | false ↦ r ]) e
 
 module _ (g : Grid) (before after : List CellMeaning) (m : CellMeaning) (aside : All (StandsAside m.rewritten) before)
-    (behind : All (StandsAside m.rewritten) after) (twice : (cell : List Slot) → m.rewritten (m.rewritten cell) ≡ m.rewritten cell) where
+    (behind : All (StandsAside m.rewritten) after) (twice : (cell : List Slot) →
+    m.rewritten (m.rewritten cell) ≡ m.rewritten cell) where
   abbrev whole : List CellMeaning
   whole = before ++ m ∷ after
 
@@ -179,22 +199,26 @@ module _ (g : Grid) (before after : List CellMeaning) (m : CellMeaning) (aside :
       (rest_fits g m after behind chosen (drop (suc (length before)) place) (after_fits m after g before place fits))
 
   -- its cell was written before
-  again_by : (done : ℕ → Bool) (place : List ℕ) (fit : Bool) → fits_along g whole place ≡ true → done (at place) ≡ true →
+  again_by : (done : ℕ → Bool) (place : List ℕ) (fit : Bool) → fits_along g whole place ≡ true →
+      done (at place) ≡ true →
       fits_along (now done).grid whole place ≡ fit → applied_along whole (now done) place ≡ now done
   again_by done place false fits is e = applied_by whole (now done) place false e
   again_by done place true fits is e =
       let n : ℕ = at place in
       let c : List Slot = m.rewritten (cell_at g n) in
-      let there : slice_get (now done).grid.cells n ≡ Some c = found_there g m done n (low_at place fits) ∙ rw is refl in
+      let there : slice_get (now done).grid.cells n ≡ Some c = found_there g m done n (low_at place fits)
+      ∙ rw is refl in
       let same : rewritten_cell (now done) m n (slice_get (now done).grid.cells n) ≡ now done =
-      ap (rewritten_cell (now done) m n) there ∙ ap (with_cell (now done) n c) (twice (cell_at g n)) ∙ put_again (now done) n c there in
+      ap (rewritten_cell (now done) m n) there ∙ ap (with_cell (now done) n c) (twice (cell_at g n)) ∙ put_again
+      (now done) n c there in
       applied_by whole (now done) place true e ∙ written_through m after (now done) before aside place e
       ∙ ap (λ (r : Rewritten). rewritten_along r after (drop (suc (length before)) place)) same
       ∙ behind_still done place fits
 
   -- or it is written now
   first_time : (done more : ℕ → Bool) (place : List ℕ) → fits_along g whole place ≡ true → done (at place) ≡ false →
-      ((k : ℕ) → k < length g.cells → more k ≡ (done k || nat_eq k (at place))) → applied_along whole (now done) place ≡ now more
+      ((k : ℕ) → k < length g.cells → more k ≡ (done k || nat_eq k (at place))) →
+      applied_along whole (now done) place ≡ now more
   first_time done more place fits free e =
       let n : ℕ = at place in
       let low : n < length g.cells = low_at place fits in
@@ -211,26 +235,31 @@ module _ (g : Grid) (before after : List CellMeaning) (m : CellMeaning) (aside :
       let one : rewritten_where h m.rewritten (λ k. nat_eq k n) ≡ with_cell (told h false) n cell (m.rewritten cell) =
       where-one h m.rewritten n inside ∙ ap (λ (c : List Slot). with_cell (told h false) n c (m.rewritten c)) same in
       let step : next ≡ now more =
-      told-more g h next.grid m.rewritten r.changed next.changed done (λ k. nat_eq k n) more refl (sym (ap (λ (x : Rewritten). x.grid) one))
+      told-more g h next.grid m.rewritten r.changed next.changed done (λ k. nat_eq k n) more refl (sym (ap (λ
+      (x : Rewritten). x.grid) one))
       (sym (ap (λ (x : Rewritten). r.changed || x.changed) one))
       (λ k below chosen. let is : k ≡ n = eqb-true k n chosen in ap done is ∙ free) e in
       applied_by whole r place true fit ∙ written_through m after r before aside place fit
-      ∙ ap (λ (found : Option (List Slot)). rewritten_along (rewritten_cell r m n found) after (drop (suc (length before)) place)) here
+      ∙ ap (λ (found : Option (List Slot)). rewritten_along (rewritten_cell r m n found) after (drop (suc
+      (length before)) place)) here
       ∙ ap (λ (x : Rewritten). rewritten_along x after (drop (suc (length before)) place)) step
       ∙ behind_still more place fits
 
-  one_place_by : (done more : ℕ → Bool) (place : List ℕ) (b : Bool) → done (at place) ≡ b → fits_along g whole place ≡ true →
-      ((k : ℕ) → k < length g.cells → more k ≡ (done k || nat_eq k (at place))) → applied_along whole (now done) place ≡ now more
+  one_place_by : (done more : ℕ → Bool) (place : List ℕ) (b : Bool) → done (at place) ≡ b →
+      fits_along g whole place ≡ true →
+      ((k : ℕ) → k < length g.cells → more k ≡ (done k || nat_eq k (at place))) →
+      applied_along whole (now done) place ≡ now more
   one_place_by done more place true is fits e =
       again_by done place (fits_along (now done).grid whole place) fits is refl
       ∙ where-agree g m.rewritten done more
       (λ k low. elim (cases_eq k (at place)) [
-        | inl same ↦ let so : done k ≡ true = ap done same ∙ is in sym (e k low ∙ ap (λ (b : Bool). b || nat_eq k (at place)) so ∙ sym so)
+        | inl same ↦ let so : done k ≡ true = ap done same ∙ is in sym (e k low ∙ ap (λ (b : Bool). b || nat_eq k
+            (at place)) so ∙ sym so)
         | inr other ↦ sym (e k low ∙ rw (ne_eqb k (at place) other) (or_nothing (done k)))
       ])
   one_place_by done more place false is fits e = first_time done more place fits is e
 
-  -- all places --------------------------------------------------------------------------------------------------------------
+  -- all places --------------------------------------------------------------------------------------------------------
 
   abbrev Fits : List ℕ → Type 0
   Fits place = fits_along g whole place ≡ true

@@ -1,4 +1,5 @@
--- Rules of one row of two parts of which one cell alone is written: the cells of the board that are, as they are found row by row.
+-- Rules of one row of two parts of which one cell alone is written: the cells of the board that are, as they are
+-- found row by row.
 use Rattle.std.specs.Prelude.{◌≡◌, ℕ, ◌+◌, ◌-◌, ◌/◌, ◌%◌, ◌<◌, nat_le, Bool, true, ◌&&◌, List}
 use Rattle.ps_board.specs.ColumnSets.{column_at, columns_ahead}
 use Rattle.ps_match.specs.Together.{is_on_row}
@@ -28,7 +29,8 @@ start_column Right height steps n = n / height - steps
 -- the cell lies so many steps from a column that is kept
 abbrev pub is_written : Axis → ℕ → ℕ → List Bool → List (List Bool) → ℕ → Bool
 is_written axis height steps rows starts n =
-    nat_le steps (position_of axis height n) && is_kept rows starts (start_row axis height steps n) (start_column axis height steps n)
+    nat_le steps (position_of axis height n) && is_kept rows starts (start_row axis height steps n)
+    (start_column axis height steps n)
 
 -- the rows so many steps from these are of a board so high
 pub record AreWithin (axis : Axis) (height steps : ℕ) (rows : List Bool) : Type 0 where

@@ -20,3 +20,5 @@ pub use rooms::rooms_for;
 
 #[cfg(test)]
 mod tests;
+#[cfg(test)]
+mod writer_tests;

@@ -1,6 +1,6 @@
-//! An attempt of a rule of one row of two parts of which one cell alone changes anything, and whose write keeps the masks of
-//! all others. Wherever the row fits at the start it comes to that cell written, once: no place is kept, and the cells are
-//! written row by row of the board.
+//! An attempt of a rule of one row of two parts of which one cell alone changes anything, and whose write keeps the
+//! masks of all others. Wherever the row fits at the start it comes to that cell written, once: no place is kept, and
+//! the cells are written row by row of the board.
 
 ghost use Rattle.std.specs.Prelude.{◌≡◌, ◌<◌, Some, slice_get, true};
 ghost use Rattle.ps_model.specs.board.Attempts.{Result as Meant, State, attempt};
@@ -34,8 +34,8 @@ fn writing_cell(row: &CompiledRow, writer: Writer) -> &CompiledCell
     &part[writer.cell as usize]
 }
 
-/// Writes the cells that lie so many steps along an axis from some columns of a row of the board, and answers whether one
-/// of them changed.
+/// Writes the cells that lie so many steps along an axis from some columns of a row of the board, and answers whether
+/// one of them changed.
 fn write_behind<B: Scan>(
     board: &mut B,
     write: &CellWrite,
@@ -59,8 +59,8 @@ fn write_behind<B: Scan>(
     }
 }
 
-/// Writes the cells that lie so many steps along an axis from the columns that a room keeps of these rows of the board, and
-/// answers whether one of them changed.
+/// Writes the cells that lie so many steps along an axis from the columns that a room keeps of these rows of the
+/// board, and answers whether one of them changed.
 fn write_targets<B: Scan>(
     board: &mut B,
     write: &CellWrite,
@@ -87,8 +87,9 @@ fn write_targets<B: Scan>(
     changed
 }
 
-/// An attempt of a rule whose writer this is: each start of the writer's part that has a partner gets the writer's write,
-/// and if there is one, the rule's commands enter the queue. Answers whether a cell changed. No memory is taken.
+/// An attempt of a rule whose writer this is: each start of the writer's part that has a partner gets the writer's
+/// write, and if there is one, the rule's commands enter the queue. Answers whether a cell changed. No memory is
+/// taken.
 pub fn attempt_writer<'r, B: Scan>(
     rule: &CompiledRule<'r>,
     writer: Writer,

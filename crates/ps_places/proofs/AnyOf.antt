@@ -1,5 +1,6 @@
 -- Whether one of a list has something, of lists that are made of others.
-use Rattle.std.proofs.Common.{◌≡◌, ◌∙◌, ℕ, zero, suc, ◌+◌, ◌<◌, ◌≤◌, ◌||◌, ◌&&◌, inl, inr, Bool, true, false, cond, List, [], ◌∷◌, map, filter, refl, sym, ap, ap₂, arith}
+use Rattle.std.proofs.Common.{◌≡◌, ◌∙◌, ℕ, zero, suc, ◌+◌, ◌<◌, ◌≤◌, ◌||◌, ◌&&◌, inl, inr, Bool, true, false, cond}
+use Rattle.std.proofs.Common.{List, [], ◌∷◌, map, filter, refl, sym, ap, ap₂, arith}
 use Rattle.std.specs.Prelude.{nat_le}
 use Rattle.std.specs.List.{flat_map, list_any, range_with_len}
 use Rattle.std.proofs.lemmas.Bool.{cases_eq}
@@ -14,21 +15,27 @@ pub any-alike : {X : Type 0} (f h : X → Bool) (xs : List X) → ((x : X) → f
 any-alike f h [] same = refl
 any-alike f h (x ∷ xs) same = ap₂ (λ (a b : Bool). a || b) (same x) (any-alike f h xs same)
 
-pub any-flat_map : {X Y : Type 0} (f : Y → Bool) (h : X → List Y) (xs : List X) → list_any f (flat_map h xs) ≡ list_any (λ x. list_any f (h x)) xs
+pub any-flat_map : {X Y : Type 0} (f : Y → Bool) (h : X → List Y) (xs : List X) →
+    list_any f (flat_map h xs) ≡ list_any (λ x. list_any f (h x)) xs
 any-flat_map f h [] = refl
-any-flat_map f h (x ∷ xs) = list_any-append f (h x) (flat_map h xs) ∙ ap (λ (b : Bool). list_any f (h x) || b) (any-flat_map f h xs)
+any-flat_map f h (x ∷ xs) = list_any-append f (h x) (flat_map h xs) ∙ ap (λ (b : Bool). list_any f (h x) || b)
+    (any-flat_map f h xs)
 
-pub any-map : {X Y : Type 0} (f : Y → Bool) (h : X → Y) (xs : List X) → list_any f (map h xs) ≡ list_any (λ x. f (h x)) xs
+pub any-map : {X Y : Type 0} (f : Y → Bool) (h : X → Y) (xs : List X) →
+    list_any f (map h xs) ≡ list_any (λ x. f (h x)) xs
 any-map f h [] = refl
 any-map f h (x ∷ xs) = ap (λ (b : Bool). f (h x) || b) (any-map f h xs)
 
-kept_or : {X : Type 0} (f : X → Bool) (x : X) (xs : List X) (b : Bool) → list_any f (cond b (x ∷ xs) xs) ≡ ((b && f x) || list_any f xs)
+kept_or : {X : Type 0} (f : X → Bool) (x : X) (xs : List X) (b : Bool) →
+    list_any f (cond b (x ∷ xs) xs) ≡ ((b && f x) || list_any f xs)
 kept_or f x xs true = refl
 kept_or f x xs false = refl
 
-pub any-filter : {X : Type 0} (f test : X → Bool) (xs : List X) → list_any f (filter test xs) ≡ list_any (λ x. test x && f x) xs
+pub any-filter : {X : Type 0} (f test : X → Bool) (xs : List X) →
+    list_any f (filter test xs) ≡ list_any (λ x. test x && f x) xs
 any-filter f test [] = refl
-any-filter f test (x ∷ xs) = kept_or f x (filter test xs) (test x) ∙ ap (λ (b : Bool). (test x && f x) || b) (any-filter f test xs)
+any-filter f test (x ∷ xs) = kept_or f x (filter test xs) (test x) ∙ ap (λ (b : Bool). (test x && f x) || b)
+    (any-filter f test xs)
 
 both_or : (b c d : Bool) → ((b && c) || (b && d)) ≡ (b && (c || d))
 both_or true c d = refl
@@ -46,9 +53,11 @@ none_any : {X : Type 0} (xs : List X) → list_any (λ x. false) xs ≡ false
 none_any [] = refl
 none_any (x ∷ xs) = none_any xs
 
-pub any-either : {X : Type 0} (f h : X → Bool) (xs : List X) → list_any (λ x. f x || h x) xs ≡ (list_any f xs || list_any h xs)
+pub any-either : {X : Type 0} (f h : X → Bool) (xs : List X) →
+    list_any (λ x. f x || h x) xs ≡ (list_any f xs || list_any h xs)
 any-either f h [] = refl
-any-either f h (x ∷ xs) = ap (λ (b : Bool). (f x || h x) || b) (any-either f h xs) ∙ or_across (f x) (h x) (list_any f xs) (list_any h xs)
+any-either f h (x ∷ xs) = ap (λ (b : Bool). (f x || h x) || b) (any-either f h xs) ∙ or_across (f x) (h x)
+    (list_any f xs) (list_any h xs)
 
 -- of two lists, in either order
 pub any-swap : {X Y : Type 0} (f : X → Y → Bool) (xs : List X) (ys : List Y) →
@@ -58,7 +67,7 @@ any-swap f (x ∷ xs) ys =
     ap (λ (b : Bool). list_any (λ y. f x y) ys || b) (any-swap f xs ys)
     ∙ sym (any-either (λ y. f x y) (λ y. list_any (λ x. f x y) xs) ys)
 
--- numbers of a range --------------------------------------------------------------------------------------------------------
+-- numbers of a range --------------------------------------------------------------------------------------------------
 
 pub record IsFound (f : ℕ → Bool) (a n : ℕ) : Type 0 where
   pub number : ℕ
@@ -70,7 +79,8 @@ by_first : (f : ℕ → Bool) (a n : ℕ) (b : Bool) → f a ≡ b → (f a || l
     (list_any f (range_with_len (a + 1) n) ≡ true → IsFound f (a + 1) n) → IsFound f a (suc n)
 by_first f a n true here e more = record { number = a; near = omega arith; far = omega arith; is = here }
 by_first f a n false here e more =
-    let rest : list_any f (range_with_len (a + 1) n) ≡ true = ap (λ (b : Bool). b || list_any f (range_with_len (a + 1) n)) (sym here) ∙ e in
+    let rest : list_any f (range_with_len (a + 1) n) ≡ true = ap (λ (b : Bool). b || list_any f (range_with_len
+    (a + 1) n)) (sym here) ∙ e in
     let found = more rest in
     let near : a + 1 ≤ found.number = found.near in
     let far : found.number < a + 1 + n = found.far in
@@ -83,7 +93,8 @@ any-found f a (suc n) e = by_first f a n (f a) refl e (any-found f (a + 1) n)
 pub any-here : (f : ℕ → Bool) (a n k : ℕ) → a ≤ k → k < a + n → f k ≡ true → list_any f (range_with_len a n) ≡ true
 any-here f a zero k low high is = absurd (omega arith)
 any-here f a (suc n) k low high is = elim (cases_eq k a) [
-  | inl same ↦ let here : f a ≡ true = ap f (sym same) ∙ is in ap (λ (b : Bool). b || list_any f (range_with_len (a + 1) n)) here
+  | inl same ↦ let here : f a ≡ true = ap f (sym same) ∙ is in ap (λ (b : Bool). b || list_any f (range_with_len
+      (a + 1) n)) here
   | inr other ↦ or_true (f a) _ (any-here f (a + 1) n k (omega (arith, low, other)) (omega (arith, high)) is)
 ] where
   or_true : (a b : Bool) → b ≡ true → (a || b) ≡ true
@@ -97,7 +108,8 @@ same_tests false false forth back = refl
 
 -- positions of a set from one on
 pub any-positions : (f test : ℕ → Bool) (from : ℕ) →
-    list_any f (positions_from (columns_where test) from) ≡ list_any (λ q. test q && (nat_le from q && f q)) (range_with_len 0 SIDE_LIMIT)
+    list_any f (positions_from (columns_where test) from) ≡ list_any (λ q. test q && (nat_le from q && f q))
+    (range_with_len 0 SIDE_LIMIT)
 any-positions f test from =
     any-filter f (λ q. nat_le from q) (set_columns (columns_where test))
     ∙ ap (list_any (λ q. nat_le from q && f q)) (set_columns-where test)

@@ -1,6 +1,7 @@
--- The cells of the places of a row of two parts that have one number in the row: they are those that lie so many steps behind each
--- beginning of the part that they are of, where it has a partner.
-use Rattle.std.proofs.Common.{◌≡◌, ◌∙◌, ℕ, zero, suc, ◌+◌, ◌-◌, ◌*◌, ◌<◌, ◌≤◌, ◌&&◌, ◌||◌, Bool, true, false, Option, List, [], ◌∷◌, ◌++◌, length, map, refl, sym, ap, ap₂, arith}
+-- The cells of the places of a row of two parts that have one number in the row: they are those that lie so many
+-- steps behind each beginning of the part that they are of, where it has a partner.
+use Rattle.std.proofs.Common.{◌≡◌, ◌∙◌, ℕ, zero, suc, ◌+◌, ◌-◌, ◌*◌, ◌<◌, ◌≤◌, ◌&&◌, ◌||◌, Bool, true, false, Option}
+use Rattle.std.proofs.Common.{List, [], ◌∷◌, ◌++◌, length, map, refl, sym, ap, ap₂, arith}
 use Rattle.std.specs.Prelude.{nat_eq, nat_le, slice_index_or}
 use Rattle.std.specs.List.{flat_map, list_any, range_with_len}
 use Rattle.std.proofs.lemmas.Bool.{and_parts, eqb-true, eq-eqb}
@@ -24,8 +25,10 @@ use Rattle.ps_places.specs.Ways.{positions_from, ways_from}
 use Rattle.ps_places.proofs.FoundPlaces.{begins_on-meant, short_lines, some-meant, true_sets, true_sets-are, ways_of}
 use Rattle.ps_places.proofs.LinePlaces.{places-by_line, places_along}
 use Rattle.ps_places.proofs.LineWays.{cells_of_way, fits_from_position}
-use Rattle.ps_places.specs.PartTargets.{is_reached, is_target, has_partner, line_of, number_in_row, own_part, position_of}
-use Rattle.ps_places.proofs.AnyOf.{any-alike, any-both, any-flat_map, any-found, any-here, any-map, any-positions, any-swap, same_tests}
+use Rattle.ps_places.specs.PartTargets.{is_reached, is_target, has_partner, line_of, number_in_row, own_part}
+use Rattle.ps_places.specs.PartTargets.{position_of}
+use Rattle.ps_places.proofs.AnyOf.{any-alike, any-both, any-flat_map, any-found, any-here, any-map, any-positions}
+use Rattle.ps_places.proofs.AnyOf.{any-swap, same_tests}
 
 -- all positions there may be
 abbrev all : List ℕ
@@ -85,20 +88,22 @@ in_second cell p q n1 n2 c low =
     ∙ get_or_append_left back [] 0 c within
     ∙ get_or-map-range_with_len cell q n2 c (q + c) 0 low refl
 
--- ways of two parts ---------------------------------------------------------------------------------------------------------
+-- ways of two parts ---------------------------------------------------------------------------------------------------
 
 -- whether a way of two parts has something
 any_way : (hit : List ℕ → Bool) (t u : ℕ → Bool) (n1 n2 : ℕ) →
     list_any hit (ways_from (columns_where t ∷ columns_where u ∷ []) (n1 ∷ n2 ∷ []) 0)
     ≡ list_any (λ p. t p && (nat_le 0 p && list_any (λ q. u q && (nat_le (p + n1) q && hit (p ∷ q ∷ []))) all)) all
 any_way hit t u n1 n2 =
-    let seconds : ℕ → List (List ℕ) = λ p. flat_map (λ q. map (λ way. q ∷ way) ([] ∷ [])) (positions_from (columns_where u) (p + n1)) in
+    let seconds : ℕ → List (List ℕ) = λ p. flat_map (λ q. map (λ way. q ∷ way) ([] ∷ [])) (positions_from
+    (columns_where u) (p + n1)) in
     any-flat_map hit (λ p. map (λ way. p ∷ way) (seconds p)) (positions_from (columns_where t) 0)
     ∙ any-alike (λ p. list_any hit (map (λ way. p ∷ way) (seconds p)))
     (λ p. list_any (λ q. u q && (nat_le (p + n1) q && hit (p ∷ q ∷ []))) all) (positions_from (columns_where t) 0)
     (λ p.
     any-map hit (λ way. p ∷ way) (seconds p)
-    ∙ any-flat_map (λ way. hit (p ∷ way)) (λ q. map (λ way. q ∷ way) ([] ∷ [])) (positions_from (columns_where u) (p + n1))
+    ∙ any-flat_map (λ way. hit (p ∷ way)) (λ q. map (λ way. q ∷ way) ([] ∷ [])) (positions_from (columns_where u)
+    (p + n1))
     ∙ any-alike (λ q. list_any (λ way. hit (p ∷ way)) (map (λ way. q ∷ way) ([] ∷ []))) (λ q. hit (p ∷ q ∷ []))
     (positions_from (columns_where u) (p + n1)) (λ q. or_none (hit (p ∷ q ∷ [])))
     ∙ any-positions (λ q. hit (p ∷ q ∷ [])) u (p + n1))
@@ -138,7 +143,8 @@ any_second hit e t u n1 n2 says =
     (λ p.
     sym (any-both (t p) (λ q. nat_le 0 p && (u q && (nat_le (p + n1) q && hit (p ∷ q ∷ [])))) all
     ∙ ap (λ (b : Bool). t p && b) (any-both (nat_le 0 p) (λ q. u q && (nat_le (p + n1) q && hit (p ∷ q ∷ []))) all))
-    ∙ any-alike (λ q. t p && (nat_le 0 p && (u q && (nat_le (p + n1) q && hit (p ∷ q ∷ []))))) (λ q. e q && (u q && (nat_le (p + n1) q && t p))) all
+    ∙ any-alike (λ q. t p && (nat_le 0 p && (u q && (nat_le (p + n1) q && hit (p ∷ q ∷ []))))) (λ q. e q && (u q &&
+    (nat_le (p + n1) q && t p))) all
     (λ q.
     ap (λ (b : Bool). t p && (nat_le 0 p && (u q && (nat_le (p + n1) q && b)))) (says p q)
     ∙ second_kept (t p) (u q) (nat_le (p + n1) q) (e q) (nat_le 0 p) (from_start p)))
@@ -149,31 +155,35 @@ any_second hit e t u n1 n2 says =
     any-both (e q) (λ p. u q && (nat_le (p + n1) q && t p)) all
     ∙ ap (λ (b : Bool). e q && b) (any-both (u q) (λ p. nat_le (p + n1) q && t p) all))
 
--- cells and their positions ---------------------------------------------------------------------------------------------------
+-- cells and their positions -------------------------------------------------------------------------------------------
 
 pub line_of-on : (g : Grid) (axis : Axis) (line position : ℕ) → line < line_count axis g → position < line_long axis g →
     line_of axis g.height (cell_on axis g.height line position) ≡ line
 line_of-on g Down line position low far = div-mul-add line g.height position far
 line_of-on g Right line position low far = mod-mul-add position g.height line low
 
-pub position_of-on : (g : Grid) (axis : Axis) (line position : ℕ) → line < line_count axis g → position < line_long axis g →
+pub position_of-on : (g : Grid) (axis : Axis) (line position : ℕ) → line < line_count axis g →
+    position < line_long axis g →
     position_of axis g.height (cell_on axis g.height line position) ≡ position
 position_of-on g Down line position low far = mod-mul-add line g.height position far
 position_of-on g Right line position low far = div-mul-add position g.height line low
 
-pub cell_on-of : (axis : Axis) (height n : ℕ) → cell_on axis height (line_of axis height n) (position_of axis height n) ≡ n
+pub cell_on-of : (axis : Axis) (height n : ℕ) → cell_on axis height (line_of axis height n)
+    (position_of axis height n) ≡ n
 cell_on-of Down height n = div-add-mod' n height
 cell_on-of Right height n = div-add-mod' n height
 
-pub line_of-low : (g : Grid) (axis : Axis) (n : ℕ) → IsGrid g → n < g.width * g.height → line_of axis g.height n < line_count axis g
+pub line_of-low : (g : Grid) (axis : Axis) (n : ℕ) → IsGrid g → n < g.width * g.height →
+    line_of axis g.height n < line_count axis g
 line_of-low g Down n grid low = div_below n g.height g.width grid.some_row low
 line_of-low g Right n grid low = mod_below n g.height grid.some_row
 
-pub position_of-low : (g : Grid) (axis : Axis) (n : ℕ) → IsGrid g → n < g.width * g.height → position_of axis g.height n < line_long axis g
+pub position_of-low : (g : Grid) (axis : Axis) (n : ℕ) → IsGrid g → n < g.width * g.height →
+    position_of axis g.height n < line_long axis g
 position_of-low g Down n grid low = mod_below n g.height grid.some_row
 position_of-low g Right n grid low = div_below n g.height g.width grid.some_row low
 
--- all places ------------------------------------------------------------------------------------------------------------------
+-- all places ----------------------------------------------------------------------------------------------------------
 
 module _ (g : Grid) (table : Option (List ℕ)) (axis : Axis) (first second : List CompiledCell) (grid : IsGrid g)
     (some : 0 < length first) (more : 0 < length second) where
@@ -199,8 +209,10 @@ module _ (g : Grid) (table : Option (List ℕ)) (axis : Axis) (first second : Li
       ≡ map (cells_of_way (cell_on axis g.height line) (map length meant))
       (ways_from (columns_where (fits_at first line) ∷ columns_where (fits_at second line) ∷ []) (map length meant) 0)
   line_ways line =
-      ways_of g axis line meant (true_sets g (cell_on axis g.height line) (line_long axis g) meant) (omega arith) (short_lines g axis grid)
-      (true_sets-are g (cell_on axis g.height line) (line_long axis g) meant (some-meant table (first ∷ second ∷ []) whole))
+      ways_of g axis line meant (true_sets g (cell_on axis g.height line) (line_long axis g) meant) (omega arith)
+      (short_lines g axis grid)
+      (true_sets-are g (cell_on axis g.height line) (line_long axis g) meant (some-meant table
+      (first ∷ second ∷ []) whole))
 
   meant_long : (part : List CompiledCell) → length (part_meaning table part) ≡ length part
   meant_long part = length-map part (cell_meaning table)
@@ -216,15 +228,19 @@ module _ (g : Grid) (table : Option (List ℕ)) (axis : Axis) (first second : Li
       let n2 : ℕ = length (part_meaning table second) in
       let within : steps < n1 = rw (meant_long first) low in
       ap (list_any (hits true steps n)) (line_ways line)
-      ∙ any-map (hits true steps n) (cells_of_way cell (n1 ∷ n2 ∷ [])) (ways_from (columns_where t ∷ columns_where u ∷ []) (n1 ∷ n2 ∷ []) 0)
-      ∙ any_first (λ way. hits true steps n (cells_of_way cell (n1 ∷ n2 ∷ []) way)) (λ p. nat_eq n (cell (p + steps))) t u n1 n2
+      ∙ any-map (hits true steps n) (cells_of_way cell (n1 ∷ n2 ∷ [])) (ways_from
+      (columns_where t ∷ columns_where u ∷ []) (n1 ∷ n2 ∷ []) 0)
+      ∙ any_first (λ way. hits true steps n (cells_of_way cell (n1 ∷ n2 ∷ []) way)) (λ p. nat_eq n (cell
+      (p + steps))) t u n1 n2
       (λ p q. ap (nat_eq n) (in_first cell p q n1 n2 steps within))
       ∙ any-alike (λ p. nat_eq n (cell (p + steps)) && (t p && list_any (λ q. nat_le (p + n1) q && u q) all))
       (λ p. nat_eq n (cell (p + steps)) && begun true line p) all
       (λ p. ap (λ (b : Bool). nat_eq n (cell (p + steps)) && b)
       (ap₂ (λ (a b : Bool). a && b) (sym (begins_on-meant g table axis line first p))
-      (any-alike (λ q. nat_le (p + n1) q && u q) (λ q. nat_le (p + length first) q && begins_on g table axis line second q) all
-      (λ q. ap₂ (λ (k : ℕ) (b : Bool). nat_le (p + k) q && b) (meant_long first) (sym (begins_on-meant g table axis line second q))))))
+      (any-alike (λ q. nat_le (p + n1) q && u q) (λ q. nat_le
+      (p + length first) q && begins_on g table axis line second q) all
+      (λ q. ap₂ (λ (k : ℕ) (b : Bool). nat_le (p + k) q && b) (meant_long first) (sym
+      (begins_on-meant g table axis line second q))))))
   on_line false steps n line low =
       let cell : ℕ → ℕ = cell_on axis g.height line in
       let t : ℕ → Bool = fits_at first line in
@@ -233,52 +249,67 @@ module _ (g : Grid) (table : Option (List ℕ)) (axis : Axis) (first second : Li
       let n2 : ℕ = length (part_meaning table second) in
       let within : steps < n2 = rw (meant_long second) low in
       ap (list_any (hits false steps n)) (line_ways line)
-      ∙ any-map (hits false steps n) (cells_of_way cell (n1 ∷ n2 ∷ [])) (ways_from (columns_where t ∷ columns_where u ∷ []) (n1 ∷ n2 ∷ []) 0)
-      ∙ any_second (λ way. hits false steps n (cells_of_way cell (n1 ∷ n2 ∷ []) way)) (λ q. nat_eq n (cell (q + steps))) t u n1 n2
+      ∙ any-map (hits false steps n) (cells_of_way cell (n1 ∷ n2 ∷ [])) (ways_from
+      (columns_where t ∷ columns_where u ∷ []) (n1 ∷ n2 ∷ []) 0)
+      ∙ any_second (λ way. hits false steps n (cells_of_way cell (n1 ∷ n2 ∷ []) way)) (λ q. nat_eq n (cell
+      (q + steps))) t u n1 n2
       (λ p q. ap (nat_eq n)
-      (ap (λ (k : ℕ). slice_index_or (cells_of_way cell (n1 ∷ n2 ∷ []) (p ∷ q ∷ [])) (k + steps) 0) (sym (meant_long first))
+      (ap (λ (k : ℕ). slice_index_or (cells_of_way cell (n1 ∷ n2 ∷ []) (p ∷ q ∷ [])) (k + steps) 0) (sym
+      (meant_long first))
       ∙ in_second cell p q n1 n2 steps within))
       ∙ any-alike (λ q. nat_eq n (cell (q + steps)) && (u q && list_any (λ p. nat_le (p + n1) q && t p) all))
       (λ q. nat_eq n (cell (q + steps)) && begun false line q) all
       (λ q. ap (λ (b : Bool). nat_eq n (cell (q + steps)) && b)
       (ap₂ (λ (a b : Bool). a && b) (sym (begins_on-meant g table axis line second q))
-      (any-alike (λ p. nat_le (p + n1) q && t p) (λ p. nat_le (p + length first) q && begins_on g table axis line first p) all
-      (λ p. ap₂ (λ (k : ℕ) (b : Bool). nat_le (p + k) q && b) (meant_long first) (sym (begins_on-meant g table axis line first p))))))
+      (any-alike (λ p. nat_le (p + n1) q && t p) (λ p. nat_le
+      (p + length first) q && begins_on g table axis line first p) all
+      (λ p. ap₂ (λ (k : ℕ) (b : Bool). nat_le (p + k) q && b) (meant_long first) (sym
+      (begins_on-meant g table axis line first p))))))
 
   -- the part begins where it has room
-  within_line : (leads : Bool) (line p : ℕ) → begun leads line p ≡ true → p + length (own_part leads first second) ≤ line_long axis g
+  within_line : (leads : Bool) (line p : ℕ) → begun leads line p ≡ true →
+      p + length (own_part leads first second) ≤ line_long axis g
   within_line leads line p is =
       let begins : begins_on g table axis line (own_part leads first second) p ≡ true =
-      (and_parts (begins_on g table axis line (own_part leads first second) p) (has_partner g table axis leads first second line p) is).0 in
+      (and_parts (begins_on g table axis line (own_part leads first second) p)
+      (has_partner g table axis leads first second line p) is).0 in
       let room : nat_le (p + length (own_part leads first second)) (line_long axis g) ≡ true =
       (and_parts (nat_le (p + length (own_part leads first second)) (line_long axis g)) _ begins).0 in
       grind (arith, nat_tests, room)
 
   abbrev on_lines : Bool → ℕ → ℕ → Bool
   on_lines leads steps n =
-      list_any (λ line. list_any (λ p. nat_eq n (cell_on axis g.height line (p + steps)) && begun leads line p) all) (range_with_len 0 (line_count axis g))
+      list_any (λ line. list_any (λ p. nat_eq n (cell_on axis g.height line (p + steps)) && begun leads line p) all)
+      (range_with_len 0 (line_count axis g))
 
-  reached_forth : (leads : Bool) (steps n : ℕ) → steps < length (own_part leads first second) → on_lines leads steps n ≡ true →
+  reached_forth : (leads : Bool) (steps n : ℕ) → steps < length (own_part leads first second) →
+      on_lines leads steps n ≡ true →
       is_reached g table axis leads first second steps n ≡ true
   reached_forth leads steps n low is =
-      let on = any-found (λ line. list_any (λ p. nat_eq n (cell_on axis g.height line (p + steps)) && begun leads line p) all) 0 (line_count axis g) is in
+      let on = any-found (λ line. list_any (λ p. nat_eq n (cell_on axis g.height line
+      (p + steps)) && begun leads line p) all) 0 (line_count axis g) is in
       let line : ℕ = on.number in
-      let at = any-found (λ p. nat_eq n (cell_on axis g.height line (p + steps)) && begun leads line p) 0 SIDE_LIMIT on.is in
+      let at = any-found (λ p. nat_eq n (cell_on axis g.height line
+      (p + steps)) && begun leads line p) 0 SIDE_LIMIT on.is in
       let p : ℕ = at.number in
       let both = and_parts (nat_eq n (cell_on axis g.height line (p + steps))) (begun leads line p) at.is in
-      let same : n ≡ cell_on axis g.height line (p + steps) = eqb-true n (cell_on axis g.height line (p + steps)) both.0 in
+      let same : n ≡ cell_on axis g.height line (p + steps) = eqb-true n (cell_on axis g.height line
+      (p + steps)) both.0 in
       let room : p + length (own_part leads first second) ≤ line_long axis g = within_line leads line p both.1 in
       let far : p + steps < line_long axis g = omega (arith, room, low) in
       let few : line < line_count axis g = let below : line < 0 + line_count axis g = on.far in omega (arith, below) in
-      let is_line : line_of axis g.height n ≡ line = ap (line_of axis g.height) same ∙ line_of-on g axis line (p + steps) few far in
-      let is_position : position_of axis g.height n ≡ p + steps = ap (position_of axis g.height) same ∙ position_of-on g axis line (p + steps) few far in
+      let is_line : line_of axis g.height n ≡ line = ap (line_of axis g.height) same ∙ line_of-on g axis line
+      (p + steps) few far in
+      let is_position : position_of axis g.height n ≡ p + steps = ap (position_of axis g.height) same
+      ∙ position_of-on g axis line (p + steps) few far in
       let reach : steps ≤ p + steps = omega arith in
       let yes : nat_le steps (p + steps) ≡ true = grind (arith, nat_tests, reach) in
       let start : p + steps - steps ≡ p = omega arith in
       ap₂ (λ (l k : ℕ). nat_le steps k && begun leads l (k - steps)) is_line is_position
       ∙ ap₂ (λ (b : Bool) (k : ℕ). b && begun leads line k) yes start ∙ both.1
 
-  reached_back : (leads : Bool) (steps n : ℕ) → n < g.width * g.height → is_reached g table axis leads first second steps n ≡ true →
+  reached_back : (leads : Bool) (steps n : ℕ) → n < g.width * g.height →
+      is_reached g table axis leads first second steps n ≡ true →
       on_lines leads steps n ≡ true
   reached_back leads steps n low is =
       let line : ℕ = line_of axis g.height n in
@@ -289,18 +320,25 @@ module _ (g : Grid) (table : Option (List ℕ)) (axis : Axis) (first second : Li
       let far : position < line_long axis g = position_of-low g axis n grid low in
       let short : line_long axis g ≤ SIDE_LIMIT = short_lines g axis grid in
       let place : p + steps ≡ position = omega (arith, reach) in
-      let here : n ≡ cell_on axis g.height line (p + steps) = sym (ap (cell_on axis g.height line) place ∙ cell_on-of axis g.height n) in
-      any-here (λ line. list_any (λ p. nat_eq n (cell_on axis g.height line (p + steps)) && begun leads line p) all) 0 (line_count axis g) line (omega arith)
+      let here : n ≡ cell_on axis g.height line (p + steps) = sym (ap (cell_on axis g.height line) place
+      ∙ cell_on-of axis g.height n) in
+      any-here (λ line. list_any (λ p. nat_eq n (cell_on axis g.height line
+      (p + steps)) && begun leads line p) all) 0 (line_count axis g) line (omega arith)
       (let few : line < line_count axis g = line_of-low g axis n grid low in omega (arith, few))
-      (any-here (λ p. nat_eq n (cell_on axis g.height line (p + steps)) && begun leads line p) 0 SIDE_LIMIT p (omega arith) (omega (arith, far, short))
+      (any-here (λ p. nat_eq n (cell_on axis g.height line (p + steps)) && begun leads line p) 0 SIDE_LIMIT p
+      (omega arith) (omega (arith, far, short))
       (ap₂ (λ (a b : Bool). a && b) (eq-eqb n (cell_on axis g.height line (p + steps)) here) both.1))
 
-  pub targets-are : (leads : Bool) (steps n : ℕ) → steps < length (own_part leads first second) → n < g.width * g.height →
-      list_any (hits leads steps n) (places g (direction_of axis) meant) ≡ is_reached g table axis leads first second steps n
+  pub targets-are : (leads : Bool) (steps n : ℕ) → steps < length (own_part leads first second) →
+      n < g.width * g.height →
+      list_any (hits leads steps n) (places g (direction_of axis) meant) ≡ is_reached g table axis leads first second
+      steps n
   targets-are leads steps n low inside =
       ap (list_any (hits leads steps n)) (places-by_line g axis meant)
       ∙ any-flat_map (hits leads steps n) (places_along g axis meant) (range_with_len 0 (line_count axis g))
       ∙ any-alike (λ line. list_any (hits leads steps n) (places_along g axis meant line))
-      (λ line. list_any (λ p. nat_eq n (cell_on axis g.height line (p + steps)) && begun leads line p) all) (range_with_len 0 (line_count axis g))
+      (λ line. list_any (λ p. nat_eq n (cell_on axis g.height line (p + steps)) && begun leads line p) all)
+      (range_with_len 0 (line_count axis g))
       (λ line. on_line leads steps n line low)
-      ∙ same_tests (on_lines leads steps n) (is_reached g table axis leads first second steps n) (reached_forth leads steps n low) (reached_back leads steps n inside)
+      ∙ same_tests (on_lines leads steps n) (is_reached g table axis leads first second steps n)
+      (reached_forth leads steps n low) (reached_back leads steps n inside)

@@ -1,5 +1,6 @@
 -- Columns of a row of the board that have one of another set apart from them.
-use Rattle.std.proofs.Common.{◌≡◌, ◌∙◌, ℕ, zero, suc, ◌+◌, ◌-◌, ◌<◌, ◌≤◌, ◌||◌, ◌&&◌, inl, inr, Bool, true, false, not, cond, Option, List, [], ◌∷◌, filter, length, refl, sym, ap, ap₂, arith}
+use Rattle.std.proofs.Common.{◌≡◌, ◌∙◌, ℕ, zero, suc, ◌+◌, ◌-◌, ◌<◌, ◌≤◌, ◌||◌, ◌&&◌, inl, inr, Bool, true, false}
+use Rattle.std.proofs.Common.{not, cond, Option, List, [], ◌∷◌, filter, length, refl, sym, ap, ap₂, arith}
 use Rattle.std.specs.Prelude.{nat_eq, nat_le, nat_lt, slice_index_or, slice_set}
 use Rattle.std.specs.List.{list_any, range_with_len}
 use Rattle.std.proofs.Math.Bool.{and-false}
@@ -8,7 +9,8 @@ use Rattle.std.proofs.lemmas.Bool.Decides.{nat_tests}
 use Rattle.std.proofs.lemmas.List.{get_or-set_same, get_or-set_other}
 use Rattle.ps_model.specs.declared.limits.TheConstants.{SIDE_LIMIT}
 use Rattle.ps_model.specs.board.Grid.{Grid}
-use Rattle.ps_board.specs.ColumnSets.{both_columns, column_at, columns_ahead, columns_behind, columns_below, columns_without, either_columns, no_columns, set_columns, with_column}
+use Rattle.ps_board.specs.ColumnSets.{both_columns, column_at, columns_ahead, columns_behind, columns_below}
+use Rattle.ps_board.specs.ColumnSets.{columns_without, either_columns, no_columns, set_columns, with_column}
 use Rattle.ps_board.proofs.ColumnLaws.{column_at-beyond, column_at-where, first_in, none_in}
 use Rattle.ps_match.proofs.Chosen.{any_none}
 use Rattle.ps_program.specs.declared.cells.CompiledCell.{CompiledCell}
@@ -25,7 +27,7 @@ use Rattle.ps_places.proofs.RowsTogether.{le_true, true_le}
 abbrev all : List ℕ
 all = range_with_len 0 SIDE_LIMIT
 
--- reaching to the left --------------------------------------------------------------------------------------------------------
+-- reaching to the left ------------------------------------------------------------------------------------------------
 
 or_three : (a b c : Bool) → ((a || b) || c) ≡ (a || (b || c))
 or_three true b c = refl
@@ -43,12 +45,15 @@ any-join f a (suc n) m k j e d =
     ∙ ap (λ (b : Bool). f a || b) (any-join f (a + 1) n m (n + m) j refl (omega (arith, d)))
     ∙ sym (or_three (f a) (list_any f (range_with_len (a + 1) n)) (list_any f (range_with_len j m)))
 
-none_within : (set : List Bool) (x steps : ℕ) → SIDE_LIMIT ≤ x → list_any (is_within set) (range_with_len x steps) ≡ false
+none_within : (set : List Bool) (x steps : ℕ) → SIDE_LIMIT ≤ x →
+    list_any (is_within set) (range_with_len x steps) ≡ false
 none_within set x steps far =
     any_none (is_within set) x steps
-    (λ k low high. let past : SIDE_LIMIT ≤ k = omega (arith, far, low) in ap (λ (b : Bool). b && column_at set k) (le-ltb k SIDE_LIMIT past))
+    (λ k low high. let past : SIDE_LIMIT ≤ k = omega (arith, far, low) in ap (λ (b : Bool). b && column_at set k)
+    (le-ltb k SIDE_LIMIT past))
 
-pub reach-more : (reach behind more : List Bool) (steps : ℕ) → behind ≡ columns_behind reach steps → more ≡ either_columns reach behind →
+pub reach-more : (reach behind more : List Bool) (steps : ℕ) → behind ≡ columns_behind reach steps →
+    more ≡ either_columns reach behind →
     (set : List Bool) → IsReach set reach steps → IsReach set more (steps + steps)
 reach-more reach behind more steps b e set is =
     record {
@@ -57,7 +62,8 @@ reach-more reach behind more steps b e set is =
             ap (λ (cs : List Bool). column_at cs x) e
             ∙ column_at-where (λ y. column_at reach y || column_at behind y) x low
             ∙ ap₂ (λ (s t : Bool). s || t) (is.at x)
-            (ap (λ (cs : List Bool). column_at cs x) b ∙ column_at-where (λ y. column_at reach (y + steps)) x low ∙ is.at (x + steps))
+            (ap (λ (cs : List Bool). column_at cs x) b ∙ column_at-where (λ y. column_at reach (y + steps)) x low
+            ∙ is.at (x + steps))
             ∙ sym (any-join (is_within set) x steps steps (steps + steps) (x + steps) refl refl)
         | inr far ↦
             ap (λ (cs : List Bool). column_at cs x) e
@@ -72,14 +78,16 @@ once true false = refl
 once false true = refl
 once false false = refl
 
-pub reach-init : (set below one : List Bool) → below ≡ columns_below SIDE_LIMIT → one ≡ both_columns set below → IsReach set one 1
+pub reach-init : (set below one : List Bool) → below ≡ columns_below SIDE_LIMIT → one ≡ both_columns set below →
+    IsReach set one 1
 reach-init set below one b e =
     record {
       at = λ x. elim (cases_lt x SIDE_LIMIT) [
         | inl low ↦
             ap (λ (cs : List Bool). column_at cs x) e
             ∙ column_at-where (λ y. column_at set y && column_at below y) x low
-            ∙ ap (λ (t : Bool). column_at set x && t) (ap (λ (cs : List Bool). column_at cs x) b ∙ column_at-where (λ y. nat_lt y SIDE_LIMIT) x low)
+            ∙ ap (λ (t : Bool). column_at set x && t) (ap (λ (cs : List Bool). column_at cs x) b ∙ column_at-where
+            (λ y. nat_lt y SIDE_LIMIT) x low)
             ∙ once (column_at set x) (nat_lt x SIDE_LIMIT)
         | inr far ↦
             ap (λ (cs : List Bool). column_at cs x) e
@@ -88,25 +96,30 @@ reach-init set below one b e =
       ];
     }
 
--- and to the right ------------------------------------------------------------------------------------------------------------
+-- and to the right ----------------------------------------------------------------------------------------------------
 
-least_by : (f : ℕ → Bool) (a n k o : ℕ) (ks : List ℕ) (here : Bool) → f a ≡ here → filter f (range_with_len a n) ≡ k ∷ ks → a ≤ o → o < k → f o ≡ false
+least_by : (f : ℕ → Bool) (a n k o : ℕ) (ks : List ℕ) (here : Bool) → f a ≡ here →
+    filter f (range_with_len a n) ≡ k ∷ ks → a ≤ o → o < k → f o ≡ false
 least_by f a zero k o ks here e is low high = absurd (cc)
 least_by f a (suc n) k o ks true e is low high =
-    let same : a ∷ filter f (range_with_len (a + 1) n) ≡ k ∷ ks = ap (λ (b : Bool). cond b (a ∷ filter f (range_with_len (a + 1) n)) (filter f (range_with_len (a + 1) n))) (sym e) ∙ is in
+    let same : a ∷ filter f (range_with_len (a + 1) n) ≡ k ∷ ks = ap (λ (b : Bool). cond b (a ∷ filter f
+    (range_with_len (a + 1) n)) (filter f (range_with_len (a + 1) n))) (sym e) ∙ is in
     let first : a ≡ k = cc in
     absurd (omega (arith, first, low, high))
 least_by f a (suc n) k o ks false e is low high = elim (cases_eq o a) [
   | inl same ↦ ap f same ∙ e
   | inr other ↦
       least_by f (a + 1) n k o ks (f (a + 1)) refl
-      (ap (λ (b : Bool). cond b (a ∷ filter f (range_with_len (a + 1) n)) (filter f (range_with_len (a + 1) n))) (sym e) ∙ is)
+      (ap (λ (b : Bool). cond b (a ∷ filter f (range_with_len (a + 1) n)) (filter f (range_with_len (a + 1) n)))
+      (sym e) ∙ is)
       (omega (arith, low, other)) high
 ]
 
-before_first : (set : List Bool) (first o : ℕ) (others : List ℕ) → set_columns set ≡ first ∷ others → o < first → column_at set o ≡ false
+before_first : (set : List Bool) (first o : ℕ) (others : List ℕ) → set_columns set ≡ first ∷ others → o < first →
+    column_at set o ≡ false
 unfolding set_columns
-before_first set first o others is low = least_by (column_at set) 0 SIDE_LIMIT first o others (column_at set 0) refl is (omega arith) low
+before_first set first o others is low = least_by (column_at set) 0 SIDE_LIMIT first o others
+    (column_at set 0) refl is (omega arith) low
 
 pub passed-none : (set none : List Bool) → set_columns set ≡ [] → none ≡ no_columns → AreWhere (is_passed set) none
 passed-none set none is e =
@@ -114,11 +127,14 @@ passed-none set none is e =
       at = λ x low.
           none_has none x e
           ∙ sym (any_none (λ o. nat_le o x && column_at set o) 0 SIDE_LIMIT
-          (λ o near far. ap (λ (b : Bool). nat_le o x && b) (none_in set o is (omega (arith, far))) ∙ and-false (nat_le o x)));
+          (λ o near far. ap (λ (b : Bool). nat_le o x && b) (none_in set o is (omega (arith, far))) ∙ and-false
+          (nat_le o x)));
     }
 
-pub passed-some : (set below before reach : List Bool) (first : ℕ) (others : List ℕ) → set_columns set ≡ first ∷ others →
-    below ≡ columns_below SIDE_LIMIT → before ≡ columns_below first → reach ≡ columns_without below before → AreWhere (is_passed set) reach
+pub passed-some : (set below before reach : List Bool) (first : ℕ) (others : List ℕ) →
+    set_columns set ≡ first ∷ others →
+    below ≡ columns_below SIDE_LIMIT → before ≡ columns_below first → reach ≡ columns_without below before →
+    AreWhere (is_passed set) reach
 passed-some set below before reach first others is b d e =
     record {
       at = λ x low.
@@ -133,19 +149,22 @@ passed-some set below before reach first others is b d e =
             | inl short ↦
                 ap not (lt-ltb x first short)
                 ∙ sym (any_none (λ o. nat_le o x && column_at set o) 0 SIDE_LIMIT
-                (λ o near far. not_yet x o (nat_le o x) refl (λ within. before_first set first o others is (omega (arith, within, short)))))
+                (λ o near far. not_yet x o (nat_le o x) refl (λ within. before_first set first o others is (omega
+                (arith, within, short)))))
             | inr far ↦
                 let yes : nat_le first x ≡ true = grind (arith, nat_tests, far) in
                 ap not (le-ltb x first far)
-                ∙ sym (any-here (λ o. nat_le o x && column_at set o) 0 SIDE_LIMIT first (omega arith) (omega (arith, least.1))
+                ∙ sym (any-here (λ o. nat_le o x && column_at set o) 0 SIDE_LIMIT first (omega arith) (omega
+                (arith, least.1))
                 (ap₂ (λ (s t : Bool). s && t) yes least.0))
           ];
     } where
-      not_yet : (x o : ℕ) (b : Bool) → nat_le o x ≡ b → (o ≤ x → column_at set o ≡ false) → (b && column_at set o) ≡ false
+      not_yet : (x o : ℕ) (b : Bool) → nat_le o x ≡ b → (o ≤ x → column_at set o ≡ false) →
+          (b && column_at set o) ≡ false
       not_yet x o true t none = let within : o ≤ x = grind (arith, nat_tests, t) in none within
       not_yet x o false t none = refl
 
--- pairs -----------------------------------------------------------------------------------------------------------------------
+-- pairs ---------------------------------------------------------------------------------------------------------------
 
 reached : (set : List Bool) (from : ℕ) →
     list_any (is_within set) (range_with_len from SIDE_LIMIT) ≡ list_any (λ o. nat_le from o && column_at set o) all
@@ -155,26 +174,31 @@ reached set from =
     let found = any-found (is_within set) from SIDE_LIMIT e in
     let near : from ≤ found.number = found.near in
     let both = and_parts (nat_lt found.number SIDE_LIMIT) (column_at set found.number) found.is in
-    let low : found.number < SIDE_LIMIT = let t : nat_lt found.number SIDE_LIMIT ≡ true = both.0 in grind (arith, nat_tests, t) in
+    let low : found.number < SIDE_LIMIT = let t : nat_lt found.number SIDE_LIMIT ≡ true = both.0 in grind
+    (arith, nat_tests, t) in
     let yes : nat_le from found.number ≡ true = grind (arith, nat_tests, near) in
-    any-here (λ o. nat_le from o && column_at set o) 0 SIDE_LIMIT found.number (omega arith) (omega (arith, low)) (ap₂ (λ (s t : Bool). s && t) yes both.1))
+    any-here (λ o. nat_le from o && column_at set o) 0 SIDE_LIMIT found.number (omega arith) (omega (arith, low))
+    (ap₂ (λ (s t : Bool). s && t) yes both.1))
     (λ e.
     let found = any-found (λ o. nat_le from o && column_at set o) 0 SIDE_LIMIT e in
     let far : found.number < 0 + SIDE_LIMIT = found.far in
     let low : found.number < SIDE_LIMIT = omega (arith, far) in
     let both = and_parts (nat_le from found.number) (column_at set found.number) found.is in
     let near : from ≤ found.number = let t : nat_le from found.number ≡ true = both.0 in grind (arith, nat_tests, t) in
-    any-here (is_within set) from SIDE_LIMIT found.number near (omega (arith, low, near)) (ap₂ (λ (s t : Bool). s && t) (lt-ltb found.number SIDE_LIMIT low) both.1))
+    any-here (is_within set) from SIDE_LIMIT found.number near (omega (arith, low, near)) (ap₂ (λ
+    (s t : Bool). s && t) (lt-ltb found.number SIDE_LIMIT low) both.1))
 
 pub paired-leading : (size : ℕ) (fronts backs reach behind pairs : List Bool) → IsReach backs reach SIDE_LIMIT →
-    behind ≡ columns_behind reach size → pairs ≡ both_columns fronts behind → AreWhere (is_paired true size fronts backs) pairs
+    behind ≡ columns_behind reach size → pairs ≡ both_columns fronts behind →
+    AreWhere (is_paired true size fronts backs) pairs
 paired-leading size fronts backs reach behind pairs is b e =
     record {
       at = λ x low.
           ap (λ (cs : List Bool). column_at cs x) e
           ∙ column_at-where (λ y. column_at fronts y && column_at behind y) x low
           ∙ ap (λ (t : Bool). column_at fronts x && t)
-          (ap (λ (cs : List Bool). column_at cs x) b ∙ column_at-where (λ y. column_at reach (y + size)) x low ∙ is.at (x + size) ∙ reached backs (x + size));
+          (ap (λ (cs : List Bool). column_at cs x) b ∙ column_at-where (λ y. column_at reach (y + size)) x low
+          ∙ is.at (x + size) ∙ reached backs (x + size));
     }
 
 passed_on : (set : List Bool) (size x : ℕ) →
@@ -189,7 +213,8 @@ passed_on set size x =
     let near : found.number ≤ x - size = true_le found.number (x - size) one.0 in
     let reach : found.number + size ≤ x = omega (arith, far, near) in
     let yes : nat_le (found.number + size) x ≡ true = le_true (found.number + size) x reach in
-    any-here (λ o. nat_le (o + size) x && column_at set o) 0 SIDE_LIMIT found.number found.near found.far (ap₂ (λ (s t : Bool). s && t) yes one.1))
+    any-here (λ o. nat_le (o + size) x && column_at set o) 0 SIDE_LIMIT found.number found.near found.far (ap₂ (λ
+    (s t : Bool). s && t) yes one.1))
     (λ e.
     let found = any-found (λ o. nat_le (o + size) x && column_at set o) 0 SIDE_LIMIT e in
     let one = and_parts (nat_le (found.number + size) x) (column_at set found.number) found.is in
@@ -199,10 +224,12 @@ passed_on set size x =
     let first : nat_le size x ≡ true = le_true size x far in
     let second : nat_le found.number (x - size) ≡ true = le_true found.number (x - size) near in
     ap₂ (λ (s t : Bool). s && t) first
-    (any-here (λ o. nat_le o (x - size) && column_at set o) 0 SIDE_LIMIT found.number found.near found.far (ap₂ (λ (s t : Bool). s && t) second one.1)))
+    (any-here (λ o. nat_le o (x - size) && column_at set o) 0 SIDE_LIMIT found.number found.near found.far (ap₂ (λ
+    (s t : Bool). s && t) second one.1)))
 
 pub paired-following : (size : ℕ) (fronts backs reach ahead pairs : List Bool) → AreWhere (is_passed fronts) reach →
-    ahead ≡ columns_ahead reach size → pairs ≡ both_columns backs ahead → AreWhere (is_paired false size fronts backs) pairs
+    ahead ≡ columns_ahead reach size → pairs ≡ both_columns backs ahead →
+    AreWhere (is_paired false size fronts backs) pairs
 paired-following size fronts backs reach ahead pairs is b e =
     record {
       at = λ x low.
@@ -215,64 +242,77 @@ paired-following size fronts backs reach ahead pairs is b e =
           ∙ passed_on fronts size x);
     }
 
--- columns of a row that are kept --------------------------------------------------------------------------------------------------
+-- columns of a row that are kept --------------------------------------------------------------------------------------
 
 kept_by : (columns : List Bool) (x : ℕ) (empty : Bool) → x < SIDE_LIMIT → (empty ≡ true → set_columns columns ≡ []) →
     (not empty && column_at columns x) ≡ column_at columns x
 kept_by columns x true low none = sym (none_in columns x (none refl) low)
 kept_by columns x false low none = refl
 
-some_by : (rows : List Bool) (old : List (List Bool)) (row other : ℕ) (columns : List Bool) (empty : Bool) → row < SIDE_LIMIT → row < length old →
+some_by : (rows : List Bool) (old : List (List Bool)) (row other : ℕ) (columns : List Bool) (empty : Bool) →
+    row < SIDE_LIMIT → row < length old →
     (empty ≡ false → 0 < length (set_columns columns)) →
     (column_at rows other ≡ true → 0 < length (set_columns (slice_index_or old other []))) →
-    column_at (with_column rows row (not empty)) other ≡ true → 0 < length (set_columns (slice_index_or (slice_set old row columns) other []))
+    column_at (with_column rows row (not empty)) other ≡ true →
+    0 < length (set_columns (slice_index_or (slice_set old row columns) other []))
 some_by rows old row other columns empty low room some before is = elim (cases_eq other row) [
   | inl same ↦
-      let yes : not empty ≡ true = sym (with_here rows row (not empty) low) ∙ ap (column_at (with_column rows row (not empty))) (sym same) ∙ is in
+      let yes : not empty ≡ true = sym (with_here rows row (not empty) low) ∙ ap (column_at (with_column rows row
+      (not empty))) (sym same) ∙ is in
       let read : slice_index_or (slice_set old row columns) other [] ≡ columns =
       ap (λ (k : ℕ). slice_index_or (slice_set old row columns) k []) same ∙ get_or-set_same old row columns [] room in
       rw read (some (by empty yes))
   | inr apart ↦ elim (cases_lt other SIDE_LIMIT) [
-    | inl near ↦ rw (get_or-set_other old row other columns [] apart) (before (sym (with_other rows row other (not empty) near apart) ∙ is))
-    | inr far ↦ let clash : false ≡ true = sym (column_at-beyond (λ y. cond (nat_eq y row) (not empty) (column_at rows y)) other far) ∙ is in absurd (cc)
+    | inl near ↦ rw (get_or-set_other old row other columns [] apart) (before (sym (with_other rows row other
+        (not empty) near apart) ∙ is))
+    | inr far ↦ let clash : false ≡ true = sym (column_at-beyond (λ y. cond (nat_eq y row) (not empty)
+        (column_at rows y)) other far) ∙ is in absurd (cc)
   ]
 ] where
   by : (b : Bool) → not b ≡ true → b ≡ false
   by true e = absurd (cc)
   by false e = refl
 
-pub row-kept : (rows : List Bool) (old : List (List Bool)) (row : ℕ) (columns more : List Bool) (new : List (List Bool)) (empty : Bool) →
-    row < SIDE_LIMIT → SIDE_LIMIT ≤ length old → (empty ≡ true → set_columns columns ≡ []) → (empty ≡ false → 0 < length (set_columns columns)) →
+pub row-kept : (rows : List Bool) (old : List (List Bool)) (row : ℕ) (columns more : List Bool) (new : List
+    (List Bool)) (empty : Bool) →
+    row < SIDE_LIMIT → SIDE_LIMIT ≤ length old → (empty ≡ true → set_columns columns ≡ []) → (empty ≡ false →
+    0 < length (set_columns columns)) →
     more ≡ with_column rows row (not empty) → new ≡ slice_set old row columns → IsRowKept rows old row columns more new
 row-kept rows old row columns more new empty low long none some m n =
     let room : row < length old = omega (arith, low, long) in
     record {
       here = λ x near.
           ap₂ (λ (rs : List Bool) (ss : List (List Bool)). is_kept rs ss row x) m n
-          ∙ ap₂ (λ (b : Bool) (cs : List Bool). b && column_at cs x) (with_here rows row (not empty) low) (get_or-set_same old row columns [] room)
+          ∙ ap₂ (λ (b : Bool) (cs : List Bool). b && column_at cs x) (with_here rows row (not empty) low)
+          (get_or-set_same old row columns [] room)
           ∙ kept_by columns x empty near none;
       others = λ other x near apart.
           ap₂ (λ (rs : List Bool) (ss : List (List Bool)). is_kept rs ss other x) m n
-          ∙ ap₂ (λ (b : Bool) (cs : List Bool). b && column_at cs x) (with_other rows row other (not empty) near apart) (get_or-set_other old row other columns [] apart);
+          ∙ ap₂ (λ (b : Bool) (cs : List Bool). b && column_at cs x) (with_other rows row other
+          (not empty) near apart) (get_or-set_other old row other columns [] apart);
       kept = λ height high kept. record {
         below = with_below rows more row height (not empty) m high kept.below;
         some = λ other is.
-            let there : column_at (with_column rows row (not empty)) other ≡ true = sym (ap (λ (cs : List Bool). column_at cs other) m) ∙ is in
+            let there : column_at (with_column rows row (not empty)) other ≡ true = sym (ap (λ
+            (cs : List Bool). column_at cs other) m) ∙ is in
             rw n (some_by rows old row other columns empty low room some (kept.some other) there);
       };
     }
 
--- columns in which a part begins that goes down -------------------------------------------------------------------------------------
+-- columns in which a part begins that goes down -----------------------------------------------------------------------
 
-pub begun-below : (g : Grid) (table : Option (List ℕ)) (part : List CompiledCell) (row : ℕ) (none : List Bool) → 0 < length part →
+pub begun-below : (g : Grid) (table : Option (List ℕ)) (part : List CompiledCell) (row : ℕ) (none : List Bool) →
+    0 < length part →
     g.height ≤ row → none ≡ no_columns → AreWhere (begins_down g table part row) none
 begun-below g table part row none some far e =
     record { at = λ x low. none_has none x e ∙ sym (below_edge g table part x row some far) }
 
 pub begun-out : (g : Grid) (table : Option (List ℕ)) (part : List CompiledCell) (row : ℕ) (rows none : List Bool) →
-    BeginsOnlyOn g table Down part rows → row < g.height → column_at rows row ≡ false → none ≡ no_columns → AreWhere (begins_down g table part row) none
+    BeginsOnlyOn g table Down part rows → row < g.height → column_at rows row ≡ false → none ≡ no_columns →
+    AreWhere (begins_down g table part row) none
 begun-out g table part row rows none only low out e =
     record {
       at = λ x near.
-          none_has none x e ∙ sym (room_by g table part rows x row (nat_le (row + length part) g.height) refl only low out);
+          none_has none x e ∙ sym (room_by g table part rows x row (nat_le
+          (row + length part) g.height) refl only low out);
     }

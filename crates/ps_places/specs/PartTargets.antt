@@ -1,6 +1,7 @@
--- Rows of two parts: the positions at which one of the parts begins on a line of the board and has a partner, that is, the other part
--- begins on the same line where both have room.
-use Rattle.std.specs.Prelude.{◌≡◌, ◌≢◌, ℕ, ◌+◌, ◌-◌, ◌/◌, ◌%◌, ◌<◌, nat_le, nat_lt, Bool, true, false, ◌&&◌, Option, List, [], length, slice_index_or}
+-- Rows of two parts: the positions at which one of the parts begins on a line of the board and has a partner, that
+-- is, the other part begins on the same line where both have room.
+use Rattle.std.specs.Prelude.{◌≡◌, ◌≢◌, ℕ, ◌+◌, ◌-◌, ◌/◌, ◌%◌, ◌<◌, nat_le, nat_lt, Bool, true, false, ◌&&◌, Option}
+use Rattle.std.specs.Prelude.{List, [], length, slice_index_or}
 use Rattle.std.specs.List.{list_any, range_with_len}
 use Rattle.ps_model.specs.declared.limits.TheConstants.{SIDE_LIMIT}
 use Rattle.ps_model.specs.board.Grid.{Grid}
@@ -27,13 +28,15 @@ is_apart false size own other = nat_le (other + size) own
 -- the other part begins somewhere on the line, apart from this one
 abbrev pub has_partner : Grid → Option (List ℕ) → Axis → Bool → List CompiledCell → List CompiledCell → ℕ → ℕ → Bool
 has_partner g table axis leads first second line own =
-    list_any (λ other. is_apart leads (length first) own other && begins_on g table axis line (other_part leads first second) other)
+    list_any (λ other. is_apart leads (length first) own other && begins_on g table axis line
+    (other_part leads first second) other)
     (range_with_len 0 SIDE_LIMIT)
 
 -- the part begins at a position of a line and has a partner
 abbrev pub is_target : Grid → Option (List ℕ) → Axis → Bool → List CompiledCell → List CompiledCell → ℕ → ℕ → Bool
 is_target g table axis leads first second line position =
-    begins_on g table axis line (own_part leads first second) position && has_partner g table axis leads first second line position
+    begins_on g table axis line (own_part leads first second) position && has_partner g table axis leads first second
+    line position
 
 -- the line of a cell, and its position there
 abbrev pub line_of : Axis → ℕ → ℕ → ℕ
@@ -55,7 +58,7 @@ abbrev pub number_in_row : Bool → ℕ → ℕ → ℕ
 number_in_row true size steps = steps
 number_in_row false size steps = size + steps
 
--- rows of the board -------------------------------------------------------------------------------------------------------------
+-- rows of the board ---------------------------------------------------------------------------------------------------
 
 -- the part begins in a column of a row of the board, and has a partner
 abbrev pub target_at : Grid → Option (List ℕ) → Axis → Bool → List CompiledCell → List CompiledCell → ℕ → ℕ → Bool
@@ -72,23 +75,26 @@ pub record AreKept (height : ℕ) (rows : List Bool) (starts : List (List Bool))
   pub some : (row : ℕ) → column_at rows row ≡ true → 0 < length (set_columns (slice_index_or starts row []))
 
 -- columns are kept of one more row, if there are some
-pub record IsRowKept (rows : List Bool) (old : List (List Bool)) (row : ℕ) (columns more : List Bool) (new : List (List Bool)) : Type 0 where
+pub record IsRowKept (rows : List Bool) (old : List (List Bool)) (row : ℕ) (columns more : List Bool) (new : List
+    (List Bool)) : Type 0 where
   pub here : (x : ℕ) → x < SIDE_LIMIT → is_kept more new row x ≡ column_at columns x
   pub others : (other x : ℕ) → other < SIDE_LIMIT → other ≢ row → is_kept more new other x ≡ is_kept rows old other x
   pub kept : (height : ℕ) → row < height → AreKept height rows old → AreKept height more new
 
 -- the targets on a row are those that are kept
-pub record IsRowOfTargets (g : Grid) (table : Option (List ℕ)) (axis : Axis) (leads : Bool) (first second : List CompiledCell)
+pub record IsRowOfTargets (g : Grid) (table : Option (List ℕ)) (axis : Axis) (leads : Bool)
+    (first second : List CompiledCell)
     (rows : List Bool) (starts : List (List Bool)) (row : ℕ) : Type 0 where
   pub at : (x : ℕ) → x < SIDE_LIMIT → is_kept rows starts row x ≡ target_at g table axis leads first second row x
 
 -- so for each row of the board
-pub record AreTargets (g : Grid) (table : Option (List ℕ)) (axis : Axis) (leads : Bool) (first second : List CompiledCell)
+pub record AreTargets (g : Grid) (table : Option (List ℕ)) (axis : Axis) (leads : Bool)
+    (first second : List CompiledCell)
     (rows : List Bool) (starts : List (List Bool)) : Type 0 where
   pub each : (row : ℕ) → row < g.height → IsRowOfTargets g table axis leads first second rows starts row
   pub kept : AreKept g.height rows starts
 
--- sets of columns -----------------------------------------------------------------------------------------------------------------
+-- sets of columns -----------------------------------------------------------------------------------------------------
 
 -- a set of columns, of the part that is spoken of or of the other one
 abbrev pub own_set : Bool → List Bool → List Bool → List Bool
@@ -103,7 +109,8 @@ other_set false fronts backs = fronts
 abbrev pub is_paired : Bool → ℕ → List Bool → List Bool → ℕ → Bool
 is_paired leads size fronts backs x =
     column_at (own_set leads fronts backs) x
-    && list_any (λ other. is_apart leads size x other && column_at (other_set leads fronts backs) other) (range_with_len 0 SIDE_LIMIT)
+    && list_any (λ other. is_apart leads size x other && column_at (other_set leads fronts backs) other)
+    (range_with_len 0 SIDE_LIMIT)
 
 -- one of a set lies less than so many columns to the right, or at the column itself
 abbrev pub is_within : List Bool → ℕ → Bool

@@ -1,5 +1,5 @@
-//! Where one of the two parts of a row begins and has a partner: the other part begins on the same line of the board, where
-//! both have room.
+//! Where one of the two parts of a row begins and has a partner: the other part begins on the same line of the board,
+//! where both have room.
 
 ghost use Rattle.std.specs.Prelude.{◌≡◌, ℕ, ◌+◌, ◌<◌, ◌≤◌, List, Bool, [], false, length, slice_index_or, true};
 ghost use Rattle.ps_model.specs.declared.limits.TheConstants.{SIDE_LIMIT};
@@ -49,8 +49,8 @@ fn from_first(set: Columns) -> Columns
     Columns::below(SIDE_LIMIT).without(Columns::below(first))
 }
 
-/// Of the columns in which the first part begins on a row of the board and of those of the second, those of the first if
-/// it `leads`, else of the second, that have one of the others where both have room. The first part is so long.
+/// Of the columns in which the first part begins on a row of the board and of those of the second, those of the first
+/// if it `leads`, else of the second, that have one of the others where both have room. The first part is so long.
 fn paired(leads: bool, size: u32, fronts: Columns, backs: Columns) -> Columns
     requires { size < SIDE_LIMIT }
     ensures { AreWhere (is_paired leads size fronts backs) result }
@@ -105,8 +105,8 @@ fn find_across<B: Scan>(
     rows
 }
 
-/// The columns of a row of the board where a part begins that goes down; `rows` are the only ones of the board on which it
-/// may. Below the board it begins nowhere.
+/// The columns of a row of the board where a part begins that goes down; `rows` are the only ones of the board on
+/// which it may. Below the board it begins nowhere.
 fn columns_begun<B: Scan>(board: &B, part: &[CompiledCell], rows: Columns, row: u32) -> Columns
     requires part { HasCell part.now }
     requires rows { BeginsOnlyOn (B.grid board.now) (B.table board.now) Down part.now rows }
@@ -122,8 +122,8 @@ fn columns_begun<B: Scan>(board: &B, part: &[CompiledCell], rows: Columns, row: 
     columns_down(board, part, row)
 }
 
-/// Finds the targets of the second of two parts that go down, and answers the rows of the board that have one. It is gone
-/// downwards, and all columns are held in which the first part begins high enough.
+/// Finds the targets of the second of two parts that go down, and answers the rows of the board that have one. It is
+/// gone downwards, and all columns are held in which the first part begins high enough.
 fn find_below<B: Scan>(
     board: &B,
     first: &[CompiledCell],
@@ -153,8 +153,8 @@ fn find_below<B: Scan>(
     rows
 }
 
-/// Finds the targets of the first of two parts that go down, and answers the rows of the board that have one. It is gone
-/// upwards, and all columns are held in which the second part begins low enough.
+/// Finds the targets of the first of two parts that go down, and answers the rows of the board that have one. It is
+/// gone upwards, and all columns are held in which the second part begins low enough.
 fn find_above<B: Scan>(
     board: &B,
     first: &[CompiledCell],
@@ -187,9 +187,9 @@ fn find_above<B: Scan>(
 }
 
 impl RowRoom {
-    /// Finds where one of a row's two parts begins and has a partner as the board is, the first part if it `leads`, else the
-    /// second: a set of columns for each row of the board. Answers the rows that have one. What the room kept before is
-    /// forgotten. No memory is taken.
+    /// Finds where one of a row's two parts begins and has a partner as the board is, the first part if it `leads`,
+    /// else the second: a set of columns for each row of the board. Answers the rows that have one. What the room
+    /// kept before is forgotten. No memory is taken.
     pub fn find_targets<B: Scan>(&mut self, board: &B, row: &CompiledRow, leads: bool) -> Columns
         requires { length row.now.parts ≡ 2 }
         ensures { let parts = row.now.parts in

@@ -1,6 +1,8 @@
--- Rules of one row of two parts of which one cell alone changes anything, and what it writes keeps the masks of all others: wherever
--- the row fits, it is written and nothing else, and it is written once, as the same write behind it makes the same.
-use Rattle.std.specs.Prelude.{◌≡◌, ℕ, ◌+◌, nat_lt, if◌then◌else◌, Bool, true, false, ◌&&◌, not, Option, Some, None, List, [], ◌∷◌}
+-- Rules of one row of two parts of which one cell alone changes anything, and what it writes keeps the masks of all
+-- others: wherever the row fits, it is written and nothing else, and it is written once, as the same write behind it
+-- makes the same.
+use Rattle.std.specs.Prelude.{◌≡◌, ℕ, ◌+◌, nat_lt, if◌then◌else◌, Bool, true, false, ◌&&◌, not, Option, Some, None}
+use Rattle.std.specs.Prelude.{List, [], ◌∷◌}
 use Rattle.std.specs.Prelude.{drop, slice_get, take}
 use Rattle.std.specs.List.{list_all}
 use Rattle.ps_model.specs.declared.limits.TheConstants.{SIDE_LIMIT}
@@ -46,11 +48,13 @@ cell_writes_alone None before behind other = false
 cell_writes_alone (Some cell) before behind other =
     settles (write_shown cell.write)
     && (list_all (stands_aside (write_shown cell.write)) before
-    && (list_all (stands_aside (write_shown cell.write)) behind && list_all (stands_aside (write_shown cell.write)) other))
+    && (list_all (stands_aside (write_shown cell.write)) behind && list_all (stands_aside
+    (write_shown cell.write)) other))
 
 -- the cell of a part with a number alone changes anything in this part and the other
 abbrev pub writes_alone : List CompiledCell → ℕ → List CompiledCell → Bool
-writes_alone part number other = cell_writes_alone (slice_get part number) (take number part) (drop (number + 1) part) other
+writes_alone part number other = cell_writes_alone (slice_get part number) (take number part) (drop
+    (number + 1) part) other
 
 abbrev pub part_writer : List CompiledCell → ℕ → List CompiledCell → Bool
 part_writer part number other = nat_lt number SIDE_LIMIT && writes_alone part number other

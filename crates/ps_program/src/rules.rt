@@ -33,8 +33,8 @@ pub struct CompiledRule<'r> {
     /// No write of its cells may wake a mask of its cells: where a row doesn't fit, it doesn't in the rest of an
     /// attempt. Where this isn't set, it may be so or not.
     pub sleeps: bool,
-    /// The cell that alone changes anything, where the rule is one row of two parts and the cell's write keeps the masks of
-    /// all others. Where this isn't told, it may be so or not.
+    /// The cell that alone changes anything, where the rule is one row of two parts and the cell's write keeps the
+    /// masks of all others. Where this isn't told, it may be so or not.
     pub writer: Option<Writer>,
     ghost along: { All (LiesAlong axis) rows },
     ghost needs: { needed ≡ rows_need rows },

@@ -1,4 +1,5 @@
-//! Rules of one row of two parts of which one cell alone changes anything: what it writes keeps the masks of all others.
+//! Rules of one row of two parts of which one cell alone changes anything: what it writes keeps the masks of all
+//! others.
 
 ghost use Rattle.std.specs.Prelude.{◌≡◌, ◌<◌, IfSome, length, true};
 ghost use Rattle.std.specs.List.{list_all};

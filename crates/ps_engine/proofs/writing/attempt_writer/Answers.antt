@@ -21,10 +21,13 @@ returns-then-is_empty-clause-attempt g c =
     let row_is : row ≡ slice_index_or rule.rows 0 row =
     c.index-as_slice-0.is ∙ ap (λ (rs : List CompiledRow). slice_index_or rs 0 row) c.as_slice.ensures in
     let empty : c.is_empty.result ≡ true = search rules in
-    attempt_none (direction_of rule.axis) (rows_meaning table rule.rows) rule.rewrites (commands_shown rule.commands.now) grid c.args.queue.now
+    attempt_none (direction_of rule.axis) (rows_meaning table rule.rows) rule.rewrites
+    (commands_shown rule.commands.now) grid c.args.queue.now
     (combinations_on grid (rule_meaning table rule))
-    (none_here grid table rule c.args.writer row c.writing_cell-cell.result.now c.size-width.ensures.shape c.requires.writer row_is
-    c.writing_cell-cell.ensures c.find_targets-rows.result c.find_targets-rows.new.self.starts.items c.find_targets-rows.ensures (c.is_empty.ensures.none empty))
+    (none_here grid table rule c.args.writer row c.writing_cell-cell.result.now c.size-width.ensures.shape
+    c.requires.writer row_is
+    c.writing_cell-cell.ensures c.find_targets-rows.result c.find_targets-rows.new.self.starts.items
+    c.find_targets-rows.ensures (c.is_empty.ensures.none empty))
 
 pub write_targets-requires : goal.write_targets-requires
 write_targets-requires g c =
@@ -34,8 +37,10 @@ write_targets-requires g c =
     let row : CompiledRow = c.index-as_slice-0.result in
     let row_is : row ≡ slice_index_or rule.rows 0 row =
     c.index-as_slice-0.is ∙ ap (λ (rs : List CompiledRow). slice_index_or rs 0 row) c.as_slice.ensures in
-    inside grid table rule c.args.writer row c.writing_cell-cell.result.now c.size-width.ensures.shape c.requires.writer row_is
-    c.writing_cell-cell.ensures c.find_targets-rows.result c.find_targets-rows.new.self.starts.items c.find_targets-rows.ensures
+    inside grid table rule c.args.writer row c.writing_cell-cell.result.now c.size-width.ensures.shape
+    c.requires.writer row_is
+    c.writing_cell-cell.ensures c.find_targets-rows.result c.find_targets-rows.new.self.starts.items
+    c.find_targets-rows.ensures
 
 pub returns-clause-attempt : goal.returns-clause-attempt
 returns-clause-attempt g c =
@@ -46,16 +51,29 @@ returns-clause-attempt g c =
     let row_is : row ≡ slice_index_or rule.rows 0 row =
     c.index-as_slice-0.is ∙ ap (λ (rs : List CompiledRow). slice_index_or rs 0 row) c.as_slice.ensures in
     let filled : c.is_empty.result ≡ false = search rules in
-    let after : Rewritten = record { grid = g.B.Board.grid c.write_targets.new.board; changed = c.write_targets.result } in
+    let after : Rewritten = record {
+      grid = g.B.Board.grid c.write_targets.new.board;
+      changed =
+          c.write_targets.result;
+    } in
     let all : List (List (List ℕ)) = combinations_on grid (rule_meaning table rule) in
     let made : after ≡ fold (applied (rows_meaning table rule.rows)) (unchanged grid) all =
     c.write_targets.ensures.rewritten
-    ∙ written_here grid table rule c.args.writer row c.writing_cell-cell.result.now c.size-width.ensures.shape c.requires.writer row_is
-    c.writing_cell-cell.ensures c.find_targets-rows.result c.find_targets-rows.new.self.starts.items c.find_targets-rows.ensures in
+    ∙ written_here grid table rule c.args.writer row c.writing_cell-cell.result.now c.size-width.ensures.shape
+    c.requires.writer row_is
+    c.writing_cell-cell.ensures c.find_targets-rows.result c.find_targets-rows.new.self.starts.items
+    c.find_targets-rows.ensures in
     let some : all ≢ [] =
-    some_here grid table rule c.args.writer row c.writing_cell-cell.result.now c.size-width.ensures.shape c.requires.writer row_is
-    c.writing_cell-cell.ensures c.find_targets-rows.result c.find_targets-rows.new.self.starts.items c.find_targets-rows.ensures
+    some_here grid table rule c.args.writer row c.writing_cell-cell.result.now c.size-width.ensures.shape
+    c.requires.writer row_is
+    c.writing_cell-cell.ensures c.find_targets-rows.result c.find_targets-rows.new.self.starts.items
+    c.find_targets-rows.ensures
     (c.is_empty.ensures.some filled) in
-    ap (λ (q : Commands). let r : Result = record { state = record { grid = after.grid; queue = q }; changed = after.changed } in r) c.enter.ensures
-    ∙ attempt_written (direction_of rule.axis) (rows_meaning table rule.rows) rule.rewrites (commands_shown rule.commands.now) grid c.args.queue.now
+    ap (λ (q : Commands). let r : Result = record {
+      state = record { grid = after.grid; queue = q };
+      changed =
+          after.changed;
+    } in r) c.enter.ensures
+    ∙ attempt_written (direction_of rule.axis) (rows_meaning table rule.rows) rule.rewrites
+    (commands_shown rule.commands.now) grid c.args.queue.now
     all after c.requires.rewrites some made

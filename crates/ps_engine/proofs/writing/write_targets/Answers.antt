@@ -16,20 +16,24 @@ use Rattle.ps_engine.proofs.writing.write_targets.Goals as goal
 pub loop-row-init : goal.loop-row-init
 loop-row-init g c =
     let start : Grid = g.B.Board.grid c.args.board.now in
-    let becomes : List Slot → List Slot = cell_written (write_in_room (g.B.Board.table c.args.board.now) (write_shown c.args.write.now)) in
+    let becomes : List Slot → List Slot = cell_written (write_in_room (g.B.Board.table c.args.board.now)
+    (write_shown c.args.write.now)) in
     record {
       among = all-of c.args.rows;
-      rewritten = no_row_behind start becomes c.args.axis c.args.steps c.args.rows c.args.room.now.starts.items c.size-width.ensures.shape;
+      rewritten = no_row_behind start becomes c.args.axis c.args.steps c.args.rows c.args.room.now.starts.items
+          c.size-width.ensures.shape;
       table = refl;
     }
 
 pub write_behind-changed-requires : goal.write_behind-changed-requires
 write_behind-changed-requires g c =
     let start : Grid = g.B.Board.grid c.args.board.now in
-    let becomes : List Slot → List Slot = cell_written (write_in_room (g.B.Board.table c.args.board.now) (write_shown c.args.write.now)) in
+    let becomes : List Slot → List Slot = cell_written (write_in_room (g.B.Board.table c.args.board.now)
+    (write_shown c.args.write.now)) in
     let high : (g.B.Board.grid c.loop-row.board).height ≡ start.height =
     ap (λ (r : Rewritten). r.grid.height) c.loop-row.invariant.rewritten
-    ∙ height-where start becomes (passed_by c.args.axis start.height c.args.steps c.args.rows c.args.room.now.starts.items c.loop-row.left) in
+    ∙ height-where start becomes (passed_by c.args.axis start.height c.args.steps c.args.rows
+    c.args.room.now.starts.items c.loop-row.left) in
     let first = first_in c.loop-row.left c.in-Some.row (set_columns c.take_first.new.self) c.in-Some.ensures.some in
     rw high ((c.requires).at c.in-Some.row ((c.loop-row.invariant.among).at c.in-Some.row first.1 first.0))
 
@@ -48,13 +52,18 @@ loop-row-preserved g c =
     let by : Option (List ℕ) → Rewritten = λ t.
     rewritten_where now (cell_written (write_in_room t (write_shown c.args.write.now)))
     (is_behind c.args.axis now.height c.args.steps c.in-Some.row c.targets_on-columns.result) in
-    let made : told next c.write_behind-changed.result ≡ by table = c.write_behind-changed.ensures.rewritten ∙ ap by c.loop-row.invariant.table in
+    let made : told next c.write_behind-changed.result ≡ by table = c.write_behind-changed.ensures.rewritten
+    ∙ ap by c.loop-row.invariant.table in
     record {
-      among = fewer-of c.args.rows c.loop-row.left c.take_first.new.self c.in-Some.row c.in-Some.ensures.some c.loop-row.invariant.among;
+      among = fewer-of c.args.rows c.loop-row.left c.take_first.new.self c.in-Some.row c.in-Some.ensures.some
+          c.loop-row.invariant.among;
       rewritten =
-          one_row_behind start now next becomes c.args.axis c.args.steps c.in-Some.row c.args.rows c.loop-row.left c.take_first.new.self
-          c.targets_on-columns.result starts any (any || c.write_behind-changed.result) c.size-width.ensures.shape high c.loop-row.invariant.rewritten
-          c.in-Some.ensures.some c.loop-row.invariant.among c.targets_on-columns.ensures (ap (λ (r : Rewritten). r.grid) made)
+          one_row_behind start now next becomes c.args.axis c.args.steps c.in-Some.row c.args.rows c.loop-row.left
+          c.take_first.new.self
+          c.targets_on-columns.result starts any (any || c.write_behind-changed.result) c.size-width.ensures.shape
+          high c.loop-row.invariant.rewritten
+          c.in-Some.ensures.some c.loop-row.invariant.among c.targets_on-columns.ensures (ap (λ
+          (r : Rewritten). r.grid) made)
           (ap (λ (r : Rewritten). any || r.changed) made);
       table = c.write_behind-changed.ensures.table ∙ c.loop-row.invariant.table;
     }
@@ -62,13 +71,17 @@ loop-row-preserved g c =
 pub returns-clause-rewritten : goal.returns-clause-rewritten
 returns-clause-rewritten g c =
     let start : Grid = g.B.Board.grid c.args.board.now in
-    let becomes : List Slot → List Slot = cell_written (write_in_room (g.B.Board.table c.args.board.now) (write_shown c.args.write.now)) in
+    let becomes : List Slot → List Slot = cell_written (write_in_room (g.B.Board.table c.args.board.now)
+    (write_shown c.args.write.now)) in
     all_rows_behind start becomes c.args.axis c.args.steps c.args.rows c.loop-row.left c.args.room.now.starts.items
-    (told (g.B.Board.grid c.loop-row.board) c.loop-row.changed) c.size-width.ensures.shape (c.in_default.ensures.none refl) c.loop-row.invariant.rewritten
+    (told (g.B.Board.grid c.loop-row.board) c.loop-row.changed) c.size-width.ensures.shape
+    (c.in_default.ensures.none refl) c.loop-row.invariant.rewritten
 
 pub returns-clause-sides : goal.returns-clause-sides
 returns-clause-sides g c =
     let start : Grid = g.B.Board.grid c.args.board.now in
-    let becomes : List Slot → List Slot = cell_written (write_in_room (g.B.Board.table c.args.board.now) (write_shown c.args.write.now)) in
+    let becomes : List Slot → List Slot = cell_written (write_in_room (g.B.Board.table c.args.board.now)
+    (write_shown c.args.write.now)) in
     ap (λ (r : Rewritten). sides_of r.grid) c.loop-row.invariant.rewritten
-    ∙ sides-where start becomes (passed_by c.args.axis start.height c.args.steps c.args.rows c.args.room.now.starts.items c.loop-row.left)
+    ∙ sides-where start becomes (passed_by c.args.axis start.height c.args.steps c.args.rows
+    c.args.room.now.starts.items c.loop-row.left)

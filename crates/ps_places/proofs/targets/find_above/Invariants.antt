@@ -3,7 +3,8 @@ use Rattle.ps_places.specs.PartTargets.{AreKept}
 use Rattle.ps_places.proofs.TargetRows.{AreRowsFound, AreSeenBelow}
 use Rattle.ps_places.proofs.targets.find_above.Given as goal
 
--- the targets of the row and of those below are kept, and the columns held in which the second part begins low enough for it
+-- the targets of the row and of those below are kept, and the columns held in which the second part begins low enough
+-- for it
 abbrev pub invariant-loop-row : goal.invariant-loop-row
 invariant-loop-row g l =
     let grid = g.B.Board.grid l.board in

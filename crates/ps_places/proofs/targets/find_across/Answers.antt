@@ -12,14 +12,19 @@ pub loop-row-init : goal.loop-row-init
 loop-row-init g c =
     let grid : Grid = g.B.Board.grid c.args.board.now in
     let table : Option (List ℕ) = g.B.Board.table c.args.board.now in
-    let below : c.below.result ≡ columns_below grid.height = c.below.ensures ∙ ap columns_below c.size-width.ensures.height in
+    let below : c.below.result ≡ columns_below grid.height = c.below.ensures
+    ∙ ap columns_below c.size-width.ensures.height in
     record {
       low = below-init c.both.result c.below.result c.both-left.result grid.height below c.both-left.ensures;
       done =
-          passed-init (IsRowOfTargets grid table Right c.args.leads c.args.first.now c.args.second.now c.none-rows.result c.args.starts.now)
-          c.both.result c.below.result c.both-left.result grid.height c.size-width.ensures.shape.rows below c.both-left.ensures
-          (across-init grid table c.args.leads c.args.first.now c.args.second.now c.none-rows.result c.rows_of_part-fronts_on.result
-          c.rows_of_part-backs_on.result c.both.result c.args.starts.now c.size-width.ensures.shape c.rows_of_part-fronts_on.ensures
+          passed-init (IsRowOfTargets grid table Right c.args.leads c.args.first.now c.args.second.now
+          c.none-rows.result c.args.starts.now)
+          c.both.result c.below.result c.both-left.result grid.height c.size-width.ensures.shape.rows below
+          c.both-left.ensures
+          (across-init grid table c.args.leads c.args.first.now c.args.second.now c.none-rows.result
+          c.rows_of_part-fronts_on.result
+          c.rows_of_part-backs_on.result c.both.result c.args.starts.now c.size-width.ensures.shape
+          c.rows_of_part-fronts_on.ensures
           c.rows_of_part-backs_on.ensures c.both.ensures c.none-rows.ensures);
       kept = kept-none grid.height c.none-rows.result c.args.starts.now c.none-rows.ensures;
       long = refl;
@@ -27,11 +32,13 @@ loop-row-init g c =
 
 pub columns_across-fronts-requires : goal.columns_across-fronts-requires
 columns_across-fronts-requires g c =
-    taken_below c.loop-row.left c.take_first.new.self (g.B.Board.grid c.args.board.now).height c.in-Some.row c.in-Some.ensures.some c.loop-row.invariant.low
+    taken_below c.loop-row.left c.take_first.new.self (g.B.Board.grid c.args.board.now).height c.in-Some.row
+    c.in-Some.ensures.some c.loop-row.invariant.low
 
 pub columns_across-backs-requires : goal.columns_across-backs-requires
 columns_across-backs-requires g c =
-    taken_below c.loop-row.left c.take_first.new.self (g.B.Board.grid c.args.board.now).height c.in-Some.row c.in-Some.ensures.some c.loop-row.invariant.low
+    taken_below c.loop-row.left c.take_first.new.self (g.B.Board.grid c.args.board.now).height c.in-Some.row
+    c.in-Some.ensures.some c.loop-row.invariant.low
 
 pub loop-row-preserved : goal.loop-row-preserved
 loop-row-preserved g c =
@@ -39,20 +46,28 @@ loop-row-preserved g c =
     let table : Option (List ℕ) = g.B.Board.table c.args.board.now in
     let row : ℕ = c.in-Some.row in
     let few : grid.height ≤ SIDE_LIMIT = c.size-width.ensures.shape.rows in
-    let low : row < grid.height = taken_below c.loop-row.left c.take_first.new.self grid.height row c.in-Some.ensures.some c.loop-row.invariant.low in
+    let low : row < grid.height = taken_below c.loop-row.left c.take_first.new.self grid.height row
+    c.in-Some.ensures.some c.loop-row.invariant.low in
     record {
-      low = below-more c.loop-row.left c.take_first.new.self grid.height row c.in-Some.ensures.some c.loop-row.invariant.low;
+      low = below-more c.loop-row.left c.take_first.new.self grid.height row c.in-Some.ensures.some
+          c.loop-row.invariant.low;
       done =
-          passed-changed (IsRowOfTargets grid table Right c.args.leads c.args.first.now c.args.second.now c.loop-row.rows c.loop-row.starts)
+          passed-changed (IsRowOfTargets grid table Right c.args.leads c.args.first.now c.args.second.now
+          c.loop-row.rows c.loop-row.starts)
           _ c.loop-row.left c.take_first.new.self grid.height row few c.in-Some.ensures.some
-          (row-here grid table Right c.args.leads c.args.first.now c.args.second.now c.loop-row.rows c.loop-row.starts row
+          (row-here grid table Right c.args.leads c.args.first.now c.args.second.now c.loop-row.rows
+          c.loop-row.starts row
           c.paired-columns.result c.keep_row-rows.result c.keep_row-rows.new.starts c.keep_row-rows.ensures.kept
-          (across-targets grid table c.args.leads c.args.first.now c.args.second.now c.args.size row c.columns_across-fronts.result
-          c.columns_across-backs.result c.paired-columns.result c.size-width.ensures.shape low c.requires.first c.requires.second c.requires.size
+          (across-targets grid table c.args.leads c.args.first.now c.args.second.now c.args.size row
+          c.columns_across-fronts.result
+          c.columns_across-backs.result c.paired-columns.result c.size-width.ensures.shape low c.requires.first
+          c.requires.second c.requires.size
           c.columns_across-fronts.ensures c.columns_across-backs.ensures c.paired-columns.ensures))
           (λ other near apart found.
-          row-other grid table Right c.args.leads c.args.first.now c.args.second.now c.loop-row.rows c.loop-row.starts row
-          c.paired-columns.result c.keep_row-rows.result c.keep_row-rows.new.starts other c.keep_row-rows.ensures.kept (omega (arith, near, few)) apart found)
+          row-other grid table Right c.args.leads c.args.first.now c.args.second.now c.loop-row.rows
+          c.loop-row.starts row
+          c.paired-columns.result c.keep_row-rows.result c.keep_row-rows.new.starts other
+          c.keep_row-rows.ensures.kept (omega (arith, near, few)) apart found)
           c.loop-row.invariant.done;
       kept = (c.keep_row-rows.ensures.kept).kept grid.height low c.loop-row.invariant.kept;
       long = c.keep_row-rows.ensures.long ∙ c.loop-row.invariant.long;
@@ -64,7 +79,9 @@ returns-clause-targets g c =
     let table : Option (List ℕ) = g.B.Board.table c.args.board.now in
     record {
       each = λ row low.
-          passed-all (IsRowOfTargets grid table Right c.args.leads c.args.first.now c.args.second.now c.loop-row.rows c.loop-row.starts)
-          c.loop-row.left grid.height row c.size-width.ensures.shape.rows (c.in_default.ensures.none refl) c.loop-row.invariant.done low;
+          passed-all (IsRowOfTargets grid table Right c.args.leads c.args.first.now c.args.second.now c.loop-row.rows
+          c.loop-row.starts)
+          c.loop-row.left grid.height row c.size-width.ensures.shape.rows
+          (c.in_default.ensures.none refl) c.loop-row.invariant.done low;
       kept = c.loop-row.invariant.kept;
     }

@@ -11,7 +11,8 @@ loop-row-init g c =
     record {
       far = omega arith;
       seen = above-init grid table c.args.first.now c.args.size c.none-seen.result c.none-seen.ensures;
-      done = below-init grid table c.args.first.now c.args.second.now c.args.size c.none-rows.result c.args.starts.now c.requires.size c.none-rows.ensures;
+      done = below-init grid table c.args.first.now c.args.second.now c.args.size c.none-rows.result
+          c.args.starts.now c.requires.size c.none-rows.ensures;
       kept = kept-none grid.height c.none-rows.result c.args.starts.now c.none-rows.ensures;
       long = refl;
     }
@@ -25,14 +26,17 @@ loop-row-preserved g c =
     let few : grid.height ≤ SIDE_LIMIT = c.size-width.ensures.shape.rows in
     let seen =
     above-more grid table c.args.first.now c.args.size row _ c.loop-row.seen c.columns_begun.result c.either-seen.result
-    c.loop-row.invariant.far (omega (arith, low, few)) refl c.columns_begun.ensures c.either-seen.ensures c.loop-row.invariant.seen in
+    c.loop-row.invariant.far (omega (arith, low, few)) refl c.columns_begun.ensures c.either-seen.ensures
+    c.loop-row.invariant.seen in
     record {
       far = let far : c.args.size ≤ row = c.loop-row.invariant.far in omega (arith, far);
       seen = seen;
       done =
-          below-more grid table c.args.first.now c.args.second.now c.loop-row.rows c.loop-row.starts row c.both-columns.result
+          below-more grid table c.args.first.now c.args.second.now c.loop-row.rows c.loop-row.starts row
+          c.both-columns.result
           c.keep_row-rows.result c.keep_row-rows.new.starts c.size-width.ensures.shape c.keep_row-rows.ensures.kept
-          (below-targets grid table c.args.first.now c.args.second.now c.args.size row c.columns_begun-in-loop-row.result c.either-seen.result
+          (below-targets grid table c.args.first.now c.args.second.now c.args.size row
+          c.columns_begun-in-loop-row.result c.either-seen.result
           c.both-columns.result c.requires.size c.columns_begun-in-loop-row.ensures seen c.both-columns.ensures)
           c.loop-row.invariant.done;
       kept = (c.keep_row-rows.ensures.kept).kept grid.height low c.loop-row.invariant.kept;

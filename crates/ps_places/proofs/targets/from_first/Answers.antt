@@ -8,5 +8,6 @@ returns-in_default c = passed-none c.args.set c.none.result (c.in_default.ensure
 
 pub returns : goal.returns
 returns c =
-    passed-some c.args.set c.below.result c.below-2.result c.without.result c.in-Some.first (set_columns c.take_first.new.self)
+    passed-some c.args.set c.below.result c.below-2.result c.without.result c.in-Some.first
+    (set_columns c.take_first.new.self)
     c.in-Some.ensures.some c.below.ensures c.below-2.ensures c.without.ensures

@@ -8,10 +8,13 @@ pub returns-then-leads : goal.returns-then-leads
 returns-then-leads c =
     let yes : c.args.leads ≡ true = search rules in
     subst (λ (leads : Bool). AreWhere (is_paired leads c.args.size c.args.fronts c.args.backs) c.both.result) (sym yes)
-    (paired-leading c.args.size c.args.fronts c.args.backs c.up_to.result c.behind.result c.both.result c.up_to.ensures c.behind.ensures c.both.ensures)
+    (paired-leading c.args.size c.args.fronts c.args.backs c.up_to.result c.behind.result c.both.result
+    c.up_to.ensures c.behind.ensures c.both.ensures)
 
 pub returns-else-leads : goal.returns-else-leads
 returns-else-leads c =
     let no : c.args.leads ≡ false = search rules in
-    subst (λ (leads : Bool). AreWhere (is_paired leads c.args.size c.args.fronts c.args.backs) c.both-else-leads.result) (sym no)
-    (paired-following c.args.size c.args.fronts c.args.backs c.from_first.result c.ahead.result c.both-else-leads.result c.from_first.ensures c.ahead.ensures c.both-else-leads.ensures)
+    subst (λ (leads : Bool). AreWhere (is_paired leads c.args.size c.args.fronts c.args.backs)
+    c.both-else-leads.result) (sym no)
+    (paired-following c.args.size c.args.fronts c.args.backs c.from_first.result c.ahead.result
+    c.both-else-leads.result c.from_first.ensures c.ahead.ensures c.both-else-leads.ensures)

@@ -8,4 +8,5 @@ returns c =
     (c.reach_twice-sixteen.ensures c.args.set
     (c.reach_twice-eight.ensures c.args.set
     (c.reach_twice-four.ensures c.args.set
-    (c.reach_twice-two.ensures c.args.set (reach-init c.args.set c.below.result c.both-one.result c.below.ensures c.both-one.ensures))))))
+    (c.reach_twice-two.ensures c.args.set (reach-init c.args.set c.below.result c.both-one.result c.below.ensures
+    c.both-one.ensures))))))
