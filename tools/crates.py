@@ -17,3 +17,8 @@ def in_order(names, uses):
         if name in uses:
             order += [crate for crate in [*in_order(uses[name], uses), name] if crate not in order]
     return order
+
+
+def below(crate, uses):
+    """The crates of this repository that one stands on, each behind those that it stands on itself."""
+    return tuple(in_order(uses[crate], uses))

@@ -21,16 +21,18 @@ use std::alloc::Global;
 /// `Memory` where a growth was refused, and the writer wasn't called. `Write` where the writer failed or took nothing
 /// of what it was given: it has taken a front of the line then, shorter than the whole, and isn't called again.
 pub fn check<W: ByteWriter>(alloc: Global, text: &[u8], writer: &mut W) -> Result<bool, CheckFault>
-    requires well { W.has_failed writer.old ≡ false }
+    requires well { (W.state writer.old).has_failed ≡ false }
     ensures accepted { IfOk result (λ accepted. accepted ≡ is_some (game text.now)) }
-    ensures written { OnOk result (Grows (W.contents writer.old) (W.contents writer.new) (check_line text.now)) }
-    ensures called { OnOk result (W.calls writer.old < W.calls writer.new) }
-    ensures calls { OnOk result (W.calls writer.new ≤ W.calls writer.old + length (check_line text.now)) }
+    ensures written { OnOk result
+        (Grows (W.state writer.old).contents (W.state writer.new).contents (check_line text.now)) }
+    ensures called { OnOk result ((W.state writer.old).calls < (W.state writer.new).calls) }
+    ensures calls { OnOk result
+        ((W.state writer.new).calls ≤ (W.state writer.old).calls + length (check_line text.now)) }
     ensures uncalled { result ≡ Err CheckFault.Memory → writer.new ≡ writer.old }
-    ensures cut { result ≡ Err CheckFault.Write → IsCutOffLine (W.contents writer.old) (W.contents writer.new)
-        (W.calls writer.old) (W.calls writer.new) (check_line text.now) }
-    ensures well { result ≢ Err CheckFault.Write → W.has_failed writer.new ≡ false }
-    ensures told { result ≡ Err CheckFault.Write → W.has_failed writer.new ≡ true }
+    ensures cut { result ≡ Err CheckFault.Write → IsCutOffLine (W.state writer.old) (W.state writer.new)
+        (check_line text.now) }
+    ensures well { result ≢ Err CheckFault.Write → (W.state writer.new).has_failed ≡ false }
+    ensures told { result ≡ Err CheckFault.Write → (W.state writer.new).has_failed ≡ true }
 {
     let told = told_of(alloc, text)?;
     match write_whole(told.line.as_bytes(), writer) {

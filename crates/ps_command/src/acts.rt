@@ -24,8 +24,8 @@ pub fn run_command_line<
     I: ByteReader,
     O: ByteWriter,
 >(rt: &R, keys: &mut I, screen: &mut O) -> u8
-    requires heard { I.has_failed keys.old ≡ false }
-    requires well { O.has_failed screen.old ≡ false }
+    requires heard { (I.state keys.old).has_failed ≡ false }
+    requires well { (O.state screen.old).has_failed ≡ false }
     ensures { result ≤ 2 }
 {
     match act(rt, keys, screen) {
@@ -40,8 +40,8 @@ fn act<R: Env + Files + AllocGlobal + Print, I: ByteReader, O: ByteWriter>(
     keys: &mut I,
     screen: &mut O,
 ) -> Result<(), Stop>
-    requires heard { I.has_failed keys.old ≡ false }
-    requires well { O.has_failed screen.old ≡ false }
+    requires heard { (I.state keys.old).has_failed ≡ false }
+    requires well { (O.state screen.old).has_failed ≡ false }
 {
     let words = env::args(rt)
         .map_err(|error| stop_for(error, Stop::NotText))?
@@ -65,8 +65,8 @@ fn play<R: AllocGlobal, I: ByteReader, O: ByteWriter>(
     keys: &mut I,
     screen: &mut O,
 ) -> Result<(), Stop>
-    requires heard { I.has_failed keys.old ≡ false }
-    requires well { O.has_failed screen.old ≡ false }
+    requires heard { (I.state keys.old).has_failed ≡ false }
+    requires well { (O.state screen.old).has_failed ≡ false }
 {
     let _ending = run(rt.alloc(), text, keys, screen)?;
     Ok(())
@@ -79,7 +79,7 @@ fn play_from<R: Files + AllocGlobal, O: ByteWriter>(
     file: &str,
     screen: &mut O,
 ) -> Result<(), Stop>
-    requires well { O.has_failed screen.old ≡ false }
+    requires well { (O.state screen.old).has_failed ≡ false }
 {
     let text = read_game(rt, path).map_err(|error| stop_for(error, Stop::Game))?;
     let file = fs::open(rt, file).map_err(|error| stop_for(error, Stop::Run(RunFault::Read)))?;
@@ -93,7 +93,7 @@ fn check_text<R: Files + AllocGlobal, O: ByteWriter>(
     path: &str,
     screen: &mut O,
 ) -> Result<(), Stop>
-    requires well { O.has_failed screen.old ≡ false }
+    requires well { (O.state screen.old).has_failed ≡ false }
 {
     let text = read_game(rt, path).map_err(|error| stop_for(error, Stop::Game))?;
     if check(rt.alloc(), &text, screen)? {

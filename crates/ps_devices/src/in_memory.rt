@@ -38,12 +38,12 @@ impl<'a> MemoryReader<'a> {
     /// further call fails; without that number, or where there are fewer bytes, it ends.
     pub fn new(bytes: &'a [u8], piece: usize, fail_at: Option<usize>) -> MemoryReader<'a>
         requires { 1 ≤ piece }
-        ensures remaining { ⟦<MemoryReader<'a> as ByteReader>⟧.remaining result ≡ Some bytes.entry.now }
-        ensures has_failed { ⟦<MemoryReader<'a> as ByteReader>⟧.has_failed result ≡ false }
-        ensures last { ⟦<MemoryReader<'a> as ByteReader>⟧.last result ≡ 0 }
-        ensures calls { ⟦<MemoryReader<'a> as ByteReader>⟧.calls result ≡ 0 }
-        ensures empty_calls { ⟦<MemoryReader<'a> as ByteReader>⟧.empty_calls result ≡ 0 }
-        ensures odd_sized_calls { ⟦<MemoryReader<'a> as ByteReader>⟧.odd_sized_calls result ≡ 0 }
+        ensures remaining { (⟦<MemoryReader<'a> as ByteReader>⟧.state result).remaining ≡ Some bytes.entry.now }
+        ensures has_failed { (⟦<MemoryReader<'a> as ByteReader>⟧.state result).has_failed ≡ false }
+        ensures last { (⟦<MemoryReader<'a> as ByteReader>⟧.state result).last ≡ 0 }
+        ensures calls { (⟦<MemoryReader<'a> as ByteReader>⟧.state result).calls ≡ 0 }
+        ensures empty_calls { (⟦<MemoryReader<'a> as ByteReader>⟧.state result).empty_calls ≡ 0 }
+        ensures odd_sized_calls { (⟦<MemoryReader<'a> as ByteReader>⟧.state result).odd_sized_calls ≡ 0 }
         ensures given { result.place ≡ 0 }
         ensures piece { result.piece ≡ piece }
         ensures ends { fail_at ≡ None → result.fails ≡ false }
@@ -78,17 +78,13 @@ impl<'a> MemoryReader<'a> {
 }
 
 impl<'a> ByteReader for MemoryReader<'a> {
-    ghost remaining = { λ device. Some (drop device.place device.bytes.now) };
-
-    ghost has_failed = { λ device. device.failed };
-
-    ghost last = { λ device. device.last };
-
-    ghost calls = { λ device. device.calls };
-
-    ghost empty_calls = { λ device. device.empty_calls };
-
-    ghost odd_sized_calls = { λ device. device.odd_sized_calls };
+    ghost state = { λ device. record {
+        remaining = Some (drop device.place device.bytes.now);
+        has_failed = device.failed;
+        last = device.last;
+        calls = device.calls;
+        empty_calls = device.empty_calls;
+        odd_sized_calls = device.odd_sized_calls } };
 
     /// Gives as many bytes as are left up to where it stops, but no more than a piece and than `buffer` has room for;
     /// it fails where it stops and was told to, and behind the `u64::MAX`th call.
@@ -182,10 +178,10 @@ impl MemoryWriter {
     ///
     /// `Memory` where the room can't be had.
     pub fn new(alloc: Global, room: usize, piece: usize) -> Result<MemoryWriter, Memory>
-        ensures contents { IfOk result (λ writer. ⟦<MemoryWriter as ByteWriter>⟧.contents writer ≡ Some []) }
-        ensures has_failed { IfOk result (λ writer. ⟦<MemoryWriter as ByteWriter>⟧.has_failed writer ≡ false) }
-        ensures calls { IfOk result (λ writer. ⟦<MemoryWriter as ByteWriter>⟧.calls writer ≡ 0) }
-        ensures empty_calls { IfOk result (λ writer. ⟦<MemoryWriter as ByteWriter>⟧.empty_calls writer ≡ 0) }
+        ensures contents { IfOk result (λ writer. (⟦<MemoryWriter as ByteWriter>⟧.state writer).contents ≡ Some []) }
+        ensures has_failed { IfOk result (λ writer. (⟦<MemoryWriter as ByteWriter>⟧.state writer).has_failed ≡ false) }
+        ensures calls { IfOk result (λ writer. (⟦<MemoryWriter as ByteWriter>⟧.state writer).calls ≡ 0) }
+        ensures empty_calls { IfOk result (λ writer. (⟦<MemoryWriter as ByteWriter>⟧.state writer).empty_calls ≡ 0) }
         ensures room { IfOk result (λ writer. writer.room ≡ room) }
         ensures piece { IfOk result (λ writer. writer.piece ≡ piece) }
     {
@@ -201,20 +197,18 @@ impl MemoryWriter {
 
     /// All bytes that it has taken.
     pub fn bytes(&self) -> &[u8]
-        ensures { ⟦<MemoryWriter as ByteWriter>⟧.contents self.now ≡ Some result.now }
+        ensures { (⟦<MemoryWriter as ByteWriter>⟧.state self.now).contents ≡ Some result.now }
     {
         &self.bytes
     }
 }
 
 impl ByteWriter for MemoryWriter {
-    ghost contents = { λ device. Some device.bytes.items };
-
-    ghost has_failed = { λ device. device.failed };
-
-    ghost calls = { λ device. device.calls };
-
-    ghost empty_calls = { λ device. device.empty_calls };
+    ghost state = { λ device. record {
+        contents = Some device.bytes.items;
+        has_failed = device.failed;
+        calls = device.calls;
+        empty_calls = device.empty_calls } };
 
     /// Takes as much as there is room for, but no more than a piece; it fails where it has no room left for some bytes,
     /// and behind the `u64::MAX`th call.

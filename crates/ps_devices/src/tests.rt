@@ -27,7 +27,7 @@ fn reader_gives_pieces(rt: HostRuntime) {
 
 /// Three calls, or fewer where one fails: what the last of them answered.
 fn last_of_three<R: ByteReader>(reader: &mut R) -> Result<usize, Failed>
-    requires { R.has_failed reader.old ≡ false }
+    requires { (R.state reader.old).has_failed ≡ false }
 {
     let mut buffer = [0u8; 8];
     reader.read_some(&mut buffer)?;

@@ -6,20 +6,11 @@ use Rattle.ps_model.specs.session.HeldKeys as keys
 use Rattle.ps_model.specs.session.Sessions.{Session}
 use Rattle.ps_model.specs.game.Headline.{IsFront, IsCutOff}
 use Rattle.ps_model.specs.game.Outputs.{ending_of}
-use Rattle.ps_model.specs.game.Tellings.{ReaderState, WriterState}
+use Rattle.ps_model.specs.game.Tellings.{WriterState}
 use Rattle.ps_laws.specs.Fronts.{session_of, whole_front}
 use Rattle.ps_devices.specs.Devices.{Grows}
 use Rattle.ps_run.specs.declared.faults.PieceFault.{PieceFault}
 use Rattle.ps_run.specs.declared.faults.PieceFault.TheVariants.{Memory, Write}
-
--- what a reader tells
-abbrev pub reader_told : Option (List ℕ) → Bool → ℕ → ℕ → ℕ → ℕ → ReaderState
-reader_told remaining has_failed last calls empty_calls odd_sized_calls =
-    record { remaining = remaining; has_failed = has_failed; last = last; calls = calls; empty_calls = empty_calls; odd_sized_calls = odd_sized_calls }
-
--- what a writer tells
-abbrev pub writer_told : Option (List ℕ) → Bool → ℕ → ℕ → WriterState
-writer_told contents has_failed calls empty_calls = record { contents = contents; has_failed = has_failed; calls = calls; empty_calls = empty_calls }
 
 -- a writer has taken the text, by no more calls than it has bytes, each of which was handed some
 abbrev pub HasTaken : WriterState → WriterState → List ℕ → Type 0

@@ -2,7 +2,6 @@
 
 ghost use Rattle.std.specs.Prelude.{◌≡◌, ◌≢◌, Err, false, true};
 ghost use Rattle.ps_stage.specs.Standings.{script_for};
-ghost use Rattle.ps_run.specs.Played.{reader_told, writer_told};
 ghost use Rattle.ps_run.specs.Runs.{ComesOrStops};
 
 use crate::faults::RunFault;
@@ -30,18 +29,10 @@ pub fn run_game<'g, B: Board, R: Rules<B> + Drop, I: ByteReader, W: ByteWriter>(
     reader: &mut I,
     writer: &mut W,
 ) -> Result<Ending, RunFault>
-    requires heard { I.has_failed reader.old ≡ false }
-    requires well { W.has_failed writer.old ≡ false }
+    requires heard { (I.state reader.old).has_failed ≡ false }
+    requires well { (W.state writer.old).has_failed ≡ false }
     ensures answers { let script = script_for B.table_for game.entry (R.meant rules.plain) (R.meant rules.late) in
-        let had = reader_told (I.remaining reader.old) (I.has_failed reader.old)
-        (I.last reader.old) (I.calls reader.old) (I.empty_calls reader.old) (I.odd_sized_calls reader.old) in
-        let has = reader_told (I.remaining reader.new) (I.has_failed reader.new)
-        (I.last reader.new) (I.calls reader.new) (I.empty_calls reader.new) (I.odd_sized_calls reader.new) in
-        let before = writer_told (W.contents writer.old) (W.has_failed writer.old)
-        (W.calls writer.old) (W.empty_calls writer.old) in
-        let now = writer_told (W.contents writer.new) (W.has_failed writer.new)
-        (W.calls writer.new) (W.empty_calls writer.new) in
-        ComesOrStops script had has before now result }
+        ComesOrStops script (I.state reader.old) (I.state reader.new) (W.state writer.old) (W.state writer.new) result }
 {
     let mut rules = rules;
     let mut screen = Screen::new(alloc);

@@ -6,7 +6,7 @@ ghost use Rattle.ps_model.specs.game.Outputs.{ending_of, end_of_keys_line};
 ghost use Rattle.ps_model.specs.game.Tellings.{WriterState};
 ghost use Rattle.ps_stage.specs.Standings.{script_for};
 ghost use Rattle.ps_run.specs.Runs.{Comes};
-ghost use Rattle.ps_run.specs.Played.{HasTaken, HavePlayed, StopsAs, StopsAtText, reader_told, writer_told};
+ghost use Rattle.ps_run.specs.Played.{HasTaken, HavePlayed, StopsAs, StopsAtText};
 
 use crate::faults::{PieceFault, RunFault, fault_of_piece};
 use ps_board::Board;
@@ -28,19 +28,11 @@ pub struct Play<'g, B: Board, R> {
 
 /// Writes what the screen has.
 pub fn write_screen<W: ByteWriter>(screen: &Screen, writer: &mut W) -> Result<(), PieceFault>
-    requires { W.has_failed writer.old ≡ false }
-    ensures written { let before = writer_told (W.contents writer.old) (W.has_failed writer.old)
-        (W.calls writer.old) (W.empty_calls writer.old) in
-        let now = writer_told (W.contents writer.new) (W.has_failed writer.new)
-        (W.calls writer.new) (W.empty_calls writer.new) in
-        OnOk result (HasTaken before now screen.now) }
-    ensures stops { let before = writer_told (W.contents writer.old) (W.has_failed writer.old)
-        (W.calls writer.old) (W.empty_calls writer.old) in
-        let now = writer_told (W.contents writer.new) (W.has_failed writer.new)
-        (W.calls writer.new) (W.empty_calls writer.new) in
-        IfErr result (λ fault. StopsAtText fault before now screen.now) }
-    ensures well { result ≢ Err PieceFault.Write → W.has_failed writer.new ≡ false }
-    ensures told { result ≡ Err PieceFault.Write → W.has_failed writer.new ≡ true }
+    requires { (W.state writer.old).has_failed ≡ false }
+    ensures written { OnOk result (HasTaken (W.state writer.old) (W.state writer.new) screen.now) }
+    ensures stops { IfErr result (λ fault. StopsAtText fault (W.state writer.old) (W.state writer.new) screen.now) }
+    ensures well { result ≢ Err PieceFault.Write → (W.state writer.new).has_failed ≡ false }
+    ensures told { result ≡ Err PieceFault.Write → (W.state writer.new).has_failed ≡ true }
     ensures fault { result ≢ Err PieceFault.Memory }
 {
     match write_whole(screen.bytes(), writer) {
@@ -52,7 +44,7 @@ pub fn write_screen<W: ByteWriter>(screen: &Screen, writer: &mut W) -> Result<()
 impl<'g, B: Board, R: Rules<B> + Drop> Play<'g, B, R> {
     /// Plays a key: makes its text whole, and then writes it.
     fn play_key<W: ByteWriter>(&mut self, key: Key, writer: &mut W) -> Result<(), PieceFault>
-        requires { W.has_failed writer.old ≡ false }
+        requires { (W.state writer.old).has_failed ≡ false }
         ensures game { self.new.session.game ≡ self.old.session.game }
         ensures plain { R.meant self.new.rules.plain ≡ R.meant self.old.rules.plain }
         ensures late { R.meant self.new.rules.late ≡ R.meant self.old.rules.late }
@@ -62,21 +54,15 @@ impl<'g, B: Board, R: Rules<B> + Drop> Play<'g, B, R> {
             OnOk result (self.new.session.session ≡ (key_step script self.old.session.session key).session) }
         ensures written { let script = script_for B.table_for self.old.session.game
             (R.meant self.old.rules.plain) (R.meant self.old.rules.late) in
-            let before = writer_told (W.contents writer.old) (W.has_failed writer.old)
-            (W.calls writer.old) (W.empty_calls writer.old) in
-            let now = writer_told (W.contents writer.new) (W.has_failed writer.new)
-            (W.calls writer.new) (W.empty_calls writer.new) in
-            OnOk result (HasTaken before now (key_step script self.old.session.session key).text) }
+            let text = (key_step script self.old.session.session key).text in
+            OnOk result (HasTaken (W.state writer.old) (W.state writer.new) text) }
         ensures stops { let script = script_for B.table_for self.old.session.game
             (R.meant self.old.rules.plain) (R.meant self.old.rules.late) in
-            let before = writer_told (W.contents writer.old) (W.has_failed writer.old)
-            (W.calls writer.old) (W.empty_calls writer.old) in
-            let now = writer_told (W.contents writer.new) (W.has_failed writer.new)
-            (W.calls writer.new) (W.empty_calls writer.new) in
-            IfErr result (λ fault. StopsAtText fault before now (key_step script self.old.session.session key).text) }
+            let text = (key_step script self.old.session.session key).text in
+            IfErr result (λ fault. StopsAtText fault (W.state writer.old) (W.state writer.new) text) }
         ensures unended { result ≡ Err PieceFault.Memory → ending_of self.old.session.session ≡ None }
-        ensures well { result ≢ Err PieceFault.Write → W.has_failed writer.new ≡ false }
-        ensures told { result ≡ Err PieceFault.Write → W.has_failed writer.new ≡ true }
+        ensures well { result ≢ Err PieceFault.Write → (W.state writer.new).has_failed ≡ false }
+        ensures told { result ≡ Err PieceFault.Write → (W.state writer.new).has_failed ≡ true }
     {
         self.screen.clear();
         match self.session.key(&mut self.rules, key, &mut self.screen) {
@@ -87,30 +73,23 @@ impl<'g, B: Board, R: Rules<B> + Drop> Play<'g, B, R> {
 
     /// Plays the key of a byte, if it brings one behind what is held.
     fn play_byte<W: ByteWriter>(&mut self, byte: u8, writer: &mut W) -> Result<(), PieceFault>
-        requires { W.has_failed writer.old ≡ false }
+        requires { (W.state writer.old).has_failed ≡ false }
         ensures game { self.new.session.game ≡ self.old.session.game }
         ensures plain { R.meant self.new.rules.plain ≡ R.meant self.old.rules.plain }
         ensures late { R.meant self.new.rules.late ≡ R.meant self.old.rules.late }
         ensures played { let script = script_for B.table_for self.old.session.game
             (R.meant self.old.rules.plain) (R.meant self.old.rules.late) in
-            let from = writer_told (W.contents writer.old) (W.has_failed writer.old)
-            (W.calls writer.old) (W.empty_calls writer.old) in
-            let now = writer_told (W.contents writer.new) (W.has_failed writer.new)
-            (W.calls writer.new) (W.empty_calls writer.new) in
             OnOk result ((before : WriterState) (read : List ℕ)
-            → HavePlayed script before from self.old.session.session self.old.keys read
-            → HavePlayed script before now self.new.session.session self.new.keys (read ++ byte ∷ [])) }
+            → HavePlayed script before (W.state writer.old) self.old.session.session self.old.keys read
+            → HavePlayed script before (W.state writer.new) self.new.session.session self.new.keys
+            (read ++ byte ∷ [])) }
         ensures stops { let script = script_for B.table_for self.old.session.game
             (R.meant self.old.rules.plain) (R.meant self.old.rules.late) in
-            let from = writer_told (W.contents writer.old) (W.has_failed writer.old)
-            (W.calls writer.old) (W.empty_calls writer.old) in
-            let now = writer_told (W.contents writer.new) (W.has_failed writer.new)
-            (W.calls writer.new) (W.empty_calls writer.new) in
             IfErr result (λ fault. (before : WriterState) (read : List ℕ)
-            → HavePlayed script before from self.old.session.session self.old.keys read
-            → StopsAs fault script before now read (byte ∷ [])) }
-        ensures well { result ≢ Err PieceFault.Write → W.has_failed writer.new ≡ false }
-        ensures told { result ≡ Err PieceFault.Write → W.has_failed writer.new ≡ true }
+            → HavePlayed script before (W.state writer.old) self.old.session.session self.old.keys read
+            → StopsAs fault script before (W.state writer.new) read (byte ∷ [])) }
+        ensures well { result ≢ Err PieceFault.Write → (W.state writer.new).has_failed ≡ false }
+        ensures told { result ≡ Err PieceFault.Write → (W.state writer.new).has_failed ≡ true }
     {
         match self.keys.next(byte) {
             None => Ok(()),
@@ -129,30 +108,23 @@ impl<'g, B: Board, R: Rules<B> + Drop> Play<'g, B, R> {
         piece: &[u8],
         writer: &mut W,
     ) -> Result<(), PieceFault>
-        requires { W.has_failed writer.old ≡ false }
+        requires { (W.state writer.old).has_failed ≡ false }
         ensures game { self.new.session.game ≡ self.old.session.game }
         ensures plain { R.meant self.new.rules.plain ≡ R.meant self.old.rules.plain }
         ensures late { R.meant self.new.rules.late ≡ R.meant self.old.rules.late }
         ensures played { let script = script_for B.table_for self.old.session.game
             (R.meant self.old.rules.plain) (R.meant self.old.rules.late) in
-            let from = writer_told (W.contents writer.old) (W.has_failed writer.old)
-            (W.calls writer.old) (W.empty_calls writer.old) in
-            let now = writer_told (W.contents writer.new) (W.has_failed writer.new)
-            (W.calls writer.new) (W.empty_calls writer.new) in
             OnOk result ((before : WriterState) (read : List ℕ)
-            → HavePlayed script before from self.old.session.session self.old.keys read
-            → HavePlayed script before now self.new.session.session self.new.keys (read ++ piece.now)) }
+            → HavePlayed script before (W.state writer.old) self.old.session.session self.old.keys read
+            → HavePlayed script before (W.state writer.new) self.new.session.session self.new.keys
+            (read ++ piece.now)) }
         ensures stops { let script = script_for B.table_for self.old.session.game
             (R.meant self.old.rules.plain) (R.meant self.old.rules.late) in
-            let from = writer_told (W.contents writer.old) (W.has_failed writer.old)
-            (W.calls writer.old) (W.empty_calls writer.old) in
-            let now = writer_told (W.contents writer.new) (W.has_failed writer.new)
-            (W.calls writer.new) (W.empty_calls writer.new) in
             IfErr result (λ fault. (before : WriterState) (read : List ℕ)
-            → HavePlayed script before from self.old.session.session self.old.keys read
-            → StopsAs fault script before now read piece.now) }
-        ensures well { result ≢ Err PieceFault.Write → W.has_failed writer.new ≡ false }
-        ensures told { result ≡ Err PieceFault.Write → W.has_failed writer.new ≡ true }
+            → HavePlayed script before (W.state writer.old) self.old.session.session self.old.keys read
+            → StopsAs fault script before (W.state writer.new) read piece.now) }
+        ensures well { result ≢ Err PieceFault.Write → (W.state writer.new).has_failed ≡ false }
+        ensures told { result ≡ Err PieceFault.Write → (W.state writer.new).has_failed ≡ true }
     {
         for byte in piece {
             if let Err(fault) = self.play_byte(*byte, writer) {
@@ -164,19 +136,12 @@ impl<'g, B: Board, R: Rules<B> + Drop> Play<'g, B, R> {
 
     /// Writes that the keys have ended.
     fn end_keys<W: ByteWriter>(&mut self, writer: &mut W) -> Result<(), PieceFault>
-        requires { W.has_failed writer.old ≡ false }
-        ensures written { let before = writer_told (W.contents writer.old) (W.has_failed writer.old)
-            (W.calls writer.old) (W.empty_calls writer.old) in
-            let now = writer_told (W.contents writer.new) (W.has_failed writer.new)
-            (W.calls writer.new) (W.empty_calls writer.new) in
-            OnOk result (HasTaken before now end_of_keys_line) }
-        ensures stops { let before = writer_told (W.contents writer.old) (W.has_failed writer.old)
-            (W.calls writer.old) (W.empty_calls writer.old) in
-            let now = writer_told (W.contents writer.new) (W.has_failed writer.new)
-            (W.calls writer.new) (W.empty_calls writer.new) in
-            IfErr result (λ fault. StopsAtText fault before now end_of_keys_line) }
-        ensures well { result ≢ Err PieceFault.Write → W.has_failed writer.new ≡ false }
-        ensures told { result ≡ Err PieceFault.Write → W.has_failed writer.new ≡ true }
+        requires { (W.state writer.old).has_failed ≡ false }
+        ensures written { OnOk result (HasTaken (W.state writer.old) (W.state writer.new) end_of_keys_line) }
+        ensures stops { IfErr result (λ fault.
+            StopsAtText fault (W.state writer.old) (W.state writer.new) end_of_keys_line) }
+        ensures well { result ≢ Err PieceFault.Write → (W.state writer.new).has_failed ≡ false }
+        ensures told { result ≡ Err PieceFault.Write → (W.state writer.new).has_failed ≡ true }
     {
         self.screen.clear();
         self.screen.add_line("* end of keys", "")?;
@@ -196,23 +161,16 @@ impl<'g, B: Board, R: Rules<B> + Drop> Play<'g, B, R> {
         reader: &mut I,
         writer: &mut W,
     ) -> Result<Ending, RunFault>
-        requires heard { I.has_failed reader.old ≡ false }
-        requires well { W.has_failed writer.old ≡ false }
-        ensures heard { result ≢ Err RunFault.Read → I.has_failed reader.new ≡ false }
-        ensures well { result ≢ Err RunFault.Write → W.has_failed writer.new ≡ false }
-        ensures told { result ≡ Err RunFault.Write → W.has_failed writer.new ≡ true }
+        requires heard { (I.state reader.old).has_failed ≡ false }
+        requires well { (W.state writer.old).has_failed ≡ false }
+        ensures heard { result ≢ Err RunFault.Read → (I.state reader.new).has_failed ≡ false }
+        ensures well { result ≢ Err RunFault.Write → (W.state writer.new).has_failed ≡ false }
+        ensures told { result ≡ Err RunFault.Write → (W.state writer.new).has_failed ≡ true }
         ensures answers { let script = script_for B.table_for self.old.session.game
             (R.meant self.old.rules.plain) (R.meant self.old.rules.late) in
-            let had = reader_told (I.remaining reader.old) (I.has_failed reader.old)
-            (I.last reader.old) (I.calls reader.old) (I.empty_calls reader.old) (I.odd_sized_calls reader.old) in
-            let has = reader_told (I.remaining reader.new) (I.has_failed reader.new)
-            (I.last reader.new) (I.calls reader.new) (I.empty_calls reader.new) (I.odd_sized_calls reader.new) in
-            let from = writer_told (W.contents writer.old) (W.has_failed writer.old)
-            (W.calls writer.old) (W.empty_calls writer.old) in
-            let now = writer_told (W.contents writer.new) (W.has_failed writer.new)
-            (W.calls writer.new) (W.empty_calls writer.new) in
-            (before : WriterState) → HavePlayed script before from self.old.session.session self.old.keys []
-            → Comes script had has before now result }
+            (before : WriterState)
+            → HavePlayed script before (W.state writer.old) self.old.session.session self.old.keys []
+            → Comes script (I.state reader.old) (I.state reader.new) before (W.state writer.new) result }
     {
         let mut buffer = [0u8; CALL_LIMIT];
         for _call in 0..READ_LIMIT {

@@ -5,7 +5,6 @@ ghost use Rattle.ps_model.specs.game.Games.{game as game_in};
 ghost use Rattle.ps_model.specs.game.Headline.{RunsRightly, IsTrueOfText};
 ghost use Rattle.ps_rulebook.specs.PlayedGames.{AreCompiled};
 ghost use Rattle.ps_run.specs.Answering.{answer_of};
-ghost use Rattle.ps_run.specs.Played.{reader_told, writer_told};
 ghost use Rattle.ps_stage.specs.Playable.{ArePlayable};
 
 use crate::faults::{RunFault, fault_of_refusal};
@@ -35,17 +34,10 @@ pub fn run<I: ByteReader, W: ByteWriter>(
     reader: &mut I,
     writer: &mut W,
 ) -> Result<Ending, RunFault>
-    requires heard { I.has_failed reader.old ≡ false }
-    requires well { W.has_failed writer.old ≡ false }
-    ensures rightly { let had = reader_told (I.remaining reader.old) (I.has_failed reader.old)
-        (I.last reader.old) (I.calls reader.old) (I.empty_calls reader.old) (I.odd_sized_calls reader.old) in
-        let has = reader_told (I.remaining reader.new) (I.has_failed reader.new)
-        (I.last reader.new) (I.calls reader.new) (I.empty_calls reader.new) (I.odd_sized_calls reader.new) in
-        let before = writer_told (W.contents writer.old) (W.has_failed writer.old)
-        (W.calls writer.old) (W.empty_calls writer.old) in
-        let now = writer_told (W.contents writer.new) (W.has_failed writer.new)
-        (W.calls writer.new) (W.empty_calls writer.new) in
-        RunsRightly text.now had has before now (answer_of result) }
+    requires heard { (I.state reader.old).has_failed ≡ false }
+    requires well { (W.state writer.old).has_failed ≡ false }
+    ensures rightly { RunsRightly text.now (I.state reader.old) (I.state reader.new) (W.state writer.old)
+        (W.state writer.new) (answer_of result) }
     ensures true_of_text { IsTrueOfText text.now (answer_of result) }
 {
     let game = match read_game(alloc, text) {
@@ -67,20 +59,13 @@ fn run_compiled<I: ByteReader, W: ByteWriter>(
     reader: &mut I,
     writer: &mut W,
 ) -> Result<Ending, RunFault>
-    requires heard { I.has_failed reader.old ≡ false }
-    requires well { W.has_failed writer.old ≡ false }
+    requires heard { (I.state reader.old).has_failed ≡ false }
+    requires well { (W.state writer.old).has_failed ≡ false }
     requires playable { ArePlayable game.now.names game.now.entries }
-    ensures rightly { let had = reader_told (I.remaining reader.old) (I.has_failed reader.old) (I.last reader.old)
-        (I.calls reader.old) (I.empty_calls reader.old) (I.odd_sized_calls reader.old) in
-        let has = reader_told (I.remaining reader.new) (I.has_failed reader.new) (I.last reader.new)
-        (I.calls reader.new) (I.empty_calls reader.new) (I.odd_sized_calls reader.new) in
-        let before = writer_told (W.contents writer.old) (W.has_failed writer.old)
-        (W.calls writer.old) (W.empty_calls writer.old) in
-        let now = writer_told (W.contents writer.new) (W.has_failed writer.new)
-        (W.calls writer.new) (W.empty_calls writer.new) in
-        (text : List ℕ) → game_in text ≡ Some game.now
+    ensures rightly { (text : List ℕ) → game_in text ≡ Some game.now
         → AreCompiled game.now.names game.now.rules compiled.now.plain compiled.now.late
-        → RunsRightly text had has before now (answer_of result) }
+        → RunsRightly text (I.state reader.old) (I.state reader.new) (W.state writer.old) (W.state writer.new)
+        (answer_of result) }
     ensures true_of_text { (text : List ℕ) → game_in text ≡ Some game.now → IsTrueOfText text (answer_of result) }
 {
     let parts = SessionGame::new(

@@ -223,17 +223,13 @@ struct Endless<'a> {
 }
 
 impl<'a> ByteReader for Endless<'a> {
-    ghost remaining = { λ _. None };
-
-    ghost has_failed = { λ reader. reader.has_failed };
-
-    ghost last = { λ reader. reader.last };
-
-    ghost calls = { λ reader. reader.calls };
-
-    ghost empty_calls = { λ reader. reader.empty_calls };
-
-    ghost odd_sized_calls = { λ reader. reader.odd_sized_calls };
+    ghost state = { λ reader. record {
+        remaining = None;
+        has_failed = reader.has_failed;
+        last = reader.last;
+        calls = reader.calls;
+        empty_calls = reader.empty_calls;
+        odd_sized_calls = reader.odd_sized_calls } };
 
     fn read_some(&mut self, buffer: &mut [u8]) -> Result<usize, Failed> {
         self.last = 0;

@@ -44,17 +44,7 @@ impl<D: Drop> Watched<D> {
 }
 
 impl<D: ByteReader> ByteReader for Watched<D> {
-    ghost remaining = { λ watched. D.remaining watched.device };
-
-    ghost has_failed = { λ watched. D.has_failed watched.device };
-
-    ghost last = { λ watched. D.last watched.device };
-
-    ghost calls = { λ watched. D.calls watched.device };
-
-    ghost empty_calls = { λ watched. D.empty_calls watched.device };
-
-    ghost odd_sized_calls = { λ watched. D.odd_sized_calls watched.device };
+    ghost state = { λ watched. D.state watched.device };
 
     fn read_some(&mut self, buffer: &mut [u8]) -> Result<usize, Failed> {
         self.count(buffer.len());
@@ -65,13 +55,7 @@ impl<D: ByteReader> ByteReader for Watched<D> {
 }
 
 impl<D: ByteWriter> ByteWriter for Watched<D> {
-    ghost contents = { λ watched. D.contents watched.device };
-
-    ghost has_failed = { λ watched. D.has_failed watched.device };
-
-    ghost calls = { λ watched. D.calls watched.device };
-
-    ghost empty_calls = { λ watched. D.empty_calls watched.device };
+    ghost state = { λ watched. D.state watched.device };
 
     fn write_some(&mut self, bytes: &[u8]) -> Result<usize, Failed> {
         self.count(bytes.len());

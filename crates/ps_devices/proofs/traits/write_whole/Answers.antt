@@ -6,7 +6,7 @@ use Rattle.ps_devices.proofs.traits.write_whole.Goals as goal
 
 pub loop-done-preserved : goal.loop-done-preserved
 loop-done-preserved g c =
-    let one : g.W.ByteWriter.calls c.write_some.new.self ≡ g.W.ByteWriter.calls c.loop-done.writer + 1 =
+    let one : (g.W.ByteWriter.state c.write_some.new.self).calls ≡ (g.W.ByteWriter.state c.loop-done.writer).calls + 1 =
     one_call _ _ _ c.in-Ok.ensures.counted c.in-Ok.ensures.worn in
     let some : 0 < c.in-Ok.count = search (rules, arith) in
     record {

@@ -6,12 +6,12 @@ use Rattle.ps_devices.proofs.traits.write_whole.Given as goal
 abbrev pub invariant-loop-done : goal.invariant-loop-done
 invariant-loop-done g l = record {
   within : l.done ≤ length l.bytes;
-  taken : Grows (g.W.ByteWriter.contents l.initial.writer) (g.W.ByteWriter.contents l.writer) (take l.done l.bytes);
-  well : g.W.ByteWriter.has_failed l.writer ≡ g.W.ByteWriter.has_failed l.initial.writer;
-  calls : g.W.ByteWriter.calls l.writer ≤ g.W.ByteWriter.calls l.initial.writer + l.done;
-  called : 0 < l.done → g.W.ByteWriter.calls l.initial.writer < g.W.ByteWriter.calls l.writer;
-  counts : g.W.ByteWriter.calls l.initial.writer ≤ g.W.ByteWriter.calls l.writer;
-  none_empty : g.W.ByteWriter.empty_calls l.writer ≡ g.W.ByteWriter.empty_calls l.initial.writer;
+  taken : Grows (g.W.ByteWriter.state l.initial.writer).contents (g.W.ByteWriter.state l.writer).contents (take l.done l.bytes);
+  well : (g.W.ByteWriter.state l.writer).has_failed ≡ (g.W.ByteWriter.state l.initial.writer).has_failed;
+  calls : (g.W.ByteWriter.state l.writer).calls ≤ (g.W.ByteWriter.state l.initial.writer).calls + l.done;
+  called : 0 < l.done → (g.W.ByteWriter.state l.initial.writer).calls < (g.W.ByteWriter.state l.writer).calls;
+  counts : (g.W.ByteWriter.state l.initial.writer).calls ≤ (g.W.ByteWriter.state l.writer).calls;
+  none_empty : (g.W.ByteWriter.state l.writer).empty_calls ≡ (g.W.ByteWriter.state l.initial.writer).empty_calls;
 }
 
 abbrev pub decreases-loop-done : goal.decreases-loop-done

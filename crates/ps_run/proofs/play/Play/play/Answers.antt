@@ -30,7 +30,7 @@ pub returns-in-Ok-end_keys-clause-answers : goal.returns-in-Ok-end_keys-clause-a
 returns-in-Ok-end_keys-clause-answers g c = λ before started.
     let counted = one_call _ _ _ c.in-Ok.ensures.counted c.in-Ok.ensures.worn in
     let none : take c.in-Ok.count c.read_some.new.buffer ≡ [] = rw c.if-count-eq0.true refl in
-    let gives : Loses (g.I.ByteReader.remaining c.loop-call.reader) (g.I.ByteReader.remaining c.read_some.new.self) [] = rw none at c.in-Ok.ensures.given in
+    let gives : Loses (g.I.ByteReader.state c.loop-call.reader).remaining (g.I.ByteReader.state c.read_some.new.self).remaining [] = rw none at c.in-Ok.ensures.given in
     runs.keys_ended _ _ _ _ before _ _ _ _ _ c.requires.heard (c.in-Ok.ensures.well ∙ c.loop-call.invariant.heard) (c.in-Ok-end_keys.ensures.well (λ e. cc)) c.loop-call-test.true
     (c.loop-call.invariant.stands before started) (sym c.in_default.ensures) gives (c.in-Ok.ensures.end c.if-count-eq0.true (search rules)) (c.in-Ok.ensures.last_count ∙ c.if-count-eq0.true) counted
     (c.in-Ok.ensures.empty c.if-count-eq0.true) (c.in-Ok.ensures.even_sized (search rules)) c.in-Ok-end_keys.ensures.written
@@ -39,7 +39,7 @@ pub returns-in-Err-clause-answers : goal.returns-in-Err-clause-answers
 returns-in-Err-clause-answers g c = λ before started.
     let counted = one_call _ _ _ c.in-Ok.ensures.counted c.in-Ok.ensures.worn in
     let none : take c.in-Ok.count c.read_some.new.buffer ≡ [] = rw c.if-count-eq0.true refl in
-    let gives : Loses (g.I.ByteReader.remaining c.loop-call.reader) (g.I.ByteReader.remaining c.read_some.new.self) [] = rw none at c.in-Ok.ensures.given in
+    let gives : Loses (g.I.ByteReader.state c.loop-call.reader).remaining (g.I.ByteReader.state c.read_some.new.self).remaining [] = rw none at c.in-Ok.ensures.given in
     rw c.fault_of_piece.ensures
     (runs.keys_ended_unwritten c.in-Err.fault _ _ _ _ before _ _ _ _ _ c.requires.heard (c.in-Ok.ensures.well ∙ c.loop-call.invariant.heard)
     (λ memory. c.in-Err.ensures.well (λ e. cc)) (λ write. c.in-Err.ensures.told (ap Err write)) c.loop-call-test.true

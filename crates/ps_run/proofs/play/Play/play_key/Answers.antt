@@ -1,5 +1,4 @@
 use Rattle.std.proofs.lemmas.Result.{on_ok_weaker}
-use Rattle.ps_run.specs.Played.{writer_told}
 use Rattle.ps_run.proofs.Playing.{text_stopped, text_taken}
 use Rattle.ps_run.proofs.play.Play.play_key.Goals as goal
 
@@ -8,16 +7,14 @@ returns-in-Ok-clause-session g c = on_ok_weaker c.write_screen.result (λ taken.
 
 pub returns-in-Ok-clause-written : goal.returns-in-Ok-clause-written
 returns-in-Ok-clause-written g c =
-    let before = writer_told (g.W.ByteWriter.contents c.args.writer.now) (g.W.ByteWriter.has_failed c.args.writer.now) (g.W.ByteWriter.calls c.args.writer.now) (g.W.ByteWriter.empty_calls c.args.writer.now) in
+    let before = g.W.ByteWriter.state c.args.writer.now in
     let now =
-    writer_told (g.W.ByteWriter.contents c.write_screen.new.writer) (g.W.ByteWriter.has_failed c.write_screen.new.writer) (g.W.ByteWriter.calls c.write_screen.new.writer)
-    (g.W.ByteWriter.empty_calls c.write_screen.new.writer) in
+    g.W.ByteWriter.state c.write_screen.new.writer in
     text_taken c.write_screen.result before now c.key.new.screen c.clear.new.self _ c.in-Ok.ensures.written c.clear.ensures c.write_screen.ensures.written
 
 pub returns-in-Ok-clause-stops : goal.returns-in-Ok-clause-stops
 returns-in-Ok-clause-stops g c =
-    let before = writer_told (g.W.ByteWriter.contents c.args.writer.now) (g.W.ByteWriter.has_failed c.args.writer.now) (g.W.ByteWriter.calls c.args.writer.now) (g.W.ByteWriter.empty_calls c.args.writer.now) in
+    let before = g.W.ByteWriter.state c.args.writer.now in
     let now =
-    writer_told (g.W.ByteWriter.contents c.write_screen.new.writer) (g.W.ByteWriter.has_failed c.write_screen.new.writer) (g.W.ByteWriter.calls c.write_screen.new.writer)
-    (g.W.ByteWriter.empty_calls c.write_screen.new.writer) in
+    g.W.ByteWriter.state c.write_screen.new.writer in
     text_stopped c.write_screen.result before now c.key.new.screen c.clear.new.self _ c.in-Ok.ensures.written c.clear.ensures c.write_screen.ensures.stops
