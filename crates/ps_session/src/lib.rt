@@ -9,9 +9,9 @@ mod ignored;
 mod levels;
 mod messages;
 mod nexts;
-mod past_boards;
+mod history_boards;
 mod phase;
-mod places;
+mod locations;
 mod session;
 
 pub use ignored::ignored_keys_do_nothing;

@@ -8,14 +8,14 @@ ghost use Rattle.ps_session.specs.IgnoredKeys.{is_ignored};
 ghost use Rattle.ps_session.specs.Phases.{phase_of};
 
 use crate::commit::{commit, give_up};
-use crate::past_boards::PastBoard;
+use crate::history_boards::HistoryBoard;
 use crate::phase::Phase;
-use crate::places::next_at;
+use crate::locations::next_at;
 use circular_buffer::HeapCircularBuffer;
 use ps_board::Board;
 use ps_model::{Ending, HISTORY_LIMIT, Key, Memory};
 use ps_screen::Screen;
-use ps_stage::{Place, PlayedLevel, SessionGame, Stage};
+use ps_stage::{Location, PlayedLevel, SessionGame, Stage};
 use ps_turn::{Programs, Rules};
 use std::alloc::Global;
 use std::marker::Model;
@@ -24,23 +24,23 @@ use std::marker::Model;
 #[derive(Drop)]
 pub struct Session<'g, B: Board> {
     stage: Stage<'g, B>,
-    place: Place<PlayedLevel<B>>,
-    history: HeapCircularBuffer<PastBoard<B>>,
+    location: Location<PlayedLevel<B>>,
+    history: HeapCircularBuffer<HistoryBoard<B>>,
 }
 
 impl<'g, B: Board> Model for Session<'g, B> {
     ghost use Rattle.std.specs.Prelude.{◌≡◌};
     ghost use Rattle.ps_model.specs.declared.limits.TheConstants.{HISTORY_LIMIT};
-    ghost use Rattle.ps_stage.specs.Places.{place_shown, IsOnTable};
+    ghost use Rattle.ps_stage.specs.Locations.{location_shown, IsOnTable};
     ghost use Rattle.ps_stage.specs.Standings.{SessionValue};
     ghost use Rattle.ps_session.specs.Histories.{AreOnTable, grids_of};
 
     ghost Value = { SessionValue };
 
-    ghost view = { λ s. record { game = s.stage.game; session = place_shown (grids_of s.history.items) s.place } };
+    ghost view = { λ s. record { game = s.stage.game; session = location_shown (grids_of s.history.items) s.location } };
 
     ghost invariant = { λ s. (s.history.capacity ≡ HISTORY_LIMIT)
-        × (IsOnTable (B.table_for s.stage.game.names.layers) s.place
+        × (IsOnTable (B.table_for s.stage.game.names.layers) s.location
         × AreOnTable (B.table_for s.stage.game.names.layers) s.history.items) };
 }
 
@@ -71,11 +71,11 @@ impl<'g, B: Board> Session<'g, B> {
         let history = HeapCircularBuffer::with_capacity(alloc, HISTORY_LIMIT)?;
         let mut stage = Stage::new(alloc, game);
         stage.tell_title()?;
-        let place = stage.enter(rules, 0)?;
+        let location = stage.enter(rules, 0)?;
         screen.add(stage.text())?;
         Ok(Session {
             stage,
-            place,
+            location,
             history,
         })
     }
@@ -107,7 +107,7 @@ impl<'g, B: Board> Session<'g, B> {
         ensures late { R.meant rules.new.late ≡ R.meant rules.old.late }
     {
         self.stage.forget_text();
-        let next = next_at(&mut self.stage, rules, &mut self.place, &self.history, key)?;
+        let next = next_at(&mut self.stage, rules, &mut self.location, &self.history, key)?;
         let Some(next) = next else {
             return Ok(self.phase());
         };
@@ -115,7 +115,7 @@ impl<'g, B: Board> Session<'g, B> {
             give_up(&mut self.stage, next);
             return Err(Memory);
         }
-        commit(&mut self.stage, &mut self.place, &mut self.history, next);
+        commit(&mut self.stage, &mut self.location, &mut self.history, next);
         Ok(self.phase())
     }
 
@@ -123,11 +123,11 @@ impl<'g, B: Board> Session<'g, B> {
     pub fn phase(&self) -> Phase
         ensures { result ≡ phase_of self.now.session }
     {
-        match &self.place {
-            Place::Playing(_) => Phase::Playing,
-            Place::Waiting(_, _) => Phase::Message,
-            Place::AtMessage(_) => Phase::Message,
-            Place::Ended(ending) => Phase::Ended(*ending),
+        match &self.location {
+            Location::Playing(_) => Phase::Playing,
+            Location::Waiting(_, _) => Phase::Message,
+            Location::AtMessage(_) => Phase::Message,
+            Location::Ended(ending) => Phase::Ended(*ending),
         }
     }
 
@@ -135,11 +135,11 @@ impl<'g, B: Board> Session<'g, B> {
     pub fn ending(&self) -> Option<Ending>
         ensures { result ≡ ending_of self.now.session }
     {
-        match &self.place {
-            Place::Playing(_) => None,
-            Place::Waiting(_, _) => None,
-            Place::AtMessage(_) => None,
-            Place::Ended(ending) => Some(*ending),
+        match &self.location {
+            Location::Playing(_) => None,
+            Location::Waiting(_, _) => None,
+            Location::AtMessage(_) => None,
+            Location::Ended(ending) => Some(*ending),
         }
     }
 }

@@ -12,10 +12,10 @@ use Rattle.ps_turn.specs.declared.outcomes.DoneTurn.{DoneTurn}
 use Rattle.ps_stage.specs.declared.levels.Counting.{Counting}
 use Rattle.ps_stage.specs.declared.levels.Counting.TheVariants.{Always, IfChanged, IfChangedOrWon}
 use Rattle.ps_stage.specs.Standings.{Standing, with_done}
-use Rattle.ps_stage.specs.declared.places.Pending.{Pending}
-use Rattle.ps_stage.specs.declared.places.Pending.TheVariants.{Nothing, LevelDone, KeyAgain, StartAgain}
-use Rattle.ps_stage.specs.declared.places.Told.{Told}
-use Rattle.ps_stage.specs.declared.places.Told.TheVariants.{Stops, GoesOn}
+use Rattle.ps_stage.specs.declared.locations.Pending.{Pending}
+use Rattle.ps_stage.specs.declared.locations.Pending.TheVariants.{Nothing, LevelDone, KeyAgain, StartAgain}
+use Rattle.ps_stage.specs.declared.locations.Told.{Told}
+use Rattle.ps_stage.specs.declared.locations.Told.TheVariants.{Stops, GoesOn}
 
 -- whether a done turn counts
 abbrev pub counts : Counting → DoneTurn → Bool

@@ -12,7 +12,7 @@ ghost use Rattle.ps_stage.specs.Standings.{script_for, play_of};
 ghost use Rattle.ps_stage.specs.StepsShown.{pending_shown};
 
 use crate::levels::{Counting, PlayedLevel};
-use crate::places::{KeyEnd, KeyTold, Pending};
+use crate::locations::{KeyEnd, KeyTold, Pending};
 use crate::stage::Stage;
 use crate::starts::again_limit;
 use ps_board::Board;

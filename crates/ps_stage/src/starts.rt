@@ -11,7 +11,7 @@ ghost use Rattle.ps_stage.specs.Standings.{script_for, play_of};
 ghost use Rattle.ps_stage.specs.StepsShown.{told_step, start_shown, came, stands, pending_shown};
 
 use crate::levels::{Counting, PlayedLevel};
-use crate::places::{Pending, Told};
+use crate::locations::{Pending, Told};
 use crate::stage::Stage;
 use ps_board::Board;
 use ps_model::{AGAIN_LIMIT, Memory};

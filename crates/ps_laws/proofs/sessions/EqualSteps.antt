@@ -10,8 +10,8 @@ use Rattle.ps_model.specs.board.Levels.{loaded}
 use Rattle.ps_model.specs.board.Programs.{Section}
 use Rattle.ps_model.specs.board.Turns.{Script, Done, Outcome, turn}
 use Rattle.ps_model.specs.session.LevelLines.{Entry, MessageEntry, LevelEntry}
-use Rattle.ps_model.specs.session.Sessions.{Play, Step, after, remembered, with_turn, with_board}
-use Rattle.ps_model.specs.session.KeySteps.{remembered_if, back_at}
+use Rattle.ps_model.specs.session.Sessions.{Play, Step, after, with_board_in_history, with_turn, with_board}
+use Rattle.ps_model.specs.session.KeySteps.{with_board_in_history_if, back_at}
 use Rattle.ps_laws.specs.SessionBoards.{AreBoards, AreBoardsIn, HasBoard}
 use Rattle.ps_laws.specs.AlikeScripts.{EqualOutcomes, EqualSteps}
 use Rattle.ps_laws.proofs.common.Everywhere.{either_one, All-slice_get}
@@ -56,8 +56,8 @@ module _ (IsSuch : Grid → Type 0) where
   pub with_target-boards : (play : Play) → AreBoards IsSuch play → AreBoards IsSuch (with_board play play.target)
   with_target-boards play h = record { board = h.target; history = h.history; target = h.target }
 
-  pub remembered-boards : (play : Play) → AreBoards IsSuch play → AreBoards IsSuch (remembered play)
-  remembered-boards play h =
+  pub with_board_in_history-boards : (play : Play) → AreBoards IsSuch play → AreBoards IsSuch (with_board_in_history play)
+  with_board_in_history-boards play h =
       let boards : List Grid = play.history ++ play.board ∷ [] in
       record {
         board = h.board;
@@ -65,9 +65,9 @@ module _ (IsSuch : Grid → Type 0) where
         target = h.target;
       }
 
-  pub remembered_if-boards : (changed : Bool) (play : Play) → AreBoards IsSuch play → AreBoards IsSuch (remembered_if changed play)
-  remembered_if-boards true play h = remembered-boards play h
-  remembered_if-boards false play h = h
+  pub with_board_in_history_if-boards : (changed : Bool) (play : Play) → AreBoards IsSuch play → AreBoards IsSuch (with_board_in_history_if changed play)
+  with_board_in_history_if-boards true play h = with_board_in_history-boards play h
+  with_board_in_history_if-boards false play h = h
 
   pub back_at-boards : (play : Play) (found : Option Grid) → slice_get play.history (length play.history - 1) ≡ found → AreBoards IsSuch play → AreBoards IsSuch (back_at play found)
   back_at-boards play None e h = h

@@ -82,8 +82,8 @@ abbrev pub kept : List Grid → List Grid
 kept boards = drop (length boards - HISTORY_LIMIT) boards
 
 -- the board enters the history
-abbrev pub remembered : Play → Play
-remembered play = record { entry = play.entry; board = play.board; history = kept (play.history ++ play.board ∷ []); target = play.target }
+abbrev pub with_board_in_history : Play → Play
+with_board_in_history play = record { entry = play.entry; board = play.board; history = kept (play.history ++ play.board ∷ []); target = play.target }
 
 -- the level with that board
 abbrev pub with_board : Play → Grid → Play

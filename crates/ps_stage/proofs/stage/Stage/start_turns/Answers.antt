@@ -2,7 +2,7 @@ use Rattle.std.proofs.Common.{◌≡◌, ◌∙◌, ◌-◌, suc, ap, arith}
 use Rattle.ps_model.specs.board.Turns.{Script}
 use Rattle.ps_model.specs.session.Sessions.{Play, Step}
 use Rattle.ps_model.specs.session.StartSteps.{start_turns}
-use Rattle.ps_stage.specs.declared.places.Told.{Told}
+use Rattle.ps_stage.specs.declared.locations.Told.{Told}
 use Rattle.ps_stage.specs.Standings.{script_for, play_of}
 use Rattle.ps_stage.specs.StepsShown.{told_step}
 use Rattle.ps_stage.proofs.AgainTurns.{one_more}
