@@ -4,7 +4,7 @@
 mod checking;
 mod faults;
 mod sizes;
-mod told;
+mod verdict;
 
 pub use checking::check;
 pub use faults::CheckFault;

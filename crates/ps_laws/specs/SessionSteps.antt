@@ -66,7 +66,7 @@ EmptyTextAddsNothing = (step : Step) → after [] step ≡ step
 abbrev pub UndoTakesLatest : Type 0
 UndoTakesLatest =
     (script : Script) (play : Play) (earlier : List Grid) (latest : Grid) → play.history ≡ earlier ++ latest ∷ [] →
-    let back : Play = record { entry = play.entry; board = latest; history = earlier; target = play.target } in
+    let back : Play = record { entry = play.entry; board = latest; history = earlier; restart_board = play.restart_board } in
     undone script play ≡ record { session = Playing back; text = shown script back }
 
 -- without a history it writes the frame alone

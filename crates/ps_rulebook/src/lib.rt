@@ -14,11 +14,11 @@ pub use boards::{GameBoard, gives_room};
 pub use game_rules::GameRules;
 pub use laws::games_play_as_written;
 pub use programs::rules_of;
-pub use ps_compile::Programs as CompiledPrograms;
+pub use ps_compile::CompiledPrograms;
 pub use ps_engine::{ListBoard, Scan};
 pub use ps_model::Memory;
 pub use ps_rows::RowBoard;
-pub use ps_turn::{Programs, Rules};
+pub use ps_turn::{TurnRules, Rules};
 
 #[cfg(test)]
 mod tests;

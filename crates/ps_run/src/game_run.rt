@@ -14,7 +14,7 @@ use ps_model::{Ending, Memory};
 use ps_screen::Screen;
 use ps_session::Session;
 use ps_stage::SessionGame;
-use ps_turn::{Programs, Rules};
+use ps_turn::{TurnRules, Rules};
 use std::alloc::Global;
 
 /// Plays a game by these rules: writes its opening, and plays the keys of a reader to an ending.
@@ -26,7 +26,7 @@ use std::alloc::Global;
 pub fn run_game<'g, B: Board, R: Rules<B> + Drop, I: ByteReader, W: ByteWriter>(
     alloc: Global,
     game: SessionGame<'g>,
-    rules: Programs<R>,
+    rules: TurnRules<R>,
     reader: &mut I,
     writer: &mut W,
 ) -> Result<Ending, RunFault>

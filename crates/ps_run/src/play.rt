@@ -15,13 +15,13 @@ use ps_keys::Keys;
 use ps_model::{CALL_LIMIT, Ending, Key, Memory, READ_LIMIT};
 use ps_screen::Screen;
 use ps_session::Session;
-use ps_turn::{Programs, Rules};
+use ps_turn::{TurnRules, Rules};
 
 /// A game in play: its session and its rules, what is held of an arrow that has begun, and the text that is made next.
 #[derive(Drop)]
 pub struct Play<'g, B: Board, R> {
     pub session: Session<'g, B>,
-    pub rules: Programs<R>,
+    pub rules: TurnRules<R>,
     pub keys: Keys,
     pub screen: Screen,
 }

@@ -10,7 +10,7 @@ ghost use Rattle.ps_stage.specs.Playable.{ArePlayable};
 
 use crate::faults::{RunFault, fault_of_refusal};
 use crate::game_run::run_game;
-use ps_compile::{Programs as CompiledPrograms, compile};
+use ps_compile::{CompiledPrograms, compile};
 use ps_devices::{ByteReader, ByteWriter};
 use ps_game::{Game, read_game};
 use ps_model::Ending;

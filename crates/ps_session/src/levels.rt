@@ -21,7 +21,7 @@ use circular_buffer::HeapCircularBuffer;
 use ps_board::Board;
 use ps_model::{Ending, Input, Key, Memory};
 use ps_stage::{HistoryChange, Location, PlayedLevel, Stage};
-use ps_turn::{Programs, Rules};
+use ps_turn::{TurnRules, Rules};
 
 /// The end that a player asks for.
 ///
@@ -46,7 +46,7 @@ pub fn quits<B: Board>(stage: &mut Stage<'_, B>) -> Result<Next<PlayedLevel<B>>,
 /// `Memory`, and the level is as before.
 fn moves<B: Board, R: Rules<B>>(
     stage: &mut Stage<'_, B>,
-    rules: &mut Programs<R>,
+    rules: &mut TurnRules<R>,
     level: &mut PlayedLevel<B>,
     input: Input,
 ) -> Result<Next<PlayedLevel<B>>, Memory>
@@ -101,7 +101,7 @@ fn undoes<B: Board>(
 /// `Memory`.
 fn restarts<B: Board, R: Rules<B>>(
     stage: &mut Stage<'_, B>,
-    rules: &mut Programs<R>,
+    rules: &mut TurnRules<R>,
     level: &PlayedLevel<B>,
 ) -> Result<Next<PlayedLevel<B>>, Memory>
     requires empty { stage.old.text ≡ [] }
@@ -126,7 +126,7 @@ fn restarts<B: Board, R: Rules<B>>(
 /// `Memory`, and the level is as before.
 pub fn key_in_level<B: Board, R: Rules<B>>(
     stage: &mut Stage<'_, B>,
-    rules: &mut Programs<R>,
+    rules: &mut TurnRules<R>,
     level: &mut PlayedLevel<B>,
     history: &HeapCircularBuffer<HistoryBoard<B>>,
     key: Key,

@@ -17,7 +17,7 @@ use circular_buffer::HeapCircularBuffer;
 use ps_board::Board;
 use ps_model::{Key, Memory};
 use ps_stage::{Location, PlayedLevel, Stage};
-use ps_turn::{Programs, Rules};
+use ps_turn::{TurnRules, Rules};
 
 /// What a key does; nothing, where it is ignored. The location stays as it is.
 ///
@@ -26,7 +26,7 @@ use ps_turn::{Programs, Rules};
 /// `Memory`, and the location is as before.
 pub fn next_at<B: Board, R: Rules<B>>(
     stage: &mut Stage<'_, B>,
-    rules: &mut Programs<R>,
+    rules: &mut TurnRules<R>,
     location: &mut Location<PlayedLevel<B>>,
     history: &HeapCircularBuffer<HistoryBoard<B>>,
     key: Key,

@@ -16,7 +16,7 @@ use crate::nexts::{Next, next_of};
 use ps_board::Board;
 use ps_model::{Key, Memory};
 use ps_stage::{EntryNumber, HistoryChange, Pending, PlayedLevel, Stage};
-use ps_turn::{Programs, Rules};
+use ps_turn::{TurnRules, Rules};
 
 /// What a key does in a level whose message waits; nothing, where it is ignored.
 ///
@@ -25,7 +25,7 @@ use ps_turn::{Programs, Rules};
 /// `Memory`.
 pub fn key_at_level_message<B: Board, R: Rules<B>>(
     stage: &mut Stage<'_, B>,
-    rules: &mut Programs<R>,
+    rules: &mut TurnRules<R>,
     level: &PlayedLevel<B>,
     pending: Pending,
     key: Key,
@@ -61,7 +61,7 @@ pub fn key_at_level_message<B: Board, R: Rules<B>>(
 /// `Memory`.
 pub fn key_at_entry<B: Board, R: Rules<B>>(
     stage: &mut Stage<'_, B>,
-    rules: &mut Programs<R>,
+    rules: &mut TurnRules<R>,
     entry: &EntryNumber,
     key: Key,
 ) -> Result<Option<Next<PlayedLevel<B>>>, Memory>

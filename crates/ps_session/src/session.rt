@@ -16,7 +16,7 @@ use ps_board::Board;
 use ps_model::{Ending, HISTORY_LIMIT, Key, Memory};
 use ps_screen::Screen;
 use ps_stage::{Location, PlayedLevel, SessionGame, Stage};
-use ps_turn::{Programs, Rules};
+use ps_turn::{TurnRules, Rules};
 use std::alloc::Global;
 use std::marker::Model;
 
@@ -54,7 +54,7 @@ impl<'g, B: Board> Session<'g, B> {
     pub fn start<R: Rules<B>>(
         alloc: Global,
         game: SessionGame<'g>,
-        rules: &mut Programs<R>,
+        rules: &mut TurnRules<R>,
         screen: &mut Screen,
     ) -> Result<Session<'g, B>, Memory>
         ensures game { IfOk result (λ session. session.game ≡ game.entry) }
@@ -88,7 +88,7 @@ impl<'g, B: Board> Session<'g, B> {
     /// `Memory`: the session and the screen are as before, and the same key may be tried again.
     pub fn key<R: Rules<B>>(
         &mut self,
-        rules: &mut Programs<R>,
+        rules: &mut TurnRules<R>,
         key: Key,
         screen: &mut Screen,
     ) -> Result<Phase, Memory>

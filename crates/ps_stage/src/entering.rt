@@ -19,7 +19,7 @@ use ps_board::Board;
 use ps_levels::{Entry, Level};
 use ps_model::{Ending, Memory};
 use ps_text::Text;
-use ps_turn::{Programs, Rules};
+use ps_turn::{TurnRules, Rules};
 
 /// One for an entry that is a level, and nothing for a message.
 fn level_count(entry: &Entry) -> usize
@@ -72,7 +72,7 @@ impl<'g, B: Board> Stage<'g, B> {
     /// A level begins: its line, and its start.
     fn enter_level<R: Rules<B>>(
         &mut self,
-        rules: &mut Programs<R>,
+        rules: &mut TurnRules<R>,
         number: usize,
         entry: EntryNumber,
         level: &Level,
@@ -107,7 +107,7 @@ impl<'g, B: Board> Stage<'g, B> {
     /// `Memory`, and a part of the text may have been made.
     pub fn enter<R: Rules<B>>(
         &mut self,
-        rules: &mut Programs<R>,
+        rules: &mut TurnRules<R>,
         entry: usize,
     ) -> Result<Location<PlayedLevel<B>>, Memory>
         ensures game { self.new.game ≡ self.old.game }
@@ -144,7 +144,7 @@ impl<'g, B: Board> Stage<'g, B> {
     /// `Memory`, and a part of the text may have been made.
     pub fn level_done<R: Rules<B>>(
         &mut self,
-        rules: &mut Programs<R>,
+        rules: &mut TurnRules<R>,
         level: &PlayedLevel<B>,
     ) -> Result<Location<PlayedLevel<B>>, Memory>
         ensures game { self.new.game ≡ self.old.game }
@@ -171,7 +171,7 @@ impl<'g, B: Board> Stage<'g, B> {
     /// `Memory`, and a part of the text may have been made.
     pub fn restart<R: Rules<B>>(
         &mut self,
-        rules: &mut Programs<R>,
+        rules: &mut TurnRules<R>,
         level: &PlayedLevel<B>,
         message: Option<Text>,
     ) -> Result<Location<PlayedLevel<B>>, Memory>

@@ -24,5 +24,5 @@ pub use levels::PlayedLevel;
 pub use locations::{Change, HistoryChange, Pending, Location};
 pub use ps_board::Board;
 pub use ps_model::{Ending, Input, Memory, Options};
-pub use ps_turn::{Programs, Rules};
+pub use ps_turn::{TurnRules, Rules};
 pub use stage::Stage;

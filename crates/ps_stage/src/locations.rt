@@ -52,7 +52,7 @@ pub enum Change<L> {
 
 /// What comes behind a frame of the start of a level.
 #[derive(Clone, Copy, PartialEq, Eq, Debug)]
-pub enum Told {
+pub enum StartTold {
     /// No turn: a message waits, or none does.
     Stops(Option<Pending>),
     /// Again turns.

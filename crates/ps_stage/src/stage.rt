@@ -155,7 +155,7 @@ impl<'g, B: Board> Stage<'g, B> {
         ensures entry { IfOk result (λ back. back.entry ≡ level.now.entry) }
         ensures table { IfOk result (λ back. back.table ≡ level.now.table) }
         ensures board { IfOk result (λ back. back.board ≡ B.grid board.now) }
-        ensures target { IfOk result (λ back. back.target ≡ level.now.target) }
+        ensures restart_board { IfOk result (λ back. back.restart_board ≡ level.now.restart_board) }
     {
         level.with_board(self.alloc, &mut self.spares, board)
     }

@@ -51,10 +51,10 @@ module _ (IsSuch : Grid → Type 0) where
   -- boards ----------------------------------------------------------------------------------------------------------------
 
   pub with_turn-boards : (play : Play) (done : Done) → AreBoards IsSuch play → IsSuch done.board → AreBoards IsSuch (with_turn play done)
-  with_turn-boards play done h board = record { board = board; history = h.history; target = either_one IsSuch done.checkpoint done.board play.target board h.target }
+  with_turn-boards play done h board = record { board = board; history = h.history; restart_board = either_one IsSuch done.checkpoint done.board play.restart_board board h.restart_board }
 
-  pub with_target-boards : (play : Play) → AreBoards IsSuch play → AreBoards IsSuch (with_board play play.target)
-  with_target-boards play h = record { board = h.target; history = h.history; target = h.target }
+  pub with_restart_board-boards : (play : Play) → AreBoards IsSuch play → AreBoards IsSuch (with_board play play.restart_board)
+  with_restart_board-boards play h = record { board = h.restart_board; history = h.history; restart_board = h.restart_board }
 
   pub with_board_in_history-boards : (play : Play) → AreBoards IsSuch play → AreBoards IsSuch (with_board_in_history play)
   with_board_in_history-boards play h =
@@ -62,7 +62,7 @@ module _ (IsSuch : Grid → Type 0) where
       record {
         board = h.board;
         history = All-drop IsSuch (length boards - HISTORY_LIMIT) boards (All-append IsSuch play.history (play.board ∷ []) h.history (All-cons IsSuch play.board [] h.board (All-nil IsSuch)));
-        target = h.target;
+        restart_board = h.restart_board;
       }
 
   pub with_board_in_history_if-boards : (changed : Bool) (play : Play) → AreBoards IsSuch play → AreBoards IsSuch (with_board_in_history_if changed play)
@@ -74,5 +74,5 @@ module _ (IsSuch : Grid → Type 0) where
   back_at-boards play (Some latest) e h = record {
     board = All-slice_get IsSuch play.history (length play.history - 1) latest h.history e;
     history = All-take IsSuch (length play.history - 1) play.history h.history;
-    target = h.target;
+    restart_board = h.restart_board;
   }

@@ -89,7 +89,7 @@ input_taken script play input = turn_taken script play (turn script (Some input)
 -- the level back at the latest board of its history, which leaves the history; where there is none, as it is
 abbrev pub back_at : Play → Option Grid → Play
 back_at play None = play
-back_at play (Some latest) = record { entry = play.entry; board = latest; history = take (length play.history - 1) play.history; target = play.target }
+back_at play (Some latest) = record { entry = play.entry; board = latest; history = take (length play.history - 1) play.history; restart_board = play.restart_board }
 
 -- the level back at the latest board; a frame shows it, also where it is as it was
 abbrev pub undone : Script → Play → Step
