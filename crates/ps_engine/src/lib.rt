@@ -6,7 +6,7 @@ mod attempts;
 mod one_cell;
 mod one_part;
 mod programs;
-mod queue;
+mod lent_queue;
 mod rooms;
 mod rounds;
 mod walking;
@@ -15,7 +15,7 @@ mod writing;
 pub use programs::run_program;
 pub use ps_match::{ListBoard, Scan};
 pub use ps_places::RowRoom;
-pub use queue::Queue;
+pub use lent_queue::LentQueue;
 pub use rooms::rooms_for;
 
 #[cfg(test)]

@@ -9,7 +9,7 @@ ghost use Rattle.ps_engine.specs.OneCell.{one_part, rows_parts};
 ghost use Rattle.ps_engine.specs.RulesInRoom.{rule_meaning};
 
 use crate::attempts::attempt_rows;
-use crate::queue::Queue;
+use crate::lent_queue::LentQueue;
 use ps_match::Scan;
 use ps_places::RowRoom;
 use ps_program::{CompiledCell, CompiledRow, CompiledRule};
@@ -35,7 +35,7 @@ pub fn attempt_part<'r, B: Scan>(
     rule: &CompiledRule<'r>,
     part: &[CompiledCell],
     board: &mut B,
-    queue: &mut Queue<'r>,
+    queue: &mut LentQueue<'r>,
     rooms: &mut [RowRoom],
 ) -> bool
     requires only { rows_parts rule.now.rows ≡ one_part part.now }

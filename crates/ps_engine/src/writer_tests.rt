@@ -7,7 +7,7 @@ ghost use Rattle.ps_program.specs.Parts.{HasCell};
 
 use crate::attempts::attempt;
 use crate::rooms::rooms_of;
-use crate::{ListBoard, Queue};
+use crate::{ListBoard, LentQueue};
 use ps_board::Board;
 use ps_model::{LayerId, LayerWrite, LayeredObject, Memory, Motion, ObjectId, ObjectWrite};
 use ps_program::{
@@ -193,7 +193,7 @@ fn attempted(
     let written = rule(alloc, axis, parts, &commands)?;
     assert!(rt; written.writer.is_some());
     let mut rooms = rooms_of(alloc, written.rows.as_slice().len())?;
-    let mut queue = Queue::empty();
+    let mut queue = LentQueue::empty();
     Ok(attempt(&written, board, &mut queue, rooms.as_mut_slice()))
 }
 
