@@ -8,7 +8,7 @@ ghost use Rattle.ps_model.specs.declared.limits.TheConstants.{TEXT_LIMIT};
 ghost use Rattle.ps_model.specs.text.Lines as lines;
 ghost use Rattle.ps_text.specs.PlainLines.{IsVeiled};
 ghost use Rattle.ps_text.specs.TakenPlaces.{IsTextPlace, start_of};
-ghost use Rattle.ps_text.specs.Rows.{shown, shown_as, raw_at, line_below, above_next, IsBelow, IsRow, IsRowOf, IsTable};
+ghost use Rattle.ps_text.specs.Rows.{shown, shown_as, raw_at, line_below, next_line_start, IsBelow, IsRow, IsRowOf, IsTable};
 
 use crate::comments::{depth_after_line, plain_line};
 use crate::headers::header_of_line;
@@ -37,7 +37,7 @@ pub struct Row {
 /// What a line finds above it: its number, the byte at which it begins, how many comments are open, and the section
 /// that the line above stands in.
 #[derive(Clone, Copy, Debug)]
-pub struct Above {
+pub struct LineStart {
     pub number: u32,
     pub start: u32,
     pub depth: u32,
@@ -86,12 +86,12 @@ fn depth_below_line(section: Section, region: Option<Place>, depth: u32, raw: &[
 }
 
 /// The row of a line, and what the line below finds above it.
-fn row_below(alloc: Global, raw: &str, above: Above) -> Result<(Row, Above), Memory>
+fn row_below(alloc: Global, raw: &str, above: LineStart) -> Result<(Row, LineStart), Memory>
     requires short { above.start + length raw.now ≤ TEXT_LIMIT }
     requires depth { above.depth ≤ above.start }
     requires counted { above.number ≤ above.start + 1 }
     ensures row { IfOk result (λ made. shown_as raw.now made.0 ≡ line_below above raw.now) }
-    ensures below { IfOk result (λ made. made.1 ≡ above_next above raw.now) }
+    ensures below { IfOk result (λ made. made.1 ≡ next_line_start above raw.now) }
     ensures depth { IfOk result (λ made. made.1.depth ≤ above.depth + length raw.now) }
     ensures whole { IfOk result (λ made. IsRowOf raw.now made.0) }
 {
@@ -112,7 +112,7 @@ fn row_below(alloc: Global, raw: &str, above: Above) -> Result<(Row, Above), Mem
         visible,
         taken,
     };
-    let below = Above {
+    let below = LineStart {
         number: above.number + 1,
         start: above.start + raw.len() as u32 + 1,
         depth,
@@ -122,13 +122,13 @@ fn row_below(alloc: Global, raw: &str, above: Above) -> Result<(Row, Above), Mem
 }
 
 /// The row of the line that begins there, and what the line below finds above it.
-fn row_at(alloc: Global, text: &str, above: Above) -> Result<(Row, Above), Memory>
+fn row_at(alloc: Global, text: &str, above: LineStart) -> Result<(Row, LineStart), Memory>
     requires short { length text.now ≤ TEXT_LIMIT }
     requires cuttable { IsCharBoundary text.now above.start }
     requires depth { above.depth ≤ above.start }
     requires counted { above.number ≤ above.start + 1 }
     ensures row { IfOk result (λ made. shown text.now made.0 ≡ line_below above (raw_at text.now above.start)) }
-    ensures below { IfOk result (λ made. made.1 ≡ above_next above (raw_at text.now above.start)) }
+    ensures below { IfOk result (λ made. made.1 ≡ next_line_start above (raw_at text.now above.start)) }
     ensures next { IfOk result (λ made. IsBelow text.now above made.1) }
     ensures whole { IfOk result (λ made. IsRow text.now made.0) }
 {
@@ -143,7 +143,7 @@ pub fn table(alloc: Global, text: &str) -> Result<Vec<Row>, Memory>
     requires { length text.now ≤ TEXT_LIMIT }
     ensures { IfOk result (λ rows. IsTable text.now rows.items) }
 {
-    let first = Above {
+    let first = LineStart {
         number: 1,
         start: mark_len(text),
         depth: 0,
