@@ -5,15 +5,15 @@ use Rattle.std.specs.Str.{IsCharBoundary}
 use Rattle.ps_model.specs.declared.texts.Section.{Section}
 use Rattle.ps_model.specs.declared.limits.TheConstants.{TEXT_LIMIT}
 use Rattle.ps_model.specs.text.Lines.{Line, Taken, is_line_feed, without_empty_end, without_comments, header_of, text_place, bytes_left, text_taken, is_read, depth_below, lines_from, lines_of}
-use Rattle.ps_text.specs.declared.scan.Place.{Place}
+use Rattle.ps_text.specs.declared.scan.ByteRange.{ByteRange}
 use Rattle.ps_text.specs.declared.rows.Row.{Row}
 use Rattle.ps_text.specs.declared.rows.LineStart.{LineStart}
 use Rattle.ps_text.specs.PlainLines.{IsVeiled}
-use Rattle.ps_text.specs.TakenPlaces.{IsTextPlace}
+use Rattle.ps_text.specs.TakenRanges.{IsTextRange}
 
 -- a text that is taken as it stands, by its place in the line
-abbrev pub taken_at : ℕ → List ℕ → Place → Taken
-taken_at start raw place = record { start = start + place.start; bytes = slice_range raw place.start place.end }
+abbrev pub taken_at : ℕ → List ℕ → ByteRange → Taken
+taken_at start raw range = record { start = start + range.start; bytes = slice_range raw range.start range.end }
 
 -- the line that a row tells of, whose bytes are these
 abbrev pub shown_as : List ℕ → Row → Line
@@ -78,7 +78,7 @@ pub record IsBelow (text : List ℕ) (above below : LineStart) : Type 0 where
 -- the row is one of a line with these bytes
 pub record IsRowOf (raw : List ℕ) (row : Row) : Type 0 where
   pub veiled : IsVeiled raw (string_bytes row.visible)
-  pub taken : IfSome row.taken (IsTextPlace raw)
+  pub taken : IfSome row.taken (IsTextRange raw)
 
 -- the row's line can be cut out of the text
 pub record IsRow (text : List ℕ) (row : Row) : Type 0 where

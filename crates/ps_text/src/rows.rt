@@ -7,14 +7,14 @@ ghost use Rattle.std.specs.Str.{IsCharBoundary};
 ghost use Rattle.ps_model.specs.declared.limits.TheConstants.{TEXT_LIMIT};
 ghost use Rattle.ps_model.specs.text.Lines as lines;
 ghost use Rattle.ps_text.specs.PlainLines.{IsVeiled};
-ghost use Rattle.ps_text.specs.TakenPlaces.{IsTextPlace, start_of};
+ghost use Rattle.ps_text.specs.TakenRanges.{IsTextRange, start_of};
 ghost use Rattle.ps_text.specs.Rows.{shown, shown_as, raw_at, line_below, next_line_start, IsBelow, IsRow, IsRowOf, IsTable};
 
 use crate::comments::{depth_after_line, plain_line};
 use crate::headers::header_of_line;
 use crate::kinds::is_read_line;
 use crate::regions::{taken_in, text_region, visible_line};
-use crate::scan::Place;
+use crate::scan::ByteRange;
 use ps_model::{Memory, Section};
 use std::alloc::Global;
 
@@ -30,8 +30,8 @@ pub struct Row {
     pub is_there: bool,
     /// Its bytes, without the line feed, with blanks in place of comments and of a text that is taken as it stands.
     pub visible: String,
-    /// The place in the line of the text that is taken as it stands, without the blanks at its ends.
-    pub taken: Option<Place>,
+    /// Where in the line the text stands that is taken as it is, without the blanks at its ends.
+    pub taken: Option<ByteRange>,
 }
 
 /// What a line finds above it: its number, the byte at which it begins, how many comments are open, and the section
@@ -74,7 +74,7 @@ fn line_end(text: &[u8], start: usize) -> usize
 }
 
 /// How many comments are open below a line of that section before which so many are: none where a text ends the line.
-fn depth_below_line(section: Section, region: Option<Place>, depth: u32, raw: &[u8]) -> u32
+fn depth_below_line(section: Section, region: Option<ByteRange>, depth: u32, raw: &[u8]) -> u32
     requires { depth + length raw.now ≤ TEXT_LIMIT }
     ensures depth { result ≡ lines.depth_below section (option_map start_of region) depth raw.now }
     ensures most { result ≤ depth + length raw.now }
