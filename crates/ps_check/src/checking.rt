@@ -7,7 +7,7 @@ ghost use Rattle.ps_check.specs.Checks.{check_line};
 ghost use Rattle.ps_check.specs.CutOffLines.{IsCutOffLine};
 
 use crate::faults::CheckFault;
-use crate::verdict::verdict_of;
+use crate::finding::finding_of;
 use ps_devices::{ByteWriter, write_whole};
 use std::alloc::Global;
 
@@ -32,9 +32,9 @@ pub fn check<W: ByteWriter>(alloc: Global, text: &[u8], writer: &mut W) -> Resul
     ensures well { result ≢ Err CheckFault.Write → W.has_failed writer.new ≡ false }
     ensures told { result ≡ Err CheckFault.Write → W.has_failed writer.new ≡ true }
 {
-    let verdict = verdict_of(alloc, text)?;
-    match write_whole(verdict.line.as_bytes(), writer) {
-        Ok(()) => Ok(verdict.accepted),
+    let finding = finding_of(alloc, text)?;
+    match write_whole(finding.line.as_bytes(), writer) {
+        Ok(()) => Ok(finding.accepted),
         Err(_) => Err(CheckFault::Write),
     }
 }

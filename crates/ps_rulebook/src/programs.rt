@@ -18,7 +18,7 @@ use std::alloc::Global;
 ///
 /// What a turn's message needs of memory comes from `alloc`. `Memory` if there is no room for what runs of the programs
 /// need besides a board.
-pub fn rules_of<'p, 'r>(
+pub fn rules_of_turns<'p, 'r>(
     alloc: Global,
     programs: &'p CompiledPrograms<'r>,
 ) -> Result<TurnRules<GameRules<'p, 'r>>, Memory>

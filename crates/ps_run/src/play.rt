@@ -13,9 +13,9 @@ use ps_board::Board;
 use ps_devices::{ByteReader, ByteWriter, write_whole};
 use ps_keys::Keys;
 use ps_model::{CALL_LIMIT, Ending, Key, Memory, READ_LIMIT};
-use ps_screen::Screen;
+use ps_screen::OutputText;
 use ps_session::Session;
-use ps_turn::{TurnRules, Rules};
+use ps_turn::{Rules, TurnRules};
 
 /// A game in play: its session and its rules, what is held of an arrow that has begun, and the text that is made next.
 #[derive(Drop)]
@@ -23,27 +23,27 @@ pub struct Play<'g, B: Board, R> {
     pub session: Session<'g, B>,
     pub rules: TurnRules<R>,
     pub keys: Keys,
-    pub screen: Screen,
+    pub output: OutputText,
 }
 
-/// Writes what the screen has.
-pub fn write_screen<W: ByteWriter>(screen: &Screen, writer: &mut W) -> Result<(), PieceFault>
+/// Writes what the output has.
+pub fn write_output<W: ByteWriter>(output: &OutputText, writer: &mut W) -> Result<(), PieceFault>
     requires { W.has_failed writer.old ≡ false }
     ensures written { let before = writer_told (W.contents writer.old) (W.has_failed writer.old)
         (W.calls writer.old) (W.empty_calls writer.old) in
         let now = writer_told (W.contents writer.new) (W.has_failed writer.new)
         (W.calls writer.new) (W.empty_calls writer.new) in
-        OnOk result (HasTaken before now screen.now) }
+        OnOk result (HasTaken before now output.now) }
     ensures stops { let before = writer_told (W.contents writer.old) (W.has_failed writer.old)
         (W.calls writer.old) (W.empty_calls writer.old) in
         let now = writer_told (W.contents writer.new) (W.has_failed writer.new)
         (W.calls writer.new) (W.empty_calls writer.new) in
-        IfErr result (λ fault. StopsAtText fault before now screen.now) }
+        IfErr result (λ fault. StopsAtText fault before now output.now) }
     ensures well { result ≢ Err PieceFault.Write → W.has_failed writer.new ≡ false }
     ensures told { result ≡ Err PieceFault.Write → W.has_failed writer.new ≡ true }
     ensures fault { result ≢ Err PieceFault.Memory }
 {
-    match write_whole(screen.bytes(), writer) {
+    match write_whole(output.bytes(), writer) {
         Ok(()) => Ok(()),
         Err(_) => Err(PieceFault::Write),
     }
@@ -78,9 +78,9 @@ impl<'g, B: Board, R: Rules<B> + Drop> Play<'g, B, R> {
         ensures well { result ≢ Err PieceFault.Write → W.has_failed writer.new ≡ false }
         ensures told { result ≡ Err PieceFault.Write → W.has_failed writer.new ≡ true }
     {
-        self.screen.clear();
-        match self.session.key(&mut self.rules, key, &mut self.screen) {
-            Ok(_phase) => write_screen(&self.screen, writer),
+        self.output.clear();
+        match self.session.key(&mut self.rules, key, &mut self.output) {
+            Ok(_phase) => write_output(&self.output, writer),
             Err(Memory) => Err(PieceFault::Memory),
         }
     }
@@ -178,9 +178,9 @@ impl<'g, B: Board, R: Rules<B> + Drop> Play<'g, B, R> {
         ensures well { result ≢ Err PieceFault.Write → W.has_failed writer.new ≡ false }
         ensures told { result ≡ Err PieceFault.Write → W.has_failed writer.new ≡ true }
     {
-        self.screen.clear();
-        self.screen.add_line("* end of keys", "")?;
-        write_screen(&self.screen, writer)
+        self.output.clear();
+        self.output.add_line("* end of keys", "")?;
+        write_output(&self.output, writer)
     }
 
     /// Plays the keys of a reader to an ending, where nothing is read yet: a piece at a time, of the `CALL_LIMIT` bytes

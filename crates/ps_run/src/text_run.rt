@@ -14,7 +14,7 @@ use ps_compile::{CompiledPrograms, compile};
 use ps_devices::{ByteReader, ByteWriter};
 use ps_game::{Game, read_game};
 use ps_model::Ending;
-use ps_rulebook::{GameRules, RowBoard, rules_of};
+use ps_rulebook::{GameRules, RowBoard, rules_of_turns};
 use ps_stage::SessionGame;
 use std::alloc::Global;
 
@@ -90,7 +90,7 @@ fn run_compiled<I: ByteReader, W: ByteWriter>(
         &game.entries,
         &game.wins,
     );
-    let rules = match rules_of(alloc, compiled) {
+    let rules = match rules_of_turns(alloc, compiled) {
         Ok(rules) => rules,
         Err(_) => return Err(RunFault::Memory),
     };

@@ -14,7 +14,7 @@ use crate::locations::next_at;
 use circular_buffer::HeapCircularBuffer;
 use ps_board::Board;
 use ps_model::{Ending, HISTORY_LIMIT, Key, Memory};
-use ps_screen::Screen;
+use ps_screen::OutputText;
 use ps_stage::{Location, PlayedLevel, SessionGame, Stage};
 use ps_turn::{TurnRules, Rules};
 use std::alloc::Global;
@@ -45,26 +45,26 @@ impl<'g, B: Board> Model for Session<'g, B> {
 }
 
 impl<'g, B: Board> Session<'g, B> {
-    /// Starts a game: adds its title to the screen, and what its first entry writes. The room for the boards of undo is
+    /// Starts a game: adds its title to the output, and what its first entry writes. The room for the boards of undo is
     /// taken here, and never again.
     ///
     /// # Errors
     ///
-    /// `Memory`, and the screen is as before.
+    /// `Memory`, and the output is as before.
     pub fn start<R: Rules<B>>(
         alloc: Global,
         game: SessionGame<'g>,
         rules: &mut TurnRules<R>,
-        screen: &mut Screen,
+        output: &mut OutputText,
     ) -> Result<Session<'g, B>, Memory>
         ensures game { IfOk result (λ session. session.game ≡ game.entry) }
         ensures session { IfOk result (λ session. session.session
             ≡ (opening_step (script_for B.table_for game.entry (R.meant rules.old.plain)
             (R.meant rules.old.late))).session) }
-        ensures written { OnOk result (screen.new ≡ screen.old
+        ensures written { OnOk result (output.new ≡ output.old
             ++ (opening_step (script_for B.table_for game.entry (R.meant rules.old.plain)
             (R.meant rules.old.late))).text) }
-        ensures kept { OnErr result (screen.new ≡ screen.old) }
+        ensures kept { OnErr result (output.new ≡ output.old) }
         ensures plain { R.meant rules.new.plain ≡ R.meant rules.old.plain }
         ensures late { R.meant rules.new.late ≡ R.meant rules.old.late }
     {
@@ -72,7 +72,7 @@ impl<'g, B: Board> Session<'g, B> {
         let mut stage = Stage::new(alloc, game);
         stage.tell_title()?;
         let location = stage.enter(rules, 0)?;
-        screen.add(stage.text())?;
+        output.add(stage.text())?;
         Ok(Session {
             stage,
             location,
@@ -80,28 +80,28 @@ impl<'g, B: Board> Session<'g, B> {
         })
     }
 
-    /// Does what a key does, adds its text to the screen, and answers what a player may do next. A key that is ignored,
+    /// Does what a key does, adds its text to the output, and answers what a player may do next. A key that is ignored,
     /// or that comes after the end, changes nothing and takes no memory.
     ///
     /// # Errors
     ///
-    /// `Memory`: the session and the screen are as before, and the same key may be tried again.
+    /// `Memory`: the session and the output are as before, and the same key may be tried again.
     pub fn key<R: Rules<B>>(
         &mut self,
         rules: &mut TurnRules<R>,
         key: Key,
-        screen: &mut Screen,
+        output: &mut OutputText,
     ) -> Result<Phase, Memory>
         ensures game { self.new.game ≡ self.old.game }
         ensures phase { IfOk result (λ phase. phase ≡ phase_of self.new.session) }
         ensures session { OnOk result (self.new.session
             ≡ (key_step (script_for B.table_for self.old.game (R.meant rules.old.plain) (R.meant rules.old.late))
             self.old.session key).session) }
-        ensures written { OnOk result (screen.new ≡ screen.old
+        ensures written { OnOk result (output.new ≡ output.old
             ++ (key_step (script_for B.table_for self.old.game (R.meant rules.old.plain) (R.meant rules.old.late))
             self.old.session key).text) }
         ensures same { OnErr result (self.new ≡ self.old) }
-        ensures kept { OnErr result (screen.new ≡ screen.old) }
+        ensures kept { OnErr result (output.new ≡ output.old) }
         ensures ignored { is_ignored self.old.game.options self.old.session key ≡ true → IsOk result }
         ensures plain { R.meant rules.new.plain ≡ R.meant rules.old.plain }
         ensures late { R.meant rules.new.late ≡ R.meant rules.old.late }
@@ -111,7 +111,7 @@ impl<'g, B: Board> Session<'g, B> {
         let Some(next) = next else {
             return Ok(self.phase());
         };
-        if let Err(Memory) = screen.add(self.stage.text()) {
+        if let Err(Memory) = output.add(self.stage.text()) {
             give_up(&mut self.stage, next);
             return Err(Memory);
         }

@@ -4,20 +4,20 @@ use Rattle.ps_run.proofs.Playing.{text_stopped, text_taken}
 use Rattle.ps_run.proofs.play.Play.play_key.Goals as goal
 
 pub returns-in-Ok-clause-session : goal.returns-in-Ok-clause-session
-returns-in-Ok-clause-session g c = on_ok_weaker c.write_screen.result (λ taken. c.in-Ok.ensures.session) c.write_screen.ensures.written
+returns-in-Ok-clause-session g c = on_ok_weaker c.write_output.result (λ taken. c.in-Ok.ensures.session) c.write_output.ensures.written
 
 pub returns-in-Ok-clause-written : goal.returns-in-Ok-clause-written
 returns-in-Ok-clause-written g c =
     let before = writer_told (g.W.ByteWriter.contents c.args.writer.now) (g.W.ByteWriter.has_failed c.args.writer.now) (g.W.ByteWriter.calls c.args.writer.now) (g.W.ByteWriter.empty_calls c.args.writer.now) in
     let now =
-    writer_told (g.W.ByteWriter.contents c.write_screen.new.writer) (g.W.ByteWriter.has_failed c.write_screen.new.writer) (g.W.ByteWriter.calls c.write_screen.new.writer)
-    (g.W.ByteWriter.empty_calls c.write_screen.new.writer) in
-    text_taken c.write_screen.result before now c.key.new.screen c.clear.new.self _ c.in-Ok.ensures.written c.clear.ensures c.write_screen.ensures.written
+    writer_told (g.W.ByteWriter.contents c.write_output.new.writer) (g.W.ByteWriter.has_failed c.write_output.new.writer) (g.W.ByteWriter.calls c.write_output.new.writer)
+    (g.W.ByteWriter.empty_calls c.write_output.new.writer) in
+    text_taken c.write_output.result before now c.key.new.output c.clear.new.self _ c.in-Ok.ensures.written c.clear.ensures c.write_output.ensures.written
 
 pub returns-in-Ok-clause-stops : goal.returns-in-Ok-clause-stops
 returns-in-Ok-clause-stops g c =
     let before = writer_told (g.W.ByteWriter.contents c.args.writer.now) (g.W.ByteWriter.has_failed c.args.writer.now) (g.W.ByteWriter.calls c.args.writer.now) (g.W.ByteWriter.empty_calls c.args.writer.now) in
     let now =
-    writer_told (g.W.ByteWriter.contents c.write_screen.new.writer) (g.W.ByteWriter.has_failed c.write_screen.new.writer) (g.W.ByteWriter.calls c.write_screen.new.writer)
-    (g.W.ByteWriter.empty_calls c.write_screen.new.writer) in
-    text_stopped c.write_screen.result before now c.key.new.screen c.clear.new.self _ c.in-Ok.ensures.written c.clear.ensures c.write_screen.ensures.stops
+    writer_told (g.W.ByteWriter.contents c.write_output.new.writer) (g.W.ByteWriter.has_failed c.write_output.new.writer) (g.W.ByteWriter.calls c.write_output.new.writer)
+    (g.W.ByteWriter.empty_calls c.write_output.new.writer) in
+    text_stopped c.write_output.result before now c.key.new.output c.clear.new.self _ c.in-Ok.ensures.written c.clear.ensures c.write_output.ensures.stops

@@ -33,4 +33,4 @@ returns-clause-session g c = rw c.in_ok-history.ensures (sym (ap (λ (step : Ste
 pub returns-clause-written : goal.returns-clause-written
 returns-clause-written g c =
     c.in_ok-add.ensures.added
-    ∙ ap (λ (text : List ℕ). c.args.screen.now ++ text) (c.text.ensures ∙ sym (ap (λ (step : Step). step.text) (opens g c)))
+    ∙ ap (λ (text : List ℕ). c.args.output.now ++ text) (c.text.ensures ∙ sym (ap (λ (step : Step). step.text) (opens g c)))

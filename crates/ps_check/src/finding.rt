@@ -11,28 +11,28 @@ use std::alloc::Global;
 
 /// Whether a text is a game, and the line that tells of it.
 #[derive(Drop)]
-pub struct Verdict {
+pub struct Finding {
     pub accepted: bool,
     pub line: String,
 }
 
 /// What a check finds of a text.
-pub fn verdict_of(alloc: Global, text: &[u8]) -> Result<Verdict, Memory>
-    ensures accepted { IfOk result (λ verdict. verdict.accepted ≡ is_some (game text.now)) }
-    ensures line { IfOk result (λ verdict. string_bytes verdict.line ≡ check_line text.now) }
+pub fn finding_of(alloc: Global, text: &[u8]) -> Result<Finding, Memory>
+    ensures accepted { IfOk result (λ finding. finding.accepted ≡ is_some (game text.now)) }
+    ensures line { IfOk result (λ finding. string_bytes finding.line ≡ check_line text.now) }
 {
     match read_game(alloc, text) {
         Ok(game) => {
             let size = size_of(&game);
             let line = format!(in alloc; "{size}\n")?;
-            Ok(Verdict {
+            Ok(Finding {
                 accepted: true,
                 line,
             })
         }
         Err(Refusal::Refused(fault)) => {
             let line = format!(in alloc; "{fault}\n")?;
-            Ok(Verdict {
+            Ok(Finding {
                 accepted: false,
                 line,
             })
