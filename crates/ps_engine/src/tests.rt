@@ -2,7 +2,7 @@
 
 ghost use Rattle.std.specs.Prelude.{◌≡◌, All, IfOk, IfSome};
 ghost use Rattle.ps_program.specs.Axes.{LiesAlong};
-ghost use Rattle.ps_program.specs.Parts.{HasCell};
+ghost use Rattle.ps_laws.specs.WholeRows.{HasCells};
 
 use crate::attempts::attempt;
 use crate::rooms::{rooms_for, rooms_of};
@@ -191,7 +191,7 @@ fn part(alloc: Global, cells: &[(u8, u8)]) -> Result<List<CompiledCell>, Memory>
 /// The parts of a row by their cells, each the letter on the left and the one on the right. Parts without a cell are
 /// left out.
 fn parts_of(alloc: Global, parts: &[&[(u8, u8)]]) -> Result<List<List<CompiledCell>>, Memory>
-    ensures { IfOk result (All HasCell) }
+    ensures { IfOk result (All HasCells) }
 {
     let mut all = Vec::new(alloc);
     for cells in parts {

@@ -3,7 +3,7 @@
 
 ghost use Rattle.std.specs.Prelude.{◌≡◌, All, IfOk, IfSome};
 ghost use Rattle.ps_program.specs.Axes.{LiesAlong};
-ghost use Rattle.ps_program.specs.Parts.{HasCell};
+ghost use Rattle.ps_laws.specs.WholeRows.{HasCells};
 
 use crate::attempts::attempt;
 use crate::rooms::rooms_of;
@@ -141,7 +141,7 @@ fn part(alloc: Global, letters: &[u8]) -> Result<List<CompiledCell>, Memory> {
 
 /// The parts of a row by their letters. Parts without a cell are left out.
 fn parts_of(alloc: Global, parts: &[&[u8]]) -> Result<List<List<CompiledCell>>, Memory>
-    ensures { IfOk result (All HasCell) }
+    ensures { IfOk result (All HasCells) }
 {
     let mut all = Vec::new(alloc);
     for letters in parts {
