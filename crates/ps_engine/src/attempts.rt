@@ -8,9 +8,9 @@ ghost use Rattle.ps_engine.specs.Choosing.{ArePlaced, HaveLinesOf, rows_meaning}
 ghost use Rattle.ps_engine.specs.RulesInRoom.{rule_meaning};
 
 use crate::asking::attempt_commands;
+use crate::lent_queue::LentQueue;
 use crate::one_cell::{attempt_cell, only_cell};
 use crate::one_part::{attempt_part, only_part};
-use crate::lent_queue::LentQueue;
 use crate::walking::walk;
 use crate::writing::attempt_writer;
 use ps_match::Scan;

@@ -6,7 +6,7 @@ ghost use Rattle.ps_laws.specs.WholeRows.{HasCells};
 
 use crate::attempts::attempt;
 use crate::rooms::{rooms_for, rooms_of};
-use crate::{ListBoard, LentQueue, run_program};
+use crate::{LentQueue, ListBoard, run_program};
 use ps_board::Board;
 use ps_model::{
     LayerId, LayerWrite, LayeredObject, Memory, Motion, ObjectId, ObjectWrite, SIDE_LIMIT,

@@ -7,7 +7,7 @@ ghost use Rattle.ps_laws.specs.WholeRows.{HasCells};
 
 use crate::attempts::attempt;
 use crate::rooms::rooms_of;
-use crate::{ListBoard, LentQueue};
+use crate::{LentQueue, ListBoard};
 use ps_board::Board;
 use ps_model::{LayerId, LayerWrite, LayeredObject, Memory, Motion, ObjectId, ObjectWrite};
 use ps_program::{

@@ -18,7 +18,7 @@ pub use ps_compile::CompiledPrograms;
 pub use ps_engine::{ListBoard, Scan};
 pub use ps_model::Memory;
 pub use ps_rows::RowBoard;
-pub use ps_turn::{TurnRules, Rules};
+pub use ps_turn::{Rules, TurnRules};
 
 #[cfg(test)]
 mod tests;

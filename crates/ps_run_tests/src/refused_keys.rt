@@ -7,7 +7,7 @@ use crate::playable::playable_game;
 use ps_compile::compile;
 use ps_model::{Ending, Input, Key, Memory};
 use ps_rulebook::{RowBoard, rules_of_turns};
-use ps_session::{Phase, OutputText, Session, SessionGame};
+use ps_session::{OutputText, Phase, Session, SessionGame};
 use std::alloc::Global;
 use std::process::Abort;
 

@@ -7,9 +7,9 @@ ghost use Rattle.ps_board.specs.Rows.{DifferOnlyOn};
 ghost use Rattle.ps_screen.specs.FrameTexts.{IsTextOf};
 
 use crate::cells::Room;
+use crate::output_text::OutputText;
 use crate::plain_frames::{draw_frame, patch_frame};
 use crate::rows::{draw_rows, patch_rows};
-use crate::output_text::OutputText;
 use ps_board::{Board, Columns};
 use ps_model::{LayerId, Memory};
 use ps_names::Names;

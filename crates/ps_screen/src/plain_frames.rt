@@ -7,8 +7,8 @@ ghost use Rattle.ps_board.specs.Rows.{DifferOnlyOn};
 ghost use Rattle.ps_screen.specs.PlainFrames.{IsBlankFrame, IsPlainFrame};
 
 use crate::cells::Room;
-use crate::patching::{add_blank_row, patch_columns};
 use crate::output_text::OutputText;
+use crate::patching::{add_blank_row, patch_columns};
 use ps_board::{Board, Columns};
 use ps_model::{LayerId, Memory};
 use ps_names::Names;

@@ -11,12 +11,12 @@ ghost use Rattle.ps_session.specs.Histories.{AreOnTable, grids_of};
 ghost use Rattle.ps_session.specs.Nexts.{next_shown, history_behind_location, stood};
 ghost use Rattle.ps_session.specs.Tables.{ComesOnTable};
 
-use crate::nexts::Next;
 use crate::history_boards::HistoryBoard;
+use crate::nexts::Next;
 use circular_buffer::HeapCircularBuffer;
 use ps_board::Board;
 use ps_model::Ending;
-use ps_stage::{HistoryChange, Pending, Location, PlayedLevel, Stage};
+use ps_stage::{HistoryChange, Location, Pending, PlayedLevel, Stage};
 use std::mem;
 
 /// A level in which a message waits, or none.
@@ -31,7 +31,10 @@ fn standing<B: Board>(level: PlayedLevel<B>, pending: Option<Pending>) -> Locati
 }
 
 /// A location whose level is as it was; a message waits in it now, or none does.
-fn stood<B: Board>(location: Location<PlayedLevel<B>>, pending: Option<Pending>) -> Location<PlayedLevel<B>>
+fn stood<B: Board>(
+    location: Location<PlayedLevel<B>>,
+    pending: Option<Pending>,
+) -> Location<PlayedLevel<B>>
     ensures shown { (history : List Grid) → location_shown history result ≡ stood history location pending }
     ensures table { (table : Option (List ℕ)) → IsOnTable table location → IsOnTable table result }
 {
@@ -105,7 +108,8 @@ fn leave<B: Board>(
     requires limit { history.old.capacity ≡ HISTORY_LIMIT }
     ensures stage { stage.new ≡ stage.old }
     ensures limit { history.new.capacity ≡ HISTORY_LIMIT }
-    ensures shown { grids_of history.new.items ≡ history_behind_location history_change (grids_of history.old.items) location }
+    ensures shown { grids_of history.new.items
+        ≡ history_behind_location history_change (grids_of history.old.items) location }
     ensures boards { (table : Option (List ℕ)) → AreOnTable table history.old.items → IsOnTable table location
         → AreOnTable table history.new.items }
 {

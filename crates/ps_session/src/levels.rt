@@ -14,14 +14,14 @@ ghost use Rattle.ps_session.specs.IgnoredKeys.{is_ignored_in_level};
 ghost use Rattle.ps_session.specs.Nexts.{next_step};
 ghost use Rattle.ps_session.specs.Tables.{AnswersOnTable, ComesOnTable};
 
+use crate::history_boards::HistoryBoard;
 use crate::ignored::is_ignored_in_level;
 use crate::nexts::{Next, next_of};
-use crate::history_boards::HistoryBoard;
 use circular_buffer::HeapCircularBuffer;
 use ps_board::Board;
 use ps_model::{Ending, Input, Key, Memory};
 use ps_stage::{HistoryChange, Location, PlayedLevel, Stage};
-use ps_turn::{TurnRules, Rules};
+use ps_turn::{Rules, TurnRules};
 
 /// The end that a player asks for.
 ///

@@ -20,5 +20,5 @@ pub use ps_board::Board;
 pub use ps_model::{Ending, Key, Memory};
 pub use ps_screen::OutputText;
 pub use ps_stage::SessionGame;
-pub use ps_turn::{TurnRules, Rules};
+pub use ps_turn::{Rules, TurnRules};
 pub use session::Session;

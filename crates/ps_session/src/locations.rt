@@ -9,15 +9,15 @@ ghost use Rattle.ps_session.specs.IgnoredKeys.{is_ignored};
 ghost use Rattle.ps_session.specs.Nexts.{next_step};
 ghost use Rattle.ps_session.specs.Tables.{AnswersOnTable};
 
+use crate::history_boards::HistoryBoard;
 use crate::levels::key_in_level;
 use crate::messages::{key_at_entry, key_at_level_message};
 use crate::nexts::Next;
-use crate::history_boards::HistoryBoard;
 use circular_buffer::HeapCircularBuffer;
 use ps_board::Board;
 use ps_model::{Key, Memory};
 use ps_stage::{Location, PlayedLevel, Stage};
-use ps_turn::{TurnRules, Rules};
+use ps_turn::{Rules, TurnRules};
 
 /// What a key does; nothing, where it is ignored. The location stays as it is.
 ///
@@ -48,7 +48,9 @@ pub fn next_at<B: Board, R: Rules<B>>(
 {
     match location {
         Location::Playing(level) => key_in_level(stage, rules, level, history, key),
-        Location::Waiting(level, pending) => key_at_level_message(stage, rules, level, *pending, key),
+        Location::Waiting(level, pending) => key_at_level_message(
+            stage, rules, level, *pending, key,
+        ),
         Location::AtMessage(entry) => key_at_entry(stage, rules, entry, key),
         Location::Ended(_) => Ok(None),
     }

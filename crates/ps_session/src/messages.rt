@@ -16,7 +16,7 @@ use crate::nexts::{Next, next_of};
 use ps_board::Board;
 use ps_model::{Key, Memory};
 use ps_stage::{EntryNumber, HistoryChange, Pending, PlayedLevel, Stage};
-use ps_turn::{TurnRules, Rules};
+use ps_turn::{Rules, TurnRules};
 
 /// What a key does in a level whose message waits; nothing, where it is ignored.
 ///

@@ -10,7 +10,7 @@ ghost use Rattle.ps_session.specs.Nexts.{next_shown};
 ghost use Rattle.ps_session.specs.Tables.{ComesOnTable};
 
 use ps_board::Board;
-use ps_stage::{Change, HistoryChange, Pending, Location, PlayedLevel};
+use ps_stage::{Change, HistoryChange, Location, Pending, PlayedLevel};
 
 /// What comes next, made whole before anything of a session is changed.
 #[derive(Drop)]

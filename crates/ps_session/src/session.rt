@@ -9,14 +9,14 @@ ghost use Rattle.ps_session.specs.Phases.{phase_of};
 
 use crate::commit::{commit, give_up};
 use crate::history_boards::HistoryBoard;
-use crate::phase::Phase;
 use crate::locations::next_at;
+use crate::phase::Phase;
 use circular_buffer::HeapCircularBuffer;
 use ps_board::Board;
 use ps_model::{Ending, HISTORY_LIMIT, Key, Memory};
 use ps_screen::OutputText;
 use ps_stage::{Location, PlayedLevel, SessionGame, Stage};
-use ps_turn::{TurnRules, Rules};
+use ps_turn::{Rules, TurnRules};
 use std::alloc::Global;
 use std::marker::Model;
 
@@ -37,7 +37,10 @@ impl<'g, B: Board> Model for Session<'g, B> {
 
     ghost Value = { SessionValue };
 
-    ghost view = { λ s. record { game = s.stage.game; session = location_shown (grids_of s.history.items) s.location } };
+    ghost view = { λ s. record {
+      game = s.stage.game;
+      session = location_shown (grids_of s.history.items) s.location;
+    } };
 
     ghost invariant = { λ s. (s.history.capacity ≡ HISTORY_LIMIT)
         × (IsOnTable (B.table_for s.stage.game.names.layers) s.location
@@ -107,7 +110,13 @@ impl<'g, B: Board> Session<'g, B> {
         ensures late { R.meant rules.new.late ≡ R.meant rules.old.late }
     {
         self.stage.forget_text();
-        let next = next_at(&mut self.stage, rules, &mut self.location, &self.history, key)?;
+        let next = next_at(
+            &mut self.stage,
+            rules,
+            &mut self.location,
+            &self.history,
+            key,
+        )?;
         let Some(next) = next else {
             return Ok(self.phase());
         };

@@ -14,13 +14,13 @@ ghost use Rattle.ps_stage.specs.StepsShown.{came, stands, pending_shown};
 
 use crate::entering::located;
 use crate::levels::{PlayedLevel, Tried};
-use crate::locations::{Change, KeyEnd, KeyTold, HistoryChange, Pending};
+use crate::locations::{Change, HistoryChange, KeyEnd, KeyTold, Pending};
 use crate::stage::Stage;
 use crate::starts::again_limit;
 use ps_board::Board;
 use ps_model::{Input, Memory};
 use ps_text::Text;
-use ps_turn::{DoneTurn, TurnRules, Rules};
+use ps_turn::{DoneTurn, Rules, TurnRules};
 
 /// What a done turn does to the history: the board before it enters, if the turn changed it.
 fn history_change_if(changed: bool) -> HistoryChange

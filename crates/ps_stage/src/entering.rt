@@ -13,13 +13,13 @@ ghost use Rattle.ps_stage.specs.Locations.{location_shown, IsOnTable};
 
 use crate::entries::EntryNumber;
 use crate::levels::PlayedLevel;
-use crate::locations::{Pending, Location};
+use crate::locations::{Location, Pending};
 use crate::stage::Stage;
 use ps_board::Board;
 use ps_levels::{Entry, Level};
 use ps_model::{Ending, Memory};
 use ps_text::Text;
-use ps_turn::{TurnRules, Rules};
+use ps_turn::{Rules, TurnRules};
 
 /// One for an entry that is a level, and nothing for a message.
 fn level_count(entry: &Entry) -> usize

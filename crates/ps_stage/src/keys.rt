@@ -17,7 +17,7 @@ use crate::stage::Stage;
 use crate::starts::again_limit;
 use ps_board::Board;
 use ps_model::Memory;
-use ps_turn::{DoneTurn, TurnRules, Rules, Turned};
+use ps_turn::{DoneTurn, Rules, TurnRules, Turned};
 
 /// What a turn of a key leaves to come behind its message.
 fn key_pending(win: bool, again: bool, left: u32) -> Pending

@@ -19,7 +19,7 @@ use ps_levels::Level;
 use ps_model::{Input, Memory};
 use ps_names::Names;
 use ps_text::Text;
-use ps_turn::{DoneTurn, TurnRules, Rules, Turned, turn};
+use ps_turn::{DoneTurn, Rules, TurnRules, Turned, turn};
 use std::alloc::Global;
 use std::marker::Model;
 use std::mem;
@@ -312,7 +312,13 @@ impl<B: Board> PlayedLevel<B> {
         ensures board { IfOk result (λ copy. copy.board ≡ B.grid other.now) }
         ensures restart_board { IfOk result (λ copy. copy.restart_board ≡ self.now.restart_board) }
     {
-        level_of(alloc, spares, self.entry.copied(), other, &self.restart_board)
+        level_of(
+            alloc,
+            spares,
+            self.entry.copied(),
+            other,
+            &self.restart_board,
+        )
     }
 
     /// The level at the board that a restart goes back to.
@@ -402,7 +408,13 @@ impl<B: Board> PlayedLevel<B> {
         mem::swap(&mut self.board, &mut spare);
         self.board.copy_into(&mut spare);
         self.spare = Some(spare);
-        self.restart_board = restart_board_behind(alloc, spares, &self.board, &self.restart_board, done)?;
+        self.restart_board = restart_board_behind(
+            alloc,
+            spares,
+            &self.board,
+            &self.restart_board,
+            done,
+        )?;
         Ok(turned)
     }
 

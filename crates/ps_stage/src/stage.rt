@@ -12,7 +12,7 @@ use crate::spares::SpareBoards;
 use ps_board::Board;
 use ps_levels::Entry;
 use ps_model::Memory;
-use ps_screen::{Picture, OutputText};
+use ps_screen::{OutputText, Picture};
 use std::alloc::Global;
 use std::marker::Model;
 

@@ -16,7 +16,7 @@ use crate::stage::Stage;
 use ps_board::Board;
 use ps_model::{AGAIN_LIMIT, Memory};
 use ps_text::Text;
-use ps_turn::{DoneTurn, TurnRules, Rules, Turned};
+use ps_turn::{DoneTurn, Rules, TurnRules, Turned};
 
 /// What the turn of a start leaves to come behind its message.
 fn start_pending(again: bool, left: u32) -> Pending
@@ -49,7 +49,12 @@ pub(crate) fn again_limit() -> u32
 impl<'g, B: Board> Stage<'g, B> {
     /// Tells what comes behind a frame of a start: a message waits; without one the again turns come, if the turn is to
     /// come again.
-    fn tell_start(&mut self, message: &Option<Text>, again: bool, left: u32) -> Result<StartTold, Memory>
+    fn tell_start(
+        &mut self,
+        message: &Option<Text>,
+        again: bool,
+        left: u32,
+    ) -> Result<StartTold, Memory>
         ensures game { self.new.game ≡ self.old.game }
         ensures told { IfOk result (λ told. (play : Play) (turns : Play → Step)
             → after self.old.text (start_told play message.now again left turns)

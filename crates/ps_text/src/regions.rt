@@ -145,7 +145,11 @@ fn without_region(alloc: Global, plain: &str, region: ByteRange) -> Result<Strin
 }
 
 /// The line with blanks for a region, if there is one.
-pub fn visible_line(alloc: Global, plain: String, region: Option<ByteRange>) -> Result<String, Memory>
+pub fn visible_line(
+    alloc: Global,
+    plain: String,
+    region: Option<ByteRange>,
+) -> Result<String, Memory>
     requires { IfSome region (IsTextRange (string_bytes plain)) }
     ensures { IfOk result (λ visible. string_bytes visible ≡ bytes_without (string_bytes plain) region) }
 {

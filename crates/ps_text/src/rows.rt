@@ -8,7 +8,8 @@ ghost use Rattle.ps_model.specs.declared.limits.TheConstants.{TEXT_LIMIT};
 ghost use Rattle.ps_model.specs.text.Lines as lines;
 ghost use Rattle.ps_text.specs.PlainLines.{IsVeiled};
 ghost use Rattle.ps_text.specs.TakenRanges.{IsTextRange, start_of};
-ghost use Rattle.ps_text.specs.Rows.{shown, shown_as, raw_at, line_below, next_line_start, IsBelow, IsRow, IsRowOf, IsTable};
+ghost use Rattle.ps_text.specs.Rows.{shown, shown_as, raw_at, line_below, next_line_start};
+ghost use Rattle.ps_text.specs.Rows.{IsBelow, IsRow, IsRowOf, IsTable};
 
 use crate::comments::{depth_after_line, plain_line};
 use crate::headers::header_of_line;

@@ -12,7 +12,7 @@ use crate::inputs::{give_motion, motion_for};
 use crate::outcomes::{DoneTurn, Turned};
 use crate::players::stayed;
 use crate::queue::Queue;
-use crate::rules::{TurnRules, Rules};
+use crate::rules::{Rules, TurnRules};
 use crate::winning::is_won;
 use ps_board::Board;
 use ps_levels::Win;
