@@ -48,7 +48,8 @@ StartTurnsGoByOutcome =
 -- what a done turn of a key brings is said of the level whose history is already as it will be
 abbrev pub DoneWithHistory : Type 0
 DoneWithHistory =
-    (script : Script) (play kept : Play) (done : Done) → with_board_in_history_if done.changed play ≡ kept → turn_taken script play (Finished done) ≡ key_done script kept done
+    (script : Script) (play kept : Play) (done : Done) → with_board_in_history_if done.changed play ≡ kept →
+    turn_taken script play (Finished done) ≡ key_done script kept done
 
 -- texts ------------------------------------------------------------------------------------------------------------------
 

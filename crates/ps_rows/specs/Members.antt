@@ -20,4 +20,6 @@ pub record IsRangeOf (table numbers : List ℕ) (layer : ℕ) (range : MemberRan
 
 -- each layer has its range
 abbrev pub AreRangesOf : List ℕ → List ℕ → List MemberRange → Type 0
-AreRangesOf table numbers ranges = (layer : ℕ) (default : MemberRange) → layer < length ranges → IsRangeOf table numbers layer (slice_index_or ranges layer default)
+AreRangesOf table numbers ranges =
+    (layer : ℕ) (default : MemberRange) → layer < length ranges →
+    IsRangeOf table numbers layer (slice_index_or ranges layer default)

@@ -38,7 +38,8 @@ history_behind_location history_change history (Ended ending) = history_behind_n
 abbrev pub next_shown : List Grid → Location Standing → Next Standing → model.Session
 next_shown history location (Stands pending) = stood history location pending
 next_shown history location (Undoes level) = model.Playing (play_of (take (length history - 1) history) level)
-next_shown history location (Goes next history_change) = location_shown (history_behind_location history_change history location) next
+next_shown history location (Goes next history_change) =
+    location_shown (history_behind_location history_change history location) next
 
 -- what a key did, with the text that it made; an ignored key does nothing
 abbrev pub next_step : List Grid → Location Standing → Option (Next Standing) → List ℕ → Step

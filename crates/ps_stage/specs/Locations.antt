@@ -40,7 +40,8 @@ history_change_if false = Keeps
 -- what comes of a key in a level with this history
 abbrev pub change_shown : List Grid → Standing → Change Standing → model.Session
 change_shown history level (Stays pending) = stands pending (play_of history level)
-change_shown history level (Goes location history_change) = location_shown (history_behind history_change history level.board) location
+change_shown history level (Goes location history_change) =
+    location_shown (history_behind history_change history level.board) location
 
 -- the boards of the level that it goes to, if there is one, have this table
 abbrev pub GoesOnTable : Option (List ℕ) → Change Standing → Type 0

@@ -49,11 +49,21 @@ pub record Standing : Type 0 where
 
 -- with this history
 abbrev pub play_of : List Grid → Standing → Play
-play_of history level = record { entry = level.entry; board = level.board; history = history; restart_board = level.restart_board }
+play_of history level = record {
+  entry = level.entry;
+  board = level.board;
+  history = history;
+  restart_board = level.restart_board;
+}
 
 -- the level behind a done turn that came to this grid
 abbrev pub with_done : Standing → DoneTurn → Grid → Standing
-with_done level done g = record { entry = level.entry; table = level.table; board = g; restart_board = if done.checkpoint then g else level.restart_board }
+with_done level done g = record {
+  entry = level.entry;
+  table = level.table;
+  board = g;
+  restart_board = if done.checkpoint then g else level.restart_board;
+}
 
 -- a session and the game that it is of
 pub record SessionValue : Type 0 where

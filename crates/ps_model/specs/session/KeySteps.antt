@@ -12,8 +12,8 @@ use Rattle.ps_model.specs.declared.limits.TheConstants.{AGAIN_LIMIT}
 use Rattle.ps_model.specs.board.Grid.{Grid}
 use Rattle.ps_model.specs.board.Turns.{Script, Done, Outcome, Blocked, Restarted, Finished, turn}
 use Rattle.ps_model.specs.session.Sessions.{Play, Pending, Nothing, LevelDone, KeyAgain, StartAgain, Session, Playing}
-use Rattle.ps_model.specs.session.Sessions.{Waiting, AtMessage, Ended, Step, quietly, after, waiting, shown, with_board_in_history}
-use Rattle.ps_model.specs.session.Sessions.{with_turn}
+use Rattle.ps_model.specs.session.Sessions.{Waiting, AtMessage, Ended, Step, quietly, after, waiting, shown}
+use Rattle.ps_model.specs.session.Sessions.{with_board_in_history, with_turn}
 use Rattle.ps_model.specs.session.StartSteps.{start_turns, enter, level_done, restarted}
 
 -- turns ------------------------------------------------------------------------------------------------------------------
@@ -89,7 +89,12 @@ input_taken script play input = turn_taken script play (turn script (Some input)
 -- the level back at the latest board of its history, which leaves the history; where there is none, as it is
 abbrev pub back_at : Play → Option Grid → Play
 back_at play None = play
-back_at play (Some latest) = record { entry = play.entry; board = latest; history = take (length play.history - 1) play.history; restart_board = play.restart_board }
+back_at play (Some latest) = record {
+  entry = play.entry;
+  board = latest;
+  history = take (length play.history - 1) play.history;
+  restart_board = play.restart_board;
+}
 
 -- the level back at the latest board; a frame shows it, also where it is as it was
 abbrev pub undone : Script → Play → Step
@@ -112,7 +117,8 @@ key_in_level script play (Move Left) = input_taken script play Left
 key_in_level script play (Move Right) = input_taken script play Right
 key_in_level script play (Move Action) = unless_ignored script.options.no_action play (λ here. input_taken script here Action)
 key_in_level script play Undo = unless_ignored script.options.no_undo play (λ here. undone script here)
-key_in_level script play Restart = unless_ignored script.options.no_restart play (λ here. restarted script (with_board_in_history here) None)
+key_in_level script play Restart =
+    unless_ignored script.options.no_restart play (λ here. restarted script (with_board_in_history here) None)
 key_in_level script play Quit = quit
 
 -- a level goes on behind a message

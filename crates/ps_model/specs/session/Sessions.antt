@@ -83,7 +83,12 @@ kept boards = drop (length boards - HISTORY_LIMIT) boards
 
 -- the board enters the history
 abbrev pub with_board_in_history : Play → Play
-with_board_in_history play = record { entry = play.entry; board = play.board; history = kept (play.history ++ play.board ∷ []); restart_board = play.restart_board }
+with_board_in_history play = record {
+  entry = play.entry;
+  board = play.board;
+  history = kept (play.history ++ play.board ∷ []);
+  restart_board = play.restart_board;
+}
 
 -- the level with that board
 abbrev pub with_board : Play → Grid → Play
@@ -91,7 +96,12 @@ with_board play board = record { entry = play.entry; board = board; history = pl
 
 -- the level with the board of a done turn; a restart goes back to it too, where the turn sets a checkpoint
 abbrev pub with_turn : Play → Done → Play
-with_turn play done = record { entry = play.entry; board = done.board; history = play.history; restart_board = if done.checkpoint then done.board else play.restart_board }
+with_turn play done = record {
+  entry = play.entry;
+  board = done.board;
+  history = play.history;
+  restart_board = if done.checkpoint then done.board else play.restart_board;
+}
 
 -- a level whose message waits
 abbrev pub waiting : Play → List ℕ → Pending → Step

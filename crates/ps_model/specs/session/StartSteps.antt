@@ -70,7 +70,9 @@ start_step script play message = elim script.options.run_rules_on_level_start [
 
 -- a level at its start: as it is loaded, and without a history
 abbrev pub fresh : Script → ℕ → Level → Play
-fresh script entry level = let board : Grid = loaded script.names level in record { entry = entry; board = board; history = []; restart_board = board }
+fresh script entry level =
+    let board : Grid = loaded script.names level in
+    record { entry = entry; board = board; history = []; restart_board = board }
 
 -- an entry begins: a message waits, a level starts; behind the last entry is the end
 abbrev pub entered : Script → ℕ → Option Entry → Step
