@@ -7,7 +7,7 @@ ghost use Rattle.ps_check.specs.Checks.{check_line};
 ghost use Rattle.ps_check.specs.CutOffLines.{IsCutOffLine};
 
 use crate::faults::CheckFault;
-use crate::told::told_of;
+use crate::finding::finding_of;
 use ps_devices::{ByteWriter, write_whole};
 use std::alloc::Global;
 
@@ -34,9 +34,9 @@ pub fn check<W: ByteWriter>(alloc: Global, text: &[u8], writer: &mut W) -> Resul
     ensures well { result ≢ Err CheckFault.Write → (W.state writer.new).has_failed ≡ false }
     ensures told { result ≡ Err CheckFault.Write → (W.state writer.new).has_failed ≡ true }
 {
-    let told = told_of(alloc, text)?;
-    match write_whole(told.line.as_bytes(), writer) {
-        Ok(()) => Ok(told.accepted),
+    let finding = finding_of(alloc, text)?;
+    match write_whole(finding.line.as_bytes(), writer) {
+        Ok(()) => Ok(finding.accepted),
         Err(_) => Err(CheckFault::Write),
     }
 }

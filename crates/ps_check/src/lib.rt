@@ -3,8 +3,8 @@
 
 mod checking;
 mod faults;
+mod finding;
 mod sizes;
-mod told;
 
 pub use checking::check;
 pub use faults::CheckFault;

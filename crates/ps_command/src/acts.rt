@@ -51,7 +51,7 @@ fn act<R: Env + Files + AllocGlobal + Print, I: ByteReader, O: ByteWriter>(
         Asked::Explanation(code) => explain(rt, code),
         Asked::Check(path) => check_text(rt, path, screen),
         Asked::Play(path) => {
-            let text = read_game(rt, path).map_err(|error| stop_for(error, Stop::Game))?;
+            let text = read_game_file(rt, path).map_err(|error| stop_for(error, Stop::Game))?;
             play(rt, &text, keys, screen)
         }
         Asked::PlayFrom(path, file) => play_from(rt, path, file, screen),
@@ -81,7 +81,7 @@ fn play_from<R: Files + AllocGlobal, O: ByteWriter>(
 ) -> Result<(), Stop>
     requires well { (O.state screen.old).has_failed ≡ false }
 {
-    let text = read_game(rt, path).map_err(|error| stop_for(error, Stop::Game))?;
+    let text = read_game_file(rt, path).map_err(|error| stop_for(error, Stop::Game))?;
     let file = fs::open(rt, file).map_err(|error| stop_for(error, Stop::Run(RunFault::Read)))?;
     let mut keys = FromStd::new(file);
     play(rt, &text, &mut keys, screen)
@@ -95,7 +95,7 @@ fn check_text<R: Files + AllocGlobal, O: ByteWriter>(
 ) -> Result<(), Stop>
     requires well { (O.state screen.old).has_failed ≡ false }
 {
-    let text = read_game(rt, path).map_err(|error| stop_for(error, Stop::Game))?;
+    let text = read_game_file(rt, path).map_err(|error| stop_for(error, Stop::Game))?;
     if check(rt.alloc(), &text, screen)? {
         Ok(())
     } else {
@@ -112,7 +112,7 @@ fn explain<R: Print>(rt: &R, code: &str) -> Result<(), Stop> {
 }
 
 /// The first bytes of a file, at most `MOST_READ`.
-fn read_game<R: Files + AllocGlobal>(rt: &R, path: &str) -> io::Result<Vec<u8>> {
+fn read_game_file<R: Files + AllocGlobal>(rt: &R, path: &str) -> io::Result<Vec<u8>> {
     let mut text = Vec::new(rt.alloc());
     fs::open(rt, path)?.take(MOST_READ).read_to_end(&mut text)?;
     Ok(text)

@@ -10,4 +10,5 @@ use Rattle.ps_compile.specs.GroupsMade.{behind}
 use Rattle.ps_compile.specs.OpenGroups.{open_shown}
 
 abbrev pub groups_with : Names → Groups → List SourceRule → List (List CompiledRule)
-groups_with names groups rules = groups_shown groups.closed.items ++ behind names (option_map open_shown groups.open) (groups_of rules)
+groups_with names groups rules =
+    groups_shown groups.closed.items ++ behind names (option_map open_shown groups.opened) (groups_of rules)

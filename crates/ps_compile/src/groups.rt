@@ -23,7 +23,7 @@ use std::alloc::Global;
 #[derive(Drop)]
 pub struct Groups<'r> {
     closed: Vec<List<CompiledRule<'r>>>,
-    open: Option<Vec<CompiledRule<'r>>>,
+    opened: Option<Vec<CompiledRule<'r>>>,
 }
 
 /// The rules of the open group, taken out of it.
@@ -47,17 +47,17 @@ impl<'r> Groups<'r> {
     {
         Groups {
             closed: Vec::new(alloc),
-            open: None,
+            opened: None,
         }
     }
 
     /// Closes the group that is open.
     fn close(&mut self) -> Result<(), Memory>
         ensures closed { OnOk result (groups_shown self.new.closed.items
-            ≡ groups_shown self.old.closed.items ++ opened_groups (option_map open_shown self.old.open)) }
-        ensures none { OnOk result (self.new.open ≡ None) }
+            ≡ groups_shown self.old.closed.items ++ opened_groups (option_map open_shown self.old.opened)) }
+        ensures none { OnOk result (self.new.opened ≡ None) }
     {
-        if let Some(rules) = self.open.take() {
+        if let Some(rules) = self.opened.take() {
             self.closed.push(List::from_vec(rules))?;
         }
         Ok(())
@@ -66,9 +66,9 @@ impl<'r> Groups<'r> {
     /// Closes the group that is open, unless the next rule is joined to it.
     fn close_unless(&mut self, joined: bool) -> Result<(), Memory>
         ensures closed { OnOk result (groups_shown self.new.closed.items
-            ≡ groups_shown self.old.closed.items ++ closed_by joined (option_map open_shown self.old.open)) }
-        ensures open { OnOk result (option_map open_shown self.new.open
-            ≡ left_open joined (option_map open_shown self.old.open)) }
+            ≡ groups_shown self.old.closed.items ++ closed_by joined (option_map open_shown self.old.opened)) }
+        ensures opened { OnOk result (option_map open_shown self.new.opened
+            ≡ left_open joined (option_map open_shown self.old.opened)) }
     {
         if joined {
             return Ok(());
@@ -83,9 +83,9 @@ impl<'r> Groups<'r> {
             ≡ groups_with names.now self.old (source_shown rule.entry.now ∷ rules)) }
     {
         self.close_unless(rule.joined)?;
-        let mut rules = taken(alloc, &mut self.open);
+        let mut rules = taken(alloc, &mut self.opened);
         push_rules(alloc, &mut rules, names, rule)?;
-        self.open = Some(rules);
+        self.opened = Some(rules);
         Ok(())
     }
 

@@ -11,6 +11,6 @@ mod rules;
 mod turning;
 mod writes;
 
-pub use program::{Programs, compile};
+pub use program::{CompiledPrograms, compile};
 pub use ps_model::{Memory, Part};
 pub use ps_program::{CompiledRule, CompiledSection, Program};

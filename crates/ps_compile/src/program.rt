@@ -23,7 +23,7 @@ use std::alloc::Global;
 
 /// The two programs of a game's rules: the plain one, and the late one.
 #[derive(Drop)]
-pub struct Programs<'r> {
+pub struct CompiledPrograms<'r> {
     pub plain: Program<'r>,
     pub late: Program<'r>,
 }
@@ -144,7 +144,7 @@ pub fn compile<'r>(
     alloc: Global,
     names: &Names,
     rules: &'r RuleText,
-) -> Result<Programs<'r>, Memory>
+) -> Result<CompiledPrograms<'r>, Memory>
     ensures plain { IfOk result (λ programs. programs.plain ≡ compact_program names.now Plain rules.entry.now) }
     ensures late { IfOk result (λ programs. programs.late ≡ compact_program names.now Late rules.entry.now) }
     ensures plain_alike { IfOk result (λ programs. RunsAlike names.now Plain rules.entry.now programs.plain) }
@@ -154,5 +154,5 @@ pub fn compile<'r>(
 {
     let plain = program_of(alloc, names, Part::Plain, rules.lines())?;
     let late = program_of(alloc, names, Part::Late, rules.lines())?;
-    Ok(Programs { plain, late })
+    Ok(CompiledPrograms { plain, late })
 }

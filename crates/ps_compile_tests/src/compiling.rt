@@ -22,7 +22,7 @@ fn source_of(alloc: Global, rules: &str) -> Result<Source, Refusal> {
 }
 
 /// The names of the game.
-fn names_of(alloc: Global, source: &Source) -> Result<Names, Refusal> {
+fn names_of_game(alloc: Global, source: &Source) -> Result<Names, Refusal> {
     if source.lines() < 29 {
         return Err(Refusal::Memory);
     }
@@ -30,7 +30,7 @@ fn names_of(alloc: Global, source: &Source) -> Result<Names, Refusal> {
 }
 
 /// The game's rules, which stand from line 30 on.
-fn rules_of(alloc: Global, source: &Source, names: &Names) -> Result<RuleText, Refusal> {
+fn rules_of_game(alloc: Global, source: &Source, names: &Names) -> Result<RuleText, Refusal> {
     let end = source.lines() + 1;
     if end < 30 {
         return Err(Refusal::Memory);
@@ -49,8 +49,8 @@ fn first_group<'p, 'r>(program: &'p Program<'r>) -> Option<&'p List<CompiledRule
 /// How many compiled rules the first group of the plain program has.
 fn count_of(alloc: Global, rules: &str) -> Option<usize> {
     let source = source_of(alloc, rules).ok()?;
-    let names = names_of(alloc, &source).ok()?;
-    let text = rules_of(alloc, &source, &names).ok()?;
+    let names = names_of_game(alloc, &source).ok()?;
+    let text = rules_of_game(alloc, &source, &names).ok()?;
     let programs = compile(alloc, &names, &text).ok()?;
     Some(first_group(&programs.plain)?.as_slice().len())
 }
@@ -58,8 +58,8 @@ fn count_of(alloc: Global, rules: &str) -> Option<usize> {
 /// How many sections the plain and the late program have.
 fn sections_of(alloc: Global, rules: &str) -> Option<(usize, usize)> {
     let source = source_of(alloc, rules).ok()?;
-    let names = names_of(alloc, &source).ok()?;
-    let text = rules_of(alloc, &source, &names).ok()?;
+    let names = names_of_game(alloc, &source).ok()?;
+    let text = rules_of_game(alloc, &source, &names).ok()?;
     let programs = compile(alloc, &names, &text).ok()?;
     Some((
         programs.plain.sections().len(),
@@ -79,8 +79,8 @@ fn needed_at(rule: &CompiledRule<'_>, cell: usize) -> Option<u32> {
 /// The objects that the compiled rule at a place needs in the two cells of its row.
 fn pair_at(alloc: Global, rules: &str, place: usize) -> Option<(u32, u32)> {
     let source = source_of(alloc, rules).ok()?;
-    let names = names_of(alloc, &source).ok()?;
-    let text = rules_of(alloc, &source, &names).ok()?;
+    let names = names_of_game(alloc, &source).ok()?;
+    let text = rules_of_game(alloc, &source, &names).ok()?;
     let programs = compile(alloc, &names, &text).ok()?;
     let rule = first_group(&programs.plain)?.as_slice().get(place)?;
     Some((needed_at(rule, 0)?, needed_at(rule, 1)?))

@@ -12,7 +12,7 @@ use Rattle.ps_board.specs.ColumnSets.{set_columns}
 use Rattle.ps_match.specs.Together.{rewritten_where}
 use Rattle.ps_match.proofs.RowWritten.{told}
 use Rattle.ps_program.specs.Axes.{LiesAlong, direction_of}
-use Rattle.ps_program.specs.Parts.{HasCell}
+use Rattle.ps_laws.specs.WholeRows.{HasCells}
 use Rattle.ps_program.specs.Writers.{cell_writes_alone, parts_writer, rows_writer}
 use Rattle.ps_program.specs.declared.cells.CompiledCell.{CompiledCell}
 use Rattle.ps_program.specs.declared.rows.Axis.{Axis}
@@ -57,10 +57,10 @@ module _ (g : Grid) (table : Option (List ℕ)) (rule : CompiledRule) (writer : 
   two = ap length has.two
 
   some : 0 < length first
-  some = All-get_or HasCell row.parts 0 [] (omega (arith, two)) row.whole
+  some = All-get_or HasCells row.parts 0 [] (omega (arith, two)) row.whole
 
   more : 0 < length second
-  more = All-get_or HasCell row.parts 1 [] (omega (arith, two)) row.whole
+  more = All-get_or HasCells row.parts 1 [] (omega (arith, two)) row.whole
 
   axis_is : row.axis ≡ rule.axis
   axis_is = All-head (LiesAlong rule.axis) row [] (subst (λ (rs : List CompiledRow). All

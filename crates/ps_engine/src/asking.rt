@@ -5,7 +5,7 @@ ghost use Rattle.ps_model.specs.board.Attempts.{Result as Meant, State, attempt,
 ghost use Rattle.ps_engine.specs.Choosing.{row_places};
 ghost use Rattle.ps_engine.specs.RulesInRoom.{rule_meaning};
 
-use crate::queue::Queue;
+use crate::lent_queue::LentQueue;
 use ps_match::Scan;
 use ps_places::{RowRoom, find_starts};
 use ps_program::{CompiledRow, CompiledRule};
@@ -50,7 +50,7 @@ fn rows_have_places<'r, B: Scan>(board: &B, rule: &CompiledRule<'r>, rooms: &mut
 pub fn attempt_commands<'r, B: Scan>(
     rule: &CompiledRule<'r>,
     board: &B,
-    queue: &mut Queue<'r>,
+    queue: &mut LentQueue<'r>,
     rooms: &mut [RowRoom],
 )
     requires long { length rule.now.rows ≤ length rooms.old }

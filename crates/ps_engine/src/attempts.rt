@@ -8,9 +8,9 @@ ghost use Rattle.ps_engine.specs.Choosing.{ArePlaced, HaveLinesOf, rows_meaning}
 ghost use Rattle.ps_engine.specs.RulesInRoom.{rule_meaning};
 
 use crate::asking::attempt_commands;
+use crate::lent_queue::LentQueue;
 use crate::one_cell::{attempt_cell, only_cell};
 use crate::one_part::{attempt_part, only_part};
-use crate::queue::Queue;
 use crate::walking::walk;
 use crate::writing::attempt_writer;
 use ps_match::Scan;
@@ -92,7 +92,7 @@ fn choose_first<'r, B: Scan>(board: &B, rule: &CompiledRule<'r>, rooms: &mut [Ro
 pub fn attempt_rows<'r, B: Scan>(
     rule: &CompiledRule<'r>,
     board: &mut B,
-    queue: &mut Queue<'r>,
+    queue: &mut LentQueue<'r>,
     rooms: &mut [RowRoom],
 ) -> bool
     requires long { length rule.now.rows ≤ length rooms.old }
@@ -118,7 +118,7 @@ pub fn attempt_rows<'r, B: Scan>(
 pub fn attempt<'r, B: Scan>(
     rule: &CompiledRule<'r>,
     board: &mut B,
-    queue: &mut Queue<'r>,
+    queue: &mut LentQueue<'r>,
     rooms: &mut [RowRoom],
 ) -> bool
     requires { length rule.now.rows ≤ length rooms.old }

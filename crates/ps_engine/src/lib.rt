@@ -3,19 +3,19 @@
 
 mod asking;
 mod attempts;
+mod lent_queue;
 mod one_cell;
 mod one_part;
 mod programs;
-mod queue;
 mod rooms;
 mod rounds;
 mod walking;
 mod writing;
 
+pub use lent_queue::LentQueue;
 pub use programs::run_program;
 pub use ps_match::{ListBoard, Scan};
 pub use ps_places::RowRoom;
-pub use queue::Queue;
 pub use rooms::rooms_for;
 
 #[cfg(test)]

@@ -9,7 +9,7 @@ ghost use Rattle.ps_engine.specs.RulesInRoom.{rule_meaning};
 ghost use Rattle.ps_match.specs.InRoom.{sides_of};
 ghost use Rattle.ps_match.specs.Together.{rewritten_where};
 
-use crate::queue::Queue;
+use crate::lent_queue::LentQueue;
 use ps_match::{Columns, Scan};
 use ps_places::rows_of_mask;
 use ps_program::{CompiledCell, CompiledRow, CompiledRule};
@@ -74,7 +74,7 @@ pub fn attempt_cell<'r, B: Scan>(
     rule: &CompiledRule<'r>,
     cell: &CompiledCell,
     board: &mut B,
-    queue: &mut Queue<'r>,
+    queue: &mut LentQueue<'r>,
 ) -> bool
     requires only { rows_parts rule.now.rows ≡ one_cell cell.now }
     requires rewrites { rule.now.rewrites ≡ true }

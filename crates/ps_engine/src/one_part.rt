@@ -4,12 +4,12 @@
 ghost use Rattle.std.specs.Prelude.{◌≡◌, ◌≤◌, IfSome, length, true};
 ghost use Rattle.ps_model.specs.board.Attempts.{Result as Meant, State, attempt};
 ghost use Rattle.ps_match.specs.InRoom.{sides_of};
-ghost use Rattle.ps_program.specs.Parts.{HasCell};
+ghost use Rattle.ps_laws.specs.WholeRows.{HasCells};
 ghost use Rattle.ps_engine.specs.OneCell.{one_part, rows_parts};
 ghost use Rattle.ps_engine.specs.RulesInRoom.{rule_meaning};
 
 use crate::attempts::attempt_rows;
-use crate::queue::Queue;
+use crate::lent_queue::LentQueue;
 use ps_match::Scan;
 use ps_places::RowRoom;
 use ps_program::{CompiledCell, CompiledRow, CompiledRule};
@@ -17,7 +17,7 @@ use ps_program::{CompiledCell, CompiledRow, CompiledRule};
 /// The part of rows that are one row of one part; nothing, where there is more or less.
 pub fn only_part(rows: &[CompiledRow]) -> Option<&[CompiledCell]>
     ensures only { IfSome result (λ part. rows_parts rows.entry.now ≡ one_part part.now) }
-    ensures whole { IfSome result (λ part. HasCell part.now) }
+    ensures whole { IfSome result (λ part. HasCells part.now) }
 {
     if rows.len() != 1 {
         return None;
@@ -35,11 +35,11 @@ pub fn attempt_part<'r, B: Scan>(
     rule: &CompiledRule<'r>,
     part: &[CompiledCell],
     board: &mut B,
-    queue: &mut Queue<'r>,
+    queue: &mut LentQueue<'r>,
     rooms: &mut [RowRoom],
 ) -> bool
     requires only { rows_parts rule.now.rows ≡ one_part part.now }
-    requires whole { HasCell part.now }
+    requires whole { HasCells part.now }
     requires rewrites { rule.now.rewrites ≡ true }
     requires rooms { length rule.now.rows ≤ length rooms.old }
     ensures attempt { let before : State = record { grid = B.grid board.old; queue = queue.old } in

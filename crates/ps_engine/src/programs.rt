@@ -10,7 +10,7 @@ ghost use Rattle.ps_engine.specs.Rooms.{GroupsHaveRooms, SectionHasRooms, Sectio
 ghost use Rattle.ps_board.specs.Runnable.{IsRunnable};
 ghost use Rattle.ps_match.specs.InRoom.{sides_of};
 
-use crate::queue::Queue;
+use crate::lent_queue::LentQueue;
 use crate::rounds::{pass, play_group};
 use ps_match::Scan;
 use ps_model::REPEAT_LIMIT;
@@ -30,7 +30,7 @@ fn play_loop<'r, B: Scan>(
     groups: &[List<CompiledRule<'r>>],
     repeats: u32,
     board: &mut B,
-    queue: &mut Queue<'r>,
+    queue: &mut LentQueue<'r>,
     rooms: &mut [RowRoom],
 ) -> Left
     requires { GroupsHaveRooms (length rooms.old) groups.now }
@@ -66,7 +66,7 @@ fn play_section<'r, B: Scan>(
     section: &CompiledSection<'r>,
     repeats: u32,
     board: &mut B,
-    queue: &mut Queue<'r>,
+    queue: &mut LentQueue<'r>,
     rooms: &mut [RowRoom],
 ) -> Left
     requires { SectionHasRooms (length rooms.old) section.now }
@@ -95,7 +95,7 @@ fn play_section<'r, B: Scan>(
 fn play_sections<'r, B: Scan>(
     sections: &[CompiledSection<'r>],
     board: &mut B,
-    queue: &mut Queue<'r>,
+    queue: &mut LentQueue<'r>,
     rooms: &mut [RowRoom],
 )
     requires { SectionsHaveRooms (length rooms.old) sections.now }
@@ -124,7 +124,7 @@ fn play_sections<'r, B: Scan>(
 pub fn run_program<'r, B: Scan>(
     sections: &[CompiledSection<'r>],
     board: &mut B,
-    queue: &mut Queue<'r>,
+    queue: &mut LentQueue<'r>,
     rooms: &mut [RowRoom],
 )
     requires { SectionsHaveRooms (length rooms.old) sections.now }

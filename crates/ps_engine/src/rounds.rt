@@ -8,7 +8,7 @@ ghost use Rattle.ps_engine.specs.Rooms.{GroupsHaveRooms, HaveRooms};
 ghost use Rattle.ps_match.specs.InRoom.{sides_of};
 
 use crate::attempts::attempt;
-use crate::queue::Queue;
+use crate::lent_queue::LentQueue;
 use ps_match::Scan;
 use ps_model::ROUND_LIMIT;
 use ps_places::RowRoom;
@@ -19,7 +19,7 @@ use ps_text::List;
 fn round<'r, B: Scan>(
     rules: &[CompiledRule<'r>],
     board: &mut B,
-    queue: &mut Queue<'r>,
+    queue: &mut LentQueue<'r>,
     rooms: &mut [RowRoom],
 ) -> bool
     requires { HaveRooms (length rooms.old) rules.now }
@@ -42,7 +42,7 @@ fn round<'r, B: Scan>(
 pub fn play_group<'r, B: Scan>(
     rules: &[CompiledRule<'r>],
     board: &mut B,
-    queue: &mut Queue<'r>,
+    queue: &mut LentQueue<'r>,
     rooms: &mut [RowRoom],
 ) -> bool
     requires { HaveRooms (length rooms.old) rules.now }
@@ -69,7 +69,7 @@ pub fn play_group<'r, B: Scan>(
 pub fn pass<'r, B: Scan>(
     groups: &[List<CompiledRule<'r>>],
     board: &mut B,
-    queue: &mut Queue<'r>,
+    queue: &mut LentQueue<'r>,
     rooms: &mut [RowRoom],
 ) -> bool
     requires { GroupsHaveRooms (length rooms.old) groups.now }

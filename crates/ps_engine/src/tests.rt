@@ -2,11 +2,11 @@
 
 ghost use Rattle.std.specs.Prelude.{◌≡◌, All, IfOk, IfSome};
 ghost use Rattle.ps_program.specs.Axes.{LiesAlong};
-ghost use Rattle.ps_program.specs.Parts.{HasCell};
+ghost use Rattle.ps_laws.specs.WholeRows.{HasCells};
 
 use crate::attempts::attempt;
 use crate::rooms::{rooms_for, rooms_of};
-use crate::{ListBoard, Queue, run_program};
+use crate::{LentQueue, ListBoard, run_program};
 use ps_board::Board;
 use ps_model::{
     LayerId, LayerWrite, LayeredObject, Memory, Motion, ObjectId, ObjectWrite, SIDE_LIMIT,
@@ -191,7 +191,7 @@ fn part(alloc: Global, cells: &[(u8, u8)]) -> Result<List<CompiledCell>, Memory>
 /// The parts of a row by their cells, each the letter on the left and the one on the right. Parts without a cell are
 /// left out.
 fn parts_of(alloc: Global, parts: &[&[(u8, u8)]]) -> Result<List<List<CompiledCell>>, Memory>
-    ensures { IfOk result (All HasCell) }
+    ensures { IfOk result (All HasCells) }
 {
     let mut all = Vec::new(alloc);
     for cells in parts {
@@ -244,7 +244,7 @@ fn attempted(
     let written = rule(alloc, axis, rows, &commands)?;
     let mut rooms = rooms_of(alloc, written.rows.as_slice().len())?;
     let mut board = board_of(alloc, letters)?;
-    let mut queue = Queue::empty();
+    let mut queue = LentQueue::empty();
     let changed = attempt(&written, &mut board, &mut queue, rooms.as_mut_slice());
     Ok((board, changed))
 }
@@ -302,7 +302,7 @@ fn places_are_found_once(rt: HostRuntime) -> Result<(), Fail> {
     let mut sections = Vec::new(alloc);
     sections.push(CompiledSection::Group(List::from_vec(rules)))?;
     let mut board = board_of(alloc, b"ABB")?;
-    let mut queue = Queue::empty();
+    let mut queue = LentQueue::empty();
     let mut rooms = rooms_for(alloc, sections.as_slice())?;
     run_program(
         sections.as_slice(),
@@ -386,7 +386,7 @@ fn attempted_down(
     let written = rule(alloc, axis, &rows, &commands)?;
     let mut rooms = rooms_of(alloc, written.rows.as_slice().len())?;
     let mut board = board_of_columns(alloc, columns)?;
-    let mut queue = Queue::empty();
+    let mut queue = LentQueue::empty();
     let changed = attempt(&written, &mut board, &mut queue, rooms.as_mut_slice());
     Ok((board, changed))
 }
@@ -459,7 +459,7 @@ fn marked(alloc: Global, barred: &[u8], row: &[u8]) -> Result<ListBoard, Memory>
     rows.push(CompiledRow { axis, parts })?;
     let rule = CompiledRule::try_new(alloc, axis, List::from_vec(rows), true, &commands)?;
     let mut rooms = rooms_of(alloc, rule.rows.as_slice().len())?;
-    let mut queue = Queue::empty();
+    let mut queue = LentQueue::empty();
     attempt(&rule, &mut board, &mut queue, rooms.as_mut_slice());
     Ok(board)
 }

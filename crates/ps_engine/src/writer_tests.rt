@@ -3,11 +3,11 @@
 
 ghost use Rattle.std.specs.Prelude.{◌≡◌, All, IfOk, IfSome};
 ghost use Rattle.ps_program.specs.Axes.{LiesAlong};
-ghost use Rattle.ps_program.specs.Parts.{HasCell};
+ghost use Rattle.ps_laws.specs.WholeRows.{HasCells};
 
 use crate::attempts::attempt;
 use crate::rooms::rooms_of;
-use crate::{ListBoard, Queue};
+use crate::{LentQueue, ListBoard};
 use ps_board::Board;
 use ps_model::{LayerId, LayerWrite, LayeredObject, Memory, Motion, ObjectId, ObjectWrite};
 use ps_program::{
@@ -141,7 +141,7 @@ fn part(alloc: Global, letters: &[u8]) -> Result<List<CompiledCell>, Memory> {
 
 /// The parts of a row by their letters. Parts without a cell are left out.
 fn parts_of(alloc: Global, parts: &[&[u8]]) -> Result<List<List<CompiledCell>>, Memory>
-    ensures { IfOk result (All HasCell) }
+    ensures { IfOk result (All HasCells) }
 {
     let mut all = Vec::new(alloc);
     for letters in parts {
@@ -193,7 +193,7 @@ fn attempted(
     let written = rule(alloc, axis, parts, &commands)?;
     assert!(rt; written.writer.is_some());
     let mut rooms = rooms_of(alloc, written.rows.as_slice().len())?;
-    let mut queue = Queue::empty();
+    let mut queue = LentQueue::empty();
     Ok(attempt(&written, board, &mut queue, rooms.as_mut_slice()))
 }
 

@@ -14,7 +14,7 @@ ghost use Rattle.ps_places.specs.PartTargets.{own_part};
 ghost use Rattle.ps_engine.specs.RulesInRoom.{rule_meaning};
 ghost use Rattle.ps_engine.specs.Writing.{AreWithin, is_behind, is_written, row_behind};
 
-use crate::queue::Queue;
+use crate::lent_queue::LentQueue;
 use ps_match::{Columns, Scan};
 use ps_places::RowRoom;
 use ps_program::{Axis, CellWrite, CompiledCell, CompiledRow, CompiledRule, Writer};
@@ -94,7 +94,7 @@ pub fn attempt_writer<'r, B: Scan>(
     rule: &CompiledRule<'r>,
     writer: Writer,
     board: &mut B,
-    queue: &mut Queue<'r>,
+    queue: &mut LentQueue<'r>,
     room: &mut RowRoom,
 ) -> bool
     requires writer { rule.now.writer ≡ Some writer }

@@ -19,7 +19,7 @@ use Rattle.ps_laws.specs.Fronts.{session_of}
 pub record AreBoards (IsSuch : Grid → Type 0) (play : Play) : Type 0 where
   pub board : IsSuch play.board
   pub history : All IsSuch play.history
-  pub target : IsSuch play.target
+  pub restart_board : IsSuch play.restart_board
 
 -- all boards of a session are, be it in a level or not
 abbrev pub AreBoardsIn : (Grid → Type 0) → Session → Type 0

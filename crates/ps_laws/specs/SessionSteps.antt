@@ -12,7 +12,7 @@ use Rattle.ps_model.specs.session.HeldKeys.{held, bytes_of, key_behind}
 use Rattle.ps_model.specs.session.Keys.{keys_of}
 use Rattle.ps_model.specs.session.Sessions.{Play, Playing, Step, after, shown}
 use Rattle.ps_model.specs.session.StartSteps.{start_turn_by, start_turns, all_start_turns, enter}
-use Rattle.ps_model.specs.session.KeySteps.{key_turn_by, key_turns, all_key_turns, remembered_if, key_done, turn_taken}
+use Rattle.ps_model.specs.session.KeySteps.{key_turn_by, key_turns, all_key_turns, with_board_in_history_if, key_done, turn_taken}
 use Rattle.ps_model.specs.session.KeySteps.{undone, key_step}
 use Rattle.ps_model.specs.game.Outputs.{opening_step, texts_of_keys}
 use Rattle.ps_laws.specs.Fronts.{session_of, whole_front}
@@ -48,7 +48,8 @@ StartTurnsGoByOutcome =
 -- what a done turn of a key brings is said of the level whose history is already as it will be
 abbrev pub DoneWithHistory : Type 0
 DoneWithHistory =
-    (script : Script) (play kept : Play) (done : Done) → remembered_if done.changed play ≡ kept → turn_taken script play (Finished done) ≡ key_done script kept done
+    (script : Script) (play kept : Play) (done : Done) → with_board_in_history_if done.changed play ≡ kept →
+    turn_taken script play (Finished done) ≡ key_done script kept done
 
 -- texts ------------------------------------------------------------------------------------------------------------------
 
@@ -66,7 +67,7 @@ EmptyTextAddsNothing = (step : Step) → after [] step ≡ step
 abbrev pub UndoTakesLatest : Type 0
 UndoTakesLatest =
     (script : Script) (play : Play) (earlier : List Grid) (latest : Grid) → play.history ≡ earlier ++ latest ∷ [] →
-    let back : Play = record { entry = play.entry; board = latest; history = earlier; target = play.target } in
+    let back : Play = record { entry = play.entry; board = latest; history = earlier; restart_board = play.restart_board } in
     undone script play ≡ record { session = Playing back; text = shown script back }
 
 -- without a history it writes the frame alone

@@ -7,7 +7,7 @@ use Rattle.ps_model.specs.names.ObjectLines.{one_character}
 use Rattle.ps_model.specs.names.Meanings as model
 use Rattle.ps_names.specs.declared.mention.Mention.{Mention}
 use Rattle.ps_names.specs.declared.mention.Mention.TheVariants.{Object, Line}
-use Rattle.ps_names.specs.declared.known.Entry.{Entry}
+use Rattle.ps_names.specs.declared.known.NameDetails.{NameDetails}
 
 abbrev pub mention_shown : Mention → model.Mention
 mention_shown (Object object) = model.OfObject object
@@ -41,5 +41,5 @@ abbrev pub mentions_of_names : List Named → List (List ℕ × model.Mention)
 mentions_of_names known = map mention_of known
 
 -- an entry of the code's table
-abbrev pub named_shown : String Global × Entry → Named
+abbrev pub named_shown : String Global × NameDetails → Named
 named_shown entry = record { name = string_bytes entry.0; character = entry.1.character; mention = mention_shown entry.1.mention }

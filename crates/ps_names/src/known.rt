@@ -21,7 +21,7 @@ use std::marker::Model;
 
 /// What a known name has.
 #[derive(Clone, Copy, Debug)]
-pub struct Entry {
+pub struct NameDetails {
     /// The name's character as it is written, if it has one alone.
     pub character: Option<char>,
     pub mention: Mention,
@@ -39,7 +39,7 @@ pub struct KnownName<'a> {
 /// The known names, letters folded, in order of declaration.
 #[derive(Drop)]
 pub struct Known {
-    names: IndexMap<String, Entry>,
+    names: IndexMap<String, NameDetails>,
 }
 
 impl Model for Known {
@@ -78,10 +78,10 @@ impl Known {
     pub fn get(&self, name: &str) -> Option<Mention>
         ensures { option_map mention_shown result ≡ lookup (bytes_eq name.now) (mentions_of_names self.now) }
     {
-        let Some(entry) = self.names.get(name) else {
+        let Some(details) = self.names.get(name) else {
             return None;
         };
-        Some(entry.mention)
+        Some(details.mention)
     }
 
     /// How many names are known.
@@ -95,13 +95,13 @@ impl Known {
     pub fn at(&self, place: usize) -> Option<KnownName<'_>>
         ensures { option_map known_name_shown result ≡ slice_get self.now place }
     {
-        let Some((name, entry)) = self.names.get_index(place) else {
+        let Some((name, details)) = self.names.get_index(place) else {
             return None;
         };
         Some(KnownName {
             name: name.as_str(),
-            character: entry.character,
-            mention: entry.mention,
+            character: details.character,
+            mention: details.mention,
         })
     }
 
@@ -132,7 +132,7 @@ impl Known {
             return Ok(true);
         }
         let character = one_character(written);
-        self.names.insert(name, Entry { character, mention })?;
+        self.names.insert(name, NameDetails { character, mention })?;
         Ok(false)
     }
 

@@ -12,7 +12,7 @@ use Rattle.ps_model.specs.board.Grid.{Grid, IsGrid}
 use Rattle.ps_model.specs.board.Places.{fits_along, places}
 use Rattle.ps_model.specs.meaning.RuleMeanings.{CellMeaning}
 use Rattle.ps_program.specs.Axes.{direction_of}
-use Rattle.ps_program.specs.Parts.{HasCell}
+use Rattle.ps_laws.specs.WholeRows.{HasCells}
 use Rattle.ps_program.specs.declared.cells.CompiledCell.{CompiledCell}
 use Rattle.ps_program.specs.declared.rows.Axis.{Axis}
 use Rattle.ps_program.specs.declared.rows.Axis.TheVariants.{Down, Right}
@@ -202,7 +202,7 @@ not_in lines line count true e far below = absurd (let low : line < count = belo
 not_in lines line count false e far below = e
 
 found_on_lines : (g : Grid) (table : Option (List ℕ)) (axis : Axis) (parts : List (List CompiledCell))
-    (starts : List (List Bool)) (lines : List Bool) → IsGrid g → 0 < length parts → All HasCell parts →
+    (starts : List (List Bool)) (lines : List Bool) → IsGrid g → 0 < length parts → All HasCells parts →
     SIDE_LIMIT * length parts ≤ length starts → AreLinesFound g table axis parts starts lines (length parts) →
     flat_map (places_along g axis (parts_meaning table parts)) (set_columns lines)
     ≡ flat_map (places_on axis g.height parts starts) (set_columns lines)
@@ -214,12 +214,12 @@ found_on_lines g table axis parts starts lines grid any whole long are =
     (λ line is.
     let low : line < line_count axis g = are.below line is in
     found_places g table axis line parts starts (omega (arith, low, few)) (short_lines g axis grid) long any
-    (λ i within. All-get_or HasCell parts i [] within whole)
+    (λ i within. All-get_or HasCells parts i [] within whole)
     ((are.each line low).found is))
 
 -- the lines found have all places of the row
 pub places-found : (g : Grid) (table : Option (List ℕ)) (axis : Axis) (parts : List (List CompiledCell))
-    (starts : List (List Bool)) (lines : List Bool) → IsGrid g → 0 < length parts → All HasCell parts →
+    (starts : List (List Bool)) (lines : List Bool) → IsGrid g → 0 < length parts → All HasCells parts →
     SIDE_LIMIT * length parts ≤ length starts → AreLinesFound g table axis parts starts lines (length parts) →
     places g (direction_of axis) (parts_meaning table parts)
     ≡ places_on_lines axis g.height parts starts (set_columns lines)
@@ -234,7 +234,7 @@ places-found g table axis parts starts lines grid any whole long are =
     record {
       at = λ line low out.
           no_places g table axis line parts (short_lines g axis grid)
-          (λ i within. All-get_or HasCell parts i [] within whole) ((are.each line low).none out);
+          (λ i within. All-get_or HasCells parts i [] within whole) ((are.each line low).none out);
     } in
     places-by_line g axis (parts_meaning table parts)
     ∙ sym (gathered-all (places_along g axis (parts_meaning table parts)) lines count few below passed)

@@ -5,7 +5,7 @@ ghost use Rattle.ps_model.specs.declared.limits.TheConstants.{SIDE_LIMIT};
 ghost use Rattle.ps_model.specs.board.Places.{places};
 ghost use Rattle.ps_board.specs.ColumnSets.{set_columns};
 ghost use Rattle.ps_program.specs.Axes.{direction_of};
-ghost use Rattle.ps_program.specs.Parts.{HasCell};
+ghost use Rattle.ps_laws.specs.WholeRows.{HasCells};
 ghost use Rattle.ps_places.specs.Lines.{part_meaning};
 ghost use Rattle.ps_places.specs.PartStarts.{AreStarts, begins_at};
 ghost use Rattle.ps_places.specs.Starts.{AreWhere};
@@ -53,7 +53,7 @@ impl RowRoom {
     /// Finds where the only part of a row begins as the board is, and answers the rows of the board that have a place:
     /// for each of them its columns are kept. No memory is taken.
     pub fn find_part<B: Scan>(&mut self, board: &B, axis: Axis, part: &[CompiledCell]) -> Columns
-        requires { HasCell part.now }
+        requires { HasCells part.now }
         ensures starts { let starts = self.new.starts.items in
             AreStarts (B.grid board.now) (B.table board.now) axis part.now result starts }
         ensures none { let meant = part_meaning (B.table board.now) part.now in

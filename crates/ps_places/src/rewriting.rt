@@ -6,7 +6,7 @@ ghost use Rattle.ps_model.specs.board.Attempts.{Rewritten, applied, combinations
 ghost use Rattle.ps_model.specs.board.Places.{places};
 ghost use Rattle.ps_match.specs.InRoom.{sides_of};
 ghost use Rattle.ps_program.specs.Axes.{direction_of};
-ghost use Rattle.ps_program.specs.Parts.{HasCell};
+ghost use Rattle.ps_laws.specs.WholeRows.{HasCells};
 ghost use Rattle.ps_places.specs.Lines.{part_meaning};
 ghost use Rattle.ps_places.specs.LeavingAlone.{PlacesLieAlone};
 ghost use Rattle.ps_places.specs.PartStarts.{AreStarts};
@@ -79,7 +79,7 @@ fn rewrite_rows<B: Scan>(
     rows: Columns,
     starts: &[Columns],
 ) -> bool
-    requires whole { HasCell part.now }
+    requires whole { HasCells part.now }
     requires long { SIDE_LIMIT ≤ length starts.now }
     requires starts { AreStarts (B.grid board.old) (B.table board.old) axis part.now rows starts.now }
     requires alone { PlacesLieAlone axis part.now rows starts.now }
@@ -110,7 +110,7 @@ impl RowRoom {
         part: &[CompiledCell],
         rows: Columns,
     ) -> bool
-        requires whole { HasCell part.now }
+        requires whole { HasCells part.now }
         requires starts { let starts = self.now.starts.items in
             AreStarts (B.grid board.old) (B.table board.old) axis part.now rows starts }
         requires alone { PlacesLieAlone axis part.now rows self.now.starts.items }

@@ -5,7 +5,7 @@ ghost use Rattle.ps_model.specs.declared.limits.TheConstants.{SIDE_LIMIT};
 ghost use Rattle.ps_model.specs.board.Places.{places};
 ghost use Rattle.ps_board.specs.ColumnSets.{column_at, no_columns};
 ghost use Rattle.ps_program.specs.Axes.{direction_of};
-ghost use Rattle.ps_program.specs.Parts.{HasCell};
+ghost use Rattle.ps_laws.specs.WholeRows.{HasCells};
 ghost use Rattle.ps_program.specs.declared.rows.Axis.TheVariants.{Down, Right};
 ghost use Rattle.ps_places.specs.FoundStarts.{AreLinesFound, BeginInSets, HasNoWay, HaveWaysOnlyOn};
 ghost use Rattle.ps_places.specs.FoundStarts.{IsPartFound, IsRowAdded};
@@ -43,7 +43,7 @@ fn find_on_row<B: Scan>(
     sets: &mut [Columns],
 ) -> bool
     requires row { row < (B.grid board.now).height }
-    requires whole { All HasCell parts.now }
+    requires whole { All HasCells parts.now }
     requires long { length sets.old ≡ length parts.now }
     ensures found { let begun = BeginInSets (B.grid board.now) (B.table board.now) Right parts.now row in
         result ≡ true → begun (λ number. slice_index_or sets.new number []) (length parts.now) }
@@ -63,7 +63,7 @@ fn find_on_row<B: Scan>(
 
 /// Finds the positions of parts that go right, and answers the lines on which each part has one.
 fn find_across<B: Scan>(board: &B, parts: &[List<CompiledCell>], starts: &mut [Columns]) -> Columns
-    requires whole { All HasCell parts.now }
+    requires whole { All HasCells parts.now }
     requires room { SIDE_LIMIT * length parts.now ≤ length starts.old }
     ensures lines { let count = length parts.now in
         AreLinesFound (B.grid board.now) (B.table board.now) Right parts.now starts.new result count }
@@ -121,7 +121,7 @@ fn find_part_down<B: Scan>(
     count: usize,
     number: usize,
 ) -> Columns
-    requires whole { HasCell part.now }
+    requires whole { HasCells part.now }
     requires one { number < count }
     requires room { SIDE_LIMIT * count ≤ length starts.old }
     requires inside { (x : ℕ) → column_at within x ≡ true → x < (B.grid board.now).width }
@@ -142,7 +142,7 @@ fn find_part_down<B: Scan>(
 
 /// Finds the positions of parts that go down, and answers the lines on which each part has one.
 fn find_down<B: Scan>(board: &B, parts: &[List<CompiledCell>], starts: &mut [Columns]) -> Columns
-    requires whole { All HasCell parts.now }
+    requires whole { All HasCells parts.now }
     requires room { SIDE_LIMIT * length parts.now ≤ length starts.old }
     ensures lines { let count = length parts.now in
         AreLinesFound (B.grid board.now) (B.table board.now) Down parts.now starts.new result count }
@@ -174,7 +174,7 @@ fn find_lines<B: Scan>(
     parts: &[List<CompiledCell>],
     starts: &mut [Columns],
 ) -> Columns
-    requires whole { All HasCell parts.now }
+    requires whole { All HasCells parts.now }
     requires room { SIDE_LIMIT * length parts.now ≤ length starts.old }
     ensures lines { let count = length parts.now in
         AreLinesFound (B.grid board.now) (B.table board.now) axis parts.now starts.new result count }

@@ -3,7 +3,7 @@
 
 ghost use Rattle.std.specs.Prelude.{◌≡◌, ℕ, ◌+◌, ◌<◌, ◌≤◌, List, Bool, [], false, length, slice_index_or, true};
 ghost use Rattle.ps_model.specs.declared.limits.TheConstants.{SIDE_LIMIT};
-ghost use Rattle.ps_program.specs.Parts.{HasCell};
+ghost use Rattle.ps_laws.specs.WholeRows.{HasCells};
 ghost use Rattle.ps_program.specs.declared.rows.Axis.TheVariants.{Down, Right};
 ghost use Rattle.ps_places.specs.Candidates.{BeginsOnlyOn};
 ghost use Rattle.ps_places.specs.FoundStarts.{part_of};
@@ -82,8 +82,8 @@ fn find_across<B: Scan>(
     size: u32,
     starts: &mut [Columns],
 ) -> Columns
-    requires first { HasCell first.now }
-    requires second { HasCell second.now }
+    requires first { HasCells first.now }
+    requires second { HasCells second.now }
     requires size { size ≡ length first.now }
     requires short { size < SIDE_LIMIT }
     requires room { SIDE_LIMIT ≤ length starts.old }
@@ -108,7 +108,7 @@ fn find_across<B: Scan>(
 /// The columns of a row of the board where a part begins that goes down; `rows` are the only ones of the board on
 /// which it may. Below the board it begins nowhere.
 fn columns_begun<B: Scan>(board: &B, part: &[CompiledCell], rows: Columns, row: u32) -> Columns
-    requires part { HasCell part.now }
+    requires part { HasCells part.now }
     requires rows { BeginsOnlyOn (B.grid board.now) (B.table board.now) Down part.now rows }
     ensures { AreWhere (begins_down (B.grid board.now) (B.table board.now) part.now row) result }
 {
@@ -131,8 +131,8 @@ fn find_below<B: Scan>(
     size: u32,
     starts: &mut [Columns],
 ) -> Columns
-    requires first { HasCell first.now }
-    requires second { HasCell second.now }
+    requires first { HasCells first.now }
+    requires second { HasCells second.now }
     requires size { size ≡ length first.now }
     requires short { size < SIDE_LIMIT }
     requires room { SIDE_LIMIT ≤ length starts.old }
@@ -162,8 +162,8 @@ fn find_above<B: Scan>(
     size: u32,
     starts: &mut [Columns],
 ) -> Columns
-    requires first { HasCell first.now }
-    requires second { HasCell second.now }
+    requires first { HasCells first.now }
+    requires second { HasCells second.now }
     requires size { size ≡ length first.now }
     requires short { size < SIDE_LIMIT }
     requires room { SIDE_LIMIT ≤ length starts.old }

@@ -1,7 +1,7 @@
 //! Places that were worked out by hand, on boards of one layer; a dot is an empty cell.
 
 ghost use Rattle.std.specs.Prelude.{All, IfOk};
-ghost use Rattle.ps_program.specs.Parts.{HasCell};
+ghost use Rattle.ps_laws.specs.WholeRows.{HasCells};
 
 use crate::{RowRoom, find_starts};
 use ps_match::{Board, Columns, ListBoard, Scan};
@@ -85,7 +85,7 @@ fn needing(alloc: Global, letter: u8) -> Result<CompiledCell, Memory> {
 
 /// The parts of a row by the letters that their cells need. Parts without a cell are left out.
 fn parts_of(alloc: Global, parts: &[&[u8]]) -> Result<List<List<CompiledCell>>, Memory>
-    ensures { IfOk result (All HasCell) }
+    ensures { IfOk result (All HasCells) }
 {
     let mut all = Vec::new(alloc);
     for letters in parts {

@@ -5,7 +5,6 @@ pub mod Leaving
 pub mod LeavingCells
 pub mod Needs
 pub mod Axes
-pub mod Parts
 pub mod Sleeping
 pub mod Writers
 pub mod ProgramShown

@@ -2,7 +2,7 @@
 
 ghost use Rattle.std.specs.Prelude.{◌<◌, ◌≤◌, All, length};
 ghost use Rattle.ps_program.specs.declared.rows.TheConstants.{PART_LIMIT};
-ghost use Rattle.ps_program.specs.Parts.{HasCell};
+ghost use Rattle.ps_laws.specs.WholeRows.{HasCells};
 
 use crate::cells::CompiledCell;
 use ps_text::List;
@@ -24,5 +24,5 @@ pub struct CompiledRow {
     pub parts: List<List<CompiledCell>>,
     ghost some: { 0 < length parts },
     ghost few: { length parts ≤ PART_LIMIT },
-    ghost whole: { All HasCell parts },
+    ghost whole: { All HasCells parts },
 }

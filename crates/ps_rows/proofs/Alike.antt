@@ -25,7 +25,7 @@ use Rattle.ps_rows.specs.Sameness.{AreSameRows, IsSamePlane, AreSamePlanes, IsSa
 use Rattle.ps_rows.proofs.Bits.{has_column-zero}
 use Rattle.ps_rows.proofs.Scans.{bit_cases, has_column-and, has_column-width}
 use Rattle.ps_rows.proofs.Listed.{find_same}
-use Rattle.ps_rows.proofs.Spans.{listed_member}
+use Rattle.ps_rows.proofs.MemberRanges.{listed_member}
 use Rattle.ps_rows.proofs.Moves.{five_true, five_false, five_high, first_motion-same}
 use Rattle.ps_rows.proofs.Rests.{slot_read}
 use Rattle.ps_rows.proofs.Tables.{tabled_same}

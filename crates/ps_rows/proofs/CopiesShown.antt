@@ -18,7 +18,7 @@ use Rattle.ps_rows.specs.Showing.{numbered, motions_from, object_shown, slot_sho
 use Rattle.ps_rows.proofs.Listed.{find_same}
 use Rattle.ps_rows.proofs.OwnObjects.{same_by_objects}
 use Rattle.ps_rows.proofs.Rests.{cells_rested, slot_of_rested}
-use Rattle.ps_rows.proofs.Spans.{listed_member}
+use Rattle.ps_rows.proofs.MemberRanges.{listed_member}
 use Rattle.ps_rows.proofs.Tables.{tabled_at, tabled_same}
 
 module _ (table : List ℕ) (height : ℕ) (rows : List Bool) (first second copied : List ℕ) (some : 0 < height) (are : AreRowsOf height 0 (length table) rows first second copied) where

@@ -24,7 +24,7 @@ use Rattle.ps_rows.proofs.Listed.{find_listed, find_object, find_same}
 use Rattle.ps_rows.proofs.Moves.{first_motion-is, five_false, five_high, five_true, plane_high, plane_low}
 use Rattle.ps_rows.proofs.Puts.{apart_from}
 use Rattle.ps_rows.proofs.Rests.{slot_read}
-use Rattle.ps_rows.proofs.Spans.{listed_member, member_listed, not_listed}
+use Rattle.ps_rows.proofs.MemberRanges.{listed_member, member_listed, not_listed}
 use Rattle.ps_rows.proofs.Whole.{columns_low}
 
 and_true : (a : Bool) → (a && true) ≡ a

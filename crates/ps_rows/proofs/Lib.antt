@@ -2,7 +2,7 @@ pub mod Bits
 pub mod Marks
 pub mod Steps
 pub mod Listed
-pub mod Spans
+pub mod MemberRanges
 pub mod Moves
 pub mod Puts
 pub mod Tables

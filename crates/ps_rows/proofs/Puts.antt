@@ -16,7 +16,7 @@ use Rattle.ps_rows.specs.Members.{on_layer}
 use Rattle.ps_rows.specs.Showing.{numbered, motions_from, motion_plane, motion_planes, object_shown, motion_shown, slot_shown, cell_shown, cells_shown, with_slot_in, AreObjectsShown, AreMotionsShown}
 use Rattle.ps_rows.proofs.Marks.{length-with_cell_in, has_cell-in_elsewhere, has_cell-in_there}
 use Rattle.ps_rows.proofs.Listed.{find_same, find_object}
-use Rattle.ps_rows.proofs.Spans.{member_listed, listed_member, not_listed}
+use Rattle.ps_rows.proofs.MemberRanges.{member_listed, listed_member, not_listed}
 use Rattle.ps_rows.proofs.Moves.{plane_low, plane_high, five_true, five_false, five_high, chosen_motion, first_motion-is, first_motion-same}
 use Rattle.ps_rows.proofs.Tables.{tabled_at, tabled_same, tabled_set}
 

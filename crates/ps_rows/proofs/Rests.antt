@@ -20,7 +20,7 @@ use Rattle.ps_rows.specs.Members.{on_layer}
 use Rattle.ps_rows.specs.Showing.{numbered, motions_from, object_shown, motion_shown, slot_shown, cell_shown, cells_shown, cleared_from, AreObjectsShown, AreMotionsShown}
 use Rattle.ps_rows.proofs.Bits.{has_column-zero}
 use Rattle.ps_rows.proofs.Listed.{find_same, find_object, find_listed, is_number-own}
-use Rattle.ps_rows.proofs.Spans.{listed_member}
+use Rattle.ps_rows.proofs.MemberRanges.{listed_member}
 use Rattle.ps_rows.proofs.Moves.{plane_low, not_still, first_motion-is}
 use Rattle.ps_rows.proofs.Tables.{tabled_at, tabled_same, tabled_alike, mapped_twice}
 

@@ -20,7 +20,7 @@ use Rattle.ps_rows.proofs.Alike.{column_read}
 use Rattle.ps_rows.proofs.Listed.{find_same}
 use Rattle.ps_rows.proofs.Rests.{object_of_slot}
 use Rattle.ps_rows.proofs.Scans.{has_column-and, has_column-not}
-use Rattle.ps_rows.proofs.Spans.{listed_member}
+use Rattle.ps_rows.proofs.MemberRanges.{listed_member}
 use Rattle.ps_rows.proofs.Tables.{tabled_at}
 
 -- two cells of a row, each of a board, have the same objects where each object's plane has both or neither

@@ -3,7 +3,7 @@
 ghost use Rattle.std.specs.Prelude.{◌≡◌, ◌++◌, ◌+◌, ◌<◌, ◌≤◌, ◌∷◌, [], IfOk, OnOk, cond, length, map, slice_get, true};
 ghost use Rattle.std.specs.Prelude.{slice_range, vec_len};
 ghost use Rattle.ps_model.specs.board.Movement.{is_number};
-ghost use Rattle.ps_rows.specs.Members.{AreSpansOf, on_layer};
+ghost use Rattle.ps_rows.specs.Members.{AreRangesOf, on_layer};
 ghost use Rattle.ps_rows.specs.declared.members.TheConstants.{TABLE_LIMIT};
 
 use ps_model::{LayerId, Memory};
@@ -12,9 +12,9 @@ use std::alloc::Global;
 /// The most objects that a table can have: their planes are numbered by 32 bits.
 pub const TABLE_LIMIT: usize = 2147483648;
 
-/// A stretch of a list.
+/// Where the objects of a layer stand in the list of those of all layers.
 #[derive(Clone, Copy)]
-pub struct Span {
+pub struct MemberRange {
     pub start: usize,
     pub end: usize,
 }
@@ -24,9 +24,9 @@ pub struct Span {
 pub struct Members {
     pub table: Vec<u32>,
     pub numbers: Vec<u32>,
-    pub spans: Vec<Span>,
+    pub ranges: Vec<MemberRange>,
     ghost few: { vec_len table ≤ TABLE_LIMIT },
-    ghost each: { AreSpansOf table.items numbers.items spans.items },
+    ghost each: { AreRangesOf table.items numbers.items ranges.items },
 }
 
 /// Adds an object, if it is wanted.
@@ -50,36 +50,36 @@ fn push_members(numbers: &mut Vec<u32>, table: &[u32], layer: u32) -> Result<(),
     Ok(())
 }
 
-/// Adds the objects of the next layer, and their span.
+/// Adds the objects of the next layer, and their range.
 fn push_layer(
     numbers: &mut Vec<u32>,
-    spans: &mut Vec<Span>,
+    ranges: &mut Vec<MemberRange>,
     table: &[u32],
     layer: u32,
 ) -> Result<(), Memory>
     requires few { length table.now ≤ TABLE_LIMIT }
-    requires long { vec_len spans.old ≡ layer }
-    requires each { AreSpansOf table.now numbers.old.items spans.old.items }
-    ensures long { OnOk result (vec_len spans.new ≡ layer + 1) }
-    ensures each { OnOk result (AreSpansOf table.now numbers.new.items spans.new.items) }
+    requires long { vec_len ranges.old ≡ layer }
+    requires each { AreRangesOf table.now numbers.old.items ranges.old.items }
+    ensures long { OnOk result (vec_len ranges.new ≡ layer + 1) }
+    ensures each { OnOk result (AreRangesOf table.now numbers.new.items ranges.new.items) }
 {
     let start = numbers.len();
     push_members(numbers, table, layer)?;
-    let span = Span {
+    let range = MemberRange {
         start,
         end: numbers.len(),
     };
-    spans.push(span)?;
+    ranges.push(range)?;
     Ok(())
 }
 
-/// A stretch of a list.
-fn stretch(numbers: &[u32], span: Span) -> &[u32]
-    requires order { span.start ≤ span.end }
-    requires within { span.end ≤ length numbers.now }
-    ensures { result.now ≡ slice_range numbers.now span.start span.end }
+/// The numbers of a range of a list.
+fn numbers_in(numbers: &[u32], range: MemberRange) -> &[u32]
+    requires order { range.start ≤ range.end }
+    requires within { range.end ≤ length numbers.now }
+    ensures { result.now ≡ slice_range numbers.now range.start range.end }
 {
-    &numbers[span.start..span.end]
+    &numbers[range.start..range.end]
 }
 
 impl Members {
@@ -87,36 +87,36 @@ impl Members {
     /// are more objects than a table can have.
     pub fn try_new(alloc: Global, layers: u32, own_layers: &[LayerId]) -> Result<Members, Memory>
         ensures table { IfOk result (λ members. members.table.items ≡ map (λ layer. layer.0) own_layers.now) }
-        ensures layers { IfOk result (λ members. vec_len members.spans ≡ layers) }
+        ensures layers { IfOk result (λ members. vec_len members.ranges ≡ layers) }
     {
         if own_layers.len() > TABLE_LIMIT {
             return Err(Memory);
         }
         let table: Vec<u32> = own_layers.iter().map(|layer| layer.0).collect(alloc)?;
         let mut numbers = Vec::with_capacity(alloc, table.len())?;
-        let mut spans = Vec::with_capacity(alloc, layers as usize)?;
+        let mut ranges = Vec::with_capacity(alloc, layers as usize)?;
         for layer in 0..layers {
-            push_layer(&mut numbers, &mut spans, &table, layer)?;
+            push_layer(&mut numbers, &mut ranges, &table, layer)?;
         }
         Ok(Members {
             table,
             numbers,
-            spans,
+            ranges,
         })
     }
 
     /// The same members. Nothing, where there is no memory.
     pub fn try_copy(&self, alloc: Global) -> Result<Members, Memory>
         ensures table { IfOk result (λ members. members.table.items ≡ self.now.table.items) }
-        ensures layers { IfOk result (λ members. vec_len members.spans ≡ vec_len self.now.spans) }
+        ensures layers { IfOk result (λ members. vec_len members.ranges ≡ vec_len self.now.ranges) }
     {
         let table = Vec::from_slice(alloc, &self.table)?;
         let numbers = Vec::from_slice(alloc, &self.numbers)?;
-        let spans = Vec::from_slice(alloc, &self.spans)?;
+        let ranges = Vec::from_slice(alloc, &self.ranges)?;
         Ok(Members {
             table,
             numbers,
-            spans,
+            ranges,
         })
     }
 
@@ -147,10 +147,10 @@ impl Members {
 
     /// The objects of a layer, the least number first.
     pub fn of(&self, layer: u32) -> &[u32]
-        requires { layer < vec_len self.now.spans }
+        requires { layer < vec_len self.now.ranges }
         ensures { result.now ≡ on_layer self.now.table.items layer }
     {
-        let span = self.spans[layer as usize];
-        stretch(self.numbers.as_slice(), span)
+        let range = self.ranges[layer as usize];
+        numbers_in(self.numbers.as_slice(), range)
     }
 }

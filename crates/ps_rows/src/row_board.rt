@@ -41,7 +41,7 @@ pub struct RowBoard {
     ghost columns: { width ≤ SIDE_LIMIT },
     ghost some_layer: { 0 < layers },
     ghost few_layers: { layers ≤ LAYER_LIMIT },
-    ghost spans: { vec_len members.spans ≡ layers },
+    ghost ranges: { vec_len members.ranges ≡ layers },
     ghost whole: { vec_len planes.words ≡ motions_from members.table.items layers * planes.height },
     ghost objects: { AreObjectsShown members.table.items planes.height planes.words.items (width * planes.height) },
     ghost motions: { AreMotionsShown members.table.items layers planes.height planes.words.items

@@ -1,7 +1,7 @@
 //! The compiled programs of a game as the rules of its turns.
 //!
-//! [`rules_of`] lends the programs of a game to its turns. A game that is played by them has the runs of the game as it
-//! is written, on each kind of board that gives every object room on its own layer.
+//! [`rules_of_turns`] lends the programs of a game to its turns. A game that is played by them has the runs of the game
+//! as it is written, on each kind of board that gives every object room on its own layer.
 #![tactic(auto)]
 
 mod boards;
@@ -13,12 +13,12 @@ mod queues;
 pub use boards::{GameBoard, gives_room};
 pub use game_rules::GameRules;
 pub use laws::games_play_as_written;
-pub use programs::rules_of;
-pub use ps_compile::Programs as CompiledPrograms;
+pub use programs::rules_of_turns;
+pub use ps_compile::CompiledPrograms;
 pub use ps_engine::{ListBoard, Scan};
 pub use ps_model::Memory;
 pub use ps_rows::RowBoard;
-pub use ps_turn::{Programs, Rules};
+pub use ps_turn::{Rules, TurnRules};
 
 #[cfg(test)]
 mod tests;

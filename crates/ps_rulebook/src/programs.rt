@@ -7,9 +7,9 @@ ghost use Rattle.ps_program.specs.ProgramShown.{sections_shown};
 ghost use Rattle.ps_rulebook.specs.PlayedGames.{AreCompiled, PlayAsWritten};
 
 use crate::game_rules::GameRules;
-use ps_compile::Programs as CompiledPrograms;
+use ps_compile::CompiledPrograms;
 use ps_model::Memory;
-use ps_turn::Programs;
+use ps_turn::TurnRules;
 use std::alloc::Global;
 
 /// The rules of the turns of a game: its compiled programs, lent, each for its own part of a turn. If they are
@@ -18,17 +18,17 @@ use std::alloc::Global;
 ///
 /// What a turn's message needs of memory comes from `alloc`. `Memory` if there is no room for what runs of the programs
 /// need besides a board.
-pub fn rules_of<'p, 'r>(
+pub fn rules_of_turns<'p, 'r>(
     alloc: Global,
     programs: &'p CompiledPrograms<'r>,
-) -> Result<Programs<GameRules<'p, 'r>>, Memory>
+) -> Result<TurnRules<GameRules<'p, 'r>>, Memory>
     ensures plain { IfOk result (λ rules. sections_shown rules.plain.sections.now ≡ programs.entry.now.plain) }
     ensures late { IfOk result (λ rules. sections_shown rules.late.sections.now ≡ programs.entry.now.late) }
     ensures played { IfOk result (λ rules. (names : Names) (lines : List RuleLine)
         → AreCompiled names lines programs.entry.now.plain programs.entry.now.late
         → PlayAsWritten names lines rules.plain.sections.now rules.late.sections.now) }
 {
-    Ok(Programs {
+    Ok(TurnRules {
         plain: GameRules::try_new(alloc, &programs.plain)?,
         late: GameRules::try_new(alloc, &programs.late)?,
     })

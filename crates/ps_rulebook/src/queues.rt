@@ -3,7 +3,7 @@
 ghost use Rattle.std.specs.Prelude.{◌≡◌, IfOk, option_map};
 ghost use Rattle.ps_turn.specs.States.{queue_shown};
 
-use ps_engine::Queue as LentQueue;
+use ps_engine::LentQueue;
 use ps_model::Memory;
 use ps_text::Text;
 use ps_turn::Queue;

@@ -203,12 +203,12 @@ if_err (Err error) follows p = follows error refl p
 pub one_call : (old new most : ℕ) → (old < most → new ≡ old + 1) → (most ≤ old → false ≡ true) → new ≡ old + 1
 one_call old new most counted worn = elim (cases_lt old most) [ inl below ↦ counted below | inr above ↦ (let e : false ≡ true = worn above in cc) ]
 
--- what a screen has that was empty before a text was added is the text
-pub text_taken : {A E : Type 0} (result : Result A E) (before now : WriterState) (screen old text : List ℕ) → screen ≡ old ++ text → old ≡ [] → OnOk result (HasTaken before now screen) → OnOk result (HasTaken before now text)
-text_taken (Ok value) before now screen old text e none taken = subst (HasTaken before now) (e ∙ ap (λ (bytes : List ℕ). bytes ++ text) none) taken
-text_taken (Err error) before now screen old text e none taken = tt
+-- what an output has that was empty before a text was added is the text
+pub text_taken : {A E : Type 0} (result : Result A E) (before now : WriterState) (output old text : List ℕ) → output ≡ old ++ text → old ≡ [] → OnOk result (HasTaken before now output) → OnOk result (HasTaken before now text)
+text_taken (Ok value) before now output old text e none taken = subst (HasTaken before now) (e ∙ ap (λ (bytes : List ℕ). bytes ++ text) none) taken
+text_taken (Err error) before now output old text e none taken = tt
 
-pub text_stopped : {A : Type 0} (result : Result A PieceFault) (before now : WriterState) (screen old text : List ℕ) → screen ≡ old ++ text → old ≡ [] →
-    IfErr result (λ fault. StopsAtText fault before now screen) → IfErr result (λ fault. StopsAtText fault before now text)
-text_stopped (Ok value) before now screen old text e none stops = tt
-text_stopped (Err fault) before now screen old text e none stops = subst (StopsAtText fault before now) (e ∙ ap (λ (bytes : List ℕ). bytes ++ text) none) stops
+pub text_stopped : {A : Type 0} (result : Result A PieceFault) (before now : WriterState) (output old text : List ℕ) → output ≡ old ++ text → old ≡ [] →
+    IfErr result (λ fault. StopsAtText fault before now output) → IfErr result (λ fault. StopsAtText fault before now text)
+text_stopped (Ok value) before now output old text e none stops = tt
+text_stopped (Err fault) before now output old text e none stops = subst (StopsAtText fault before now) (e ∙ ap (λ (bytes : List ℕ). bytes ++ text) none) stops

@@ -350,9 +350,9 @@ opening_is script = fronts_are_texts script [] ∙ append-nil (opening_step scri
 
 -- the opening is written
 pub opened :
-    (script : Script) (before now : WriterState) (screen start : List ℕ) (session : Session) → before.has_failed ≡ false → start ≡ [] → screen ≡ start ++ (opening_step script).text →
-    session ≡ (opening_step script).session → HasTaken before now screen → HavePlayed script before now session Nothing []
-opened script before now screen start session was_well empty shown begins taken = record {
+    (script : Script) (before now : WriterState) (made start : List ℕ) (session : Session) → before.has_failed ≡ false → start ≡ [] → made ≡ start ++ (opening_step script).text →
+    session ≡ (opening_step script).session → HasTaken before now made → HavePlayed script before now session Nothing []
+opened script before now made start session was_well empty shown begins taken = record {
   was_well = was_well;
   session = begins;
   held = refl;
@@ -361,11 +361,11 @@ opened script before now screen start session was_well empty shown begins taken 
 
 -- the opening isn't written whole
 pub opening_unwritten :
-    (broken : PieceFault) (script : Script) (had : ReaderState) (before now : WriterState) (screen start : List ℕ) → (broken ≡ piece.Memory → ⊥) → had.has_failed ≡ false → before.has_failed ≡ false →
-    (broken ≡ piece.Write → now.has_failed ≡ true) → start ≡ [] → screen ≡ start ++ (opening_step script).text → StopsAtText broken before now screen → Comes script had had before now (Err fault.Write)
-opening_unwritten piece.Memory script had before now screen start never reader_well was_well failed empty shown stops = absurd (never refl)
-opening_unwritten piece.Write script had before now screen start never reader_well was_well failed empty shown stops =
-    let same : screen ≡ texts_of script [] = shown ∙ (ap (λ s. s ++ (opening_step script).text) empty ∙ (sym (opening_is script) ∙ tells.whole_is script [])) in
+    (broken : PieceFault) (script : Script) (had : ReaderState) (before now : WriterState) (made start : List ℕ) → (broken ≡ piece.Memory → ⊥) → had.has_failed ≡ false → before.has_failed ≡ false →
+    (broken ≡ piece.Write → now.has_failed ≡ true) → start ≡ [] → made ≡ start ++ (opening_step script).text → StopsAtText broken before now made → Comes script had had before now (Err fault.Write)
+opening_unwritten piece.Memory script had before now made start never reader_well was_well failed empty shown stops = absurd (never refl)
+opening_unwritten piece.Write script had before now made start never reader_well was_well failed empty shown stops =
+    let same : made ≡ texts_of script [] = shown ∙ (ap (λ s. s ++ (opening_step script).text) empty ∙ (sym (opening_is script) ∙ tells.whole_is script [])) in
     record {
       told = tells.told_of Unasked had.remaining stops.taken true;
       tells = tells.tells_of had had before now Unasked stops.taken true reader_well reader_well (nothing_given had.remaining had.remaining refl) refl refl (omega arith) refl was_well (failed refl) stops.wrote.0 stops.wrote.1

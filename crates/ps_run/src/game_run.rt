@@ -5,15 +5,15 @@ ghost use Rattle.ps_stage.specs.Standings.{script_for};
 ghost use Rattle.ps_run.specs.Runs.{ComesOrStops};
 
 use crate::faults::RunFault;
-use crate::play::{Play, write_screen};
+use crate::play::{Play, write_output};
 use ps_board::Board;
 use ps_devices::{ByteReader, ByteWriter};
 use ps_keys::Keys;
 use ps_model::{Ending, Memory};
-use ps_screen::Screen;
+use ps_screen::OutputText;
 use ps_session::Session;
 use ps_stage::SessionGame;
-use ps_turn::{Programs, Rules};
+use ps_turn::{Rules, TurnRules};
 use std::alloc::Global;
 
 /// Plays a game by these rules: writes its opening, and plays the keys of a reader to an ending.
@@ -25,7 +25,7 @@ use std::alloc::Global;
 pub fn run_game<'g, B: Board, R: Rules<B> + Drop, I: ByteReader, W: ByteWriter>(
     alloc: Global,
     game: SessionGame<'g>,
-    rules: Programs<R>,
+    rules: TurnRules<R>,
     reader: &mut I,
     writer: &mut W,
 ) -> Result<Ending, RunFault>
@@ -35,12 +35,12 @@ pub fn run_game<'g, B: Board, R: Rules<B> + Drop, I: ByteReader, W: ByteWriter>(
         ComesOrStops script (I.state reader.old) (I.state reader.new) (W.state writer.old) (W.state writer.new) result }
 {
     let mut rules = rules;
-    let mut screen = Screen::new(alloc);
-    let session = match Session::<B>::start(alloc, game, &mut rules, &mut screen) {
+    let mut output = OutputText::new(alloc);
+    let session = match Session::<B>::start(alloc, game, &mut rules, &mut output) {
         Ok(session) => session,
         Err(Memory) => return Err(RunFault::Memory),
     };
-    if let Err(_) = write_screen(&screen, writer) {
+    if let Err(_) = write_output(&output, writer) {
         return Err(RunFault::Write);
     }
     let keys = Keys::new();
@@ -48,7 +48,7 @@ pub fn run_game<'g, B: Board, R: Rules<B> + Drop, I: ByteReader, W: ByteWriter>(
         session,
         rules,
         keys,
-        screen,
+        output,
     };
     play.play(reader, writer)
 }

@@ -13,29 +13,29 @@ use ps_board::Board;
 use ps_devices::{ByteReader, ByteWriter, write_whole};
 use ps_keys::Keys;
 use ps_model::{CALL_LIMIT, Ending, Key, Memory, READ_LIMIT};
-use ps_screen::Screen;
+use ps_screen::OutputText;
 use ps_session::Session;
-use ps_turn::{Programs, Rules};
+use ps_turn::{Rules, TurnRules};
 
 /// A game in play: its session and its rules, what is held of an arrow that has begun, and the text that is made next.
 #[derive(Drop)]
 pub struct Play<'g, B: Board, R> {
     pub session: Session<'g, B>,
-    pub rules: Programs<R>,
+    pub rules: TurnRules<R>,
     pub keys: Keys,
-    pub screen: Screen,
+    pub output: OutputText,
 }
 
-/// Writes what the screen has.
-pub fn write_screen<W: ByteWriter>(screen: &Screen, writer: &mut W) -> Result<(), PieceFault>
+/// Writes what the output has.
+pub fn write_output<W: ByteWriter>(output: &OutputText, writer: &mut W) -> Result<(), PieceFault>
     requires { (W.state writer.old).has_failed ≡ false }
-    ensures written { OnOk result (HasTaken (W.state writer.old) (W.state writer.new) screen.now) }
-    ensures stops { IfErr result (λ fault. StopsAtText fault (W.state writer.old) (W.state writer.new) screen.now) }
+    ensures written { OnOk result (HasTaken (W.state writer.old) (W.state writer.new) output.now) }
+    ensures stops { IfErr result (λ fault. StopsAtText fault (W.state writer.old) (W.state writer.new) output.now) }
     ensures well { result ≢ Err PieceFault.Write → (W.state writer.new).has_failed ≡ false }
     ensures told { result ≡ Err PieceFault.Write → (W.state writer.new).has_failed ≡ true }
     ensures fault { result ≢ Err PieceFault.Memory }
 {
-    match write_whole(screen.bytes(), writer) {
+    match write_whole(output.bytes(), writer) {
         Ok(()) => Ok(()),
         Err(_) => Err(PieceFault::Write),
     }
@@ -64,9 +64,9 @@ impl<'g, B: Board, R: Rules<B> + Drop> Play<'g, B, R> {
         ensures well { result ≢ Err PieceFault.Write → (W.state writer.new).has_failed ≡ false }
         ensures told { result ≡ Err PieceFault.Write → (W.state writer.new).has_failed ≡ true }
     {
-        self.screen.clear();
-        match self.session.key(&mut self.rules, key, &mut self.screen) {
-            Ok(_phase) => write_screen(&self.screen, writer),
+        self.output.clear();
+        match self.session.key(&mut self.rules, key, &mut self.output) {
+            Ok(_phase) => write_output(&self.output, writer),
             Err(Memory) => Err(PieceFault::Memory),
         }
     }
@@ -143,9 +143,9 @@ impl<'g, B: Board, R: Rules<B> + Drop> Play<'g, B, R> {
         ensures well { result ≢ Err PieceFault.Write → (W.state writer.new).has_failed ≡ false }
         ensures told { result ≡ Err PieceFault.Write → (W.state writer.new).has_failed ≡ true }
     {
-        self.screen.clear();
-        self.screen.add_line("* end of keys", "")?;
-        write_screen(&self.screen, writer)
+        self.output.clear();
+        self.output.add_line("* end of keys", "")?;
+        write_output(&self.output, writer)
     }
 
     /// Plays the keys of a reader to an ending, where nothing is read yet: a piece at a time, of the `CALL_LIMIT` bytes

@@ -9,11 +9,11 @@ ghost use Rattle.ps_stage.specs.Playable.{ArePlayable};
 
 use crate::faults::{RunFault, fault_of_refusal};
 use crate::game_run::run_game;
-use ps_compile::{Programs as CompiledPrograms, compile};
+use ps_compile::{CompiledPrograms, compile};
 use ps_devices::{ByteReader, ByteWriter};
 use ps_game::{Game, read_game};
 use ps_model::Ending;
-use ps_rulebook::{GameRules, RowBoard, rules_of};
+use ps_rulebook::{GameRules, RowBoard, rules_of_turns};
 use ps_stage::SessionGame;
 use std::alloc::Global;
 
@@ -75,7 +75,7 @@ fn run_compiled<I: ByteReader, W: ByteWriter>(
         &game.entries,
         &game.wins,
     );
-    let rules = match rules_of(alloc, compiled) {
+    let rules = match rules_of_turns(alloc, compiled) {
         Ok(rules) => rules,
         Err(_) => return Err(RunFault::Memory),
     };

@@ -1,4 +1,4 @@
-//! Sessions of which a key is refused a growth: session and screen are as before the key then, and the same key does,
+//! Sessions of which a key is refused a growth: session and output are as before the key then, and the same key does,
 //! when it is tried again, what it does where nothing is refused. As the tests run by themselves nothing is refused;
 //! `tools/refuse_growths` plays them with each growth refused in turn.
 
@@ -6,8 +6,8 @@ use crate::games::NAMES;
 use crate::playable::playable_game;
 use ps_compile::compile;
 use ps_model::{Ending, Input, Key, Memory};
-use ps_rulebook::{RowBoard, rules_of};
-use ps_session::{Phase, Screen, Session, SessionGame};
+use ps_rulebook::{RowBoard, rules_of_turns};
+use ps_session::{OutputText, Phase, Session, SessionGame};
 use std::alloc::Global;
 use std::process::Abort;
 
@@ -58,13 +58,13 @@ fn expect_keys_again(
     };
     let title = game.title.as_str();
     let parts = SessionGame::new(title, game.options, &game.names, &game.entries, &game.wins);
-    let Ok(mut rules) = rules_of(rt.alloc(), &programs) else {
+    let Ok(mut rules) = rules_of_turns(rt.alloc(), &programs) else {
         return;
     };
-    let mut screen = Screen::new(rt.alloc());
-    let started = Session::<RowBoard>::start(rt.alloc(), parts, &mut rules, &mut screen);
+    let mut output = OutputText::new(rt.alloc());
+    let started = Session::<RowBoard>::start(rt.alloc(), parts, &mut rules, &mut output);
     let Ok(mut session) = started else {
-        assert!(rt; screen.bytes().is_empty());
+        assert!(rt; output.bytes().is_empty());
         return;
     };
     for number in 0..steps.len() {
@@ -72,20 +72,20 @@ fn expect_keys_again(
         let (through, _) = steps.split_at(number + 1);
         let (key, _, phase) = steps[number];
         let was = session.phase();
-        let mut answer = session.key(&mut rules, key, &mut screen);
+        let mut answer = session.key(&mut rules, key, &mut output);
         if let Err(Memory) = answer {
             assert_eq!(rt; session.phase(), was);
-            assert!(rt; are_texts(screen.bytes(), opening, before));
-            answer = session.key(&mut rules, key, &mut screen);
+            assert!(rt; are_texts(output.bytes(), opening, before));
+            answer = session.key(&mut rules, key, &mut output);
         }
         if let Err(Memory) = answer {
             assert_eq!(rt; session.phase(), was);
-            assert!(rt; are_texts(screen.bytes(), opening, before));
+            assert!(rt; are_texts(output.bytes(), opening, before));
             assert!(rt; is_refused(rt.alloc()));
             return;
         }
         assert_eq!(rt; session.phase(), phase);
-        assert!(rt; are_texts(screen.bytes(), opening, through));
+        assert!(rt; are_texts(output.bytes(), opening, through));
     }
 }
 

@@ -7,9 +7,9 @@ ghost use Rattle.ps_board.specs.Rows.{DifferOnlyOn};
 ghost use Rattle.ps_screen.specs.FrameTexts.{IsTextOf};
 
 use crate::cells::Room;
+use crate::output_text::OutputText;
 use crate::plain_frames::{draw_frame, patch_frame};
 use crate::rows::{draw_rows, patch_rows};
-use crate::screen::Screen;
 use ps_board::{Board, Columns};
 use ps_model::{LayerId, Memory};
 use ps_names::Names;
@@ -19,9 +19,9 @@ use std::alloc::Global;
 #[derive(Drop)]
 pub enum FrameText {
     /// All of it, where each of its characters is of one byte.
-    Whole(Screen),
+    Whole(OutputText),
     /// A text for each row, from the top.
-    Rows(Vec<Screen>),
+    Rows(Vec<OutputText>),
 }
 
 /// The text of a board's frame, made anew: whole, where each character is of one byte. A text that was kept whole
@@ -43,8 +43,8 @@ pub fn draw_text<B: Board>(
 {
     let mut whole = match kept {
         Some(FrameText::Whole(text)) => text,
-        Some(FrameText::Rows(_texts)) => Screen::new(alloc),
-        None => Screen::new(alloc),
+        Some(FrameText::Rows(_texts)) => OutputText::new(alloc),
+        None => OutputText::new(alloc),
     };
     if draw_frame(names, ground, board, room, &mut whole)? {
         return Ok(FrameText::Whole(whole));
@@ -96,23 +96,23 @@ pub fn patch_text<B: Board>(
     }
 }
 
-/// Adds a frame to a screen by the text of it.
+/// Adds a frame to an output by the text of it.
 ///
 /// # Errors
 ///
-/// `Memory`, and the screen is as before.
+/// `Memory`, and the output is as before.
 pub fn add_text<B: Board>(
     names: &Names,
     board: &B,
     text: &FrameText,
-    screen: &mut Screen,
+    output: &mut OutputText,
 ) -> Result<(), Memory>
     requires { IsTextOf names.now (B.grid board.now) text.now }
-    ensures added { OnOk result (screen.new ≡ screen.old ++ frame names.now (B.grid board.now)) }
-    ensures kept { OnErr result (screen.new ≡ screen.old) }
+    ensures added { OnOk result (output.new ≡ output.old ++ frame names.now (B.grid board.now)) }
+    ensures kept { OnErr result (output.new ≡ output.old) }
 {
     match text {
-        FrameText::Whole(whole) => screen.add(whole.bytes()),
-        FrameText::Rows(rows) => screen.add_frame(rows),
+        FrameText::Whole(whole) => output.add(whole.bytes()),
+        FrameText::Rows(rows) => output.add_frame(rows),
     }
 }

@@ -1,20 +1,20 @@
-//! What a player sees: lines and frames, appended to a screen.
+//! What a player sees: lines and frames, appended to an output.
 //!
-//! A [`Screen`] is the text so far. A [`Picture`] makes the frames of one game, and keeps the last of them.
+//! An [`OutputText`] is the text so far. A [`Picture`] makes the frames of one game, and keeps the last of them.
 #![tactic(auto)]
 
 mod cells;
 mod frame_texts;
 mod glyphs;
 mod meanings;
+mod output_text;
 mod patching;
 mod picture;
 mod plain_frames;
 mod rows;
-mod screen;
 
+pub use output_text::OutputText;
 pub use picture::Picture;
 pub use ps_board::Board;
 pub use ps_model::Memory;
 pub use ps_names::Names;
-pub use screen::Screen;

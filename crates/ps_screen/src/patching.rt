@@ -10,7 +10,7 @@ ghost use Rattle.ps_board.specs.Rows.{AreAlike};
 ghost use Rattle.ps_screen.specs.PlainRows.{AreDrawn, IsOutside, IsPlainRow};
 
 use crate::cells::{Room, cell_character};
-use crate::screen::Screen;
+use crate::output_text::OutputText;
 use ps_board::{Board, Columns};
 use ps_model::{LayerId, Memory};
 use ps_names::Names;
@@ -20,7 +20,7 @@ use ps_names::Names;
 /// # Errors
 ///
 /// `Memory`, and some of them may have been added.
-pub fn add_blank_row(text: &mut Screen, width: u32) -> Result<(), Memory>
+pub fn add_blank_row(text: &mut OutputText, width: u32) -> Result<(), Memory>
     ensures { OnOk result (text.new ≡ text.old ++ (replicate width 32 ++ codes "\n")) }
 {
     for _column in 0..width {
@@ -41,7 +41,7 @@ fn one_byte(character: char) -> Option<u8>
 }
 
 /// Writes a byte at each of these columns of the row that begins at byte `start`.
-fn put_columns(text: &mut Screen, start: u32, columns: Columns, byte: u8)
+fn put_columns(text: &mut OutputText, start: u32, columns: Columns, byte: u8)
     requires { (x : ℕ) → x < SIDE_LIMIT → column_at columns x ≡ true → start + x < length text.old }
     ensures long { length text.new ≡ length text.old }
     ensures there { (x : ℕ) → x < SIDE_LIMIT → column_at columns x ≡ true
@@ -81,7 +81,7 @@ pub fn patch_columns<B: Board>(
     room: &mut Room,
     columns: Columns,
     start: u32,
-    text: &mut Screen,
+    text: &mut OutputText,
 ) -> Result<bool, Memory>
     requires ground { ground.0 ≡ background_layer names.now }
     requires row { row < (B.grid board.now).height }

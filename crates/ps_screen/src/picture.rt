@@ -8,7 +8,7 @@ ghost use Rattle.ps_screen.specs.FrameTexts.{IsTextOf};
 use crate::cells::Room;
 use crate::frame_texts::{FrameText, add_text, draw_text, patch_text};
 use crate::meanings::ground_layer;
-use crate::screen::Screen;
+use crate::output_text::OutputText;
 use ps_board::Board;
 use ps_model::{LayerId, Memory};
 use ps_names::Names;
@@ -61,15 +61,15 @@ impl<'g, B: Board> Picture<'g, B> {
         }
     }
 
-    /// Adds a frame of a board to a screen: its rows from the top, then an empty line.
+    /// Adds a frame of a board to an output: its rows from the top, then an empty line.
     ///
     /// # Errors
     ///
-    /// `Memory`, and the screen is as before.
-    pub fn show(&mut self, board: &B, screen: &mut Screen) -> Result<(), Memory>
+    /// `Memory`, and the output is as before.
+    pub fn show(&mut self, board: &B, output: &mut OutputText) -> Result<(), Memory>
         ensures names { self.new ≡ self.old }
-        ensures shown { OnOk result (screen.new ≡ screen.old ++ frame self.old (B.grid board.now)) }
-        ensures kept { OnErr result (screen.new ≡ screen.old) }
+        ensures shown { OnOk result (output.new ≡ output.old ++ frame self.old (B.grid board.now)) }
+        ensures kept { OnErr result (output.new ≡ output.old) }
     {
         let last = redraw(
             self.alloc,
@@ -79,7 +79,7 @@ impl<'g, B: Board> Picture<'g, B> {
             board,
             &mut self.room,
         )?;
-        let added = add_text(self.names, board, &last.text, screen);
+        let added = add_text(self.names, board, &last.text, output);
         self.last = Some(last);
         added
     }

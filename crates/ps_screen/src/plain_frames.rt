@@ -7,8 +7,8 @@ ghost use Rattle.ps_board.specs.Rows.{DifferOnlyOn};
 ghost use Rattle.ps_screen.specs.PlainFrames.{IsBlankFrame, IsPlainFrame};
 
 use crate::cells::Room;
+use crate::output_text::OutputText;
 use crate::patching::{add_blank_row, patch_columns};
-use crate::screen::Screen;
 use ps_board::{Board, Columns};
 use ps_model::{LayerId, Memory};
 use ps_names::Names;
@@ -24,7 +24,7 @@ pub fn draw_frame<B: Board>(
     ground: LayerId,
     board: &B,
     room: &mut Room,
-    text: &mut Screen,
+    text: &mut OutputText,
 ) -> Result<bool, Memory>
     requires { ground.0 ≡ background_layer names.now }
     ensures { IfOk result (λ plain. plain ≡ true → IsPlainFrame names.now (B.grid board.now) text.new) }
@@ -55,7 +55,7 @@ pub fn patch_frame<B: Board>(
     board: &B,
     rows: Columns,
     room: &mut Room,
-    text: &mut Screen,
+    text: &mut OutputText,
 ) -> Result<bool, Memory>
     requires ground { ground.0 ≡ background_layer names.now }
     requires width { (B.grid shown.now).width ≡ (B.grid board.now).width }
@@ -85,7 +85,7 @@ pub fn patch_frame<B: Board>(
 /// # Errors
 ///
 /// `Memory`, and the text is of no use.
-fn make_blank(text: &mut Screen, width: u32, height: u32) -> Result<(), Memory>
+fn make_blank(text: &mut OutputText, width: u32, height: u32) -> Result<(), Memory>
     ensures { OnOk result (IsBlankFrame width height text.new) }
 {
     text.clear();

@@ -7,8 +7,8 @@ ghost use Rattle.ps_board.specs.Rows.{DifferOnlyOn};
 ghost use Rattle.ps_screen.specs.KeptRows.{AreRowsOf};
 
 use crate::cells::{Room, cell_character};
+use crate::output_text::OutputText;
 use crate::patching::{add_blank_row, patch_columns};
-use crate::screen::Screen;
 use ps_board::{Board, Columns};
 use ps_model::{LayerId, Memory};
 use ps_names::Names;
@@ -25,14 +25,14 @@ pub fn draw_rows<B: Board>(
     ground: LayerId,
     board: &B,
     room: &mut Room,
-) -> Result<Vec<Screen>, Memory>
+) -> Result<Vec<OutputText>, Memory>
     requires { ground.0 ≡ background_layer names.now }
     ensures { IfOk result (λ texts. AreRowsOf names.now (B.grid board.now) texts.items) }
 {
     let (_, height) = board.size();
     let mut texts = Vec::new(alloc);
     for row in 0..height {
-        let mut text = Screen::new(alloc);
+        let mut text = OutputText::new(alloc);
         draw_row(names, ground, board, row, room, &mut text)?;
         texts.push(text)?;
     }
@@ -52,7 +52,7 @@ pub fn patch_rows<B: Board>(
     board: &B,
     rows: Columns,
     room: &mut Room,
-    texts: &mut [Screen],
+    texts: &mut [OutputText],
 ) -> Result<(), Memory>
     requires ground { ground.0 ≡ background_layer names.now }
     requires width { (B.grid shown.now).width ≡ (B.grid board.now).width }
@@ -85,7 +85,7 @@ fn patch_row<B: Board>(
     board: &B,
     row: u32,
     room: &mut Room,
-    text: &mut Screen,
+    text: &mut OutputText,
 ) -> Result<(), Memory>
     requires ground { ground.0 ≡ background_layer names.now }
     requires row { row < (B.grid board.now).height }
@@ -118,7 +118,7 @@ fn draw_row<B: Board>(
     board: &B,
     row: u32,
     room: &mut Room,
-    text: &mut Screen,
+    text: &mut OutputText,
 ) -> Result<(), Memory>
     requires ground { ground.0 ≡ background_layer names.now }
     requires row { row < (B.grid board.now).height }
@@ -143,16 +143,16 @@ fn add_row<B: Board>(
     board: &B,
     row: u32,
     room: &mut Room,
-    screen: &mut Screen,
+    output: &mut OutputText,
 ) -> Result<(), Memory>
     requires ground { ground.0 ≡ background_layer names.now }
     requires row { row < (B.grid board.now).height }
-    ensures { OnOk result (screen.new ≡ screen.old ++ frame_row names.now (B.grid board.now) row) }
+    ensures { OnOk result (output.new ≡ output.old ++ frame_row names.now (B.grid board.now) row) }
 {
     let (width, height) = board.size();
     for column in 0..width {
         let character = cell_character(names, ground, board, column * height + row, room)?;
-        screen.add_character(character)?;
+        output.add_character(character)?;
     }
-    screen.add(b"\n")
+    output.add(b"\n")
 }

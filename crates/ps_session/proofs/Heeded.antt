@@ -5,7 +5,7 @@ use Rattle.ps_model.specs.declared.play.Input.{Input}
 use Rattle.ps_model.specs.declared.play.Input.TheVariants.{Up, Down, Left, Right, Action}
 use Rattle.ps_model.specs.declared.play.Key.TheVariants.{Move, Undo, Restart}
 use Rattle.ps_model.specs.board.Turns.{Script}
-use Rattle.ps_model.specs.session.Sessions.{Play, Step, remembered}
+use Rattle.ps_model.specs.session.Sessions.{Play, Step, with_board_in_history}
 use Rattle.ps_model.specs.session.StartSteps.{restarted}
 use Rattle.ps_model.specs.session.KeySteps.{input_taken, key_in_level, undone, unless_ignored}
 use Rattle.ps_session.specs.IgnoredKeys.{is_ignored_in_level}
@@ -27,5 +27,5 @@ pub undo_heeded : (script : Script) (play : Play) → script.options.no_undo ≡
 undo_heeded script play e = heeded script.options.no_undo play (λ here. undone script here) e
 
 -- a restart
-pub restart_heeded : (script : Script) (play : Play) → script.options.no_restart ≡ false → key_in_level script play Restart ≡ restarted script (remembered play) None
-restart_heeded script play e = heeded script.options.no_restart play (λ here. restarted script (remembered here) None) e
+pub restart_heeded : (script : Script) (play : Play) → script.options.no_restart ≡ false → key_in_level script play Restart ≡ restarted script (with_board_in_history play) None
+restart_heeded script play e = heeded script.options.no_restart play (λ here. restarted script (with_board_in_history here) None) e

@@ -1,5 +1,5 @@
 mod Dismissed
 mod Heeded
+mod HistoryBoards
 mod IgnoredSteps
 mod Opened
-mod Remembered

@@ -1,16 +1,16 @@
--- The undo history, as a list of entries, the oldest first.
+-- The undo history, as a list of its boards, the oldest first.
 use Rattle.std.specs.Prelude.{ℕ, ◌≡◌, All, Option, List, map}
 use Rattle.ps_model.specs.board.Grid.{Grid}
 
--- an entry: the table of its board, and the grid that it shows
-pub record PastValue : Type 0 where
+-- a board of the history: its table, and the grid that it shows
+pub record HistoryBoardValue : Type 0 where
   pub table : Option (List ℕ)
   pub grid : Grid
 
--- the grids that the entries show
-abbrev pub grids_of : List PastValue → List Grid
-grids_of history = map (λ past. past.grid) history
+-- the grids that the boards show
+abbrev pub grids_of : List HistoryBoardValue → List Grid
+grids_of history = map (λ board. board.grid) history
 
--- each entry has a board with this table
-abbrev pub AreOnTable : Option (List ℕ) → List PastValue → Type 0
-AreOnTable table history = All (λ past. past.table ≡ table) history
+-- each board has this table
+abbrev pub AreOnTable : Option (List ℕ) → List HistoryBoardValue → Type 0
+AreOnTable table history = All (λ board. board.table ≡ table) history

@@ -5,42 +5,43 @@ use Rattle.ps_model.specs.session.Sessions as model
 use Rattle.ps_model.specs.session.Sessions.{Step, quietly}
 use Rattle.ps_stage.specs.Standings.{Standing, play_of}
 use Rattle.ps_stage.specs.StepsShown.{came, stands}
-use Rattle.ps_stage.specs.Places.{place_shown, past_of}
-use Rattle.ps_stage.specs.declared.places.Past.{Past}
-use Rattle.ps_stage.specs.declared.places.Past.TheVariants.{Keeps, Remembers, Forgets}
-use Rattle.ps_stage.specs.declared.places.Pending.{Pending}
-use Rattle.ps_stage.specs.declared.places.Place.{Place}
-use Rattle.ps_stage.specs.declared.places.Place.TheVariants.{Playing, Waiting, AtMessage, Ended}
+use Rattle.ps_stage.specs.Locations.{location_shown, history_behind}
+use Rattle.ps_stage.specs.declared.locations.HistoryChange.{HistoryChange}
+use Rattle.ps_stage.specs.declared.locations.HistoryChange.TheVariants.{Keeps, Adds, Clears}
+use Rattle.ps_stage.specs.declared.locations.Pending.{Pending}
+use Rattle.ps_stage.specs.declared.locations.Location.{Location}
+use Rattle.ps_stage.specs.declared.locations.Location.TheVariants.{Playing, Waiting, AtMessage, Ended}
 use Rattle.ps_session.specs.declared.nexts.Next.{Next}
 use Rattle.ps_session.specs.declared.nexts.Next.TheVariants.{Stands, Undoes, Goes}
 
--- the level of a place as it is, where a message waits in it now, or none does
-abbrev pub stood : List Grid → Place Standing → Option Pending → model.Session
+-- the level of a location as it is, where a message waits in it now, or none does
+abbrev pub stood : List Grid → Location Standing → Option Pending → model.Session
 stood history (Playing level) pending = stands pending (play_of history level)
 stood history (Waiting level before) pending = stands pending (play_of history level)
 stood history (AtMessage entry) pending = model.AtMessage entry
 stood history (Ended ending) pending = model.Ended ending
 
--- the history behind a place without a board
-abbrev pub past_without_board : Past → List Grid → List Grid
-past_without_board Keeps history = history
-past_without_board Remembers history = history
-past_without_board Forgets history = []
+-- the history behind a location without a board
+abbrev pub history_behind_no_board : HistoryChange → List Grid → List Grid
+history_behind_no_board Keeps history = history
+history_behind_no_board Adds history = history
+history_behind_no_board Clears history = []
 
--- the history behind a place that is left
-abbrev pub past_at : Past → List Grid → Place Standing → List Grid
-past_at past history (Playing level) = past_of past history level.board
-past_at past history (Waiting level pending) = past_of past history level.board
-past_at past history (AtMessage entry) = past_without_board past history
-past_at past history (Ended ending) = past_without_board past history
+-- the history behind a location that is left
+abbrev pub history_behind_location : HistoryChange → List Grid → Location Standing → List Grid
+history_behind_location history_change history (Playing level) = history_behind history_change history level.board
+history_behind_location history_change history (Waiting level pending) = history_behind history_change history level.board
+history_behind_location history_change history (AtMessage entry) = history_behind_no_board history_change history
+history_behind_location history_change history (Ended ending) = history_behind_no_board history_change history
 
 -- the session that comes next
-abbrev pub next_shown : List Grid → Place Standing → Next Standing → model.Session
-next_shown history place (Stands pending) = stood history place pending
-next_shown history place (Undoes level) = model.Playing (play_of (take (length history - 1) history) level)
-next_shown history place (Goes next past) = place_shown (past_at past history place) next
+abbrev pub next_shown : List Grid → Location Standing → Next Standing → model.Session
+next_shown history location (Stands pending) = stood history location pending
+next_shown history location (Undoes level) = model.Playing (play_of (take (length history - 1) history) level)
+next_shown history location (Goes next history_change) =
+    location_shown (history_behind_location history_change history location) next
 
 -- what a key did, with the text that it made; an ignored key does nothing
-abbrev pub next_step : List Grid → Place Standing → Option (Next Standing) → List ℕ → Step
-next_step history place None text = quietly (place_shown history place)
-next_step history place (Some next) text = came (next_shown history place next) text
+abbrev pub next_step : List Grid → Location Standing → Option (Next Standing) → List ℕ → Step
+next_step history location None text = quietly (location_shown history location)
+next_step history location (Some next) text = came (next_shown history location next) text

@@ -3,64 +3,67 @@
 ghost use Rattle.std.specs.Prelude.{◌≡◌, ◌++◌, ℕ, [], ◌∷◌, List, Option};
 ghost use Rattle.ps_model.specs.board.Grid.{Grid};
 ghost use Rattle.ps_model.specs.declared.limits.TheConstants.{HISTORY_LIMIT};
-ghost use Rattle.ps_stage.specs.Places.{place_shown, IsOnTable};
+ghost use Rattle.ps_stage.specs.Locations.{location_shown, IsOnTable};
 ghost use Rattle.ps_stage.specs.Standings.{play_of};
 ghost use Rattle.ps_stage.specs.StepsShown.{stands};
 ghost use Rattle.ps_model.specs.session.Sessions.{kept};
 ghost use Rattle.ps_session.specs.Histories.{AreOnTable, grids_of};
-ghost use Rattle.ps_session.specs.Nexts.{next_shown, past_at, stood};
+ghost use Rattle.ps_session.specs.Nexts.{next_shown, history_behind_location, stood};
 ghost use Rattle.ps_session.specs.Tables.{ComesOnTable};
 
+use crate::history_boards::HistoryBoard;
 use crate::nexts::Next;
-use crate::past_boards::PastBoard;
 use circular_buffer::HeapCircularBuffer;
 use ps_board::Board;
 use ps_model::Ending;
-use ps_stage::{Past, Pending, Place, PlayedLevel, Stage};
+use ps_stage::{HistoryChange, Location, Pending, PlayedLevel, Stage};
 use std::mem;
 
 /// A level in which a message waits, or none.
-fn standing<B: Board>(level: PlayedLevel<B>, pending: Option<Pending>) -> Place<PlayedLevel<B>>
-    ensures shown { (history : List Grid) → place_shown history result ≡ stands pending (play_of history level) }
+fn standing<B: Board>(level: PlayedLevel<B>, pending: Option<Pending>) -> Location<PlayedLevel<B>>
+    ensures shown { (history : List Grid) → location_shown history result ≡ stands pending (play_of history level) }
     ensures table { IsOnTable level.table result }
 {
     match pending {
-        None => Place::Playing(level),
-        Some(pending) => Place::Waiting(level, pending),
+        None => Location::Playing(level),
+        Some(pending) => Location::Waiting(level, pending),
     }
 }
 
-/// A place whose level is as it was; a message waits in it now, or none does.
-fn stood<B: Board>(place: Place<PlayedLevel<B>>, pending: Option<Pending>) -> Place<PlayedLevel<B>>
-    ensures shown { (history : List Grid) → place_shown history result ≡ stood history place pending }
-    ensures table { (table : Option (List ℕ)) → IsOnTable table place → IsOnTable table result }
+/// A location whose level is as it was; a message waits in it now, or none does.
+fn stood<B: Board>(
+    location: Location<PlayedLevel<B>>,
+    pending: Option<Pending>,
+) -> Location<PlayedLevel<B>>
+    ensures shown { (history : List Grid) → location_shown history result ≡ stood history location pending }
+    ensures table { (table : Option (List ℕ)) → IsOnTable table location → IsOnTable table result }
 {
-    match place {
-        Place::Playing(level) => standing(level, pending),
-        Place::Waiting(level, _) => standing(level, pending),
-        Place::AtMessage(entry) => Place::AtMessage(entry),
-        Place::Ended(ending) => Place::Ended(ending),
+    match location {
+        Location::Playing(level) => standing(level, pending),
+        Location::Waiting(level, _) => standing(level, pending),
+        Location::AtMessage(entry) => Location::AtMessage(entry),
+        Location::Ended(ending) => Location::Ended(ending),
     }
 }
 
-/// The board of an entry that has left the history, if one has, is there to be used again.
-fn reuse<B: Board>(stage: &mut Stage<'_, B>, past: Option<PastBoard<B>>)
+/// The board that has left the history, if one has, is there to be used again.
+fn reuse<B: Board>(stage: &mut Stage<'_, B>, board: Option<HistoryBoard<B>>)
     ensures { stage.new ≡ stage.old }
 {
-    if let Some(past) = past {
-        stage.keep_board(past.into_board());
+    if let Some(board) = board {
+        stage.keep_board(board.into_board());
     }
 }
 
-/// The boards of a place that nobody is at any more are there to be used again.
-fn give_back<B: Board>(stage: &mut Stage<'_, B>, place: Place<PlayedLevel<B>>)
+/// The boards of a location that nobody is at any more are there to be used again.
+fn give_back<B: Board>(stage: &mut Stage<'_, B>, location: Location<PlayedLevel<B>>)
     ensures { stage.new ≡ stage.old }
 {
-    match place {
-        Place::Playing(level) => stage.keep_level(level),
-        Place::Waiting(level, _) => stage.keep_level(level),
-        Place::AtMessage(_) => {}
-        Place::Ended(_) => {}
+    match location {
+        Location::Playing(level) => stage.keep_level(level),
+        Location::Waiting(level, _) => stage.keep_level(level),
+        Location::AtMessage(_) => {}
+        Location::Ended(_) => {}
     }
 }
 
@@ -72,15 +75,15 @@ pub fn give_up<B: Board>(stage: &mut Stage<'_, B>, next: Next<PlayedLevel<B>>)
     match next {
         Next::Stands(_) => {}
         Next::Undoes(level) => stage.keep_level(level),
-        Next::Goes(_, Past::Forgets) => {}
-        Next::Goes(place, _) => give_back(stage, place),
+        Next::Goes(_, HistoryChange::Clears) => {}
+        Next::Goes(location, _) => give_back(stage, location),
     }
 }
 
 /// The board of a level enters the history. Of a full one the oldest board goes, to be used again.
-fn remember<B: Board>(
+fn add_to_history<B: Board>(
     stage: &mut Stage<'_, B>,
-    history: &mut HeapCircularBuffer<PastBoard<B>>,
+    history: &mut HeapCircularBuffer<HistoryBoard<B>>,
     level: PlayedLevel<B>,
 )
     requires limit { history.old.capacity ≡ HISTORY_LIMIT }
@@ -91,70 +94,71 @@ fn remember<B: Board>(
         → AreOnTable table history.new.items }
 {
     let board = stage.board_of(level);
-    let oldest = history.push_back(PastBoard::of(board));
+    let oldest = history.push_back(HistoryBoard::of(board));
     reuse(stage, oldest);
 }
 
-/// The history behind a place that is left. Boards that don't enter it are there to be used again.
+/// The history behind a location that is left. Boards that don't enter it are there to be used again.
 fn leave<B: Board>(
     stage: &mut Stage<'_, B>,
-    history: &mut HeapCircularBuffer<PastBoard<B>>,
-    place: Place<PlayedLevel<B>>,
-    past: Past,
+    history: &mut HeapCircularBuffer<HistoryBoard<B>>,
+    location: Location<PlayedLevel<B>>,
+    history_change: HistoryChange,
 )
     requires limit { history.old.capacity ≡ HISTORY_LIMIT }
     ensures stage { stage.new ≡ stage.old }
     ensures limit { history.new.capacity ≡ HISTORY_LIMIT }
-    ensures shown { grids_of history.new.items ≡ past_at past (grids_of history.old.items) place }
-    ensures boards { (table : Option (List ℕ)) → AreOnTable table history.old.items → IsOnTable table place
+    ensures shown { grids_of history.new.items
+        ≡ history_behind_location history_change (grids_of history.old.items) location }
+    ensures boards { (table : Option (List ℕ)) → AreOnTable table history.old.items → IsOnTable table location
         → AreOnTable table history.new.items }
 {
-    match past {
-        Past::Keeps => give_back(stage, place),
-        Past::Forgets => {
+    match history_change {
+        HistoryChange::Keeps => give_back(stage, location),
+        HistoryChange::Clears => {
             history.clear();
-            give_back(stage, place);
+            give_back(stage, location);
         }
-        Past::Remembers => match place {
-            Place::Playing(level) => remember(stage, history, level),
-            Place::Waiting(level, _) => remember(stage, history, level),
-            Place::AtMessage(_) => {}
-            Place::Ended(_) => {}
+        HistoryChange::Adds => match location {
+            Location::Playing(level) => add_to_history(stage, history, level),
+            Location::Waiting(level, _) => add_to_history(stage, history, level),
+            Location::AtMessage(_) => {}
+            Location::Ended(_) => {}
         },
     }
 }
 
-/// What comes next becomes the place and the history. Boards that are in neither are there to be used again.
+/// What comes next becomes the location and the history. Boards that are in neither are there to be used again.
 pub fn commit<B: Board>(
     stage: &mut Stage<'_, B>,
-    place: &mut Place<PlayedLevel<B>>,
-    history: &mut HeapCircularBuffer<PastBoard<B>>,
+    location: &mut Location<PlayedLevel<B>>,
+    history: &mut HeapCircularBuffer<HistoryBoard<B>>,
     next: Next<PlayedLevel<B>>,
 )
     requires limit { history.old.capacity ≡ HISTORY_LIMIT }
     ensures stage { stage.new ≡ stage.old }
     ensures limit { history.new.capacity ≡ HISTORY_LIMIT }
-    ensures shown { place_shown (grids_of history.new.items) place.new
-        ≡ next_shown (grids_of history.old.items) place.old next }
-    ensures place { (table : Option (List ℕ)) → IsOnTable table place.old → ComesOnTable table next
-        → IsOnTable table place.new }
-    ensures boards { (table : Option (List ℕ)) → AreOnTable table history.old.items → IsOnTable table place.old
+    ensures shown { location_shown (grids_of history.new.items) location.new
+        ≡ next_shown (grids_of history.old.items) location.old next }
+    ensures location { (table : Option (List ℕ)) → IsOnTable table location.old → ComesOnTable table next
+        → IsOnTable table location.new }
+    ensures boards { (table : Option (List ℕ)) → AreOnTable table history.old.items → IsOnTable table location.old
         → AreOnTable table history.new.items }
 {
     match next {
         Next::Stands(pending) => {
-            let before = mem::replace(place, Place::Ended(Ending::Quit));
-            *place = stood(before, pending);
+            let before = mem::replace(location, Location::Ended(Ending::Quit));
+            *location = stood(before, pending);
         }
         Next::Undoes(level) => {
             let latest = history.pop_back();
             reuse(stage, latest);
-            let before = mem::replace(place, Place::Playing(level));
+            let before = mem::replace(location, Location::Playing(level));
             give_back(stage, before);
         }
-        Next::Goes(next, past) => {
-            let before = mem::replace(place, next);
-            leave(stage, history, before, past);
+        Next::Goes(next, history_change) => {
+            let before = mem::replace(location, next);
+            leave(stage, history, before, history_change);
         }
     }
 }

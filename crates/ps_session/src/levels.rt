@@ -4,24 +4,24 @@ ghost use Rattle.std.specs.Prelude.{◌≡◌, ℕ, [], true, IfOk, List, None, 
 ghost use Rattle.ps_model.specs.board.Grid.{Grid};
 ghost use Rattle.ps_model.specs.board.Programs.{Section};
 ghost use Rattle.ps_model.specs.session.KeySteps.{input_taken, key_in_level, quit, undone};
-ghost use Rattle.ps_model.specs.session.Sessions.{remembered};
+ghost use Rattle.ps_model.specs.session.Sessions.{with_board_in_history};
 ghost use Rattle.ps_model.specs.session.StartSteps.{restarted};
 ghost use Rattle.ps_stage.specs.Standings.{play_of, script_of, script_for, Standing};
-ghost use Rattle.ps_stage.specs.declared.places.Place.{Place as MeantPlace};
-ghost use Rattle.ps_stage.specs.declared.places.Place.TheVariants.{Playing};
+ghost use Rattle.ps_stage.specs.declared.locations.Location.{Location as MeantLocation};
+ghost use Rattle.ps_stage.specs.declared.locations.Location.TheVariants.{Playing};
 ghost use Rattle.ps_session.specs.Histories.{AreOnTable, grids_of};
 ghost use Rattle.ps_session.specs.IgnoredKeys.{is_ignored_in_level};
 ghost use Rattle.ps_session.specs.Nexts.{next_step};
 ghost use Rattle.ps_session.specs.Tables.{AnswersOnTable, ComesOnTable};
 
+use crate::history_boards::HistoryBoard;
 use crate::ignored::is_ignored_in_level;
 use crate::nexts::{Next, next_of};
-use crate::past_boards::PastBoard;
 use circular_buffer::HeapCircularBuffer;
 use ps_board::Board;
 use ps_model::{Ending, Input, Key, Memory};
-use ps_stage::{Past, Place, PlayedLevel, Stage};
-use ps_turn::{Programs, Rules};
+use ps_stage::{HistoryChange, Location, PlayedLevel, Stage};
+use ps_turn::{Rules, TurnRules};
 
 /// The end that a player asks for.
 ///
@@ -31,12 +31,12 @@ use ps_turn::{Programs, Rules};
 pub fn quits<B: Board>(stage: &mut Stage<'_, B>) -> Result<Next<PlayedLevel<B>>, Memory>
     requires empty { stage.old.text ≡ [] }
     ensures game { stage.new.game ≡ stage.old.game }
-    ensures came { IfOk result (λ next. (history : List Grid) (place : MeantPlace Standing)
-        → quit ≡ next_step history place (Some next) stage.new.text) }
+    ensures came { IfOk result (λ next. (history : List Grid) (location : MeantLocation Standing)
+        → quit ≡ next_step history location (Some next) stage.new.text) }
     ensures table { IfOk result (λ next. (table : Option (List ℕ)) → ComesOnTable table next) }
 {
     stage.tell_quit()?;
-    Ok(Next::Goes(Place::Ended(Ending::Quit), Past::Forgets))
+    Ok(Next::Goes(Location::Ended(Ending::Quit), HistoryChange::Clears))
 }
 
 /// A turn with an input.
@@ -46,7 +46,7 @@ pub fn quits<B: Board>(stage: &mut Stage<'_, B>) -> Result<Next<PlayedLevel<B>>,
 /// `Memory`, and the level is as before.
 fn moves<B: Board, R: Rules<B>>(
     stage: &mut Stage<'_, B>,
-    rules: &mut Programs<R>,
+    rules: &mut TurnRules<R>,
     level: &mut PlayedLevel<B>,
     input: Input,
 ) -> Result<Next<PlayedLevel<B>>, Memory>
@@ -74,7 +74,7 @@ fn moves<B: Board, R: Rules<B>>(
 fn undoes<B: Board>(
     stage: &mut Stage<'_, B>,
     level: &PlayedLevel<B>,
-    history: &HeapCircularBuffer<PastBoard<B>>,
+    history: &HeapCircularBuffer<HistoryBoard<B>>,
 ) -> Result<Next<PlayedLevel<B>>, Memory>
     requires empty { stage.old.text ≡ [] }
     requires table { level.now.table ≡ B.table_for stage.old.game.names.layers }
@@ -101,7 +101,7 @@ fn undoes<B: Board>(
 /// `Memory`.
 fn restarts<B: Board, R: Rules<B>>(
     stage: &mut Stage<'_, B>,
-    rules: &mut Programs<R>,
+    rules: &mut TurnRules<R>,
     level: &PlayedLevel<B>,
 ) -> Result<Next<PlayedLevel<B>>, Memory>
     requires empty { stage.old.text ≡ [] }
@@ -111,12 +111,12 @@ fn restarts<B: Board, R: Rules<B>>(
     ensures late { R.meant rules.new.late ≡ R.meant rules.old.late }
     ensures came { IfOk result (λ next. (history : List Grid)
         → restarted (script_for B.table_for stage.old.game (R.meant rules.old.plain) (R.meant rules.old.late))
-        (remembered (play_of history level.now)) None
+        (with_board_in_history (play_of history level.now)) None
         ≡ next_step history (Playing level.now) (Some next) stage.new.text) }
     ensures table { IfOk result (λ next. ComesOnTable (B.table_for stage.old.game.names.layers) next) }
 {
-    let place = stage.restart(rules, level, None)?;
-    Ok(Next::Goes(place, Past::Remembers))
+    let location = stage.restart(rules, level, None)?;
+    Ok(Next::Goes(location, HistoryChange::Adds))
 }
 
 /// What a key does in a level; nothing, where it is ignored.
@@ -126,9 +126,9 @@ fn restarts<B: Board, R: Rules<B>>(
 /// `Memory`, and the level is as before.
 pub fn key_in_level<B: Board, R: Rules<B>>(
     stage: &mut Stage<'_, B>,
-    rules: &mut Programs<R>,
+    rules: &mut TurnRules<R>,
     level: &mut PlayedLevel<B>,
-    history: &HeapCircularBuffer<PastBoard<B>>,
+    history: &HeapCircularBuffer<HistoryBoard<B>>,
     key: Key,
 ) -> Result<Option<Next<PlayedLevel<B>>>, Memory>
     requires empty { stage.old.text ≡ [] }

@@ -5,7 +5,7 @@ ghost use Rattle.ps_model.specs.board.Grid.{Grid};
 ghost use Rattle.ps_model.specs.session.KeySteps.{key_at_entry, key_at_level_message};
 ghost use Rattle.ps_stage.specs.Standings.{play_of, script_for};
 ghost use Rattle.ps_stage.specs.StepsShown.{pending_shown};
-ghost use Rattle.ps_stage.specs.declared.places.Place.TheVariants.{AtMessage, Waiting};
+ghost use Rattle.ps_stage.specs.declared.locations.Location.TheVariants.{AtMessage, Waiting};
 ghost use Rattle.ps_session.specs.IgnoredKeys.{is_ignored_at_message};
 ghost use Rattle.ps_session.specs.Nexts.{next_step};
 ghost use Rattle.ps_session.specs.Tables.{AnswersOnTable};
@@ -15,8 +15,8 @@ use crate::levels::quits;
 use crate::nexts::{Next, next_of};
 use ps_board::Board;
 use ps_model::{Key, Memory};
-use ps_stage::{EntryNumber, Past, Pending, PlayedLevel, Stage};
-use ps_turn::{Programs, Rules};
+use ps_stage::{EntryNumber, HistoryChange, Pending, PlayedLevel, Stage};
+use ps_turn::{Rules, TurnRules};
 
 /// What a key does in a level whose message waits; nothing, where it is ignored.
 ///
@@ -25,7 +25,7 @@ use ps_turn::{Programs, Rules};
 /// `Memory`.
 pub fn key_at_level_message<B: Board, R: Rules<B>>(
     stage: &mut Stage<'_, B>,
-    rules: &mut Programs<R>,
+    rules: &mut TurnRules<R>,
     level: &PlayedLevel<B>,
     pending: Pending,
     key: Key,
@@ -61,7 +61,7 @@ pub fn key_at_level_message<B: Board, R: Rules<B>>(
 /// `Memory`.
 pub fn key_at_entry<B: Board, R: Rules<B>>(
     stage: &mut Stage<'_, B>,
-    rules: &mut Programs<R>,
+    rules: &mut TurnRules<R>,
     entry: &EntryNumber,
     key: Key,
 ) -> Result<Option<Next<PlayedLevel<B>>>, Memory>
@@ -83,6 +83,6 @@ pub fn key_at_entry<B: Board, R: Rules<B>>(
         let next = quits(stage)?;
         return Ok(Some(next));
     }
-    let place = stage.enter(rules, entry.next())?;
-    Ok(Some(Next::Goes(place, Past::Forgets)))
+    let location = stage.enter(rules, entry.next())?;
+    Ok(Some(Next::Goes(location, HistoryChange::Clears)))
 }

@@ -2,15 +2,15 @@
 
 ghost use Rattle.std.specs.Prelude.{◌≡◌, ℕ, List, Option};
 ghost use Rattle.ps_model.specs.board.Grid.{Grid};
-ghost use Rattle.ps_stage.specs.Places.{change_shown, GoesOnTable};
+ghost use Rattle.ps_stage.specs.Locations.{change_shown, GoesOnTable};
 ghost use Rattle.ps_stage.specs.Standings.{Standing};
-ghost use Rattle.ps_stage.specs.declared.places.Pending.{Pending as MeantPending};
-ghost use Rattle.ps_stage.specs.declared.places.Place.TheVariants.{Playing, Waiting};
+ghost use Rattle.ps_stage.specs.declared.locations.Pending.{Pending as MeantPending};
+ghost use Rattle.ps_stage.specs.declared.locations.Location.TheVariants.{Playing, Waiting};
 ghost use Rattle.ps_session.specs.Nexts.{next_shown};
 ghost use Rattle.ps_session.specs.Tables.{ComesOnTable};
 
 use ps_board::Board;
-use ps_stage::{Change, Past, Pending, Place, PlayedLevel};
+use ps_stage::{Change, HistoryChange, Location, Pending, PlayedLevel};
 
 /// What comes next, made whole before anything of a session is changed.
 #[derive(Drop)]
@@ -19,8 +19,8 @@ pub enum Next<L> {
     Stands(Option<Pending>),
     /// The level goes back to this one, which has the latest board of the history.
     Undoes(L),
-    /// Another place, and what becomes of the history.
-    Goes(Place<L>, Past),
+    /// Another location, and what becomes of the history.
+    Goes(Location<L>, HistoryChange),
 }
 
 /// What comes of a key in a level, or behind its message.
@@ -33,6 +33,6 @@ pub fn next_of<B: Board>(change: Change<PlayedLevel<B>>) -> Next<PlayedLevel<B>>
 {
     match change {
         Change::Stays(pending) => Next::Stands(pending),
-        Change::Goes(place, past) => Next::Goes(place, past),
+        Change::Goes(location, history_change) => Next::Goes(location, history_change),
     }
 }

@@ -7,10 +7,10 @@ use Rattle.ps_model.specs.session.StartSteps.{level_done, restarted}
 use Rattle.ps_turn.specs.States.{done_shown}
 use Rattle.ps_stage.specs.Standings.{Standing, with_done}
 use Rattle.ps_stage.specs.StepsShown.{came, stands}
-use Rattle.ps_stage.specs.declared.places.KeyEnd.{KeyEnd}
-use Rattle.ps_stage.specs.declared.places.KeyEnd.TheVariants.{Stops, Won, Restarts}
-use Rattle.ps_stage.specs.declared.places.KeyTold.{KeyTold}
-use Rattle.ps_stage.specs.declared.places.KeyTold.TheVariants.{Ends, GoesOn}
+use Rattle.ps_stage.specs.declared.locations.KeyEnd.{KeyEnd}
+use Rattle.ps_stage.specs.declared.locations.KeyEnd.TheVariants.{Stops, Won, Restarts}
+use Rattle.ps_stage.specs.declared.locations.KeyTold.{KeyTold}
+use Rattle.ps_stage.specs.declared.locations.KeyTold.TheVariants.{Ends, GoesOn}
 use Rattle.ps_stage.specs.declared.levels.Tried.{Tried}
 use Rattle.ps_stage.specs.declared.levels.Tried.TheVariants.{Blocked, Restarted, Done}
 

@@ -1,5 +1,5 @@
 pub mod KeysShown
-pub mod Places
+pub mod Locations
 pub mod Playable
 pub mod Standings
 pub mod StepsShown

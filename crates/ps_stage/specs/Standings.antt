@@ -45,15 +45,25 @@ pub record Standing : Type 0 where
   pub entry : ℕ
   pub table : Option (List ℕ)
   pub board : Grid
-  pub target : Grid
+  pub restart_board : Grid
 
 -- with this history
 abbrev pub play_of : List Grid → Standing → Play
-play_of history level = record { entry = level.entry; board = level.board; history = history; target = level.target }
+play_of history level = record {
+  entry = level.entry;
+  board = level.board;
+  history = history;
+  restart_board = level.restart_board;
+}
 
 -- the level behind a done turn that came to this grid
 abbrev pub with_done : Standing → DoneTurn → Grid → Standing
-with_done level done g = record { entry = level.entry; table = level.table; board = g; target = if done.checkpoint then g else level.target }
+with_done level done g = record {
+  entry = level.entry;
+  table = level.table;
+  board = g;
+  restart_board = if done.checkpoint then g else level.restart_board;
+}
 
 -- a session and the game that it is of
 pub record SessionValue : Type 0 where

@@ -12,10 +12,10 @@ use Rattle.ps_turn.specs.declared.outcomes.DoneTurn.{DoneTurn}
 use Rattle.ps_stage.specs.declared.levels.Counting.{Counting}
 use Rattle.ps_stage.specs.declared.levels.Counting.TheVariants.{Always, IfChanged, IfChangedOrWon}
 use Rattle.ps_stage.specs.Standings.{Standing, with_done}
-use Rattle.ps_stage.specs.declared.places.Pending.{Pending}
-use Rattle.ps_stage.specs.declared.places.Pending.TheVariants.{Nothing, LevelDone, KeyAgain, StartAgain}
-use Rattle.ps_stage.specs.declared.places.Told.{Told}
-use Rattle.ps_stage.specs.declared.places.Told.TheVariants.{Stops, GoesOn}
+use Rattle.ps_stage.specs.declared.locations.Pending.{Pending}
+use Rattle.ps_stage.specs.declared.locations.Pending.TheVariants.{Nothing, LevelDone, KeyAgain, StartAgain}
+use Rattle.ps_stage.specs.declared.locations.StartTold.{StartTold}
+use Rattle.ps_stage.specs.declared.locations.StartTold.TheVariants.{Stops, GoesOn}
 
 -- whether a done turn counts
 abbrev pub counts : Counting → DoneTurn → Bool
@@ -46,7 +46,7 @@ stands None play = model.Playing play
 stands (Some pending) play = model.Waiting play (pending_shown pending)
 
 -- a step that stops there, or goes on with again turns
-abbrev pub told_step : Told → Play → List ℕ → (Play → Step) → Step
+abbrev pub told_step : StartTold → Play → List ℕ → (Play → Step) → Step
 told_step (Stops pending) play text again_turns = came (stands pending play) text
 told_step GoesOn play text again_turns = after text (again_turns play)
 

@@ -8,28 +8,28 @@ ghost use Rattle.ps_model.specs.session.Sessions.{Play, after};
 ghost use Rattle.ps_model.specs.session.KeySteps.{blocked, key_told, all_key_turns, gone_on, input_taken};
 ghost use Rattle.ps_turn.specs.States.{done_shown};
 ghost use Rattle.ps_stage.specs.KeysShown.{key_end_step};
-ghost use Rattle.ps_stage.specs.Places.{change_shown, past_of, past_if, GoesOnTable};
+ghost use Rattle.ps_stage.specs.Locations.{change_shown, history_behind, history_change_if, GoesOnTable};
 ghost use Rattle.ps_stage.specs.Standings.{Standing, script_for, play_of};
 ghost use Rattle.ps_stage.specs.StepsShown.{came, stands, pending_shown};
 
-use crate::entering::placed;
+use crate::entering::located;
 use crate::levels::{PlayedLevel, Tried};
-use crate::places::{Change, KeyEnd, KeyTold, Past, Pending};
+use crate::locations::{Change, HistoryChange, KeyEnd, KeyTold, Pending};
 use crate::stage::Stage;
 use crate::starts::again_limit;
 use ps_board::Board;
 use ps_model::{Input, Memory};
 use ps_text::Text;
-use ps_turn::{DoneTurn, Programs, Rules};
+use ps_turn::{DoneTurn, Rules, TurnRules};
 
 /// What a done turn does to the history: the board before it enters, if the turn changed it.
-fn past_if(changed: bool) -> Past
-    ensures { result ≡ past_if changed }
+fn history_change_if(changed: bool) -> HistoryChange
+    ensures { result ≡ history_change_if changed }
 {
     if changed {
-        Past::Remembers
+        HistoryChange::Adds
     } else {
-        Past::Keeps
+        HistoryChange::Keeps
     }
 }
 
@@ -56,10 +56,10 @@ impl<'g, B: Board> Stage<'g, B> {
     /// Goes where the turns of a key have ended, with the history as it is then.
     fn finish_key<R: Rules<B>>(
         &mut self,
-        rules: &mut Programs<R>,
+        rules: &mut TurnRules<R>,
         level: PlayedLevel<B>,
         end: KeyEnd,
-        past: Past,
+        history_change: HistoryChange,
     ) -> Result<Change<PlayedLevel<B>>, Memory>
         requires { level.table ≡ B.table_for self.old.game.names.layers }
         ensures game { self.new.game ≡ self.old.game }
@@ -68,20 +68,20 @@ impl<'g, B: Board> Stage<'g, B> {
         ensures table { IfOk result (λ change. GoesOnTable (B.table_for self.old.game.names.layers) change) }
         ensures came { IfOk result (λ change. (history : List Grid) (first : Standing)
             → key_end_step (script_for B.table_for self.old.game (R.meant rules.old.plain) (R.meant rules.old.late))
-            end (play_of (past_of past history first.board) level) self.old.text
+            end (play_of (history_behind history_change history first.board) level) self.old.text
             ≡ came (change_shown history first change) self.new.text) }
     {
         match end {
-            KeyEnd::Stops(pending) => Ok(Change::Goes(placed(level, pending), past)),
+            KeyEnd::Stops(pending) => Ok(Change::Goes(located(level, pending), history_change)),
             KeyEnd::Won => {
-                let place = self.level_done(rules, &level);
+                let location = self.level_done(rules, &level);
                 self.keep_level(level);
-                Ok(Change::Goes(place?, Past::Forgets))
+                Ok(Change::Goes(location?, HistoryChange::Clears))
             }
             KeyEnd::Restarts(message) => {
-                let place = self.restart(rules, &level, message);
+                let location = self.restart(rules, &level, message);
                 self.keep_level(level);
-                Ok(Change::Goes(place?, past))
+                Ok(Change::Goes(location?, history_change))
             }
         }
     }
@@ -90,7 +90,7 @@ impl<'g, B: Board> Stage<'g, B> {
     /// that follow.
     fn end_key<R: Rules<B>>(
         &mut self,
-        rules: &mut Programs<R>,
+        rules: &mut TurnRules<R>,
         level: &mut PlayedLevel<B>,
         done: &DoneTurn,
     ) -> Result<KeyEnd, Memory>
@@ -121,7 +121,7 @@ impl<'g, B: Board> Stage<'g, B> {
     /// again turns. If memory is wanting, the boards of the level are spare.
     fn follow_key<R: Rules<B>>(
         &mut self,
-        rules: &mut Programs<R>,
+        rules: &mut TurnRules<R>,
         mut level: PlayedLevel<B>,
         done: &DoneTurn,
     ) -> Result<Change<PlayedLevel<B>>, Memory>
@@ -133,14 +133,14 @@ impl<'g, B: Board> Stage<'g, B> {
         ensures came { IfOk result (λ change. (history : List Grid) (first : Standing)
             → after self.old.text (after (frame self.old.game.names level.board)
             (key_told (script_for B.table_for self.old.game (R.meant rules.old.plain) (R.meant rules.old.late))
-            (play_of (past_of (past_if done.now.changed) history first.board) level)
+            (play_of (history_behind (history_change_if done.now.changed) history first.board) level)
             (done_shown done.now level.board) AGAIN_LIMIT
             (all_key_turns (script_for B.table_for self.old.game (R.meant rules.old.plain) (R.meant rules.old.late)))))
             ≡ came (change_shown history first change) self.new.text) }
     {
-        let past = past_if(done.changed);
+        let history_change = history_change_if(done.changed);
         match self.end_key(rules, &mut level, done) {
-            Ok(end) => self.finish_key(rules, level, end, past),
+            Ok(end) => self.finish_key(rules, level, end, history_change),
             Err(Memory) => {
                 self.keep_level(level);
                 Err(Memory)
@@ -156,7 +156,7 @@ impl<'g, B: Board> Stage<'g, B> {
     /// `Memory`, and a part of the text may have been made.
     pub fn take_input<R: Rules<B>>(
         &mut self,
-        rules: &mut Programs<R>,
+        rules: &mut TurnRules<R>,
         level: &mut PlayedLevel<B>,
         input: Input,
     ) -> Result<Change<PlayedLevel<B>>, Memory>
@@ -177,8 +177,8 @@ impl<'g, B: Board> Stage<'g, B> {
                 Ok(Change::Stays(pending))
             }
             Tried::Restarted(message) => {
-                let place = self.restart(rules, level, message)?;
-                Ok(Change::Goes(place, Past::Remembers))
+                let location = self.restart(rules, level, message)?;
+                Ok(Change::Goes(location, HistoryChange::Adds))
             }
             Tried::Done(next, done) => {
                 let change = self.follow_key(rules, next, &done)?;
@@ -195,7 +195,7 @@ impl<'g, B: Board> Stage<'g, B> {
     /// `Memory`, and a part of the text may have been made.
     pub fn go_on<R: Rules<B>>(
         &mut self,
-        rules: &mut Programs<R>,
+        rules: &mut TurnRules<R>,
         level: &PlayedLevel<B>,
         pending: Pending,
     ) -> Result<Change<PlayedLevel<B>>, Memory>
@@ -212,18 +212,18 @@ impl<'g, B: Board> Stage<'g, B> {
         match pending {
             Pending::Nothing => Ok(Change::Stays(None)),
             Pending::LevelDone => {
-                let place = self.level_done(rules, level)?;
-                Ok(Change::Goes(place, Past::Forgets))
+                let location = self.level_done(rules, level)?;
+                Ok(Change::Goes(location, HistoryChange::Clears))
             }
             Pending::KeyAgain(left) => {
                 let mut next = level.try_copy(self.alloc, &mut self.spares)?;
                 let end = self.key_turns(rules, &mut next, left)?;
-                self.finish_key(rules, next, end, Past::Keeps)
+                self.finish_key(rules, next, end, HistoryChange::Keeps)
             }
             Pending::StartAgain(left) => {
                 let mut next = level.try_copy(self.alloc, &mut self.spares)?;
                 let pending = self.start_turns(rules, &mut next, left)?;
-                Ok(Change::Goes(placed(next, pending), Past::Keeps))
+                Ok(Change::Goes(located(next, pending), HistoryChange::Keeps))
             }
         }
     }

@@ -9,17 +9,17 @@ ghost use Rattle.ps_levels.specs.EntriesShown.{entry_shown, entries_shown};
 ghost use Rattle.ps_stage.specs.Playable.{IsPlayable};
 ghost use Rattle.ps_stage.specs.Standings.{script_of, script_for, play_of};
 ghost use Rattle.ps_stage.specs.StepsShown.{came, stands};
-ghost use Rattle.ps_stage.specs.Places.{place_shown, IsOnTable};
+ghost use Rattle.ps_stage.specs.Locations.{location_shown, IsOnTable};
 
 use crate::entries::EntryNumber;
 use crate::levels::PlayedLevel;
-use crate::places::{Pending, Place};
+use crate::locations::{Location, Pending};
 use crate::stage::Stage;
 use ps_board::Board;
 use ps_levels::{Entry, Level};
 use ps_model::{Ending, Memory};
 use ps_text::Text;
-use ps_turn::{Programs, Rules};
+use ps_turn::{Rules, TurnRules};
 
 /// One for an entry that is a level, and nothing for a message.
 fn level_count(entry: &Entry) -> usize
@@ -55,16 +55,16 @@ fn level_number(entries: &[Entry], entry: &EntryNumber) -> usize
 }
 
 /// A level in which a message waits, or none.
-pub(crate) fn placed<B: Board>(
+pub(crate) fn located<B: Board>(
     level: PlayedLevel<B>,
     pending: Option<Pending>,
-) -> Place<PlayedLevel<B>>
-    ensures shown { (history : List Grid) → place_shown history result ≡ stands pending (play_of history level) }
+) -> Location<PlayedLevel<B>>
+    ensures shown { (history : List Grid) → location_shown history result ≡ stands pending (play_of history level) }
     ensures table { (table : Option (List ℕ)) → level.table ≡ table → IsOnTable table result }
 {
     match pending {
-        None => Place::Playing(level),
-        Some(pending) => Place::Waiting(level, pending),
+        None => Location::Playing(level),
+        Some(pending) => Location::Waiting(level, pending),
     }
 }
 
@@ -72,21 +72,21 @@ impl<'g, B: Board> Stage<'g, B> {
     /// A level begins: its line, and its start.
     fn enter_level<R: Rules<B>>(
         &mut self,
-        rules: &mut Programs<R>,
+        rules: &mut TurnRules<R>,
         number: usize,
         entry: EntryNumber,
         level: &Level,
-    ) -> Result<Place<PlayedLevel<B>>, Memory>
+    ) -> Result<Location<PlayedLevel<B>>, Memory>
         requires playable { IsPlayable self.old.game.names level.now }
         requires number { number ≡ level_number (script_of self.old.game [] []) entry }
         ensures game { self.new.game ≡ self.old.game }
         ensures plain { R.meant rules.new.plain ≡ R.meant rules.old.plain }
         ensures late { R.meant rules.new.late ≡ R.meant rules.old.late }
-        ensures table { IfOk result (λ place. IsOnTable (B.table_for self.old.game.names.layers) place) }
-        ensures came { IfOk result (λ place. after self.old.text
+        ensures table { IfOk result (λ location. IsOnTable (B.table_for self.old.game.names.layers) location) }
+        ensures came { IfOk result (λ location. after self.old.text
             (entered (script_for B.table_for self.old.game (R.meant rules.old.plain) (R.meant rules.old.late))
             entry (Some (LevelEntry level.now)))
-            ≡ came (place_shown [] place) self.new.text) }
+            ≡ came (location_shown [] location) self.new.text) }
     {
         self.text.add_level(self.alloc, number)?;
         let mut played: PlayedLevel<B> = PlayedLevel::load(
@@ -97,7 +97,7 @@ impl<'g, B: Board> Stage<'g, B> {
             level,
         )?;
         let pending = self.start_step(rules, &mut played, None)?;
-        Ok(placed(played, pending))
+        Ok(located(played, pending))
     }
 
     /// An entry begins: a message waits, a level starts; behind the last entry is the end.
@@ -107,32 +107,32 @@ impl<'g, B: Board> Stage<'g, B> {
     /// `Memory`, and a part of the text may have been made.
     pub fn enter<R: Rules<B>>(
         &mut self,
-        rules: &mut Programs<R>,
+        rules: &mut TurnRules<R>,
         entry: usize,
-    ) -> Result<Place<PlayedLevel<B>>, Memory>
+    ) -> Result<Location<PlayedLevel<B>>, Memory>
         ensures game { self.new.game ≡ self.old.game }
         ensures plain { R.meant rules.new.plain ≡ R.meant rules.old.plain }
         ensures late { R.meant rules.new.late ≡ R.meant rules.old.late }
-        ensures table { IfOk result (λ place. IsOnTable (B.table_for self.old.game.names.layers) place) }
-        ensures came { IfOk result (λ place. after self.old.text
+        ensures table { IfOk result (λ location. IsOnTable (B.table_for self.old.game.names.layers) location) }
+        ensures came { IfOk result (λ location. after self.old.text
             (enter (script_for B.table_for self.old.game (R.meant rules.old.plain) (R.meant rules.old.late)) entry)
-            ≡ came (place_shown [] place) self.new.text) }
+            ≡ came (location_shown [] location) self.new.text) }
     {
         let entries = self.entries();
         if entries.len() <= entry {
             self.text.add(b"* the end\n")?;
-            return Ok(Place::Ended(Ending::TheEnd));
+            return Ok(Location::Ended(Ending::TheEnd));
         }
         let number = EntryNumber::new(entry);
         match &entries[entry] {
             Entry::Message(text) => {
                 self.tell(text.as_str())?;
-                Ok(Place::AtMessage(number))
+                Ok(Location::AtMessage(number))
             }
             Entry::Level(level) => {
                 let count = level_number(entries, &number);
-                let place = self.enter_level(rules, count, number, level)?;
-                Ok(place)
+                let location = self.enter_level(rules, count, number, level)?;
+                Ok(location)
             }
         }
     }
@@ -144,23 +144,23 @@ impl<'g, B: Board> Stage<'g, B> {
     /// `Memory`, and a part of the text may have been made.
     pub fn level_done<R: Rules<B>>(
         &mut self,
-        rules: &mut Programs<R>,
+        rules: &mut TurnRules<R>,
         level: &PlayedLevel<B>,
-    ) -> Result<Place<PlayedLevel<B>>, Memory>
+    ) -> Result<Location<PlayedLevel<B>>, Memory>
         ensures game { self.new.game ≡ self.old.game }
         ensures plain { R.meant rules.new.plain ≡ R.meant rules.old.plain }
         ensures late { R.meant rules.new.late ≡ R.meant rules.old.late }
-        ensures table { IfOk result (λ place. IsOnTable (B.table_for self.old.game.names.layers) place) }
-        ensures came { IfOk result (λ place. (history : List Grid) → after self.old.text
+        ensures table { IfOk result (λ location. IsOnTable (B.table_for self.old.game.names.layers) location) }
+        ensures came { IfOk result (λ location. (history : List Grid) → after self.old.text
             (level_done (script_for B.table_for self.old.game (R.meant rules.old.plain) (R.meant rules.old.late))
             (play_of history level.now))
-            ≡ came (place_shown [] place) self.new.text) }
+            ≡ came (location_shown [] location) self.new.text) }
     {
         let entry = level.entry();
         let number = level_number(self.entries(), &entry);
         self.text.add_level_done(self.alloc, number)?;
-        let place = self.enter(rules, entry.next())?;
-        Ok(place)
+        let location = self.enter(rules, entry.next())?;
+        Ok(location)
     }
 
     /// A level restarts: it begins at the board that a restart goes back to, with a message from before or without one.
@@ -171,23 +171,23 @@ impl<'g, B: Board> Stage<'g, B> {
     /// `Memory`, and a part of the text may have been made.
     pub fn restart<R: Rules<B>>(
         &mut self,
-        rules: &mut Programs<R>,
+        rules: &mut TurnRules<R>,
         level: &PlayedLevel<B>,
         message: Option<Text>,
-    ) -> Result<Place<PlayedLevel<B>>, Memory>
+    ) -> Result<Location<PlayedLevel<B>>, Memory>
         requires { level.now.table ≡ B.table_for self.old.game.names.layers }
         ensures game { self.new.game ≡ self.old.game }
         ensures plain { R.meant rules.new.plain ≡ R.meant rules.old.plain }
         ensures late { R.meant rules.new.late ≡ R.meant rules.old.late }
-        ensures table { IfOk result (λ place. IsOnTable (B.table_for self.old.game.names.layers) place) }
-        ensures came { IfOk result (λ place. (history : List Grid) → after self.old.text
+        ensures table { IfOk result (λ location. IsOnTable (B.table_for self.old.game.names.layers) location) }
+        ensures came { IfOk result (λ location. (history : List Grid) → after self.old.text
             (restarted (script_for B.table_for self.old.game (R.meant rules.old.plain) (R.meant rules.old.late))
             (play_of history level.now) message)
-            ≡ came (place_shown history place) self.new.text) }
+            ≡ came (location_shown history location) self.new.text) }
     {
         let mut again = level.restarted(self.alloc, &mut self.spares)?;
         match self.start_step(rules, &mut again, message) {
-            Ok(pending) => Ok(placed(again, pending)),
+            Ok(pending) => Ok(located(again, pending)),
             Err(Memory) => {
                 self.keep_level(again);
                 Err(Memory)

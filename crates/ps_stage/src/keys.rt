@@ -12,12 +12,12 @@ ghost use Rattle.ps_stage.specs.Standings.{script_for, play_of};
 ghost use Rattle.ps_stage.specs.StepsShown.{pending_shown};
 
 use crate::levels::{Counting, PlayedLevel};
-use crate::places::{KeyEnd, KeyTold, Pending};
+use crate::locations::{KeyEnd, KeyTold, Pending};
 use crate::stage::Stage;
 use crate::starts::again_limit;
 use ps_board::Board;
 use ps_model::Memory;
-use ps_turn::{DoneTurn, Programs, Rules, Turned};
+use ps_turn::{DoneTurn, Rules, TurnRules, Turned};
 
 /// What a turn of a key leaves to come behind its message.
 fn key_pending(win: bool, again: bool, left: u32) -> Pending
@@ -75,7 +75,7 @@ impl<'g, B: Board> Stage<'g, B> {
     /// them; so does a restart.
     fn key_turn<R: Rules<B>>(
         &mut self,
-        rules: &mut Programs<R>,
+        rules: &mut TurnRules<R>,
         level: &mut PlayedLevel<B>,
         left: u32,
     ) -> Result<KeyTold, Memory>
@@ -115,7 +115,7 @@ impl<'g, B: Board> Stage<'g, B> {
     /// The again turns of a key, so many at most.
     pub(crate) fn key_turns<R: Rules<B>>(
         &mut self,
-        rules: &mut Programs<R>,
+        rules: &mut TurnRules<R>,
         level: &mut PlayedLevel<B>,
         most: u32,
     ) -> Result<KeyEnd, Memory>
@@ -144,7 +144,7 @@ impl<'g, B: Board> Stage<'g, B> {
     /// The again turns of a key, as many as there may be.
     pub(crate) fn all_key_turns<R: Rules<B>>(
         &mut self,
-        rules: &mut Programs<R>,
+        rules: &mut TurnRules<R>,
         level: &mut PlayedLevel<B>,
     ) -> Result<KeyEnd, Memory>
         requires { level.old.table ≡ B.table_for self.old.game.names.layers }

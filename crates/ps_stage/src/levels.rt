@@ -19,7 +19,7 @@ use ps_levels::Level;
 use ps_model::{Input, Memory};
 use ps_names::Names;
 use ps_text::Text;
-use ps_turn::{DoneTurn, Programs, Rules, Turned, turn};
+use ps_turn::{DoneTurn, Rules, TurnRules, Turned, turn};
 use std::alloc::Global;
 use std::marker::Model;
 use std::mem;
@@ -33,7 +33,7 @@ pub struct PlayedLevel<B: Board> {
     entry: EntryNumber,
     board: B,
     spare: Option<B>,
-    target: Rc<B, Global>,
+    restart_board: Rc<B, Global>,
 }
 
 impl<B: Board> Model for PlayedLevel<B> {
@@ -46,12 +46,12 @@ impl<B: Board> Model for PlayedLevel<B> {
       entry = l.entry;
       table = B.table l.board;
       board = B.grid l.board;
-      target = B.grid l.target.value;
+      restart_board = B.grid l.restart_board.value;
     } };
 
     ghost invariant = { λ l. IfSome l.spare (λ spare. B.grid spare ≡ B.grid l.board)
         × (IfSome l.spare (λ spare. B.table spare ≡ B.table l.board)
-        × (B.table l.target.value ≡ B.table l.board)) };
+        × (B.table l.restart_board.value ≡ B.table l.board)) };
 }
 
 /// Which done turns count. One that doesn't is as if not run.
@@ -94,7 +94,7 @@ pub enum Tried<L> {
 /// `Memory`, and the second board is equal to the first again.
 fn run_turn<B: Board, R: Rules<B>>(
     game: &SessionGame<'_>,
-    rules: &mut Programs<R>,
+    rules: &mut TurnRules<R>,
     input: Option<Input>,
     before: &B,
     after: &mut B,
@@ -147,15 +147,15 @@ fn boards_beside<B: Board>(
     alloc: Global,
     spares: &mut SpareBoards<B>,
     board: &B,
-    target: &Rc<B, Global>,
+    restart_board: &Rc<B, Global>,
 ) -> Result<(B, Rc<B, Global>), Memory>
     ensures spare { IfOk result (λ both. B.grid both.0 ≡ B.grid board.now) }
     ensures spare_table { IfOk result (λ both. B.table both.0 ≡ B.table board.now) }
-    ensures target { IfOk result (λ both. both.1.value ≡ target.now.value) }
+    ensures restart_board { IfOk result (λ both. both.1.value ≡ restart_board.now.value) }
 {
-    let target = target.clone()?;
+    let restart_board = restart_board.clone()?;
     let spare = spares.copy_of(alloc, board)?;
-    Ok((spare, target))
+    Ok((spare, restart_board))
 }
 
 /// A level of these boards: the first is copied, and the second shared.
@@ -168,21 +168,21 @@ fn level_of<B: Board>(
     spares: &mut SpareBoards<B>,
     entry: EntryNumber,
     board: &B,
-    target: &Rc<B, Global>,
+    restart_board: &Rc<B, Global>,
 ) -> Result<PlayedLevel<B>, Memory>
-    requires { B.table target.now.value ≡ B.table board.now }
+    requires { B.table restart_board.now.value ≡ B.table board.now }
     ensures entry { IfOk result (λ level. level.entry ≡ entry) }
     ensures table { IfOk result (λ level. level.table ≡ B.table board.now) }
     ensures board { IfOk result (λ level. level.board ≡ B.grid board.now) }
-    ensures target { IfOk result (λ level. level.target ≡ B.grid target.now.value) }
+    ensures restart_board { IfOk result (λ level. level.restart_board ≡ B.grid restart_board.now.value) }
 {
     let copy = spares.copy_of(alloc, board)?;
-    match boards_beside(alloc, spares, board, target) {
-        Ok((spare, target)) => Ok(PlayedLevel {
+    match boards_beside(alloc, spares, board, restart_board) {
+        Ok((spare, restart_board)) => Ok(PlayedLevel {
             entry,
             board: copy,
             spare: Some(spare),
-            target,
+            restart_board,
         }),
         Err(Memory) => {
             spares.keep(copy);
@@ -197,20 +197,20 @@ fn level_of<B: Board>(
 /// # Errors
 ///
 /// `Memory`.
-fn target_behind<B: Board>(
+fn restart_board_behind<B: Board>(
     alloc: Global,
     spares: &mut SpareBoards<B>,
     board: &B,
-    target: &Rc<B, Global>,
+    restart_board: &Rc<B, Global>,
     done: &DoneTurn,
 ) -> Result<Rc<B, Global>, Memory>
-    requires { B.table target.now.value ≡ B.table board.now }
+    requires { B.table restart_board.now.value ≡ B.table board.now }
     ensures grid { IfOk result (λ next. B.grid next.value
-        ≡ (if done.now.checkpoint then B.grid board.now else B.grid target.now.value)) }
+        ≡ (if done.now.checkpoint then B.grid board.now else B.grid restart_board.now.value)) }
     ensures table { IfOk result (λ next. B.table next.value ≡ B.table board.now) }
 {
     if !done.checkpoint {
-        let same = target.clone()?;
+        let same = restart_board.clone()?;
         return Ok(same);
     }
     let copy = spares.copy_of(alloc, board)?;
@@ -228,19 +228,19 @@ fn boards_behind<B: Board>(
     alloc: Global,
     spares: &mut SpareBoards<B>,
     board: &B,
-    target: &Rc<B, Global>,
+    restart_board: &Rc<B, Global>,
     done: &DoneTurn,
 ) -> Result<(B, Rc<B, Global>), Memory>
-    requires { B.table target.now.value ≡ B.table board.now }
+    requires { B.table restart_board.now.value ≡ B.table board.now }
     ensures spare { IfOk result (λ both. B.grid both.0 ≡ B.grid board.now) }
     ensures spare_table { IfOk result (λ both. B.table both.0 ≡ B.table board.now) }
     ensures grid { IfOk result (λ both. B.grid both.1.value
-        ≡ (if done.now.checkpoint then B.grid board.now else B.grid target.now.value)) }
+        ≡ (if done.now.checkpoint then B.grid board.now else B.grid restart_board.now.value)) }
     ensures table { IfOk result (λ both. B.table both.1.value ≡ B.table board.now) }
 {
-    let target = target_behind(alloc, spares, board, target, done)?;
+    let restart_board = restart_board_behind(alloc, spares, board, restart_board, done)?;
     let spare = spares.copy_of(alloc, board)?;
-    Ok((spare, target))
+    Ok((spare, restart_board))
 }
 
 impl<B: Board> PlayedLevel<B> {
@@ -260,17 +260,17 @@ impl<B: Board> PlayedLevel<B> {
         ensures entry { IfOk result (λ played. played.entry ≡ entry) }
         ensures table { IfOk result (λ played. played.table ≡ B.table_for names.now.layers) }
         ensures board { IfOk result (λ played. played.board ≡ loaded names.now level.now) }
-        ensures target { IfOk result (λ played. played.target ≡ loaded names.now level.now) }
+        ensures restart_board { IfOk result (λ played. played.restart_board ≡ loaded names.now level.now) }
     {
         let board: B = load(alloc, names, level)?;
         let spare = spares.copy_of(alloc, &board)?;
         let copy = spares.copy_of(alloc, &board)?;
-        let target = Rc::new(alloc, copy)?;
+        let restart_board = Rc::new(alloc, copy)?;
         Ok(PlayedLevel {
             entry,
             board,
             spare: Some(spare),
-            target,
+            restart_board,
         })
     }
 
@@ -291,7 +291,7 @@ impl<B: Board> PlayedLevel<B> {
             spares,
             self.entry.copied(),
             &self.board,
-            &self.target,
+            &self.restart_board,
         )
     }
 
@@ -310,9 +310,15 @@ impl<B: Board> PlayedLevel<B> {
         ensures entry { IfOk result (λ copy. copy.entry ≡ self.now.entry) }
         ensures table { IfOk result (λ copy. copy.table ≡ self.now.table) }
         ensures board { IfOk result (λ copy. copy.board ≡ B.grid other.now) }
-        ensures target { IfOk result (λ copy. copy.target ≡ self.now.target) }
+        ensures restart_board { IfOk result (λ copy. copy.restart_board ≡ self.now.restart_board) }
     {
-        level_of(alloc, spares, self.entry.copied(), other, &self.target)
+        level_of(
+            alloc,
+            spares,
+            self.entry.copied(),
+            other,
+            &self.restart_board,
+        )
     }
 
     /// The level at the board that a restart goes back to.
@@ -327,10 +333,10 @@ impl<B: Board> PlayedLevel<B> {
     ) -> Result<PlayedLevel<B>, Memory>
         ensures entry { IfOk result (λ copy. copy.entry ≡ self.now.entry) }
         ensures table { IfOk result (λ copy. copy.table ≡ self.now.table) }
-        ensures board { IfOk result (λ copy. copy.board ≡ self.now.target) }
-        ensures target { IfOk result (λ copy. copy.target ≡ self.now.target) }
+        ensures board { IfOk result (λ copy. copy.board ≡ self.now.restart_board) }
+        ensures restart_board { IfOk result (λ copy. copy.restart_board ≡ self.now.restart_board) }
     {
-        self.with_board(alloc, spares, &self.target)
+        self.with_board(alloc, spares, &self.restart_board)
     }
 
     /// The place of its entry.
@@ -368,7 +374,7 @@ impl<B: Board> PlayedLevel<B> {
         alloc: Global,
         spares: &mut SpareBoards<B>,
         game: &SessionGame<'_>,
-        rules: &mut Programs<R>,
+        rules: &mut TurnRules<R>,
         input: Option<Input>,
         counting: Counting,
     ) -> Result<Turned, Memory>
@@ -402,7 +408,13 @@ impl<B: Board> PlayedLevel<B> {
         mem::swap(&mut self.board, &mut spare);
         self.board.copy_into(&mut spare);
         self.spare = Some(spare);
-        self.target = target_behind(alloc, spares, &self.board, &self.target, done)?;
+        self.restart_board = restart_board_behind(
+            alloc,
+            spares,
+            &self.board,
+            &self.restart_board,
+            done,
+        )?;
         Ok(turned)
     }
 
@@ -418,7 +430,7 @@ impl<B: Board> PlayedLevel<B> {
         alloc: Global,
         spares: &mut SpareBoards<B>,
         game: &SessionGame<'_>,
-        rules: &mut Programs<R>,
+        rules: &mut TurnRules<R>,
         input: Input,
     ) -> Result<Tried<PlayedLevel<B>>, Memory>
         requires { self.old.table ≡ B.table_for game.now.names.layers }
@@ -446,13 +458,13 @@ impl<B: Board> PlayedLevel<B> {
                 return Err(Memory);
             }
         };
-        match boards_behind(alloc, spares, &spare, &self.target, &done) {
-            Ok((copy, target)) => {
+        match boards_behind(alloc, spares, &spare, &self.restart_board, &done) {
+            Ok((copy, restart_board)) => {
                 let next = PlayedLevel {
                     entry: self.entry.copied(),
                     board: spare,
                     spare: Some(copy),
-                    target,
+                    restart_board,
                 };
                 Ok(Tried::Done(next, done))
             }

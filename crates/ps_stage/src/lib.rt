@@ -2,8 +2,8 @@
 //! and at keys, restarts, and what comes behind a message that is dismissed.
 //!
 //! A [`Stage`] makes the text of a step on the side, and a step leaves the level that it starts from as it is: what
-//! comes of it is a [`Place`] or a [`Change`] with boards of its own. So a step that wants memory has changed nothing
-//! that is seen.
+//! comes of it is a [`Location`] or a [`Change`] with boards of its own. So a step that wants memory has changed
+//! nothing that is seen.
 #![tactic(auto)]
 
 mod changes;
@@ -13,7 +13,7 @@ mod game;
 mod keys;
 mod levels;
 mod loading;
-mod places;
+mod locations;
 mod spares;
 mod stage;
 mod starts;
@@ -21,8 +21,8 @@ mod starts;
 pub use entries::EntryNumber;
 pub use game::SessionGame;
 pub use levels::PlayedLevel;
-pub use places::{Change, Past, Pending, Place};
+pub use locations::{Change, HistoryChange, Location, Pending};
 pub use ps_board::Board;
 pub use ps_model::{Ending, Input, Memory, Options};
-pub use ps_turn::{Programs, Rules};
+pub use ps_turn::{Rules, TurnRules};
 pub use stage::Stage;

@@ -12,11 +12,11 @@ use crate::spares::SpareBoards;
 use ps_board::Board;
 use ps_levels::Entry;
 use ps_model::Memory;
-use ps_screen::{Picture, Screen};
+use ps_screen::{OutputText, Picture};
 use std::alloc::Global;
 use std::marker::Model;
 
-/// A game in play, its picture, boards to be used again, and the text that a key makes. The text goes to the screen
+/// A game in play, its picture, boards to be used again, and the text that a key makes. The text goes to the output
 /// when all else is done, so that a key which fails writes nothing.
 #[derive(Drop)]
 pub struct Stage<'g, B: Board> {
@@ -24,7 +24,7 @@ pub struct Stage<'g, B: Board> {
     pub(crate) game: SessionGame<'g>,
     picture: Picture<'g, B>,
     pub(crate) spares: SpareBoards<B>,
-    pub(crate) text: Screen,
+    pub(crate) text: OutputText,
 }
 
 impl<'g, B: Board> Model for Stage<'g, B> {
@@ -50,7 +50,7 @@ impl<'g, B: Board> Stage<'g, B> {
             game,
             picture,
             spares: SpareBoards::none(),
-            text: Screen::new(alloc),
+            text: OutputText::new(alloc),
         }
     }
 
@@ -155,7 +155,7 @@ impl<'g, B: Board> Stage<'g, B> {
         ensures entry { IfOk result (λ back. back.entry ≡ level.now.entry) }
         ensures table { IfOk result (λ back. back.table ≡ level.now.table) }
         ensures board { IfOk result (λ back. back.board ≡ B.grid board.now) }
-        ensures target { IfOk result (λ back. back.target ≡ level.now.target) }
+        ensures restart_board { IfOk result (λ back. back.restart_board ≡ level.now.restart_board) }
     {
         level.with_board(self.alloc, &mut self.spares, board)
     }

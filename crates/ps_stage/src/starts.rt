@@ -11,12 +11,12 @@ ghost use Rattle.ps_stage.specs.Standings.{script_for, play_of};
 ghost use Rattle.ps_stage.specs.StepsShown.{told_step, start_shown, came, stands, pending_shown};
 
 use crate::levels::{Counting, PlayedLevel};
-use crate::places::{Pending, Told};
+use crate::locations::{Pending, StartTold};
 use crate::stage::Stage;
 use ps_board::Board;
 use ps_model::{AGAIN_LIMIT, Memory};
 use ps_text::Text;
-use ps_turn::{DoneTurn, Programs, Rules, Turned};
+use ps_turn::{DoneTurn, Rules, TurnRules, Turned};
 
 /// What the turn of a start leaves to come behind its message.
 fn start_pending(again: bool, left: u32) -> Pending
@@ -49,7 +49,12 @@ pub(crate) fn again_limit() -> u32
 impl<'g, B: Board> Stage<'g, B> {
     /// Tells what comes behind a frame of a start: a message waits; without one the again turns come, if the turn is to
     /// come again.
-    fn tell_start(&mut self, message: &Option<Text>, again: bool, left: u32) -> Result<Told, Memory>
+    fn tell_start(
+        &mut self,
+        message: &Option<Text>,
+        again: bool,
+        left: u32,
+    ) -> Result<StartTold, Memory>
         ensures game { self.new.game ≡ self.old.game }
         ensures told { IfOk result (λ told. (play : Play) (turns : Play → Step)
             → after self.old.text (start_told play message.now again left turns)
@@ -57,12 +62,12 @@ impl<'g, B: Board> Stage<'g, B> {
     {
         if let Some(message) = message {
             self.tell(message.as_str())?;
-            return Ok(Told::Stops(Some(start_pending(again, left))));
+            return Ok(StartTold::Stops(Some(start_pending(again, left))));
         }
         if again {
-            return Ok(Told::GoesOn);
+            return Ok(StartTold::GoesOn);
         }
-        Ok(Told::Stops(None))
+        Ok(StartTold::Stops(None))
     }
 
     /// Shows the board behind a done turn of a start, if the turn changed it, and tells what comes behind the frame.
@@ -71,14 +76,14 @@ impl<'g, B: Board> Stage<'g, B> {
         level: &PlayedLevel<B>,
         done: &DoneTurn,
         left: u32,
-    ) -> Result<Told, Memory>
+    ) -> Result<StartTold, Memory>
         ensures game { self.new.game ≡ self.old.game }
         ensures told { IfOk result (λ told. (history : List Grid) (turns : Play → Step)
             → after self.old.text (start_shown self.old.game.names (play_of history level.now) done.now left turns)
             ≡ told_step told (play_of history level.now) self.new.text turns) }
     {
         if !done.changed {
-            return Ok(Told::Stops(None));
+            return Ok(StartTold::Stops(None));
         }
         self.show(level.board())?;
         self.tell_start(&done.message, done.again, left)
@@ -87,10 +92,10 @@ impl<'g, B: Board> Stage<'g, B> {
     /// One again turn of a start: one that leaves the board as it was is as if not run, and ends them.
     fn start_turn<R: Rules<B>>(
         &mut self,
-        rules: &mut Programs<R>,
+        rules: &mut TurnRules<R>,
         level: &mut PlayedLevel<B>,
         left: u32,
-    ) -> Result<Told, Memory>
+    ) -> Result<StartTold, Memory>
         requires { level.old.table ≡ B.table_for self.old.game.names.layers }
         ensures game { self.new.game ≡ self.old.game }
         ensures plain { R.meant rules.new.plain ≡ R.meant rules.old.plain }
@@ -112,8 +117,8 @@ impl<'g, B: Board> Stage<'g, B> {
             Counting::IfChanged,
         )?;
         match turned {
-            Turned::Blocked(_) => Ok(Told::Stops(None)),
-            Turned::Restarted(_) => Ok(Told::Stops(None)),
+            Turned::Blocked(_) => Ok(StartTold::Stops(None)),
+            Turned::Restarted(_) => Ok(StartTold::Stops(None)),
             Turned::Done(done) => self.tell_start_turn(level, &done, left),
         }
     }
@@ -121,7 +126,7 @@ impl<'g, B: Board> Stage<'g, B> {
     /// The again turns of a start, so many at most.
     pub(crate) fn start_turns<R: Rules<B>>(
         &mut self,
-        rules: &mut Programs<R>,
+        rules: &mut TurnRules<R>,
         level: &mut PlayedLevel<B>,
         most: u32,
     ) -> Result<Option<Pending>, Memory>
@@ -140,8 +145,8 @@ impl<'g, B: Board> Stage<'g, B> {
         while left > 0 {
             left -= 1;
             match self.start_turn(rules, level, left)? {
-                Told::Stops(pending) => return Ok(pending),
-                Told::GoesOn => {}
+                StartTold::Stops(pending) => return Ok(pending),
+                StartTold::GoesOn => {}
             }
         }
         Ok(None)
@@ -150,7 +155,7 @@ impl<'g, B: Board> Stage<'g, B> {
     /// The again turns of a start, as many as there may be.
     fn all_start_turns<R: Rules<B>>(
         &mut self,
-        rules: &mut Programs<R>,
+        rules: &mut TurnRules<R>,
         level: &mut PlayedLevel<B>,
     ) -> Result<Option<Pending>, Memory>
         requires { level.old.table ≡ B.table_for self.old.game.names.layers }
@@ -172,7 +177,7 @@ impl<'g, B: Board> Stage<'g, B> {
     /// A level from its first frame on, with a message or without one, and with again turns or without.
     fn started<R: Rules<B>>(
         &mut self,
-        rules: &mut Programs<R>,
+        rules: &mut TurnRules<R>,
         level: &mut PlayedLevel<B>,
         message: &Option<Text>,
         again: bool,
@@ -190,8 +195,8 @@ impl<'g, B: Board> Stage<'g, B> {
     {
         self.show(level.board())?;
         match self.tell_start(message, again, AGAIN_LIMIT)? {
-            Told::Stops(pending) => Ok(pending),
-            Told::GoesOn => {
+            StartTold::Stops(pending) => Ok(pending),
+            StartTold::GoesOn => {
                 let pending = self.all_start_turns(rules, level)?;
                 Ok(pending)
             }
@@ -202,7 +207,7 @@ impl<'g, B: Board> Stage<'g, B> {
     /// input comes first; its message comes before one from before.
     pub(crate) fn start_step<R: Rules<B>>(
         &mut self,
-        rules: &mut Programs<R>,
+        rules: &mut TurnRules<R>,
         level: &mut PlayedLevel<B>,
         message: Option<Text>,
     ) -> Result<Option<Pending>, Memory>

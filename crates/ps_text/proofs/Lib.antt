@@ -8,7 +8,7 @@ pub mod Faults
 pub mod Numbers
 pub mod Veils
 pub mod LineSteps
-pub mod TextPlaces
+pub mod TextRanges
 pub mod Trimmed
 pub mod NamedWords
 pub mod PlainLines

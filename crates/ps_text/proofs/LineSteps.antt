@@ -15,8 +15,8 @@ use Rattle.std.proofs.lemmas.Str.{IsCharBoundary-past_char}
 use Rattle.ps_model.specs.declared.texts.Section.TheVariants.{Prelude}
 use Rattle.ps_model.specs.text.Lines.{Line, is_line_feed, mark_length, without_empty_end, as_lines, lines_from, lines_of}
 use Rattle.ps_text.specs.declared.rows.Row.{Row}
-use Rattle.ps_text.specs.declared.rows.Above.{Above}
-use Rattle.ps_text.specs.Rows.{shown, raw_at, line_below, above_next, lines_behind}
+use Rattle.ps_text.specs.declared.rows.LineStart.{LineStart}
+use Rattle.ps_text.specs.Rows.{shown, raw_at, line_below, next_line_start, lines_behind}
 
 -- where the first line feed stands
 abbrev pub feed_place : List ℕ → ℕ
@@ -74,17 +74,17 @@ raw_behind text start h =
     drop-drop (feed_place (drop start text) + 1) start text ∙ ap (λ (n : ℕ). drop n text) (omega (arith, long))
 
 -- the line below, and those behind it
-from_pieces : (text : List ℕ) (above : Above) (pieces : List (List ℕ)) → above.start ≤ length text →
+from_pieces : (text : List ℕ) (above : LineStart) (pieces : List (List ℕ)) → above.start ≤ length text →
     pieces ≡ take (feed_place (drop above.start text)) (drop above.start text) ∷ without_empty_end (slice_split is_line_feed (drop (feed_place (drop above.start text) + 1) (drop above.start text))) →
-    lines_from above.number above.start above.depth above.section pieces ≡ line_below above (raw_at text above.start) ∷ lines_behind text (above_next above (raw_at text above.start))
+    lines_from above.number above.start above.depth above.section pieces ≡ line_below above (raw_at text above.start) ∷ lines_behind text (next_line_start above (raw_at text above.start))
 from_pieces text above pieces h p = rw (p, raw_behind text above.start h, add-one above.number) refl
 
-pub next_line : (text : List ℕ) (above : Above) → above.start < length text → lines_behind text above ≡ line_below above (raw_at text above.start) ∷ lines_behind text (above_next above (raw_at text above.start))
+pub next_line : (text : List ℕ) (above : LineStart) → above.start < length text → lines_behind text above ≡ line_below above (raw_at text above.start) ∷ lines_behind text (next_line_start above (raw_at text above.start))
 next_line text above l =
     let some : 0 < length (drop above.start text) = grind (arith, common_steps) in
     from_pieces text above _ (omega arith) (behind_feed (drop above.start text) some)
 
-pub no_line_behind : (text : List ℕ) (above : Above) → length text ≤ above.start → lines_behind text above ≡ []
+pub no_line_behind : (text : List ℕ) (above : LineStart) → length text ≤ above.start → lines_behind text above ≡ []
 no_line_behind text above h = let gone : drop above.start text ≡ [] = drop_all above.start text h in rw gone refl
 
 -- behind a byte order mark the text may be cut
@@ -95,16 +95,16 @@ behind_mark text u h =
     IsCharBoundary-past_char text (drop 3 text) 0 65279 (omega arith) u split
 
 -- the lines of a text
-pub first_lines : (text : List ℕ) (first : Above) → first.number ≡ 1 → first.start ≡ mark_length text → first.depth ≡ 0 → first.section ≡ Prelude → first.start ≤ length text →
-    lines_of text ≡ line_below first (raw_at text first.start) ∷ lines_behind text (above_next first (raw_at text first.start))
+pub first_lines : (text : List ℕ) (first : LineStart) → first.number ≡ 1 → first.start ≡ mark_length text → first.depth ≡ 0 → first.section ≡ Prelude → first.start ≤ length text →
+    lines_of text ≡ line_below first (raw_at text first.start) ∷ lines_behind text (next_line_start first (raw_at text first.start))
 first_lines text first n s d sec h =
     let pieces = from_pieces text first _ h (at_start (drop first.start text)) in
     let same : lines_from first.number first.start first.depth first.section (as_lines (slice_split is_line_feed (drop first.start text))) ≡ lines_of text = rw (n, d, sec, s) refl in
     sym same ∙ pieces
 
 -- a row more
-pub row_more : (text : List ℕ) (rows : List Row) (row : Row) (above below : Above) (whole : List Line) → above.start < length text → shown text row ≡ line_below above (raw_at text above.start) →
-    below ≡ above_next above (raw_at text above.start) → map (shown text) rows ++ lines_behind text above ≡ whole → map (shown text) (rows ++ row ∷ []) ++ lines_behind text below ≡ whole
+pub row_more : (text : List ℕ) (rows : List Row) (row : Row) (above below : LineStart) (whole : List Line) → above.start < length text → shown text row ≡ line_below above (raw_at text above.start) →
+    below ≡ next_line_start above (raw_at text above.start) → map (shown text) rows ++ lines_behind text above ≡ whole → map (shown text) (rows ++ row ∷ []) ++ lines_behind text below ≡ whole
 row_more text rows row above below whole l s b told =
     let last : shown text row ∷ lines_behind text below ≡ lines_behind text above = rw (s, b) (sym (next_line text above l)) in
     ap (λ (lines : List Line). lines ++ lines_behind text below) (map-append (shown text) rows (row ∷ []))
@@ -112,6 +112,6 @@ row_more text rows row above below whole l s b told =
     ∙ ap (λ (lines : List Line). map (shown text) rows ++ lines) last ∙ told
 
 -- the first row
-pub one_row : (text : List ℕ) (row : Row) (first below : Above) → first.number ≡ 1 → first.start ≡ mark_length text → first.depth ≡ 0 → first.section ≡ Prelude → first.start ≤ length text →
-    shown text row ≡ line_below first (raw_at text first.start) → below ≡ above_next first (raw_at text first.start) → map (shown text) (row ∷ []) ++ lines_behind text below ≡ lines_of text
+pub one_row : (text : List ℕ) (row : Row) (first below : LineStart) → first.number ≡ 1 → first.start ≡ mark_length text → first.depth ≡ 0 → first.section ≡ Prelude → first.start ≤ length text →
+    shown text row ≡ line_below first (raw_at text first.start) → below ≡ next_line_start first (raw_at text first.start) → map (shown text) (row ∷ []) ++ lines_behind text below ≡ lines_of text
 one_row text row first below n p d sec h s b = rw (s, b) (sym (first_lines text first n p d sec h))

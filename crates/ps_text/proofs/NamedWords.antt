@@ -9,9 +9,9 @@ use Rattle.std.proofs.lemmas.Grind.{common_steps}
 use Rattle.std.proofs.lemmas.List.{get_or-map}
 use Rattle.std.proofs.lemmas.Slice.Eq.{bytes_eq-Decides}
 use Rattle.ps_model.specs.text.Lines.{folded, is_word, behind_arrow}
-use Rattle.ps_text.specs.Places.{IsWordPlace}
-use Rattle.ps_text.specs.declared.scan.Place.{Place}
-use Rattle.ps_text.specs.TakenPlaces.{IsTextStart}
+use Rattle.ps_text.specs.WordRanges.{IsWordRange}
+use Rattle.ps_text.specs.declared.scan.ByteRange.{ByteRange}
+use Rattle.ps_text.specs.TakenRanges.{IsTextStart}
 
 abbrev pub is_ascii_byte : ℕ → Bool
 is_ascii_byte byte = nat_lt byte 128
@@ -68,23 +68,23 @@ any_low line start end (name ∷ names) a h l m =
     either false b h = inr h
 
 -- a text may begin behind a word that is one of these
-pub text_behind_word : (line : List ℕ) (from : ℕ) (names : List (List ℕ)) (place : Place) → IsWordPlace line from place → list_all (list_all is_ascii_byte) names ≡ true →
-    list_any (bytes_eq (folded (slice_range line place.start place.end))) names ≡ true → IsTextStart line place.end
-text_behind_word line from names place word a h =
+pub text_behind_word : (line : List ℕ) (from : ℕ) (names : List (List ℕ)) (range : ByteRange) → IsWordRange line from range → list_all (list_all is_ascii_byte) names ≡ true →
+    list_any (bytes_eq (folded (slice_range line range.start range.end))) names ≡ true → IsTextStart line range.end
+text_behind_word line from names range word a h =
     record {
       some = omega (arith, word.holds);
       within = word.end.0;
-      ascii = any_low line place.start place.end names a h word.holds word.end.0;
-      solid = word.solid (place.end - 1) (omega (arith, word.holds)) (omega (arith, word.holds));
+      ascii = any_low line range.start range.end names a h word.holds word.end.0;
+      solid = word.solid (range.end - 1) (omega (arith, word.holds)) (omega (arith, word.holds));
     }
 
 -- a word behind a place is one behind the line's start
-pub from_start : (line : List ℕ) (from : ℕ) (place : Place) → IsWordPlace line from place → IsWordPlace line 0 place
-from_start line from place word = record { behind = omega arith; holds = word.holds; start = word.start; end = word.end; solid = word.solid }
+pub from_start : (line : List ℕ) (from : ℕ) (range : ByteRange) → IsWordRange line from range → IsWordRange line 0 range
+from_start line from range word = record { behind = omega arith; holds = word.holds; start = word.start; end = word.end; solid = word.solid }
 
-pub found_from_start : (line : List ℕ) (from : ℕ) (found : Option Place) → IfSome found (IsWordPlace line from) → IfSome found (IsWordPlace line 0)
+pub found_from_start : (line : List ℕ) (from : ℕ) (found : Option ByteRange) → IfSome found (IsWordRange line from) → IfSome found (IsWordRange line 0)
 found_from_start line from None h = h
-found_from_start line from (Some place) h = from_start line from place h
+found_from_start line from (Some range) h = from_start line from range h
 
 -- a word that is no `->` is read past
 pub past_word : (line : List ℕ) (word : ℕ × ℕ) (words : List (ℕ × ℕ)) → is_word line (codes "->" ∷ []) word ≡ false → behind_arrow line (word ∷ words) ≡ behind_arrow line words

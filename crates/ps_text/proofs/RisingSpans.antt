@@ -2,8 +2,8 @@
 use Rattle.std.proofs.Common.{ℕ, ◌+◌, ◌<◌, ◌≤◌, Option, Some, None, List, [], ◌∷◌, ◌++◌, length, arith}
 use Rattle.std.specs.Prelude.{IfSome}
 use Rattle.ps_model.specs.declared.texts.Span.{Span}
-use Rattle.ps_text.specs.declared.scan.Place.{Place}
-use Rattle.ps_text.specs.Places.{IsWordPlace}
+use Rattle.ps_text.specs.declared.scan.ByteRange.{ByteRange}
+use Rattle.ps_text.specs.WordRanges.{IsWordRange}
 use Rattle.ps_text.specs.WordViews.{AreRisingSpans}
 
 -- up to a later place
@@ -17,10 +17,10 @@ rising_push low high [] span r h l = (omega (arith, r), l, omega arith)
 rising_push low high (first ∷ spans) span r h l = (r.0, r.1, rising_push first.end high spans span r.2 h l)
 
 -- where the spans of a line end before the word found: at its start, or else with the line
-abbrev pub rise_limit : ℕ → List ℕ → Option Place → ℕ
+abbrev pub rise_limit : ℕ → List ℕ → Option ByteRange → ℕ
 rise_limit start line None = start + length line
-rise_limit start line (Some place) = start + place.start
+rise_limit start line (Some range) = start + range.start
 
-pub limit_behind : (start from : ℕ) (line : List ℕ) (found : Option Place) → from ≤ length line → IfSome found (IsWordPlace line from) → start + from ≤ rise_limit start line found
+pub limit_behind : (start from : ℕ) (line : List ℕ) (found : Option ByteRange) → from ≤ length line → IfSome found (IsWordRange line from) → start + from ≤ rise_limit start line found
 limit_behind start from line None l h = omega arith
-limit_behind start from line (Some place) l h = omega (arith, h.behind)
+limit_behind start from line (Some range) l h = omega (arith, h.behind)

@@ -7,7 +7,7 @@ use Rattle.std.proofs.lemmas.Grind.{common_steps}
 use Rattle.std.proofs.lemmas.List.{drop_all, drop-drop}
 use Rattle.ps_model.specs.text.Words.{is_blank, run_to}
 use Rattle.ps_model.specs.text.RuleWords.{rule_words_from, rule_words_in, words_behind_plus, own_length, begins_arrow, is_own_word, is_bracket_or_bar, is_sign}
-use Rattle.ps_text.specs.Places.{rule_words_behind}
+use Rattle.ps_text.specs.WordRanges.{rule_words_behind}
 
 -- no `->` at the last byte
 pub no_arrow_at_end : (line : List ℕ) (at : ℕ) → at < length line → length line ≤ at + 1 → begins_arrow (drop at line) ≡ false

@@ -1,7 +1,7 @@
 -- Places of a line between which no blank stands.
 use Rattle.std.proofs.Common.{◌≡◌, ℕ, ◌+◌, ◌<◌, ◌⊎◌, inl, inr, false, List, get_or, ap, ◌∙◌, arith}
 use Rattle.ps_model.specs.text.Words.{is_blank}
-use Rattle.ps_text.specs.Places.{IsSolid}
+use Rattle.ps_text.specs.WordRanges.{IsSolid}
 
 before_or_at : (i at : ℕ) → i < at + 1 → (i < at) ⊎ (i ≡ at)
 before_or_at i at h = grind arith

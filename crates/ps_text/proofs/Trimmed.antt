@@ -7,7 +7,7 @@ use Rattle.std.proofs.lemmas.Grind.{common_steps}
 use Rattle.std.proofs.lemmas.List.{reverse-append, reverse-reverse, take-append-drop, take-take, drop-take, drop-drop}
 use Rattle.ps_model.specs.text.Words.{is_blank}
 use Rattle.ps_model.specs.text.Lines.{without_blank_end}
-use Rattle.ps_text.specs.TakenPlaces.{trimmed_of}
+use Rattle.ps_text.specs.TakenRanges.{trimmed_of}
 
 -- the bytes without the blanks at their end are the first of them
 front_and_end : (bytes : List ℕ) (n : ℕ) → reverse (drop n (reverse bytes)) ++ reverse (take n (reverse bytes)) ≡ bytes

@@ -4,10 +4,10 @@ use Rattle.std.specs.Prelude.{IfSome, slice_range}
 use Rattle.std.proofs.lemmas.Grind.{common_steps}
 use Rattle.std.proofs.lemmas.List.{drop-drop, same_lists}
 use Rattle.ps_model.specs.text.Words.{is_blank}
-use Rattle.ps_text.specs.declared.scan.Place.{Place}
+use Rattle.ps_text.specs.declared.scan.ByteRange.{ByteRange}
 use Rattle.ps_text.specs.PlainLines.{IsPlain, IsVeiled}
-use Rattle.ps_text.specs.Places.{IsSolid}
-use Rattle.ps_text.specs.TakenPlaces.{IsTextPlace, bytes_without}
+use Rattle.ps_text.specs.WordRanges.{IsSolid}
+use Rattle.ps_text.specs.TakenRanges.{IsTextRange, bytes_without}
 
 -- a byte more, kept or not
 veil_more : (byte shown : ℕ) (bytes line : List ℕ) → (is_blank shown ≡ false → shown ≡ byte) → IsVeiled bytes line → IsVeiled (byte ∷ bytes) (shown ∷ line)
@@ -34,7 +34,7 @@ veil_twice : (raw plain line : List ℕ) → IsPlain raw plain → IsVeiled plai
 veil_twice raw plain line p v = record { same = v.same ∙ p.same; shown = λ i b. v.shown i b ∙ p.shown i (rw (← v.shown i b) b) }
 
 -- a line without comments and without a region
-pub veiled_line : (raw plain line : List ℕ) (region : Option Place) → IsPlain raw plain → IfSome region (IsTextPlace plain) → line ≡ bytes_without plain region → IsVeiled raw line
+pub veiled_line : (raw plain line : List ℕ) (region : Option ByteRange) → IsPlain raw plain → IfSome region (IsTextRange plain) → line ≡ bytes_without plain region → IsVeiled raw line
 veiled_line raw plain line None p r e = rw e (record { same = p.same; shown = p.shown })
 veiled_line raw plain line (Some region) p r e =
     let size : ℕ = region.end - region.start in

@@ -1,5 +1,5 @@
 pub mod PlainLines
-pub mod Places
 pub mod Rows
-pub mod TakenPlaces
+pub mod TakenRanges
+pub mod WordRanges
 pub mod WordViews

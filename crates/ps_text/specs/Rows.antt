@@ -5,15 +5,15 @@ use Rattle.std.specs.Str.{IsCharBoundary}
 use Rattle.ps_model.specs.declared.texts.Section.{Section}
 use Rattle.ps_model.specs.declared.limits.TheConstants.{TEXT_LIMIT}
 use Rattle.ps_model.specs.text.Lines.{Line, Taken, is_line_feed, without_empty_end, without_comments, header_of, text_place, bytes_left, text_taken, is_read, depth_below, lines_from, lines_of}
-use Rattle.ps_text.specs.declared.scan.Place.{Place}
+use Rattle.ps_text.specs.declared.scan.ByteRange.{ByteRange}
 use Rattle.ps_text.specs.declared.rows.Row.{Row}
-use Rattle.ps_text.specs.declared.rows.Above.{Above}
+use Rattle.ps_text.specs.declared.rows.LineStart.{LineStart}
 use Rattle.ps_text.specs.PlainLines.{IsVeiled}
-use Rattle.ps_text.specs.TakenPlaces.{IsTextPlace}
+use Rattle.ps_text.specs.TakenRanges.{IsTextRange}
 
 -- a text that is taken as it stands, by its place in the line
-abbrev pub taken_at : ℕ → List ℕ → Place → Taken
-taken_at start raw place = record { start = start + place.start; bytes = slice_range raw place.start place.end }
+abbrev pub taken_at : ℕ → List ℕ → ByteRange → Taken
+taken_at start raw range = record { start = start + range.start; bytes = slice_range raw range.start range.end }
 
 -- the line that a row tells of, whose bytes are these
 abbrev pub shown_as : List ℕ → Row → Line
@@ -29,15 +29,15 @@ abbrev pub shown : List ℕ → Row → Line
 shown text row = shown_as (raw_of text row) row
 
 -- the section of a line below that one
-abbrev pub section_below : Above → List ℕ → Section
+abbrev pub section_below : LineStart → List ℕ → Section
 section_below above raw = unwrap_or (header_of (without_comments above.depth raw)) above.section
 
 -- where a text begins in it
-abbrev pub place_below : Above → List ℕ → Option ℕ
+abbrev pub place_below : LineStart → List ℕ → Option ℕ
 place_below above raw = text_place (section_below above raw) (without_comments above.depth raw)
 
 -- the line
-abbrev pub line_below : Above → List ℕ → Line
+abbrev pub line_below : LineStart → List ℕ → Line
 line_below above raw =
     record {
       number = above.number;
@@ -50,8 +50,8 @@ line_below above raw =
     }
 
 -- what the line below that finds above it
-abbrev pub above_next : Above → List ℕ → Above
-above_next above raw =
+abbrev pub next_line_start : LineStart → List ℕ → LineStart
+next_line_start above raw =
     record {
       number = above.number + 1;
       start = above.start + length raw + 1;
@@ -64,11 +64,11 @@ abbrev pub raw_at : List ℕ → ℕ → List ℕ
 raw_at text start = take (position_or_len is_line_feed (drop start text)) (drop start text)
 
 -- the lines from a place behind a line feed on
-abbrev pub lines_behind : List ℕ → Above → List Line
+abbrev pub lines_behind : List ℕ → LineStart → List Line
 lines_behind text above = lines_from above.number above.start above.depth above.section (without_empty_end (slice_split is_line_feed (drop above.start text)))
 
 -- a line may begin where the line below begins, if that is a place of the text
-pub record IsBelow (text : List ℕ) (above below : Above) : Type 0 where
+pub record IsBelow (text : List ℕ) (above below : LineStart) : Type 0 where
   pub further : above.start < below.start
   pub within : below.start ≤ length text + 1
   pub depth : below.depth ≤ below.start
@@ -78,7 +78,7 @@ pub record IsBelow (text : List ℕ) (above below : Above) : Type 0 where
 -- the row is one of a line with these bytes
 pub record IsRowOf (raw : List ℕ) (row : Row) : Type 0 where
   pub veiled : IsVeiled raw (string_bytes row.visible)
-  pub taken : IfSome row.taken (IsTextPlace raw)
+  pub taken : IfSome row.taken (IsTextRange raw)
 
 -- the row's line can be cut out of the text
 pub record IsRow (text : List ℕ) (row : Row) : Type 0 where

@@ -5,13 +5,13 @@ ghost use Rattle.std.specs.Str.{IsUtf8, IsCharBoundary};
 ghost use Rattle.ps_model.specs.declared.limits.TheConstants.{TEXT_LIMIT};
 ghost use Rattle.ps_model.specs.text.LineNumbers.{line_at, HasLine};
 ghost use Rattle.ps_model.specs.text.RuleWords.{words_under};
-ghost use Rattle.ps_text.specs.Places.{words_behind, words_found, IsWordPlace};
-ghost use Rattle.ps_text.specs.TakenPlaces.{IsTextPlace};
+ghost use Rattle.ps_text.specs.WordRanges.{words_behind, words_found, IsWordRange};
+ghost use Rattle.ps_text.specs.TakenRanges.{IsTextRange};
 ghost use Rattle.ps_text.specs.WordViews.{span_of, text_of, span_at, texts_under, IsSliceOf, AreRisingSpans};
 
 use crate::rows::Row;
 use crate::rule_scan::{first_rule_word, next_rule_word};
-use crate::scan::{Place, next_word};
+use crate::scan::{ByteRange, next_word};
 use crate::sources::Source;
 use ps_model::{Cut, Memory, Span};
 use std::alloc::Global;
@@ -39,30 +39,30 @@ impl<'a> Word<'a> {
     }
 }
 
-/// The word at a place of a line.
-pub fn word_at<'a>(line: &'a str, row: &Row, place: Place) -> Word<'a>
-    requires place { IsTextPlace line.now place }
+/// The word at a range of a line.
+pub fn word_at<'a>(line: &'a str, row: &Row, range: ByteRange) -> Word<'a>
+    requires range { IsTextRange line.now range }
     requires short { row.now.start + length line.now ≤ TEXT_LIMIT }
-    ensures text { result.text.now ≡ slice_range line.entry.now place.start place.end }
+    ensures text { result.text.now ≡ slice_range line.entry.now range.start range.end }
     ensures line { result.span.line ≡ row.now.number }
-    ensures start { result.span.start ≡ row.now.start + place.start }
-    ensures end { result.span.end ≡ row.now.start + place.end }
+    ensures start { result.span.start ≡ row.now.start + range.start }
+    ensures end { result.span.end ≡ row.now.start + range.end }
 {
     Word {
-        text: &line[place.start..place.end],
+        text: &line[range.start..range.end],
         span: Span {
             line: row.number,
-            start: row.start + place.start as u32,
-            end: row.start + place.end as u32,
+            start: row.start + range.start as u32,
+            end: row.start + range.end as u32,
         },
     }
 }
 
 /// The first word of a line.
-fn first_under(line: &[u8], cut: Cut) -> Option<Place>
+fn first_under(line: &[u8], cut: Cut) -> Option<ByteRange>
     requires { IsUtf8 line.now }
     ensures words { words_under cut line.now ≡ words_found cut line.now result }
-    ensures place { IfSome result (IsWordPlace line.now 0) }
+    ensures range { IfSome result (IsWordRange line.now 0) }
 {
     match cut {
         Cut::Blanks | Cut::Legend | Cut::Layers => next_word(line, cut, 0),
@@ -71,11 +71,11 @@ fn first_under(line: &[u8], cut: Cut) -> Option<Place>
 }
 
 /// The first word behind a place, where a word ends.
-fn next_under(line: &[u8], cut: Cut, from: usize) -> Option<Place>
+fn next_under(line: &[u8], cut: Cut, from: usize) -> Option<ByteRange>
     requires utf8 { IsUtf8 line.now }
     requires cuttable { IsCharBoundary line.now from }
     ensures words { words_behind cut line.now from ≡ words_found cut line.now result }
-    ensures place { IfSome result (IsWordPlace line.now from) }
+    ensures range { IfSome result (IsWordRange line.now from) }
 {
     match cut {
         Cut::Blanks | Cut::Legend | Cut::Layers => next_word(line, cut, from),
@@ -106,9 +106,9 @@ pub fn words<'a>(
     let text = row.visible.as_str();
     let mut words = Vec::new(alloc);
     let mut next = first_under(text.as_bytes(), cut);
-    while let Some(place) = next {
-        words.push(word_at(text, row, place))?;
-        next = next_under(text.as_bytes(), cut, place.end);
+    while let Some(range) = next {
+        words.push(word_at(text, row, range))?;
+        next = next_under(text.as_bytes(), cut, range.end);
     }
     Ok(words)
 }

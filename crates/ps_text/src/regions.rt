@@ -8,9 +8,9 @@ ghost use Rattle.ps_model.specs.text.Words.{is_blank};
 ghost use Rattle.ps_model.specs.text.Lines as lines;
 ghost use Rattle.ps_model.specs.text.Lines.{without_blank_end};
 ghost use Rattle.ps_text.specs.PlainLines.{IsPlain};
-ghost use Rattle.ps_text.specs.TakenPlaces.{IsTextPlace, start_of, trimmed_of, bytes_without, IsTrimmed};
+ghost use Rattle.ps_text.specs.TakenRanges.{IsTextRange, start_of, trimmed_of, bytes_without, IsTrimmed};
 
-use crate::scan::{Place, is_blank_byte, past_parting};
+use crate::scan::{ByteRange, is_blank_byte, past_parting};
 use crate::taken::text_start;
 use ps_model::{Cut, Memory, Section};
 use std::alloc::Global;
@@ -53,19 +53,19 @@ fn text_end(section: Section, raw: &[u8], from: usize) -> usize
 
 /// The place of the text that a line of that section takes as it stands, with the blanks at its ends. `plain` is the
 /// line with blanks for its comments.
-pub fn text_region(section: Section, raw: &str, plain: &str) -> Option<Place>
+pub fn text_region(section: Section, raw: &str, plain: &str) -> Option<ByteRange>
     requires { IsPlain raw.now plain.now }
     ensures start { option_map start_of result ≡ lines.text_place section plain.now }
     ensures end { IfSome result (λ region. region.end
         ≡ region.start + lines.text_length section (drop region.start raw.now)) }
-    ensures raw { IfSome result (IsTextPlace raw.now) }
-    ensures plain { IfSome result (IsTextPlace plain.now) }
+    ensures raw { IfSome result (IsTextRange raw.now) }
+    ensures plain { IfSome result (IsTextRange plain.now) }
 {
     let Some(start) = text_start(section, plain.as_bytes()) else {
         return None;
     };
     let end = text_end(section, raw.as_bytes(), start);
-    Some(Place { start, end })
+    Some(ByteRange { start, end })
 }
 
 /// Where what stands from `from` on ends, the blanks at the line's end left out. `from` is a place where the line may
@@ -97,24 +97,24 @@ pub fn without_blank_ends(line: &str) -> &str
 }
 
 /// The text of a region of a line, without the blanks at its ends.
-fn trimmed(raw: &str, region: Place) -> Place
-    requires { IsTextPlace raw.now region }
+fn trimmed(raw: &str, region: ByteRange) -> ByteRange
+    requires { IsTextRange raw.now region }
     ensures start { result.start ≡ region.start + prefix_len is_blank (slice_range raw.now region.start region.end) }
     ensures bytes { slice_range raw.now result.start result.end
         ≡ trimmed_of (slice_range raw.now region.start region.end) }
-    ensures place { IsTextPlace raw.now result }
+    ensures range { IsTextRange raw.now result }
 {
     let front = raw[..region.end].as_bytes();
     let start = past_parting(front, Cut::Blanks, region.start);
     let end = blank_end(front, start);
-    Place { start, end }
+    ByteRange { start, end }
 }
 
 /// The text of a region, if there is one.
-pub fn taken_in(raw: &str, region: Option<Place>) -> Option<Place>
-    requires { IfSome region (IsTextPlace raw.now) }
+pub fn taken_in(raw: &str, region: Option<ByteRange>) -> Option<ByteRange>
+    requires { IfSome region (IsTextRange raw.now) }
     ensures taken { IsTrimmed raw.now region result }
-    ensures place { IfSome result (IsTextPlace raw.now) }
+    ensures range { IfSome result (IsTextRange raw.now) }
 {
     let Some(region) = region else {
         return None;
@@ -133,8 +133,8 @@ fn push_blanks(text: &mut String, count: usize) -> Result<(), Memory>
 }
 
 /// The line with blanks for a region.
-fn without_region(alloc: Global, plain: &str, region: Place) -> Result<String, Memory>
-    requires { IsTextPlace plain.now region }
+fn without_region(alloc: Global, plain: &str, region: ByteRange) -> Result<String, Memory>
+    requires { IsTextRange plain.now region }
     ensures { IfOk result (λ visible. string_bytes visible
         ≡ take region.start plain.now ++ (replicate (region.end - region.start) 32 ++ drop region.end plain.now)) }
 {
@@ -145,8 +145,12 @@ fn without_region(alloc: Global, plain: &str, region: Place) -> Result<String, M
 }
 
 /// The line with blanks for a region, if there is one.
-pub fn visible_line(alloc: Global, plain: String, region: Option<Place>) -> Result<String, Memory>
-    requires { IfSome region (IsTextPlace (string_bytes plain)) }
+pub fn visible_line(
+    alloc: Global,
+    plain: String,
+    region: Option<ByteRange>,
+) -> Result<String, Memory>
+    requires { IfSome region (IsTextRange (string_bytes plain)) }
     ensures { IfOk result (λ visible. string_bytes visible ≡ bytes_without (string_bytes plain) region) }
 {
     let Some(region) = region else {

@@ -7,14 +7,15 @@ ghost use Rattle.std.specs.Str.{IsCharBoundary};
 ghost use Rattle.ps_model.specs.declared.limits.TheConstants.{TEXT_LIMIT};
 ghost use Rattle.ps_model.specs.text.Lines as lines;
 ghost use Rattle.ps_text.specs.PlainLines.{IsVeiled};
-ghost use Rattle.ps_text.specs.TakenPlaces.{IsTextPlace, start_of};
-ghost use Rattle.ps_text.specs.Rows.{shown, shown_as, raw_at, line_below, above_next, IsBelow, IsRow, IsRowOf, IsTable};
+ghost use Rattle.ps_text.specs.TakenRanges.{IsTextRange, start_of};
+ghost use Rattle.ps_text.specs.Rows.{shown, shown_as, raw_at, line_below, next_line_start};
+ghost use Rattle.ps_text.specs.Rows.{IsBelow, IsRow, IsRowOf, IsTable};
 
 use crate::comments::{depth_after_line, plain_line};
 use crate::headers::header_of_line;
 use crate::kinds::is_read_line;
 use crate::regions::{taken_in, text_region, visible_line};
-use crate::scan::Place;
+use crate::scan::ByteRange;
 use ps_model::{Memory, Section};
 use std::alloc::Global;
 
@@ -30,14 +31,14 @@ pub struct Row {
     pub is_there: bool,
     /// Its bytes, without the line feed, with blanks in place of comments and of a text that is taken as it stands.
     pub visible: String,
-    /// The place in the line of the text that is taken as it stands, without the blanks at its ends.
-    pub taken: Option<Place>,
+    /// Where in the line the text stands that is taken as it is, without the blanks at its ends.
+    pub taken: Option<ByteRange>,
 }
 
 /// What a line finds above it: its number, the byte at which it begins, how many comments are open, and the section
 /// that the line above stands in.
 #[derive(Clone, Copy, Debug)]
-pub struct Above {
+pub struct LineStart {
     pub number: u32,
     pub start: u32,
     pub depth: u32,
@@ -74,7 +75,7 @@ fn line_end(text: &[u8], start: usize) -> usize
 }
 
 /// How many comments are open below a line of that section before which so many are: none where a text ends the line.
-fn depth_below_line(section: Section, region: Option<Place>, depth: u32, raw: &[u8]) -> u32
+fn depth_below_line(section: Section, region: Option<ByteRange>, depth: u32, raw: &[u8]) -> u32
     requires { depth + length raw.now ≤ TEXT_LIMIT }
     ensures depth { result ≡ lines.depth_below section (option_map start_of region) depth raw.now }
     ensures most { result ≤ depth + length raw.now }
@@ -86,12 +87,12 @@ fn depth_below_line(section: Section, region: Option<Place>, depth: u32, raw: &[
 }
 
 /// The row of a line, and what the line below finds above it.
-fn row_below(alloc: Global, raw: &str, above: Above) -> Result<(Row, Above), Memory>
+fn row_below(alloc: Global, raw: &str, above: LineStart) -> Result<(Row, LineStart), Memory>
     requires short { above.start + length raw.now ≤ TEXT_LIMIT }
     requires depth { above.depth ≤ above.start }
     requires counted { above.number ≤ above.start + 1 }
     ensures row { IfOk result (λ made. shown_as raw.now made.0 ≡ line_below above raw.now) }
-    ensures below { IfOk result (λ made. made.1 ≡ above_next above raw.now) }
+    ensures below { IfOk result (λ made. made.1 ≡ next_line_start above raw.now) }
     ensures depth { IfOk result (λ made. made.1.depth ≤ above.depth + length raw.now) }
     ensures whole { IfOk result (λ made. IsRowOf raw.now made.0) }
 {
@@ -112,7 +113,7 @@ fn row_below(alloc: Global, raw: &str, above: Above) -> Result<(Row, Above), Mem
         visible,
         taken,
     };
-    let below = Above {
+    let below = LineStart {
         number: above.number + 1,
         start: above.start + raw.len() as u32 + 1,
         depth,
@@ -122,13 +123,13 @@ fn row_below(alloc: Global, raw: &str, above: Above) -> Result<(Row, Above), Mem
 }
 
 /// The row of the line that begins there, and what the line below finds above it.
-fn row_at(alloc: Global, text: &str, above: Above) -> Result<(Row, Above), Memory>
+fn row_at(alloc: Global, text: &str, above: LineStart) -> Result<(Row, LineStart), Memory>
     requires short { length text.now ≤ TEXT_LIMIT }
     requires cuttable { IsCharBoundary text.now above.start }
     requires depth { above.depth ≤ above.start }
     requires counted { above.number ≤ above.start + 1 }
     ensures row { IfOk result (λ made. shown text.now made.0 ≡ line_below above (raw_at text.now above.start)) }
-    ensures below { IfOk result (λ made. made.1 ≡ above_next above (raw_at text.now above.start)) }
+    ensures below { IfOk result (λ made. made.1 ≡ next_line_start above (raw_at text.now above.start)) }
     ensures next { IfOk result (λ made. IsBelow text.now above made.1) }
     ensures whole { IfOk result (λ made. IsRow text.now made.0) }
 {
@@ -143,7 +144,7 @@ pub fn table(alloc: Global, text: &str) -> Result<Vec<Row>, Memory>
     requires { length text.now ≤ TEXT_LIMIT }
     ensures { IfOk result (λ rows. IsTable text.now rows.items) }
 {
-    let first = Above {
+    let first = LineStart {
         number: 1,
         start: mark_len(text),
         depth: 0,

@@ -5,9 +5,9 @@ ghost use Rattle.std.specs.Prelude.{slice_index, IfSome};
 ghost use Rattle.std.specs.Str.{IsUtf8, IsCharBoundary};
 ghost use Rattle.ps_model.specs.text.Words.{is_blank};
 ghost use Rattle.ps_model.specs.text.RuleWords as rules;
-ghost use Rattle.ps_text.specs.Places.{rule_words_behind, rule_words_with, IsSolid, IsArrow, IsWordPlace};
+ghost use Rattle.ps_text.specs.WordRanges.{rule_words_behind, rule_words_with, IsSolid, IsArrow, IsWordRange};
 
-use crate::scan::{Place, is_blank_byte, past_parting};
+use crate::scan::{ByteRange, is_blank_byte, past_parting};
 use ps_model::Cut;
 
 /// Whether `->` stands at the place.
@@ -77,11 +77,11 @@ fn rule_run_end(line: &[u8], start: usize) -> usize
 }
 
 /// The first word from `from` on, which stands between words, behind the `+` of the line.
-pub fn next_rule_word(line: &[u8], from: usize) -> Option<Place>
+pub fn next_rule_word(line: &[u8], from: usize) -> Option<ByteRange>
     requires utf8 { IsUtf8 line.now }
     requires cuttable { IsCharBoundary line.now from }
     ensures words { rule_words_behind line.now from ≡ rule_words_with line.now result }
-    ensures place { IfSome result (IsWordPlace line.now from) }
+    ensures range { IfSome result (IsWordRange line.now from) }
 {
     let start = past_parting(line, Cut::Blanks, from);
     if start == line.len() {
@@ -90,17 +90,17 @@ pub fn next_rule_word(line: &[u8], from: usize) -> Option<Place>
     let own = own_len(line, start, false);
     if own > 0 {
         let end = start + own;
-        return Some(Place { start, end });
+        return Some(ByteRange { start, end });
     }
     let end = rule_run_end(line, start);
-    Some(Place { start, end })
+    Some(ByteRange { start, end })
 }
 
 /// The first word of the line.
-pub fn first_rule_word(line: &[u8]) -> Option<Place>
+pub fn first_rule_word(line: &[u8]) -> Option<ByteRange>
     requires { IsUtf8 line.now }
     ensures words { rules.rule_words_in line.now ≡ rule_words_with line.now result }
-    ensures place { IfSome result (IsWordPlace line.now 0) }
+    ensures range { IfSome result (IsWordRange line.now 0) }
 {
     let start = past_parting(line, Cut::Blanks, 0);
     if start == line.len() {
@@ -108,7 +108,7 @@ pub fn first_rule_word(line: &[u8]) -> Option<Place>
     }
     if is_plus(line[start]) {
         let end = start + 1;
-        return Some(Place { start, end });
+        return Some(ByteRange { start, end });
     }
     next_rule_word(line, start)
 }

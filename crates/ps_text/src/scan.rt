@@ -4,13 +4,13 @@ ghost use Rattle.std.specs.Prelude.{◌≡◌, ◌+◌, ◌<◌, ◌≤◌, fals
 ghost use Rattle.std.specs.List.{prefix_len};
 ghost use Rattle.std.specs.Str.{IsUtf8, IsCharBoundary};
 ghost use Rattle.ps_model.specs.text.Words.{is_blank, parts_words, stands_alone, words_from};
-ghost use Rattle.ps_text.specs.Places.{words_with, IsSolid, IsWordPlace};
+ghost use Rattle.ps_text.specs.WordRanges.{words_with, IsSolid, IsWordRange};
 
 use ps_model::Cut;
 
-/// A place in a line or text, in bytes: from `start` to before `end`.
+/// Bytes of a line or text: from `start` to before `end`.
 #[derive(Clone, Copy, Debug)]
-pub struct Place {
+pub struct ByteRange {
     pub start: usize,
     pub end: usize,
 }
@@ -85,11 +85,11 @@ fn run_end(line: &[u8], cut: Cut, start: usize) -> usize
 }
 
 /// The first word from `from` on, which stands between words or at the line's start.
-pub fn next_word(line: &[u8], cut: Cut, from: usize) -> Option<Place>
+pub fn next_word(line: &[u8], cut: Cut, from: usize) -> Option<ByteRange>
     requires utf8 { IsUtf8 line.now }
     requires cuttable { IsCharBoundary line.now from }
     ensures words { words_from cut from None (drop from line.now) ≡ words_with cut line.now result }
-    ensures place { IfSome result (IsWordPlace line.now from) }
+    ensures range { IfSome result (IsWordRange line.now from) }
 {
     let start = past_parting(line, cut, from);
     if start == line.len() {
@@ -97,8 +97,8 @@ pub fn next_word(line: &[u8], cut: Cut, from: usize) -> Option<Place>
     }
     if is_alone(cut, line[start]) {
         let end = start + 1;
-        return Some(Place { start, end });
+        return Some(ByteRange { start, end });
     }
     let end = run_end(line, cut, start);
-    Some(Place { start, end })
+    Some(ByteRange { start, end })
 }

@@ -155,12 +155,12 @@ impl Source {
         ensures end { IfSome result (λ word. word.span.end ≡ word.span.start + length word.text.now) }
     {
         let row = self.row(line);
-        let Some(place) = row.taken else {
+        let Some(range) = row.taken else {
             return None;
         };
         let start = row.start as usize;
         let end = start + row.visible.len();
-        Some(word_at(&self.text[start..end], row, place))
+        Some(word_at(&self.text[start..end], row, range))
     }
 
     /// The bytes of the line, from 1 to `lines()`, with blanks in place of comments and of a text that is taken as it

@@ -6,8 +6,8 @@ ghost use Rattle.std.specs.List.{prefix_len, list_any};
 ghost use Rattle.std.specs.Str.{IsUtf8, IsCharBoundary, bytes_eq};
 ghost use Rattle.ps_model.specs.text.Lines as lines;
 ghost use Rattle.ps_model.specs.text.RuleWords.{rule_words_in};
-ghost use Rattle.ps_text.specs.Places.{rule_words_behind};
-ghost use Rattle.ps_text.specs.TakenPlaces.{words_past, IsTextStart};
+ghost use Rattle.ps_text.specs.WordRanges.{rule_words_behind};
+ghost use Rattle.ps_text.specs.TakenRanges.{words_past, IsTextStart};
 
 use crate::headers::is_word;
 use crate::rule_scan::{first_rule_word, next_rule_word};

@@ -20,6 +20,6 @@ pub use outcomes::{DoneTurn, Turned};
 pub use ps_board::Board;
 pub use ps_model::{Input, Memory, Options};
 pub use queue::Queue;
-pub use rules::{Programs, Rules};
+pub use rules::{Rules, TurnRules};
 pub use turns::{TurnGame, turn};
 pub use winning::won;

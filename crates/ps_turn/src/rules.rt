@@ -28,9 +28,9 @@ pub trait Rules<B: Board> {
         ensures table { B.table board.new ≡ B.table board.old };
 }
 
-/// The rules of a game: those before the movement, and those behind it.
+/// The rules of a game's turns: those before the movement, and those behind it.
 #[derive(Drop)]
-pub struct Programs<R> {
+pub struct TurnRules<R> {
     pub plain: R,
     pub late: R,
 }

@@ -12,7 +12,7 @@ use crate::inputs::{give_motion, motion_for};
 use crate::outcomes::{DoneTurn, Turned};
 use crate::players::stayed;
 use crate::queue::Queue;
-use crate::rules::{Programs, Rules};
+use crate::rules::{Rules, TurnRules};
 use crate::winning::is_won;
 use ps_board::Board;
 use ps_levels::Win;
@@ -86,7 +86,7 @@ fn prepare<B: Board>(game: &TurnGame<'_>, input: Option<Input>, board: &mut B)
 /// `Memory`, and a part of the changes may have been made.
 fn play<B: Board, R: Rules<B>>(
     game: &TurnGame<'_>,
-    rules: &mut Programs<R>,
+    rules: &mut TurnRules<R>,
     input: Option<Input>,
     board: &mut B,
 ) -> Result<Queue, Memory>
@@ -181,7 +181,7 @@ fn outcome<B: Board>(
 /// `Memory`: the first board stands, and the second is equal to it again.
 pub fn turn<B: Board, R: Rules<B>>(
     game: &TurnGame<'_>,
-    rules: &mut Programs<R>,
+    rules: &mut TurnRules<R>,
     input: Option<Input>,
     before: &B,
     after: &mut B,

@@ -112,8 +112,8 @@ taken_from_there = refl
 -- readings ---------------------------------------------------------------------------------------------------------------
 
 -- the compiled rules of a rule of the base text
-abbrev rules_of : List ℕ → List CompiledRule
-rules_of rule = flat_map (compiled_rules base_names) (filter_map rule_in (rules_read base_names (lines_below rule)))
+abbrev rules_compiled : List ℕ → List CompiledRule
+rules_compiled rule = flat_map (compiled_rules base_names) (filter_map rule_in (rules_read base_names (lines_below rule)))
 
 -- the masks of a rule's cells
 abbrev masks_of : CompiledRule → List CellMask
@@ -123,13 +123,13 @@ abbrev needs : List LayeredObject → CellMask
 needs objects = record { needed = objects; barred = []; one_of = []; motions = [] }
 
 -- AT, A or Target, is a fixed property: a rule for each member
-members_in_order : map masks_of (rules_of (codes "right [ AT | Crate ] -> [ | AT ]\n"))
+members_in_order : map masks_of (rules_compiled (codes "right [ AT | Crate ] -> [ | AT ]\n"))
     ≡ (needs (placed 5 3 ∷ []) ∷ needs (placed 3 2 ∷ []) ∷ []) ∷ (needs (placed 4 1 ∷ []) ∷ needs (placed 3 2 ∷ []) ∷ []) ∷ []
 unfolding chars
 members_in_order = refl
 
 -- a reading that names a layer twice on one side of a cell is none: with B, AT is Target
-only_possible : map masks_of (rules_of (codes "right [ AT B ] -> [ ]\n")) ≡ (needs (placed 4 1 ∷ placed 6 3 ∷ []) ∷ []) ∷ []
+only_possible : map masks_of (rules_compiled (codes "right [ AT B ] -> [ ]\n")) ≡ (needs (placed 4 1 ∷ placed 6 3 ∷ []) ∷ []) ∷ []
 unfolding chars
 only_possible = refl
 

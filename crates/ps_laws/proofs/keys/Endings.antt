@@ -12,7 +12,7 @@ use Rattle.ps_model.specs.declared.limits.TheConstants.{AGAIN_LIMIT}
 use Rattle.ps_model.specs.session.LevelLines.{Entry, MessageEntry, LevelEntry}
 use Rattle.ps_model.specs.session.Keys.{keys_of}
 use Rattle.ps_model.specs.board.Turns.{Script, Done, Outcome, Blocked, Restarted, Finished, turn}
-use Rattle.ps_model.specs.session.Sessions.{Play, Pending, Nothing, LevelDone, KeyAgain, StartAgain, Session, Playing, Waiting, AtMessage, Ended, Step, remembered, with_turn}
+use Rattle.ps_model.specs.session.Sessions.{Play, Pending, Nothing, LevelDone, KeyAgain, StartAgain, Session, Playing, Waiting, AtMessage, Ended, Step, with_board_in_history, with_turn}
 use Rattle.ps_model.specs.session.StartSteps.{start_pending, start_told, start_counted, start_turn_by, start_turns, all_start_turns, started, started_by, start_step, entered, enter, fresh, restarted}
 use Rattle.ps_model.specs.session.KeySteps.{key_pending, key_told, key_counted, key_turn_by, key_turns, all_key_turns, turn_taken, back_at, undone, unless_ignored, key_in_level, input_taken, gone_on, key_at_level_message, key_at_entry, key_step}
 use Rattle.ps_model.specs.game.Outputs.{Output, output, opening_step, ending_of, end_of_keys_line}
@@ -119,7 +119,7 @@ of_all_key_turns script play = of_key_turns script AGAIN_LIMIT play
 of_turn_taken : (script : Script) (play : Play) (outcome : Outcome) → IsOwn (turn_taken script play outcome).session
 of_turn_taken script play (Blocked None) = in_play play
 of_turn_taken script play (Blocked (Some text)) = in_wait play Nothing
-of_turn_taken script play (Restarted message) = of_restarted script (remembered play) message
+of_turn_taken script play (Restarted message) = of_restarted script (with_board_in_history play) message
 of_turn_taken script play (Finished done) = of_key_told script _ done AGAIN_LIMIT (all_key_turns script) (of_all_key_turns script) done.message done.win done.again refl refl refl
 
 of_undone : (script : Script) (play : Play) → IsOwn (undone script play).session
@@ -139,7 +139,7 @@ of_key_in_level script play (Move Left) = of_input_taken script play Left
 of_key_in_level script play (Move Right) = of_input_taken script play Right
 of_key_in_level script play (Move Action) = of_unless_ignored script.options.no_action play (λ here. input_taken script here Action) (λ here. of_input_taken script here Action)
 of_key_in_level script play Undo = of_unless_ignored script.options.no_undo play (undone script) (of_undone script)
-of_key_in_level script play Restart = of_unless_ignored script.options.no_restart play (λ here. restarted script (remembered here) None) (λ here. of_restarted script (remembered here) None)
+of_key_in_level script play Restart = of_unless_ignored script.options.no_restart play (λ here. restarted script (with_board_in_history here) None) (λ here. of_restarted script (with_board_in_history here) None)
 of_key_in_level script play Quit = at_quit
 
 of_gone_on : (script : Script) (play : Play) (pending : Pending) → IsOwn (gone_on script play pending).session

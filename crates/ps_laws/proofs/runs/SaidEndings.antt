@@ -11,9 +11,9 @@ use Rattle.ps_model.specs.declared.play.Key.TheVariants.{Move, Undo, Restart, Qu
 use Rattle.ps_model.specs.declared.limits.TheConstants.{AGAIN_LIMIT}
 use Rattle.ps_model.specs.session.LevelLines.{Entry, MessageEntry, LevelEntry}
 use Rattle.ps_model.specs.board.Turns.{Script, Done, Outcome, Blocked, Restarted, Finished, turn}
-use Rattle.ps_model.specs.session.Sessions.{Play, Pending, Nothing, LevelDone, KeyAgain, StartAgain, Session, Playing, Waiting, AtMessage, Ended, Step, quietly, after, waiting, message_line, shown, done_line, level_line, remembered, with_turn}
+use Rattle.ps_model.specs.session.Sessions.{Play, Pending, Nothing, LevelDone, KeyAgain, StartAgain, Session, Playing, Waiting, AtMessage, Ended, Step, quietly, after, waiting, message_line, shown, done_line, level_line, with_board_in_history, with_turn}
 use Rattle.ps_model.specs.session.StartSteps.{start_pending, start_told, start_counted, start_turn_by, start_turns, all_start_turns, started, started_by, start_step, entered, enter, fresh, restarted}
-use Rattle.ps_model.specs.session.KeySteps.{key_pending, key_told, key_counted, key_turn_by, key_turns, all_key_turns, remembered_if, key_done, turn_taken, back_at, undone, unless_ignored, key_in_level, input_taken, gone_on, key_at_level_message, key_at_entry, key_step}
+use Rattle.ps_model.specs.session.KeySteps.{key_pending, key_told, key_counted, key_turn_by, key_turns, all_key_turns, with_board_in_history_if, key_done, turn_taken, back_at, undone, unless_ignored, key_in_level, input_taken, gone_on, key_at_level_message, key_at_entry, key_step}
 use Rattle.ps_model.specs.game.Outputs.{ending_of}
 
 -- a step that ends the session has a text
@@ -127,8 +127,8 @@ of_key_done script play done =
 of_turn_taken : (script : Script) (play : Play) (outcome : Outcome) → IsSaid (turn_taken script play outcome)
 of_turn_taken script play (Blocked None) = of_after (shown script play) (quietly (Playing play)) (in_play play [])
 of_turn_taken script play (Blocked (Some text)) = of_after (shown script play) (waiting play text Nothing) (in_wait play Nothing (message_line text))
-of_turn_taken script play (Restarted message) = of_restarted script (remembered play) message
-of_turn_taken script play (Finished done) = of_key_done script (remembered_if done.changed play) done
+of_turn_taken script play (Restarted message) = of_restarted script (with_board_in_history play) message
+of_turn_taken script play (Finished done) = of_key_done script (with_board_in_history_if done.changed play) done
 
 of_undone : (script : Script) (play : Play) → IsSaid (undone script play)
 of_undone script play =
@@ -148,7 +148,7 @@ of_key_in_level script play (Move Left) = of_input_taken script play Left
 of_key_in_level script play (Move Right) = of_input_taken script play Right
 of_key_in_level script play (Move Action) = of_unless_ignored script.options.no_action play (λ here. input_taken script here Action) (λ here. of_input_taken script here Action)
 of_key_in_level script play Undo = of_unless_ignored script.options.no_undo play (undone script) (of_undone script)
-of_key_in_level script play Restart = of_unless_ignored script.options.no_restart play (λ here. restarted script (remembered here) None) (λ here. of_restarted script (remembered here) None)
+of_key_in_level script play Restart = of_unless_ignored script.options.no_restart play (λ here. restarted script (with_board_in_history here) None) (λ here. of_restarted script (with_board_in_history here) None)
 of_key_in_level script play Quit = λ ending e. omega arith
 
 of_gone_on : (script : Script) (play : Play) (pending : Pending) → IsSaid (gone_on script play pending)

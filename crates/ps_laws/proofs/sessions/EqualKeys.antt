@@ -9,12 +9,12 @@ use Rattle.ps_model.specs.declared.play.Key.TheVariants.{Move, Undo, Restart, Qu
 use Rattle.ps_model.specs.board.Grid.{Grid}
 use Rattle.ps_model.specs.board.Programs.{Section}
 use Rattle.ps_model.specs.board.Turns.{Script, Done, Outcome, Blocked, Restarted, Finished, turn}
-use Rattle.ps_model.specs.session.Sessions.{Play, Pending, Nothing, LevelDone, KeyAgain, StartAgain, Session, Playing, Waiting, AtMessage, Ended, Step, after, shown, remembered, with_turn}
+use Rattle.ps_model.specs.session.Sessions.{Play, Pending, Nothing, LevelDone, KeyAgain, StartAgain, Session, Playing, Waiting, AtMessage, Ended, Step, after, shown, with_board_in_history, with_turn}
 use Rattle.ps_model.specs.session.StartSteps.{level_done, restarted}
-use Rattle.ps_model.specs.session.KeySteps.{key_told, key_counted, key_turn_by, key_turns, all_key_turns, remembered_if, turn_taken, input_taken, undone, unless_ignored, key_in_level, gone_on, key_at_level_message, key_at_entry, key_step}
+use Rattle.ps_model.specs.session.KeySteps.{key_told, key_counted, key_turn_by, key_turns, all_key_turns, with_board_in_history_if, turn_taken, input_taken, undone, unless_ignored, key_in_level, gone_on, key_at_level_message, key_at_entry, key_step}
 use Rattle.ps_laws.specs.SessionBoards.{AreBoards, AreBoardsIn, HasBoard}
 use Rattle.ps_laws.specs.AlikeScripts.{EqualSteps}
-use Rattle.ps_laws.proofs.sessions.EqualSteps.{with_rules, EqualTurns, FromLevels, after-equal, by_outcome, with_turn-boards, remembered-boards, remembered_if-boards, back_at-boards}
+use Rattle.ps_laws.proofs.sessions.EqualSteps.{with_rules, EqualTurns, FromLevels, after-equal, by_outcome, with_turn-boards, with_board_in_history-boards, with_board_in_history_if-boards, back_at-boards}
 use Rattle.ps_laws.proofs.sessions.EqualStarts.{start_turns-equal, enter-equal, level_done-equal, restarted-equal}
 
 module _ (IsSuch : Grid → Type 0) (a : Script) (plain late : List Section) (both : EqualTurns IsSuch a (with_rules a plain late)) where
@@ -69,11 +69,11 @@ module _ (IsSuch : Grid → Type 0) (a : Script) (plain late : List Section) (bo
   taken : (play : Play) → AreBoards IsSuch play → (outcome : Outcome) → HasBoard IsSuch outcome → EqualSteps IsSuch (turn_taken a play outcome) (turn_taken b play outcome)
   taken play h (Blocked None) board = record { equal = refl; boards = h }
   taken play h (Blocked (Some text)) board = record { equal = refl; boards = h }
-  taken play h (Restarted message) board = restarted_too message (remembered play) (remembered-boards IsSuch play h)
+  taken play h (Restarted message) board = restarted_too message (with_board_in_history play) (with_board_in_history-boards IsSuch play h)
   taken play h (Finished done) board =
-      let kept : Play = remembered_if done.changed play in
+      let kept : Play = with_board_in_history_if done.changed play in
       framed (with_turn kept done) done AGAIN_LIMIT (all_key_turns a) (all_key_turns b) all_key_turns-equal
-      (with_turn-boards IsSuch kept done (remembered_if-boards IsSuch done.changed play h) board)
+      (with_turn-boards IsSuch kept done (with_board_in_history_if-boards IsSuch done.changed play h) board)
 
   input_taken-equal : (play : Play) (input : Input) → AreBoards IsSuch play → EqualSteps IsSuch (input_taken a play input) (input_taken b play input)
   input_taken-equal play input h =
@@ -97,8 +97,8 @@ module _ (IsSuch : Grid → Type 0) (a : Script) (plain late : List Section) (bo
       ignored_or a.options.no_action play (λ here. input_taken a here Action) (λ here. input_taken b here Action) (λ here boards. input_taken-equal here Action boards) h
   in_level play Undo h = ignored_or a.options.no_undo play (undone a) (undone b) undone-equal h
   in_level play Restart h =
-      ignored_or a.options.no_restart play (λ here. restarted a (remembered here) None) (λ here. restarted b (remembered here) None)
-      (λ here boards. restarted_too None (remembered here) (remembered-boards IsSuch here boards)) h
+      ignored_or a.options.no_restart play (λ here. restarted a (with_board_in_history here) None) (λ here. restarted b (with_board_in_history here) None)
+      (λ here boards. restarted_too None (with_board_in_history here) (with_board_in_history-boards IsSuch here boards)) h
   in_level play Quit h = record { equal = refl; boards = tt }
 
   gone_on-equal : (play : Play) (pending : Pending) → AreBoards IsSuch play → EqualSteps IsSuch (gone_on a play pending) (gone_on b play pending)

@@ -12,7 +12,7 @@ use Rattle.ps_model.specs.session.StartSteps.{start_told, start_counted, start_t
 use Rattle.ps_laws.specs.SessionBoards.{AreBoards, HasBoard}
 use Rattle.ps_laws.specs.AlikeScripts.{EqualSteps}
 use Rattle.ps_laws.proofs.common.Everywhere.{All-slice_get}
-use Rattle.ps_laws.proofs.sessions.EqualSteps.{with_rules, LoadsAs, EqualTurns, FromLevels, after-equal, by_outcome, with_turn-boards, with_target-boards}
+use Rattle.ps_laws.proofs.sessions.EqualSteps.{with_rules, LoadsAs, EqualTurns, FromLevels, after-equal, by_outcome, with_turn-boards, with_restart_board-boards}
 
 module _ (IsSuch : Grid → Type 0) (a : Script) (plain late : List Section) (both : EqualTurns IsSuch a (with_rules a plain late)) where
   -- the script with other rules
@@ -80,7 +80,7 @@ module _ (IsSuch : Grid → Type 0) (a : Script) (plain late : List Section) (bo
       let play : Play = fresh a entry level in
       let board : IsSuch play.board = All-slice_get (LoadsAs IsSuch a.names) a.entries entry (LevelEntry level) both.levels e in
       after-equal IsSuch (level_line a entry) (start_step a play None) (start_step b play None)
-      (start_step-equal play None a.options.run_rules_on_level_start refl (record { board = board; history = All-nil IsSuch; target = board }))
+      (start_step-equal play None a.options.run_rules_on_level_start refl (record { board = board; history = All-nil IsSuch; restart_board = board }))
 
   pub enter-equal : (entry : ℕ) → EqualSteps IsSuch (enter a entry) (enter b entry)
   enter-equal entry = entered-equal entry (slice_get a.entries entry) refl
@@ -89,4 +89,4 @@ module _ (IsSuch : Grid → Type 0) (a : Script) (plain late : List Section) (bo
   level_done-equal play = after-equal IsSuch (done_line a play.entry) (enter a (suc play.entry)) (enter b (suc play.entry)) (enter-equal (suc play.entry))
 
   pub restarted-equal : (message : Option (List ℕ)) (play : Play) → AreBoards IsSuch play → EqualSteps IsSuch (restarted a play message) (restarted b play message)
-  restarted-equal message play h = start_step-equal (with_board play play.target) message a.options.run_rules_on_level_start refl (with_target-boards IsSuch play h)
+  restarted-equal message play h = start_step-equal (with_board play play.restart_board) message a.options.run_rules_on_level_start refl (with_restart_board-boards IsSuch play h)

@@ -10,8 +10,8 @@ use Rattle.ps_model.specs.board.Levels.{loaded}
 use Rattle.ps_model.specs.board.Programs.{Section}
 use Rattle.ps_model.specs.board.Turns.{Script, Done, Outcome, turn}
 use Rattle.ps_model.specs.session.LevelLines.{Entry, MessageEntry, LevelEntry}
-use Rattle.ps_model.specs.session.Sessions.{Play, Step, after, remembered, with_turn, with_board}
-use Rattle.ps_model.specs.session.KeySteps.{remembered_if, back_at}
+use Rattle.ps_model.specs.session.Sessions.{Play, Step, after, with_board_in_history, with_turn, with_board}
+use Rattle.ps_model.specs.session.KeySteps.{with_board_in_history_if, back_at}
 use Rattle.ps_laws.specs.SessionBoards.{AreBoards, AreBoardsIn, HasBoard}
 use Rattle.ps_laws.specs.AlikeScripts.{EqualOutcomes, EqualSteps}
 use Rattle.ps_laws.proofs.common.Everywhere.{either_one, All-slice_get}
@@ -51,28 +51,28 @@ module _ (IsSuch : Grid → Type 0) where
   -- boards ----------------------------------------------------------------------------------------------------------------
 
   pub with_turn-boards : (play : Play) (done : Done) → AreBoards IsSuch play → IsSuch done.board → AreBoards IsSuch (with_turn play done)
-  with_turn-boards play done h board = record { board = board; history = h.history; target = either_one IsSuch done.checkpoint done.board play.target board h.target }
+  with_turn-boards play done h board = record { board = board; history = h.history; restart_board = either_one IsSuch done.checkpoint done.board play.restart_board board h.restart_board }
 
-  pub with_target-boards : (play : Play) → AreBoards IsSuch play → AreBoards IsSuch (with_board play play.target)
-  with_target-boards play h = record { board = h.target; history = h.history; target = h.target }
+  pub with_restart_board-boards : (play : Play) → AreBoards IsSuch play → AreBoards IsSuch (with_board play play.restart_board)
+  with_restart_board-boards play h = record { board = h.restart_board; history = h.history; restart_board = h.restart_board }
 
-  pub remembered-boards : (play : Play) → AreBoards IsSuch play → AreBoards IsSuch (remembered play)
-  remembered-boards play h =
+  pub with_board_in_history-boards : (play : Play) → AreBoards IsSuch play → AreBoards IsSuch (with_board_in_history play)
+  with_board_in_history-boards play h =
       let boards : List Grid = play.history ++ play.board ∷ [] in
       record {
         board = h.board;
         history = All-drop IsSuch (length boards - HISTORY_LIMIT) boards (All-append IsSuch play.history (play.board ∷ []) h.history (All-cons IsSuch play.board [] h.board (All-nil IsSuch)));
-        target = h.target;
+        restart_board = h.restart_board;
       }
 
-  pub remembered_if-boards : (changed : Bool) (play : Play) → AreBoards IsSuch play → AreBoards IsSuch (remembered_if changed play)
-  remembered_if-boards true play h = remembered-boards play h
-  remembered_if-boards false play h = h
+  pub with_board_in_history_if-boards : (changed : Bool) (play : Play) → AreBoards IsSuch play → AreBoards IsSuch (with_board_in_history_if changed play)
+  with_board_in_history_if-boards true play h = with_board_in_history-boards play h
+  with_board_in_history_if-boards false play h = h
 
   pub back_at-boards : (play : Play) (found : Option Grid) → slice_get play.history (length play.history - 1) ≡ found → AreBoards IsSuch play → AreBoards IsSuch (back_at play found)
   back_at-boards play None e h = h
   back_at-boards play (Some latest) e h = record {
     board = All-slice_get IsSuch play.history (length play.history - 1) latest h.history e;
     history = All-take IsSuch (length play.history - 1) play.history h.history;
-    target = h.target;
+    restart_board = h.restart_board;
   }

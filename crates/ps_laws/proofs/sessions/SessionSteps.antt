@@ -55,14 +55,14 @@ one_fewer : (earlier : List Grid) (latest : Grid) → length (earlier ++ latest 
 one_fewer earlier latest = let long : length (earlier ++ latest ∷ []) ≡ length earlier + 1 = length-append earlier (latest ∷ []) in omega (arith, long)
 
 back_at-latest : (play : Play) (earlier : List Grid) (latest : Grid) → play.history ≡ earlier ++ latest ∷ [] →
-    back_at play (slice_get play.history (length play.history - 1)) ≡ record { entry = play.entry; board = latest; history = earlier; target = play.target }
+    back_at play (slice_get play.history (length play.history - 1)) ≡ record { entry = play.entry; board = latest; history = earlier; restart_board = play.restart_board }
 back_at-latest play earlier latest e =
     let boards : List Grid = earlier ++ latest ∷ [] in
     let count : length play.history - 1 ≡ length earlier = ap (λ (l : List Grid). length l - 1) e ∙ one_fewer earlier latest in
     let found : slice_get play.history (length play.history - 1) ≡ Some latest = ap₂ (λ (l : List Grid) (n : ℕ). slice_get l n) e count ∙ last_of earlier latest in
     let left : take (length play.history - 1) play.history ≡ earlier = ap₂ (λ (n : ℕ) (l : List Grid). take n l) count e ∙ take-append_seam earlier (latest ∷ []) in
     ap (back_at play) found
-    ∙ ap (λ (l : List Grid). let back : Play = record { entry = play.entry; board = latest; history = l; target = play.target } in back) left
+    ∙ ap (λ (l : List Grid). let back : Play = record { entry = play.entry; board = latest; history = l; restart_board = play.restart_board } in back) left
 
 pub undo_takes_latest : UndoTakesLatest
 undo_takes_latest script play earlier latest e =

@@ -12,8 +12,8 @@ use Rattle.ps_model.specs.declared.limits.TheConstants.{AGAIN_LIMIT}
 use Rattle.ps_model.specs.board.Grid.{Grid}
 use Rattle.ps_model.specs.board.Turns.{Script, Done, Outcome, Blocked, Restarted, Finished, turn}
 use Rattle.ps_model.specs.session.Sessions.{Play, Pending, Nothing, LevelDone, KeyAgain, StartAgain, Session, Playing}
-use Rattle.ps_model.specs.session.Sessions.{Waiting, AtMessage, Ended, Step, quietly, after, waiting, shown, remembered}
-use Rattle.ps_model.specs.session.Sessions.{with_turn}
+use Rattle.ps_model.specs.session.Sessions.{Waiting, AtMessage, Ended, Step, quietly, after, waiting, shown}
+use Rattle.ps_model.specs.session.Sessions.{with_board_in_history, with_turn}
 use Rattle.ps_model.specs.session.StartSteps.{start_turns, enter, level_done, restarted}
 
 -- turns ------------------------------------------------------------------------------------------------------------------
@@ -65,9 +65,9 @@ blocked play None = quietly (Playing play)
 blocked play (Some text) = waiting play text Nothing
 
 -- the board before a turn enters the history, if the turn changed it
-abbrev pub remembered_if : Bool → Play → Play
-remembered_if true play = remembered play
-remembered_if false play = play
+abbrev pub with_board_in_history_if : Bool → Play → Play
+with_board_in_history_if true play = with_board_in_history play
+with_board_in_history_if false play = play
 
 -- a done turn of a key, in a level whose history is already as it will be: the new board, its frame, and what follows
 abbrev pub key_done : Script → Play → Done → Step
@@ -77,8 +77,8 @@ key_done script play done =
 -- what comes of a key's own turn
 abbrev pub turn_taken : Script → Play → Outcome → Step
 turn_taken script play (Blocked message) = after (shown script play) (blocked play message)
-turn_taken script play (Restarted message) = restarted script (remembered play) message
-turn_taken script play (Finished done) = key_done script (remembered_if done.changed play) done
+turn_taken script play (Restarted message) = restarted script (with_board_in_history play) message
+turn_taken script play (Finished done) = key_done script (with_board_in_history_if done.changed play) done
 
 -- keys -------------------------------------------------------------------------------------------------------------------
 
@@ -89,7 +89,12 @@ input_taken script play input = turn_taken script play (turn script (Some input)
 -- the level back at the latest board of its history, which leaves the history; where there is none, as it is
 abbrev pub back_at : Play → Option Grid → Play
 back_at play None = play
-back_at play (Some latest) = record { entry = play.entry; board = latest; history = take (length play.history - 1) play.history; target = play.target }
+back_at play (Some latest) = record {
+  entry = play.entry;
+  board = latest;
+  history = take (length play.history - 1) play.history;
+  restart_board = play.restart_board;
+}
 
 -- the level back at the latest board; a frame shows it, also where it is as it was
 abbrev pub undone : Script → Play → Step
@@ -112,7 +117,8 @@ key_in_level script play (Move Left) = input_taken script play Left
 key_in_level script play (Move Right) = input_taken script play Right
 key_in_level script play (Move Action) = unless_ignored script.options.no_action play (λ here. input_taken script here Action)
 key_in_level script play Undo = unless_ignored script.options.no_undo play (λ here. undone script here)
-key_in_level script play Restart = unless_ignored script.options.no_restart play (λ here. restarted script (remembered here) None)
+key_in_level script play Restart =
+    unless_ignored script.options.no_restart play (λ here. restarted script (with_board_in_history here) None)
 key_in_level script play Quit = quit
 
 -- a level goes on behind a message

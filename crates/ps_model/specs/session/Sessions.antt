@@ -17,7 +17,7 @@ pub record Play : Type 0 where
   pub entry : ℕ
   pub board : Grid
   pub history : List Grid
-  pub target : Grid
+  pub restart_board : Grid
 
 -- what a level's message goes on with once it is dismissed: nothing; the end of the level; or so many more again turns,
 -- those of a key or those of the start of a level
@@ -82,16 +82,26 @@ abbrev pub kept : List Grid → List Grid
 kept boards = drop (length boards - HISTORY_LIMIT) boards
 
 -- the board enters the history
-abbrev pub remembered : Play → Play
-remembered play = record { entry = play.entry; board = play.board; history = kept (play.history ++ play.board ∷ []); target = play.target }
+abbrev pub with_board_in_history : Play → Play
+with_board_in_history play = record {
+  entry = play.entry;
+  board = play.board;
+  history = kept (play.history ++ play.board ∷ []);
+  restart_board = play.restart_board;
+}
 
 -- the level with that board
 abbrev pub with_board : Play → Grid → Play
-with_board play board = record { entry = play.entry; board = board; history = play.history; target = play.target }
+with_board play board = record { entry = play.entry; board = board; history = play.history; restart_board = play.restart_board }
 
--- the level with the board of a done turn; the board is the restart target too, where the turn sets a checkpoint
+-- the level with the board of a done turn; a restart goes back to it too, where the turn sets a checkpoint
 abbrev pub with_turn : Play → Done → Play
-with_turn play done = record { entry = play.entry; board = done.board; history = play.history; target = if done.checkpoint then done.board else play.target }
+with_turn play done = record {
+  entry = play.entry;
+  board = done.board;
+  history = play.history;
+  restart_board = if done.checkpoint then done.board else play.restart_board;
+}
 
 -- a level whose message waits
 abbrev pub waiting : Play → List ℕ → Pending → Step

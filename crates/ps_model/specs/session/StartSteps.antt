@@ -70,7 +70,9 @@ start_step script play message = elim script.options.run_rules_on_level_start [
 
 -- a level at its start: as it is loaded, and without a history
 abbrev pub fresh : Script → ℕ → Level → Play
-fresh script entry level = let board : Grid = loaded script.names level in record { entry = entry; board = board; history = []; target = board }
+fresh script entry level =
+    let board : Grid = loaded script.names level in
+    record { entry = entry; board = board; history = []; restart_board = board }
 
 -- an entry begins: a message waits, a level starts; behind the last entry is the end
 abbrev pub entered : Script → ℕ → Option Entry → Step
@@ -87,6 +89,6 @@ enter script entry = entered script entry (slice_get script.entries entry)
 abbrev pub level_done : Script → Play → Step
 level_done script play = after (done_line script play.entry) (enter script (suc play.entry))
 
--- a level restarts: the board is the target, and the start step follows
+-- a level restarts: it has the restart board, and the start step follows
 abbrev pub restarted : Script → Play → Option (List ℕ) → Step
-restarted script play message = start_step script (with_board play play.target) message
+restarted script play message = start_step script (with_board play play.restart_board) message

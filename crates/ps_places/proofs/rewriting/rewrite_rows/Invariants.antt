@@ -4,7 +4,7 @@ use Rattle.ps_model.specs.board.Grid.{IsGrid}
 use Rattle.ps_board.specs.ColumnSets.{column_at, set_columns}
 use Rattle.ps_match.specs.InRoom.{sides_of}
 use Rattle.ps_match.proofs.RowWritten.{told}
-use Rattle.ps_program.specs.Parts.{HasCell}
+use Rattle.ps_laws.specs.WholeRows.{HasCells}
 use Rattle.ps_places.specs.LeavingAlone.{PlacesLieAlone}
 use Rattle.ps_places.specs.PartStarts.{AreStarts}
 use Rattle.ps_places.proofs.RowsTogether.{rows_done}
@@ -17,7 +17,7 @@ invariant-loop-row g l =
     let table = g.B.Board.table l.fn.board in
     record {
       among : (row : ℕ) → row < SIDE_LIMIT → column_at l.left row ≡ true → column_at l.fn.rows row ≡ true;
-      rewritten : (grid : IsGrid start) (some : HasCell l.part)
+      rewritten : (grid : IsGrid start) (some : HasCells l.part)
           (found : AreStarts start table l.fn.axis l.part l.fn.rows l.starts)
           (alone : PlacesLieAlone l.fn.axis l.part l.fn.rows l.starts) →
           told (g.B.Board.grid l.board) l.changed

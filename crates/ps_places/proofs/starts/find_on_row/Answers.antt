@@ -1,7 +1,7 @@
 use Rattle.std.proofs.Common.{◌≡◌, ◌∙◌, ◌<◌, [], length, true, rules, arith}
 use Rattle.std.proofs.lemmas.List.{get_or_default, length-set}
 use Rattle.std.proofs.lemmas.List.Elements.{All-get_or}
-use Rattle.ps_program.specs.Parts.{HasCell}
+use Rattle.ps_laws.specs.WholeRows.{HasCells}
 use Rattle.ps_places.proofs.FoundAcross.{begun-more, begun-none}
 use Rattle.ps_places.proofs.starts.find_on_row.Goals as goal
 
@@ -13,7 +13,7 @@ returns-then-is_empty-clause-none g c =
     c.args.parts.now c.args.row c.loop-number.number c.as_slice.result.now
     c.columns_across-columns.result c.size-width.ensures.shape c.requires.row c.loop-number-test.true
     (c.as_slice.ensures ∙ c.index-parts-number.is ∙ get_or_default c.args.parts.now c.loop-number.number c.index-parts-number.result [] c.loop-number-test.true)
-    (All-get_or HasCell c.args.parts.now c.loop-number.number [] c.loop-number-test.true c.requires.whole)
+    (All-get_or HasCells c.args.parts.now c.loop-number.number [] c.loop-number-test.true c.requires.whole)
     c.columns_across-columns.ensures (c.is_empty.ensures.none empty)
 
 pub loop-number-preserved : goal.loop-number-preserved
@@ -27,7 +27,7 @@ loop-number-preserved g c =
           c.loop-number.sets c.columns_across-columns.result c.size-width.ensures.shape c.requires.row within
           (c.as_slice.ensures ∙ c.index-parts-number.is
           ∙ get_or_default c.args.parts.now c.loop-number.number c.index-parts-number.result [] c.loop-number-test.true)
-          (All-get_or HasCell c.args.parts.now c.loop-number.number [] c.loop-number-test.true c.requires.whole)
+          (All-get_or HasCells c.args.parts.now c.loop-number.number [] c.loop-number-test.true c.requires.whole)
           c.columns_across-columns.ensures c.loop-number.invariant.begun;
       long = length-set c.loop-number.sets c.loop-number.number c.columns_across-columns.result
           ∙ c.loop-number.invariant.long;

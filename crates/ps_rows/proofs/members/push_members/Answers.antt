@@ -1,6 +1,6 @@
 use Rattle.std.proofs.Common.{◌≡◌, ◌<◌, length, refl, arith}
 use Rattle.std.proofs.lemmas.List.{append-nil}
-use Rattle.ps_rows.proofs.Spans.{below_none, members_more, members_all}
+use Rattle.ps_rows.proofs.MemberRanges.{below_none, members_more, members_all}
 use Rattle.ps_rows.proofs.members.push_members.Goals as goal
 
 pub loop-object-init : goal.loop-object-init

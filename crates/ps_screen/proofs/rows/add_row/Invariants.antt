@@ -8,6 +8,6 @@ use Rattle.ps_screen.proofs.rows.add_row.Given as goal
 -- the characters of the columns passed by
 abbrev pub invariant-loop-column : goal.invariant-loop-column
 invariant-loop-column g l =
-    l.screen
-    ≡ l.fn.screen
+    l.output
+    ≡ l.fn.output
     ++ flat_map (λ column. encode_utf8 (shown_character l.names (cell_at (g.B.Board.grid l.board) (column * (g.B.Board.grid l.board).height + l.row)))) (range_with_len 0 l.column)

@@ -2,7 +2,7 @@ use Rattle.std.proofs.Common.{◌≡◌, ◌++◌, ◌-◌, ◌<◌, ℕ, List, 
 use Rattle.std.specs.Prelude.{All, IfSome}
 use Rattle.ps_model.specs.text.LineNumbers.{line_at}
 use Rattle.ps_model.specs.text.RuleWords.{words_under}
-use Rattle.ps_text.specs.Places.{words_found, IsWordPlace}
+use Rattle.ps_text.specs.WordRanges.{words_found, IsWordRange}
 use Rattle.ps_text.specs.WordViews.{span_of, text_of, span_at, bytes_at, texts_under, IsSliceOf, AreRisingSpans}
 use Rattle.ps_text.proofs.RisingSpans.{rise_limit}
 use Rattle.ps_text.proofs.cutting.words.Given as goal
@@ -15,8 +15,8 @@ invariant-loop-next l =
       hold : All (λ (text : List ℕ). 0 < length text) (map text_of l.words.items);
       slices : All (IsSliceOf l.source) l.words.items;
       rising : AreRisingSpans l.row.start (rise_limit l.row.start l.text l.next) (map span_of l.words.items);
-      next : IfSome l.next (IsWordPlace l.text 0);
+      next : IfSome l.next (IsWordRange l.text 0);
     }
 
 abbrev pub decreases-loop-next : goal.decreases-loop-next
-decreases-loop-next l = elim l.next [ None ↦ 0 | Some place ↦ suc (length l.text - place.end) ]
+decreases-loop-next l = elim l.next [ None ↦ 0 | Some range ↦ suc (length l.text - range.end) ]

@@ -1,5 +1,5 @@
-use Rattle.ps_text.specs.TakenPlaces.{IsTextStart}
-use Rattle.ps_text.proofs.TextPlaces.{raw_region, plain_region}
+use Rattle.ps_text.specs.TakenRanges.{IsTextStart}
+use Rattle.ps_text.proofs.TextRanges.{raw_region, plain_region}
 use Rattle.ps_text.proofs.regions.text_region.Goals as goal
 
 pub returns-clause-raw : goal.returns-clause-raw

@@ -2,7 +2,7 @@ use Rattle.std.proofs.Common.{◌≡◌, ◌∙◌, ◌+◌, ◌-◌, ◌<◌, �
 use Rattle.std.specs.Str.{IsCharBoundary}
 use Rattle.std.proofs.lemmas.Grind.{common_steps}
 use Rattle.std.proofs.lemmas.Str.{IsCharBoundary-after_ascii}
-use Rattle.ps_text.specs.declared.rows.Above.{Above}
+use Rattle.ps_text.specs.declared.rows.LineStart.{LineStart}
 use Rattle.ps_text.proofs.rows.row_at.Goals as goal
 
 pub returns-clause-next : goal.returns-clause-next
@@ -14,8 +14,8 @@ returns-clause-next c =
     let within : end ≤ length text = rw c.as_bytes.ensures.value at c.line_end-end.ensures.within in
     let feed : end < length text → get_or text end 0 ≡ 10 = rw c.as_bytes.ensures.value at c.line_end-end.ensures.feed in
     let long : length c.range.result.now ≡ end - above.start = ap length c.range.ensures.value ∙ (let order : above.start ≤ end = c.line_end-end.ensures.behind in grind (arith, common_steps)) in
-    let starts : below.start ≡ above.start + length c.range.result.now + 1 = ap (λ (a : Above). a.start) c.in_ok-row.ensures.below in
-    let counts : below.number ≡ above.number + 1 = ap (λ (a : Above). a.number) c.in_ok-row.ensures.below in
+    let starts : below.start ≡ above.start + length c.range.result.now + 1 = ap (λ (a : LineStart). a.start) c.in_ok-row.ensures.below in
+    let counts : below.number ≡ above.number + 1 = ap (λ (a : LineStart). a.number) c.in_ok-row.ensures.below in
     let here : end + 1 ≡ below.start = omega (arith, starts, long, c.line_end-end.ensures.behind) in
     record {
       further = omega (arith, starts);

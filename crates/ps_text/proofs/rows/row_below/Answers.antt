@@ -1,7 +1,7 @@
 use Rattle.std.proofs.Common.{string_bytes}
 use Rattle.std.specs.Prelude.{IfSome}
 use Rattle.std.proofs.lemmas.Str.{IsUtf8-string_bytes}
-use Rattle.ps_text.specs.TakenPlaces.{IsTextPlace}
+use Rattle.ps_text.specs.TakenRanges.{IsTextRange}
 use Rattle.ps_text.proofs.Veils.{veiled_line}
 use Rattle.ps_text.proofs.rows.row_below.Goals as goal
 
@@ -10,8 +10,8 @@ header_of_line-header-requires c = rw c.as_bytes.ensures.value (IsUtf8-string_by
 
 pub returns-clause-whole : goal.returns-clause-whole
 returns-clause-whole c =
-    let region : IfSome c.text_region-region.result (IsTextPlace (string_bytes c.in_ok-plain.plain)) = rw c.as_str.ensures.value at c.text_region-region.ensures.plain in
+    let region : IfSome c.text_region-region.result (IsTextRange (string_bytes c.in_ok-plain.plain)) = rw c.as_str.ensures.value at c.text_region-region.ensures.plain in
     record {
       veiled = veiled_line c.args.raw.now (string_bytes c.in_ok-plain.plain) (string_bytes c.in_ok-visible.visible) c.text_region-region.result c.in_ok-plain.ensures.plain region c.in_ok-visible.ensures;
-      taken = c.taken_in-taken.ensures.place;
+      taken = c.taken_in-taken.ensures.range;
     }

@@ -19,8 +19,8 @@ returns-then-is_plus-clause-words c =
     let plus : (get_or c.args.line.now start 0 == 43) ≡ true = search rules in
     first_plus c.args.line.now start c.past_parting-start.ensures.place within plus
 
-pub returns-then-is_plus-clause-place : goal.returns-then-is_plus-clause-place
-returns-then-is_plus-clause-place c =
+pub returns-then-is_plus-clause-range : goal.returns-then-is_plus-clause-range
+returns-then-is_plus-clause-range c =
     let start = c.past_parting-start.result in
     let within : start < length c.args.line.now = omega (arith, c.past_parting-start.ensures.cuttable.0) in
     let plus : get_or c.args.line.now start 0 ≡ 43 = search rules in

@@ -1,5 +1,5 @@
 use Rattle.std.proofs.Common.{rules, ◌≡◌, ◌∙◌, ◌<◌, length, sym, arith, ap}
-use Rattle.ps_text.specs.Places.{rule_words_behind}
+use Rattle.ps_text.specs.WordRanges.{rule_words_behind}
 use Rattle.ps_text.proofs.RuleWordSteps.{past_blanks, own_word, no_rule_word}
 use Rattle.ps_text.proofs.rule_scan.next_rule_word.Goals as goal
 

@@ -2,7 +2,7 @@ use Rattle.std.proofs.Common.{rules, ◌≡◌, ◌+◌, ℕ, true, get_or, subs
 use Rattle.std.specs.Str.{IsCharBoundary}
 use Rattle.std.proofs.lemmas.Str.{IsCharBoundary-after_ascii}
 use Rattle.ps_model.specs.text.RuleWords.{is_own_word}
-use Rattle.ps_text.specs.Places.{IsArrow}
+use Rattle.ps_text.specs.WordRanges.{IsArrow}
 use Rattle.ps_text.proofs.RuleWordSteps.{mark_is_ascii}
 use Rattle.ps_text.proofs.rule_scan.own_len.Goals as goal
 

@@ -1,6 +1,6 @@
 use Rattle.std.proofs.Common.{◌≡◌, drop, Some}
 use Rattle.ps_model.specs.text.RuleWords.{rule_words_from}
-use Rattle.ps_text.specs.Places.{rule_words_behind, IsSolid}
+use Rattle.ps_text.specs.WordRanges.{rule_words_behind, IsSolid}
 use Rattle.ps_text.proofs.rule_scan.rule_run_end.Given as goal
 
 abbrev pub invariant-loop-at : goal.invariant-loop-at

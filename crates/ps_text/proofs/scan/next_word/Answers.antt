@@ -5,8 +5,8 @@ use Rattle.ps_text.proofs.WordSteps.{alone_is_ascii, no_parting_no_blank}
 use Rattle.ps_text.proofs.Solid.{solid_one}
 use Rattle.ps_text.proofs.scan.next_word.Goals as goal
 
-pub returns-then-is_alone-clause-place : goal.returns-then-is_alone-clause-place
-returns-then-is_alone-clause-place c =
+pub returns-then-is_alone-clause-range : goal.returns-then-is_alone-clause-range
+returns-then-is_alone-clause-range c =
     let alone : stands_alone c.args.cut (get_or c.args.line.now c.past_parting-start.result 0) ≡ true = search rules in
     let within : c.past_parting-start.result < length c.args.line.now = omega (arith, c.past_parting-start.ensures.cuttable.0) in
     record {

@@ -1,6 +1,6 @@
 use Rattle.std.proofs.Common.{◌≡◌, drop, None, Some}
 use Rattle.ps_model.specs.text.Words.{words_from}
-use Rattle.ps_text.specs.Places.{IsSolid}
+use Rattle.ps_text.specs.WordRanges.{IsSolid}
 use Rattle.ps_text.proofs.scan.run_end.Given as goal
 
 abbrev pub invariant-loop-at : goal.invariant-loop-at

@@ -1,7 +1,7 @@
 use Rattle.std.proofs.Common.{rules, ◌≡◌, ◌∙◌, ◌∷◌, [], false, codes, sym, ap}
 use Rattle.ps_model.specs.text.Lines.{behind_arrow, is_word}
 use Rattle.ps_model.specs.text.RuleWords.{rule_words_in}
-use Rattle.ps_text.specs.Places.{rule_words_behind}
+use Rattle.ps_text.specs.WordRanges.{rule_words_behind}
 use Rattle.ps_text.proofs.NamedWords.{past_word, found_from_start}
 use Rattle.ps_text.proofs.taken.arrow_end.Goals as goal
 
@@ -13,5 +13,5 @@ loop-next-preserved c =
     let before : behind_arrow line ((word.start, word.end) ∷ rule_words_behind line word.end) ≡ behind_arrow line (rule_words_in line) = search rules in
     record {
       words = ap (behind_arrow line) (sym c.next_rule_word-next.ensures.words) ∙ sym (past_word line (word.start, word.end) (rule_words_behind line word.end) other) ∙ before;
-      place = found_from_start line word.end c.next_rule_word-next.result c.next_rule_word-next.ensures.place;
+      range = found_from_start line word.end c.next_rule_word-next.result c.next_rule_word-next.ensures.range;
     }

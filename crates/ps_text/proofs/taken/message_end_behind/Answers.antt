@@ -10,4 +10,4 @@ pub returns-then-is_message_word-clause-start : goal.returns-then-is_message_wor
 returns-then-is_message_word-clause-start c =
     let word = c.in-Some.word in
     let named : list_any (bytes_eq (folded (slice_range c.args.plain.now word.start word.end))) (codes "message" ∷ []) ≡ true = search rules in
-    text_behind_word c.args.plain.now c.loop-word.at (codes "message" ∷ []) word c.in-Some.ensures.place refl named
+    text_behind_word c.args.plain.now c.loop-word.at (codes "message" ∷ []) word c.in-Some.ensures.range refl named

@@ -1,7 +1,7 @@
 use Rattle.std.proofs.Common.{◌≡◌, ◌-◌, ◌∷◌, [], length, codes, find}
 use Rattle.std.specs.Str.{IsCharBoundary}
 use Rattle.ps_model.specs.text.Lines.{is_word, end_of_word}
-use Rattle.ps_text.specs.Places.{rule_words_behind}
+use Rattle.ps_text.specs.WordRanges.{rule_words_behind}
 use Rattle.ps_text.proofs.taken.message_end_behind.Given as goal
 
 abbrev pub invariant-loop-word : goal.invariant-loop-word

@@ -7,7 +7,7 @@ use Rattle.ps_rows.specs.Planes.{has_column}
 use Rattle.ps_rows.proofs.Bits.{has_column-zero}
 use Rattle.ps_rows.proofs.LayerChanges.{has_at, standing_is, standing_more}
 use Rattle.ps_rows.proofs.Marks.{listed_at}
-use Rattle.ps_rows.proofs.Spans.{listed_member}
+use Rattle.ps_rows.proofs.MemberRanges.{listed_member}
 use Rattle.ps_rows.proofs.row_board.RowBoard.standing_row.Goals as goal
 
 pub row-word-requires-clause-plane : goal.row-word-requires-clause-plane

@@ -7,7 +7,7 @@ use Rattle.ps_model.specs.session.StartSteps.{enter}
 use Rattle.ps_model.specs.game.Outputs.{opening_step}
 use Rattle.ps_stage.specs.Standings.{SessionParts, script_for}
 use Rattle.ps_stage.specs.StepsShown.{came}
-use Rattle.ps_stage.specs.Places.{place_shown}
+use Rattle.ps_stage.specs.Locations.{location_shown}
 use Rattle.ps_session.proofs.Opened.{opened}
 use Rattle.ps_session.proofs.session.Session.start.Given.{Over}
 use Rattle.ps_session.proofs.session.Session.start.Goals as goal
@@ -15,7 +15,7 @@ use Rattle.ps_session.proofs.session.Session.start.Goals as goal
 -- the opening is what the stage has come to
 opens : (g : Over) (c : goal.In_ok-add g) →
     opening_step (script_for g.B.Board.table_for c.args.game (g.R.Rules.meant c.args.rules.now.plain) (g.R.Rules.meant c.args.rules.now.late))
-    ≡ came (place_shown [] c.in_ok-place.place) c.enter.new.self.text
+    ≡ came (location_shown [] c.in_ok-location.location) c.enter.new.self.text
 opens g c =
     let script = λ (game : SessionParts). script_for g.B.Board.table_for game (g.R.Rules.meant c.args.rules.now.plain) (g.R.Rules.meant c.args.rules.now.late) in
     let title = λ (game : SessionParts). written_line (codes "= ") game.title in
@@ -24,8 +24,8 @@ opens g c =
     c.in_ok-tell_title.ensures.told
     ∙ ap (λ (text : List ℕ). text ++ title c.new-stage.result.game) c.new-stage.ensures.text
     ∙ ap title c.new-stage.ensures.game in
-    opened (script c.args.game) c.tell_title.new.self.text c.enter.new.self.text (place_shown [] c.in_ok-place.place) told
-    (ap (λ (parts : SessionParts). after c.tell_title.new.self.text (enter (script parts) 0)) (sym game) ∙ c.in_ok-place.ensures.came)
+    opened (script c.args.game) c.tell_title.new.self.text c.enter.new.self.text (location_shown [] c.in_ok-location.location) told
+    (ap (λ (parts : SessionParts). after c.tell_title.new.self.text (enter (script parts) 0)) (sym game) ∙ c.in_ok-location.ensures.came)
 
 pub returns-clause-session : goal.returns-clause-session
 returns-clause-session g c = rw c.in_ok-history.ensures (sym (ap (λ (step : Step). step.session) (opens g c)))
@@ -33,4 +33,4 @@ returns-clause-session g c = rw c.in_ok-history.ensures (sym (ap (λ (step : Ste
 pub returns-clause-written : goal.returns-clause-written
 returns-clause-written g c =
     c.in_ok-add.ensures.added
-    ∙ ap (λ (text : List ℕ). c.args.screen.now ++ text) (c.text.ensures ∙ sym (ap (λ (step : Step). step.text) (opens g c)))
+    ∙ ap (λ (text : List ℕ). c.args.output.now ++ text) (c.text.ensures ∙ sym (ap (λ (step : Step). step.text) (opens g c)))

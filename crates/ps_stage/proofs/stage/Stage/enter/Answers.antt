@@ -26,8 +26,8 @@ returns-in_ok-tell-in-Message-clause-came g c =
     ∙ ap (λ (x : Entry). after c.args.self.now.text (entered script c.args.entry (Some (entry_shown x)))) c.in-Message.is
     ∙ rw (c.in_ok-tell-in-Message.ensures.told, c.as_str.ensures, c.new-number.ensures) refl
 
-pub returns-in_ok-place-in-Level-clause-came : goal.returns-in_ok-place-in-Level-clause-came
-returns-in_ok-place-in-Level-clause-came g c =
+pub returns-in_ok-location-in-Level-clause-came : goal.returns-in_ok-location-in-Level-clause-came
+returns-in_ok-location-in-Level-clause-came g c =
     let script : Script =
     script_for g.B.Board.table_for c.args.self.now.game (g.R.Rules.meant c.args.rules.now.plain) (g.R.Rules.meant c.args.rules.now.late) in
     let within : c.args.entry < length c.entries-entries.result.now = omega arith in
@@ -35,4 +35,4 @@ returns-in_ok-place-in-Level-clause-came g c =
     (entry_found c.entries-entries.result.now c.args.self.now.game.entries c.args.entry _ c.entries-entries.ensures.entries within c.index-entries-entry.is)
     ∙ ap (λ (x : Entry). after c.args.self.now.text (entered script c.args.entry (Some (entry_shown x)))) c.in-Level.is
     ∙ ap (λ (n : ℕ). after c.args.self.now.text (entered script n (Some (LevelEntry c.in-Level.level)))) (sym c.new-number.ensures)
-    ∙ c.in_ok-place-in-Level.ensures.came
+    ∙ c.in_ok-location-in-Level.ensures.came

@@ -1,17 +1,17 @@
 use Rattle.std.proofs.Common.{◌∙◌, List, [], sym, ap}
 use Rattle.ps_model.specs.board.Grid.{Grid}
 use Rattle.ps_model.specs.board.Turns.{Script}
-use Rattle.ps_stage.specs.declared.places.KeyEnd.{KeyEnd}
+use Rattle.ps_stage.specs.declared.locations.KeyEnd.{KeyEnd}
 use Rattle.ps_stage.specs.KeysShown.{key_end_step}
-use Rattle.ps_stage.specs.Places.{past_of, place_shown}
+use Rattle.ps_stage.specs.Locations.{history_behind, location_shown}
 use Rattle.ps_stage.specs.Standings.{StageValue, script_for, play_of}
 use Rattle.ps_stage.specs.StepsShown.{came}
 use Rattle.ps_stage.proofs.stage.Stage.finish_key.Goals as goal
 
-pub returns-in_ok-place-in-Won-clause-came : goal.returns-in_ok-place-in-Won-clause-came
-returns-in_ok-place-in-Won-clause-came g c history first =
+pub returns-in_ok-location-in-Won-clause-came : goal.returns-in_ok-location-in-Won-clause-came
+returns-in_ok-location-in-Won-clause-came g c history first =
     let script : Script = script_for g.B.Board.table_for c.args.self.now.game (g.R.Rules.meant c.args.rules.now.plain) (g.R.Rules.meant c.args.rules.now.late) in
-    let past : List Grid = past_of c.args.past history first.board in
-    ap (λ (end : KeyEnd). key_end_step script end (play_of past c.args.level) c.args.self.now.text) c.in-Won.is
-    ∙ c.in_ok-place-in-Won.ensures.came past
-    ∙ ap (λ (stage : StageValue). came (place_shown [] c.in_ok-place-in-Won.field-0) stage.text) (sym c.keep_level.ensures)
+    let behind : List Grid = history_behind c.args.history_change history first.board in
+    ap (λ (end : KeyEnd). key_end_step script end (play_of behind c.args.level) c.args.self.now.text) c.in-Won.is
+    ∙ c.in_ok-location-in-Won.ensures.came behind
+    ∙ ap (λ (stage : StageValue). came (location_shown [] c.in_ok-location-in-Won.field-0) stage.text) (sym c.keep_level.ensures)

@@ -2,7 +2,7 @@ use Rattle.std.proofs.Common.{◌≡◌, ◌∙◌, ◌-◌, suc, ap, arith}
 use Rattle.ps_model.specs.board.Turns.{Script}
 use Rattle.ps_model.specs.session.Sessions.{Play, Step}
 use Rattle.ps_model.specs.session.KeySteps.{key_turns}
-use Rattle.ps_stage.specs.declared.places.KeyTold.{KeyTold}
+use Rattle.ps_stage.specs.declared.locations.KeyTold.{KeyTold}
 use Rattle.ps_stage.specs.Standings.{script_for, play_of}
 use Rattle.ps_stage.specs.KeysShown.{key_told_step}
 use Rattle.ps_stage.proofs.AgainTurns.{one_more}

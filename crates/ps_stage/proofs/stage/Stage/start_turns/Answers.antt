@@ -2,7 +2,7 @@ use Rattle.std.proofs.Common.{◌≡◌, ◌∙◌, ◌-◌, suc, ap, arith}
 use Rattle.ps_model.specs.board.Turns.{Script}
 use Rattle.ps_model.specs.session.Sessions.{Play, Step}
 use Rattle.ps_model.specs.session.StartSteps.{start_turns}
-use Rattle.ps_stage.specs.declared.places.Told.{Told}
+use Rattle.ps_stage.specs.declared.locations.StartTold.{StartTold}
 use Rattle.ps_stage.specs.Standings.{script_for, play_of}
 use Rattle.ps_stage.specs.StepsShown.{told_step}
 use Rattle.ps_stage.proofs.AgainTurns.{one_more}
@@ -17,7 +17,7 @@ returns-in-Stops-clause-came g c history =
     c.args.most c.loop-left.left (c.loop-left.left - 1) (play_of history c.args.level.now) (play_of history c.loop-left.level)
     (λ (script : Script) (turns : Play → Step). told_step c.in_ok-pending.field-0 (play_of history c.start_turn.new.level) c.start_turn.new.self.text turns)
     c.loop-left.invariant.game c.loop-left.invariant.plain c.loop-left.invariant.late count (c.loop-left.invariant.rest history) (c.in_ok-pending.ensures.told history)
-    ∙ ap (λ (told : Told). told_step told (play_of history c.start_turn.new.level) c.start_turn.new.self.text
+    ∙ ap (λ (told : StartTold). told_step told (play_of history c.start_turn.new.level) c.start_turn.new.self.text
     (start_turns (script_for g.B.Board.table_for c.args.self.now.game (g.R.Rules.meant c.args.rules.now.plain) (g.R.Rules.meant c.args.rules.now.late)) (c.loop-left.left - 1))) c.in-Stops.is
 
 pub loop-left-preserved : goal.loop-left-preserved
@@ -35,6 +35,6 @@ loop-left-preserved g c =
           c.args.most c.loop-left.left (c.loop-left.left - 1) (play_of history c.args.level.now) (play_of history c.loop-left.level)
           (λ (script : Script) (turns : Play → Step). told_step c.in_ok-pending.field-0 (play_of history c.start_turn.new.level) c.start_turn.new.self.text turns)
           c.loop-left.invariant.game c.loop-left.invariant.plain c.loop-left.invariant.late count (c.loop-left.invariant.rest history) (c.in_ok-pending.ensures.told history)
-          ∙ ap (λ (told : Told). told_step told (play_of history c.start_turn.new.level) c.start_turn.new.self.text
+          ∙ ap (λ (told : StartTold). told_step told (play_of history c.start_turn.new.level) c.start_turn.new.self.text
           (start_turns (script_for g.B.Board.table_for c.args.self.now.game (g.R.Rules.meant c.args.rules.now.plain) (g.R.Rules.meant c.args.rules.now.late)) (c.loop-left.left - 1))) c.in-GoesOn.is;
     }

@@ -2,9 +2,9 @@
 use Rattle.std.proofs.Common.{◌≡◌, ℕ, ◌+◌, ◌-◌, ◌<◌, ◌≤◌, List, length, get_or, subst, arith}
 use Rattle.std.specs.Str.{IsUtf8, IsCharBoundary}
 use Rattle.std.proofs.lemmas.Str.{IsCharBoundary-after_ascii}
-use Rattle.ps_text.specs.declared.scan.Place.{Place}
+use Rattle.ps_text.specs.declared.scan.ByteRange.{ByteRange}
 use Rattle.ps_text.specs.PlainLines.{IsPlain}
-use Rattle.ps_text.specs.TakenPlaces.{IsTextStart, IsTextPlace}
+use Rattle.ps_text.specs.TakenRanges.{IsTextStart, IsTextRange}
 
 -- where it begins
 cut_at_start : (line : List ℕ) (place : ℕ) → IsUtf8 line → IsTextStart line place → IsCharBoundary line place
@@ -23,10 +23,10 @@ raw_start raw plain place p s =
     record { some = s.some; within = omega (arith, s.within, p.same); ascii = omega (arith, s.ascii, same); solid = rw (← same) s.solid }
 
 pub raw_region : (raw plain : List ℕ) (start end : ℕ) → IsUtf8 raw → IsPlain raw plain → IsTextStart plain start → start ≤ end → end ≤ length raw → (end < length raw → get_or raw end 0 ≡ 40) →
-    IsTextPlace raw (let place : Place = record { start = start; end = end } in place)
+    IsTextRange raw (let range : ByteRange = record { start = start; end = end } in range)
 raw_region raw plain start end u p s o l h = record { order = o; start = cut_at_start raw start u (raw_start raw plain start p s); end = cut_at_end raw end 40 (omega arith) l h }
 
 pub plain_region : (raw plain : List ℕ) (start end : ℕ) → IsUtf8 plain → IsPlain raw plain → IsTextStart plain start → start ≤ end → end ≤ length raw → (end < length raw → get_or raw end 0 ≡ 40) →
-    IsTextPlace plain (let place : Place = record { start = start; end = end } in place)
+    IsTextRange plain (let range : ByteRange = record { start = start; end = end } in range)
 plain_region raw plain start end u p s o l h =
     record { order = o; start = cut_at_start plain start u s; end = cut_at_end plain end 32 (omega arith) (omega (arith, p.same)) (λ within. p.opening end (h (omega (arith, p.same)))) }

@@ -19,7 +19,7 @@ pub enum Pending {
 
 /// Where a player is, with levels of some kind.
 #[derive(Drop, Debug)]
-pub enum Place<L> {
+pub enum Location<L> {
     /// In a level.
     Playing(L),
     /// In a level whose message waits.
@@ -32,13 +32,13 @@ pub enum Place<L> {
 
 /// What a step does to the history, in which the boards stand that undo goes back to.
 #[derive(Clone, Copy, PartialEq, Eq, Debug)]
-pub enum Past {
+pub enum HistoryChange {
     /// It stays as it is.
     Keeps,
     /// The board before the step enters it.
-    Remembers,
+    Adds,
     /// It is empty, as at the start of every level.
-    Forgets,
+    Clears,
 }
 
 /// What comes of a key in a level.
@@ -46,13 +46,13 @@ pub enum Past {
 pub enum Change<L> {
     /// The level stays as it is; a message may wait.
     Stays(Option<Pending>),
-    /// The player goes to another place, or to another board of the level.
-    Goes(Place<L>, Past),
+    /// The player goes to another location, or to another board of the level.
+    Goes(Location<L>, HistoryChange),
 }
 
 /// What comes behind a frame of the start of a level.
 #[derive(Clone, Copy, PartialEq, Eq, Debug)]
-pub enum Told {
+pub enum StartTold {
     /// No turn: a message waits, or none does.
     Stops(Option<Pending>),
     /// Again turns.

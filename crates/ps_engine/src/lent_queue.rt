@@ -11,7 +11,7 @@ use std::marker::Model;
 
 /// Commands that are queued. Their message is lent by its rule, so that queueing takes no memory.
 #[derive(Drop)]
-pub struct Queue<'r> {
+pub struct LentQueue<'r> {
     pub cancel: bool,
     pub restart: bool,
     pub again: bool,
@@ -20,7 +20,7 @@ pub struct Queue<'r> {
     pub message: Option<&'r Text>,
 }
 
-impl<'r> Model for Queue<'r> {
+impl<'r> Model for LentQueue<'r> {
     ghost use Rattle.std.specs.Prelude.{option_map};
     ghost use Rattle.ps_model.specs.rules.SourceRules.{Commands as Meant};
 
@@ -36,12 +36,12 @@ impl<'r> Model for Queue<'r> {
     } };
 }
 
-impl<'r> Queue<'r> {
+impl<'r> LentQueue<'r> {
     /// A queue without commands.
-    pub fn empty() -> Queue<'r>
+    pub fn empty() -> LentQueue<'r>
         ensures { result ≡ no_commands }
     {
-        Queue {
+        LentQueue {
             cancel: false,
             restart: false,
             again: false,
@@ -52,10 +52,10 @@ impl<'r> Queue<'r> {
     }
 
     /// The queue of a rule's commands alone.
-    fn of(commands: &'r Commands) -> Queue<'r>
+    fn of(commands: &'r Commands) -> LentQueue<'r>
         ensures { result ≡ commands_shown commands.entry.now }
     {
-        Queue {
+        LentQueue {
             cancel: commands.cancel,
             restart: commands.restart,
             again: commands.again,
@@ -66,10 +66,10 @@ impl<'r> Queue<'r> {
     }
 
     /// Two queues together; of two messages this one's is kept.
-    fn with(&self, other: Queue<'r>) -> Queue<'r>
+    fn with(&self, other: LentQueue<'r>) -> LentQueue<'r>
         ensures { result ≡ both self.now other.entry }
     {
-        Queue {
+        LentQueue {
             cancel: self.cancel || other.cancel,
             restart: self.restart || other.restart,
             again: self.again || other.again,
@@ -87,7 +87,7 @@ impl<'r> Queue<'r> {
         if self.cancel || (self.restart && !commands.cancel) {
             return;
         }
-        let lent = Queue::of(commands);
+        let lent = LentQueue::of(commands);
         if commands.cancel || commands.restart {
             *self = lent;
             return;

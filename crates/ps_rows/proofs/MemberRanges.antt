@@ -8,8 +8,8 @@ use Rattle.std.proofs.lemmas.List.Elements.{filter-append}
 use Rattle.std.proofs.lemmas.List.FromFn.{map-range_with_len_more}
 use Rattle.std.proofs.lemmas.Option.{slice_get_within, slice_get-get_or}
 use Rattle.ps_model.specs.board.Movement.{is_number}
-use Rattle.ps_rows.specs.declared.members.Span.{Span}
-use Rattle.ps_rows.specs.Members.{on_layer, on_layer_below, IsSpanOf, AreSpansOf}
+use Rattle.ps_rows.specs.declared.members.MemberRange.{MemberRange}
+use Rattle.ps_rows.specs.Members.{on_layer, on_layer_below, IsRangeOf, AreRangesOf}
 use Rattle.ps_rows.proofs.Listed.{number_is, is_number-own, listed_passes, listed_range}
 
 -- an object is listed with its layer, and with no other
@@ -59,54 +59,54 @@ members_more numbers old more table layer n e f h =
 pub members_all : (numbers old table : List ℕ) (layer n : ℕ) → numbers ≡ old ++ on_layer_below table layer n → n ≡ length table → numbers ≡ old ++ on_layer table layer
 members_all numbers old table layer n f e = f ∙ ap (λ (k : ℕ). old ++ on_layer_below table layer k) e ∙ ap (λ (ns : List ℕ). old ++ ns) (below_all table layer)
 
--- a span stays one where numbers are added
-span_stays : (table numbers more : List ℕ) (layer : ℕ) (span : Span) → IsSpanOf table numbers layer span → IsSpanOf table (numbers ++ more) layer span
-span_stays table numbers more layer span s =
-    let order : span.start ≤ span.end = s.order in
-    let within : span.end ≤ length numbers = s.within in
+-- a range stays one where numbers are added
+range_stays : (table numbers more : List ℕ) (layer : ℕ) (range : MemberRange) → IsRangeOf table numbers layer range → IsRangeOf table (numbers ++ more) layer range
+range_stays table numbers more layer range s =
+    let order : range.start ≤ range.end = s.order in
+    let within : range.end ≤ length numbers = s.within in
     let long : length (numbers ++ more) ≡ length numbers + length more = length-append numbers more in
-    let enough : span.end - span.start ≤ length (drop span.start numbers) = rw length-drop (omega arith) in
-    let start : span.start ≤ length numbers = omega arith in
-    let cut : slice_range (numbers ++ more) span.start span.end ≡ slice_range numbers span.start span.end =
-    ap (take (span.end - span.start)) (drop-append-le span.start numbers more start)
-    ∙ take-append-le (span.end - span.start) (drop span.start numbers) more enough in
+    let enough : range.end - range.start ≤ length (drop range.start numbers) = rw length-drop (omega arith) in
+    let start : range.start ≤ length numbers = omega arith in
+    let cut : slice_range (numbers ++ more) range.start range.end ≡ slice_range numbers range.start range.end =
+    ap (take (range.end - range.start)) (drop-append-le range.start numbers more start)
+    ∙ take-append-le (range.end - range.start) (drop range.start numbers) more enough in
     record {
       order = order;
       within = omega arith;
       objects = cut ∙ s.objects;
     }
 
--- the span of what was added last
-span_added : (table numbers : List ℕ) (layer : ℕ) (span : Span) → span.start ≡ length numbers → span.end ≡ length (numbers ++ on_layer table layer) →
-    IsSpanOf table (numbers ++ on_layer table layer) layer span
-span_added table numbers layer span a b =
+-- the range of what was added last
+range_added : (table numbers : List ℕ) (layer : ℕ) (range : MemberRange) → range.start ≡ length numbers → range.end ≡ length (numbers ++ on_layer table layer) →
+    IsRangeOf table (numbers ++ on_layer table layer) layer range
+range_added table numbers layer range a b =
     let added : List ℕ = on_layer table layer in
     let long : length (numbers ++ added) ≡ length numbers + length added = length-append numbers added in
-    let size : length added ≤ span.end - span.start = omega arith in
+    let size : length added ≤ range.end - range.start = omega arith in
     record {
       order = omega arith;
       within = omega arith;
-      objects = ap (take (span.end - span.start)) (drop_at numbers added span.start (sym a)) ∙ take_all (span.end - span.start) added size;
+      objects = ap (take (range.end - range.start)) (drop_at numbers added range.start (sym a)) ∙ take_all (range.end - range.start) added size;
     }
 
--- one layer more has its span
-pub spans_more : (table numbers more : List ℕ) (spans longer : List Span) (layer : ℕ) (span : Span) → AreSpansOf table numbers spans → layer ≡ length spans →
-    longer ≡ spans ++ span ∷ [] → more ≡ numbers ++ on_layer table layer → span.start ≡ length numbers → span.end ≡ length more → AreSpansOf table more longer
-spans_more table numbers more spans longer layer span each long e f a b =
+-- one layer more has its range
+pub ranges_more : (table numbers more : List ℕ) (ranges longer : List MemberRange) (layer : ℕ) (range : MemberRange) → AreRangesOf table numbers ranges → layer ≡ length ranges →
+    longer ≡ ranges ++ range ∷ [] → more ≡ numbers ++ on_layer table layer → range.start ≡ length numbers → range.end ≡ length more → AreRangesOf table more longer
+ranges_more table numbers more ranges longer layer range each long e f a b =
     rw (e, f) (λ k d below.
-    let total : length (spans ++ span ∷ []) ≡ length spans + 1 = length-append spans (span ∷ []) in
-    elim (cases_lt k (length spans)) [
-      | inl old ↦ rw (get_or_append_left spans (span ∷ []) d k old) (span_stays table numbers (on_layer table layer) k (get_or spans k d) (each k d old))
+    let total : length (ranges ++ range ∷ []) ≡ length ranges + 1 = length-append ranges (range ∷ []) in
+    elim (cases_lt k (length ranges)) [
+      | inl old ↦ rw (get_or_append_left ranges (range ∷ []) d k old) (range_stays table numbers (on_layer table layer) k (get_or ranges k d) (each k d old))
       | inr new ↦
           let last : k ≡ layer = omega arith in
-          let end : span.end ≡ length (numbers ++ on_layer table layer) = b ∙ ap length f in
-          rw (get_or_push spans span d k (omega arith), last) (span_added table numbers layer span a end)
+          let end : range.end ≡ length (numbers ++ on_layer table layer) = b ∙ ap length f in
+          rw (get_or_push ranges range d k (omega arith), last) (range_added table numbers layer range a end)
     ])
 
--- the span of a layer
-pub span_at : (table numbers : List ℕ) (spans : List Span) (n layer : ℕ) (span : Span) → AreSpansOf table numbers spans → n ≡ length spans → layer < n →
-    span ≡ get_or spans layer span → IsSpanOf table numbers layer span
-span_at table numbers spans n layer span each long below is =
-    let P : Span → Type 0 = λ s. IsSpanOf table numbers layer s in
-    let inside : layer < length spans = omega arith in
-    subst P (sym is) (each layer span inside)
+-- the range of a layer
+pub range_at : (table numbers : List ℕ) (ranges : List MemberRange) (n layer : ℕ) (range : MemberRange) → AreRangesOf table numbers ranges → n ≡ length ranges → layer < n →
+    range ≡ get_or ranges layer range → IsRangeOf table numbers layer range
+range_at table numbers ranges n layer range each long below is =
+    let P : MemberRange → Type 0 = λ s. IsRangeOf table numbers layer s in
+    let inside : layer < length ranges = omega arith in
+    subst P (sym is) (each layer range inside)

@@ -2,54 +2,56 @@
 
 ghost use Rattle.std.specs.Prelude.{◌≡◌, [], true, IfOk, None, Ok};
 ghost use Rattle.ps_model.specs.session.KeySteps.{key_step};
-ghost use Rattle.ps_stage.specs.Places.{place_shown, IsOnTable};
+ghost use Rattle.ps_stage.specs.Locations.{location_shown, IsOnTable};
 ghost use Rattle.ps_stage.specs.Standings.{script_for};
 ghost use Rattle.ps_session.specs.Histories.{AreOnTable, grids_of};
 ghost use Rattle.ps_session.specs.IgnoredKeys.{is_ignored};
 ghost use Rattle.ps_session.specs.Nexts.{next_step};
 ghost use Rattle.ps_session.specs.Tables.{AnswersOnTable};
 
+use crate::history_boards::HistoryBoard;
 use crate::levels::key_in_level;
 use crate::messages::{key_at_entry, key_at_level_message};
 use crate::nexts::Next;
-use crate::past_boards::PastBoard;
 use circular_buffer::HeapCircularBuffer;
 use ps_board::Board;
 use ps_model::{Key, Memory};
-use ps_stage::{Place, PlayedLevel, Stage};
-use ps_turn::{Programs, Rules};
+use ps_stage::{Location, PlayedLevel, Stage};
+use ps_turn::{Rules, TurnRules};
 
-/// What a key does; nothing, where it is ignored. The place stays as it is.
+/// What a key does; nothing, where it is ignored. The location stays as it is.
 ///
 /// # Errors
 ///
-/// `Memory`, and the place is as before.
+/// `Memory`, and the location is as before.
 pub fn next_at<B: Board, R: Rules<B>>(
     stage: &mut Stage<'_, B>,
-    rules: &mut Programs<R>,
-    place: &mut Place<PlayedLevel<B>>,
-    history: &HeapCircularBuffer<PastBoard<B>>,
+    rules: &mut TurnRules<R>,
+    location: &mut Location<PlayedLevel<B>>,
+    history: &HeapCircularBuffer<HistoryBoard<B>>,
     key: Key,
 ) -> Result<Option<Next<PlayedLevel<B>>>, Memory>
     requires empty { stage.old.text ≡ [] }
-    requires table { IsOnTable (B.table_for stage.old.game.names.layers) place.old }
+    requires table { IsOnTable (B.table_for stage.old.game.names.layers) location.old }
     requires boards { AreOnTable (B.table_for stage.old.game.names.layers) history.now.items }
     ensures game { stage.new.game ≡ stage.old.game }
     ensures plain { R.meant rules.new.plain ≡ R.meant rules.old.plain }
     ensures late { R.meant rules.new.late ≡ R.meant rules.old.late }
-    ensures same { place.new ≡ place.old }
+    ensures same { location.new ≡ location.old }
     ensures came { IfOk result (λ next.
         key_step (script_for B.table_for stage.old.game (R.meant rules.old.plain) (R.meant rules.old.late))
-        (place_shown (grids_of history.now.items) place.old) key
-        ≡ next_step (grids_of history.now.items) place.old next stage.new.text) }
+        (location_shown (grids_of history.now.items) location.old) key
+        ≡ next_step (grids_of history.now.items) location.old next stage.new.text) }
     ensures table { IfOk result (λ next. AnswersOnTable (B.table_for stage.old.game.names.layers) next) }
-    ensures ignored { is_ignored stage.old.game.options (place_shown (grids_of history.now.items) place.old) key
+    ensures ignored { is_ignored stage.old.game.options (location_shown (grids_of history.now.items) location.old) key
         ≡ true → result ≡ Ok None }
 {
-    match place {
-        Place::Playing(level) => key_in_level(stage, rules, level, history, key),
-        Place::Waiting(level, pending) => key_at_level_message(stage, rules, level, *pending, key),
-        Place::AtMessage(entry) => key_at_entry(stage, rules, entry, key),
-        Place::Ended(_) => Ok(None),
+    match location {
+        Location::Playing(level) => key_in_level(stage, rules, level, history, key),
+        Location::Waiting(level, pending) => key_at_level_message(
+            stage, rules, level, *pending, key,
+        ),
+        Location::AtMessage(entry) => key_at_entry(stage, rules, entry, key),
+        Location::Ended(_) => Ok(None),
     }
 }

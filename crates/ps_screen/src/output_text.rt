@@ -10,13 +10,13 @@ use ps_model::Memory;
 use std::alloc::Global;
 use std::marker::Model;
 
-/// The bytes of a text that is being made.
+/// The bytes of a text that is to be written, as far as it is made.
 #[derive(Drop)]
-pub struct Screen {
+pub struct OutputText {
     text: Vec<u8>,
 }
 
-impl Model for Screen {
+impl Model for OutputText {
     ghost use Rattle.std.specs.Prelude.{List, ℕ};
 
     ghost Value = { List ℕ };
@@ -24,12 +24,12 @@ impl Model for Screen {
     ghost view = { λ s. s.text.items };
 }
 
-impl Screen {
+impl OutputText {
     /// Without bytes.
-    pub fn new(alloc: Global) -> Screen
+    pub fn new(alloc: Global) -> OutputText
         ensures { result ≡ [] }
     {
-        Screen {
+        OutputText {
             text: Vec::new(alloc),
         }
     }
@@ -122,7 +122,7 @@ impl Screen {
     /// # Errors
     ///
     /// `Memory`, and the bytes are as before.
-    pub fn add_frame(&mut self, rows: &[Screen]) -> Result<(), Memory>
+    pub fn add_frame(&mut self, rows: &[OutputText]) -> Result<(), Memory>
         ensures added { OnOk result (self.new ≡ self.old ++ (flat_map (λ row. row) rows.now ++ codes "\n")) }
         ensures kept { OnErr result (self.new ≡ self.old) }
     {
@@ -135,7 +135,7 @@ impl Screen {
     }
 
     /// Adds the rows of a frame one after the other, and an empty line; without memory, some of them.
-    fn add_rows(&mut self, rows: &[Screen]) -> Result<(), Memory>
+    fn add_rows(&mut self, rows: &[OutputText]) -> Result<(), Memory>
         ensures added { OnOk result (self.new ≡ self.old ++ (flat_map (λ row. row) rows.now ++ codes "\n")) }
         ensures front { OnErr result (take (length self.old) self.new ≡ self.old) }
     {

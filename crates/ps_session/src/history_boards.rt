@@ -1,31 +1,31 @@
-//! The entries of the undo history.
+//! The boards of the undo history.
 
 ghost use Rattle.std.specs.Prelude.{◌≡◌};
 
 use ps_board::Board;
 use std::marker::Model;
 
-/// An entry of the undo history: the board that a level had before a key changed it.
+/// A board of the undo history: the one that a level had before a key changed it.
 #[derive(Drop)]
-pub struct PastBoard<B: Board> {
+pub struct HistoryBoard<B: Board> {
     board: B,
 }
 
-impl<B: Board> Model for PastBoard<B> {
-    ghost use Rattle.ps_session.specs.Histories.{PastValue};
+impl<B: Board> Model for HistoryBoard<B> {
+    ghost use Rattle.ps_session.specs.Histories.{HistoryBoardValue};
 
-    ghost Value = { PastValue };
+    ghost Value = { HistoryBoardValue };
 
-    ghost view = { λ p. record { table = B.table p.board; grid = B.grid p.board } };
+    ghost view = { λ b. record { table = B.table b.board; grid = B.grid b.board } };
 }
 
-impl<B: Board> PastBoard<B> {
-    /// The entry of a level that is left, which had this board.
-    pub fn of(board: B) -> PastBoard<B>
+impl<B: Board> HistoryBoard<B> {
+    /// The board of a level that is left.
+    pub fn of(board: B) -> HistoryBoard<B>
         ensures grid { result.grid ≡ B.grid board }
         ensures table { result.table ≡ B.table board }
     {
-        PastBoard { board }
+        HistoryBoard { board }
     }
 
     /// The board that undo goes back to.

@@ -1,6 +1,6 @@
 use Rattle.std.proofs.Common.{◌≡◌, ◌++◌, take}
 use Rattle.std.specs.List.{flat_map}
-use Rattle.ps_screen.proofs.screen.Screen.add_rows.Given as goal
+use Rattle.ps_screen.proofs.output_text.OutputText.add_rows.Given as goal
 
 -- the rows passed by
 abbrev pub invariant-loop-row : goal.invariant-loop-row

@@ -1,4 +1,4 @@
-//! What is told of a text.
+//! What a check finds of a text.
 
 ghost use Rattle.std.specs.Prelude.{◌≡◌, IfOk, is_some, string_bytes};
 ghost use Rattle.ps_model.specs.game.Games.{game};
@@ -11,28 +11,28 @@ use std::alloc::Global;
 
 /// Whether a text is a game, and the line that tells of it.
 #[derive(Drop)]
-pub struct Told {
+pub struct Finding {
     pub accepted: bool,
     pub line: String,
 }
 
-/// What is told of a text.
-pub fn told_of(alloc: Global, text: &[u8]) -> Result<Told, Memory>
-    ensures accepted { IfOk result (λ told. told.accepted ≡ is_some (game text.now)) }
-    ensures line { IfOk result (λ told. string_bytes told.line ≡ check_line text.now) }
+/// What a check finds of a text.
+pub fn finding_of(alloc: Global, text: &[u8]) -> Result<Finding, Memory>
+    ensures accepted { IfOk result (λ finding. finding.accepted ≡ is_some (game text.now)) }
+    ensures line { IfOk result (λ finding. string_bytes finding.line ≡ check_line text.now) }
 {
     match read_game(alloc, text) {
         Ok(game) => {
             let size = size_of(&game);
             let line = format!(in alloc; "{size}\n")?;
-            Ok(Told {
+            Ok(Finding {
                 accepted: true,
                 line,
             })
         }
         Err(Refusal::Refused(fault)) => {
             let line = format!(in alloc; "{fault}\n")?;
-            Ok(Told {
+            Ok(Finding {
                 accepted: false,
                 line,
             })

@@ -1,0 +1,49 @@
+-- Where a player is, and what comes of a key, as sessions of the definitions.
+use Rattle.std.specs.Prelude.{ℕ, Bool, true, false, Option, List, [], ◌∷◌, ◌++◌, ◌≡◌, ⊤}
+use Rattle.ps_model.specs.board.Grid.{Grid}
+use Rattle.ps_model.specs.session.Sessions as model
+use Rattle.ps_model.specs.session.Sessions.{kept}
+use Rattle.ps_stage.specs.Standings.{Standing, play_of}
+use Rattle.ps_stage.specs.StepsShown.{pending_shown, stands}
+use Rattle.ps_stage.specs.declared.locations.Location.{Location}
+use Rattle.ps_stage.specs.declared.locations.Location.TheVariants.{Playing, Waiting, AtMessage, Ended}
+use Rattle.ps_stage.specs.declared.locations.HistoryChange.{HistoryChange}
+use Rattle.ps_stage.specs.declared.locations.HistoryChange.TheVariants.{Keeps, Adds, Clears}
+use Rattle.ps_stage.specs.declared.locations.Change.{Change}
+use Rattle.ps_stage.specs.declared.locations.Change.TheVariants.{Stays, Goes}
+
+-- a location, where a level has this history
+abbrev pub location_shown : List Grid → Location Standing → model.Session
+location_shown history (Playing level) = model.Playing (play_of history level)
+location_shown history (Waiting level pending) = model.Waiting (play_of history level) (pending_shown pending)
+location_shown history (AtMessage entry) = model.AtMessage entry
+location_shown history (Ended ending) = model.Ended ending
+
+-- the boards of the level there, if there is one, have this table
+abbrev pub IsOnTable : Option (List ℕ) → Location Standing → Type 0
+IsOnTable table (Playing level) = level.table ≡ table
+IsOnTable table (Waiting level pending) = level.table ≡ table
+IsOnTable table (AtMessage entry) = ⊤
+IsOnTable table (Ended ending) = ⊤
+
+-- the history behind a step from that board
+abbrev pub history_behind : HistoryChange → List Grid → Grid → List Grid
+history_behind Keeps history board = history
+history_behind Adds history board = kept (history ++ board ∷ [])
+history_behind Clears history board = []
+
+-- the board before a done turn enters the history, if the turn changed it
+abbrev pub history_change_if : Bool → HistoryChange
+history_change_if true = Adds
+history_change_if false = Keeps
+
+-- what comes of a key in a level with this history
+abbrev pub change_shown : List Grid → Standing → Change Standing → model.Session
+change_shown history level (Stays pending) = stands pending (play_of history level)
+change_shown history level (Goes location history_change) =
+    location_shown (history_behind history_change history level.board) location
+
+-- the boards of the level that it goes to, if there is one, have this table
+abbrev pub GoesOnTable : Option (List ℕ) → Change Standing → Type 0
+GoesOnTable table (Stays pending) = ⊤
+GoesOnTable table (Goes location history_change) = IsOnTable table location
