@@ -37,12 +37,13 @@ impl<T: Drop> FromStd<T> {
 
 impl<T: Read + Drop> ByteReader for FromStd<T> {
     ghost state = { λ device. record {
-        remaining = None;
-        has_failed = device.stream.failed;
-        last = device.stream.last;
-        calls = device.stream.calls;
-        empty_calls = device.stream.empty_calls;
-        odd_sized_calls = device.stream.odd_sized_calls } };
+      remaining = None;
+      has_failed = device.stream.failed;
+      last = device.stream.last;
+      calls = device.stream.calls;
+      empty_calls = device.stream.empty_calls;
+      odd_sized_calls = device.stream.odd_sized_calls;
+    } };
 
     /// One read of the stream, of as many bytes as `buffer` has room for and `CALL_LIMIT` allows: what it gives goes
     /// into `buffer`, and nothing of it is lost. std doesn't say that a read leaves the rest of its buffer alone, so
@@ -88,10 +89,11 @@ impl<T: Read + Drop> ByteReader for FromStd<T> {
 
 impl<T: Write + Drop> ByteWriter for FromStd<T> {
     ghost state = { λ device. record {
-        contents = None;
-        has_failed = device.stream.failed;
-        calls = device.stream.calls;
-        empty_calls = device.stream.empty_calls } };
+      contents = None;
+      has_failed = device.stream.failed;
+      calls = device.stream.calls;
+      empty_calls = device.stream.empty_calls;
+    } };
 
     /// One write to the stream, which is handed all of `bytes`, takes a front of them and nothing else.
     fn write_some(&mut self, bytes: &[u8]) -> Result<usize, Failed>

@@ -79,12 +79,13 @@ impl<'a> MemoryReader<'a> {
 
 impl<'a> ByteReader for MemoryReader<'a> {
     ghost state = { λ device. record {
-        remaining = Some (drop device.place device.bytes.now);
-        has_failed = device.failed;
-        last = device.last;
-        calls = device.calls;
-        empty_calls = device.empty_calls;
-        odd_sized_calls = device.odd_sized_calls } };
+      remaining = Some (drop device.place device.bytes.now);
+      has_failed = device.failed;
+      last = device.last;
+      calls = device.calls;
+      empty_calls = device.empty_calls;
+      odd_sized_calls = device.odd_sized_calls;
+    } };
 
     /// Gives as many bytes as are left up to where it stops, but no more than a piece and than `buffer` has room for;
     /// it fails where it stops and was told to, and behind the `u64::MAX`th call.
@@ -205,10 +206,11 @@ impl MemoryWriter {
 
 impl ByteWriter for MemoryWriter {
     ghost state = { λ device. record {
-        contents = Some device.bytes.items;
-        has_failed = device.failed;
-        calls = device.calls;
-        empty_calls = device.empty_calls } };
+      contents = Some device.bytes.items;
+      has_failed = device.failed;
+      calls = device.calls;
+      empty_calls = device.empty_calls;
+    } };
 
     /// Takes as much as there is room for, but no more than a piece; it fails where it has no room left for some bytes,
     /// and behind the `u64::MAX`th call.

@@ -224,12 +224,13 @@ struct Endless<'a> {
 
 impl<'a> ByteReader for Endless<'a> {
     ghost state = { λ reader. record {
-        remaining = None;
-        has_failed = reader.has_failed;
-        last = reader.last;
-        calls = reader.calls;
-        empty_calls = reader.empty_calls;
-        odd_sized_calls = reader.odd_sized_calls } };
+      remaining = None;
+      has_failed = reader.has_failed;
+      last = reader.last;
+      calls = reader.calls;
+      empty_calls = reader.empty_calls;
+      odd_sized_calls = reader.odd_sized_calls;
+    } };
 
     fn read_some(&mut self, buffer: &mut [u8]) -> Result<usize, Failed> {
         self.last = 0;
