@@ -63,8 +63,9 @@ def lanes():
 def copy_sources(crates, copy):
     """A copy of what is proved, as the top of a repository."""
     (copy / ".git").mkdir(parents=True)
-    for name in ("crates.txt", "HANDLES"):
-        shutil.copy2(TOP / name, copy / name)
+    lines = (TOP / "crates.txt").read_text().splitlines(keepends=True)
+    (copy / "crates.txt").write_text("".join(line for line in lines if line.split(":")[0].split(" ")[0] in crates))
+    shutil.copy2(TOP / "HANDLES", copy / "HANDLES")
     for crate in crates:
         shutil.copytree(TOP / "crates" / crate, copy / "crates" / crate, ignore=UNREAD)
 
