@@ -2,12 +2,16 @@
 //! when it is tried again, what it does where nothing is refused. As the tests run by themselves nothing is refused;
 //! `tools/refuse_growths` plays them with each growth refused in turn.
 
+ghost use Rattle.ps_stage.specs.Playable.{ArePlayable};
+
 use crate::games::NAMES;
 use crate::playable::playable_game;
-use ps_compile::compile;
+use ps_compile::{CompiledPrograms, compile};
+use ps_game::Game;
 use ps_model::{Ending, Input, Key, Memory};
 use ps_rulebook::{RowBoard, rules_of_turns};
 use ps_session::{OutputText, Phase, Session, SessionGame};
+use ps_turn::{Rules, TurnRules};
 use std::alloc::Global;
 use std::process::Abort;
 
@@ -39,8 +43,63 @@ fn is_refused(alloc: Global) -> bool {
     Vec::<u8>::with_capacity(alloc, 1).is_err()
 }
 
+/// Plays a session by keys, each of which is tried again where it was refused a growth.
+fn expect_session_again<'g, R: Rules<RowBoard> + Drop>(
+    rt: &(impl Abort + AllocGlobal),
+    session: &mut Session<'g, RowBoard>,
+    rules: &mut TurnRules<R>,
+    output: &mut OutputText,
+    opening: &str,
+    steps: &[Step<'_>],
+) {
+    for number in 0..steps.len() {
+        let (before, _) = steps.split_at(number);
+        let (through, _) = steps.split_at(number + 1);
+        let (key, _, phase) = steps[number];
+        let was = session.phase();
+        let mut answer = session.key(rules, key, output);
+        if let Err(Memory) = answer {
+            assert_eq!(rt; session.phase(), was);
+            assert!(rt; are_texts(output.bytes(), opening, before));
+            answer = session.key(rules, key, output);
+        }
+        if let Err(Memory) = answer {
+            assert_eq!(rt; session.phase(), was);
+            assert!(rt; are_texts(output.bytes(), opening, before));
+            assert!(rt; is_refused(rt.alloc()));
+            return;
+        }
+        assert_eq!(rt; session.phase(), phase);
+        assert!(rt; are_texts(output.bytes(), opening, through));
+    }
+}
+
+/// Plays a game by its compiled programs and by keys, each of which is tried again where it was refused a growth.
+fn expect_programs_again(
+    rt: &(impl Abort + AllocGlobal),
+    game: &Game,
+    programs: &CompiledPrograms<'_>,
+    opening: &str,
+    steps: &[Step<'_>],
+)
+    requires { ArePlayable game.now.names game.now.entries }
+{
+    let title = game.title.as_str();
+    let parts = SessionGame::new(title, game.options, &game.names, &game.entries, &game.wins);
+    let Ok(mut rules) = rules_of_turns(rt.alloc(), programs) else {
+        return;
+    };
+    let mut output = OutputText::new(rt.alloc());
+    let started = Session::<RowBoard>::start(rt.alloc(), parts, &mut rules, &mut output);
+    let Ok(mut session) = started else {
+        assert!(rt; output.bytes().is_empty());
+        return;
+    };
+    expect_session_again(rt, &mut session, &mut rules, &mut output, opening, steps);
+}
+
 /// Plays a game by keys, each of which is tried again where it was refused a growth. Nothing is looked at where memory
-/// is refused before the first key.
+/// is refused before the first key. Who lends a game and its programs has few ways out, each of which drops them.
 fn expect_keys_again(
     rt: &(impl Abort + AllocGlobal),
     lines: &str,
@@ -56,37 +115,7 @@ fn expect_keys_again(
     let Ok(programs) = compile(rt.alloc(), &game.names, &game.rules) else {
         return;
     };
-    let title = game.title.as_str();
-    let parts = SessionGame::new(title, game.options, &game.names, &game.entries, &game.wins);
-    let Ok(mut rules) = rules_of_turns(rt.alloc(), &programs) else {
-        return;
-    };
-    let mut output = OutputText::new(rt.alloc());
-    let started = Session::<RowBoard>::start(rt.alloc(), parts, &mut rules, &mut output);
-    let Ok(mut session) = started else {
-        assert!(rt; output.bytes().is_empty());
-        return;
-    };
-    for number in 0..steps.len() {
-        let (before, _) = steps.split_at(number);
-        let (through, _) = steps.split_at(number + 1);
-        let (key, _, phase) = steps[number];
-        let was = session.phase();
-        let mut answer = session.key(&mut rules, key, &mut output);
-        if let Err(Memory) = answer {
-            assert_eq!(rt; session.phase(), was);
-            assert!(rt; are_texts(output.bytes(), opening, before));
-            answer = session.key(&mut rules, key, &mut output);
-        }
-        if let Err(Memory) = answer {
-            assert_eq!(rt; session.phase(), was);
-            assert!(rt; are_texts(output.bytes(), opening, before));
-            assert!(rt; is_refused(rt.alloc()));
-            return;
-        }
-        assert_eq!(rt; session.phase(), phase);
-        assert!(rt; are_texts(output.bytes(), opening, through));
-    }
+    expect_programs_again(rt, &game, &programs, opening, steps);
 }
 
 #[test]
