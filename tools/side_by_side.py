@@ -44,12 +44,11 @@ class Task:
 
 @dataclasses.dataclass
 class Run:
-    """A task that goes on: in which copy, since when, by how many processors, and where what it says goes."""
+    """A task that goes on: in which copy, since when, and its process."""
 
     task: Task
     copy: pathlib.Path
     began: float
-    jobs: int
     process: subprocess.Popen
 
 
@@ -93,7 +92,7 @@ def begin(task, copy, jobs):
     folder = copy if task.at_top else copy / "crates" / task.crate
     with open(out_of(copy, task.crate) / task.log().name, "w") as log:
         process = subprocess.Popen(words, cwd=folder, stdin=subprocess.DEVNULL, stdout=log, stderr=log, start_new_session=True)
-    return Run(task, copy, time.monotonic(), jobs, process)
+    return Run(task, copy, time.monotonic(), process)
 
 
 def end(run):
@@ -151,14 +150,16 @@ class Runner:
             copy_sources(crates, copy)
 
     def begin_next(self):
-        """Begins as many tasks as there are processors for; who finds some left over gets them."""
-        free = max(0, self.most - sum(run.jobs for run in self.running))
+        """Begins as many tasks as there are processors for. The one that most of the work waits for gets as many jobs as there
+        are processors, though others go on beside it, since nothing is done sooner than the longest chain."""
+        free = max(0, self.most - len(self.running))
+        longest = max((self.behind[run.task] for run in self.running), default=0)
         begun = sorted(ready(self.left, self.running, self.proved), key=lambda task: -self.behind[task])[:free]
         for number, task in enumerate(begun):
-            jobs = max(1, free // (len(begun) - number)) if task.with_jobs else 1
-            free -= jobs
+            leads = number == 0 and self.behind[task] > longest
+            jobs = self.most if leads else max(1, free // len(begun))
             self.left.remove(task)
-            self.running.append(begin(task, self.idle.pop(), jobs))
+            self.running.append(begin(task, self.idle.pop(), jobs if task.with_jobs else 1))
 
     def take_ended(self):
         """Takes back what those have left that have ended, and tells of them. One that was killed beside others, as it is where
