@@ -72,7 +72,7 @@ impl<'g, B: Board> Session<'g, B> {
         let mut stage = Stage::new(alloc, game);
         stage.tell_title()?;
         let place = stage.enter(rules, 0)?;
-        screen.add(stage.text())?;
+        stage.move_text(screen)?;
         Ok(Session {
             stage,
             place,
@@ -111,7 +111,7 @@ impl<'g, B: Board> Session<'g, B> {
         let Some(next) = next else {
             return Ok(self.phase());
         };
-        if let Err(Memory) = screen.add(self.stage.text()) {
+        if let Err(Memory) = self.stage.move_text(screen) {
             give_up(&mut self.stage, next);
             return Err(Memory);
         }
