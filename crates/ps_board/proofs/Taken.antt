@@ -2,12 +2,12 @@
 use Rattle.std.proofs.Common.{◌≡◌, ◌≢◌, ◌∙◌, ℕ, ◌+◌, ◌<◌, ◌≤◌, ◌&&◌, ◌||◌, inl, inr, suc, zero, Bool, true, false, cond, List, [], ◌∷◌, ◌++◌, refl, sym, ap, ap₂, arith}
 use Rattle.std.specs.Prelude.{nat_eq, nat_lt, filter}
 use Rattle.std.specs.List.{flat_map, list_any, range_with_len}
-use Rattle.std.proofs.Math.Bool.{and-false}
-use Rattle.std.proofs.lemmas.Bool.{cases_eq, cases_lt}
+use Rattle.std.proofs.Math.Bool.{and-false, and-true, or-true}
+use Rattle.std.proofs.lemmas.Bool.{cases_eq, cases_lt, or_parts}
 use Rattle.std.proofs.lemmas.Bool.Decides.{nat_tests}
 use Rattle.ps_model.specs.declared.limits.TheConstants.{SIDE_LIMIT}
 use Rattle.ps_board.specs.ColumnSets.{both_columns, column_at, columns_below, set_columns}
-use Rattle.ps_board.proofs.ColumnLaws.{column_at-where, first_in, none_in}
+use Rattle.ps_board.proofs.ColumnLaws.{column_at-where, first_in, none_in, none_on}
 
 -- the numbers listed are those in the set
 listed_before : (f : ℕ → Bool) (a n x : ℕ) (here : Bool) → f a ≡ here → x < a → list_any (nat_eq x) (filter f (range_with_len a n)) ≡ false
@@ -80,6 +80,10 @@ in_both set below left count x b e low =
     ∙ ap (λ (cs : List Bool). column_at set x && column_at cs x) b
     ∙ ap (λ (t : Bool). column_at set x && t) (column_at-where (λ y. nat_lt y count) x low)
 
+-- a column that is left was in the set
+pub was_in : (columns left : List Bool) (first x : ℕ) → set_columns columns ≡ first ∷ set_columns left → x < SIDE_LIMIT → column_at left x ≡ true → column_at columns x ≡ true
+was_in columns left first x is low some = taken_out columns left first x is low ∙ ap (λ (b : Bool). nat_eq x first || b) some ∙ or-true (nat_eq x first)
+
 pub below-init : (set below left : List Bool) (count : ℕ) → below ≡ columns_below count → left ≡ both_columns set below → AreBelow count left
 below-init set below left count b e =
     record {
@@ -88,13 +92,9 @@ below-init set below left count b e =
           in_both set below left count x b e low ∙ ap (λ (t : Bool). column_at set x && t) out ∙ and-false (column_at set x);
     }
 
-neither : (a b : Bool) → (a || b) ≡ false → b ≡ false
-neither true b e = absurd (cc)
-neither false b e = e
-
 pub below-more : (set left : List Bool) (count k : ℕ) → set_columns set ≡ k ∷ set_columns left → AreBelow count set → AreBelow count left
 below-more set left count k is all =
-    record { at = λ x low far. neither (nat_eq x k) (column_at left x) (sym (taken_out set left k x is low) ∙ all.at x low far) }
+    record { at = λ x low far. (or_parts (nat_eq x k) (column_at left x) (sym (taken_out set left k x is low) ∙ all.at x low far)).1 }
 
 pub taken_below : (set left : List Bool) (count k : ℕ) → set_columns set ≡ k ∷ set_columns left → AreBelow count set → k < count
 taken_below set left count k is all =
@@ -109,17 +109,13 @@ taken_below set left count k is all =
 pub record ArePassed (P : ℕ → Type 0) (count : ℕ) (left : List Bool) : Type 0 where
   pub at : (x : ℕ) → x < count → column_at left x ≡ false → P x
 
-and_true : (a : Bool) → (a && true) ≡ a
-and_true true = refl
-and_true false = refl
-
 pub passed-init : (P : ℕ → Type 0) (set below left : List Bool) (count : ℕ) → count ≤ SIDE_LIMIT → below ≡ columns_below count → left ≡ both_columns set below →
     ((x : ℕ) → x < count → column_at set x ≡ false → P x) → ArePassed P count left
 passed-init P set below left count few b e others =
     record {
       at = λ x low out.
           let within : nat_lt x count ≡ true = grind (arith, nat_tests, low) in
-          others x low (sym (in_both set below left count x b e (omega (arith, low, few)) ∙ ap (λ (t : Bool). column_at set x && t) within ∙ and_true (column_at set x)) ∙ out);
+          others x low (sym (in_both set below left count x b e (omega (arith, low, few)) ∙ ap (λ (t : Bool). column_at set x && t) within ∙ and-true (column_at set x)) ∙ out);
     }
 
 -- one more of them, whatever is done for it
@@ -143,15 +139,9 @@ passed-all P left count x few none passed low = passed.at x low (none_in left x 
 
 -- lists one behind the other, where those of the other numbers are empty ---------------------------------------------------
 
-none_kept : (f : ℕ → Bool) (a n : ℕ) → ((x : ℕ) → a ≤ x → x < a + n → f x ≡ false) → filter f (range_with_len a n) ≡ []
-none_kept f a zero e = refl
-none_kept f a (suc n) e =
-    ap (λ (b : Bool). cond b (a ∷ filter f (range_with_len (a + 1) n)) (filter f (range_with_len (a + 1) n))) (e a (omega arith) (omega arith))
-    ∙ none_kept f (a + 1) n (λ x low high. e x (omega arith) (omega arith))
-
 gathered_by : {X : Type 0} (f : ℕ → List X) (t : ℕ → Bool) (a n m : ℕ) (here : Bool) → t a ≡ here → n ≤ m → ((x : ℕ) → a + n ≤ x → x < a + m → t x ≡ false) → ((x : ℕ) → x < a + n → t x ≡ false → f x ≡ []) →
     flat_map f (filter t (range_with_len a m)) ≡ flat_map f (range_with_len a n)
-gathered_by f t a zero m here e few far none = ap (flat_map f) (none_kept t a m (λ x low high. far x (omega arith) high))
+gathered_by f t a zero m here e few far none = ap (flat_map f) (none_on t a m (λ x low high. far x (omega arith) high))
 gathered_by f t a (suc n) zero here e few far none = absurd (omega arith)
 gathered_by f t a (suc n) (suc m) true e few far none =
     ap (λ (b : Bool). flat_map f (cond b (a ∷ filter t (range_with_len (a + 1) m)) (filter t (range_with_len (a + 1) m)))) e

@@ -176,3 +176,12 @@ pub trait Board: Drop {
         ensures grid { grid other.new ≡ at_rest (grid self.now) }
         ensures table { table other.new ≡ table self.now };
 }
+
+/// Recalls that a board has the shape of one: from 1 to 64 columns and rows, from 1 to 32 layers, and as many cells and
+/// slots as these say. A proof about the cells of a board that was passed in needs it, and learns it from a call alone.
+/// Nothing is done when it runs.
+pub fn recall_shape<B: Board>(board: &B)
+    ensures { IsGrid (B.grid board.now) }
+{
+    let (_width, _height) = board.size();
+}

@@ -9,7 +9,7 @@ mod columns;
 mod list_board;
 mod slots;
 
-pub use board::Board;
+pub use board::{Board, recall_shape};
 pub use cell_sets::CellSet;
 pub use columns::Columns;
 pub use list_board::ListBoard;

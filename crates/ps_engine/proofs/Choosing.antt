@@ -2,6 +2,8 @@
 use Rattle.std.proofs.Common.{◌≡◌, ◌∙◌, ℕ, suc, zero, ◌<◌, ◌≤◌, ◌&&◌, inl, inr, Bool, true, false, Option, Some, List, [], ◌∷◌, ◌++◌, length, map, refl, sym, ap, ap₂, arith}
 use Rattle.std.specs.Prelude.{slice_get}
 use Rattle.std.proofs.lemmas.Bool.{cases_eq}
+use Rattle.std.proofs.Math.Bool.{and-false}
+use Rattle.std.proofs.lemmas.Option.{same_Some}
 use Rattle.ps_model.specs.board.Grid.{Grid}
 use Rattle.ps_model.specs.board.Places.{cells_in, fits_along}
 use Rattle.ps_model.specs.board.Attempts.{all_fit}
@@ -38,9 +40,6 @@ same_elements (x ∷ xs) (y ∷ ys) long same =
     ap₂ (λ (z : _) (zs : List _). z ∷ zs) first (same_elements xs ys (omega arith) (λ k. same (suc k)))
 
 -- what is in two equal ones
-pub inside : {X : Type 0} {x y : X} → Some x ≡ Some y → x ≡ y
-inside e = cc
-
 module _ (g : Grid) (table : Option (List ℕ)) where
   abbrev fits : List CompiledRow → List (List ℕ) → Bool
   fits rows = all_fit g (rows_meaning table rows)
@@ -71,10 +70,6 @@ module _ (g : Grid) (table : Option (List ℕ)) where
       (chosen_fits rows rooms (omega arith) (λ k r m low is there. each (suc k) r m (omega arith) is there))
 
   -- and not where one doesn't
-  and_off : (a : Bool) → (a && false) ≡ false
-  and_off true = refl
-  and_off false = refl
-
   chosen_off : (n : ℕ) (rows : List CompiledRow) (rooms : List RowRoom) (row : CompiledRow) (room : RowRoom) → slice_get rows n ≡ Some row → slice_get rooms n ≡ Some room →
       row_fits row (place_at g.height row room) ≡ false → fits rows (chosen (choices rows rooms)) ≡ false
   chosen_off n [] rooms row room is there off = absurd (cc)
@@ -87,7 +82,7 @@ module _ (g : Grid) (table : Option (List ℕ)) where
   chosen_off (suc n) (r ∷ rows) (m ∷ rooms) row room is there off =
       first_and_others r rows (place_at g.height r m) (chosen (choices rows rooms))
       ∙ ap (λ (b : Bool). row_fits r (place_at g.height r m) && b) (chosen_off n rows rooms row room is there off)
-      ∙ and_off (row_fits r (place_at g.height r m))
+      ∙ and-false (row_fits r (place_at g.height r m))
 
   -- where a row doesn't fit at its place, no combination that keeps it can be applied
   pub unfit_passed : (n : ℕ) (rows : List CompiledRow) (rooms : List RowRoom) (row : CompiledRow) (room : RowRoom) → slice_get rows n ≡ Some row → slice_get rooms n ≡ Some room →
@@ -206,8 +201,8 @@ module _ (g : Grid) (table : Option (List ℕ)) where
       row_fits row (place_at g.height row room) ≡ true → m ≡ suc n → FitFrom g table rows rooms m → FitFrom g table rows rooms n
   fit_more n m rows rooms row room is there good next more k r o low own here = elim (cases_eq k n) [
     | inl same ↦
-        let e : r ≡ row = inside (sym own ∙ ap (slice_get rows) same ∙ is) in
-        let d : o ≡ room = inside (sym here ∙ ap (slice_get rooms) same ∙ there) in
+        let e : r ≡ row = same_Some _ _ (sym own ∙ ap (slice_get rows) same ∙ is) in
+        let d : o ≡ room = same_Some _ _ (sym here ∙ ap (slice_get rooms) same ∙ there) in
         ap₂ (λ (x : CompiledRow) (y : RowRoom). row_fits x (place_at g.height x y)) e d ∙ good
     | inr other ↦ more k r o (omega (arith, low, other, next)) own here
   ]

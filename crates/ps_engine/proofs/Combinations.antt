@@ -4,7 +4,7 @@ use Rattle.std.specs.Prelude.{All, slice_get, slice_set}
 use Rattle.std.specs.List.{flat_map}
 use Rattle.std.proofs.lemmas.Bool.{cases_eq}
 use Rattle.std.proofs.lemmas.List.{length-map}
-use Rattle.std.proofs.lemmas.Option.{slice_get-get_or}
+use Rattle.std.proofs.lemmas.Option.{slice_get-get_or, same_Some}
 use Rattle.ps_model.specs.declared.pieces.Direction.{Direction}
 use Rattle.ps_model.specs.board.Grid.{Grid}
 use Rattle.ps_model.specs.board.Places.{cells_in, fits_along, places, search_order, stretches}
@@ -19,7 +19,7 @@ use Rattle.ps_places.specs.Starts.{HasLinesOf, HaveSameStarts}
 use Rattle.ps_places.specs.Ways.{from_first}
 use Rattle.ps_engine.specs.Choices.{Choice, behind, choices_of, chosen, spread}
 use Rattle.ps_engine.specs.Choosing.{IsChosenOf, IsPlaced, OfEach, row_places, rows_meaning}
-use Rattle.ps_engine.proofs.Choosing.{cells_in-meant, chosen_fits, inside, same_places}
+use Rattle.ps_engine.proofs.Choosing.{cells_in-meant, chosen_fits, same_places}
 use Rattle.ps_engine.proofs.RoomsChanged.{get_other, get_same}
 use Rattle.ps_engine.proofs.Sought.{first_is, found_or, from_first-append, from_first-yes}
 
@@ -123,8 +123,8 @@ module _ (g : Grid) (table : Option (List ℕ)) where
       HasFirst row room → OfEach (λ k. k < n) rows rooms HasFirst → OfEach (λ k. k < m) rows (slice_set rooms n room) HasFirst
   first_more rows rooms n m row room next is low here all k r o less own there = elim (cases_eq k n) [
     | inl e ↦
-        let d : r ≡ row = inside (sym own ∙ ap (slice_get rows) e ∙ is) in
-        let f : o ≡ room = inside (sym there ∙ ap (slice_get (slice_set rooms n room)) e ∙ get_same rooms n (get_or rooms n room) room (slice_get-get_or rooms n room low)) in
+        let d : r ≡ row = same_Some _ _ (sym own ∙ ap (slice_get rows) e ∙ is) in
+        let f : o ≡ room = same_Some _ _ (sym there ∙ ap (slice_get (slice_set rooms n room)) e ∙ get_same rooms n (get_or rooms n room) room (slice_get-get_or rooms n room low)) in
         rw (d, f) here
     | inr other ↦ all k r o (omega (arith, less, next, other)) own (sym (get_other rooms n k room other) ∙ there)
   ]

@@ -3,6 +3,7 @@ use Rattle.std.proofs.Common.{◌≡◌, ◌≢◌, ◌∙◌, ℕ, suc, zero, �
 use Rattle.std.specs.Prelude.{slice_get, slice_set}
 use Rattle.std.proofs.lemmas.Bool.{cases_eq, cases_lt}
 use Rattle.std.proofs.lemmas.List.{length-set}
+use Rattle.std.proofs.lemmas.Option.{same_Some}
 use Rattle.ps_model.specs.board.Grid.{Grid}
 use Rattle.ps_model.specs.board.Attempts.{all_fit}
 use Rattle.ps_match.specs.InRoom.{sides_of}
@@ -16,7 +17,7 @@ use Rattle.ps_places.specs.Ways.{from_first}
 use Rattle.ps_places.specs.Starts.{HasLinesOf, HaveSameStarts}
 use Rattle.ps_engine.specs.Choices.{behind, behind_from, choices_of, chosen}
 use Rattle.ps_engine.specs.Choosing.{AreLeft, ArePlaced, AreStarted, FitFrom, HaveLinesOf, HaveStartsOf, IsChosenOf, IsPlaced, LacksPlace, rows_meaning}
-use Rattle.ps_engine.proofs.Choosing.{goes_on, inside, same_places}
+use Rattle.ps_engine.proofs.Choosing.{goes_on, same_places}
 use Rattle.ps_engine.proofs.Rewriting.{same_height}
 
 module _ {X : Type 0} where
@@ -35,7 +36,7 @@ module _ {X : Type 0} where
 pub starts_as_they_are : (rooms : List RowRoom) → HaveStartsOf rooms rooms
 starts_as_they_are rooms = record {
   long = refl;
-  each = λ k before after was now. let e : after ≡ before = inside (sym now ∙ was) in rw e (record { lines = refl; starts = refl });
+  each = λ k before after was now. let e : after ≡ before = same_Some _ _ (sym now ∙ was) in rw e (record { lines = refl; starts = refl });
 }
 
 module _ (old rooms : List RowRoom) (n : ℕ) (before after : RowRoom) where
@@ -44,7 +45,7 @@ module _ (old rooms : List RowRoom) (n : ℕ) (before after : RowRoom) where
     at : (k : ℕ) (first last : RowRoom) → slice_get old k ≡ Some first → slice_get (slice_set rooms n after) k ≡ Some last → HaveSameStarts first last
     at k first last was now = elim (cases_eq k n) [
       | inl here ↦
-          let e : last ≡ after = inside (sym now ∙ ap (slice_get (slice_set rooms n after)) here ∙ get_same rooms n before after there) in
+          let e : last ≡ after = same_Some _ _ (sym now ∙ ap (slice_get (slice_set rooms n after)) here ∙ get_same rooms n before after there) in
           let kept = so.each k first before was (ap (slice_get rooms) here ∙ there) in
           rw e (record { lines = same.lines ∙ kept.lines; starts = same.starts ∙ kept.starts })
       | inr other ↦ so.each k first last was (sym (get_other rooms n k after other) ∙ now)
@@ -79,8 +80,8 @@ module _ (g : Grid) (table : Option (List ℕ)) (rows : List CompiledRow) where
       HaveSameStarts before after → IsChosenOf g table row (all_places g.height row before) after → AreStarted g table rows rooms n → AreStarted g table rows (slice_set rooms n after) m
   started_more rooms n m row before after next is there same chosen so k r o low own here = elim (cases_eq k n) [
     | inl e ↦
-        let d : r ≡ row = inside (sym own ∙ ap (slice_get rows) e ∙ is) in
-        let f : o ≡ after = inside (sym here ∙ ap (slice_get (slice_set rooms n after)) e ∙ get_same rooms n before after there) in
+        let d : r ≡ row = same_Some _ _ (sym own ∙ ap (slice_get rows) e ∙ is) in
+        let f : o ≡ after = same_Some _ _ (sym here ∙ ap (slice_get (slice_set rooms n after)) e ∙ get_same rooms n before after there) in
         rw (d, f, same_places g table row before after same) chosen
     | inr other ↦ so k r o (omega (arith, low, next, other)) own (sym (get_other rooms n k after other) ∙ here)
   ]
@@ -139,8 +140,8 @@ module _ (g : Grid) (table : Option (List ℕ)) (rows : List CompiledRow) where
       | inl less ↦ (started k r o less own here).place
       | inr more ↦ elim (cases_eq k n) [
         | inl e ↦
-            let d : r ≡ row = inside (sym own ∙ ap (slice_get rows) e ∙ is) in
-            let f : o ≡ after = inside (sym here ∙ ap (slice_get new) e ∙ is_there) in
+            let d : r ≡ row = same_Some _ _ (sym own ∙ ap (slice_get rows) e ∙ is) in
+            let f : o ≡ after = same_Some _ _ (sym here ∙ ap (slice_get new) e ∙ is_there) in
             rw (d, f) line
         | inr other ↦ lines k r o low own (sym (all_left k (omega (arith, more, other))) ∙ here)
       ]

@@ -3,6 +3,7 @@ use Rattle.std.proofs.Common.{◌≡◌, ◌∙◌, ℕ, suc, zero, ◌+◌, ◌
 use Rattle.std.specs.Prelude.{slice_get, slice_set}
 use Rattle.std.proofs.lemmas.Bool.{cases_eq}
 use Rattle.std.proofs.lemmas.List.{length-append, length-map, length-set}
+use Rattle.std.proofs.lemmas.Option.{same_Some}
 use Rattle.ps_model.specs.board.Grid.{Grid}
 use Rattle.ps_model.specs.board.Places.{cells_in, fits_along}
 use Rattle.ps_model.specs.board.Attempts.{Rewritten, all_fit}
@@ -15,7 +16,7 @@ use Rattle.ps_places.specs.RowPlaces.{all_places, place_fits, places_behind, row
 use Rattle.ps_places.specs.Starts.{HasLinesOf}
 use Rattle.ps_engine.specs.Choices.{behind, choices_of, chosen, spread}
 use Rattle.ps_engine.specs.Choosing.{AreForgotten, AreLeft, ArePlaced, AreStarted, ComeToSame, HaveLinesOf, IsPlaced, rows_meaning}
-use Rattle.ps_engine.proofs.Choosing.{cells_in-meant, inside}
+use Rattle.ps_engine.proofs.Choosing.{cells_in-meant}
 use Rattle.ps_engine.proofs.Forgetting.{AreSameFitting, same_behind, same_chosen}
 use Rattle.ps_engine.proofs.RoomsChanged.{get_other, get_same, none_there}
 use Rattle.ps_engine.proofs.RowsAsleep.{rows_let_sleep}
@@ -38,7 +39,7 @@ pub none_forgotten : (rows : List CompiledRow) (rooms : List RowRoom) → AreFor
 none_forgotten rows rooms = record {
   long = refl;
   each = λ k height row before after is was now.
-      let e : after ≡ before = inside (sym now ∙ was) in
+      let e : after ≡ before = same_Some _ _ (sym now ∙ was) in
       rw e (nothing_forgotten height row before);
 }
 
@@ -55,10 +56,10 @@ forgotten_more rows old rooms n row before after so left is there one = record {
       HaveForgotten height r first last
   at k height r first last own was now = elim (cases_eq k n) [
     | inl here ↦
-        let e : last ≡ after = inside (sym now ∙ ap (slice_get (slice_set rooms n after)) here
+        let e : last ≡ after = same_Some _ _ (sym now ∙ ap (slice_get (slice_set rooms n after)) here
         ∙ get_same rooms n before after there) in
-        let d : r ≡ row = inside (sym own ∙ ap (slice_get rows) here ∙ is) in
-        let f : first ≡ before = inside (sym was ∙ ap (slice_get old) here ∙ sym (left n (omega arith)) ∙ there) in
+        let d : r ≡ row = same_Some _ _ (sym own ∙ ap (slice_get rows) here ∙ is) in
+        let f : first ≡ before = same_Some _ _ (sym was ∙ ap (slice_get old) here ∙ sym (left n (omega arith)) ∙ there) in
         rw (e, d, f) (one height)
     | inr other ↦ so.each k height r first last own was (sym (get_other rooms n k after other) ∙ now)
   ]
@@ -112,7 +113,7 @@ module _ (g : Grid) (table : Option (List ℕ)) where
   alike count (row ∷ rows) (o ∷ old) [] long even each started left = absurd (omega (arith, even))
   alike zero (row ∷ rows) (o ∷ old) (n ∷ new) long even each started left =
       let one = each 0 g.height row o n refl refl refl in
-      let e : n ≡ o = inside (left 0 (omega arith)) in (
+      let e : n ≡ o = same_Some _ _ (left 0 (omega arith)) in (
         record {
           at = one.at;
           later = one.later;

@@ -7,13 +7,7 @@ use Rattle.ps_model.specs.declared.limits.TheConstants.{ROUND_LIMIT, REPEAT_LIMI
 use Rattle.ps_model.specs.board.Attempts.{State, Result, attempt}
 use Rattle.ps_model.specs.board.Programs.{Section, Progress, after_change, round, settled, group, pass, looped, section_run, sections_run, program_run}
 use Rattle.ps_model.specs.meaning.RuleMeanings.{RuleMeaning}
-
-or_assoc : (a b c : Bool) → (a || (b || c)) ≡ ((a || b) || c)
-or_assoc true b c = refl
-or_assoc false b c = refl
-
-changed_twice : (a b : Bool) (r : Result) → after_change a (after_change b r) ≡ after_change (a || b) r
-changed_twice a b r = ap (λ (c : Bool). let s : Result = record { state = r.state; changed = c } in s) (or_assoc a b r.changed)
+use Rattle.ps_laws.proofs.alike.AlikeRounds.{change_grouped}
 
 -- nothing is left
 pub changed_end : (a : Bool) (state : State) → (let s : Result = record { state = state; changed = a } in s) ≡ after_change a (record { state = state; changed = false })
@@ -28,7 +22,7 @@ module _ {R : Type 0} (meaning : R → RuleMeaning) (rules : List R) (n : ℕ) w
       after_change (changed || more) (round (map meaning (drop (n + 1) rules)) next) ≡ after_change changed (round (map meaning (drop n rules)) state)
   round_more rule changed more state next h e made =
       let m : n + 1 ≡ suc n = omega arith in
-      sym (changed_twice changed more (round (map meaning (drop (n + 1) rules)) next))
+      sym (change_grouped changed more (round (map meaning (drop (n + 1) rules)) next))
       ∙ ap (λ (k : ℕ). after_change changed (after_change more (round (map meaning (drop k rules)) next))) m
       ∙ ap (λ (r : Result). after_change changed (after_change r.changed (round (map meaning (drop (suc n) rules)) r.state))) made
       ∙ ap (λ (r : R). after_change changed (round (map meaning (r ∷ drop (suc n) rules)) state)) e
@@ -43,7 +37,7 @@ module _ {R : Type 0} (meaning : R → List RuleMeaning) (groups : List R) (n : 
       after_change (changed || more) (pass (map meaning (drop (n + 1) groups)) next) ≡ after_change changed (pass (map meaning (drop n groups)) state)
   pass_more rules changed more state next h e made =
       let m : n + 1 ≡ suc n = omega arith in
-      sym (changed_twice changed more (pass (map meaning (drop (n + 1) groups)) next))
+      sym (change_grouped changed more (pass (map meaning (drop (n + 1) groups)) next))
       ∙ ap (λ (k : ℕ). after_change changed (after_change more (pass (map meaning (drop k groups)) next))) m
       ∙ ap (λ (r : Result). after_change changed (after_change r.changed (pass (map meaning (drop (suc n) groups)) r.state))) made
       ∙ ap (λ (r : R). after_change changed (pass (map meaning (r ∷ drop (suc n) groups)) state)) e

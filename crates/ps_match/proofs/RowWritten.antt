@@ -4,6 +4,7 @@ use Rattle.std.specs.Prelude.{nat_eq, nat_lt}
 use Rattle.std.proofs.Math.Nat.{div-add-mod}
 use Rattle.std.proofs.lemmas.Bool.{cases_eq, cases_lt, and_parts, eqb-true, eq-eqb, ne_eqb, lt-ltb, le-ltb}
 use Rattle.std.proofs.lemmas.Nat.{div-mul-add, mod-mul-add, div_below}
+use Rattle.std.proofs.Math.Bool.{and-true, and-false, or-false}
 use Rattle.ps_model.specs.declared.pieces.Slot.{Slot}
 use Rattle.ps_model.specs.board.Grid.{Grid}
 use Rattle.ps_model.specs.board.Attempts.{Rewritten}
@@ -42,14 +43,6 @@ told-more start now next becomes any more first second both so grid changed apar
 pub cell_known : (h a b : ℕ) → a % h ≡ b % h → a / h ≡ b / h → a ≡ b
 cell_known h a b r q = sym (div-add-mod a h) ∙ rw (r, q) (div-add-mod b h)
 
-and_true : (b : Bool) → (b && true) ≡ b
-and_true true = refl
-and_true false = refl
-
-and_false : (b : Bool) → (b && false) ≡ false
-and_false true = refl
-and_false false = refl
-
 -- one more is below the next number where it is below this one, but for this one itself
 pub lt_next : (x count : ℕ) → x ≢ count → nat_lt x (count + 1) ≡ nat_lt x count
 lt_next x count other = elim (cases_lt x count) [
@@ -74,22 +67,19 @@ passed_here : (height row : ℕ) (columns : List Bool) (count cell : ℕ) (wante
 passed_here height row columns count cell wanted quotient remainder is =
     let low : count < count + 1 = omega arith in
     let high : count ≤ count = omega arith in
-    rw (quotient, remainder, lt-ltb count (count + 1) low, le-ltb count count high, eq-eqb row row refl, eq-eqb cell cell refl, and_true) (sym is)
+    rw (quotient, remainder, lt-ltb count (count + 1) low, le-ltb count count high, eq-eqb row row refl, eq-eqb cell cell refl, and-true) (sym is)
 
 passed_there : (height row : ℕ) (columns : List Bool) (count cell : ℕ) (wanted : Bool) (n : ℕ) → cell / height ≡ count → cell % height ≡ row → n ≢ cell →
     passed height row columns (count + 1) n ≡ (passed height row columns count n || (wanted && nat_eq n cell))
 passed_there height row columns count cell wanted n quotient remainder other =
     let none : (passed height row columns count n || (wanted && nat_eq n cell)) ≡ passed height row columns count n =
-    rw (ne_eqb n cell other, and_false) (nothing (passed height row columns count n)) in
+    rw (ne_eqb n cell other, and-false) (or-false (passed height row columns count n)) in
     elim (cases_eq (n / height) count) [
       | inl q ↦
           let apart : n % height ≢ row = λ r. other (cell_known height n cell (r ∙ sym remainder) (q ∙ sym quotient)) in
-          rw (none, ne_eqb (n % height) row apart, and_false, and_false) refl
+          rw (none, ne_eqb (n % height) row apart, and-false, and-false) refl
       | inr q ↦ ap (λ (b : Bool). b && is_on_row height row columns n) (lt_next (n / height) count q) ∙ sym none
-    ] where
-      nothing : (b : Bool) → (b || false) ≡ b
-      nothing true = refl
-      nothing false = refl
+    ]
 
 passed_more : (height row : ℕ) (columns : List Bool) (count cell : ℕ) (wanted : Bool) (n : ℕ) → cell / height ≡ count → cell % height ≡ row → wanted ≡ column_at columns count →
     passed height row columns (count + 1) n ≡ (passed height row columns count n || (wanted && nat_eq n cell))

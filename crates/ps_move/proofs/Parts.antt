@@ -5,6 +5,7 @@ use Rattle.std.proofs.lemmas.Bool.Decides.{nat_tests}
 use Rattle.std.proofs.Math.Bool.{or-false, or-true, or_assoc}
 use Rattle.std.proofs.Math.Nat.{mul-le-mul}
 use Rattle.std.proofs.lemmas.List.Sums.{sum_by-le, count_by-le-length}
+use Rattle.std.proofs.lemmas.Bool.{or_parts}
 use Rattle.ps_model.specs.declared.pieces.ObjectId.{ObjectId}
 use Rattle.ps_model.specs.declared.pieces.Direction.{Direction}
 use Rattle.ps_model.specs.declared.pieces.Motion.{Motion}
@@ -62,10 +63,6 @@ any_of : (a b : Bool) (m n o : ℕ) → n + cond a 1 0 ≤ m → o + cond b 1 0 
 any_of true b m n o h k = omega arith
 any_of false b m n o h k = omega arith
 
-none_of : (a b : Bool) → (a || b) ≡ false → (a ≡ false) × (b ≡ false)
-none_of true b e = absurd (cc)
-none_of false b e = (refl, e)
-
 -- one part after another
 pub part_then : (a b : Bool) (old now new : Grid) (first next last : ℕ × ℕ) → IsPart a old now first next → IsPart b now new next last → IsPart (a || b) old new first last
 part_then a b old now new first next last p q = record {
@@ -75,7 +72,7 @@ part_then a b old now new first next last p q = record {
   layers = q.layers ∙ p.layers;
   order = λ before moved o. subst (λ (c : Bool). IsInOrder before new c last) (or_assoc moved a b) (q.order before (moved || a) (p.order before moved o));
   fewer = any_of a b (going_count old) (going_count now) (going_count new) p.fewer q.fewer;
-  same = λ e. let none = none_of a b e in q.same none.1 ∙ p.same none.0;
+  same = λ e. let none = or_parts a b e in q.same none.1 ∙ p.same none.0;
   still = λ cell layer still. q.still cell layer (p.still cell layer still);
 }
 

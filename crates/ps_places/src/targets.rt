@@ -13,7 +13,7 @@ ghost use Rattle.ps_places.specs.Starts.{AreWhere, begins_down};
 use crate::candidates::rows_of_part;
 use crate::columns::{columns_across, columns_down};
 use crate::room::RowRoom;
-use ps_match::{Columns, Scan};
+use ps_match::{Columns, Scan, recall_shape};
 use ps_model::SIDE_LIMIT;
 use ps_program::{Axis, CompiledCell, CompiledRow};
 
@@ -197,7 +197,7 @@ impl RowRoom {
             AreTargets grid (B.table board.now) row.now.axis leads (part_of parts 0) (part_of parts 1) result
             self.new.starts.items }
     {
-        let (_width, _height) = board.size();
+        recall_shape(board);
         let parts = row.parts.as_slice();
         let first = parts[0].as_slice();
         let second = parts[1].as_slice();

@@ -1,23 +1,25 @@
 -- Two boards of the same size for the same game show the same where their planes have the same cells.
-use Rattle.std.proofs.Common.{◌≡◌, ℕ, zero, suc, ◌+◌, ◌-◌, ◌*◌, ◌/◌, ◌%◌, ◌^◌, ◌<◌, ◌≤◌, inl, inr, Bool, true, false, ◌&&◌, Option, Some, None, List, [], ◌∷◌, get_or, refl, sym, ap, ap₂, ◌∙◌, arith, bit_and, bit_xor}
+use Rattle.std.proofs.Common.{◌≡◌, ℕ, ◌+◌, ◌-◌, ◌*◌, ◌/◌, ◌%◌, ◌^◌, ◌<◌, ◌≤◌, inl, inr, Bool, true, false, ◌&&◌, Option, Some, None, List, [], ◌∷◌, get_or, refl, sym, ap, ap₂, ◌∙◌, arith, bit_and, bit_xor}
 use Rattle.std.specs.Prelude.{nat_eq, nat_lt, slice_get, option_map}
 use Rattle.std.specs.List.{list_any}
 use Rattle.std.specs.Int.{bit_at}
-use Rattle.std.proofs.lemmas.Bool.{cases_eq, cases_lt, cases_Bool, eqb-true, eq-eqb, and_parts, false≢true, lt-ltb, le-ltb}
+use Rattle.std.proofs.lemmas.Bool.{cases_eq, cases_lt, cases_Bool, and_parts, false≢true, lt-ltb, le-ltb}
 use Rattle.std.proofs.lemmas.Nat.{mul-add-lt, div-mul-add, mod-mul-add, mod_below, div_below}
 use Rattle.std.proofs.lemmas.Nat.Bits.{same_from_bits, bit_at_xor, bit_at-zero}
+use Rattle.std.proofs.Math.Bool.{and-true, and-false}
 use Rattle.ps_model.specs.declared.pieces.ObjectId.{ObjectId}
 use Rattle.ps_model.specs.declared.pieces.Direction.TheVariants.{Up, Down, Left, Right}
 use Rattle.ps_model.specs.declared.pieces.Motion.{Motion}
-use Rattle.ps_model.specs.declared.pieces.Motion.TheVariants.{Still, Going, Acting}
+use Rattle.ps_model.specs.declared.pieces.Motion.TheVariants.{Going, Acting}
 use Rattle.ps_model.specs.declared.pieces.Slot.{Slot}
 use Rattle.ps_model.specs.declared.pieces.Slot.TheVariants.{Bare, Holds}
 use Rattle.ps_model.specs.board.Attempts.{same_slot, same_cell}
 use Rattle.ps_model.specs.board.Grid.{motion_in, object_in, slot_of}
 use Rattle.ps_model.specs.board.Movement.{is_number}
 use Rattle.ps_model.specs.board.Turns.{same_cells}
-use Rattle.ps_model.specs.meaning.Fitting.{same_motion, motion_number}
+use Rattle.ps_model.specs.meaning.Fitting.{same_motion}
 use Rattle.ps_model.specs.names.Names.{same_object}
+use Rattle.ps_laws.proofs.common.SameThings.{same_cell-own, same_motion-true, same_object-true}
 use Rattle.ps_rows.specs.Planes.{has_column, has_cell}
 use Rattle.ps_rows.specs.Members.{on_layer}
 use Rattle.ps_rows.specs.Showing.{numbered, motions_from, motion_plane, motion_planes, object_shown, motion_shown, slot_shown, cell_shown, cells_shown, AreObjectsShown, AreMotionsShown}
@@ -68,14 +70,6 @@ not_differ a b x none = elim (bit_cases a x) [
   ]
 ]
 
-and_true : (b : Bool) → (b && true) ≡ b
-and_true true = refl
-and_true false = refl
-
-and_false : (b : Bool) → (b && false) ≡ false
-and_false true = refl
-and_false false = refl
-
 -- the bits in which two words differ, of so many columns
 abbrev pub differing : ℕ → ℕ → ℕ → ℕ
 differing width a b = bit_and (bit_xor a b) (18446744073709551615 / 2 ^ (64 - width))
@@ -88,7 +82,7 @@ differing_at width a b x some narrow =
 pub rows_same : (width a b : ℕ) → 0 < width → width ≤ 64 → differing width a b ≡ 0 → AreSameRows width a b
 rows_same width a b some narrow none = λ x h.
     not_differ a b x
-    (sym (and_true (has_column (bit_xor a b) x))
+    (sym (and-true (has_column (bit_xor a b) x))
     ∙ ap (λ (low : Bool). has_column (bit_xor a b) x && low) (sym (lt-ltb x width h))
     ∙ sym (differing_at width a b x some narrow)
     ∙ ap (λ (word : ℕ). has_column word x) none
@@ -97,7 +91,7 @@ rows_same width a b some narrow none = λ x h.
 no_difference : (width a b : ℕ) → 0 < width → width ≤ 64 → AreSameRows width a b → (x : ℕ) → has_column (differing width a b) x ≡ false
 no_difference width a b some narrow same x = elim (cases_lt x width) [
   | inl h ↦ differing_at width a b x some narrow ∙ ap (λ (differ : Bool). differ && nat_lt x width) (differ_not a b x (same x h))
-  | inr h ↦ differing_at width a b x some narrow ∙ ap (λ (low : Bool). has_column (bit_xor a b) x && low) (le-ltb x width h) ∙ and_false (has_column (bit_xor a b) x)
+  | inr h ↦ differing_at width a b x some narrow ∙ ap (λ (low : Bool). has_column (bit_xor a b) x && low) (le-ltb x width h) ∙ and-false (has_column (bit_xor a b) x)
 ]
 
 pub same_rows : (width a b : ℕ) → 0 < width → width ≤ 64 → AreSameRows width a b → differing width a b ≡ 0
@@ -218,40 +212,9 @@ same_moves table width height layers first second layer on shown showing same = 
 
 -- boards -----------------------------------------------------------------------------------------------------------------
 
-pub slot_itself : (slot : Slot) → same_slot slot slot ≡ true
-slot_itself Bare = refl
-slot_itself (Holds object motion) = rw (eq-eqb object.0 object.0 refl, eq-eqb (motion_number motion) (motion_number motion) refl) refl
-
-cell_itself : (cell : List Slot) → same_cell cell cell ≡ true
-cell_itself [] = refl
-cell_itself (slot ∷ slots) = rw (slot_itself slot) (cell_itself slots)
-
 cells_itself : (cells : List (List Slot)) → same_cells cells cells ≡ true
 cells_itself [] = refl
-cells_itself (cell ∷ cells) = rw (cell_itself cell) (cells_itself cells)
-
-motion_of : ℕ → Motion
-motion_of zero = Still
-motion_of (suc zero) = Going Up
-motion_of (suc (suc zero)) = Going Down
-motion_of (suc (suc (suc zero))) = Going Left
-motion_of (suc (suc (suc (suc zero)))) = Going Right
-motion_of (suc (suc (suc (suc (suc n))))) = Acting
-
-motion_back : (motion : Motion) → motion_of (motion_number motion) ≡ motion
-unfolding motion_of
-motion_back Still = refl
-motion_back (Going Up) = refl
-motion_back (Going Down) = refl
-motion_back (Going Left) = refl
-motion_back (Going Right) = refl
-motion_back Acting = refl
-
-motion_known : (first second : Motion) → same_motion first second ≡ true → first ≡ second
-motion_known first second h = sym (motion_back first) ∙ ap motion_of (eqb-true (motion_number first) (motion_number second) h) ∙ motion_back second
-
-object_known : (first second : ObjectId) → same_object first second ≡ true → first ≡ second
-object_known first second h = ap numbered (eqb-true first.0 second.0 h)
+cells_itself (cell ∷ cells) = rw (same_cell-own cell) (cells_itself cells)
 
 pub slot_known : (first second : Slot) → same_slot first second ≡ true → first ≡ second
 slot_known Bare Bare h = refl
@@ -259,7 +222,7 @@ slot_known Bare (Holds object motion) h = absurd (false≢true h)
 slot_known (Holds object motion) Bare h = absurd (false≢true h)
 slot_known (Holds object motion) (Holds other moving) h =
     let parts = and_parts (same_object object other) (same_motion motion moving) h in
-    ap₂ (λ (o : ObjectId) (m : Motion). let slot : Slot = Holds o m in slot) (object_known object other parts.0) (motion_known motion moving parts.1)
+    ap₂ (λ (o : ObjectId) (m : Motion). let slot : Slot = Holds o m in slot) (same_object-true object other parts.0) (same_motion-true motion moving parts.1)
 
 cell_known : (first second : List Slot) → same_cell first second ≡ true → first ≡ second
 cell_known [] [] h = refl

@@ -11,9 +11,10 @@ use Rattle.ps_model.specs.meaning.Compiled.{CellWrite, cell_written}
 use Rattle.ps_match.specs.InRoom.{meaning_of_write}
 use Rattle.ps_match.specs.Together.{rewritten_where}
 use Rattle.ps_match.proofs.Chosen.{rewritten_of, where-agree, where-one}
+use Rattle.ps_match.proofs.RowWritten.{cell_known}
 use Rattle.ps_rows.specs.Planes.{has_column}
 use Rattle.ps_rows.specs.SlotsWritten.{in_columns}
-use Rattle.ps_rows.proofs.Bits.{has_column-with_other, has_column-with_same, has_column-zero, same_cell as known_cell, with_column-set}
+use Rattle.ps_rows.proofs.Bits.{has_column-with_other, has_column-with_same, has_column-zero, with_column-set}
 use Rattle.ps_rows.proofs.Whole.{columns_low}
 
 -- the word of one column
@@ -39,7 +40,7 @@ cell_alone height cell n low under =
       | inl e ↦ rw (e, eq-eqb (cell % height) (cell % height) refl, eq-eqb (cell / height) (cell / height) refl, eq-eqb cell cell refl) refl
       | inr other ↦ elim (cases_eq (n % height) (cell % height)) [
         | inl row ↦
-            let apart : n / height ≢ cell / height = λ column. other (known_cell height n cell row column) in
+            let apart : n / height ≢ cell / height = λ column. other (cell_known height n cell row column) in
             rw (eq-eqb (n % height) (cell % height) row, ne_eqb (n / height) (cell / height) apart, ne_eqb n cell other) refl
         | inr row ↦ rw (ne_eqb (n % height) (cell % height) row, ne_eqb n cell other) refl
       ]

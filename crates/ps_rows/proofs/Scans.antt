@@ -22,11 +22,12 @@ use Rattle.ps_model.specs.board.Grid.{Grid, cell_at, slot_of, motion_in}
 use Rattle.ps_model.specs.board.Movement.{is_number}
 use Rattle.ps_model.specs.meaning.Fitting.{same_motion}
 use Rattle.ps_model.specs.meaning.Compiled.{CellMask, slot_holds, mask_fits}
+use Rattle.ps_laws.proofs.common.SameThings.{is_number-true}
 use Rattle.ps_rows.specs.Planes.{has_column, has_cell}
 use Rattle.ps_rows.specs.Showing.{numbered, motions_from, motion_plane, object_shown, motion_shown, slot_shown, cell_shown, cells_shown, grid_shown, AreObjectsShown, AreMotionsShown}
 use Rattle.ps_rows.specs.RowTests.{IsRowOf, IsWithin, held, held_all, held_any, held_of_each, moved, moved_all, five_rows}
 use Rattle.ps_rows.proofs.Bits.{has_column-zero}
-use Rattle.ps_rows.proofs.Listed.{number_is, same_tests}
+use Rattle.ps_rows.proofs.Listed.{same_tests}
 use Rattle.ps_rows.proofs.Rests.{slot_read, object_room}
 use Rattle.ps_rows.proofs.Tables.{tabled_at}
 
@@ -165,7 +166,7 @@ module _ (table : List ℕ) (width height layers : ℕ) (words : List ℕ) (row 
             let other : is_number (slice_get table object.0) layer ≡ false = rw (lt-ltb layer layers on) at not_on in
             let none : is_number (object_shown table height words (x * height + row) layer) object.0 ≡ false =
             false_from_ne_true (is_number (object_shown table height words (x * height + row) layer) object.0)
-            (λ yes. false≢true (sym other ∙ object_room table height words (x * height + row) layer object.0 (number_is (object_shown table height words (x * height + row) layer) object.0 yes))) in
+            (λ yes. false≢true (sym other ∙ object_room table height words (x * height + row) layer object.0 (is_number-true (object_shown table height words (x * height + row) layer) object.0 yes))) in
             has_column-zero x ∙ sym (ap (slot_holds object) (slot_within x layer h on) ∙ shown_holds x layer object ∙ none)
         | inr off ↦ has_column-zero x ∙ sym (ap (slot_holds object) (slot_beyond x layer h off))
       ]
@@ -179,7 +180,7 @@ module _ (table : List ℕ) (width height layers : ℕ) (words : List ℕ) (row 
       let object : ObjectId = sought.object in
       let parts = and_parts (nat_lt layer layers) (is_number (slice_get table object.0) layer) both in
       let on : layer < layers = ltb-true layer layers parts.0 in
-      let own : slice_get table object.0 ≡ Some layer = number_is (slice_get table object.0) layer parts.1 in
+      let own : slice_get table object.0 ≡ Some layer = is_number-true (slice_get table object.0) layer parts.1 in
       ap (λ (w : ℕ). has_column w x) so ∙ column_read object.0 x ∙ shown (x * height + row) object.0 layer (inside x h) own
       ∙ sym (ap (slot_holds object) (slot_within x layer h on) ∙ shown_holds x layer object)
 

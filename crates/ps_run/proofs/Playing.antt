@@ -1,7 +1,6 @@
 -- What bytes do, one after the other.
-use Rattle.std.proofs.Common.{◌≡◌, ◌∙◌, ℕ, zero, suc, ◌+◌, ◌<◌, ◌≤◌, ◌-◌, inl, inr, false, true, List, [], ◌∷◌, ◌++◌, length, take, drop, get_or, Option, Some, None, refl, sym, subst, ap, append_assoc, append-nil, arith, Result, Ok, Err}
+use Rattle.std.proofs.Common.{◌≡◌, ◌∙◌, ℕ, zero, suc, ◌+◌, ◌<◌, ◌≤◌, ◌-◌, List, [], ◌∷◌, ◌++◌, length, take, drop, get_or, Option, Some, None, refl, sym, subst, ap, append_assoc, append-nil, arith, Result, Ok, Err}
 use Rattle.std.specs.Prelude.{OnOk, IfErr}
-use Rattle.std.proofs.lemmas.Bool.{cases_lt}
 use Rattle.std.proofs.lemmas.Grind.{common_steps}
 use Rattle.std.proofs.lemmas.List.{take-append-drop, length-append}
 use Rattle.ps_model.specs.declared.held.Held.{Held}
@@ -198,10 +197,6 @@ pub if_err :
     {A E : Type 0} {P Q : E → Type 0} (result : Result A E) → ((error : E) → result ≡ Err error → P error → Q error) → IfErr result P → IfErr result Q
 if_err (Ok value) follows p = tt
 if_err (Err error) follows p = follows error refl p
-
--- a call that a device counts
-pub one_call : (old new most : ℕ) → (old < most → new ≡ old + 1) → (most ≤ old → false ≡ true) → new ≡ old + 1
-one_call old new most counted worn = elim (cases_lt old most) [ inl below ↦ counted below | inr above ↦ (let e : false ≡ true = worn above in cc) ]
 
 -- what an output has that was empty before a text was added is the text
 pub text_taken : {A E : Type 0} (result : Result A E) (before now : WriterState) (output old text : List ℕ) → output ≡ old ++ text → old ≡ [] → OnOk result (HasTaken before now output) → OnOk result (HasTaken before now text)

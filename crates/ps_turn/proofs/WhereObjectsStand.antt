@@ -5,6 +5,7 @@ use Rattle.std.specs.List.{list_any}
 use Rattle.std.proofs.lemmas.List.{set-get_or, length-map, length-take-le, length-drop, get_or-append_right, get_or-drop}
 use Rattle.std.proofs.lemmas.List.Folds.{list_any_more}
 use Rattle.std.proofs.lemmas.Bool.Decides.{nat_tests}
+use Rattle.std.proofs.lemmas.Bool.{or_parts}
 use Rattle.ps_model.specs.declared.pieces.ObjectId.{ObjectId}
 use Rattle.ps_model.specs.declared.pieces.Motion.{Motion}
 use Rattle.ps_model.specs.declared.pieces.Slot.{Slot}
@@ -48,14 +49,10 @@ slot_kept : (moved : List ObjectId) (motion : Motion) (slot : Slot) → holds_an
 slot_kept moved motion Bare none = refl
 slot_kept moved motion (Holds object was) none = kept_by moved motion was object (sym (among_by moved object) ∙ none)
 
-none_of : (a b : Bool) → (a || b) ≡ false → (a ≡ false) × (b ≡ false)
-none_of true b e = absurd (cc)
-none_of false b e = (refl, e)
-
 pub slots_kept : (moved : List ObjectId) (motion : Motion) (slots : List Slot) → list_any (holds_any moved) slots ≡ false → map (slot_set_moving moved motion) slots ≡ slots
 slots_kept moved motion [] none = refl
 slots_kept moved motion (slot ∷ slots) none =
-    let parts = none_of (holds_any moved slot) (list_any (holds_any moved) slots) none in
+    let parts = or_parts (holds_any moved slot) (list_any (holds_any moved) slots) none in
     ap₂ (λ (s : Slot) (ss : List Slot). s ∷ ss) (slot_kept moved motion slot parts.0) (slots_kept moved motion slots parts.1)
 
 -- nor does its cell change

@@ -2,7 +2,8 @@ use Rattle.std.proofs.Common.{◌≢◌, ◌∙◌, ℕ, ◌+◌, ◌<◌, inl, 
 use Rattle.std.proofs.lemmas.Bool.{cases_eq}
 use Rattle.std.proofs.lemmas.List.{get_or-set_same, get_or-set_other, length-set}
 use Rattle.ps_board.proofs.ColumnLaws.{none_in}
-use Rattle.ps_screen.proofs.Taken.{first_was_in, not_left, was_in}
+use Rattle.ps_board.proofs.Taken.{was_in}
+use Rattle.ps_screen.proofs.Taken.{first_was_in, not_left}
 use Rattle.ps_screen.proofs.patching.put_columns.Goals as goal
 
 pub put-requires : goal.put-requires

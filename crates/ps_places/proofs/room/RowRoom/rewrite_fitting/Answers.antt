@@ -69,7 +69,7 @@ loop-number-preserved g c =
     c.index-parts-number.is ∙ ap (λ (ps : List (List CompiledCell)). get_or ps number c.index-parts-number.result) c.as_slice-parts.ensures in
     let high : (before.grid).height ≡ height = ap (λ (s : ℕ × ℕ × ℕ). s.1) c.loop-number.invariant.sides in
     let still : (after.grid).height ≡ (before.grid).height = ap (λ (s : ℕ × ℕ × ℕ). s.1) c.rewrite_fitting_part-any.ensures.sides in
-    let some : 0 < (before.grid).height = rw high c.size-width.ensures.shape.some_row in
+    let some : 0 < (before.grid).height = rw high c.recall_shape.ensures.some_row in
     let wrote : after ≡ rewritten_along before (part_meaning table part) (line_cells axis (before.grid).height line (get_or way number 0) (length part)) =
     c.rewrite_fitting_part-any.ensures.rewritten
     ∙ ap (λ (cells : List CompiledCell). rewritten_along before (part_meaning (g.B.Board.table c.loop-number.board) cells)
