@@ -7,6 +7,7 @@ ghost use Rattle.ps_program.specs.ProgramShown.{sections_shown};
 ghost use Rattle.ps_rulebook.specs.PlayedGames.{AreCompiled, PlayAsWritten};
 
 use crate::game_rules::GameRules;
+use ps_board::CellSet;
 use ps_compile::Programs as CompiledPrograms;
 use ps_model::Memory;
 use ps_turn::Programs;
@@ -31,5 +32,6 @@ pub fn rules_of<'p, 'r>(
     Ok(Programs {
         plain: GameRules::try_new(alloc, &programs.plain)?,
         late: GameRules::try_new(alloc, &programs.late)?,
+        moving: CellSet::try_new(alloc)?,
     })
 }
