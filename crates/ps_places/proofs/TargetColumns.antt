@@ -3,7 +3,7 @@ use Rattle.std.proofs.Common.{◌≡◌, ◌∙◌, ℕ, zero, suc, ◌+◌, ◌
 use Rattle.std.proofs.Common.{not, cond, Option, List, [], ◌∷◌, filter, length, refl, sym, ap, ap₂, arith}
 use Rattle.std.specs.Prelude.{nat_eq, nat_le, nat_lt, slice_index_or, slice_set}
 use Rattle.std.specs.List.{list_any, range_with_len}
-use Rattle.std.proofs.Math.Bool.{and-false, or_assoc}
+use Rattle.std.proofs.Math.Bool.{and-false, or-false, or_assoc}
 use Rattle.std.proofs.lemmas.Bool.{and_parts, cases_eq, cases_lt, le-ltb, lt-ltb, not-true}
 use Rattle.std.proofs.lemmas.Bool.Decides.{nat_tests}
 use Rattle.std.proofs.lemmas.List.{get_or-set_same, get_or-set_other}
@@ -63,6 +63,18 @@ reach-more reach behind more steps b e set is =
             ∙ column_at-beyond (λ y. column_at reach y || column_at behind y) x far
             ∙ sym (none_within set x (steps + steps) far)
       ];
+    }
+
+pub reach-far : (set reach : List Bool) (steps : ℕ) → SIDE_LIMIT ≤ steps → IsReach set reach steps →
+    IsReach set reach SIDE_LIMIT
+reach-far set reach steps far is =
+    record {
+      at = λ x.
+          is.at x
+          ∙ any-join (is_within set) x SIDE_LIMIT (steps - SIDE_LIMIT) steps (x + SIDE_LIMIT) (omega (arith, far)) refl
+          ∙ ap (λ (b : Bool). list_any (is_within set) (range_with_len x SIDE_LIMIT) || b)
+          (none_within set (x + SIDE_LIMIT) (steps - SIDE_LIMIT) (omega arith))
+          ∙ or-false (list_any (is_within set) (range_with_len x SIDE_LIMIT));
     }
 
 once : (a b : Bool) → (a && b) ≡ ((b && a) || false)

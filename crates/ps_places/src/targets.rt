@@ -29,13 +29,13 @@ fn reach_twice(reach: Columns, steps: u32) -> Columns
 fn up_to(set: Columns) -> Columns
     ensures { IsReach set result SIDE_LIMIT }
 {
-    let one = set.both(Columns::below(SIDE_LIMIT));
-    let two = reach_twice(one, 1);
-    let four = reach_twice(two, 2);
-    let eight = reach_twice(four, 4);
-    let sixteen = reach_twice(eight, 8);
-    let half = reach_twice(sixteen, 16);
-    reach_twice(half, 32)
+    let mut reach = set.both(Columns::below(SIDE_LIMIT));
+    let mut steps = 1;
+    while steps < SIDE_LIMIT {
+        reach = reach_twice(reach, steps);
+        steps += steps;
+    }
+    reach
 }
 
 /// The columns of a set, and all to the right of one of them.
