@@ -1,5 +1,5 @@
 -- Cells of a grid that are changed one after the other, in whatever order.
-use Rattle.std.proofs.Common.{◌≡◌, ◌∙◌, ℕ, zero, suc, ◌+◌, ◌*◌, ◌/◌, ◌%◌, ◌<◌, ◌≤◌, ◌&&◌, inl, inr, Bool, true, false, cond, List, [], ◌∷◌}
+use Rattle.std.proofs.Common.{◌≡◌, ◌∙◌, ℕ, suc, ◌+◌, ◌*◌, ◌/◌, ◌%◌, ◌<◌, ◌≤◌, ◌&&◌, inl, inr, Bool, true, false, cond, List, [], ◌∷◌}
 use Rattle.std.proofs.Common.{length, map, get_or, mod-lt, refl, sym, subst, ap, ap₂, arith}
 use Rattle.std.specs.Prelude.{nat_lt, slice_set}
 use Rattle.std.specs.List.{list_any}
@@ -16,7 +16,7 @@ use Rattle.ps_model.specs.names.Names.{is_among}
 use Rattle.ps_model.specs.board.Grid.{Grid, IsGrid, cell_at}
 use Rattle.ps_board.specs.ColumnSets.{column_at}
 use Rattle.ps_board.proofs.ColumnLaws.{column_at-where}
-use Rattle.ps_board.proofs.Taken.{AreBelow, ArePassed, passed-changed}
+use Rattle.ps_board.proofs.Taken.{AreBelow, ArePassed}
 use Rattle.ps_turn.specs.RowsOfCells.{NonePassOutside, columns_within, row_cells}
 use Rattle.ps_turn.specs.Sweeps.{AreChanged, IsCellChanged, IsRowChanged, grid_with_cell, grid_with_cells, holds_any, slot_set_moving}
 use Rattle.ps_turn.proofs.WhereObjectsStand.{slots_kept}

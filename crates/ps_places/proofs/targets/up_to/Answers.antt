@@ -1,4 +1,4 @@
-use Rattle.std.proofs.Common.{◌<◌, arith}
+use Rattle.std.proofs.Common.{arith}
 use Rattle.ps_places.proofs.TargetColumns.{reach-far, reach-init}
 use Rattle.ps_places.proofs.targets.up_to.Goals as goal
 
