@@ -40,4 +40,5 @@ moved_all tests cell = list_all (moves_as_asked cell) tests
 abbrev pub five_rows : ℕ → List ℕ → ℕ → ℕ → ℕ
 five_rows height words first row =
     let word : ℕ → ℕ = λ plane. slice_index words (plane * height + row) in
-    bit_or (bit_or (bit_or (bit_or (word first) (word (first + 1))) (word (first + 2))) (word (first + 3))) (word (first + 4))
+    bit_or (bit_or (bit_or (bit_or (word first) (word (first + 1))) (word (first + 2))) (word (first + 3)))
+    (word (first + 4))

@@ -49,7 +49,8 @@ motion_of-number Acting = refl
 
 pub same_motion-true : (first second : Motion) → same_motion first second ≡ true → first ≡ second
 same_motion-true first second e =
-    sym (motion_of-number first) ∙ ap motion_of (eqb-true (motion_number first) (motion_number second) e) ∙ motion_of-number second
+    sym (motion_of-number first) ∙ ap motion_of (eqb-true (motion_number first) (motion_number second) e)
+    ∙ motion_of-number second
 
 -- slots and cells
 pub same_slot-own : (slot : Slot) → same_slot slot slot ≡ true

@@ -27,7 +27,8 @@ loop-passes-preserved g c =
     let part = c.pass.ensures.part in
     let inv = c.loop-passes.invariant in
     let shape : IsGrid now = part.shape c.pass.ensures.shape in
-    let fewer : going_count now + 1 ≤ going_count old = subst (λ (b : Bool). going_count now + cond b 1 0 ≤ going_count old) c.loop-passes-test.true part.fewer in
+    let fewer : going_count now + 1 ≤ going_count old =
+    subst (λ (b : Bool). going_count now + cond b 1 0 ≤ going_count old) c.loop-passes-test.true part.fewer in
     let all : old.width * old.height ≡ now.width * now.height = rw (part.width, part.height) refl in
     record {
       order = next_pass start now c.pass.result (old.width * old.height) shape all (part.order start false inv.order);
@@ -48,7 +49,8 @@ returns-clause-exact g c =
     let shape : IsGrid now = part.shape c.pass.ensures.shape in
     let all : old.width * old.height ≡ now.width * now.height = rw (part.width, part.height) refl in
     let order : IsInOrder start now false (old.width * old.height, 0) =
-    subst (λ (b : Bool). IsInOrder start now b (old.width * old.height, 0)) c.loop-passes-test.false (part.order start false c.loop-passes.invariant.order) in
+    subst (λ (b : Bool). IsInOrder start now b (old.width * old.height, 0)) c.loop-passes-test.false
+    (part.order start false c.loop-passes.invariant.order) in
     c.clear_moves.ensures.grid ∙ rest_exact start now (old.width * old.height) shape all order
 
 pub returns-clause-slid : goal.returns-clause-slid
@@ -61,5 +63,6 @@ returns-clause-slid g c =
 
 pub returns-clause-one_pass : goal.returns-clause-one_pass
 returns-clause-one_pass g c = λ e.
-    let unchanged : g.B.Board.grid c.pass.new.board ≡ g.B.Board.grid c.args.board.now = c.pass.ensures.part.same c.loop-passes-test.false ∙ c.loop-passes.invariant.first e in
+    let unchanged : g.B.Board.grid c.pass.new.board ≡ g.B.Board.grid c.args.board.now =
+    c.pass.ensures.part.same c.loop-passes-test.false ∙ c.loop-passes.invariant.first e in
     cc

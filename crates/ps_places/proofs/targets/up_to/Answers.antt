@@ -15,4 +15,5 @@ loop-steps-preserved c = record {
 }
 
 pub returns : goal.returns
-returns c = reach-far c.args.set c.loop-steps.reach c.loop-steps.steps c.loop-steps-test.false c.loop-steps.invariant.reach
+returns c = reach-far c.args.set c.loop-steps.reach c.loop-steps.steps c.loop-steps-test.false
+    c.loop-steps.invariant.reach
