@@ -11,6 +11,7 @@ import re
 import shutil
 import signal
 import subprocess
+import sys
 import time
 
 from command_line import stop
@@ -196,6 +197,9 @@ def run_all(crates, tasks, tell):
     """Runs the tasks, whose crates stand in an order in which each is behind those below it. `tell` hears of each that has
     ended: the task, whether it ended well, and the seconds that it took. None begins behind one that didn't. Whether all did."""
     lock = alone()
+    # Who ends this ends what it has begun, too.
+    for number in (signal.SIGINT, signal.SIGTERM):
+        signal.signal(number, lambda number, _: sys.exit(128 + number))
     shutil.rmtree(ROOM, ignore_errors=True)
     runner = Runner(crates, tasks, tell)
     try:
