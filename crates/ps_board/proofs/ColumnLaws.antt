@@ -48,7 +48,8 @@ pub set_columns-where : (f : ℕ → Bool) → set_columns (columns_where f) ≡
 unfolding set_columns
 set_columns-where f = kept_on (column_at (columns_where f)) f 0 SIDE_LIMIT (λ x low high. column_at-where f x (omega arith))
 
-none_on : (f : ℕ → Bool) (a n : ℕ) → ((x : ℕ) → a ≤ x → x < a + n → f x ≡ false) → filter f (range_with_len a n) ≡ []
+-- numbers of which none passes
+pub none_on : (f : ℕ → Bool) (a n : ℕ) → ((x : ℕ) → a ≤ x → x < a + n → f x ≡ false) → filter f (range_with_len a n) ≡ []
 none_on f a zero e = refl
 none_on f a (suc n) e =
     ap (λ (b : Bool). cond b (a ∷ filter f (range_with_len (a + 1) n)) (filter f (range_with_len (a + 1) n))) (e a (omega arith) (omega arith))

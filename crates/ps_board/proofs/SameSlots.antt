@@ -1,13 +1,10 @@
 -- Slots compared as one flat list, or cell by cell.
-use Rattle.std.proofs.Common.{◌≡◌, ℕ, ◌+◌, ◌*◌, ◌&&◌, Bool, true, false, List, [], ◌∷◌, length, length-drop, take, drop, suc, zero, refl, ap, ◌∙◌, arith}
+use Rattle.std.proofs.Common.{◌≡◌, ℕ, ◌+◌, ◌*◌, ◌&&◌, Bool, List, [], ◌∷◌, length, length-drop, take, drop, suc, zero, refl, sym, ap, ◌∙◌, arith}
 use Rattle.std.specs.Simd.{first_chunks}
+use Rattle.std.proofs.Math.Bool.{and_assoc}
 use Rattle.ps_model.specs.declared.pieces.Slot.{Slot}
 use Rattle.ps_model.specs.board.Attempts.{same_cell, same_slot}
 use Rattle.ps_model.specs.board.Turns.{same_cells}
-
-and_again : (a b c : Bool) → (a && (b && c)) ≡ ((a && b) && c)
-and_again true b c = refl
-and_again false b c = refl
 
 -- slots in two parts
 same_cell-parts : (n : ℕ) (xs ys : List Slot) → length xs ≡ length ys → same_cell xs ys ≡ (same_cell (take n xs) (take n ys) && same_cell (drop n xs) (drop n ys))
@@ -17,7 +14,7 @@ same_cell-parts (suc n) [] (y ∷ ys) e = absurd (omega arith)
 same_cell-parts (suc n) (x ∷ xs) [] e = absurd (omega arith)
 same_cell-parts (suc n) (x ∷ xs) (y ∷ ys) e =
     ap (λ (b : Bool). same_slot x y && b) (same_cell-parts n xs ys (omega arith))
-    ∙ and_again (same_slot x y) (same_cell (take n xs) (take n ys)) (same_cell (drop n xs) (drop n ys))
+    ∙ sym (and_assoc (same_slot x y) (same_cell (take n xs) (take n ys)) (same_cell (drop n xs) (drop n ys)))
 
 -- slots are the same where their cells are
 pub same_cells-chunks : (n k : ℕ) (xs ys : List Slot) → length xs ≡ k * n → length ys ≡ k * n → same_cell xs ys ≡ same_cells (first_chunks n k xs) (first_chunks n k ys)

@@ -13,14 +13,16 @@ ghost use Rattle.ps_board.specs.RowsOfGrids.{PassOnlyOn, is_moving, row_holders,
 ghost use Rattle.ps_board.specs.Rows.{AreAlike, DifferOnlyIn, DifferOnlyOn};
 
 use crate::columns::Columns;
+use crate::words::ColumnWords;
 use ps_model::{LayerId, Memory, Motion, ObjectId};
 use std::alloc::Global;
 
 /// A board of cells in columns from the left, each column from the top. The cell in column `x` and row `y` has the
 /// number `x * height + y`, and in each cell each collision layer has room for one object.
 ///
-/// A board has from 1 to 64 columns, from 1 to 64 rows and from 1 to 32 layers, and keeps them. The room for all its
-/// objects is there from the start, so that only making a board takes memory.
+/// A board has a column, a row and a layer at least, and at most `SIDE_LIMIT` columns, as many rows and `LAYER_LIMIT`
+/// layers, and keeps them. The room for all its objects is there from the start, so that only making a board takes
+/// memory.
 ///
 /// A board may keep the layer of each object of its game, and then an object may be put on its own layer alone. What
 /// stands on a layer may be put on the same layer elsewhere.
@@ -34,6 +36,9 @@ pub trait Board: Drop {
 
     /// The table of a board for a game whose objects stand on these layers.
     ghost table_for: { List ℕ → Option (List ℕ) };
+
+    /// The words of a set of its columns, or of its rows.
+    type Words: ColumnWords;
 
     /// A board without objects, of so many columns, rows and layers, for a game whose objects stand on the layers
     /// `own_layers`, in the order of their numbers. Without memory there is no board.
@@ -108,30 +113,30 @@ pub trait Board: Drop {
         ensures { result ≡ same_cells (grid self.now).cells (grid other.now).cells };
 
     /// The columns of a row in which the object on a layer is about to do something.
-    fn movers(&self, layer: LayerId, row: u32) -> Columns
+    fn movers(&self, layer: LayerId, row: u32) -> Columns<Self::Words>
         requires layer { layer.0 < (grid self.now).layers }
         requires row { row < (grid self.now).height }
         ensures { result ≡ row_movers (grid self.now) layer.0 row };
 
     /// The columns of a row in which an object stands on a layer.
-    fn holders(&self, object: ObjectId, layer: LayerId, row: u32) -> Columns
+    fn holders(&self, object: ObjectId, layer: LayerId, row: u32) -> Columns<Self::Words>
         requires layer { layer.0 < (grid self.now).layers }
         requires row { row < (grid self.now).height }
         ensures { result ≡ row_holders (grid self.now) object layer.0 row };
 
     /// Rows, as a set of their numbers, without which nothing on the board is about to move or to act. There may be
     /// more of them, and all of them, as a board needn't look for it.
-    fn rows_moving_any(&self) -> Columns
+    fn rows_moving_any(&self) -> Columns<Self::Words>
         ensures { PassOnlyOn is_moving (grid self.now) result };
 
     /// Rows, as a set of their numbers, without which an object stands nowhere, on whatever layer. There may be more of
     /// them, and all of them, as a board needn't look for it.
-    fn rows_holding(&self, object: ObjectId) -> Columns
+    fn rows_holding(&self, object: ObjectId) -> Columns<Self::Words>
         ensures { PassOnlyOn (slot_holds object) (grid self.now) result };
 
     /// Columns of a row whose cells show the same objects, at rest or not, as one of them does, itself among them.
     /// There may be others, as a board needn't look for them.
-    fn alike(&self, row: u32, column: u32) -> Columns
+    fn alike(&self, row: u32, column: u32) -> Columns<Self::Words>
         requires row { row < (grid self.now).height }
         requires column { column < (grid self.now).width }
         ensures own { column_at result column ≡ true }
@@ -147,7 +152,7 @@ pub trait Board: Drop {
     /// The columns of a row whose cells may show other objects, at rest or not, than on another board of the same size,
     /// with as many layers and the same room. The cells of all other columns show the same; a board may name columns
     /// that do.
-    fn differing(&self, other: &Self, row: u32) -> Columns
+    fn differing(&self, other: &Self, row: u32) -> Columns<Self::Words>
         requires row { row < (grid self.now).height }
         requires width { (grid other.now).width ≡ (grid self.now).width }
         requires height { (grid other.now).height ≡ (grid self.now).height }
@@ -158,7 +163,7 @@ pub trait Board: Drop {
     /// Rows, as a set of their numbers, outside of which another board of the same size, with as many layers and the
     /// same room, shows the same objects, at rest or not. There may be more of them, and all of them, as a board
     /// needn't look for it.
-    fn rows_differing(&self, other: &Self) -> Columns
+    fn rows_differing(&self, other: &Self) -> Columns<Self::Words>
         requires width { (grid other.now).width ≡ (grid self.now).width }
         requires height { (grid other.now).height ≡ (grid self.now).height }
         requires layers { (grid other.now).layers ≡ (grid self.now).layers }
@@ -167,12 +172,21 @@ pub trait Board: Drop {
 
     /// Makes another board of the same size, with as many layers and the same room, show what this one does, at rest.
     /// Outside of these rows the other board shows the same objects already.
-    fn copy_rows(&self, other: &mut Self, rows: Columns)
+    fn copy_rows(&self, other: &mut Self, rows: &Columns<Self::Words>)
         requires width { (grid other.old).width ≡ (grid self.now).width }
         requires height { (grid other.old).height ≡ (grid self.now).height }
         requires layers { (grid other.old).layers ≡ (grid self.now).layers }
         requires table { table other.old ≡ table self.now }
-        requires same { DifferOnlyOn rows (grid self.now) (grid other.old) }
+        requires same { DifferOnlyOn rows.now (grid self.now) (grid other.old) }
         ensures grid { grid other.new ≡ at_rest (grid self.now) }
         ensures table { table other.new ≡ table self.now };
+}
+
+/// Recalls that a board has the shape of one: from 1 to 64 columns and rows, from 1 to 32 layers, and as many cells and
+/// slots as these say. A proof about the cells of a board that was passed in needs it, and learns it from a call alone.
+/// Nothing is done when it runs.
+pub fn recall_shape<B: Board>(board: &B)
+    ensures { IsGrid (B.grid board.now) }
+{
+    let (_width, _height) = board.size();
 }

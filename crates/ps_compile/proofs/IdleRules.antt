@@ -1,18 +1,17 @@
 -- Compiled rules that can do nothing do nothing on their game.
-use Rattle.std.proofs.Common.{◌≡◌, ℕ, suc, zero, Bool, true, false, ◌&&◌, ◌||◌, not, cond, Option, Some, None, List, [], ◌∷◌, ◌++◌, map, refl, sym, subst, ap, ap₂, ◌∙◌, arith}
+use Rattle.std.proofs.Common.{◌≡◌, ℕ, suc, zero, Bool, true, false, ◌&&◌, ◌||◌, not, Option, Some, None, List, [], ◌∷◌, ◌++◌, map, refl, sym, subst, ap, ap₂, arith}
 use Rattle.std.specs.Prelude.{All, is_some}
-use Rattle.std.specs.Option.{option_or}
 use Rattle.std.specs.List.{list_all, list_any, Contains}
-use Rattle.std.proofs.lemmas.Bool.{and_parts}
+use Rattle.std.proofs.lemmas.Bool.{and_parts, not-true}
 use Rattle.ps_model.specs.names.Names.{Names}
 use Rattle.ps_model.specs.board.Places.{cells_in}
-use Rattle.ps_model.specs.board.Attempts.{Result, Rewritten, both, queued, queue_after, all_applied, combinations_on}
+use Rattle.ps_model.specs.board.Attempts.{Result, Rewritten, all_applied, combinations_on}
 use Rattle.ps_model.specs.rules.SourceRules.{Commands, no_commands}
 use Rattle.ps_model.specs.meaning.RuleMeanings.{CellMeaning, RuleMeaning}
 use Rattle.ps_model.specs.meaning.Compiled.{CompiledCell, CompiledRule, meaning_of_cell, meaning_of_rule}
 use Rattle.ps_laws.specs.IdleRules.{IsIdle, LeavesAll}
 use Rattle.ps_laws.proofs.common.Everywhere.{All-mapped}
-use Rattle.ps_laws.proofs.alike.IdleRules.{idle-fitting_none, idle-leaving_all}
+use Rattle.ps_laws.proofs.alike.IdleRules.{idle-fitting_none, idle-leaving_all, queue-left}
 use Rattle.ps_program.specs.Leaving.{leaves}
 use Rattle.ps_program.proofs.FittingMasks.{Sought, found-in, all-true}
 use Rattle.ps_program.proofs.LeavingCells.{leaves-cell}
@@ -35,27 +34,6 @@ quiet false false false false false (Some text) e = absurd (cc)
 quiet-commands : (commands : Commands) → asks commands ≡ false → commands ≡ no_commands
 quiet-commands commands e = quiet commands.cancel commands.restart commands.again commands.checkpoint commands.win commands.message e
 
-or_nothing : (a : Bool) → (a || false) ≡ a
-or_nothing true = refl
-or_nothing false = refl
-
-kept_message : (message : Option (List ℕ)) → option_or message None ≡ message
-kept_message None = refl
-kept_message (Some text) = refl
-
-nothing-joins : (queue : Commands) → both queue no_commands ≡ queue
-nothing-joins queue =
-    rw (or_nothing queue.cancel, or_nothing queue.restart, or_nothing queue.again, or_nothing queue.checkpoint, or_nothing queue.win, kept_message queue.message) refl
-
-nothing-enters : (queue : Commands) (cancel restart : Bool) → cond cancel queue (cond (restart && true) queue (both queue no_commands)) ≡ queue
-nothing-enters queue true restart = refl
-nothing-enters queue false true = refl
-nothing-enters queue false false = nothing-joins queue
-
-queue-same : (queue : Commands) (rule : RuleMeaning) → rule.commands ≡ no_commands → (combinations : List (List (List ℕ))) → queue_after queue rule combinations ≡ queue
-queue-same queue rule none [] = refl
-queue-same queue rule none (first ∷ others) = ap (queued queue) none ∙ nothing-enters queue queue.cancel queue.restart
-
 -- rules --------------------------------------------------------------------------------------------------------------------
 
 -- a rule that neither rewrites nor asks
@@ -65,7 +43,7 @@ silent-idle names rule still none state shape =
     let start : Rewritten = record { grid = state.grid; changed = false } in
     ap₂ (λ (r : Rewritten) (commands : Commands). let result : Result = record { state = record { grid = r.grid; queue = commands }; changed = r.changed } in result)
     (ap (λ (does : Bool). elim does [ true ↦ all_applied (record rule { rewrites = true }) state.grid found | false ↦ start ]) still)
-    (queue-same state.queue rule none found)
+    (queue-left state.queue rule none found)
 
 -- a cell of a part, of a row
 Contains-map : {X Y : Type 0} (f : X → Y) (xs : List X) (x : X) → Contains xs x → Contains (map f xs) (f x)
@@ -120,10 +98,6 @@ leaving-idle names rule none all =
     (λ part every. All-mapped (LeavesAll names) (λ cell. leaves cell ≡ true) meaning_of_cell part
     (λ cell stays slots of_game fits. leaves-cell cell slots stays fits) (all-true leaves part every)) (all-true (list_all leaves) row each)) (all-true (list_all (list_all leaves)) rule.rows all))
 
-not_so : (b : Bool) → not b ≡ true → b ≡ false
-not_so true e = absurd (cc)
-not_so false e = refl
-
 -- a rule that can do nothing
 quiet-idle : (names : Names) (rule : CompiledRule) → rule.commands ≡ no_commands → (rewrites : Bool) → rule.rewrites ≡ rewrites → (not rewrites || leaves_all rule) ≡ true → IsIdle names (meaning_of_rule rule)
 quiet-idle names rule none true e h = leaving-idle names rule none h
@@ -133,7 +107,7 @@ idle-by : (names : Names) (rule : CompiledRule) (void : Bool) → has_void_cell 
 idle-by names rule true e h = void-idle names rule e
 idle-by names rule false e h =
     let parts = and_parts (not (asks rule.commands)) (not rule.rewrites || leaves_all rule) h in
-    quiet-idle names rule (quiet-commands rule.commands (not_so (asks rule.commands) parts.0)) rule.rewrites refl parts.1
+    quiet-idle names rule (quiet-commands rule.commands (not-true (asks rule.commands) parts.0)) rule.rewrites refl parts.1
 
 pub idle-so : (names : Names) (rule : CompiledRule) → is_idle rule ≡ true → IsIdle names (meaning_of_rule rule)
 idle-so names rule e = idle-by names rule (has_void_cell rule) refl e

@@ -8,6 +8,7 @@ use Rattle.ps_model.specs.rules.SourceRules.{RuleLine}
 use Rattle.ps_model.specs.board.RuleSections.{Group, Loop, section_by}
 use Rattle.ps_model.specs.board.RulePrograms.{is_start, is_end, groups_in, outside_loops, inside_loop, of_pieces, behind_start}
 use Rattle.ps_model.specs.meaning.Compiled.{CompiledSection}
+use Rattle.ps_laws.proofs.common.Stages.{map-flat_map}
 use Rattle.ps_compile.specs.GroupsMade.{compiled_group}
 use Rattle.ps_compile.specs.ProgramsMade.{compiled_sections, compact_groups, compact_outside, compact_behind}
 use Rattle.ps_compile.specs.CompactPrograms.{compact_program}
@@ -15,10 +16,6 @@ use Rattle.ps_compile.specs.CompactPrograms.{compact_program}
 groups-made : {A B : Type 0} (made : List A → List B) (groups : List (List A)) → map Group (map made groups) ≡ map (section_by made) (map Group groups)
 groups-made made [] = refl
 groups-made made (rules ∷ groups) = ap (λ sections. Group (made rules) ∷ sections) (groups-made made groups)
-
-map-flat_map : {A B C : Type 0} (f : B → C) (g : A → List B) (xs : List A) → map f (flat_map g xs) ≡ flat_map (λ x. map f (g x)) xs
-map-flat_map f g [] = refl
-map-flat_map f g (x ∷ xs) = map-append f (g x) (flat_map g xs) ∙ ap (λ rest. map f (g x) ++ rest) (map-flat_map f g xs)
 
 -- outside of loops each group is a section
 pub outside-made : (names : Names) (part : Part) (lines : List RuleLine) → map Group (compact_groups names part lines) ≡ compact_outside names part lines

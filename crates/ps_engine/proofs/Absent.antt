@@ -1,5 +1,5 @@
 -- A rule that needs an object which is nowhere on the board, or asks for a motion that nothing there has, has no combination.
-use Rattle.std.proofs.Common.{◌≡◌, ◌∙◌, ℕ, suc, zero, ◌<◌, ◌+◌, ◌*◌, ◌/◌, ◌%◌, ◌&&◌, ◌⊎◌, inl, inr, Bool, false, cond, Option, Some, None, List, [], ◌∷◌, ◌++◌, length, map, filter, get_or, refl, sym, subst, ap, arith}
+use Rattle.std.proofs.Common.{◌≡◌, ◌∙◌, ℕ, suc, zero, ◌<◌, ◌+◌, ◌*◌, ◌/◌, ◌%◌, ◌&&◌, ◌⊎◌, inl, inr, Bool, false, Option, Some, None, List, [], ◌∷◌, ◌++◌, length, map, filter, get_or, refl, sym, subst, ap, arith}
 use Rattle.std.specs.Prelude.{not, slice_get}
 use Rattle.std.specs.List.{flat_map, list_all, list_any, Contains}
 use Rattle.std.proofs.Math.Bool.{and-false}
@@ -16,6 +16,8 @@ use Rattle.ps_model.specs.board.Places.{places, fits_along, fits_there, stretche
 use Rattle.ps_model.specs.board.Attempts.{combinations}
 use Rattle.ps_model.specs.meaning.Compiled.{is_held_in, moves_as_asked}
 use Rattle.ps_model.specs.meaning.RuleMeanings.{CellMeaning}
+use Rattle.ps_laws.proofs.common.Lists.{none-filtered}
+use Rattle.ps_laws.proofs.common.Truths.{first-false, second-false}
 use Rattle.ps_program.specs.declared.cells.CellMask.{CellMask}
 use Rattle.ps_program.specs.declared.cells.CompiledCell.{CompiledCell}
 use Rattle.ps_program.specs.Needs.{asked_by_part, asked_by_row, asked_by_rows, cell_moves, cell_needs, rows_move, rows_need}
@@ -25,7 +27,6 @@ use Rattle.ps_match.specs.Nowhere.{HasMovesIn, IsNowhere, NoneMovesOnRow}
 use Rattle.ps_program.specs.declared.rows.CompiledRow.{CompiledRow}
 use Rattle.ps_places.specs.Lines.{cell_meaning}
 use Rattle.ps_places.specs.RowPlaces.{cells_meaning, parts_meaning, row_meaning}
-use Rattle.ps_places.proofs.CellByCell.{if_here, if_rest}
 use Rattle.ps_places.proofs.OnlyOn.{last_off}
 use Rattle.ps_places.proofs.Ranges.{flat_map-none}
 use Rattle.ps_engine.proofs.Choosing.{cells_in-meant}
@@ -76,10 +77,6 @@ asked_joined : {X : Type 0} (asked : CompiledCell → List X) (parts : List (Lis
 asked_joined asked [] = refl
 asked_joined asked (part ∷ parts) = ap (λ (xs : List _). asked_by_part asked part ++ xs) (asked_joined asked parts) ∙ sym (flat_map-append asked part (all_cells parts))
 
-none_kept : {X : Type 0} (test : X → Bool) (xs : List X) → ((x : X) → test x ≡ false) → filter test xs ≡ []
-none_kept test [] off = refl
-none_kept test (x ∷ xs) off = ap (λ (b : Bool). cond b (x ∷ filter test xs) (filter test xs)) (off x) ∙ none_kept test xs off
-
 not_all : {X : Type 0} (test : X → Bool) (x : X) → test x ≡ false → (xs : List X) → Contains xs x → list_all test xs ≡ false
 not_all test x off [] (k, low, e) = absurd (omega (arith, low))
 not_all test x off (first ∷ xs) (zero, low, e) = ap (λ (b : Bool). b && list_all test xs) (ap test e ∙ off)
@@ -97,16 +94,16 @@ module _ {X : Type 0} (g : Grid) (table : Option (List ℕ)) (asked : CompiledCe
   row_off [] cell (k, low, e) asks at = absurd (omega (arith, low))
   row_off (first ∷ cells) cell there asks [] = refl
   row_off (first ∷ cells) cell (zero, low, e) asks (number ∷ at) =
-      if_here (fits_there (cell_meaning table first) (slice_get g.cells number)) (fits_along g (map (cell_meaning table) cells) at)
+      first-false (fits_there (cell_meaning table first) (slice_get g.cells number)) (fits_along g (map (cell_meaning table) cells) at)
       (ap (λ (c : CompiledCell). fits_there (cell_meaning table c) (slice_get g.cells number)) e ∙ nowhere cell asks number)
   row_off (first ∷ cells) cell (suc k, low, e) asks (number ∷ at) =
-      if_rest (fits_there (cell_meaning table first) (slice_get g.cells number)) (fits_along g (map (cell_meaning table) cells) at) (row_off cells cell (k, omega (arith, low), e) asks at)
+      second-false (fits_there (cell_meaning table first) (slice_get g.cells number)) (fits_along g (map (cell_meaning table) cells) at) (row_off cells cell (k, omega (arith, low), e) asks at)
 
   parts_off : (direction : Direction) (parts : List (List CompiledCell)) → Source asked (all_cells parts) x → places g direction (parts_meaning table parts) ≡ []
   parts_off direction parts (cell, there, asks) =
       let row : List (List CellMeaning) = parts_meaning table parts in
       flat_map-none (λ end. filter (fits_along g _) (stretches g direction (map length row) end)) (search_order g direction)
-      (λ end. none_kept (fits_along g _) (stretches g direction (map length row) end)
+      (λ end. none-filtered (fits_along g _) (stretches g direction (map length row) end)
       (λ at. ap (λ (ms : List CellMeaning). fits_along g ms at) (cells_in-meant table parts ∙ cells_meaning-all table parts) ∙ row_off (all_cells parts) cell there asks at))
 
   row_without : (direction : Direction) (row : CompiledRow) → Contains (asked_by_row asked row) x → places g direction (row_meaning table row) ≡ []

@@ -2,6 +2,7 @@
 use Rattle.std.proofs.Common.{◌≡◌, ◌≢◌, ◌∙◌, ℕ, suc, ◌<◌, inl, inr, Option, Some, List, [], ◌∷◌, length, map, refl, subst, sym, ap, arith}
 use Rattle.std.specs.Prelude.{All, slice_get}
 use Rattle.std.proofs.lemmas.Bool.{cases_eq}
+use Rattle.std.proofs.lemmas.Option.{same_Some}
 use Rattle.ps_model.specs.board.Grid.{Grid}
 use Rattle.ps_model.specs.board.Places.{places}
 use Rattle.ps_model.specs.board.Attempts.{combinations}
@@ -11,7 +12,6 @@ use Rattle.ps_program.specs.Axes.{LiesAlong, direction_of}
 use Rattle.ps_places.specs.RowPlaces.{row_meaning}
 use Rattle.ps_engine.specs.Choices.{spread}
 use Rattle.ps_engine.specs.Choosing.{row_places, rows_meaning}
-use Rattle.ps_engine.proofs.Choosing.{inside}
 
 some_spread : (places : List (List ℕ)) (rests : List (List (List ℕ))) → places ≢ [] → rests ≢ [] → spread places rests ≢ []
 some_spread places [] some others e = others refl
@@ -25,7 +25,7 @@ HavePlaces g table rows count = (k : ℕ) (row : CompiledRow) → k < count → 
 pub more_places : (g : Grid) (table : Option (List ℕ)) (rows : List CompiledRow) (n m : ℕ) (row : CompiledRow) → m ≡ suc n → slice_get rows n ≡ Some row → row_places g table row ≢ [] →
     HavePlaces g table rows n → HavePlaces g table rows m
 more_places g table rows n m row next is here all k r less own = elim (cases_eq k n) [
-  | inl same ↦ let e : r ≡ row = inside (sym own ∙ ap (slice_get rows) same ∙ is) in rw e here
+  | inl same ↦ let e : r ≡ row = same_Some _ _ (sym own ∙ ap (slice_get rows) same ∙ is) in rw e here
   | inr other ↦ all k r (omega (arith, less, next, other)) own
 ]
 

@@ -4,7 +4,7 @@ use Rattle.std.specs.Prelude.{All, slice_get, slice_set}
 use Rattle.std.specs.List.{flat_map}
 use Rattle.std.proofs.lemmas.Bool.{cases_eq}
 use Rattle.std.proofs.lemmas.List.{length-map}
-use Rattle.std.proofs.lemmas.Option.{slice_get-get_or}
+use Rattle.std.proofs.lemmas.Option.{slice_get-get_or, same_Some}
 use Rattle.ps_model.specs.declared.pieces.Direction.{Direction}
 use Rattle.ps_model.specs.board.Grid.{Grid}
 use Rattle.ps_model.specs.board.Places.{cells_in, fits_along, places, search_order, stretches}
@@ -13,13 +13,13 @@ use Rattle.ps_model.specs.meaning.RuleMeanings.{CellMeaning}
 use Rattle.ps_program.specs.declared.rows.Axis.{Axis}
 use Rattle.ps_program.specs.declared.rows.CompiledRow.{CompiledRow}
 use Rattle.ps_program.specs.Axes.{LiesAlong, direction_of}
-use Rattle.ps_places.specs.declared.room.RowRoom.{RowRoom}
+use Rattle.ps_places.specs.Room.{Room}
 use Rattle.ps_places.specs.RowPlaces.{all_places, place_at, place_fits, places_behind, row_meaning}
 use Rattle.ps_places.specs.Starts.{HasLinesOf, HaveSameStarts}
 use Rattle.ps_places.specs.Ways.{from_first}
 use Rattle.ps_engine.specs.Choices.{Choice, behind, choices_of, chosen, spread}
 use Rattle.ps_engine.specs.Choosing.{IsChosenOf, IsPlaced, OfEach, row_places, rows_meaning}
-use Rattle.ps_engine.proofs.Choosing.{cells_in-meant, chosen_fits, inside, same_places}
+use Rattle.ps_engine.proofs.Choosing.{cells_in-meant, chosen_fits, same_places}
 use Rattle.ps_engine.proofs.RoomsChanged.{get_other, get_same}
 use Rattle.ps_engine.proofs.Sought.{first_is, found_or, from_first-append, from_first-yes}
 
@@ -67,7 +67,7 @@ module _ (g : Grid) (table : Option (List ℕ)) where
       ∙ all_of_kind (fits_along g (cells_in (row_meaning table row))) (stretches g direction (map length (row_meaning table row))) (search_order g direction)
 
   -- a row's places are found, and the first is chosen
-  pub record HasFirst (row : CompiledRow) (room : RowRoom) : Type 0 where
+  pub record HasFirst (row : CompiledRow) (room : Room) : Type 0 where
     pub places : places g (direction_of row.axis) (row_meaning table row) ≡ all_places g.height row room
     pub first : all_places g.height row room ≡ place_at g.height row room ∷ places_behind g.height row room
     pub fits : place_fits g table row.parts (place_at g.height row room) ≡ true
@@ -75,7 +75,7 @@ module _ (g : Grid) (table : Option (List ℕ)) where
     pub place : IsPlaced g row room
 
   -- the combination of the first places, and those behind it
-  pub all_combinations : (axis : Axis) (rows : List CompiledRow) (rooms : List RowRoom) → All (LiesAlong axis) rows → length rows ≤ length rooms → OfEach (λ k. 0 ≤ k) rows rooms HasFirst →
+  pub all_combinations : (axis : Axis) (rows : List CompiledRow) (rooms : List Room) → All (LiesAlong axis) rows → length rows ≤ length rooms → OfEach (λ k. 0 ≤ k) rows rooms HasFirst →
       combinations (map (places g (direction_of axis)) (rows_meaning table rows)) ≡ chosen (choices_of g.height rows rooms) ∷ behind (choices_of g.height rows rooms)
   all_combinations axis [] rooms along long each = refl
   all_combinations axis (row ∷ rows) [] along long each = absurd (omega arith)
@@ -100,11 +100,11 @@ module _ (g : Grid) (table : Option (List ℕ)) where
       ∙ ap (λ (a : Axis). places g (direction_of a) (row_meaning table row)) (sym lies) ∙ none)
 
   -- the first place is chosen among those that were found
-  module _ (row : CompiledRow) (found : RowRoom) (places_are : places g (direction_of row.axis) (row_meaning table row) ≡ all_places g.height row found) where
+  module _ (row : CompiledRow) (found : Room) (places_are : places g (direction_of row.axis) (row_meaning table row) ≡ all_places g.height row found) where
     sought : from_first (place_fits g table row.parts) (all_places g.height row found) ≡ places g (direction_of row.axis) (row_meaning table row)
     sought = ap (from_first (place_fits g table row.parts)) (sym places_are) ∙ all_fit_there (direction_of row.axis) row
 
-    pub is_first : (room : RowRoom) → HasLinesOf g row found → HaveSameStarts found room → IsChosenOf g table row (all_places g.height row found) room → HasFirst row room
+    pub is_first : (room : Room) → HasLinesOf g row found → HaveSameStarts found room → IsChosenOf g table row (all_places g.height row found) room → HasFirst row room
     is_first room lines starts chosen =
         let alike : all_places g.height row room ≡ all_places g.height row found = same_places g table row found room starts in
         record {
@@ -119,17 +119,17 @@ module _ (g : Grid) (table : Option (List ℕ)) where
         from_first (place_fits g table row.parts) (all_places g.height row found) ≡ [] → combinations (map (places g (direction_of axis)) (rows_meaning table rows)) ≡ []
     none_first axis rows n along low is none = none_of_row row axis rows n along low is (sym sought ∙ none)
 
-  pub first_more : (rows : List CompiledRow) (rooms : List RowRoom) (n m : ℕ) (row : CompiledRow) (room : RowRoom) → m ≡ suc n → slice_get rows n ≡ Some row → n < length rooms →
+  pub first_more : (rows : List CompiledRow) (rooms : List Room) (n m : ℕ) (row : CompiledRow) (room : Room) → m ≡ suc n → slice_get rows n ≡ Some row → n < length rooms →
       HasFirst row room → OfEach (λ k. k < n) rows rooms HasFirst → OfEach (λ k. k < m) rows (slice_set rooms n room) HasFirst
   first_more rows rooms n m row room next is low here all k r o less own there = elim (cases_eq k n) [
     | inl e ↦
-        let d : r ≡ row = inside (sym own ∙ ap (slice_get rows) e ∙ is) in
-        let f : o ≡ room = inside (sym there ∙ ap (slice_get (slice_set rooms n room)) e ∙ get_same rooms n (get_or rooms n room) room (slice_get-get_or rooms n room low)) in
+        let d : r ≡ row = same_Some _ _ (sym own ∙ ap (slice_get rows) e ∙ is) in
+        let f : o ≡ room = same_Some _ _ (sym there ∙ ap (slice_get (slice_set rooms n room)) e ∙ get_same rooms n (get_or rooms n room) room (slice_get-get_or rooms n room low)) in
         rw (d, f) here
     | inr other ↦ all k r o (omega (arith, less, next, other)) own (sym (get_other rooms n k room other) ∙ there)
   ]
 
   -- all rows fit at their first places
-  pub first_fits : (rows : List CompiledRow) (rooms : List RowRoom) → length rows ≤ length rooms → OfEach (λ k. 0 ≤ k) rows rooms HasFirst →
+  pub first_fits : (rows : List CompiledRow) (rooms : List Room) → length rows ≤ length rooms → OfEach (λ k. 0 ≤ k) rows rooms HasFirst →
       all_fit g (rows_meaning table rows) (chosen (choices_of g.height rows rooms)) ≡ true
   first_fits rows rooms long each = chosen_fits g table rows rooms long (λ k r o low is there. (each k r o low is there).fits)

@@ -6,6 +6,7 @@ use Rattle.ps_model.specs.board.Grid.{Grid}
 use Rattle.ps_model.specs.board.Places.{fits_along, cells_in}
 use Rattle.ps_model.specs.board.Attempts.{all_fit}
 use Rattle.ps_model.specs.meaning.RuleMeanings.{CellMeaning}
+use Rattle.ps_laws.proofs.common.Truths.{and_then}
 use Rattle.ps_engine.specs.Choices.{Choice, behind, chosen, spread}
 
 -- the same is chosen for a row and comes behind, and of all its places those are the same at which it fits
@@ -35,9 +36,6 @@ taken test x xs e = ap (λ (b : Bool). cond b (x ∷ xs) xs) e
 
 passed : {X : Type 0} (test : Bool) (x : X) (xs : List X) → test ≡ false → cond test (x ∷ xs) xs ≡ xs
 passed test x xs e = ap (λ (b : Bool). cond b (x ∷ xs) xs) e
-
-abbrev and_then : Bool → Bool → Bool
-and_then test others = elim test [ true ↦ others | false ↦ false ]
 
 with_one : (g : Grid) (row : List (List CellMeaning)) (rows : List (List (List CellMeaning))) (rest : List (List ℕ))
     (fit here : Bool) → all_fit g rows rest ≡ fit → (place : List ℕ) (places : List (List ℕ)) →

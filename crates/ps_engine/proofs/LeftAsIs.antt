@@ -5,13 +5,14 @@ use Rattle.std.proofs.lemmas.Option.{slice_get-get_or}
 use Rattle.ps_model.specs.declared.pieces.Slot.{Slot}
 use Rattle.ps_model.specs.board.Grid.{Grid, cell_at}
 use Rattle.ps_model.specs.board.Places.{fits_there}
+use Rattle.ps_laws.proofs.common.SameThings.{same_cell-own}
 use Rattle.ps_program.specs.declared.cells.CompiledCell.{CompiledCell}
 use Rattle.ps_match.specs.Together.{cell_where, changes_where, rewritten_where}
 use Rattle.ps_match.proofs.Chosen.{any_agree, rewritten_of, where-none}
 use Rattle.ps_match.proofs.RowWritten.{told}
 use Rattle.ps_places.specs.Lines.{cell_meaning}
 use Rattle.ps_places.proofs.Ranges.{map-range-agree}
-use Rattle.ps_places.proofs.WrittenToItself.{cell_itself, written_to_itself}
+use Rattle.ps_places.proofs.WrittenToItself.{written_to_itself}
 
 -- where each cell that is chosen becomes itself, nothing changes
 module _ (g : Grid) (becomes : List Slot → List Slot) (chosen : ℕ → Bool) (stays : (n : ℕ) → n < length g.cells → chosen n ≡ true → becomes (cell_at g n) ≡ cell_at g n) where
@@ -20,7 +21,7 @@ module _ (g : Grid) (becomes : List Slot → List Slot) (chosen : ℕ → Bool) 
   cell_by n false low e = rw e refl
 
   change_by : (n : ℕ) (b : Bool) → n < length g.cells → chosen n ≡ b → changes_where g becomes chosen n ≡ false
-  change_by n true low e = rw (e, stays n low e, cell_itself (cell_at g n)) refl
+  change_by n true low e = rw (e, stays n low e, same_cell-own (cell_at g n)) refl
   change_by n false low e = rw e refl
 
   pub where_still : rewritten_where g becomes chosen ≡ told g false

@@ -2,7 +2,7 @@
 use Rattle.std.proofs.Common.{◌≡◌, ◌≢◌, ◌∙◌, ℕ, zero, suc, ◌+◌, ◌-◌, ◌*◌, ◌/◌, ◌%◌, ◌<◌, ◌≤◌, ◌||◌, ◌&&◌, inl, inr, cond, Bool, true, false, Option, Some, None, List, [], ◌∷◌, ◌++◌, length, map, filter, fold, reverse, take, refl, sym, ap, arith}
 use Rattle.std.specs.Prelude.{nat_eq, nat_le, slice_get}
 use Rattle.std.specs.List.{flat_map, range_with_len}
-use Rattle.std.proofs.Math.Bool.{and-false}
+use Rattle.std.proofs.Math.Bool.{and-false, or-false}
 use Rattle.std.proofs.lemmas.Bool.{cases_eq, eqb-true, eq-eqb, ne_eqb}
 use Rattle.std.proofs.lemmas.List.FromFn.{length-map-range_with_len}
 use Rattle.std.proofs.lemmas.Bool.Decides.{nat_tests}
@@ -15,8 +15,9 @@ use Rattle.ps_model.specs.board.Grid.{Grid, cell_at}
 use Rattle.ps_model.specs.board.Places.{fits_along, fits_there, places, search_order, stretches, ways_along}
 use Rattle.ps_model.specs.board.Attempts.{Rewritten, applied, combinations, rewritten_cell, with_cell}
 use Rattle.ps_model.specs.meaning.RuleMeanings.{CellMeaning}
+use Rattle.ps_laws.proofs.common.Truths.{first-false}
 use Rattle.ps_match.specs.Together.{rewritten_where}
-use Rattle.ps_match.proofs.Chosen.{cell_at-where, length-where, or_nothing, where-agree, where-none, where-one}
+use Rattle.ps_match.proofs.Chosen.{cell_at-where, length-where, where-agree, where-none, where-one}
 use Rattle.ps_match.proofs.RowWritten.{told, told-more}
 use Rattle.ps_places.proofs.InSearchOrder.{IsOneMore, alone, in_order, searched}
 use Rattle.ps_places.proofs.PlacesWritten.{nothing_behind}
@@ -87,11 +88,11 @@ left_alone g m done more n fails e =
       | inl same ↦
           let fails_here : fits_cell g m k ≡ false = ap (fits_cell g m) same ∙ fails in
           rw (fails_here, and-false, and-false) refl
-      | inr other ↦ let stays : more k ≡ done k = e k low ∙ rw (ne_eqb k n other) (or_nothing (done k)) in rw stays refl
+      | inr other ↦ let stays : more k ≡ done k = e k low ∙ rw (ne_eqb k n other) (or-false (done k)) in rw stays refl
     ])
 
 chosen_now : (b f same : Bool) → same ≡ false → ((b || same) && f) ≡ ((b && f) || same)
-chosen_now true f same e = rw e (sym (or_nothing f))
+chosen_now true f same e = rw e (sym (or-false f))
 chosen_now false f same e = rw e refl
 
 written_now : (g : Grid) (m : CellMeaning) (done more : ℕ → Bool) (n : ℕ) → n < length g.cells → fits_cell g m n ≡ true → done n ≡ false →
@@ -153,7 +154,7 @@ module _ (g : Grid) (direction : Direction) (m : CellMeaning) (some : 0 < g.heig
 
 -- whether there is one -----------------------------------------------------------------------------------------------------
 
-no_places : (ps : List (List ℕ)) → map alone ps ++ [] ≡ [] → ps ≡ []
+pub no_places : (ps : List (List ℕ)) → map alone ps ++ [] ≡ [] → ps ≡ []
 no_places [] e = refl
 no_places (p ∷ ps) e = absurd (cc)
 
@@ -175,12 +176,9 @@ some_combination g direction m n some many fits none =
 -- and else none
 pub none_without : (g : Grid) (direction : Direction) (m : CellMeaning) → ((n : ℕ) → fits_cell g m n ≡ false) → combinations (places g direction ((m ∷ []) ∷ []) ∷ []) ≡ []
 none_without g direction m nowhere = ap (λ (ps : List (List ℕ)). map alone ps ++ []) (none_in_all (search_order g direction)) where
-  nothing : (test more : Bool) → test ≡ false → (elim test [ true ↦ more | false ↦ false ]) ≡ false
-  nothing test more e = rw e refl
-
   off : (at : List ℕ) → fits_along g (m ∷ []) at ≡ false
   off [] = refl
-  off (n ∷ at) = nothing (fits_there m (slice_get g.cells n)) (fits_along g [] at) (nowhere n)
+  off (n ∷ at) = first-false (fits_there m (slice_get g.cells n)) (fits_along g [] at) (nowhere n)
 
   none_kept : (ps : List (List ℕ)) → filter (fits_along g (m ∷ [])) ps ≡ []
   none_kept [] = refl

@@ -1,29 +1,32 @@
 -- Rooms that forget places before those that are chosen: what is left to apply comes to the same.
-use Rattle.std.proofs.Common.{◌≡◌, ◌∙◌, ℕ, suc, zero, ◌+◌, ◌≤◌, inl, inr, true, cond, Option, Some, None, List, [], ◌∷◌, length, map, filter, refl, sym, ap, ap₂, arith}
+use Rattle.std.proofs.Common.{◌≡◌, ◌∙◌, ℕ, suc, zero, ◌+◌, ◌≤◌, inl, inr, true, cond, Option, Some, None, List, [], ◌∷◌}
+use Rattle.std.proofs.Common.{length, map, filter, refl, sym, ap, ap₂, arith}
 use Rattle.std.specs.Prelude.{slice_get, slice_set}
 use Rattle.std.proofs.lemmas.Bool.{cases_eq}
 use Rattle.std.proofs.lemmas.List.{length-append, length-map, length-set}
+use Rattle.std.proofs.lemmas.Option.{same_Some}
 use Rattle.ps_model.specs.board.Grid.{Grid}
 use Rattle.ps_model.specs.board.Places.{cells_in, fits_along}
 use Rattle.ps_model.specs.board.Attempts.{Rewritten, all_fit}
 use Rattle.ps_model.specs.meaning.RuleMeanings.{CellMeaning}
 use Rattle.ps_program.specs.declared.rows.CompiledRow.{CompiledRow}
 use Rattle.ps_program.specs.Sleeping.{rows_sleep}
-use Rattle.ps_places.specs.declared.room.RowRoom.{RowRoom}
+use Rattle.ps_places.specs.Room.{Room}
 use Rattle.ps_places.specs.Forgetting.{HaveForgotten}
 use Rattle.ps_places.specs.RowPlaces.{all_places, place_fits, places_behind, row_meaning}
 use Rattle.ps_places.specs.Starts.{HasLinesOf}
 use Rattle.ps_engine.specs.Choices.{behind, choices_of, chosen, spread}
-use Rattle.ps_engine.specs.Choosing.{AreForgotten, AreLeft, ArePlaced, AreStarted, ComeToSame, HaveLinesOf, IsPlaced, rows_meaning}
-use Rattle.ps_engine.proofs.Choosing.{cells_in-meant, inside}
+use Rattle.ps_engine.specs.Choosing.{AreForgotten, AreLeft, ArePlaced, AreStarted, ComeToSame, HaveLinesOf, IsPlaced}
+use Rattle.ps_engine.specs.Choosing.{rows_meaning}
+use Rattle.ps_engine.proofs.Choosing.{cells_in-meant}
 use Rattle.ps_engine.proofs.Forgetting.{AreSameFitting, same_behind, same_chosen}
 use Rattle.ps_engine.proofs.RoomsChanged.{get_other, get_same, none_there}
 use Rattle.ps_engine.proofs.RowsAsleep.{rows_let_sleep}
 use Rattle.ps_engine.proofs.Sleeping.{sleeping_left_out}
 
--- one room more ---------------------------------------------------------------------------------------------------------------
+-- one room more -------------------------------------------------------------------------------------------------------
 
-nothing_forgotten : (height : ℕ) (row : CompiledRow) (room : RowRoom) → HaveForgotten height row room room
+nothing_forgotten : (height : ℕ) (row : CompiledRow) (room : Room) → HaveForgotten height row room room
 nothing_forgotten height row room = record {
   at = refl;
   later = refl;
@@ -34,41 +37,42 @@ nothing_forgotten height row room = record {
   fitting = λ fits found. refl;
 }
 
-pub none_forgotten : (rows : List CompiledRow) (rooms : List RowRoom) → AreForgotten rows rooms rooms
+pub none_forgotten : (rows : List CompiledRow) (rooms : List Room) → AreForgotten rows rooms rooms
 none_forgotten rows rooms = record {
   long = refl;
   each = λ k height row before after is was now.
-      let e : after ≡ before = inside (sym now ∙ was) in
+      let e : after ≡ before = same_Some _ _ (sym now ∙ was) in
       rw e (nothing_forgotten height row before);
 }
 
-pub forgotten_more : (rows : List CompiledRow) (old rooms : List RowRoom) (n : ℕ) (row : CompiledRow)
-    (before after : RowRoom) → AreForgotten rows old rooms → AreLeft old rooms n → slice_get rows n ≡ Some row →
+pub forgotten_more : (rows : List CompiledRow) (old rooms : List Room) (n : ℕ) (row : CompiledRow)
+    (before after : Room) → AreForgotten rows old rooms → AreLeft old rooms n → slice_get rows n ≡ Some row →
     slice_get rooms n ≡ Some before → ((height : ℕ) → HaveForgotten height row before after) →
     AreForgotten rows old (slice_set rooms n after)
 forgotten_more rows old rooms n row before after so left is there one = record {
   long = length-set rooms n after ∙ so.long;
   each = at;
 } where
-  at : (k height : ℕ) (r : CompiledRow) (first last : RowRoom) → slice_get rows k ≡ Some r →
+  at : (k height : ℕ) (r : CompiledRow) (first last : Room) → slice_get rows k ≡ Some r →
       slice_get old k ≡ Some first → slice_get (slice_set rooms n after) k ≡ Some last →
       HaveForgotten height r first last
   at k height r first last own was now = elim (cases_eq k n) [
     | inl here ↦
-        let e : last ≡ after = inside (sym now ∙ ap (slice_get (slice_set rooms n after)) here
+        let e : last ≡ after = same_Some _ _ (sym now ∙ ap (slice_get (slice_set rooms n after)) here
         ∙ get_same rooms n before after there) in
-        let d : r ≡ row = inside (sym own ∙ ap (slice_get rows) here ∙ is) in
-        let f : first ≡ before = inside (sym was ∙ ap (slice_get old) here ∙ sym (left n (omega arith)) ∙ there) in
+        let d : r ≡ row = same_Some _ _ (sym own ∙ ap (slice_get rows) here ∙ is) in
+        let f : first ≡ before =
+        same_Some _ _ (sym was ∙ ap (slice_get old) here ∙ sym (left n (omega arith)) ∙ there) in
         rw (e, d, f) (one height)
     | inr other ↦ so.each k height r first last own was (sym (get_other rooms n k after other) ∙ now)
   ]
 
--- lines -----------------------------------------------------------------------------------------------------------------------
+-- lines ---------------------------------------------------------------------------------------------------------------
 
-module _ (g : Grid) (rows : List CompiledRow) (old new : List RowRoom) (so : AreForgotten rows old new) where
+module _ (g : Grid) (rows : List CompiledRow) (old new : List Room) (so : AreForgotten rows old new) where
   pub lines_kept : HaveLinesOf g rows old → HaveLinesOf g rows new
   lines_kept lines k row room low is there = at (slice_get old k) refl where
-    at : (o : Option RowRoom) → slice_get old k ≡ o → HasLinesOf g row room
+    at : (o : Option Room) → slice_get old k ≡ o → HasLinesOf g row room
     at (Some before) was =
         let own = lines k row before low is was in
         let kept = so.each k 0 row before room is was there in
@@ -77,22 +81,22 @@ module _ (g : Grid) (rows : List CompiledRow) (old new : List RowRoom) (so : Are
 
   pub placed_kept : ArePlaced g rows old → ArePlaced g rows new
   placed_kept places k row room low is there = at (slice_get old k) refl where
-    at : (o : Option RowRoom) → slice_get old k ≡ o → IsPlaced g row room
+    at : (o : Option Room) → slice_get old k ≡ o → IsPlaced g row room
     at (Some before) was =
         let own = places k row before low is was in
         let kept = so.each k 0 row before room is was there in
         record { on_line = rw kept.line own.on_line; spaced = rw kept.way own.spaced }
     at None was = absurd (none_there old new k room so.long there was)
 
--- combinations ----------------------------------------------------------------------------------------------------------------
+-- combinations --------------------------------------------------------------------------------------------------------
 
-abbrev Each : List CompiledRow → List RowRoom → List RowRoom → Type 0
+abbrev Each : List CompiledRow → List Room → List Room → Type 0
 Each rows old new =
-    (k height : ℕ) (row : CompiledRow) (before after : RowRoom) → slice_get rows k ≡ Some row →
+    (k height : ℕ) (row : CompiledRow) (before after : Room) → slice_get rows k ≡ Some row →
     slice_get old k ≡ Some before → slice_get new k ≡ Some after → HaveForgotten height row before after
 
 module _ (g : Grid) (table : Option (List ℕ)) where
-  same_for : (row : CompiledRow) (old new : RowRoom) →
+  same_for : (row : CompiledRow) (old new : Room) →
       filter (place_fits g table row.parts) (all_places g.height row new)
       ≡ filter (place_fits g table row.parts) (all_places g.height row old) →
       filter (fits_along g (cells_in (row_meaning table row))) (all_places g.height row new)
@@ -104,7 +108,7 @@ module _ (g : Grid) (table : Option (List ℕ)) where
       ∙ ap (λ (ms : List CellMeaning). filter (fits_along g ms) (all_places g.height row old))
       (sym (cells_in-meant table row.parts))
 
-  alike : (count : ℕ) (rows : List CompiledRow) (old new : List RowRoom) → length rows ≤ length old →
+  alike : (count : ℕ) (rows : List CompiledRow) (old new : List Room) → length rows ≤ length old →
       length new ≡ length old → Each rows old new → AreStarted g table rows old count → AreLeft old new count →
       AreSameFitting g (rows_meaning table rows) (choices_of g.height rows old) (choices_of g.height rows new)
   alike count [] old new long even each started left = tt
@@ -112,11 +116,11 @@ module _ (g : Grid) (table : Option (List ℕ)) where
   alike count (row ∷ rows) (o ∷ old) [] long even each started left = absurd (omega (arith, even))
   alike zero (row ∷ rows) (o ∷ old) (n ∷ new) long even each started left =
       let one = each 0 g.height row o n refl refl refl in
-      let e : n ≡ o = inside (left 0 (omega arith)) in (
+      let e : n ≡ o = same_Some _ _ (left 0 (omega arith)) in (
         record {
           at = one.at;
           later = one.later;
-          fitting = ap (λ (room : RowRoom).
+          fitting = ap (λ (room : Room).
               filter (fits_along g (cells_in (row_meaning table row))) (all_places g.height row room)) e;
         },
         alike zero rows old new (omega (arith, long)) (omega (arith, even))
@@ -137,7 +141,7 @@ module _ (g : Grid) (table : Option (List ℕ)) where
             (λ k low. left (suc k) (omega (arith, low))),
       )
 
-  module _ (rows : List CompiledRow) (old new : List RowRoom) (count : ℕ) (long : length rows ≤ length old)
+  module _ (rows : List CompiledRow) (old new : List Room) (count : ℕ) (long : length rows ≤ length old)
       (so : AreForgotten rows old new) (started : AreStarted g table rows old count)
       (left : AreLeft old new count) where
     pub same_chosen_for : chosen (choices_of g.height rows new) ≡ chosen (choices_of g.height rows old)
@@ -160,7 +164,7 @@ module _ (g : Grid) (table : Option (List ℕ)) where
         (same_behind g meant (choices_of g.height rows old) (choices_of g.height rows new)
         (alike count rows old new long so.long so.each started left)))
 
--- no more are left ------------------------------------------------------------------------------------------------------------
+-- no more are left ----------------------------------------------------------------------------------------------------
 
 spread_long : (places : List (List ℕ)) (rest : List (List ℕ)) (rests : List (List (List ℕ))) →
     length (spread places (rest ∷ rests)) ≡ length places + length (spread places rests)
@@ -178,7 +182,7 @@ spread_fewer few more (x ∷ xs) (y ∷ ys) low less =
     omega (arith, others, low, spread_long few x xs, spread_long more y ys)
 
 module _ (height : ℕ) where
-  fewer_by : (rows : List CompiledRow) (old new : List RowRoom) → length rows ≤ length old →
+  fewer_by : (rows : List CompiledRow) (old new : List Room) → length rows ≤ length old →
       length new ≡ length old → Each rows old new →
       length (behind (choices_of height rows new)) ≤ length (behind (choices_of height rows old))
   fewer_by [] old new long even each = omega arith
@@ -192,7 +196,7 @@ module _ (height : ℕ) where
       (behind (choices_of height rows old)) one.fewer others in
       let first : length (places_behind height row n) ≡ length (places_behind height row o) = ap length one.later in
       omega (arith, more, first, front_long row n rows new, front_long row o rows old) where
-        front_long : (r : CompiledRow) (room : RowRoom) (rs : List CompiledRow) (rooms : List RowRoom) →
+        front_long : (r : CompiledRow) (room : Room) (rs : List CompiledRow) (rooms : List Room) →
             length (behind (choices_of height (r ∷ rs) (room ∷ rooms)))
             ≡ length (places_behind height r room)
             + length (spread (all_places height r room) (behind (choices_of height rs rooms)))
@@ -202,7 +206,7 @@ module _ (height : ℕ) where
             ∙ ap (λ (n : ℕ). n + length (spread (all_places height r room) (behind (choices_of height rs rooms))))
             (length-map (places_behind height r room) (λ place. place ∷ chosen (choices_of height rs rooms)))
 
-  pub fewer_behind : (rows : List CompiledRow) (old new : List RowRoom) → length rows ≤ length old →
+  pub fewer_behind : (rows : List CompiledRow) (old new : List Room) → length rows ≤ length old →
       AreForgotten rows old new →
       length (behind (choices_of height rows new)) ≤ length (behind (choices_of height rows old))
   fewer_behind rows old new long so = fewer_by rows old new long so.long so.each

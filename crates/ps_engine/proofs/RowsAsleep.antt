@@ -2,7 +2,7 @@
 use Rattle.std.proofs.Common.{◌≡◌, ℕ, Bool, true, false, ◌||◌, not, Option, Some, None, List, [], ◌∷◌, map, filter, refl}
 use Rattle.std.specs.Prelude.{All}
 use Rattle.std.specs.List.{list_all}
-use Rattle.std.proofs.lemmas.Bool.{and_parts}
+use Rattle.std.proofs.lemmas.Bool.{and_parts, not_from_true}
 use Rattle.std.proofs.lemmas.List.Elements.{All-nil, All-cons, All-append}
 use Rattle.ps_model.specs.declared.compiled.LayeredObject.{LayeredObject}
 use Rattle.ps_model.specs.declared.compiled.LayerWrite.{LayerWrite}
@@ -64,10 +64,6 @@ twice_not : (b : Bool) → not (not b) ≡ true → b ≡ true
 twice_not true e = refl
 twice_not false e = absurd (cc)
 
-not_so : (b : Bool) → b ≡ true → not b ≡ false
-not_so true e = refl
-not_so false e = absurd (cc)
-
 cell_asleep : (table : Option (List ℕ)) (writing asking : CompiledCell) →
     cell_sleeps (write_shown writing.write) asking ≡ true →
     Sleeps (cell_meaning table writing) (cell_meaning table asking)
@@ -76,7 +72,7 @@ cell_asleep table writing asking e = λ cell off.
     let mask : CellMask = mask_shown asking.mask in
     let still : lets_sleep (write_in_room table write) mask ≡ true =
     in_room_sleeps table write mask (twice_not (lets_sleep write mask) e) in
-    lets-sleep (write_in_room table write) mask (not_so (lets_sleep (write_in_room table write) mask) still) cell off
+    lets-sleep (write_in_room table write) mask (not_from_true (lets_sleep (write_in_room table write) mask) still) cell off
 
 -- all elements of a list, made into others; all cells of some parts
 pub all_made : {X Y : Type 0} (test : X → Bool) (f : X → Y) (P : Y → Type 0) (xs : List X) →

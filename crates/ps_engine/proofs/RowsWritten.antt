@@ -5,6 +5,7 @@ use Rattle.std.proofs.Math.Nat.{div-add-mod}
 use Rattle.std.proofs.lemmas.Bool.{and_parts, cases_eq, eqb-true, eq-eqb, ne_eqb}
 use Rattle.std.proofs.lemmas.Nat.{div-mul-add, div_below, mod-mul-add, mod_below}
 use Rattle.std.proofs.lemmas.Option.{slice_get-get_or, slice_get_within}
+use Rattle.std.proofs.Math.Bool.{or-false}
 use Rattle.ps_model.specs.declared.limits.TheConstants.{SIDE_LIMIT}
 use Rattle.ps_model.specs.declared.pieces.Slot.{Slot}
 use Rattle.ps_model.specs.board.Grid.{Grid, IsGrid, cell_at}
@@ -18,7 +19,7 @@ use Rattle.ps_board.proofs.ColumnLaws.{column_at-where, first_in, none_in}
 use Rattle.ps_board.proofs.Taken.{ArePassed, taken_gone, taken_out}
 use Rattle.ps_match.specs.InRoom.{meaning_of_mask}
 use Rattle.ps_match.specs.Together.{is_on_row, rewritten_where}
-use Rattle.ps_match.proofs.Chosen.{cell_at-where, length-where, or_nothing, where-agree, where-none}
+use Rattle.ps_match.proofs.Chosen.{cell_at-where, length-where, where-agree, where-none}
 use Rattle.ps_match.proofs.RowWritten.{height-where, told, told-more}
 use Rattle.ps_places.specs.Candidates.{FitsOnlyOn}
 use Rattle.ps_places.proofs.CellByCell.{fits_by_mask}
@@ -106,7 +107,7 @@ here_or_before g m set left columns row n taken within fits = elim (cases_eq (n 
       rw (gone, not_written g m set row n first.0 r, eq-eqb (n % g.height) row r, fits r) refl
   | inr other ↦
       ap (λ (b : Bool). not b && fits_cell g m n) (sym (taken_out set left row (n % g.height) taken within ∙ ap (λ (b : Bool). b || column_at left (n % g.height)) (ne_eqb (n % g.height) row other)))
-      ∙ sym (ap (λ (b : Bool). fits_passed g m set n || (b && column_at columns (n / g.height))) (ne_eqb (n % g.height) row other) ∙ or_nothing (fits_passed g m set n))
+      ∙ sym (ap (λ (b : Bool). fits_passed g m set n || (b && column_at columns (n / g.height))) (ne_eqb (n % g.height) row other) ∙ or-false (fits_passed g m set n))
 ]
 
 pub one_row_more : (start now next : Grid) (m mask : CellMeaning) (set left : List Bool) (row : ℕ) (columns : List Bool) (any more : Bool) → IsGrid start →
@@ -234,4 +235,4 @@ row_left start now table cell set left row columns any shape idle taken so scann
     ∙ sym (column_at-where (λ x. fits_there mask (slice_get now.cells (x * now.height + row))) (n / now.height) (omega (arith, across, shape.columns)))
     ∙ ap (λ (cs : List Bool). column_at cs (n / now.height)) (sym scanned) ∙ parts.1) in
     one_row_more start now now m mask set left row columns any any shape (fits_by_mask table cell) taken so scanned (ap (λ (r : Rewritten). r.grid) (sym still))
-    (sym (or_nothing any) ∙ ap (λ (r : Rewritten). any || r.changed) (sym still))
+    (sym (or-false any) ∙ ap (λ (r : Rewritten). any || r.changed) (sym still))

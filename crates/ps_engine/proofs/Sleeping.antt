@@ -8,7 +8,7 @@ use Rattle.ps_model.specs.board.Grid.{Grid}
 use Rattle.ps_model.specs.board.Places.{fits_along, fits_there, cells_in}
 use Rattle.ps_model.specs.board.Attempts.{Rewritten, all_fit, applied, rewritten_along, rewritten_cell, rewritten_rows}
 use Rattle.ps_model.specs.meaning.RuleMeanings.{CellMeaning}
-use Rattle.ps_places.proofs.CellByCell.{if_here, if_rest}
+use Rattle.ps_laws.proofs.common.Truths.{first-false, second-false}
 
 -- where a cell doesn't fit, it doesn't behind another one's write
 abbrev pub Sleeps : CellMeaning → CellMeaning → Type 0
@@ -56,8 +56,8 @@ along_off b r m (a ∷ asking) [] asleep h = refl
 along_off b r m (a ∷ asking) (cell ∷ cells) asleep h =
     off_parts (fits_there a (slice_get (r.grid).cells cell)) (fits_along r.grid asking cells)
     (fits_along (rewritten_cell r b m (slice_get (r.grid).cells m)).grid (a ∷ asking) (cell ∷ cells) ≡ false) h
-    (λ off. if_here _ _ (cell_off a b (All-head (Sleeps b) a asking asleep) r cell m (slice_get (r.grid).cells m) refl off))
-    (λ off. if_rest _ _ (along_off b r m asking cells (All-tail (Sleeps b) a asking asleep) off))
+    (λ off. first-false _ _ (cell_off a b (All-head (Sleeps b) a asking asleep) r cell m (slice_get (r.grid).cells m) refl off))
+    (λ off. second-false _ _ (along_off b r m asking cells (All-tail (Sleeps b) a asking asleep) off))
 
 -- nor behind the writes along another place
 row_off : (r : Rewritten) (writing : List CellMeaning) (at : List ℕ) (asking : List CellMeaning) (place : List ℕ) →
@@ -81,8 +81,8 @@ all_off r writing at (row ∷ asking) [] asleep h = refl
 all_off r writing at (row ∷ asking) (place ∷ places) asleep h =
     off_parts (fits_along r.grid (cells_in row) place) (all_fit r.grid asking places)
     (all_fit (rewritten_along r (cells_in writing) at).grid (row ∷ asking) (place ∷ places) ≡ false) h
-    (λ off. if_here _ _ (row_off r (cells_in writing) at (cells_in row) place (All-head (λ other. LetSleep (cells_in writing) (cells_in other)) row asking asleep) off))
-    (λ off. if_rest _ _ (all_off r writing at asking places (All-tail (λ other. LetSleep (cells_in writing) (cells_in other)) row asking asleep) off))
+    (λ off. first-false _ _ (row_off r (cells_in writing) at (cells_in row) place (All-head (λ other. LetSleep (cells_in writing) (cells_in other)) row asking asleep) off))
+    (λ off. second-false _ _ (all_off r writing at asking places (All-tail (λ other. LetSleep (cells_in writing) (cells_in other)) row asking asleep) off))
 
 -- nor behind those of all rows
 rows_off : (r : Rewritten) (writing : List (List (List CellMeaning))) (at : List (List ℕ))

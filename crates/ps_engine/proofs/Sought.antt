@@ -1,5 +1,6 @@
 -- The first combination of a kind, in lists of combinations.
 use Rattle.std.proofs.Common.{◌≡◌, ◌∙◌, ℕ, ◌≤◌, ◌&&◌, Bool, true, false, List, [], ◌∷◌, ◌++◌, length, map, fold, refl, sym, ap, arith}
+use Rattle.std.proofs.Math.Bool.{and-true, and-false}
 use Rattle.ps_places.specs.Ways.{from_first}
 use Rattle.ps_engine.specs.Choices.{spread}
 
@@ -59,16 +60,10 @@ AreBoth place others all = (p : List ℕ) (rest : List (List ℕ)) → all (p �
 
 module _ (place : List ℕ → Bool) (others all : List (List ℕ) → Bool) (both : AreBoth place others all) where
   fits_by : (p : List ℕ) (rest : List (List ℕ)) (b : Bool) → place p ≡ b → others rest ≡ true → all (p ∷ rest) ≡ b
-  fits_by p rest b e o = both p rest ∙ rw (e, o) (same b) where
-    same : (b : Bool) → (b && true) ≡ b
-    same true = refl
-    same false = refl
+  fits_by p rest b e o = both p rest ∙ rw (e, o) (and-true b)
 
   off_by : (p : List ℕ) (rest : List (List ℕ)) (b : Bool) → place p ≡ b → others rest ≡ false → all (p ∷ rest) ≡ false
-  off_by p rest b e o = both p rest ∙ rw (e, o) (none b) where
-    none : (b : Bool) → (b && false) ≡ false
-    none true = refl
-    none false = refl
+  off_by p rest b e o = both p rest ∙ rw (e, o) (and-false b)
 
   front_by : (p : List ℕ) (ps : List (List ℕ)) (rest : List (List ℕ)) (b : Bool) → place p ≡ b → others rest ≡ true →
       from_first all (map (λ q. q ∷ rest) ps) ≡ map (λ q. q ∷ rest) (from_first place ps) →

@@ -6,16 +6,16 @@ ghost use Rattle.ps_engine.specs.Choosing.{row_places};
 ghost use Rattle.ps_engine.specs.RulesInRoom.{rule_meaning};
 
 use crate::lent_queue::LentQueue;
-use ps_match::Scan;
-use ps_places::{RowRoom, find_starts};
+use ps_match::{Scan, recall_shape};
+use ps_places::{RoomFor, find_starts};
 use ps_program::{CompiledRow, CompiledRule};
 
 /// Whether a row has a place on the board as it is. What its room keeps is anything afterwards.
-fn row_has_place<B: Scan>(board: &B, row: &CompiledRow, room: &mut RowRoom) -> bool
+fn row_has_place<B: Scan>(board: &B, row: &CompiledRow, room: &mut RoomFor<B>) -> bool
     ensures some { result ≡ true → row_places (B.grid board.now) (B.table board.now) row.now ≢ [] }
     ensures none { result ≡ false → row_places (B.grid board.now) (B.table board.now) row.now ≡ [] }
 {
-    let (_width, _height) = board.size();
+    recall_shape(board);
     let parts = row.parts.as_slice();
     if parts.len() == 1 {
         return !room
@@ -27,7 +27,11 @@ fn row_has_place<B: Scan>(board: &B, row: &CompiledRow, room: &mut RowRoom) -> b
 }
 
 /// Whether each row of a rule has a place on the board as it is: whether the rule has a combination.
-fn rows_have_places<'r, B: Scan>(board: &B, rule: &CompiledRule<'r>, rooms: &mut [RowRoom]) -> bool
+fn rows_have_places<'r, B: Scan>(
+    board: &B,
+    rule: &CompiledRule<'r>,
+    rooms: &mut [RoomFor<B>],
+) -> bool
     requires { length rule.now.rows ≤ length rooms.old }
     ensures some { result ≡ true →
         combinations_on (B.grid board.now) (rule_meaning (B.table board.now) rule.now) ≢ [] }
@@ -35,7 +39,7 @@ fn rows_have_places<'r, B: Scan>(board: &B, rule: &CompiledRule<'r>, rooms: &mut
         combinations_on (B.grid board.now) (rule_meaning (B.table board.now) rule.now) ≡ [] }
     ensures long { length rooms.new ≡ length rooms.old }
 {
-    let (_width, _height) = board.size();
+    recall_shape(board);
     let rows = rule.rows.as_slice();
     for number in 0..rows.len() {
         if !row_has_place(board, &rows[number], &mut rooms[number]) {
@@ -51,7 +55,7 @@ pub fn attempt_commands<'r, B: Scan>(
     rule: &CompiledRule<'r>,
     board: &B,
     queue: &mut LentQueue<'r>,
-    rooms: &mut [RowRoom],
+    rooms: &mut [RoomFor<B>],
 )
     requires long { length rule.now.rows ≤ length rooms.old }
     requires commands { rule.now.rewrites ≡ false }
@@ -61,7 +65,7 @@ pub fn attempt_commands<'r, B: Scan>(
         all ≡ attempt (rule_meaning (B.table board.now) rule.now) before }
     ensures rooms { length rooms.new ≡ length rooms.old }
 {
-    let (_width, _height) = board.size();
+    recall_shape(board);
     if rows_have_places(board, rule, rooms) {
         queue.enter(rule.commands);
     }

@@ -13,8 +13,8 @@ use crate::one_cell::{attempt_cell, only_cell};
 use crate::one_part::{attempt_part, only_part};
 use crate::walking::walk;
 use crate::writing::attempt_writer;
-use ps_match::Scan;
-use ps_places::{RowRoom, find_starts};
+use ps_match::{Scan, recall_shape};
+use ps_places::{RoomFor, find_starts};
 use ps_program::CompiledRule;
 
 /// Whether the board knows that nothing has a motion which a rule asks for; then the rule has no combination. No memory
@@ -23,7 +23,7 @@ fn lacks_motion<B: Scan>(board: &B, rule: &CompiledRule) -> bool
     ensures { result ≡ true →
         combinations_on (B.grid board.now) (rule_meaning (B.table board.now) rule.now) ≡ [] }
 {
-    let (_width, _height) = board.size();
+    recall_shape(board);
     for test in rule.moving.as_slice() {
         if board.rows_moving(test).is_empty() {
             return true;
@@ -60,7 +60,7 @@ fn lacks_needed<B: Scan>(board: &B, rule: &CompiledRule) -> bool
 
 /// Finds where each row of a rule fits on the board as it is, and chooses the first place of each. Answers whether
 /// each row has one: whether the rule has a combination.
-fn choose_first<'r, B: Scan>(board: &B, rule: &CompiledRule<'r>, rooms: &mut [RowRoom]) -> bool
+fn choose_first<'r, B: Scan>(board: &B, rule: &CompiledRule<'r>, rooms: &mut [RoomFor<B>]) -> bool
     requires { length rule.now.rows ≤ length rooms.old }
     ensures found { let choices = choices_of (B.grid board.now).height rule.now.rows rooms.new in
         result ≡ true →
@@ -93,7 +93,7 @@ pub fn attempt_rows<'r, B: Scan>(
     rule: &CompiledRule<'r>,
     board: &mut B,
     queue: &mut LentQueue<'r>,
-    rooms: &mut [RowRoom],
+    rooms: &mut [RoomFor<B>],
 ) -> bool
     requires long { length rule.now.rows ≤ length rooms.old }
     requires rewrites { rule.now.rewrites ≡ true }
@@ -119,7 +119,7 @@ pub fn attempt<'r, B: Scan>(
     rule: &CompiledRule<'r>,
     board: &mut B,
     queue: &mut LentQueue<'r>,
-    rooms: &mut [RowRoom],
+    rooms: &mut [RoomFor<B>],
 ) -> bool
     requires { length rule.now.rows ≤ length rooms.old }
     ensures attempt { let before : State = record { grid = B.grid board.old; queue = queue.old } in

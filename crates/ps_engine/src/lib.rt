@@ -15,7 +15,7 @@ mod writing;
 pub use lent_queue::LentQueue;
 pub use programs::run_program;
 pub use ps_match::{ListBoard, Scan};
-pub use ps_places::RowRoom;
+pub use ps_places::RoomFor;
 pub use rooms::rooms_for;
 
 #[cfg(test)]

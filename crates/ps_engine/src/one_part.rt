@@ -11,7 +11,7 @@ ghost use Rattle.ps_engine.specs.RulesInRoom.{rule_meaning};
 use crate::attempts::attempt_rows;
 use crate::lent_queue::LentQueue;
 use ps_match::Scan;
-use ps_places::RowRoom;
+use ps_places::RoomFor;
 use ps_program::{CompiledCell, CompiledRow, CompiledRule};
 
 /// The part of rows that are one row of one part; nothing, where there is more or less.
@@ -36,7 +36,7 @@ pub fn attempt_part<'r, B: Scan>(
     part: &[CompiledCell],
     board: &mut B,
     queue: &mut LentQueue<'r>,
-    rooms: &mut [RowRoom],
+    rooms: &mut [RoomFor<B>],
 ) -> bool
     requires only { rows_parts rule.now.rows ≡ one_part part.now }
     requires whole { HasCells part.now }

@@ -14,7 +14,7 @@ use crate::lent_queue::LentQueue;
 use crate::rounds::{pass, play_group};
 use ps_match::Scan;
 use ps_model::REPEAT_LIMIT;
-use ps_places::RowRoom;
+use ps_places::RoomFor;
 use ps_program::{CompiledRule, CompiledSection};
 use ps_text::List;
 
@@ -31,7 +31,7 @@ fn play_loop<'r, B: Scan>(
     repeats: u32,
     board: &mut B,
     queue: &mut LentQueue<'r>,
-    rooms: &mut [RowRoom],
+    rooms: &mut [RoomFor<B>],
 ) -> Left
     requires { GroupsHaveRooms (length rooms.old) groups.now }
     ensures looped { let before : State = record { grid = B.grid board.old; queue = queue.old } in
@@ -67,7 +67,7 @@ fn play_section<'r, B: Scan>(
     repeats: u32,
     board: &mut B,
     queue: &mut LentQueue<'r>,
-    rooms: &mut [RowRoom],
+    rooms: &mut [RoomFor<B>],
 ) -> Left
     requires { SectionHasRooms (length rooms.old) section.now }
     ensures section { let before : State = record { grid = B.grid board.old; queue = queue.old } in
@@ -96,7 +96,7 @@ fn play_sections<'r, B: Scan>(
     sections: &[CompiledSection<'r>],
     board: &mut B,
     queue: &mut LentQueue<'r>,
-    rooms: &mut [RowRoom],
+    rooms: &mut [RoomFor<B>],
 )
     requires { SectionsHaveRooms (length rooms.old) sections.now }
     ensures run { let before : State = record { grid = B.grid board.old; queue = queue.old } in
@@ -125,7 +125,7 @@ pub fn run_program<'r, B: Scan>(
     sections: &[CompiledSection<'r>],
     board: &mut B,
     queue: &mut LentQueue<'r>,
-    rooms: &mut [RowRoom],
+    rooms: &mut [RoomFor<B>],
 )
     requires { SectionsHaveRooms (length rooms.old) sections.now }
     ensures run { let before : State = record { grid = B.grid board.old; queue = queue.old } in

@@ -3,6 +3,7 @@
 ghost use Rattle.std.specs.Prelude.{◌≡◌, ◌≤◌, IfOk, length};
 ghost use Rattle.ps_engine.specs.Rooms.{GroupsHaveRooms, HaveRooms, SectionHasRooms, SectionsHaveRooms};
 
+use ps_match::{ColumnWords, Columns};
 use ps_model::Memory;
 use ps_places::RowRoom;
 use ps_program::{CompiledRule, CompiledSection};
@@ -56,7 +57,10 @@ fn most_rows(sections: &[CompiledSection]) -> usize
 }
 
 /// Room for so many rows. `Memory` if there is none.
-pub fn rooms_of(alloc: Global, count: usize) -> Result<Vec<RowRoom>, Memory>
+pub fn rooms_of<W: ColumnWords>(
+    alloc: Global,
+    count: usize,
+) -> Result<Vec<RowRoom<Columns<W>>>, Memory>
     ensures { IfOk result (λ rooms. length rooms.items ≡ count) }
 {
     let mut rooms = Vec::new(alloc);
@@ -67,7 +71,10 @@ pub fn rooms_of(alloc: Global, count: usize) -> Result<Vec<RowRoom>, Memory>
 }
 
 /// Room for the rows of each rule of some sections. `Memory` if there is none.
-pub fn rooms_for(alloc: Global, sections: &[CompiledSection]) -> Result<Vec<RowRoom>, Memory>
+pub fn rooms_for<W: ColumnWords>(
+    alloc: Global,
+    sections: &[CompiledSection],
+) -> Result<Vec<RowRoom<Columns<W>>>, Memory>
     ensures { IfOk result (λ rooms. SectionsHaveRooms (length rooms.items) sections.now) }
 {
     rooms_of(alloc, most_rows(sections))

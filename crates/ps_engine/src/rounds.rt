@@ -11,7 +11,7 @@ use crate::attempts::attempt;
 use crate::lent_queue::LentQueue;
 use ps_match::Scan;
 use ps_model::ROUND_LIMIT;
-use ps_places::RowRoom;
+use ps_places::RoomFor;
 use ps_program::CompiledRule;
 use ps_text::List;
 
@@ -20,7 +20,7 @@ fn round<'r, B: Scan>(
     rules: &[CompiledRule<'r>],
     board: &mut B,
     queue: &mut LentQueue<'r>,
-    rooms: &mut [RowRoom],
+    rooms: &mut [RoomFor<B>],
 ) -> bool
     requires { HaveRooms (length rooms.old) rules.now }
     ensures round { let before : State = record { grid = B.grid board.old; queue = queue.old } in
@@ -43,7 +43,7 @@ pub fn play_group<'r, B: Scan>(
     rules: &[CompiledRule<'r>],
     board: &mut B,
     queue: &mut LentQueue<'r>,
-    rooms: &mut [RowRoom],
+    rooms: &mut [RoomFor<B>],
 ) -> bool
     requires { HaveRooms (length rooms.old) rules.now }
     ensures group { let before : State = record { grid = B.grid board.old; queue = queue.old } in
@@ -70,7 +70,7 @@ pub fn pass<'r, B: Scan>(
     groups: &[List<CompiledRule<'r>>],
     board: &mut B,
     queue: &mut LentQueue<'r>,
-    rooms: &mut [RowRoom],
+    rooms: &mut [RoomFor<B>],
 ) -> bool
     requires { GroupsHaveRooms (length rooms.old) groups.now }
     ensures pass { let before : State = record { grid = B.grid board.old; queue = queue.old } in

@@ -15,8 +15,8 @@ ghost use Rattle.ps_engine.specs.RulesInRoom.{rule_meaning};
 ghost use Rattle.ps_engine.specs.Writing.{AreWithin, is_behind, is_written, row_behind};
 
 use crate::lent_queue::LentQueue;
-use ps_match::{Columns, Scan};
-use ps_places::RowRoom;
+use ps_match::{Columns, Scan, recall_shape};
+use ps_places::RoomFor;
 use ps_program::{Axis, CellWrite, CompiledCell, CompiledRow, CompiledRule, Writer};
 
 /// The cell of a row's two parts that is its writer.
@@ -42,7 +42,7 @@ fn write_behind<B: Scan>(
     axis: Axis,
     steps: u32,
     row: u32,
-    columns: Columns,
+    columns: Columns<B::Words>,
 ) -> bool
     requires { row_behind axis row steps < (B.grid board.old).height }
     ensures rewritten { let before = B.grid board.old in
@@ -52,10 +52,10 @@ fn write_behind<B: Scan>(
     ensures table { B.table board.new ≡ B.table board.old }
     ensures sides { sides_of (B.grid board.new) ≡ sides_of (B.grid board.old) }
 {
-    let (_width, _height) = board.size();
+    recall_shape(board);
     match axis {
-        Axis::Down => board.rewrite(write, row + steps, columns),
-        Axis::Right => board.rewrite(write, row, columns.ahead(steps)),
+        Axis::Down => board.rewrite(write, row + steps, &columns),
+        Axis::Right => board.rewrite(write, row, &columns.ahead(steps)),
     }
 }
 
@@ -66,8 +66,8 @@ fn write_targets<B: Scan>(
     write: &CellWrite,
     axis: Axis,
     steps: u32,
-    rows: Columns,
-    room: &RowRoom,
+    rows: Columns<B::Words>,
+    room: &RoomFor<B>,
 ) -> bool
     requires { AreWithin axis (B.grid board.old).height steps rows }
     ensures rewritten { let before = B.grid board.old in
@@ -77,7 +77,7 @@ fn write_targets<B: Scan>(
     ensures table { B.table board.new ≡ B.table board.old }
     ensures sides { sides_of (B.grid board.new) ≡ sides_of (B.grid board.old) }
 {
-    let (_width, _height) = board.size();
+    recall_shape(board);
     let mut left = rows;
     let mut changed = false;
     while let Some(row) = left.take_first() {
@@ -95,7 +95,7 @@ pub fn attempt_writer<'r, B: Scan>(
     writer: Writer,
     board: &mut B,
     queue: &mut LentQueue<'r>,
-    room: &mut RowRoom,
+    room: &mut RoomFor<B>,
 ) -> bool
     requires writer { rule.now.writer ≡ Some writer }
     requires rewrites { rule.now.rewrites ≡ true }
@@ -106,7 +106,7 @@ pub fn attempt_writer<'r, B: Scan>(
     ensures table { B.table board.new ≡ B.table board.old }
     ensures sides { sides_of (B.grid board.new) ≡ sides_of (B.grid board.old) }
 {
-    let (_width, _height) = board.size();
+    recall_shape(board);
     let row = &rule.rows.as_slice()[0];
     let cell = writing_cell(row, writer);
     let rows = room.find_targets(board, row, writer.leads);

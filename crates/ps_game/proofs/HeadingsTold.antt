@@ -118,7 +118,7 @@ or_by : (fault : Option Fault) (first second : Option Fault) → (fault ≡ None
 or_by None first second e = e refl
 or_by (Some fault) first second e = refl
 
-not_late : (late real : Bool) (number : ℕ) → fault_by late real number ≡ None → late ≡ false
+pub not_late : (late real : Bool) (number : ℕ) → fault_by late real number ≡ None → late ≡ false
 not_late true real number e = absurd (let h = e in cc)
 not_late false real number e = refl
 

@@ -1,5 +1,5 @@
 pub mod HeadingsTold
-pub mod ImpossibleLines
+pub mod ImpossibleRules
 pub mod LineSteps
 pub mod SectionEnds
 pub mod SectionLines

@@ -4,6 +4,8 @@ use Rattle.std.specs.Prelude.{⊤, nat_eq, nat_lt, nat_le, not, find, unwrap_or,
 use Rattle.std.specs.List.{prefix_len}
 use Rattle.std.specs.Option.{option_or}
 use Rattle.std.proofs.lemmas.Bool.Decides.{nat_tests}
+use Rattle.std.proofs.lemmas.Bool.{eq-eqb, lt-ltb}
+use Rattle.std.proofs.Math.Bool.{and-true}
 use Rattle.ps_model.specs.declared.texts.Section.{Section}
 use Rattle.ps_model.specs.declared.texts.Section.TheVariants.{Prelude}
 use Rattle.ps_model.specs.declared.faults.Fault.{Fault}
@@ -11,8 +13,9 @@ use Rattle.ps_model.specs.text.Lines.{Line, lines_of}
 use Rattle.ps_model.specs.text.LineNumbers.{lines_between}
 use Rattle.ps_model.specs.text.Sections.{rank, is_of, is_real_time, section_lines, header_lines, header_number, has_section}
 use Rattle.ps_laws.proofs.common.LinesInOrder.{IsBelow, AreInOrder, in_order}
-use Rattle.ps_game.specs.Headings.{is_late_header, fault_by, heading_fault, place_below, headings_told}
+use Rattle.ps_game.specs.Headings.{is_late_header, heading_fault, place_below, headings_told}
 use Rattle.ps_game.specs.SectionPlaces.{stands_above, boundary}
+use Rattle.ps_game.proofs.HeadingsTold.{not_late}
 
 -- tests of numbers
 apart : (a b : ℕ) → a < b → nat_eq a b ≡ false
@@ -20,12 +23,6 @@ apart a b h = grind (arith, nat_tests)
 
 apart_back : (a b : ℕ) → b < a → nat_eq a b ≡ false
 apart_back a b h = grind (arith, nat_tests)
-
-equal : (a b : ℕ) → a ≡ b → nat_eq a b ≡ true
-equal a b h = grind (arith, nat_tests)
-
-less : (a b : ℕ) → a < b → nat_lt a b ≡ true
-less a b h = grind (arith, nat_tests)
 
 not_less : (a b : ℕ) → b ≤ a → nat_lt a b ≡ false
 not_less a b h = grind (arith, nat_tests)
@@ -48,10 +45,6 @@ AreRising above (line ∷ lines) = IsNext above line × AreRising line.section l
 not_told : (fault other : Option Fault) → option_or fault other ≡ None → (fault ≡ None) × (other ≡ None)
 not_told None other e = (refl, e)
 not_told (Some fault) other e = absurd (let h = e in cc)
-
-not_late : (late real : Bool) (number : ℕ) → fault_by late real number ≡ None → late ≡ false
-not_late true real number e = absurd (let h = e in cc)
-not_late false real number e = refl
 
 next_by : (above : Section) (line : Line) (heads : Bool) → line.is_header ≡ heads → IsBelow above line → heads && nat_le (rank line.section) (rank above) ≡ false → IsNext above line
 next_by above line true e b l = let rises : rank above < rank line.section = grind (arith, nat_tests) in Begins e rises
@@ -99,12 +92,8 @@ three_off false b = refl
 header_off : (section : Section) (line : Line) → line.is_header ≡ true → belongs section line ≡ false
 header_off section line e = ap (λ (b : Bool). is_of section line && (line.is_there && not b)) e ∙ three_off (is_of section line) line.is_there
 
-and_true : (a : Bool) → a && true ≡ a
-and_true true = refl
-and_true false = refl
-
 plain_on : (section : Section) (line : Line) → is_of section line ≡ true → line.is_header ≡ false → belongs section line ≡ line.is_there
-plain_on section line s e = ap₂ (λ a b. a && (line.is_there && not b)) s e ∙ and_true line.is_there
+plain_on section line s e = ap₂ (λ a b. a && (line.is_there && not b)) s e ∙ and-true line.is_there
 
 -- the section's lines, with one more above
 one_line : (section : Section) (line : Line) (lines : List Line) (kept : Bool) → belongs section line ≡ kept → section_lines (line ∷ lines) section ≡ cond kept (line ∷ section_lines lines section) (section_lines lines section)
@@ -179,9 +168,9 @@ taken_none n lines e = rw e refl
 inside_by : (section above : Section) (line : Line) (lines : List Line) → rank above ≡ rank section → IsNext above line → AreRising line.section lines → (rank line.section ≡ rank section → IsInside section lines) → IsInside section (line ∷ lines)
 inside_by section above line lines is (Stays e s) r ih =
     let now : rank line.section ≡ rank section = ap rank s ∙ is in
-    let on : is_of section line ≡ true = equal (rank section) (rank line.section) (sym now) in
+    let on : is_of section line ≡ true = eq-eqb (rank section) (rank line.section) (sym now) in
     let place : ℕ = suc (rank section) in
-    let more : front place (line ∷ lines) ≡ suc (front place lines) = front_in place line lines (less (rank line.section) place (omega (arith, now))) in
+    let more : front place (line ∷ lines) ≡ suc (front place lines) = front_in place line lines (lt-ltb (rank line.section) place (omega (arith, now))) in
     let rest = ih now in
     record {
       same = one_line section line lines line.is_there (plain_on section line on e)
@@ -252,8 +241,8 @@ or_off false other = refl
 before_low : (number : ℕ) (section : Section) (line : Line) (lines : List Line) → rank line.section < rank section → IsBefore (suc number) section lines → IsBefore number section (line ∷ lines)
 before_low number section line lines low rest =
     let off : is_of section line ≡ false = apart_back (rank section) (rank line.section) low in
-    let first : front (rank section) (line ∷ lines) ≡ suc (front (rank section) lines) = front_in (rank section) line lines (less (rank line.section) (rank section) low) in
-    let second : front (suc (rank section)) (line ∷ lines) ≡ suc (front (suc (rank section)) lines) = front_in (suc (rank section)) line lines (less (rank line.section) (suc (rank section)) (omega arith)) in
+    let first : front (rank section) (line ∷ lines) ≡ suc (front (rank section) lines) = front_in (rank section) line lines (lt-ltb (rank line.section) (rank section) low) in
+    let second : front (suc (rank section)) (line ∷ lines) ≡ suc (front (suc (rank section)) lines) = front_in (suc (rank section)) line lines (lt-ltb (rank line.section) (suc (rank section)) (omega arith)) in
     let further : suc number + front (rank section) lines ≡ number + front (rank section) (line ∷ lines) = omega (arith, first) in
     record {
       same = one_line section line lines false (off_section section line off) ∙ rest.same ∙ sym (stretch_more (front (rank section) lines) (front (suc (rank section)) lines) _ _ line lines first second);
@@ -263,20 +252,20 @@ before_low number section line lines low rest =
 
 stretch_here : (first second k : ℕ) (line : Line) (lines : List Line) → first ≡ 0 → second ≡ suc k → stretch first second (line ∷ lines) ≡ filter is_there (take k lines)
 stretch_here first second k line lines p q =
-    let some : nat_lt 0 (suc k) ≡ true = less 0 (suc k) (omega arith) in
+    let some : nat_lt 0 (suc k) ≡ true = lt-ltb 0 (suc k) (omega arith) in
     let count : suc k - (0 + 1) ≡ k = omega arith in
     rw (p, q, some, count) refl
 
 -- the header of the section
 before_here : (number : ℕ) (section : Section) (line : Line) (lines : List Line) → line.number ≡ number → line.is_header ≡ true → rank line.section ≡ rank section → IsInside section lines → IsBefore number section (line ∷ lines)
 before_here number section line lines n e is rest =
-    let on : is_of section line ≡ true = equal (rank section) (rank line.section) (sym is) in
+    let on : is_of section line ≡ true = eq-eqb (rank section) (rank line.section) (sym is) in
     let first : front (rank section) (line ∷ lines) ≡ 0 = front_out (rank section) line lines (not_less (rank line.section) (rank section) (omega (arith, is))) in
-    let second : front (suc (rank section)) (line ∷ lines) ≡ suc (front (suc (rank section)) lines) = front_in (suc (rank section)) line lines (less (rank line.section) (suc (rank section)) (omega (arith, is))) in
+    let second : front (suc (rank section)) (line ∷ lines) ≡ suc (front (suc (rank section)) lines) = front_in (suc (rank section)) line lines (lt-ltb (rank line.section) (suc (rank section)) (omega (arith, is))) in
     let none : number ≡ number + front (rank section) (line ∷ lines) = omega (arith, first) in
     record {
       same = one_line section line lines false (header_off section line e) ∙ rest.same ∙ sym (stretch_here _ _ (front (suc (rank section)) lines) line lines first second);
-      has = one_header section line lines true true e on ∙ sym (less (front (rank section) (line ∷ lines)) (front (suc (rank section)) (line ∷ lines)) (omega (arith, first, second)));
+      has = one_header section line lines true true e on ∙ sym (lt-ltb (front (rank section) (line ∷ lines)) (front (suc (rank section)) (line ∷ lines)) (omega (arith, first, second)));
       begins = λ h. ap number_found (one_found section line lines true true e on) ∙ n ∙ none;
     }
 

@@ -1,8 +1,8 @@
 -- What the boundaries of a text's sections tell.
 use Rattle.std.proofs.Common.{◌≡◌, ℕ, suc, ◌+◌, ◌-◌, ◌<◌, ◌≤◌, Bool, true, false, ◌&&◌, List, [], ◌++◌, length, Some, None, refl, ap, ◌∙◌, arith}
 use Rattle.std.specs.Prelude.{nat_lt, not, if◌then◌else◌}
-use Rattle.std.proofs.lemmas.Bool.Decides.{nat_tests}
 use Rattle.std.specs.List.{flat_map}
+use Rattle.std.proofs.lemmas.Bool.{ltb-true}
 use Rattle.ps_model.specs.declared.texts.Section.{Section}
 use Rattle.ps_model.specs.declared.texts.Section.TheVariants.{Prelude, Objects, Layers, Levels}
 use Rattle.ps_model.specs.declared.faults.Fault.{Fault}
@@ -64,9 +64,6 @@ last_there true true false h = absurd (let e = h in cc)
 last_there true false false h = absurd (let e = h in cc)
 last_there false b false h = absurd (let e = h in cc)
 
-less_is : (a b : ℕ) → nat_lt a b ≡ true → a < b
-less_is a b h = grind (arith, nat_tests)
-
 -- the sections -------------------------------------------------------------------------------------------------------------
 
 pub is_prelude : (text : List ℕ) (end : ℕ) → headings_told 0 (lines_of text) ≡ None → end ≡ boundary text 1 → end ≤ length (lines_of text) + 1 → IsSection text Prelude 1 end
@@ -90,4 +87,4 @@ start_is header end start false h s = absurd (let e = h in cc)
 pub is_header_of : (text : List ℕ) (section : Section) (header end start : ℕ) → 0 < rank section → headings_told 0 (lines_of text) ≡ None → header ≡ boundary text (rank section) → end ≡ boundary text (suc (rank section)) →
     start ≡ (if nat_lt header end then header + 1 else header) → nat_lt header end ≡ true → header_number (lines_of text) section ≡ start - 1
 is_header_of text section header end start low o h e s some =
-    header_told text section header end low o h e (less_is header end some) ∙ start_is header end start (nat_lt header end) some s
+    header_told text section header end low o h e (ltb-true header end some) ∙ start_is header end start (nat_lt header end) some s

@@ -3,12 +3,12 @@ use Rattle.std.proofs.Common.{◌≡◌, ℕ, ◌+◌, ◌<◌, ◌≤◌, List,
 use Rattle.std.specs.Prelude.{option_to_list}
 use Rattle.std.proofs.lemmas.List.{take_more, take-append-drop, take-take}
 use Rattle.ps_model.specs.declared.held.Held.{Held}
-use Rattle.ps_model.specs.declared.held.Held.TheVariants.{Nothing, Escape, Bracket}
 use Rattle.ps_model.specs.declared.play.Key.{Key}
 use Rattle.ps_model.specs.session.Keys.{keys_of}
 use Rattle.ps_model.specs.session.HeldKeys.{held, bytes_of, key_behind, held_behind}
 use Rattle.ps_laws.proofs.keys.HeldKeys.{one_byte_more}
-use Rattle.ps_laws.proofs.keys.KeysInPieces.{keys_of-append}
+use Rattle.ps_laws.proofs.keys.KeysInPieces.{keys_of-append, keys_of-nothing_more}
+use Rattle.ps_laws.proofs.common.Lists.{none-before}
 
 -- a part of a piece was read behind what was held at first, and brought no key
 abbrev pub ReadSilently : Held → Held → List ℕ → Type 0
@@ -44,16 +44,6 @@ pub fed_whole : (first now : Held) (piece : List ℕ) (read : ℕ) → ReadSilen
 fed_whole first now piece read silent others =
     ap (λ (l : List ℕ). keys_of (bytes_of first ++ l)) (whole piece read others) ∙ silent (drop read piece ++ others)
 
--- a front of a list without an element has none
-no_front : (front behind : List Key) → front ++ behind ≡ [] → front ≡ []
-no_front [] behind e = refl
-no_front (key ∷ keys) behind e = cc
-
-held_alone : (kept : Held) → keys_of (bytes_of kept ++ []) ≡ []
-held_alone Nothing = refl
-held_alone Escape = refl
-held_alone Bracket = refl
-
 -- no part of what was read without a key has one
 pub no_shorter : (first now : Held) (piece : List ℕ) (read shorter : ℕ) → ReadSilently first now (take read piece) → shorter ≤ read →
     keys_of (bytes_of first ++ take shorter piece) ≡ []
@@ -65,4 +55,4 @@ no_shorter first now piece read shorter silent less =
     append_assoc (bytes_of first) (take shorter piece) rest
     ∙ ap (λ (l : List ℕ). bytes_of first ++ (l ++ rest)) (sym same)
     ∙ ap (λ (l : List ℕ). bytes_of first ++ l) (take-append-drop shorter (take read piece) ∙ sym (append-nil (take read piece))) in
-    no_front (keys_of part) (keys_of (held part ++ rest)) (sym (keys_of-append part rest) ∙ ap keys_of all ∙ silent [] ∙ held_alone now)
+    none-before (keys_of part) (keys_of (held part ++ rest)) (sym (keys_of-append part rest) ∙ ap keys_of all ∙ silent [] ∙ keys_of-nothing_more now)

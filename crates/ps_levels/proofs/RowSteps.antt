@@ -1,5 +1,5 @@
 -- A row of a level, and rows one below the other.
-use Rattle.std.proofs.Common.{◌≡◌, ℕ, suc, ◌+◌, ◌≤◌, Bool, List, [], ◌∷◌, ◌++◌, length, map, take, Option, None, Some, refl, sym, ap, ◌∙◌, append_assoc, arith}
+use Rattle.std.proofs.Common.{◌≡◌, ℕ, suc, ◌+◌, ◌≤◌, Bool, List, [], ◌∷◌, ◌++◌, length, map, take, Option, Some, refl, sym, ap, ◌∙◌, append_assoc, arith}
 use Rattle.std.specs.List.{list_any, take-map}
 use Rattle.std.proofs.lemmas.List.{map-append, length-map, length-append}
 use Rattle.std.proofs.lemmas.Grind.{common_steps}
@@ -51,11 +51,6 @@ faults-seen names width place count number row characters found seen e n written
     ap meanings_shown s ∙ sym (take-map meaning_seen count found) ∙ ap (take count) f ∙ take-map (character_meaning names) count (of_width width characters) ∙ ap (map (character_meaning names)) (written ∙ ap (take width) e) in
     ap (λ (ms : List (Option Meaning)). faults_of_meanings ms width place number) shown
     ∙ ap (λ (k : ℕ). faults_of_meanings (map (character_meaning names) (take width (characters_of row))) width place k) (sym n) ∙ faults-by-meanings names width place row
-
--- no first fault: no fault
-pub none-first : (faults : List Fault) → first_fault faults ≡ None → faults ≡ []
-none-first [] e = refl
-none-first (fault ∷ faults) e = absurd (let f = e in cc)
 
 -- the faults of rows, of which the first come before the others
 pub rows-append : (names : Names) (width place : ℕ) (rows others : List Line) → rows_faults names width place (rows ++ others) ≡ rows_faults names width place rows ++ rows_faults names width (place + length rows) others

@@ -8,6 +8,7 @@ use Rattle.std.proofs.Math.Utf8.{encodes}
 use Rattle.std.proofs.lemmas.Grind.{common_steps}
 use Rattle.ps_model.specs.text.Words.{is_blank}
 use Rattle.ps_model.specs.text.Lines.{without_blank_end}
+use Rattle.ps_text.proofs.BlankEnds.{off_front, none_off}
 
 -- bytes that begin with no blank
 pub record BeginsWritten (bytes : List ℕ) : Type 0 where
@@ -16,20 +17,10 @@ pub record BeginsWritten (bytes : List ℕ) : Type 0 where
   pub is : bytes ≡ first ∷ others
   pub written : is_blank first ≡ false
 
-skipped : (byte : ℕ) (bytes : List ℕ) → is_blank byte ≡ true → drop (prefix_len is_blank (byte ∷ bytes)) (byte ∷ bytes) ≡ drop (prefix_len is_blank bytes) bytes
-skipped byte bytes h =
-    let one : prefix_len is_blank (byte ∷ bytes) ≡ suc (prefix_len is_blank bytes) = grind (arith, common_steps) in
-    rw one refl
-
-kept : (byte : ℕ) (bytes : List ℕ) → is_blank byte ≡ false → drop (prefix_len is_blank (byte ∷ bytes)) (byte ∷ bytes) ≡ byte ∷ bytes
-kept byte bytes h =
-    let none : prefix_len is_blank (byte ∷ bytes) ≡ 0 = grind (arith, common_steps) in
-    rw none refl
-
 begins_by : (byte : ℕ) (bytes : List ℕ) (blank : Bool) → is_blank byte ≡ blank → (list_all is_blank bytes ≡ false → BeginsWritten (drop (prefix_len is_blank bytes) bytes)) → blank && list_all is_blank bytes ≡ false →
     BeginsWritten (drop (prefix_len is_blank (byte ∷ bytes)) (byte ∷ bytes))
-begins_by byte bytes true b rest e = subst BeginsWritten (sym (skipped byte bytes b)) (rest e)
-begins_by byte bytes false b rest e = record { first = byte; others = bytes; is = kept byte bytes b; written = b }
+begins_by byte bytes true b rest e = subst BeginsWritten (sym (off_front byte bytes b)) (rest e)
+begins_by byte bytes false b rest e = record { first = byte; others = bytes; is = none_off byte bytes b; written = b }
 
 begins : (bytes : List ℕ) → list_all is_blank bytes ≡ false → BeginsWritten (drop (prefix_len is_blank bytes) bytes)
 begins [] e = absurd (let f = e in cc)

@@ -5,9 +5,11 @@ use Rattle.std.specs.List.{list_any, range_with_len}
 use Rattle.std.proofs.lemmas.Bool.{cases_Bool, cases_eq, eq-eqb, ne_eqb}
 use Rattle.std.proofs.lemmas.List.{same_lists, get_or-set_same, get_or-set_other, length-set}
 use Rattle.std.proofs.lemmas.List.FromFn.{length-map-range_with_len, get_or-map-range_with_len}
+use Rattle.std.proofs.Math.Bool.{or-false}
 use Rattle.ps_model.specs.declared.pieces.Slot.{Slot}
 use Rattle.ps_model.specs.board.Grid.{Grid, cell_at}
 use Rattle.ps_model.specs.board.Attempts.{Rewritten, same_cell}
+use Rattle.ps_laws.proofs.common.Truths.{or_across}
 use Rattle.ps_match.specs.Together.{cell_where, changes_where, rewritten_where}
 
 -- tests over ranges -------------------------------------------------------------------------------------------------------
@@ -16,13 +18,6 @@ pub any_agree : (p q : ℕ → Bool) (a n : ℕ) → ((k : ℕ) → a ≤ k → 
 any_agree p q a zero same = refl
 any_agree p q a (suc n) same =
     ap₂ (λ (b others : Bool). b || others) (same a (omega arith) (omega arith)) (any_agree p q (a + 1) n (λ k low high. same k (omega arith) (omega arith)))
-
-pub or_across : (a b c d : Bool) → ((a || b) || (c || d)) ≡ ((a || c) || (b || d))
-or_across true b c d = refl
-or_across false true true d = refl
-or_across false true false d = refl
-or_across false false true d = refl
-or_across false false false d = refl
 
 any_either : (p q r : ℕ → Bool) (a n : ℕ) → ((k : ℕ) → a ≤ k → k < a + n → r k ≡ (p k || q k)) →
     list_any r (range_with_len a n) ≡ (list_any p (range_with_len a n) || list_any q (range_with_len a n))
@@ -35,17 +30,13 @@ pub any_none : (p : ℕ → Bool) (a n : ℕ) → ((k : ℕ) → a ≤ k → k <
 any_none p a zero e = refl
 any_none p a (suc n) e = ap₂ (λ (b others : Bool). b || others) (e a (omega arith) (omega arith)) (any_none p (a + 1) n (λ k low high. e k (omega arith) (omega arith)))
 
-pub or_nothing : (b : Bool) → (b || false) ≡ b
-or_nothing true = refl
-or_nothing false = refl
-
 pub any_one : (t : ℕ → Bool) (cell a n : ℕ) → a ≤ cell → cell < a + n → list_any (λ k. nat_eq k cell && t k) (range_with_len a n) ≡ t cell
 any_one t cell a zero low high = absurd (omega arith)
 any_one t cell a (suc n) low high = elim (cases_eq a cell) [
   | inl e ↦
       ap₂ (λ (b others : Bool). b || others) (ap (λ (b : Bool). b && t a) (eq-eqb a cell e))
       (any_none (λ k. nat_eq k cell && t k) (a + 1) n (λ k above below. let other : k ≢ cell = omega arith in ap (λ (b : Bool). b && t k) (ne_eqb k cell other)))
-      ∙ or_nothing (t a) ∙ ap t e
+      ∙ or-false (t a) ∙ ap t e
   | inr other ↦
       ap (λ (b : Bool). (b && t a) || list_any (λ k. nat_eq k cell && t k) (range_with_len (a + 1) n)) (ne_eqb a cell other)
       ∙ any_one t cell (a + 1) n (omega arith) (omega arith)
@@ -131,7 +122,7 @@ more_cell g h becomes first second both n at apart e = elim (cases_Bool (second 
       let here : cell_at h n ≡ cell_at g n = at ∙ rw no refl in
       rw (now, all, here) refl
   | inr not_now ↦
-      let all : both n ≡ first n = e ∙ rw not_now (or_nothing (first n)) in
+      let all : both n ≡ first n = e ∙ rw not_now (or-false (first n)) in
       rw (not_now, all) at
 ]
 
@@ -144,8 +135,8 @@ more_change g h becomes first second both n at apart e = elim (cases_Bool (secon
       let here : cell_at h n ≡ cell_at g n = at ∙ rw no refl in
       rw (now, no, all, here) refl
   | inr not_now ↦
-      let all : both n ≡ first n = e ∙ rw not_now (or_nothing (first n)) in
-      rw (not_now, all) (sym (or_nothing (changes_where g becomes first n)))
+      let all : both n ≡ first n = e ∙ rw not_now (or-false (first n)) in
+      rw (not_now, all) (sym (or-false (changes_where g becomes first n)))
 ]
 
 more_cells : (g h : Grid) (becomes : List Slot → List Slot) (first second both : ℕ → Bool) → length h.cells ≡ length g.cells →

@@ -8,7 +8,7 @@ ghost use Rattle.ps_match.specs.Together.{is_on_row, rewritten_where};
 
 use crate::rooms::Rooms;
 use crate::writing::write_cell;
-use ps_board::Columns;
+use ps_board::{Columns, recall_shape};
 use ps_program::CellWrite;
 
 /// Writes a cell, if it is wanted, and answers whether it changed, or something had `changed` before.
@@ -27,7 +27,7 @@ fn write_if<B: Rooms>(
         result ≡ (changed || all.changed) }
     ensures table { B.table board.new ≡ B.table board.old }
 {
-    let (_width, _height) = board.size();
+    recall_shape(board);
     if !wanted {
         return changed;
     }
@@ -36,7 +36,12 @@ fn write_if<B: Rooms>(
 
 /// Writes the cells of a row of a board whose columns are in a set, and answers whether one of them changed. What has
 /// no room on a layer isn't put there.
-pub fn rewrite_row<B: Rooms>(board: &mut B, write: &CellWrite, row: u32, columns: Columns) -> bool
+pub fn rewrite_row<B: Rooms>(
+    board: &mut B,
+    write: &CellWrite,
+    row: u32,
+    columns: Columns<B::Words>,
+) -> bool
     requires { row < (B.grid board.old).height }
     ensures rewritten { let before = B.grid board.old in
         let becomes = cell_written (write_in_room (B.table board.old) (write_shown write.now)) in

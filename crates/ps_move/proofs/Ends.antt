@@ -14,6 +14,7 @@ use Rattle.ps_model.specs.board.Grid.{Grid, IsGrid, cell_count, cell_at, slot_at
 use Rattle.ps_model.specs.board.Movement.{target, is_bare, is_bare_slot, winner, slides_within, slides, if_slides, entrant, slid_slot, slid}
 use Rattle.ps_model.specs.board.WeakMovement.{landing}
 use Rattle.ps_laws.proofs.common.Winners.{IsLink, link_of, winner-contends, slides_within-more}
+use Rattle.ps_laws.proofs.common.Truths.{same_tests}
 use Rattle.ps_move.specs.Visits.{way}
 use Rattle.ps_move.specs.Midway.{IsMidway, motion_left}
 use Rattle.ps_move.specs.Order.{ComesBefore, IsInOrder}
@@ -113,11 +114,6 @@ went_slides before now went place o shape layer from e =
     let won = o.won layer from e in
     let all : cell_count before ≡ cell_count now = rw (o.midway.width, o.midway.height) refl in
     slides_within-more before layer won.links (cell_count before) from (omega (arith, shape.cells)) won.chain
-
-same_tests : (a b : Bool) → (a ≡ true → b ≡ true) → (b ≡ true → a ≡ true) → a ≡ b
-same_tests true b h k = sym (h refl)
-same_tests false true h k = k refl
-same_tests false false h k = refl
 
 -- at the end, on one layer: what went is what slides, and what stands in a cell was there, or is its winner, which went
 record IsEnd (before now : Grid) (layer : ℕ) : Type 0 where

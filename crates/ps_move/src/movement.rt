@@ -48,7 +48,9 @@ impl Slid {
 ///
 /// `exact` says where everything stands afterwards, and `slid` what that means for each object: it stands where it
 /// stood or in its target, and none is lost or made.
-pub fn slide<B: Board>(board: &mut B) -> Slid
+///
+/// `moving` is room for the cells in which something moves; what it had before is forgotten. No memory is taken.
+pub fn slide<B: Board>(board: &mut B, moving: &mut CellSet<B>) -> Slid
     ensures exact { B.grid board.new ≡ slid (B.grid board.old) }
     ensures slid { IsWeaklySlid (B.grid board.old) (B.grid board.new) }
     ensures some_pass { 0 < result }
@@ -56,9 +58,9 @@ pub fn slide<B: Board>(board: &mut B) -> Slid
     ensures few_passes { result ≤ going_count (B.grid board.old) + 1 }
     ensures table { B.table board.new ≡ B.table board.old }
 {
-    let moving = CellSet::moving(board);
+    moving.set_moving(board);
     let mut passes = 1;
-    while pass(board, &moving) {
+    while pass(board, moving) {
         passes += 1;
     }
     board.clear_moves();
@@ -67,7 +69,7 @@ pub fn slide<B: Board>(board: &mut B) -> Slid
 
 /// Visits those cells in which an object may be about to do something, in the order of their numbers, and tells
 /// whether any object went. In no other cell an object may be.
-fn pass<B: Board>(board: &mut B, moving: &CellSet) -> bool
+fn pass<B: Board>(board: &mut B, moving: &CellSet<B>) -> bool
     requires still { IsStillBeside (B.grid board.old) moving.now }
     ensures shape { IsGrid (B.grid board.old) }
     ensures part { let old = B.grid board.old in
@@ -85,7 +87,7 @@ fn pass<B: Board>(board: &mut B, moving: &CellSet) -> bool
 
 /// Visits those cells of a column in which an object may be about to do something, from the top, and tells whether any
 /// object went.
-fn visit_column<B: Board>(board: &mut B, column: u32, moving: &CellSet) -> bool
+fn visit_column<B: Board>(board: &mut B, column: u32, moving: &CellSet<B>) -> bool
     requires still { IsStillBeside (B.grid board.old) moving.now }
     requires column { column < (B.grid board.old).width }
     ensures part { let old = B.grid board.old in
@@ -105,7 +107,7 @@ fn visit_column<B: Board>(board: &mut B, column: u32, moving: &CellSet) -> bool
 
 /// Visits the cell of a column and a row, if an object may be about to do something there, and tells whether any
 /// object went.
-fn visit_row<B: Board>(board: &mut B, column: u32, row: u32, moving: &CellSet) -> bool
+fn visit_row<B: Board>(board: &mut B, column: u32, row: u32, moving: &CellSet<B>) -> bool
     requires still { IsStillBeside (B.grid board.old) moving.now }
     requires shape { IsGrid (B.grid board.old) }
     requires column { column < (B.grid board.old).width }
@@ -265,7 +267,8 @@ mod tests {
                 }
             }
         }
-        let slid = slide(&mut board);
+        let mut moving = CellSet::try_new(alloc)?;
+        let slid = slide(&mut board, &mut moving);
         for layer in 0..layers {
             for y in 0..height {
                 for x in 0..width {

@@ -4,7 +4,7 @@ use Rattle.std.proofs.Common.{Option, Some, None, List, [], ◌∷◌, length, r
 use Rattle.std.specs.Prelude.{not, nat_lt, slice_get}
 use Rattle.std.specs.List.{list_all, list_any}
 use Rattle.std.proofs.Math.Bool.{and-false}
-use Rattle.std.proofs.lemmas.Bool.{cases_lt}
+use Rattle.std.proofs.lemmas.Bool.{cases_lt, and_cases}
 use Rattle.std.proofs.lemmas.Bool.Decides.{nat_tests}
 use Rattle.std.proofs.lemmas.Option.{get_or_from_slice_get}
 use Rattle.ps_model.specs.declared.limits.TheConstants.{SIDE_LIMIT}
@@ -38,14 +38,10 @@ not_left_out rows row is low out =
     ∙ out
 
 -- a row that isn't in both sets is missing in one of them
-missing_by : (a b : Bool) → (a && b) ≡ false → (a ≡ false) ⊎ (b ≡ false)
-missing_by true b e = inr e
-missing_by false b e = inl refl
-
 pub missing : (rows others both : List Bool) (row : ℕ) → both ≡ both_columns rows others → row < SIDE_LIMIT →
     column_at both row ≡ false → (column_at rows row ≡ false) ⊎ (column_at others row ≡ false)
 missing rows others both row is low out =
-    missing_by (column_at rows row) (column_at others row)
+    and_cases (column_at rows row) (column_at others row)
     (sym (ap (λ (cs : List Bool). column_at cs row) is
     ∙ column_at-where (λ y. column_at rows y && column_at others y) row low) ∙ out)
 

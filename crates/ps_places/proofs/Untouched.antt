@@ -1,7 +1,7 @@
 -- Cells that lie behind those that are rewritten stay as they are.
-use Rattle.std.proofs.Common.{◌≡◌, ◌≢◌, ◌∙◌, ℕ, ◌+◌, ◌-◌, ◌*◌, ◌<◌, ◌≤◌, ◌&&◌, suc, zero, Bool, true, false, Option, Some, None}
+use Rattle.std.proofs.Common.{◌≡◌, ◌∙◌, ℕ, ◌+◌, ◌-◌, ◌*◌, ◌<◌, ◌≤◌, ◌&&◌, suc, zero, Bool, true, false, Option, Some, None}
 use Rattle.std.proofs.Common.{List, [], ◌∷◌, drop, get_or, length, map, refl, sym, ap, ap₂, arith}
-use Rattle.std.specs.Prelude.{slice_get, slice_set, ⊤}
+use Rattle.std.specs.Prelude.{slice_get, ⊤}
 use Rattle.std.specs.List.{range_with_len}
 use Rattle.std.proofs.Math.Nat.{add-mul}
 use Rattle.std.proofs.lemmas.Bool.{and_parts}
@@ -11,6 +11,7 @@ use Rattle.ps_model.specs.board.Grid.{Grid}
 use Rattle.ps_model.specs.board.Places.{fits_along, fits_there}
 use Rattle.ps_model.specs.board.Attempts.{Rewritten, rewritten_along, rewritten_cell}
 use Rattle.ps_model.specs.meaning.RuleMeanings.{CellMeaning}
+use Rattle.ps_laws.proofs.common.Lists.{read_other}
 use Rattle.ps_program.specs.declared.cells.CompiledCell.{CompiledCell}
 use Rattle.ps_program.specs.declared.rows.Axis.{Axis}
 use Rattle.ps_program.specs.declared.rows.Axis.TheVariants.{Down, Right}
@@ -35,13 +36,6 @@ abbrev pub AgreeFrom : ℕ → Grid → Grid → Type 0
 AgreeFrom start g h = (n : ℕ) → start ≤ n → slice_get h.cells n ≡ slice_get g.cells n
 
 -- what is rewritten ----------------------------------------------------------------------------------------------------------
-
-read_other : {X : Type 0} (xs : List X) (i j : ℕ) (x : X) → i ≢ j → slice_get (slice_set xs i x) j ≡ slice_get xs j
-read_other [] i j x n = refl
-read_other (y ∷ ys) zero zero x n = absurd (n refl)
-read_other (y ∷ ys) zero (suc j) x n = refl
-read_other (y ∷ ys) (suc i) zero x n = refl
-read_other (y ∷ ys) (suc i) (suc j) x n = read_other ys i j x (λ e. n (ap suc e))
 
 -- one cell
 pub agree-cell : (r : Rewritten) (m : CellMeaning) (number start : ℕ) (cell : Option (List Slot)) → number < start →

@@ -13,3 +13,4 @@ pub mod PartStarts
 pub mod LeavingAlone
 pub mod WrittenTogether
 pub mod PartTargets
+pub mod Room

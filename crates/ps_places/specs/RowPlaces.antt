@@ -1,4 +1,5 @@
--- The places of a row of a rule, as what is kept of it tells: lines of the board, and on each of them a set of positions for each
+-- The places of a row of a rule, as what is kept of it tells: lines of the board, and on each of them a set of
+-- positions for each
 -- part.
 use Rattle.std.specs.Prelude.{ℕ, ◌+◌, ◌*◌, Bool, Option, List, [], ◌∷◌, ◌++◌, map, take, drop, length}
 use Rattle.std.specs.List.{flat_map}
@@ -9,7 +10,7 @@ use Rattle.ps_board.specs.ColumnSets.{set_columns}
 use Rattle.ps_program.specs.declared.cells.CompiledCell.{CompiledCell}
 use Rattle.ps_program.specs.declared.rows.Axis.{Axis}
 use Rattle.ps_program.specs.declared.rows.CompiledRow.{CompiledRow}
-use Rattle.ps_places.specs.declared.room.RowRoom.{RowRoom}
+use Rattle.ps_places.specs.Room.{Room}
 use Rattle.ps_places.specs.Lines.{line_cells, part_meaning}
 use Rattle.ps_places.specs.Ways.{positions_from, ways_behind, ways_from}
 
@@ -35,27 +36,29 @@ sets_on starts count line = take count (drop (line * count) starts)
 abbrev pub way_cells : Axis → ℕ → ℕ → List ℕ → List ℕ → List ℕ
 way_cells axis height line [] way = []
 way_cells axis height line (size ∷ sizes) [] = []
-way_cells axis height line (size ∷ sizes) (position ∷ way) = line_cells axis height line position size ++ way_cells axis height line sizes way
+way_cells axis height line (size ∷ sizes) (position ∷ way) =
+    line_cells axis height line position size ++ way_cells axis height line sizes way
 
 -- the places of parts on a line, and on each of some lines
 abbrev pub places_on : Axis → ℕ → List (List CompiledCell) → List (List Bool) → ℕ → List (List ℕ)
 places_on axis height parts starts line =
-    map (way_cells axis height line (part_sizes parts)) (ways_from (sets_on starts (length parts) line) (part_sizes parts) 0)
+    map (way_cells axis height line (part_sizes parts))
+    (ways_from (sets_on starts (length parts) line) (part_sizes parts) 0)
 
 abbrev pub places_on_lines : Axis → ℕ → List (List CompiledCell) → List (List Bool) → List ℕ → List (List ℕ)
 places_on_lines axis height parts starts lines = flat_map (places_on axis height parts starts) lines
 
 -- the places of a row, the one that is chosen, and those behind it
-abbrev pub all_places : ℕ → CompiledRow → RowRoom → List (List ℕ)
+abbrev pub all_places : ℕ → CompiledRow → Room → List (List ℕ)
 all_places height row room = places_on_lines row.axis height row.parts room.starts.items (set_columns room.lines)
 
-abbrev pub way_of : CompiledRow → RowRoom → List ℕ
+abbrev pub way_of : CompiledRow → Room → List ℕ
 way_of row room = take (length row.parts) room.way
 
-abbrev pub place_at : ℕ → CompiledRow → RowRoom → List ℕ
+abbrev pub place_at : ℕ → CompiledRow → Room → List ℕ
 place_at height row room = way_cells row.axis height room.line (part_sizes row.parts) (way_of row room)
 
-abbrev pub places_behind : ℕ → CompiledRow → RowRoom → List (List ℕ)
+abbrev pub places_behind : ℕ → CompiledRow → Room → List (List ℕ)
 places_behind height row room =
     map (way_cells row.axis height room.line (part_sizes row.parts))
     (ways_behind (sets_on room.starts.items (length row.parts) room.line) (part_sizes row.parts) (way_of row room))

@@ -4,16 +4,16 @@ ghost use Rattle.std.specs.Prelude.{◌≡◌, ◌<◌, false, true};
 ghost use Rattle.ps_places.specs.Candidates.{BeginsOnlyOn, FitsOnlyOn};
 ghost use Rattle.ps_places.specs.CellCandidates.{HasCellOnlyOn};
 
-use ps_match::{Columns, Scan};
+use ps_match::{Columns, Scan, recall_shape};
 use ps_model::SIDE_LIMIT;
 use ps_program::{Axis, CellMask, CompiledCell};
 
 /// The rows of the board, as a set of their numbers, whose cells may fit a mask: those that may have each object that
 /// it needs, and each motion that it asks for.
-pub fn rows_of_mask<B: Scan>(board: &B, mask: &CellMask) -> Columns
+pub fn rows_of_mask<B: Scan>(board: &B, mask: &CellMask) -> Columns<B::Words>
     ensures { FitsOnlyOn (B.grid board.now) mask.now result }
 {
-    let (_width, _height) = board.size();
+    recall_shape(board);
     let mut rows = Columns::below(SIDE_LIMIT);
     for object in mask.needed.as_slice() {
         let having = board.rows_with(object);
@@ -31,10 +31,10 @@ pub fn rows_of_mask<B: Scan>(board: &B, mask: &CellMask) -> Columns
 
 /// The rows of the board on which a part may have its first cell, as far as the cell tells that lies so many steps
 /// behind it.
-fn rows_of_cell<B: Scan>(board: &B, axis: Axis, mask: &CellMask, steps: u32) -> Columns
+fn rows_of_cell<B: Scan>(board: &B, axis: Axis, mask: &CellMask, steps: u32) -> Columns<B::Words>
     ensures { HasCellOnlyOn (B.grid board.now) mask.now axis steps result }
 {
-    let (_width, _height) = board.size();
+    recall_shape(board);
     let rows = rows_of_mask(board, mask);
     match axis {
         Axis::Down => rows.behind(steps),
@@ -43,10 +43,10 @@ fn rows_of_cell<B: Scan>(board: &B, axis: Axis, mask: &CellMask, steps: u32) -> 
 }
 
 /// The rows of the board on which a part may have its first cell.
-pub fn rows_of_part<B: Scan>(board: &B, axis: Axis, part: &[CompiledCell]) -> Columns
+pub fn rows_of_part<B: Scan>(board: &B, axis: Axis, part: &[CompiledCell]) -> Columns<B::Words>
     ensures { BeginsOnlyOn (B.grid board.now) (B.table board.now) axis part.now result }
 {
-    let (_width, _height) = board.size();
+    recall_shape(board);
     let mut rows = Columns::below(SIDE_LIMIT);
     let mut steps = 0;
     for cell in part {

@@ -18,7 +18,7 @@ ghost use Rattle.ps_places.specs.Ways.{from_first, positions_from};
 use crate::parts::{behind_position, part_fits, rewrite_fitting_part, rewrite_part};
 use crate::room::RowRoom;
 use crate::ways::{first_way, next_way};
-use ps_match::{Columns, Scan};
+use ps_match::{ColumnWords, Columns, Scan, recall_shape};
 use ps_program::CompiledRow;
 
 /// Finds the first place at which a row fits, on its lines from one on, and answers the line; the way there is put
@@ -26,8 +26,8 @@ use ps_program::CompiledRow;
 fn seek<B: Scan>(
     board: &B,
     row: &CompiledRow,
-    lines: Columns,
-    starts: &[Columns],
+    lines: Columns<B::Words>,
+    starts: &[Columns<B::Words>],
     from: usize,
     way: &mut [u8],
 ) -> Option<u8>
@@ -68,8 +68,8 @@ fn seek<B: Scan>(
 fn seek_on<B: Scan>(
     board: &B,
     row: &CompiledRow,
-    lines: Columns,
-    starts: &[Columns],
+    lines: Columns<B::Words>,
+    starts: &[Columns<B::Words>],
     line: u8,
     way: &mut [u8],
 ) -> Option<u8>
@@ -92,7 +92,7 @@ fn seek_on<B: Scan>(
     ensures spaced { let sizes = part_sizes row.now.parts in
         IsSpaced sizes 0 way.old → IfSome result (λ _next. IsSpaced sizes 0 way.new) }
 {
-    let (_width, _height) = board.size();
+    recall_shape(board);
     let parts = row.parts.as_slice();
     let count = parts.len();
     let at = line as usize * count;
@@ -103,9 +103,9 @@ fn seek_on<B: Scan>(
     seek(board, row, lines, starts, usize::from(line) + 1, way)
 }
 
-impl RowRoom {
+impl<W: ColumnWords> RowRoom<Columns<W>> {
     /// Chooses the first place of a row at which it fits. Answers whether there is one; if not, any place is chosen.
-    pub fn first_place<B: Scan>(&mut self, board: &B, row: &CompiledRow) -> bool
+    pub fn first_place<B: Scan<Words = W>>(&mut self, board: &B, row: &CompiledRow) -> bool
         requires { HasLinesOf (B.grid board.now) row.now self.old }
         ensures found { let fits = place_fits (B.grid board.now) (B.table board.now) row.now.parts in
             let height = (B.grid board.now).height in
@@ -145,7 +145,7 @@ impl RowRoom {
     }
 
     /// Chooses the next place of a row at which it fits. Answers whether there is one; if not, any place is chosen.
-    pub fn next_place<B: Scan>(&mut self, board: &B, row: &CompiledRow) -> bool
+    pub fn next_place<B: Scan<Words = W>>(&mut self, board: &B, row: &CompiledRow) -> bool
         requires lines { HasLinesOf (B.grid board.now) row.now self.old }
         requires line { IsOnLine (B.grid board.now) row.now self.old }
         ensures found { let fits = place_fits (B.grid board.now) (B.table board.now) row.now.parts in
@@ -172,7 +172,7 @@ impl RowRoom {
     }
 
     /// Whether a row fits at the place that is chosen.
-    pub fn fits<B: Scan>(&self, board: &B, row: &CompiledRow) -> bool
+    pub fn fits<B: Scan<Words = W>>(&self, board: &B, row: &CompiledRow) -> bool
         ensures { let place = place_at (B.grid board.now).height row.now self.now in
             result ≡ place_fits (B.grid board.now) (B.table board.now) row.now.parts place }
     {
@@ -193,7 +193,12 @@ impl RowRoom {
 
     /// Rewrites a row at the place that is chosen, cell by cell, and answers whether one changed, or something had
     /// `changed` before.
-    pub fn rewrite<B: Scan>(&self, board: &mut B, row: &CompiledRow, changed: bool) -> bool
+    pub fn rewrite<B: Scan<Words = W>>(
+        &self,
+        board: &mut B,
+        row: &CompiledRow,
+        changed: bool,
+    ) -> bool
         ensures rewritten { let before : Rewritten = record { grid = B.grid board.old; changed = changed } in
             let place = place_at (B.grid board.old).height row.now self.now in
             record { grid = B.grid board.new; changed = result }
@@ -219,7 +224,12 @@ impl RowRoom {
     /// Rewrites a row that fits at the place that is chosen, cell by cell, and answers whether one changed, or
     /// something had `changed` before. A cell that stays as it is where it fits isn't written: no cell of the board
     /// belongs to two of the row's, so each still fits when its turn comes.
-    pub fn rewrite_fitting<B: Scan>(&self, board: &mut B, row: &CompiledRow, changed: bool) -> bool
+    pub fn rewrite_fitting<B: Scan<Words = W>>(
+        &self,
+        board: &mut B,
+        row: &CompiledRow,
+        changed: bool,
+    ) -> bool
         requires fits { let place = place_at (B.grid board.old).height row.now self.now in
             place_fits (B.grid board.old) (B.table board.old) row.now.parts place ≡ true }
         requires spaced { HasSpacedWay row.now self.now }
@@ -230,7 +240,7 @@ impl RowRoom {
         ensures table { B.table board.new ≡ B.table board.old }
         ensures sides { sides_of (B.grid board.new) ≡ sides_of (B.grid board.old) }
     {
-        let (_width, _height) = board.size();
+        recall_shape(board);
         let parts = row.parts.as_slice();
         let mut any = changed;
         for number in 0..parts.len() {

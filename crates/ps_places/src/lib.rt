@@ -15,7 +15,7 @@ mod targets;
 mod ways;
 
 pub use candidates::rows_of_mask;
-pub use room::RowRoom;
+pub use room::{RoomFor, RowRoom};
 pub use starts::find_starts;
 
 #[cfg(test)]

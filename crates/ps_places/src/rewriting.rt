@@ -13,7 +13,7 @@ ghost use Rattle.ps_places.specs.PartStarts.{AreStarts};
 ghost use Rattle.ps_places.specs.WrittenTogether.{cell_changed, cells_changed, row_at};
 
 use crate::room::RowRoom;
-use ps_match::{Columns, Scan};
+use ps_match::{ColumnWords, Columns, Scan, recall_shape};
 use ps_program::{Axis, CompiledCell};
 
 /// Rewrites one cell of a part, so many steps behind the first one, of all places that begin in some columns of a row
@@ -23,7 +23,7 @@ fn rewrite_cell<B: Scan>(
     axis: Axis,
     cell: &CompiledCell,
     row: u32,
-    columns: Columns,
+    columns: Columns<B::Words>,
     steps: u32,
     changed: bool,
 ) -> bool
@@ -34,13 +34,13 @@ fn rewrite_cell<B: Scan>(
     ensures table { B.table board.new ≡ B.table board.old }
     ensures sides { sides_of (B.grid board.new) ≡ sides_of (B.grid board.old) }
 {
-    let (_width, _height) = board.size();
+    recall_shape(board);
     if !cell.changes {
         return changed;
     }
     match axis {
-        Axis::Down => changed | board.rewrite(&cell.write, row + steps, columns),
-        Axis::Right => changed | board.rewrite(&cell.write, row, columns.ahead(steps)),
+        Axis::Down => changed | board.rewrite(&cell.write, row + steps, &columns),
+        Axis::Right => changed | board.rewrite(&cell.write, row, &columns.ahead(steps)),
     }
 }
 
@@ -51,7 +51,7 @@ fn rewrite_row<B: Scan>(
     axis: Axis,
     part: &[CompiledCell],
     row: u32,
-    columns: Columns,
+    columns: Columns<B::Words>,
     changed: bool,
 ) -> bool
     requires few { length part.now ≤ SIDE_LIMIT }
@@ -76,8 +76,8 @@ fn rewrite_rows<B: Scan>(
     board: &mut B,
     axis: Axis,
     part: &[CompiledCell],
-    rows: Columns,
-    starts: &[Columns],
+    rows: Columns<B::Words>,
+    starts: &[Columns<B::Words>],
 ) -> bool
     requires whole { HasCells part.now }
     requires long { SIDE_LIMIT ≤ length starts.now }
@@ -91,7 +91,7 @@ fn rewrite_rows<B: Scan>(
     ensures table { B.table board.new ≡ B.table board.old }
     ensures sides { sides_of (B.grid board.new) ≡ sides_of (B.grid board.old) }
 {
-    let (_width, _height) = board.size();
+    recall_shape(board);
     let mut changed = false;
     let mut left = rows;
     while let Some(row) = left.take_first() {
@@ -100,15 +100,15 @@ fn rewrite_rows<B: Scan>(
     changed
 }
 
-impl RowRoom {
+impl<W: ColumnWords> RowRoom<Columns<W>> {
     /// Rewrites all places of a part that are kept for these rows of the board: each comes to the same as in its turn,
     /// since they leave each other alone. Answers whether a cell changed. No memory is taken.
-    pub fn rewrite_places<B: Scan>(
+    pub fn rewrite_places<B: Scan<Words = W>>(
         &self,
         board: &mut B,
         axis: Axis,
         part: &[CompiledCell],
-        rows: Columns,
+        rows: Columns<W>,
     ) -> bool
         requires whole { HasCells part.now }
         requires starts { let starts = self.now.starts.items in

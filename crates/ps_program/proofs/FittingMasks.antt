@@ -1,8 +1,8 @@
 -- What fits a mask: what is listed among what it needs is held there, and what is listed among what it bars isn't.
-use Rattle.std.proofs.Common.{◌≡◌, ℕ, suc, Bool, true, false, ◌&&◌, ◌||◌, not, List, [], ◌∷◌, refl, subst, ap, ap₂, ◌∙◌, arith}
+use Rattle.std.proofs.Common.{◌≡◌, ℕ, suc, Bool, true, false, ◌&&◌, ◌||◌, not, List, [], ◌∷◌, refl, subst, ap₂, ◌∙◌, arith}
 use Rattle.std.specs.Prelude.{All, nat_eq, slice_index_or}
 use Rattle.std.specs.List.{list_all, list_any, Contains}
-use Rattle.std.proofs.lemmas.Bool.{eqb-true, and_parts, or_parts}
+use Rattle.std.proofs.lemmas.Bool.{eqb-true, and_parts, or_parts, not-true}
 use Rattle.std.proofs.lemmas.List.Elements.{All-nil, All-cons}
 use Rattle.ps_model.specs.declared.pieces.ObjectId.{ObjectId}
 use Rattle.ps_model.specs.declared.pieces.Slot.{Slot}
@@ -10,6 +10,7 @@ use Rattle.ps_model.specs.declared.pieces.Slot.TheVariants.{Bare}
 use Rattle.ps_model.specs.declared.compiled.LayeredObject.{LayeredObject}
 use Rattle.ps_model.specs.names.Names.{same_object}
 use Rattle.ps_model.specs.meaning.Compiled.{CellMask, slot_holds, is_held_in, moves_as_asked, mask_fits}
+use Rattle.ps_laws.proofs.common.SameThings.{same_object-true}
 use Rattle.ps_program.specs.Leaving.{same_layered, is_listed}
 
 -- tests --------------------------------------------------------------------------------------------------------------------
@@ -39,18 +40,11 @@ at-place P xs x all (k, within, e) = subst P e (all k x within)
 
 -- what is held ---------------------------------------------------------------------------------------------------------------
 
--- an object by its number
-abbrev object_of : ℕ → ObjectId
-object_of number = record { 0 = number }
-
-pub same-object : (first second : ObjectId) → same_object first second ≡ true → first ≡ second
-same-object first second e = ap object_of (eqb-true first.0 second.0 e)
-
 -- two that are one are held alike
 pub held-alike : (cell : List Slot) (first second : LayeredObject) → same_layered first second ≡ true → is_held_in cell first ≡ is_held_in cell second
 held-alike cell first second e =
     let parts = and_parts (nat_eq (first.layer).0 (second.layer).0) (same_object first.object second.object) e in
-    ap₂ (λ (object : ObjectId) (layer : ℕ). slot_holds object (slice_index_or cell layer Bare)) (same-object first.object second.object parts.1) (eqb-true (first.layer).0 (second.layer).0 parts.0)
+    ap₂ (λ (object : ObjectId) (layer : ℕ). slot_holds object (slice_index_or cell layer Bare)) (same_object-true first.object second.object parts.1) (eqb-true (first.layer).0 (second.layer).0 parts.0)
 
 denied-by : (cell : List Slot) (barred : List LayeredObject) (sought other : LayeredObject) (same : Bool) → same_layered sought other ≡ same → is_held_in cell other ≡ false →
     (is_listed barred sought ≡ true → is_held_in cell sought ≡ false) → (same || is_listed barred sought) ≡ true → is_held_in cell sought ≡ false
@@ -77,10 +71,6 @@ pub record Fit (mask : CellMask) (cell : List Slot) : Type 0 where
   pub one_of : list_all (λ objects. list_any (is_held_in cell) objects) mask.one_of ≡ true
   pub motions : list_all (moves_as_asked cell) mask.motions ≡ true
 
-pub not-so : (b : Bool) → not b ≡ true → b ≡ false
-not-so true e = absurd (cc)
-not-so false e = refl
-
 pub fit : (mask : CellMask) (cell : List Slot) → mask_fits mask cell ≡ true → Fit mask cell
 fit mask cell e =
     let needed : Bool = list_all (is_held_in cell) mask.needed in
@@ -90,4 +80,4 @@ fit mask cell e =
     let first = and_parts needed (not barred && (one_of && motions)) e in
     let second = and_parts (not barred) (one_of && motions) first.1 in
     let third = and_parts one_of motions second.1 in
-    record { needed = first.0; barred = not-so barred second.0; one_of = third.0; motions = third.1 }
+    record { needed = first.0; barred = not-true barred second.0; one_of = third.0; motions = third.1 }

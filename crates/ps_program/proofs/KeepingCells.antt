@@ -2,7 +2,7 @@
 use Rattle.std.proofs.Common.{◌≡◌, ℕ, suc, zero, ◌+◌, ◌⊎◌, inl, inr, Bool, true, false, ◌&&◌, ◌||◌, not, cond, Option, Some, None, List, [], ◌∷◌, refl, sym, subst, ap, ap₂, ◌∙◌, arith}
 use Rattle.std.specs.Prelude.{IfSome, nat_eq, slice_index_or, unwrap_or}
 use Rattle.std.specs.List.{list_all, list_any}
-use Rattle.std.proofs.lemmas.Bool.{eqb-true, and_parts, or_parts}
+use Rattle.std.proofs.lemmas.Bool.{eqb-true, and_parts, or_parts, not-false, not-true}
 use Rattle.ps_model.specs.declared.pieces.ObjectId.{ObjectId}
 use Rattle.ps_model.specs.declared.pieces.LayerId.{LayerId}
 use Rattle.ps_model.specs.declared.pieces.Motion.{Motion}
@@ -18,10 +18,12 @@ use Rattle.ps_model.specs.names.Names.{same_object}
 use Rattle.ps_model.specs.board.Grid.{motion_in}
 use Rattle.ps_model.specs.meaning.Fitting.{same_motion}
 use Rattle.ps_model.specs.meaning.Compiled.{CellMask, CellWrite, slot_holds, is_held_in, moves_as_asked, mask_fits, is_gone, slot_freed, object_written, slot_written, write_on, written_from, cell_written}
+use Rattle.ps_laws.proofs.common.SameThings.{same_object-true, same_object-own}
+use Rattle.ps_laws.proofs.common.Truths.{other_holds}
 use Rattle.ps_program.specs.Leaving.{same_layered, is_listed, keeps_object}
 use Rattle.ps_program.specs.Keeping.{keeps_one, stays_among, stays, stay_among, puts_other, puts_not, comes_not, is_rest, frees, is_clear, gives_same, gives_other, keeps_asked, motion_stays, gives_not, motion_comes_not, lets_sleep}
 use Rattle.ps_program.specs.KeepingCells.{KeepsWhatFits, LetsSleep}
-use Rattle.ps_program.proofs.FittingMasks.{held-alike, same-object, not-so, Fit, fit}
+use Rattle.ps_program.proofs.FittingMasks.{held-alike, Fit, fit}
 
 -- slots behind a write -----------------------------------------------------------------------------------------------------
 
@@ -64,16 +66,13 @@ own a b passes e h = grind (arith, h, e)
 kept-slot : (gone : List LayeredObject) (layer : ℕ) (object : ObjectId) (slot : Slot) → not (is_gone gone layer object) ≡ true → slot_holds object slot ≡ true → slot_freed gone layer slot ≡ slot
 kept-slot gone layer object Bare stays held = absurd (cc)
 kept-slot gone layer object (Holds there motion) stays held =
-    let here : object ≡ there = same-object object there held in
-    let left : is_gone gone layer there ≡ false = subst (λ o. is_gone gone layer o ≡ false) here (not-so (is_gone gone layer object) stays) in
+    let here : object ≡ there = same_object-true object there held in
+    let left : is_gone gone layer there ≡ false = subst (λ o. is_gone gone layer o ≡ false) here (not-true (is_gone gone layer object) stays) in
     ap (λ b. cond b Bare (Holds there motion)) left
 
 -- one of the objects on a layer is held in a slot
 abbrev HoldsOneOf : List LayeredObject → ℕ → Slot → Type 0
 HoldsOneOf objects layer slot = (object : ObjectId) × (is_listed objects (record { object = object; layer = record { 0 = layer } }) ≡ true) × (slot_holds object slot ≡ true)
-
-same-self : (object : ObjectId) → same_object object object ≡ true
-same-self object = grind (arith)
 
 leave-held : (object : ObjectId) (motion : Option Motion) (slot : Slot) → slot_holds object slot ≡ true → slot_holds object (object_written Leave motion slot) ≡ true
 leave-held object motion Bare held = absurd (cc)
@@ -83,7 +82,7 @@ leave-held object motion (Holds there moving) held = held
 held-by : (objects : List LayeredObject) (one : LayeredObject) (layer : LayerId) (object : ObjectWrite) (motion : Option Motion) (slot : Slot) → layer.0 ≡ (one.layer).0 → keeps_object objects layer object ≡ true →
     is_listed objects one ≡ true → slot_holds one.object slot ≡ true → HoldsOneOf objects (one.layer).0 (object_written object motion slot)
 held-by objects one layer (Put object) motion slot e keeps listed held =
-    (object, subst (λ (n : ℕ). is_listed objects (record { object = object; layer = record { 0 = n } }) ≡ true) e keeps, same-self object)
+    (object, subst (λ (n : ℕ). is_listed objects (record { object = object; layer = record { 0 = n } }) ≡ true) e keeps, same_object-own object)
 held-by objects one layer Leave motion slot e keeps listed held = (one.object, listed, leave-held one.object motion slot held)
 held-by objects one layer Clear motion slot e keeps listed held = absurd (cc)
 
@@ -111,15 +110,11 @@ any-here : (cell : List Slot) (sought other : LayeredObject) (rest : Bool) (same
 any-here cell sought other rest true e held others = ap (λ b. b || rest) (sym (held-alike cell sought other e) ∙ held)
 any-here cell sought other rest false e held others = let behind : rest ≡ true = others refl in grind (arith, behind)
 
-listed-behind : (first rest : Bool) → (first || rest) ≡ true → first ≡ false → rest ≡ true
-listed-behind true rest any e = absurd (cc)
-listed-behind false rest any e = any
-
 any-held : (cell : List Slot) (objects : List LayeredObject) (sought : LayeredObject) → is_listed objects sought ≡ true → is_held_in cell sought ≡ true → list_any (is_held_in cell) objects ≡ true
 any-held cell [] sought listed held = absurd (cc)
 any-held cell (other ∷ objects) sought listed held =
     any-here cell sought other (list_any (is_held_in cell) objects) (same_layered sought other) refl held
-    (λ e. any-held cell objects sought (listed-behind (same_layered sought other) (is_listed objects sought) listed e) held)
+    (λ e. any-held cell objects sought (other_holds (same_layered sought other) (is_listed objects sought) listed e) held)
 
 -- so one of the list stands there
 stays-held : (write : CellWrite) (cell : List Slot) (objects : List LayeredObject) (one : LayeredObject) → stays_among write objects one ≡ true → is_listed objects one ≡ true → is_held_in cell one ≡ true →
@@ -156,7 +151,7 @@ leave-denied object motion Bare denied = refl
 leave-denied object motion (Holds there moving) denied = denied
 
 put-denied : (object : ObjectId) (write : ObjectWrite) (motion : Option Motion) (slot : Slot) → puts_other object write ≡ true → slot_holds object slot ≡ false → slot_holds object (object_written write motion slot) ≡ false
-put-denied object (Put put) motion slot other denied = not-so (same_object object put) other
+put-denied object (Put put) motion slot other denied = not-true (same_object object put) other
 put-denied object Leave motion slot other denied = leave-denied object motion slot denied
 put-denied object Clear motion slot other denied = refl
 
@@ -223,10 +218,6 @@ asked-behind write layer asks answer before after (inl e) rests leaves asked =
     (written-asked asks answer (write_on layer write.layers) (slot_freed write.gone layer before) leaves (freed-asked write.gone layer asks answer before rests asked))
 asked-behind write layer asks answer before after (inr none) rests leaves asked = subst (λ slot. asks (motion_in slot) ≡ answer) (none.0 ∙ sym none.1) asked
 
-either : (a b : Bool) → (a || b) ≡ true → a ≡ false → b ≡ true
-either true b any e = absurd (cc)
-either false b any e = any
-
 true-or-not : (a b : Bool) → (a || not b) ≡ true → b ≡ true → a ≡ true
 true-or-not true b any e = refl
 true-or-not false true any e = absurd (cc)
@@ -243,7 +234,7 @@ given-same motion (Some given) e = e
 
 given-other : (motion : Motion) (given : Option Motion) → gives_other motion given ≡ true → IfSome given (λ each. same_motion motion each ≡ false)
 given-other motion None e = tt
-given-other motion (Some given) e = not-so (same_motion motion given) e
+given-other motion (Some given) e = not-true (same_motion motion given) e
 
 keeps-asked : (test : MotionTest) (write : Option LayerWrite) → IfSome write (IsTested (keeps_asked test) (test.layer).0) → IfSome write (Asked (same_motion test.motion) true)
 keeps-asked test None passes = tt
@@ -306,7 +297,7 @@ among-after write cell all (one ∷ some) within keeps any =
       by-held : (held : Bool) → is_held_in cell one ≡ held → (held ≡ true → list_any (is_held_in (cell_written write cell)) all ≡ true) → (list_any (is_held_in cell) some ≡ true → list_any (is_held_in (cell_written write cell)) all ≡ true) →
           list_any (is_held_in (cell_written write cell)) all ≡ true
       by-held true e here behind = here refl
-      by-held false e here behind = behind (either (is_held_in cell one) (list_any (is_held_in cell) some) any e)
+      by-held false e here behind = behind (other_holds (is_held_in cell one) (list_any (is_held_in cell) some) any e)
 
 -- the parts of a mask that fits are one test
 fits-by : (a b c d : Bool) → a ≡ true → b ≡ false → c ≡ true → d ≡ true → (a && (not b && (c && d))) ≡ true
@@ -358,12 +349,8 @@ fitted-before write mask cell sleeps fits =
     (λ objects comes any. back (list_any (is_held_in cell) objects) (list_any (is_held_in after) objects) (none-after (comes_not write) (is_held_in cell) (is_held_in after) objects (denied-after write cell) comes) any) third.0 is.one_of)
     (all-after (motion_comes_not write) (moves_as_asked after) (moves_as_asked cell) mask.motions (λ test comes asked. back (moves_as_asked cell test) (moves_as_asked after test) (unasked-after write cell test comes) asked) third.1 is.motions)
 
-wakes-not : (sleeps : Bool) → not sleeps ≡ false → sleeps ≡ true
-wakes-not true e = refl
-wakes-not false e = absurd (cc)
-
 pub lets-sleep : LetsSleep
 lets-sleep write mask sleeps cell unfit = by-fit (mask_fits mask (cell_written write cell)) refl where
   by-fit : (fits : Bool) → mask_fits mask (cell_written write cell) ≡ fits → mask_fits mask (cell_written write cell) ≡ false
-  by-fit true e = absurd (let was : mask_fits mask cell ≡ true = fitted-before write mask cell (wakes-not (lets_sleep write mask) sleeps) e in cc)
+  by-fit true e = absurd (let was : mask_fits mask cell ≡ true = fitted-before write mask cell (not-false (lets_sleep write mask) sleeps) e in cc)
   by-fit false e = e

@@ -1,13 +1,11 @@
 -- Cells that leave what they fit do, and so do those whose write is told to change nothing.
-use Rattle.std.proofs.Common.{◌≡◌, ℕ, suc, zero, ◌+◌, ◌<◌, Bool, true, false, ◌&&◌, ◌||◌, not, cond, Option, Some, None, List, [], ◌∷◌, length, get_or, refl, sym, subst, ap, ap₂, ◌∙◌, arith}
+use Rattle.std.proofs.Common.{◌≡◌, ℕ, suc, ◌+◌, ◌<◌, Bool, true, false, ◌&&◌, ◌||◌, not, cond, Option, Some, None, List, [], ◌∷◌, length, get_or, refl, sym, subst, ap, ap₂, ◌∙◌, arith}
 use Rattle.std.specs.Prelude.{IfSome, nat_eq, slice_index_or, unwrap_or}
 use Rattle.std.specs.List.{list_all, list_any}
 use Rattle.std.proofs.lemmas.Bool.{eqb-true, and_parts}
 use Rattle.ps_model.specs.declared.pieces.ObjectId.{ObjectId}
 use Rattle.ps_model.specs.declared.pieces.LayerId.{LayerId}
-use Rattle.ps_model.specs.declared.pieces.Direction.TheVariants.{Up, Down, Left, Right}
 use Rattle.ps_model.specs.declared.pieces.Motion.{Motion}
-use Rattle.ps_model.specs.declared.pieces.Motion.TheVariants.{Still, Going, Acting}
 use Rattle.ps_model.specs.declared.pieces.Slot.{Slot}
 use Rattle.ps_model.specs.declared.pieces.Slot.TheVariants.{Bare, Holds}
 use Rattle.ps_model.specs.declared.compiled.LayeredObject.{LayeredObject}
@@ -17,12 +15,13 @@ use Rattle.ps_model.specs.declared.compiled.ObjectWrite.TheVariants.{Put, Leave,
 use Rattle.ps_model.specs.declared.compiled.LayerWrite.{LayerWrite}
 use Rattle.ps_model.specs.names.Names.{same_object}
 use Rattle.ps_model.specs.board.Grid.{motion_in}
-use Rattle.ps_model.specs.meaning.Fitting.{motion_number, same_motion}
+use Rattle.ps_model.specs.meaning.Fitting.{same_motion}
 use Rattle.ps_model.specs.meaning.Compiled.{CellMask, CellWrite, CompiledCell, slot_holds, is_held_in, moves_as_asked, mask_fits, is_gone, slot_freed, object_written, slot_written, write_on, written_from, cell_written}
+use Rattle.ps_laws.proofs.common.SameThings.{same_object-true, same_motion-true}
 use Rattle.ps_program.specs.Leaving.{is_listed, keeps_object, keeps_motion, keeps_layer, leaves}
 use Rattle.ps_program.specs.LeavingCells.{LeavesWhatItFits}
 use Rattle.ps_program.specs.ProgramShown.{cell_shown}
-use Rattle.ps_program.proofs.FittingMasks.{Sought, found-in, all-true, at-place, same-object, listed-denied, listed-held, Fit, fit}
+use Rattle.ps_program.proofs.FittingMasks.{Sought, found-in, all-true, at-place, listed-denied, listed-held, Fit, fit}
 
 -- the slots of a cell written, each of which stays
 written-same : (write : CellWrite) (layer : ℕ) (slots : List Slot) →
@@ -53,26 +52,6 @@ freed-same cell barred gone layer Bare none listed there = refl
 freed-same cell barred gone layer (Holds object motion) none listed there =
     ap (λ (b : Bool). cond b Bare (Holds object motion)) (gone-none cell barred gone layer object motion none listed there)
 
--- motions by their numbers
-abbrev motion_of : ℕ → Motion
-motion_of zero = Still
-motion_of (suc zero) = Going Up
-motion_of (suc (suc zero)) = Going Down
-motion_of (suc (suc (suc zero))) = Going Left
-motion_of (suc (suc (suc (suc zero)))) = Going Right
-motion_of (suc (suc (suc (suc (suc n))))) = Acting
-
-motion-back : (motion : Motion) → motion_of (motion_number motion) ≡ motion
-motion-back Still = refl
-motion-back (Going Up) = refl
-motion-back (Going Down) = refl
-motion-back (Going Left) = refl
-motion-back (Going Right) = refl
-motion-back Acting = refl
-
-same-motion : (first second : Motion) → same_motion first second ≡ true → first ≡ second
-same-motion first second e = sym (motion-back first) ∙ ap motion_of (eqb-true (motion_number first) (motion_number second) e) ∙ motion-back second
-
 -- the motion that is written is the layer's
 motion-same : (cell : List Slot) (tests : List MotionTest) (layer : LayerId) (motion : Option Motion) → list_all (moves_as_asked cell) tests ≡ true → keeps_motion tests layer motion ≡ true →
     unwrap_or motion (motion_in (slice_index_or cell layer.0 Bare)) ≡ motion_in (slice_index_or cell layer.0 Bare)
@@ -81,14 +60,14 @@ motion-same cell tests layer (Some motion) all keeps = by-found (found-in (λ (t
   by-found : Sought (λ (test : MotionTest). nat_eq (test.layer).0 layer.0 && same_motion test.motion motion) tests → motion ≡ motion_in (slice_index_or cell layer.0 Bare)
   by-found (test, within, e) =
       let parts = and_parts (nat_eq (test.layer).0 layer.0) (same_motion test.motion motion) e in
-      sym (same-motion test.motion motion parts.1)
-      ∙ same-motion test.motion (motion_in (slice_index_or cell (test.layer).0 Bare)) (at-place (λ (each : MotionTest). moves_as_asked cell each ≡ true) tests test (all-true (moves_as_asked cell) tests all) within)
+      sym (same_motion-true test.motion motion parts.1)
+      ∙ same_motion-true test.motion (motion_in (slice_index_or cell (test.layer).0 Bare)) (at-place (λ (each : MotionTest). moves_as_asked cell each ≡ true) tests test (all-true (moves_as_asked cell) tests all) within)
       ∙ ap (λ (n : ℕ). motion_in (slice_index_or cell n Bare)) (eqb-true (test.layer).0 layer.0 parts.0)
 
 -- the object that is put is the one that stands there
 put-same : (object : ObjectId) (motion : Option Motion) (slot : Slot) → slot_holds object slot ≡ true → unwrap_or motion (motion_in slot) ≡ motion_in slot → object_written (Put object) motion slot ≡ slot
 put-same object motion Bare held stays = absurd (cc)
-put-same object motion (Holds there moving) held stays = ap₂ (λ (o : ObjectId) (m : Motion). Holds o m) (same-object object there held) stays
+put-same object motion (Holds there moving) held stays = ap₂ (λ (o : ObjectId) (m : Motion). Holds o m) (same_object-true object there held) stays
 
 left-same : (motion : Option Motion) (slot : Slot) → unwrap_or motion (motion_in slot) ≡ motion_in slot → object_written Leave motion slot ≡ slot
 left-same motion Bare stays = refl

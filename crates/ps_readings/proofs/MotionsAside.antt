@@ -16,7 +16,8 @@ use Rattle.ps_model.specs.meaning.Wanted.{Wanted, one_member, chosen_member, mot
 use Rattle.ps_model.specs.meaning.Rewriting.{claims_of, loose_claim, object_claim}
 use Rattle.ps_model.specs.meaning.ReadingMeanings.{are_apart, is_possible_cell, is_possible, left_of_cell, right_of_cell}
 use Rattle.ps_laws.proofs.common.Stages.{map-flat_map, same_flat_map}
-use Rattle.ps_readings.proofs.Quantified.{any_mapped, all_same}
+use Rattle.ps_laws.proofs.common.Lists.{any-map}
+use Rattle.ps_readings.proofs.Quantified.{all_same}
 
 -- layers ---------------------------------------------------------------------------------------------------------------
 
@@ -33,7 +34,7 @@ are_distinct (layer ∷ layers) = not (list_any (nat_eq layer) layers) && are_di
 apart_layers : (claims : List Claim) → are_apart claims ≡ are_distinct (map layer_in claims)
 apart_layers [] = refl
 apart_layers (claim ∷ others) =
-    ap (λ b. not b && are_apart others) (sym (any_mapped (nat_eq (claim.layer).0) layer_in others)) ∙ ap (λ b. not (list_any (nat_eq (claim.layer).0) (map layer_in others)) && b) (apart_layers others)
+    ap (λ b. not b && are_apart others) (sym (any-map (nat_eq (claim.layer).0) layer_in others)) ∙ ap (λ b. not (list_any (nat_eq (claim.layer).0) (map layer_in others)) && b) (apart_layers others)
 
 -- the layers that items claim, one after the other
 side_layers : (names : Names) (wanted : Item → Wanted) (items : List Item) → map layer_in (flat_map (claims_of names) (map wanted items)) ≡ flat_map (λ item. map layer_in (claims_of names (wanted item))) items

@@ -19,11 +19,12 @@ use Rattle.ps_model.specs.meaning.Readings.{Reading, one_of_each, ways, all_memb
 use Rattle.ps_model.specs.meaning.ReadingMeanings.{is_possible, has_possible}
 use Rattle.ps_laws.proofs.common.Stages.{length-one_of_each}
 use Rattle.ps_laws.proofs.common.Everywhere.{All-always, All-filter_map}
+use Rattle.ps_laws.proofs.common.Lists.{any-map, any-flat_map}
 use Rattle.ps_readings.specs.TurnsMade.{turn, with_members}
 use Rattle.ps_readings.specs.TriedReadings.{of_members, some_is_possible}
 use Rattle.ps_readings.specs.Wheels.{taken}
 use Rattle.ps_readings.proofs.MotionsAside.{possible_alike}
-use Rattle.ps_readings.proofs.Quantified.{any_mapped, any_joined, any_same, any_constant}
+use Rattle.ps_readings.proofs.Quantified.{any_same, any_constant}
 
 -- moves and directions -------------------------------------------------------------------------------------------------
 
@@ -104,8 +105,8 @@ module _ (names : Names) (rule : SourceRule) where
       ≡ some_is_possible names rule (one_of_each (all_member_choices names rule))
   among_moves way =
       let chosen : List (List (ℕ × ObjectId)) = one_of_each (all_member_choices names rule) in
-      any_joined (is_possible names rule) (λ moves. map (with_members (turn way moves)) chosen) (one_of_each (all_move_choices rule way))
-      ∙ any_same _ _ (λ moves. any_mapped (is_possible names rule) (with_members (turn way moves)) chosen
+      any-flat_map (is_possible names rule) (λ moves. map (with_members (turn way moves)) chosen) (one_of_each (all_move_choices rule way))
+      ∙ any_same _ _ (λ moves. any-map (is_possible names rule) (with_members (turn way moves)) chosen
       ∙ any_same _ _ (λ members. possible_alike names rule (with_members (turn way moves) members) (of_members members) refl) chosen) (one_of_each (all_move_choices rule way))
       ∙ any_constant (some_is_possible names rule chosen) (one_of_each (all_move_choices rule way))
       (omega (arith, length-one_of_each (all_move_choices rule way), move_ways_some rule way))
@@ -113,7 +114,7 @@ module _ (names : Names) (rule : SourceRule) where
   -- a rule has a possible reading where one of the choices makes one
   pub possible_is : has_possible names rule ≡ some_is_possible names rule (one_of_each (all_member_choices names rule))
   possible_is =
-      any_joined (is_possible names rule) (readings_in (one_of_each (all_member_choices names rule)) rule) (directions_of rule)
+      any-flat_map (is_possible names rule) (readings_in (one_of_each (all_member_choices names rule)) rule) (directions_of rule)
       ∙ any_same _ _ among_moves (directions_of rule)
       ∙ any_constant (some_is_possible names rule (one_of_each (all_member_choices names rule))) (directions_of rule) (directions_some rule)
 

@@ -1,11 +1,13 @@
 -- The way that wheels show is the first of those from it on, and what is left behind it is what their next turn shows.
-use Rattle.std.proofs.Common.{◌≡◌, ℕ, zero, suc, ◌+◌, ◌<◌, ◌≤◌, ◌||◌, ◌&&◌, Bool, true, false, cond, Option, Some, None, List, [], ◌∷◌, ◌++◌, length, map, take, drop, set, get_or, refl, sym, ap, ◌∙◌, arith, add-one}
+use Rattle.std.proofs.Common.{◌≡◌, ℕ, zero, suc, ◌+◌, ◌<◌, ◌≤◌, ◌||◌, Bool, true, false, cond, Option, Some, None, List, [], ◌∷◌, ◌++◌, length, map, take, drop, set, get_or, refl, sym, ap, ◌∙◌, arith, add-one}
 use Rattle.std.specs.Prelude.{slice_get, nat_lt, nat_eq, not, ⊤}
 use Rattle.std.specs.List.{flat_map}
 use Rattle.std.proofs.lemmas.Bool.Decides.{nat_tests}
 use Rattle.std.proofs.lemmas.List.{drop_all, take-take, get_or-take, set_split, get_or_default}
+use Rattle.ps_laws.proofs.common.Truths.{other_holds}
 use Rattle.ps_rules.proofs.Loops.{drop-at}
 use Rattle.std.proofs.lemmas.Option.{cond_some, same_Some}
+use Rattle.std.proofs.lemmas.Bool.{ltb-true, and_parts, or_parts}
 use Rattle.ps_model.specs.meaning.Readings.{one_of_each}
 use Rattle.ps_readings.specs.declared.wheels.Wheel.{Wheel}
 use Rattle.ps_readings.specs.Wheels.{lists_of, with_first, ways_from, way_shown, at_first, at_next, carried, next_wheels, ways_behind, are_showing, has_empty, ways_left}
@@ -22,10 +24,6 @@ at-place (x ∷ items) (suc place) h = at-place items place (omega arith)
 flat_none : {A : Type 0} (items : List A) → flat_map (λ (item : A). map (λ (way : List A). item ∷ way) []) items ≡ []
 flat_none [] = refl
 flat_none (item ∷ items) = flat_none items
-
--- what tests say
-below : (n m : ℕ) → nat_lt n m ≡ true → n < m
-below n m h = grind (arith, nat_tests)
 
 above : (n m : ℕ) → nat_lt n m ≡ false → m ≤ n
 above n m h = grind (arith, nat_tests)
@@ -47,20 +45,12 @@ ways-first [] = refl
 ways-first (wheel ∷ wheels) = rw (ways-first wheels, lists-first wheels) (with_first-all wheel.items (one_of_each (lists_of wheels)))
 
 -- with an empty list there is no way
-either-true : (a b : Bool) → a || b ≡ true → a ≡ false → b ≡ true
-either-true true b h e = cc
-either-true false b h e = h
-
-either-false : (a b : Bool) → a || b ≡ false → (a ≡ false) × (b ≡ false)
-either-false true b h = cc
-either-false false b h = (refl, h)
-
 none-of : {A : Type 0} (items : List A) (others : List (List A)) (empty : Bool) → (empty ≡ true → others ≡ []) → nat_eq (length items) 0 || empty ≡ true →
     flat_map (λ item. map (λ way. item ∷ way) others) items ≡ []
 none-of [] others empty none h = refl
 none-of {A} (item ∷ items) others empty none h =
     let full : nat_eq (suc (length items)) 0 ≡ false = grind (arith, nat_tests) in
-    let gone : others ≡ [] = none (either-true (nat_eq (suc (length items)) 0) empty h full) in
+    let gone : others ≡ [] = none (other_holds (nat_eq (suc (length items)) 0) empty h full) in
     ap (λ (rest : List (List A)). flat_map (λ (x : A). map (λ (way : List A). x ∷ way) rest) (item ∷ items)) gone ∙ flat_none (item ∷ items)
 
 pub ways-none : {A : Type 0} (wheels : List (Wheel A)) → has_empty wheels ≡ true → one_of_each (lists_of wheels) ≡ []
@@ -72,15 +62,11 @@ abbrev AreShowing : {A : Type 0} → List (Wheel A) → Type 0
 AreShowing [] = ⊤
 AreShowing (wheel ∷ wheels) = (wheel.place < length wheel.items) × AreShowing wheels
 
-both-true : (a b : Bool) → a && b ≡ true → (a ≡ true) × (b ≡ true)
-both-true false b h = cc
-both-true true b h = (refl, h)
-
 each-showing : {A : Type 0} (wheels : List (Wheel A)) → are_showing wheels ≡ true → AreShowing wheels
 each-showing [] h = tt
 each-showing (wheel ∷ wheels) h =
-    let parts : (nat_lt wheel.place (length wheel.items) ≡ true) × (are_showing wheels ≡ true) = both-true (nat_lt wheel.place (length wheel.items)) (are_showing wheels) h in
-    (below wheel.place (length wheel.items) parts.0, each-showing wheels parts.1)
+    let parts : (nat_lt wheel.place (length wheel.items) ≡ true) × (are_showing wheels ≡ true) = and_parts (nat_lt wheel.place (length wheel.items)) (are_showing wheels) h in
+    (ltb-true wheel.place (length wheel.items) parts.0, each-showing wheels parts.1)
 
 all-showing : {A : Type 0} (wheels : List (Wheel A)) → AreShowing wheels → are_showing wheels ≡ true
 all-showing [] h = refl
@@ -95,7 +81,7 @@ full count h = grind (arith, nat_tests)
 each-full : {A : Type 0} (wheels : List (Wheel A)) → has_empty wheels ≡ false → AreShowing (map at_first wheels)
 each-full [] h = tt
 each-full (wheel ∷ wheels) h =
-    let parts : (nat_eq (length wheel.items) 0 ≡ false) × (has_empty wheels ≡ false) = either-false (nat_eq (length wheel.items) 0) (has_empty wheels) h in
+    let parts : (nat_eq (length wheel.items) 0 ≡ false) × (has_empty wheels ≡ false) = or_parts (nat_eq (length wheel.items) 0) (has_empty wheels) h in
     (full (length wheel.items) parts.0, each-full wheels parts.1)
 
 pub showing-full : {A : Type 0} (wheels : List (Wheel A)) → has_empty wheels ≡ false → are_showing (map at_first wheels) ≡ true
@@ -135,7 +121,7 @@ showing-carried : {A : Type 0} (wheel : Wheel A) (wheels : List (Wheel A)) (next
 showing-carried wheel wheels (Some us) h rest vs e = rw (← same_Some (wheel ∷ us) vs e) (h.0, rest us refl)
 showing-carried wheel wheels None h rest vs e =
     let parts = cond_some (nat_lt (wheel.place + 1) (length wheel.items)) (at_next wheel ∷ map at_first wheels) vs e in
-    rw (← parts.1) (below (wheel.place + 1) (length wheel.items) parts.0, showing-first wheels h.1)
+    rw (← parts.1) (ltb-true (wheel.place + 1) (length wheel.items) parts.0, showing-first wheels h.1)
 
 each-next : {A : Type 0} (wheels : List (Wheel A)) (vs : List (Wheel A)) → AreShowing wheels → next_wheels wheels ≡ Some vs → AreShowing vs
 each-next [] vs h e = cc

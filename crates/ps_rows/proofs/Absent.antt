@@ -11,6 +11,7 @@ use Rattle.ps_model.specs.declared.pieces.Slot.{Slot}
 use Rattle.ps_model.specs.declared.compiled.LayeredObject.{LayeredObject}
 use Rattle.ps_model.specs.board.Grid.{Grid, cell_at}
 use Rattle.ps_model.specs.meaning.Compiled.{CellMask, is_held_in, mask_fits, moves_as_asked}
+use Rattle.ps_laws.proofs.common.SameThings.{is_number-true}
 use Rattle.ps_board.specs.ColumnSets.{bit_is_set, column_at, word_columns}
 use Rattle.ps_board.proofs.ColumnLaws.{column_at-where}
 use Rattle.ps_match.specs.Nowhere.{IsNotOnRow, IsNowhere}
@@ -21,7 +22,6 @@ use Rattle.ps_rows.specs.RowTests.{IsRowOf, IsWithin, held, held_all}
 use Rattle.ps_rows.specs.Showing.{cells_shown, grid_shown, AreObjectsShown}
 use Rattle.ps_rows.proofs.Bits.{has_column-zero}
 use Rattle.ps_rows.proofs.Rests.{cells_long}
-use Rattle.ps_rows.proofs.Listed.{number_is}
 use Rattle.ps_rows.proofs.Scans.{own_row}
 
 -- no row has it
@@ -62,7 +62,7 @@ not_marked table width height layers words index count row object some narrow un
     let layer : ℕ = (object.layer).0 in
     let parts = and_parts (nat_lt layer layers) (is_number (slice_get table (object.object).0) layer) both in
     let below : (object.object).0 < length table =
-    slice_get_within table (object.object).0 layer (number_is (slice_get table (object.object).0) layer parts.1) in
+    slice_get_within table (object.object).0 layer (is_number-true (slice_get table (object.object).0) layer parts.1) in
     own_row table width height layers words row some narrow under object 0 shown both (sym (marked (object.object).0 row (omega arith) under clear))
 
 -- a column that isn't in a word's set

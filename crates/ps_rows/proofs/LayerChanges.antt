@@ -7,6 +7,7 @@ use Rattle.std.proofs.lemmas.Bool.{cases_Bool, cases_eq, ne_eqb}
 use Rattle.std.proofs.lemmas.List.Folds.{list_any_more}
 use Rattle.std.proofs.lemmas.Nat.{div_below, mul-add-lt}
 use Rattle.std.proofs.lemmas.Option.{none-some, same_Some}
+use Rattle.std.proofs.Math.Bool.{and-false}
 use Rattle.ps_model.specs.declared.compiled.LayerWrite.{LayerWrite}
 use Rattle.ps_model.specs.declared.compiled.LayeredObject.{LayeredObject}
 use Rattle.ps_model.specs.declared.compiled.ObjectWrite.{ObjectWrite}
@@ -18,6 +19,7 @@ use Rattle.ps_model.specs.board.Grid.{Grid, cell_at, motion_in, slot_of}
 use Rattle.ps_model.specs.board.Movement.{is_number}
 use Rattle.ps_model.specs.meaning.Compiled.{CellWrite, is_held_in, slot_holds, slot_freed}
 use Rattle.ps_model.specs.meaning.Fitting.{same_motion}
+use Rattle.ps_laws.proofs.common.SameThings.{is_number-true}
 use Rattle.ps_match.specs.InRoom.{SlotHasRoom, own_write, slot_after, write_in_room}
 use Rattle.ps_match.proofs.OwnWrites.{after_value, room_after}
 use Rattle.ps_rows.specs.Planes.{has_cell, has_column}
@@ -29,7 +31,6 @@ use Rattle.ps_rows.specs.SlotsWritten.{IsLayerChange, goes_from, loses, one_goes
 use Rattle.ps_rows.specs.declared.changes.RowChange.{RowChange}
 use Rattle.ps_rows.proofs.Alike.{column_read}
 use Rattle.ps_rows.proofs.Bits.{has_column-zero}
-use Rattle.ps_rows.proofs.Listed.{number_is}
 use Rattle.ps_rows.proofs.Rests.{object_room, slot_read}
 use Rattle.ps_rows.proofs.Scans.{has_column-and, has_column-not, has_column-or}
 use Rattle.ps_rows.proofs.SlotChanges.{motion_bit, object_bit}
@@ -48,15 +49,11 @@ one_loses layer cell each s e = elim (cases_eq (each.layer).0 layer) [
   | inr other ↦ rw (ne_eqb (each.layer).0 layer other) refl
 ]
 
-and_false : (a : Bool) → (a && false) ≡ false
-and_false true = refl
-and_false false = refl
-
 pub goes_loses : (gone : List LayeredObject) (layer : ℕ) (cell : List Slot) (s : Slot) → get_or cell layer Bare ≡ s → one_goes gone layer cell ≡ loses gone layer s
 goes_loses [] layer cell Bare e = refl
 goes_loses [] layer cell (Holds object motion) e = refl
 goes_loses (each ∷ gone) layer cell Bare e =
-    ap₂ (λ (a b : Bool). a || b) (one_loses layer cell each Bare e ∙ and_false (nat_eq (each.layer).0 layer)) (goes_loses gone layer cell Bare e)
+    ap₂ (λ (a b : Bool). a || b) (one_loses layer cell each Bare e ∙ and-false (nat_eq (each.layer).0 layer)) (goes_loses gone layer cell Bare e)
 goes_loses (each ∷ gone) layer cell (Holds object motion) e =
     ap₂ (λ (a b : Bool). a || b) (one_loses layer cell each (Holds object motion) e) (goes_loses gone layer cell (Holds object motion) e)
 
@@ -134,7 +131,7 @@ module _ (table : List ℕ) (width height layers : ℕ) (words : List ℕ) (laye
   -- room
   room_of : (t : Slot) (o : ℕ) → SlotHasRoom (Some table) layer t → slot_number t ≡ Some o → slice_get table o ≡ Some layer
   room_of Bare o room e = absurd (none-some o e)
-  room_of (Holds object motion) o room e = ap (λ (n : ℕ). slice_get table n) (sym (same_Some object.0 o e)) ∙ number_is (slice_get table object.0) layer room
+  room_of (Holds object motion) o room e = ap (λ (n : ℕ). slice_get table n) (sym (same_Some object.0 o e)) ∙ is_number-true (slice_get table object.0) layer room
 
   has_room : (t : Slot) → ((o : ℕ) → slot_number t ≡ Some o → is_number (slice_get table o) layer ≡ true) → SlotHasRoom (Some table) layer t
   has_room Bare says = tt
@@ -150,7 +147,7 @@ module _ (table : List ℕ) (width height layers : ℕ) (words : List ℕ) (laye
   -- columns beyond the board
   unchanged : (a k n s : Bool) → k ≡ false → s ≡ false → ((a && not k) || (n && s)) ≡ a
   unchanged true k n s e f = rw e refl
-  unchanged false k n s e f = rw f (and_false n)
+  unchanged false k n s e f = rw f (and-false n)
 
   module _ (columns freed x p : ℕ) (before : Bool) (off : has_column columns x ≡ false) (none : has_column freed x ≡ false) where
     objects_beyond : (own : Option LayerWrite) → bit_after (objects_change own columns freed) p x before ≡ before

@@ -5,6 +5,7 @@ use Rattle.std.specs.List.{list_any}
 use Rattle.std.proofs.lemmas.Bool.{cases_Bool, cases_eq, cases_lt, eq-eqb, ne_eqb, false≢true}
 use Rattle.std.proofs.lemmas.Nat.{mod_below, mul-add-lt, div-mul-add, mod-mul-add}
 use Rattle.std.proofs.lemmas.Option.{same_Some, slice_get_within}
+use Rattle.std.proofs.Math.Bool.{and-true, and-false}
 use Rattle.ps_model.specs.declared.pieces.Motion.{Motion}
 use Rattle.ps_model.specs.declared.pieces.Slot.{Slot}
 use Rattle.ps_model.specs.declared.pieces.Slot.TheVariants.{Bare, Holds}
@@ -12,13 +13,14 @@ use Rattle.ps_model.specs.board.Attempts.{same_slot}
 use Rattle.ps_model.specs.board.Grid.{Grid, motion_in, slot_at, slot_of}
 use Rattle.ps_model.specs.board.Movement.{is_number}
 use Rattle.ps_model.specs.meaning.Fitting.{same_motion}
+use Rattle.ps_laws.proofs.common.SameThings.{same_slot-own}
 use Rattle.ps_rows.specs.Planes.{has_cell, has_column}
 use Rattle.ps_rows.specs.Members.{on_layer}
 use Rattle.ps_rows.specs.RowChanges.{AreRowsLeft, IsLayerWritten, bit_after}
 use Rattle.ps_rows.specs.Showing.{numbered, motion_plane, motion_planes, motions_from, object_shown, motion_shown, slot_shown, grid_shown, AreObjectsShown, AreMotionsShown}
 use Rattle.ps_rows.specs.SlotsWritten.{AreSlotsLeft, AreSlotsWritten, IsLayerChange, in_columns, slot_if, slot_number}
 use Rattle.ps_rows.specs.declared.changes.RowChange.{RowChange}
-use Rattle.ps_rows.proofs.Alike.{column_read, five_motion, slot_itself, slot_known}
+use Rattle.ps_rows.proofs.Alike.{column_read, five_motion, slot_known}
 use Rattle.ps_rows.proofs.LayerChanges.{number_shown}
 use Rattle.ps_rows.proofs.Listed.{find_listed, find_object, find_same}
 use Rattle.ps_rows.proofs.Moves.{first_motion-is, five_false, five_high, five_true, plane_high, plane_low}
@@ -26,14 +28,6 @@ use Rattle.ps_rows.proofs.Puts.{apart_from}
 use Rattle.ps_rows.proofs.Rests.{slot_read}
 use Rattle.ps_rows.proofs.MemberRanges.{listed_member, member_listed, not_listed}
 use Rattle.ps_rows.proofs.Whole.{columns_low}
-
-and_true : (a : Bool) → (a && true) ≡ a
-and_true true = refl
-and_true false = refl
-
-and_false : (a : Bool) → (a && false) ≡ false
-and_false true = refl
-and_false false = refl
 
 slot_again : (t : Slot) → slot_of (option_map numbered (slot_number t)) (motion_in t) ≡ t
 slot_again Bare = refl
@@ -67,14 +61,14 @@ module _ (table : List ℕ) (width height layers : ℕ) (words written : List �
   target_there : (c l : ℕ) → c % height ≡ row → l ≡ layer → target c l ≡ slot_if (has_column columns (c / height)) (after layer) (slot c layer)
   target_there c l e f =
       ap₂ (λ (a b : Bool). slot_if ((a && has_column columns (c / height)) && b) (after l) (slot c l)) (eq-eqb (c % height) row e) (eq-eqb l layer f)
-      ∙ ap (λ (b : Bool). slot_if b (after l) (slot c l)) (and_true (has_column columns (c / height)))
+      ∙ ap (λ (b : Bool). slot_if b (after l) (slot c l)) (and-true (has_column columns (c / height)))
       ∙ ap (λ (k : ℕ). slot_if (has_column columns (c / height)) (after k) (slot c k)) f
 
   target_elsewhere : (c l : ℕ) → (c % height ≡ row → l ≢ layer) → target c l ≡ slot c l
   target_elsewhere c l apart = elim (cases_eq (c % height) row) [
     | inl e ↦
         ap (λ (b : Bool). slot_if (chosen c && b) (after l) (slot c l)) (ne_eqb l layer (apart e))
-        ∙ ap (λ (b : Bool). slot_if b (after l) (slot c l)) (and_false (chosen c))
+        ∙ ap (λ (b : Bool). slot_if b (after l) (slot c l)) (and-false (chosen c))
     | inr n ↦ ap (λ (b : Bool). slot_if ((b && has_column columns (c / height)) && nat_eq l layer) (after l) (slot c l)) (ne_eqb (c % height) row n)
   ]
 
@@ -191,7 +185,7 @@ module _ (table : List ℕ) (width height layers : ℕ) (words written : List �
       let read : slot_at (g words) c l ≡ slot c l = slot_read table layers height words (width * height) c l inside below in
       let stays : slot c l ≡ after l (slot c l) =
       ap (λ (ws : List ℕ). slot_shown table height ws c l) (sym same) ∙ slot_now c l inside below ∙ ap₂ (λ (a b : Bool). slot_if (a && b) (after l) (slot c l)) here there in
-      ap (λ (s : Slot). same_slot s (after l s)) read ∙ ap (same_slot (slot c l)) (sym stays) ∙ slot_itself (slot c l)
+      ap (λ (s : Slot). same_slot s (after l s)) read ∙ ap (same_slot (slot c l)) (sym stays) ∙ same_slot-own (slot c l)
 
   module _ (all : AreSlotsLeft (g words) chosen (λ l. nat_eq l layer) after) where
     left_slot : (c : ℕ) → c < width * height → c % height ≡ row → slot_if (has_column columns (c / height)) (after layer) (slot c layer) ≡ slot c layer

@@ -6,13 +6,6 @@ use Rattle.std.proofs.lemmas.Bool.{cases_eq, cases_Bool, eqb-true, eq-eqb, ne_eq
 use Rattle.std.proofs.lemmas.Option.{none-some, same_Some}
 use Rattle.ps_model.specs.board.Movement.{is_number}
 
-pub number_is : (x : Option ℕ) (n : ℕ) → is_number x n ≡ true → x ≡ Some n
-number_is None n h = absurd (false≢true h)
-number_is (Some m) n h = ap Some (eqb-true m n h)
-
-pub is_number-own : (x : Option ℕ) (n : ℕ) → x ≡ Some n → is_number x n ≡ true
-is_number-own x n h = rw h (eq-eqb n n refl)
-
 -- two tests for equal numbers
 pub same_tests : (a b c d : ℕ) → (a ≡ b → c ≡ d) → (c ≡ d → a ≡ b) → nat_eq a b ≡ nat_eq c d
 same_tests a b c d f g = elim (cases_eq a b) [

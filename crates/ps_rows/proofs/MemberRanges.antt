@@ -8,9 +8,10 @@ use Rattle.std.proofs.lemmas.List.Elements.{filter-append}
 use Rattle.std.proofs.lemmas.List.FromFn.{map-range_with_len_more}
 use Rattle.std.proofs.lemmas.Option.{slice_get_within, slice_get-get_or}
 use Rattle.ps_model.specs.board.Movement.{is_number}
+use Rattle.ps_laws.proofs.common.SameThings.{is_number-true, is_number-own}
 use Rattle.ps_rows.specs.declared.members.MemberRange.{MemberRange}
 use Rattle.ps_rows.specs.Members.{on_layer, on_layer_below, IsRangeOf, AreRangesOf}
-use Rattle.ps_rows.proofs.Listed.{number_is, is_number-own, listed_passes, listed_range}
+use Rattle.ps_rows.proofs.Listed.{listed_passes, listed_range}
 
 -- an object is listed with its layer, and with no other
 pub member_listed : (table : List ℕ) (layer object : ℕ) → slice_get table object ≡ Some layer → list_any (nat_eq object) (on_layer table layer) ≡ true
@@ -22,7 +23,7 @@ member_listed table layer object h =
 pub listed_member : (table : List ℕ) (layer object : ℕ) → list_any (nat_eq object) (on_layer table layer) ≡ true → slice_get table object ≡ Some layer
 unfolding on_layer on_layer_below
 listed_member table layer object h =
-    number_is (slice_get table object) layer (listed_passes (λ o. is_number (slice_get table o) layer) (range_with_len 0 (length table)) object h)
+    is_number-true (slice_get table object) layer (listed_passes (λ o. is_number (slice_get table o) layer) (range_with_len 0 (length table)) object h)
 
 pub not_listed : (table : List ℕ) (layer object : ℕ) → (slice_get table object ≡ Some layer → ⊥) → list_any (nat_eq object) (on_layer table layer) ≡ false
 not_listed table layer object n = false_from_ne_true (list_any (nat_eq object) (on_layer table layer)) (λ h. n (listed_member table layer object h))

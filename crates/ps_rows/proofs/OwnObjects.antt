@@ -9,10 +9,10 @@ use Rattle.ps_model.specs.declared.pieces.Slot.TheVariants.{Bare, Holds}
 use Rattle.ps_model.specs.board.Grid.{object_in}
 use Rattle.ps_model.specs.board.Movement.{is_number}
 use Rattle.ps_model.specs.session.Frames.{objects_in}
+use Rattle.ps_laws.proofs.common.SameThings.{is_number-true}
 use Rattle.ps_board.specs.Rooms.{HasRoom}
 use Rattle.ps_rows.specs.Showing.{cell_shown, object_shown, slot_shown}
 use Rattle.ps_rows.proofs.Alike.{back, slot_object}
-use Rattle.ps_rows.proofs.Listed.{number_is}
 use Rattle.ps_rows.proofs.SameRows.{object_of_shown}
 use Rattle.ps_rows.proofs.Whole.{shown_room}
 
@@ -34,7 +34,7 @@ other_first : (table : List ℕ) (layer other : ℕ) (object : Option ObjectId) 
     own_of table layer (with_first object objects) ≡ own_of table layer objects
 unfolding with_first
 other_first table layer other None objects apart room = refl
-other_first table layer other (Some object) objects apart room = rw (number_is (slice_get table object.0) other room, ne_eqb other layer apart) refl
+other_first table layer other (Some object) objects apart room = rw (is_number-true (slice_get table object.0) other room, ne_eqb other layer apart) refl
 
 own_first : (table : List ℕ) (layer : ℕ) (object : Option ObjectId) (objects : List ObjectId) → IfSome object (λ it. HasRoom (Some table) it layer) → own_of table layer objects ≡ None →
     own_of table layer (with_first object objects) ≡ object

@@ -8,6 +8,7 @@ use Rattle.std.proofs.lemmas.Nat.{mod_below}
 use Rattle.std.proofs.lemmas.Option.{none-some, slice_get_within}
 use Rattle.std.proofs.lemmas.List.{length-take-le, get_or_append_left, get_or-take, get_or-append_right, get_or-replicate, get_or_past, length-replicate}
 use Rattle.std.proofs.lemmas.List.FromFn.{length-map-range_with_len}
+use Rattle.std.proofs.lemmas.Simd.{map-map}
 use Rattle.ps_model.specs.declared.pieces.Motion.{Motion}
 use Rattle.ps_model.specs.declared.pieces.Motion.TheVariants.{Still}
 use Rattle.ps_model.specs.declared.pieces.Slot.{Slot}
@@ -15,14 +16,15 @@ use Rattle.ps_model.specs.declared.pieces.Slot.TheVariants.{Bare}
 use Rattle.ps_model.specs.board.Grid.{slot_of, object_in, motion_in, slot_at_rest}
 use Rattle.ps_model.specs.board.Movement.{is_number}
 use Rattle.ps_model.specs.meaning.Fitting.{same_motion}
+use Rattle.ps_laws.proofs.common.SameThings.{is_number-own}
 use Rattle.ps_rows.specs.Planes.{has_cell}
 use Rattle.ps_rows.specs.Members.{on_layer}
 use Rattle.ps_rows.specs.Showing.{numbered, motions_from, object_shown, motion_shown, slot_shown, cell_shown, cells_shown, cleared_from, AreObjectsShown, AreMotionsShown}
 use Rattle.ps_rows.proofs.Bits.{has_column-zero}
-use Rattle.ps_rows.proofs.Listed.{find_same, find_object, find_listed, is_number-own}
+use Rattle.ps_rows.proofs.Listed.{find_same, find_object, find_listed}
 use Rattle.ps_rows.proofs.MemberRanges.{listed_member}
 use Rattle.ps_rows.proofs.Moves.{plane_low, not_still, first_motion-is}
-use Rattle.ps_rows.proofs.Tables.{tabled_at, tabled_same, tabled_alike, mapped_twice}
+use Rattle.ps_rows.proofs.Tables.{tabled_at, tabled_same, tabled_alike}
 
 -- reading ----------------------------------------------------------------------------------------------------------------
 
@@ -161,13 +163,13 @@ module _ (table : List ℕ) (layers height cells : ℕ) (words : List ℕ) (some
   unfolding cell_shown
   cell_rested c =
       tabled_same (slot_shown table height rested c) (λ l. slot_at_rest (slot_shown table height words c l)) layers (λ l on. slot_rested c l)
-      ∙ sym (mapped_twice slot_at_rest (slot_shown table height words c) (range_with_len 0 layers))
+      ∙ sym (map-map slot_at_rest (slot_shown table height words c) (range_with_len 0 layers))
 
   pub cells_rested : cells_shown table layers height rested cells ≡ map (map slot_at_rest) (cells_shown table layers height words cells)
   unfolding cells_shown
   cells_rested =
       tabled_same (cell_shown table layers height rested) (λ c. map slot_at_rest (cell_shown table layers height words c)) cells (λ c inside. cell_rested c)
-      ∙ sym (mapped_twice (map slot_at_rest) (cell_shown table layers height words) (range_with_len 0 cells))
+      ∙ sym (map-map (map slot_at_rest) (cell_shown table layers height words) (range_with_len 0 cells))
 
 -- nothing ----------------------------------------------------------------------------------------------------------------
 

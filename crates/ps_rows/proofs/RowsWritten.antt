@@ -1,17 +1,19 @@
 -- Layers of a row written one after the other come to its cells written.
-use Rattle.std.proofs.Common.{◌≡◌, ◌∙◌, ℕ, zero, suc, ◌+◌, ◌*◌, ◌/◌, ◌%◌, ◌<◌, ◌≤◌, inl, inr, Bool, true, false, not, ◌&&◌, ◌||◌, Option, List, [], ◌∷◌, length, get_or, refl, sym, ap, ap₂, arith, bit_and}
+use Rattle.std.proofs.Common.{◌≡◌, ◌∙◌, ℕ, zero, suc, ◌+◌, ◌*◌, ◌/◌, ◌%◌, ◌<◌, ◌≤◌, inl, inr, Bool, true, false, not, ◌&&◌, Option, List, [], ◌∷◌, length, get_or, refl, sym, ap, ap₂, arith, bit_and}
 use Rattle.std.specs.Prelude.{nat_eq, nat_lt, if◌then◌else◌}
 use Rattle.std.specs.List.{list_any, range_with_len}
-use Rattle.std.proofs.lemmas.Bool.{and_parts, cases_Bool, cases_eq, eq-eqb, ne_eqb, lt-ltb, le-ltb, or_parts, false≢true}
+use Rattle.std.proofs.lemmas.Bool.{and_parts, cases_Bool, cases_eq, eq-eqb, ne_eqb, lt-ltb, le-ltb, or_parts, false≢true, not-false}
 use Rattle.std.proofs.lemmas.List.{same_lists, get_or_default}
 use Rattle.ps_model.specs.declared.pieces.Slot.{Slot}
 use Rattle.ps_model.specs.declared.pieces.Slot.TheVariants.{Bare}
 use Rattle.ps_model.specs.board.Attempts.{Rewritten, same_cell, same_slot}
 use Rattle.ps_model.specs.board.Grid.{Grid, cell_at, slot_at}
 use Rattle.ps_model.specs.meaning.Compiled.{CellWrite, cell_written, written_from}
+use Rattle.ps_laws.proofs.common.SameThings.{same_slot-own}
 use Rattle.ps_board.specs.ColumnSets.{bit_is_set, column_at, word_columns}
 use Rattle.ps_board.proofs.ColumnLaws.{column_at-where}
 use Rattle.std.proofs.lemmas.Nat.{div_below}
+use Rattle.std.proofs.Math.Bool.{and-true, and-false}
 use Rattle.ps_match.specs.InRoom.{slot_after, write_in_room}
 use Rattle.ps_match.specs.Together.{cell_where, changes_where, is_on_row, rewritten_where}
 use Rattle.ps_match.specs.Touches.{touches}
@@ -21,17 +23,8 @@ use Rattle.ps_match.proofs.LeftAlone.{untouched}
 use Rattle.ps_match.proofs.RowWritten.{lt_next}
 use Rattle.ps_rows.specs.Planes.{has_column}
 use Rattle.ps_rows.specs.SlotsWritten.{AreSlotsLeft, AreSlotsWritten, in_columns}
-use Rattle.ps_rows.proofs.Alike.{slot_itself}
 use Rattle.ps_rows.proofs.Bits.{has_column-zero}
 use Rattle.ps_rows.proofs.Scans.{has_column-and}
-
-and_false : (a : Bool) → (a && false) ≡ false
-and_false true = refl
-and_false false = refl
-
-or_nothing : (a : Bool) → (a || false) ≡ a
-or_nothing true = refl
-or_nothing false = refl
 
 abbrev pub slot_when : Bool → Slot → Slot → Slot
 slot_when b new old = if b then new else old
@@ -42,7 +35,7 @@ module _ (g : Grid) (chosen : ℕ → Bool) (after : ℕ → Slot → Slot) wher
   pub slots_none : AreSlotsWritten g g chosen (λ l. nat_lt l 0) after
   slots_none = λ c l inside below.
       sym (ap (λ (b : Bool). slot_when (chosen c && b) (after l (slot_at g c l)) (slot_at g c l)) (le-ltb l 0 (omega arith))
-      ∙ ap (λ (b : Bool). slot_when b (after l (slot_at g c l)) (slot_at g c l)) (and_false (chosen c)))
+      ∙ ap (λ (b : Bool). slot_when b (after l (slot_at g c l)) (slot_at g c l)) (and-false (chosen c)))
 
   pub left_none : AreSlotsLeft g chosen (λ l. nat_lt l 0) after
   left_none = λ c l inside below here on. absurd (false≢true (sym (le-ltb l 0 (omega arith)) ∙ on))
@@ -52,7 +45,7 @@ module _ (g : Grid) (chosen : ℕ → Bool) (after : ℕ → Slot → Slot) wher
     slot_still c l inside below e =
         so c l inside below
         ∙ ap (λ (b : Bool). slot_when (chosen c && b) (after l (slot_at g c l)) (slot_at g c l)) (le-ltb l count (omega arith))
-        ∙ ap (λ (b : Bool). slot_when b (after l (slot_at g c l)) (slot_at g c l)) (and_false (chosen c))
+        ∙ ap (λ (b : Bool). slot_when b (after l (slot_at g c l)) (slot_at g c l)) (and-false (chosen c))
 
     pub slots_next : (next : Grid) → now.width ≡ g.width → now.height ≡ g.height → now.layers ≡ g.layers → AreSlotsWritten now next chosen (λ l. nat_eq l count) after →
         AreSlotsWritten g next chosen (λ l. nat_lt l (count + 1)) after
@@ -65,7 +58,7 @@ module _ (g : Grid) (chosen : ℕ → Bool) (after : ℕ → Slot → Slot) wher
               ∙ sym (ap (λ (b : Bool). slot_when (chosen c && b) (after l (slot_at g c l)) (slot_at g c l)) (lt-ltb l (count + 1) (omega arith)))
           | inr n ↦
               ap (λ (b : Bool). slot_when (chosen c && b) (after l (slot_at now c l)) (slot_at now c l)) (ne_eqb l count n)
-              ∙ ap (λ (b : Bool). slot_when b (after l (slot_at now c l)) (slot_at now c l)) (and_false (chosen c))
+              ∙ ap (λ (b : Bool). slot_when b (after l (slot_at now c l)) (slot_at now c l)) (and-false (chosen c))
               ∙ so c l inside below
               ∙ sym (ap (λ (b : Bool). slot_when (chosen c && b) (after l (slot_at g c l)) (slot_at g c l)) (lt_next l count n))
         ]
@@ -106,7 +99,7 @@ module _ (table : Option (List ℕ)) (write : CellWrite) (g : Grid) (chosen : �
         sym (ap (λ (s : Slot). slot_when (chosen c && nat_eq l layer) s (slot_at g c l)) same ∙ either (chosen c && nat_eq l layer) (slot_at g c l))
     | inr n ↦
         sym (ap (λ (b : Bool). slot_when (chosen c && b) (kept l (slot_at g c l)) (slot_at g c l)) (ne_eqb l layer n)
-        ∙ ap (λ (b : Bool). slot_when b (kept l (slot_at g c l)) (slot_at g c l)) (and_false (chosen c)))
+        ∙ ap (λ (b : Bool). slot_when b (kept l (slot_at g c l)) (slot_at g c l)) (and-false (chosen c)))
   ] where
     either : (b : Bool) (s : Slot) → slot_when b s s ≡ s
     either true s = refl
@@ -115,7 +108,7 @@ module _ (table : Option (List ℕ)) (write : CellWrite) (g : Grid) (chosen : �
   pub left_untouched : AreSlotsLeft g chosen (λ l. nat_eq l layer) kept
   left_untouched = λ c l inside below here on.
       let e : l ≡ layer = elim (cases_eq l layer) [ inl e ↦ e | inr n ↦ absurd (false≢true (sym (ne_eqb l layer n) ∙ on)) ] in
-      ap (same_slot (slot_at g c l)) (untouched table l write (slot_at g c l) (ap (touches write) e ∙ none)) ∙ slot_itself (slot_at g c l)
+      ap (same_slot (slot_at g c l)) (untouched table l write (slot_at g c l) (ap (touches write) e ∙ none)) ∙ same_slot-own (slot_at g c l)
 
 -- cells ------------------------------------------------------------------------------------------------------------------
 
@@ -162,10 +155,6 @@ none_of p a zero k low high none = absurd (omega arith)
 none_of p a (suc n) k low high none =
     let parts = or_parts (p a) (list_any p (range_with_len (a + 1) n)) none in
     elim (cases_eq k a) [ inl e ↦ ap p e ∙ parts.0 | inr other ↦ none_of p (a + 1) n k (omega arith) (omega arith) parts.1 ]
-
-not_false : (b : Bool) → not b ≡ false → b ≡ true
-not_false true e = refl
-not_false false e = absurd (false≢true (sym e))
 
 module _ (table : Option (List ℕ)) (write : CellWrite) (g next : Grid) (chosen : ℕ → Bool) (long : length g.cells ≡ g.width * g.height)
     (slots : (c : ℕ) → c < g.width * g.height → length (cell_at g c) ≡ g.layers) (next_long : length next.cells ≡ g.width * g.height)
@@ -218,7 +207,7 @@ module _ (table : Option (List ℕ)) (write : CellWrite) (g next : Grid) (chosen
       let inside : c < 0 + length g.cells = omega (arith, long, low) in
       let stays : (chosen c && not (same_cell (cell_at g c) (becomes (cell_at g c)))) ≡ false = none_of (changes_where g becomes chosen) 0 (length g.cells) c (omega arith) inside none in
       let same : same_cell (cell_at g c) (becomes (cell_at g c)) ≡ true =
-      not_false (same_cell (cell_at g c) (becomes (cell_at g c))) (ap (λ (b : Bool). b && not (same_cell (cell_at g c) (becomes (cell_at g c)))) (sym sure) ∙ stays) in
+      not-false (same_cell (cell_at g c) (becomes (cell_at g c))) (ap (λ (b : Bool). b && not (same_cell (cell_at g c) (becomes (cell_at g c)))) (sym sure) ∙ stays) in
       let deep : l < length (cell_at g c) = rw (slots c low) below in
       let plain : 0 + l ≡ l = omega arith in
       ap (λ (n : ℕ). same_slot (slot_at g c l) (after n (slot_at g c l))) (sym plain) ∙ slot_left (write_in_room table write) 0 (cell_at g c) l deep same
@@ -245,22 +234,18 @@ module _ (table : Option (List ℕ)) (write : CellWrite) (g next : Grid) (chosen
 
 -- sets of columns ---------------------------------------------------------------------------------------------------------
 
-and_true : (a : Bool) → (a && true) ≡ a
-and_true true = refl
-and_true false = refl
-
 column_of_word : (word x : ℕ) → x < 64 → has_column word x ≡ column_at (word_columns word) x
 unfolding has_column
 column_of_word word x low = sym (column_at-where (bit_is_set word) x low)
 
 module _ (width word full : ℕ) (columns : List Bool) (narrow : width ≤ 64) (wide : (x : ℕ) → x < 64 → has_column full x ≡ nat_lt x width) where
   pub set_within : (x : ℕ) → width ≤ x → x < 64 → has_column (bit_and word full) x ≡ false
-  set_within x far low = has_column-and word full x ∙ ap (λ (b : Bool). has_column word x && b) (wide x low ∙ le-ltb x width far) ∙ and_false (has_column word x)
+  set_within x far low = has_column-and word full x ∙ ap (λ (b : Bool). has_column word x && b) (wide x low ∙ le-ltb x width far) ∙ and-false (has_column word x)
 
   set_column : (x : ℕ) → x < width → word_columns word ≡ columns → has_column (bit_and word full) x ≡ column_at columns x
   set_column x near is =
       let low : x < 64 = omega arith in
-      has_column-and word full x ∙ ap (λ (b : Bool). has_column word x && b) (wide x low ∙ lt-ltb x width near) ∙ and_true (has_column word x) ∙ column_of_word word x low
+      has_column-and word full x ∙ ap (λ (b : Bool). has_column word x && b) (wide x low ∙ lt-ltb x width near) ∙ and-true (has_column word x) ∙ column_of_word word x low
       ∙ ap (λ (set : List Bool). column_at set x) is
 
   pub set_rewritten : (g : Grid) (becomes : List Slot → List Slot) (row : ℕ) → g.width ≡ width → row < g.height → length g.cells ≡ g.width * g.height → word_columns word ≡ columns →
@@ -278,5 +263,5 @@ module _ (width word full : ℕ) (columns : List Bool) (narrow : width ≤ 64) (
   set_empty g becomes row same under long is none =
       sym (where-none g becomes (in_columns g.height row (bit_and word full))
       (λ n low. ap (λ (w : ℕ). nat_eq (n % g.height) row && has_column w (n / g.height)) none ∙ ap (λ (b : Bool). nat_eq (n % g.height) row && b) (has_column-zero (n / g.height))
-      ∙ and_false (nat_eq (n % g.height) row)))
+      ∙ and-false (nat_eq (n % g.height) row)))
       ∙ set_rewritten g becomes row same under long is

@@ -1,8 +1,8 @@
 -- Columns in which the words of a row are the same in the planes of all objects show the same objects.
-use Rattle.std.proofs.Common.{◌≡◌, ℕ, zero, suc, ◌+◌, ◌-◌, ◌*◌, ◌^◌, ◌<◌, ◌≤◌, Bool, true, false, not, List, [], ◌∷◌, length, get_or, map, refl, sym, ap, ◌∙◌, arith, bit_and}
+use Rattle.std.proofs.Common.{◌≡◌, ℕ, zero, suc, ◌+◌, ◌-◌, ◌*◌, ◌^◌, ◌<◌, ◌≤◌, true, false, List, [], ◌∷◌, length, get_or, map, refl, sym, ap, ◌∙◌, arith, bit_and}
 use Rattle.std.specs.Prelude.{nat_lt, option_map}
 use Rattle.std.specs.List.{range_with_len}
-use Rattle.std.proofs.lemmas.Bool.{and_parts, false≢true, lt-ltb}
+use Rattle.std.proofs.lemmas.Bool.{and_parts, lt-ltb, not-true}
 use Rattle.std.proofs.lemmas.Nat.{mul-add-lt}
 use Rattle.std.proofs.lemmas.Option.{slice_get_within}
 use Rattle.ps_model.specs.declared.pieces.Slot.{Slot}
@@ -82,16 +82,12 @@ itself_alike width full unlike column across narrow fits wide none =
     ∙ has_column-and full (18446744073709551615 - unlike) column
     ∙ rw (wide column low, lt-ltb column width across, has_column-not unlike column fits low, none) refl
 
-not_true : (b : Bool) → not b ≡ true → b ≡ false
-not_true false h = refl
-not_true true h = absurd (false≢true h)
-
 like_column : (full unlike x : ℕ) → x < 64 → unlike < 2 ^ 64 → column_at (word_columns (bit_and full (18446744073709551615 - unlike))) x ≡ true → has_column unlike x ≡ false
 unfolding has_column
 like_column full unlike x low fits has =
     let both = sym (has_column-and full (18446744073709551615 - unlike) x) ∙ sym (column_at-where (bit_is_set (bit_and full (18446744073709551615 - unlike))) x low) ∙ has in
     let parts = and_parts (has_column full x) (has_column (18446744073709551615 - unlike) x) both in
-    not_true (has_column unlike x) (sym (has_column-not unlike x fits low) ∙ parts.1)
+    not-true (has_column unlike x) (sym (has_column-not unlike x fits low) ∙ parts.1)
 
 pub columns_alike : (table : List ℕ) (width height layers : ℕ) (words : List ℕ) (row column full unlike : ℕ) → row < height → column < width → width ≤ 64 → unlike < 2 ^ 64 →
     HasUnlikeOf height row (length table) words column unlike →

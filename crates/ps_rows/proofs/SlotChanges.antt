@@ -2,6 +2,7 @@
 use Rattle.std.proofs.Common.{◌≡◌, ◌∙◌, ℕ, inl, inr, Bool, true, false, not, ◌&&◌, ◌||◌, Option, Some, None, List, refl, sym, ap, ap₂}
 use Rattle.std.specs.Prelude.{unwrap_or, if◌then◌else◌}
 use Rattle.std.proofs.lemmas.Bool.{cases_Bool}
+use Rattle.std.proofs.Math.Bool.{and-true, and-false, or-false}
 use Rattle.ps_model.specs.declared.compiled.LayerWrite.{LayerWrite}
 use Rattle.ps_model.specs.declared.compiled.LayeredObject.{LayeredObject}
 use Rattle.ps_model.specs.declared.compiled.ObjectWrite.{ObjectWrite}
@@ -19,29 +20,15 @@ use Rattle.ps_rows.specs.Showing.{motion_plane}
 use Rattle.ps_rows.specs.SlotsWritten.{loses, slot_number, stands}
 use Rattle.ps_rows.proofs.Moves.{chosen_motion, not_still}
 
--- truth values -----------------------------------------------------------------------------------------------------------
-
-or_nothing : (a : Bool) → (a || false) ≡ a
-or_nothing true = refl
-or_nothing false = refl
-
-and_true : (a : Bool) → (a && true) ≡ a
-and_true true = refl
-and_true false = refl
-
-and_false : (a : Bool) → (a && false) ≡ false
-and_false true = refl
-and_false false = refl
-
 -- a slot that becomes another where it is chosen
 chosen_slot : (P : Slot → Bool) (s t : Slot) (b n : Bool) → P t ≡ n → ((P s && not b) || (n && b)) ≡ P (if b then t else s)
-chosen_slot P s t true n e = ap₂ (λ (x y : Bool). x || y) (and_false (P s)) (and_true n) ∙ sym e
-chosen_slot P s t false n e = ap₂ (λ (x y : Bool). x || y) (and_true (P s)) (and_false n) ∙ or_nothing (P s)
+chosen_slot P s t true n e = ap₂ (λ (x y : Bool). x || y) (and-false (P s)) (and-true n) ∙ sym e
+chosen_slot P s t false n e = ap₂ (λ (x y : Bool). x || y) (and-true (P s)) (and-false n) ∙ or-false (P s)
 
 -- and one that becomes such another that passes nothing
 cleared_slot : (P : Slot → Bool) (s t : Slot) (b : Bool) → P t ≡ false → ((P s && not b) || false) ≡ P (if b then t else s)
-cleared_slot P s t true e = or_nothing (P s && false) ∙ and_false (P s) ∙ sym e
-cleared_slot P s t false e = or_nothing (P s && true) ∙ and_true (P s)
+cleared_slot P s t true e = or-false (P s && false) ∙ and-false (P s) ∙ sym e
+cleared_slot P s t false e = or-false (P s && true) ∙ and-true (P s)
 
 alike_slot : (P : Slot → Bool) (s t u : Slot) (b : Bool) → P t ≡ P u → P (if b then t else s) ≡ P (if b then u else s)
 alike_slot P s t u true e = e
@@ -52,11 +39,11 @@ alike_slot P s t u false e = refl
 -- what passes nothing where it is bare
 freed_slot : (P : Slot → Bool) (gone : List LayeredObject) (layer : ℕ) (s : Slot) (b f : Bool) → P Bare ≡ false → f ≡ (b && loses gone layer s) →
     ((P s && not f) || false) ≡ P (if b then slot_freed gone layer s else s)
-freed_slot P gone layer s false f none e = rw e (or_nothing (P s && true) ∙ and_true (P s))
-freed_slot P gone layer Bare true f none e = rw e (or_nothing (P Bare && true) ∙ and_true (P Bare))
+freed_slot P gone layer s false f none e = rw e (or-false (P s && true) ∙ and-true (P s))
+freed_slot P gone layer Bare true f none e = rw e (or-false (P Bare && true) ∙ and-true (P Bare))
 freed_slot P gone layer (Holds object motion) true f none e = elim (cases_Bool (is_gone gone layer object)) [
-  | inl goes ↦ rw (e, goes) (or_nothing (P (Holds object motion) && false) ∙ and_false (P (Holds object motion)) ∙ sym none)
-  | inr stays ↦ rw (e, stays) (or_nothing (P (Holds object motion) && true) ∙ and_true (P (Holds object motion)))
+  | inl goes ↦ rw (e, goes) (or-false (P (Holds object motion) && false) ∙ and-false (P (Holds object motion)) ∙ sym none)
+  | inr stays ↦ rw (e, stays) (or-false (P (Holds object motion) && true) ∙ and-true (P (Holds object motion)))
 ]
 
 number_again : (s : Slot) (motion : Motion) → slot_number (slot_of (object_in s) motion) ≡ slot_number s
@@ -104,10 +91,10 @@ module _ (gone : List LayeredObject) (layer bits freed x : ℕ) (s : Slot) (goes
   -- a motion given to what is left
   motion_left : (first : ℕ) (m motion : Motion) (q kept : ℕ) (t : Slot) → motion_plane first m ≡ Some q → has_column kept x ≡ (b && stands t) →
       ((has_motion m s && not b) || (is_number (motion_plane first motion) q && has_column kept x)) ≡ has_motion m (if b then slot_of (object_in t) motion else s)
-  motion_left first m motion q kept (Holds object old) plane f = motion_put first m motion q kept (Holds object motion) plane refl (f ∙ and_true b)
+  motion_left first m motion q kept (Holds object old) plane f = motion_put first m motion q kept (Holds object motion) plane refl (f ∙ and-true b)
   motion_left first m motion q kept Bare plane f =
-      ap (λ (k : Bool). (has_motion m s && not b) || (is_number (motion_plane first motion) q && k)) (f ∙ and_false b)
-      ∙ ap (λ (k : Bool). (has_motion m s && not b) || k) (and_false (is_number (motion_plane first motion) q))
+      ap (λ (k : Bool). (has_motion m s && not b) || (is_number (motion_plane first motion) q && k)) (f ∙ and-false b)
+      ∙ ap (λ (k : Bool). (has_motion m s && not b) || k) (and-false (is_number (motion_plane first motion) q))
       ∙ cleared_slot (has_motion m) s Bare b (not_still first m q plane)
 
   motion_freed : (first : ℕ) (m : Motion) (q : ℕ) (t : Slot) → motion_plane first m ≡ Some q → motion_in t ≡ motion_in left →

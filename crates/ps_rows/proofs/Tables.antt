@@ -1,5 +1,5 @@
 -- Lists that are made from a function of the place.
-use Rattle.std.proofs.Common.{◌≡◌, ◌≢◌, ℕ, zero, suc, ◌+◌, ◌<◌, inl, inr, List, [], ◌∷◌, length, get_or, map, replicate, refl, sym, ap, ◌∙◌, arith}
+use Rattle.std.proofs.Common.{◌≡◌, ◌≢◌, ℕ, zero, suc, ◌+◌, ◌<◌, inl, inr, length, get_or, map, replicate, refl, sym, ◌∙◌, arith}
 use Rattle.std.specs.Prelude.{slice_set}
 use Rattle.std.specs.List.{range_with_len}
 use Rattle.std.proofs.lemmas.Bool.{cases_eq}
@@ -35,7 +35,3 @@ tabled_set f g n place inside agree =
 pub tabled_alike : {X : Type 0} (f : ℕ → X) (x : X) (a n : ℕ) → ((k : ℕ) → f k ≡ x) → map f (range_with_len a n) ≡ replicate n x
 tabled_alike f x a zero alike = refl
 tabled_alike f x a (suc n) alike = rw (alike a, tabled_alike f x (a + 1) n alike) refl
-
-pub mapped_twice : {X Y Z : Type 0} (g : Y → Z) (f : X → Y) (xs : List X) → map g (map f xs) ≡ map (λ x. g (f x)) xs
-mapped_twice g f [] = refl
-mapped_twice g f (x ∷ xs) = ap (λ r. g (f x) ∷ r) (mapped_twice g f xs)

@@ -16,6 +16,7 @@ use Rattle.ps_model.specs.board.Grid.{cell_at, motion_in}
 use Rattle.ps_model.specs.board.Movement.{is_number}
 use Rattle.ps_model.specs.meaning.Compiled.{slot_holds}
 use Rattle.ps_model.specs.meaning.Fitting.{same_motion}
+use Rattle.ps_laws.proofs.common.SameThings.{is_number-true}
 use Rattle.ps_board.specs.RowsOfGrids.{is_moving}
 use Rattle.ps_match.specs.Nowhere.{NoneMovesOnRow}
 use Rattle.ps_rows.specs.Planes.{has_column}
@@ -24,7 +25,6 @@ use Rattle.ps_rows.specs.RowTests.{IsRowOf, held, moved}
 use Rattle.ps_rows.specs.Showing.{motions_from, motion_plane, grid_shown, AreObjectsShown, AreMotionsShown}
 use Rattle.ps_rows.proofs.Absent.{not_marked}
 use Rattle.ps_rows.proofs.Bits.{has_column-zero}
-use Rattle.ps_rows.proofs.Listed.{number_is}
 use Rattle.ps_rows.proofs.Moves.{plane_low, plane_high}
 use Rattle.ps_rows.proofs.Scans.{other_row, moving_row_is, beyond_row, has_column-or}
 
@@ -75,7 +75,7 @@ module _ (table : List ℕ) (width height layers : ℕ) (words : List ℕ) (row 
       elim (cases_Bool (nat_lt layer layers && own)) [
         | inl both ↦
             let parts = and_parts (nat_lt layer layers) own both in
-            let below : object.0 < length table = slice_get_within table object.0 layer (number_is (slice_get table object.0) layer parts.1) in
+            let below : object.0 < length table = slice_get_within table object.0 layer (is_number-true (slice_get table object.0) layer parts.1) in
             not_marked table width height layers words index count row sought some narrow under shown counted marked both (clear below)
         | inr other ↦ other_row table width height layers words row some narrow under sought other
       ] in

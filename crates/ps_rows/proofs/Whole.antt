@@ -10,10 +10,10 @@ use Rattle.ps_model.specs.declared.pieces.Motion.TheVariants.{Still}
 use Rattle.ps_model.specs.declared.pieces.Slot.{Slot}
 use Rattle.ps_model.specs.board.Grid.{Grid, slot_of, with_slot, at_rest, empty_grid}
 use Rattle.ps_model.specs.board.Movement.{is_number}
+use Rattle.ps_laws.proofs.common.SameThings.{is_number-true, is_number-own}
 use Rattle.ps_board.specs.Rooms.{HasRoom, HaveRoom}
 use Rattle.ps_rows.specs.Members.{on_layer}
 use Rattle.ps_rows.specs.Showing.{numbered, motions_from, object_shown, cells_shown, cleared_from, with_slot_in, grid_shown}
-use Rattle.ps_rows.proofs.Listed.{number_is, is_number-own}
 use Rattle.ps_rows.proofs.Puts.{IsPut, cells_put}
 use Rattle.ps_rows.proofs.Rests.{object_room, cells_rested, empty_cells}
 
@@ -28,7 +28,7 @@ room_of table layer None object e room o h = absurd (none-some o h)
 room_of table layer (Some n) object e room o h =
     let P : Option ObjectId → Type 0 = λ x. IfSome x (λ put. HasRoom (Some table) put layer) in
     let has : HasRoom (Some table) (numbered n) layer = subst P (sym e) room in
-    ap (slice_get table) (sym (same_Some n o h)) ∙ number_is (slice_get table n) layer has
+    ap (slice_get table) (sym (same_Some n o h)) ∙ is_number-true (slice_get table n) layer has
 
 pub put_facts : (table : List ℕ) (width height layers : ℕ) (words : List ℕ) (cell layer : ℕ) (number : Option ℕ) (object : Option ObjectId) (motion : Motion) →
     0 < height → width ≤ 64 → cell < width * height → layer < layers → length words ≡ motions_from table layers * height → option_map numbered number ≡ object →

@@ -7,6 +7,7 @@ use Rattle.ps_model.specs.declared.compiled.LayerWrite.{LayerWrite}
 use Rattle.ps_model.specs.declared.compiled.ObjectWrite.{ObjectWrite}
 use Rattle.ps_model.specs.declared.compiled.ObjectWrite.TheVariants.{Put, Leave, Clear}
 use Rattle.ps_model.specs.board.Movement.{is_number}
+use Rattle.ps_board.specs.declared.one_word.TheConstants.{WORD_BITS}
 use Rattle.ps_rows.specs.Planes.{has_column}
 use Rattle.ps_rows.specs.Showing.{motion_plane, motion_planes}
 use Rattle.ps_rows.specs.declared.changes.RowChange.{RowChange}
@@ -30,7 +31,7 @@ row_after height row change words plane = let place = plane * height + row in sl
 -- the planes, of which each of these has its row changed
 pub record AreRowsChanged (height row : ℕ) (change : RowChange) (words written planes : List ℕ) : Type 0 where
   pub long : length written ≡ length words
-  pub there : (plane x : ℕ) → list_any (nat_eq plane) planes ≡ true → x < 64 →
+  pub there : (plane x : ℕ) → list_any (nat_eq plane) planes ≡ true → x < WORD_BITS →
       has_column (slice_index written (plane * height + row)) x ≡ bit_after change plane x (has_column (slice_index words (plane * height + row)) x)
   pub elsewhere : (plane y : ℕ) → y < height → (y ≡ row → list_any (nat_eq plane) planes ≡ false) →
       slice_index written (plane * height + y) ≡ slice_index words (plane * height + y)
@@ -38,9 +39,9 @@ pub record AreRowsChanged (height row : ℕ) (change : RowChange) (words written
 -- the planes, of which those of a layer's objects have their row changed, and those of its motions, from the first on
 pub record IsLayerWritten (height row : ℕ) (words written planes : List ℕ) (objects : RowChange) (first : ℕ) (motions : RowChange) : Type 0 where
   pub long : length written ≡ length words
-  pub objects_there : (plane x : ℕ) → list_any (nat_eq plane) planes ≡ true → x < 64 →
+  pub objects_there : (plane x : ℕ) → list_any (nat_eq plane) planes ≡ true → x < WORD_BITS →
       has_column (slice_index written (plane * height + row)) x ≡ bit_after objects plane x (has_column (slice_index words (plane * height + row)) x)
-  pub motions_there : (plane x : ℕ) → list_any (nat_eq plane) (motion_planes first) ≡ true → x < 64 →
+  pub motions_there : (plane x : ℕ) → list_any (nat_eq plane) (motion_planes first) ≡ true → x < WORD_BITS →
       has_column (slice_index written (plane * height + row)) x ≡ bit_after motions plane x (has_column (slice_index words (plane * height + row)) x)
   pub elsewhere : (plane y : ℕ) → y < height → (y ≡ row → list_any (nat_eq plane) planes ≡ false) → (y ≡ row → list_any (nat_eq plane) (motion_planes first) ≡ false) →
       slice_index written (plane * height + y) ≡ slice_index words (plane * height + y)
@@ -48,7 +49,7 @@ pub record IsLayerWritten (height row : ℕ) (words written planes : List ℕ) (
 -- the change leaves the row of a plane as it is
 abbrev pub IsRowLeft : ℕ → ℕ → RowChange → List ℕ → ℕ → Type 0
 IsRowLeft height row change words plane =
-    let word = slice_index words (plane * height + row) in (x : ℕ) → x < 64 → bit_after change plane x (has_column word x) ≡ has_column word x
+    let word = slice_index words (plane * height + row) in (x : ℕ) → x < WORD_BITS → bit_after change plane x (has_column word x) ≡ has_column word x
 
 -- and that of each of these planes
 abbrev pub AreRowsLeft : ℕ → ℕ → RowChange → List ℕ → List ℕ → Type 0

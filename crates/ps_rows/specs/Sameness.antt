@@ -1,6 +1,7 @@
 -- Two boards of the same size for the same game: where their words have the same cells.
 use Rattle.std.specs.Prelude.{◌≡◌, ◌<◌, ◌+◌, ◌*◌, ℕ, nat_eq, true, false, List, slice_index}
 use Rattle.std.specs.List.{list_any}
+use Rattle.ps_board.specs.declared.one_word.TheConstants.{WORD_BITS}
 use Rattle.ps_rows.specs.Planes.{has_column}
 use Rattle.ps_rows.specs.Showing.{slot_shown}
 
@@ -30,11 +31,11 @@ HasDifferences height row planes first second word = (plane x : ℕ) → plane <
 -- a word has each column that isn't in another word as one of them is, and hasn't that one
 abbrev pub HasUnlike : ℕ → ℕ → ℕ → Type 0
 HasUnlike of column word =
-    (has_column word column ≡ false) × ((x : ℕ) → x < 64 → has_column word x ≡ false → has_column of x ≡ has_column of column)
+    (has_column word column ≡ false) × ((x : ℕ) → x < WORD_BITS → has_column word x ≡ false → has_column of x ≡ has_column of column)
 
 -- a word has each column of a row that isn't in one of so many planes, the first ones, as one of them is, and hasn't that one
 abbrev pub HasUnlikeOf : ℕ → ℕ → ℕ → List ℕ → ℕ → ℕ → Type 0
-HasUnlikeOf height row planes words column word = (has_column word column ≡ false) × ((plane x : ℕ) → plane < planes → x < 64 → has_column word x ≡ false →
+HasUnlikeOf height row planes words column word = (has_column word column ≡ false) × ((plane x : ℕ) → plane < planes → x < WORD_BITS → has_column word x ≡ false →
     has_column (slice_index words (plane * height + row)) x ≡ has_column (slice_index words (plane * height + row)) column)
 
 -- a plane has the same words in both on each row that isn't in a set

@@ -13,6 +13,7 @@ use Rattle.ps_model.specs.declared.pieces.Motion.{Motion}
 use Rattle.ps_model.specs.meaning.Compiled.{CellWrite, is_held_in}
 use Rattle.ps_model.specs.meaning.Fitting.{same_motion}
 use Rattle.ps_match.specs.InRoom.{slot_after, write_in_room}
+use Rattle.ps_board.specs.declared.one_word.TheConstants.{WORD_BITS}
 use Rattle.ps_rows.specs.Planes.{has_column}
 use Rattle.ps_rows.specs.RowChanges.{bit_after}
 use Rattle.ps_rows.specs.Showing.{motion_plane, motions_from, slot_shown}
@@ -75,5 +76,5 @@ pub record IsLayerChange (table : List ℕ) (width height : ℕ) (words : List �
       bit_after motions q (cell / height) (same_motion m (motion_in slot)) ≡ same_motion m (motion_in (slot_if (has_column columns (cell / height)) becomes slot))
   pub room : (cell o : ℕ) → cell < width * height → cell % height ≡ row →
       slot_number (slot_if (has_column columns (cell / height)) becomes (slot_shown table height words cell layer)) ≡ Some o → slice_get table o ≡ Some layer
-  pub beyond_objects : (x p : ℕ) (before : Bool) → width ≤ x → x < 64 → bit_after objects p x before ≡ before
-  pub beyond_motions : (x p : ℕ) (before : Bool) → width ≤ x → x < 64 → bit_after motions p x before ≡ before
+  pub beyond_objects : (x p : ℕ) (before : Bool) → width ≤ x → x < WORD_BITS → bit_after objects p x before ≡ before
+  pub beyond_motions : (x p : ℕ) (before : Bool) → width ≤ x → x < WORD_BITS → bit_after motions p x before ≡ before

@@ -4,6 +4,7 @@ ghost use Rattle.std.specs.Prelude.{◌≡◌, ◌+◌, ◌*◌, ◌/◌, ◌%�
 ghost use Rattle.std.specs.Prelude.{slice_index, slice_set, true, vec_len};
 ghost use Rattle.ps_model.specs.board.Movement.{is_number};
 ghost use Rattle.ps_model.specs.declared.limits.TheConstants.{SIDE_LIMIT};
+ghost use Rattle.ps_board.specs.declared.one_word.TheConstants.{WORD_BITS};
 ghost use Rattle.ps_rows.specs.Planes.{
   HavePlanes,
   has_cell,
@@ -17,7 +18,7 @@ ghost use Rattle.ps_rows.specs.RowIndex.{AreRowsMarked};
 ghost use Rattle.ps_rows.specs.Sameness.{DifferOnlyOnRows};
 ghost use Rattle.ps_rows.specs.Showing.{cleared_from};
 
-use ps_board::Columns;
+use ps_board::{Columns, OneWord};
 use ps_model::Memory;
 use std::alloc::Global;
 
@@ -38,7 +39,7 @@ pub struct Planes {
 
 /// Whether a word has a column.
 pub fn has_column(word: u64, column: u32) -> bool
-    requires { column < 64 }
+    requires { column < WORD_BITS }
     ensures { result ≡ has_column word column }
 {
     (word >> column) & 1 == 1
@@ -46,7 +47,7 @@ pub fn has_column(word: u64, column: u32) -> bool
 
 /// A word with a column, or without it.
 fn with_column(word: u64, column: u32, on: bool) -> u64
-    requires { column < 64 }
+    requires { column < WORD_BITS }
     ensures { result ≡ with_column word column on }
 {
     if on {
@@ -165,7 +166,7 @@ impl Planes {
 
     /// Whether a plane has a cell.
     pub fn has_cell(&self, cell: u32, plane: u32) -> bool
-        requires column { cell / self.now.height < 64 }
+        requires column { cell / self.now.height < SIDE_LIMIT }
         requires plane { (plane + 1) * self.now.height ≤ vec_len self.now.words }
         ensures { result ≡ has_cell self.now.height self.now.words.items cell plane }
     {
@@ -174,7 +175,7 @@ impl Planes {
 
     /// Puts a cell into a plane, or takes it away.
     fn set_cell(&mut self, cell: u32, plane: u32, on: bool)
-        requires column { cell / self.old.height < 64 }
+        requires column { cell / self.old.height < SIDE_LIMIT }
         requires plane { (plane + 1) * self.old.height ≤ vec_len self.old.words }
         ensures words { self.new.words.items ≡ with_cell self.old.height self.old.words.items cell plane on }
         ensures height { self.new.height ≡ self.old.height }
@@ -187,7 +188,7 @@ impl Planes {
 
     /// Puts a cell into the chosen one of these planes, if one is chosen, and takes it away from the others.
     pub fn choose_plane(&mut self, cell: u32, planes: &[u32], chosen: Option<u32>)
-        requires column { cell / self.old.height < 64 }
+        requires column { cell / self.old.height < SIDE_LIMIT }
         requires planes { HavePlanes self.old.height self.old.words.items planes.now }
         ensures words { let p = self.old in
             self.new.words.items ≡ with_cell_in p.height cell chosen p.words.items planes.now }
@@ -202,7 +203,7 @@ impl Planes {
     /// The first of these planes that has a cell.
     #[tactic(auto, using(crate::proofs::Steps::found_nowhere))]
     pub fn first_plane(&self, cell: u32, planes: &[u32]) -> Option<u32>
-        requires column { cell / self.now.height < 64 }
+        requires column { cell / self.now.height < SIDE_LIMIT }
         requires planes { HavePlanes self.now.height self.now.words.items planes.now }
         ensures { result ≡ find (has_cell self.now.height self.now.words.items cell) planes.now }
     {
@@ -280,7 +281,7 @@ impl Planes {
     }
 
     /// Makes rows of a plane of others the same, those in a set that are marked on either side.
-    fn copy_rows_of(&self, other: &mut Planes, plane: u32, rows: Columns)
+    fn copy_rows_of(&self, other: &mut Planes, plane: u32, rows: Columns<OneWord>)
         requires height { other.old.height ≡ self.now.height }
         requires here { (plane + 1) * self.now.height ≤ vec_len self.now.words }
         requires there { (plane + 1) * self.now.height ≤ vec_len other.old.words }
@@ -300,7 +301,7 @@ impl Planes {
 
     /// Makes rows of so many planes of others, the first ones, the same, those in a set. What neither side has marked
     /// is passed over.
-    pub fn copy_rows(&self, other: &mut Planes, planes: u32, rows: Columns)
+    pub fn copy_rows(&self, other: &mut Planes, planes: u32, rows: Columns<OneWord>)
         requires height { other.old.height ≡ self.now.height }
         requires here { planes * self.now.height ≤ vec_len self.now.words }
         requires there { planes * self.now.height ≤ vec_len other.old.words }

@@ -5,6 +5,7 @@ use ps_board::{Board, Columns, ListBoard};
 use ps_match::Scan;
 use ps_model::{
     Direction, LayerId, LayerWrite, LayeredObject, Memory, Motion, ObjectId, ObjectWrite,
+    SIDE_LIMIT,
 };
 use ps_program::CellWrite;
 use ps_text::List;
@@ -57,13 +58,13 @@ fn write_row(rt: &impl Abort, alloc: Global, write: &CellWrite, changes: bool) -
     rows.put(7, HIGHER, Some(ObjectId(0)), Motion::Still);
     list.put(7, HIGHER, Some(ObjectId(0)), Motion::Still);
     let columns = Columns::below(3);
-    assert_eq!(rt; rows.rewrite(write, 1, columns), changes);
-    assert_eq!(rt; list.rewrite(write, 1, columns), changes);
+    assert_eq!(rt; rows.rewrite(write, 1, &columns), changes);
+    assert_eq!(rt; list.rewrite(write, 1, &columns), changes);
     for cell in 0..8u32 {
         assert_eq!(rt; rows.object(cell, HIGHER), list.object(cell, HIGHER));
         assert_eq!(rt; rows.motion(cell, HIGHER), list.motion(cell, HIGHER));
     }
-    assert!(rt; !rows.rewrite(write, 1, Columns::none()));
+    assert!(rt; !rows.rewrite(write, 1, &Columns::none()));
     Ok(())
 }
 
@@ -163,8 +164,8 @@ fn an_object_that_goes_and_is_put_again_changes_nothing(rt: HostRuntime) -> Resu
     let put = ObjectWrite::Put(ObjectId(2));
     let write = write_of(rt.alloc(), Some(ObjectId(2)), put, None)?;
     let second = Columns::none().with(1, true);
-    assert!(&rt; !board.rewrite(&write, 1, second));
-    assert!(&rt; board.rewrite(&write, 0, second));
+    assert!(&rt; !board.rewrite(&write, 1, &second));
+    assert!(&rt; board.rewrite(&write, 0, &second));
     Ok(())
 }
 
@@ -173,6 +174,6 @@ fn what_has_no_room_is_not_put(rt: HostRuntime) -> Result<(), Fail> {
     let mut board = RowBoard::try_empty(rt.alloc(), 4, 2, 2, &OWN_LAYERS)?;
     let put = ObjectWrite::Put(ObjectId(1));
     let write = write_of(rt.alloc(), None, put, None)?;
-    assert!(&rt; !board.rewrite(&write, 1, Columns::below(64)));
+    assert!(&rt; !board.rewrite(&write, 1, &Columns::below(SIDE_LIMIT)));
     Ok(())
 }

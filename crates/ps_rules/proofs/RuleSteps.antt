@@ -7,19 +7,12 @@ use Rattle.ps_model.specs.text.Faults.{first_fault}
 use Rattle.ps_model.specs.rules.RuleShape.{RuleShape}
 use Rattle.ps_model.specs.rules.RuleFaults.{Above, faults_of_rule}
 use Rattle.ps_model.specs.rules.SourceRules.{SourceRule}
+use Rattle.ps_laws.proofs.common.FirstFaults.{first-front, none-first}
 use Rattle.ps_rules.specs.FaultsShown.{fault_at, shape_faults, name_faults, last_faults}
-
-pub first-some : (faults others : List Fault) (fault : Fault) → first_fault faults ≡ Some fault → first_fault (faults ++ others) ≡ Some fault
-first-some [] others fault e = cc
-first-some (f ∷ faults) others fault e = e
 
 pub first-none : (faults others : List Fault) → first_fault faults ≡ None → first_fault (faults ++ others) ≡ first_fault others
 first-none [] others e = refl
 first-none (f ∷ faults) others e = cc
-
-pub none-of : (faults : List Fault) → first_fault faults ≡ None → faults ≡ []
-none-of [] e = refl
-none-of (f ∷ faults) e = cc
 
 module _ (above : Above) (line : ℕ) (shape : RuleShape) (rule : SourceRule) where
   -- all of them are the three parts
@@ -27,11 +20,11 @@ module _ (above : Above) (line : ℕ) (shape : RuleShape) (rule : SourceRule) wh
   three-parts = simp append_assoc
 
   pub in_shape : (fault : Fault) → first_fault (shape_faults line shape) ≡ Some fault → first_fault (faults_of_rule above line shape rule) ≡ Some fault
-  in_shape fault e = ap first_fault three-parts ∙ first-some (shape_faults line shape) _ fault e
+  in_shape fault e = ap first_fault three-parts ∙ first-front (shape_faults line shape) _ fault e
 
   pub in_names : (fault : Fault) → first_fault (shape_faults line shape) ≡ None → first_fault (name_faults line rule) ≡ Some fault
       → first_fault (faults_of_rule above line shape rule) ≡ Some fault
-  in_names fault s e = ap first_fault three-parts ∙ first-none (shape_faults line shape) _ s ∙ first-some (name_faults line rule) _ fault e
+  in_names fault s e = ap first_fault three-parts ∙ first-none (shape_faults line shape) _ s ∙ first-front (name_faults line rule) _ fault e
 
   pub at_last : first_fault (shape_faults line shape) ≡ None → first_fault (name_faults line rule) ≡ None
       → first_fault (faults_of_rule above line shape rule) ≡ first_fault (last_faults above line shape rule)
@@ -59,4 +52,4 @@ module _ (above : Above) (line : ℕ) (shape : RuleShape) (rule : SourceRule) wh
 pub rule-fine : (above : Above) (line : ℕ) (shape : RuleShape) (rule other : SourceRule) (kind : Option FaultKind) → kind ≡ None
     → option_map (fault_at line) kind ≡ first_fault (faults_of_rule above line shape rule) → rule ≡ other → faults_of_rule above line shape other ≡ []
 rule-fine above line shape rule other (Some kind) none e same = cc
-rule-fine above line shape rule other None none e same = ap (faults_of_rule above line shape) (sym same) ∙ none-of (faults_of_rule above line shape rule) (sym e)
+rule-fine above line shape rule other None none e same = ap (faults_of_rule above line shape) (sym same) ∙ none-first (faults_of_rule above line shape rule) (sym e)

@@ -16,7 +16,7 @@ use Rattle.ps_model.specs.game.Headline.{Answer, Answers, GoesOn, IsFront, IsCut
 use Rattle.ps_model.specs.game.Tellings.{ReaderCalls, Unasked, Asked, Told, Call, read, read_before}
 use Rattle.ps_laws.specs.AlikeScripts.{SameRuns}
 use Rattle.ps_laws.specs.Fronts.{whole_front}
-use Rattle.ps_laws.proofs.keys.KeysInPieces.{keys_in_pieces, held_is_silent}
+use Rattle.ps_laws.proofs.keys.KeysInPieces.{keys_of-append}
 use Rattle.ps_run.specs.declared.faults.RunFault.{RunFault}
 use Rattle.ps_run.specs.declared.faults.RunFault.TheVariants as fault
 use Rattle.ps_run.specs.Runs.{IsSo, StopsInPlay}
@@ -58,12 +58,8 @@ same_whole : (a b : Script) → SameRuns a b → (reading : ReaderCalls) (wrote 
 same_whole a b same Unasked wrote whole = tt
 same_whole a b same (Asked earlier last) wrote (rest, is) = (rest, is ∙ ap (λ text. text ++ rest) (same_texts a b same (concat earlier)))
 
--- the keys of bytes are the first of the keys of more bytes
-keys_of_more : (first second : List ℕ) → keys_of (first ++ second) ≡ keys_of first ++ keys_of (held first ++ second)
-keys_of_more first second = keys_in_pieces first second ∙ ap (λ keys. keys ++ keys_of (held first ++ second)) (held_is_silent first).1
-
 first_keys : (first second : List ℕ) → take (length (keys_of first)) (keys_of (first ++ second)) ≡ keys_of first
-first_keys first second = rw (keys_of_more first second) (grind (arith, common_steps))
+first_keys first second = rw (keys_of-append first second) (grind (arith, common_steps))
 
 all_keys : (bytes : List ℕ) → take (length (keys_of bytes)) (keys_of bytes) ≡ keys_of bytes
 all_keys bytes = grind (arith, common_steps)
@@ -75,7 +71,7 @@ stops a b same told so =
     let before : so.behind ≡ read_before told.reading ++ so.enough.0 = so.enough.1 in
     let first : take (length (keys_of so.behind)) (keys_of (read told.reading)) ≡ keys_of so.behind = rw split (first_keys so.behind so.within.0) in
     let long : length (keys_of so.behind) ≡ length (keys_of (read_before told.reading)) + length (keys_of (held (read_before told.reading) ++ so.enough.0)) =
-    ap (λ bytes. length (keys_of bytes)) before ∙ (ap length (keys_of_more (read_before told.reading) so.enough.0) ∙ length-append (keys_of (read_before told.reading)) (keys_of (held (read_before told.reading) ++ so.enough.0))) in
+    ap (λ bytes. length (keys_of bytes)) before ∙ (ap length (keys_of-append (read_before told.reading) so.enough.0) ∙ length-append (keys_of (read_before told.reading)) (keys_of (held (read_before told.reading) ++ so.enough.0))) in
     record {
       reads = same_reading a b same told.reading told.left so.reads;
       reader_is_well = so.reader_is_well;

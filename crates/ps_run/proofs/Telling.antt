@@ -2,7 +2,7 @@
 use Rattle.std.proofs.Common.{◌≡◌, ◌∙◌, ℕ, zero, suc, ◌+◌, ◌<◌, ◌≤◌, Bool, false, true, List, [], ◌∷◌, ◌++◌, length, Option, Some, None, refl, sym, ap, append_assoc, append-nil, arith}
 use Rattle.std.specs.List.{All, concat}
 use Rattle.std.proofs.lemmas.List.{length-append}
-use Rattle.std.proofs.lemmas.List.Elements.{All-append, All-head, All-tail}
+use Rattle.std.proofs.lemmas.List.Elements.{All-append}
 use Rattle.std.proofs.lemmas.List.Folds.{concat-append}
 use Rattle.ps_model.specs.declared.limits.TheConstants.{READ_LIMIT, CALL_LIMIT}
 use Rattle.ps_model.specs.board.Turns.{Script}
@@ -11,6 +11,7 @@ use Rattle.ps_model.specs.game.Headline.{IsPiece, GoesOn, AsksInTurn, ReadsInTur
 use Rattle.ps_model.specs.game.Tellings.{ReaderState, WriterState, Call, Gives, Fails, ReaderCalls, Unasked, Asked, Told, Tells, IsLeft, CountsCalls, bytes_of_call, read, has_failing_call, last_behind, empty_pieces, empty_reads, idle_writes}
 use Rattle.ps_laws.specs.Fronts.{session_of, whole_front}
 use Rattle.ps_laws.proofs.keys.Fronts.{output_of_unended}
+use Rattle.ps_laws.proofs.runs.RunsNotAllowed.{no_empty_piece}
 use Rattle.ps_devices.specs.Devices.{Grows, Loses, IsSpent}
 use Rattle.ps_devices.proofs.Pieces.{loses_twice}
 use Rattle.ps_run.specs.Runs.{HasAsked, IsAsked, call_count}
@@ -103,12 +104,6 @@ pub counts_so_far : (script : Script) (before after count : ℕ) (reading : Read
 counts_so_far script before after count Unasked asked counted calls = omega arith
 counts_so_far script before after count (Asked earlier (Gives piece)) asked counted calls = rw counted calls
 counts_so_far script before after count (Asked earlier Fails) asked counted calls = absurd asked
-
--- no piece is empty
-no_empty_piece : (pieces : List (List ℕ)) → All IsPiece pieces → empty_pieces pieces ≡ 0
-no_empty_piece [] all = refl
-no_empty_piece ([] ∷ pieces) all = let piece : IsPiece [] = All-head IsPiece [] pieces all in let none : 1 ≤ 0 = piece.some in absurd (omega (arith, none))
-no_empty_piece ((byte ∷ bytes) ∷ pieces) all = no_empty_piece pieces (All-tail IsPiece (byte ∷ bytes) pieces all)
 
 not_empty : (piece : List ℕ) → 1 ≤ length piece → empty_pieces (piece ∷ []) ≡ 0
 not_empty [] some = let none : 1 ≤ 0 = some in absurd (omega (arith, none))

@@ -8,9 +8,10 @@ use Rattle.ps_board.specs.Rows.{AreAlike}
 use Rattle.ps_board.proofs.ColumnLaws.{column_at-beyond, column_at-where}
 use Rattle.ps_model.specs.board.Grid.{Grid}
 use Rattle.ps_model.specs.names.Names.{Names}
+use Rattle.ps_board.proofs.Taken.{was_in}
 use Rattle.ps_screen.specs.PlainRows.{AreDrawn, IsOutside, column_bytes}
 use Rattle.ps_screen.proofs.KeptRows.{same_character}
-use Rattle.ps_screen.proofs.Taken.{not_left, was_in}
+use Rattle.ps_screen.proofs.Taken.{not_left}
 
 -- the group of a column
 abbrev pub group_of : List Bool → List Bool → ℕ → List Bool

@@ -2,7 +2,6 @@
 use Rattle.std.proofs.Common.{◌≡◌, ◌∙◌, ℕ, suc, zero, ◌+◌, ◌<◌, ◌≤◌, ◌||◌, ◌&&◌, ◌⊎◌, inl, inr, not, Bool, true, false, List, ◌∷◌, length, refl, sym, ap, arith}
 use Rattle.std.specs.Prelude.{nat_eq, filter}
 use Rattle.std.specs.List.{range_with_len}
-use Rattle.std.proofs.Math.Bool.{or-true}
 use Rattle.std.proofs.lemmas.Bool.{and_parts, cases_Bool, cases_eq, cases_lt, eq-eqb, false≢true, ne_eqb}
 use Rattle.ps_model.specs.declared.limits.TheConstants.{SIDE_LIMIT}
 use Rattle.ps_board.specs.ColumnSets.{column_at, columns_without, set_columns}
@@ -15,10 +14,6 @@ not_left columns left first x is low none = elim (cases_eq x first) [
   | inl e ↦ inl e
   | inr apart ↦ inr (taken_out columns left first x is low ∙ ap (λ (b : Bool). b || column_at left x) (ne_eqb x first apart) ∙ none)
 ]
-
--- a column that is left was in the set
-pub was_in : (columns left : List Bool) (first x : ℕ) → set_columns columns ≡ first ∷ set_columns left → x < SIDE_LIMIT → column_at left x ≡ true → column_at columns x ≡ true
-was_in columns left first x is low some = taken_out columns left first x is low ∙ ap (λ (b : Bool). nat_eq x first || b) some ∙ or-true (nat_eq x first)
 
 -- so was the one taken out, and it isn't left
 pub first_was_in : (columns left : List Bool) (first : ℕ) → set_columns columns ≡ first ∷ set_columns left → first < SIDE_LIMIT → column_at columns first ≡ true

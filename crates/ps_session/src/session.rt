@@ -57,7 +57,7 @@ impl<'g, B: Board> Session<'g, B> {
     pub fn start<R: Rules<B>>(
         alloc: Global,
         game: SessionGame<'g>,
-        rules: &mut TurnRules<R>,
+        rules: &mut TurnRules<B, R>,
         output: &mut OutputText,
     ) -> Result<Session<'g, B>, Memory>
         ensures game { IfOk result (λ session. session.game ≡ game.entry) }
@@ -75,7 +75,7 @@ impl<'g, B: Board> Session<'g, B> {
         let mut stage = Stage::new(alloc, game);
         stage.tell_title()?;
         let location = stage.enter(rules, 0)?;
-        output.add(stage.text())?;
+        stage.move_text(output)?;
         Ok(Session {
             stage,
             location,
@@ -91,7 +91,7 @@ impl<'g, B: Board> Session<'g, B> {
     /// `Memory`: the session and the output are as before, and the same key may be tried again.
     pub fn key<R: Rules<B>>(
         &mut self,
-        rules: &mut TurnRules<R>,
+        rules: &mut TurnRules<B, R>,
         key: Key,
         output: &mut OutputText,
     ) -> Result<Phase, Memory>
@@ -120,7 +120,7 @@ impl<'g, B: Board> Session<'g, B> {
         let Some(next) = next else {
             return Ok(self.phase());
         };
-        if let Err(Memory) = output.add(self.stage.text()) {
+        if let Err(Memory) = self.stage.move_text(output) {
             give_up(&mut self.stage, next);
             return Err(Memory);
         }

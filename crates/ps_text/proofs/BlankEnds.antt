@@ -9,12 +9,12 @@ use Rattle.ps_model.specs.text.Words.{is_blank}
 use Rattle.ps_model.specs.text.Lines.{without_blank_end}
 
 -- the blanks in front
-off_front : (byte : ℕ) (bytes : List ℕ) → is_blank byte ≡ true → drop (prefix_len is_blank (byte ∷ bytes)) (byte ∷ bytes) ≡ drop (prefix_len is_blank bytes) bytes
+pub off_front : (byte : ℕ) (bytes : List ℕ) → is_blank byte ≡ true → drop (prefix_len is_blank (byte ∷ bytes)) (byte ∷ bytes) ≡ drop (prefix_len is_blank bytes) bytes
 off_front byte bytes h =
     let one : prefix_len is_blank (byte ∷ bytes) ≡ suc (prefix_len is_blank bytes) = grind (arith, common_steps) in
     rw one refl
 
-none_off : (byte : ℕ) (bytes : List ℕ) → is_blank byte ≡ false → drop (prefix_len is_blank (byte ∷ bytes)) (byte ∷ bytes) ≡ byte ∷ bytes
+pub none_off : (byte : ℕ) (bytes : List ℕ) → is_blank byte ≡ false → drop (prefix_len is_blank (byte ∷ bytes)) (byte ∷ bytes) ≡ byte ∷ bytes
 none_off byte bytes h =
     let none : prefix_len is_blank (byte ∷ bytes) ≡ 0 = grind (arith, common_steps) in
     rw none refl

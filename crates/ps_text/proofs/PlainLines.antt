@@ -1,11 +1,12 @@
 -- A line with blanks for its comments: it is still a text, as long as it was, and each byte that is no blank is the line's own.
-use Rattle.std.proofs.Common.{◌≡◌, ℕ, zero, suc, ◌<◌, ◌≤◌, ◌==◌, ◌⊎◌, inl, inr, ◌&&◌, ◌||◌, if◌then◌else◌, Bool, true, false, List, [], ◌∷◌, ◌++◌, length, get_or, replicate, refl, ap, sym, subst, arith}
+use Rattle.std.proofs.Common.{◌≡◌, ℕ, zero, suc, ◌<◌, ◌≤◌, ◌==◌, ◌⊎◌, inl, inr, ◌||◌, if◌then◌else◌, Bool, true, false, List, [], ◌∷◌, ◌++◌, length, get_or, replicate, refl, ap, sym, subst, arith}
 use Rattle.std.specs.Prelude.{nat_eq, nat_lt}
 use Rattle.std.specs.Str.{IsUtf8}
 use Rattle.std.proofs.Math.Utf8.{scalar, scalars, encode, encodes}
 use Rattle.std.proofs.lemmas.Bool.Decides.{nat_tests}
 use Rattle.std.proofs.lemmas.List.{append-nil}
 use Rattle.std.proofs.lemmas.Str.{IsUtf8-nil, IsUtf8-append, IsUtf8-encode, IsUtf8-from_ascii, encode_ascii, inside_one}
+use Rattle.std.proofs.lemmas.Bool.{and_parts, cases_lt}
 use Rattle.ps_model.specs.text.Words.{is_blank}
 use Rattle.ps_text.specs.PlainLines.{IsPlain}
 use Rattle.ps_model.specs.text.Lines.{without_comments, depth_behind, in_comment}
@@ -60,22 +61,19 @@ plain_ascii : (test : Bool) (byte : ℕ) → byte < 128 → (if test then 32 els
 plain_ascii true byte h = omega arith
 plain_ascii false byte h = h
 
-order : (n m : ℕ) → (n < m) ⊎ (m ≤ n)
-order n m = grind arith
-
 in_range : (place : ℕ) (depth : ℕ) → (nat_lt 0 depth ≡ true) ⊎ (depth ≡ 0)
 in_range place zero = inr refl
 in_range place (suc depth) = inl (grind (arith, nat_tests))
 
 high_code : (c : ℕ) → 128 ≤ c → AreHigh (encode c)
-high_code c h i l = elim (order (get_or (encode c) i 0) 128) [
+high_code c h i l = elim (cases_lt (get_or (encode c) i 0) 128) [
   | inl low ↦ let same : c ≡ get_or (encode c) i 0 = inside_one c [] (encode c) i (sym (append-nil (encode c))) l low in absurd (omega arith)
   | inr high ↦ high
 ]
 
 -- one character, and what follows it
 one_more : (c depth : ℕ) (rest : List ℕ) → scalar c ≡ true → ((depth' : ℕ) → IsUtf8 (without_comments depth' rest)) → IsUtf8 (without_comments depth (encode c ++ rest))
-one_more c depth rest s next = elim (order c 128) [
+one_more c depth rest s next = elim (cases_lt c 128) [
   | inl low ↦
       rw (encode_ascii c low) (IsUtf8-append (_ ∷ []) (without_comments (depth_behind depth c) rest) (ascii_one _ (plain_ascii (in_comment depth c) c low)) (next (depth_behind depth c)))
   | inr high ↦ elim (in_range 0 depth) [
@@ -84,13 +82,9 @@ one_more c depth rest s next = elim (order c 128) [
   ]
 ]
 
-both : (a b : Bool) → (a && b) ≡ true → (a ≡ true) × (b ≡ true)
-both true b h = (refl, h)
-both false b h = absurd (cc h)
-
 characters_plain : (cs : List ℕ) (depth : ℕ) → scalars cs ≡ true → IsUtf8 (without_comments depth (encodes cs))
 characters_plain [] depth s = IsUtf8-nil
-characters_plain (c ∷ cs) depth s = let parts = both (scalar c) (scalars cs) s in one_more c depth (encodes cs) parts.0 (λ depth'. characters_plain cs depth' parts.1)
+characters_plain (c ∷ cs) depth s = let parts = and_parts (scalar c) (scalars cs) s in one_more c depth (encodes cs) parts.0 (λ depth'. characters_plain cs depth' parts.1)
 
 -- the line is still a text
 pub plain_utf8 : (line : List ℕ) (depth : ℕ) → IsUtf8 line → IsUtf8 (without_comments depth line)

@@ -1,7 +1,8 @@
 -- The words from a place of a line on, a byte further.
-use Rattle.std.proofs.Common.{◌≡◌, ℕ, ◌+◌, ◌<◌, ◌==◌, ◌||◌, Bool, true, false, Some, None, List, [], ◌∷◌, length, drop, get_or, refl, arith, add-one, drop-cons}
+use Rattle.std.proofs.Common.{◌≡◌, ℕ, ◌+◌, ◌<◌, ◌==◌, true, false, Some, None, List, [], ◌∷◌, length, drop, get_or, refl, arith, add-one, drop-cons}
 use Rattle.std.proofs.lemmas.Bool.Decides.{nat_tests}
 use Rattle.std.proofs.lemmas.List.{drop_all}
+use Rattle.std.proofs.lemmas.Bool.{or_parts}
 use Rattle.ps_model.specs.declared.texts.Cut.{Cut}
 use Rattle.ps_model.specs.declared.texts.Cut.TheVariants.{Blanks, Legend, Layers, Rule}
 use Rattle.ps_model.specs.text.Words.{is_blank, parts_words, stands_alone, words_from}
@@ -58,13 +59,9 @@ alone_is_ascii Legend byte h = grind (arith, nat_tests)
 alone_is_ascii Layers byte h = grind (arith, nat_tests)
 alone_is_ascii Rule byte h = grind (arith, nat_tests)
 
-neither : (a b : Bool) → (a || b) ≡ false → a ≡ false
-neither true b h = h
-neither false b h = refl
-
 -- a byte that parts no words is no blank
 pub no_parting_no_blank : (cut : Cut) (byte : ℕ) → parts_words cut byte ≡ false → is_blank byte ≡ false
 no_parting_no_blank Blanks byte h = h
 no_parting_no_blank Legend byte h = h
-no_parting_no_blank Layers byte h = neither (is_blank byte) (byte == 44) h
+no_parting_no_blank Layers byte h = (or_parts (is_blank byte) (byte == 44) h).0
 no_parting_no_blank Rule byte h = h

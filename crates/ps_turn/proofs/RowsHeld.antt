@@ -5,6 +5,7 @@ use Rattle.std.specs.List.{list_any}
 use Rattle.std.proofs.Math.Bool.{and-false}
 use Rattle.std.proofs.lemmas.Bool.Decides.{nat_tests}
 use Rattle.std.proofs.lemmas.List.Folds.{list_any_more}
+use Rattle.std.proofs.lemmas.Bool.{or_parts}
 use Rattle.ps_model.specs.declared.limits.TheConstants.{SIDE_LIMIT}
 use Rattle.ps_model.specs.declared.pieces.ObjectId.{ObjectId}
 use Rattle.ps_model.specs.declared.pieces.Slot.{Slot}
@@ -17,16 +18,12 @@ use Rattle.ps_turn.specs.RowsOfCells.{NonePassOutside, has_each}
 use Rattle.ps_turn.specs.Sweeps.{holds_any}
 use Rattle.ps_turn.proofs.RowsOfCells.{each_more}
 
-neither : (a b : Bool) → (a || b) ≡ false → (a ≡ false) × (b ≡ false)
-neither true b e = absurd (cc)
-neither false b e = (refl, e)
-
 -- slots that pass neither of two tests
 none_of_both : (p q r : Slot → Bool) (cell : List Slot) → ((slot : Slot) → r slot ≡ (p slot || q slot)) → list_any p cell ≡ false → list_any q cell ≡ false → list_any r cell ≡ false
 none_of_both p q r [] e off none = refl
 none_of_both p q r (slot ∷ cell) e off none =
-    let a = neither (p slot) (list_any p cell) off in
-    let b = neither (q slot) (list_any q cell) none in
+    let a = or_parts (p slot) (list_any p cell) off in
+    let b = or_parts (q slot) (list_any q cell) none in
     ap₂ (λ (x y : Bool). x || y) (e slot ∙ ap₂ (λ (x y : Bool). x || y) a.0 b.0) (none_of_both p q r cell e a.1 b.1)
 
 holds_none : (cell : List Slot) → list_any (holds_any []) cell ≡ false
@@ -46,7 +43,7 @@ pub held-more : (g : Grid) (objects : List ObjectId) (count : ℕ) (object : Obj
     NonePassOutside (list_any (holds_any (take (count + 1) objects))) g either
 held-more g objects count object rows having either shape within is e none only row low out x across =
     let parts =
-    neither (column_at rows row) (column_at having row)
+    or_parts (column_at rows row) (column_at having row)
     (sym (ap (λ (cs : List Bool). column_at cs row) e ∙ column_at-where (λ y. column_at rows y || column_at having y) row (omega (arith, low, shape.rows))) ∙ out) in
     none_of_both (holds_any (take count objects)) (slot_holds object) (holds_any (take (count + 1) objects)) (cell_at g (x * g.height + row))
     (λ slot. list_any_more (λ each. slot_holds each slot) objects count object within ∙ ap (λ (o : ObjectId). holds_any (take count objects) slot || slot_holds o slot) (sym is))

@@ -7,6 +7,8 @@ use Rattle.std.proofs.lemmas.List.{get_or_default}
 use Rattle.std.proofs.lemmas.List.FromFn.{length-range_with_len, get_or-range_with_len}
 use Rattle.std.proofs.lemmas.List.Folds.{list_any_at, list_any_none, list_all_more}
 use Rattle.std.proofs.lemmas.Nat.{div_below, div-add-mod'}
+use Rattle.std.proofs.Math.Bool.{or-false}
+use Rattle.std.proofs.lemmas.Bool.{ltb-true, and_parts}
 use Rattle.ps_model.specs.declared.limits.TheConstants.{SIDE_LIMIT}
 use Rattle.ps_model.specs.declared.pieces.ObjectId.{ObjectId}
 use Rattle.ps_model.specs.declared.pieces.Slot.{Slot}
@@ -14,6 +16,7 @@ use Rattle.ps_model.specs.declared.pieces.Slot.TheVariants.{Bare, Holds}
 use Rattle.ps_model.specs.names.Names.{is_among, same_object}
 use Rattle.ps_model.specs.board.Grid.{Grid, IsGrid, cell_at}
 use Rattle.ps_model.specs.session.Frames.{objects_in}
+use Rattle.ps_laws.proofs.common.Truths.{or_across}
 use Rattle.ps_board.specs.ColumnSets.{columns_where, column_at, set_columns, columns_below, both_columns, columns_without}
 use Rattle.ps_board.proofs.ColumnLaws.{column_at-where, columns-agree, set_columns-where}
 use Rattle.ps_board.proofs.PassedColumns.{cell_below}
@@ -97,10 +100,6 @@ found_on : (f : ℕ → Bool) (a n : ℕ) → 0 < length (filter f (range_with_l
 found_on f a zero some = absurd (omega arith)
 found_on f a (suc n) some = found_by f a n (f a) refl some (found_on f (a + 1) n)
 
-true_of : (a b : Bool) → (a && b) ≡ true → (a ≡ true) × (b ≡ true)
-true_of true b e = (refl, e)
-true_of false b e = absurd (cc)
-
 -- a set without columns
 pub none_in : (f : ℕ → Bool) (x : ℕ) → x < SIDE_LIMIT → set_columns (columns_where f) ≡ [] → f x ≡ false
 none_in f x low none = none_on f 0 SIDE_LIMIT x (sym (set_columns-where f) ∙ none) (omega arith) (omega (arith, low))
@@ -114,15 +113,12 @@ within-none width x f narrow across none =
 long_as : (xs ys : List ℕ) → xs ≡ ys → 0 < length xs → 0 < length ys
 long_as xs ys same some = rw (← same) some
 
-lt_from : (x width : ℕ) → nat_lt x width ≡ true → x < width
-lt_from x width low = grind (arith, nat_tests)
-
 pub within-some : (width : ℕ) (f : ℕ → Bool) → 0 < length (set_columns (columns_within width f)) → IsFound f width
 within-some width f some =
     let holds : ℕ → Bool = λ y. nat_lt y width && f y in
     let found : IsFound holds SIDE_LIMIT = found_on holds 0 SIDE_LIMIT (long_as (set_columns (columns_where holds)) (filter holds (range_with_len 0 SIDE_LIMIT)) (set_columns-where holds) some) in
-    let parts : (nat_lt found.number width ≡ true) × (f found.number ≡ true) = true_of (nat_lt found.number width) (f found.number) found.is in
-    record { number = found.number; below = lt_from found.number width parts.0; is = parts.1 }
+    let parts : (nat_lt found.number width ≡ true) × (f found.number ≡ true) = and_parts (nat_lt found.number width) (f found.number) found.is in
+    record { number = found.number; below = ltb-true found.number width parts.0; is = parts.1 }
 
 -- rows -------------------------------------------------------------------------------------------------------------------
 
@@ -243,25 +239,15 @@ all_kept kept passes (x ∷ xs) = all_by kept passes x xs (kept x) (passes x) re
 
 -- objects of a cell ------------------------------------------------------------------------------------------------------
 
-or_swap : (a b c d : Bool) → ((a || b) || (c || d)) ≡ ((a || c) || (b || d))
-or_swap true b c d = refl
-or_swap false true true d = refl
-or_swap false true false d = refl
-or_swap false false c d = refl
-
 -- the same object either way round
 same_either_way : (first second : ObjectId) → same_object first second ≡ same_object second first
 same_either_way first second = sym (same_by first.0 second.0 (nat_eq first.0 second.0) refl)
 
 -- an object stands in a cell
-or_false : (b : Bool) → (b || false) ≡ b
-or_false true = refl
-or_false false = refl
-
 pub cell_has_one : (object : ObjectId) (cell : List Slot) → list_any (holds_any (object ∷ [])) cell ≡ is_among (objects_in cell) object
 cell_has_one object [] = refl
 cell_has_one object (Bare ∷ cell) = cell_has_one object cell
-cell_has_one object (Holds held motion ∷ cell) = ap₂ (λ (a b : Bool). a || b) (or_false (same_object object held)) (cell_has_one object cell)
+cell_has_one object (Holds held motion ∷ cell) = ap₂ (λ (a b : Bool). a || b) (or-false (same_object object held)) (cell_has_one object cell)
 
 -- some object of a list stands in a cell
 
@@ -274,7 +260,7 @@ one_in_front : (held : ObjectId) (others objects : List ObjectId) →
 one_in_front held others [] = refl
 one_in_front held others (object ∷ objects) =
     ap₂ (λ (a b : Bool). (a || is_among others object) || b) (same_either_way object held) (one_in_front held others objects)
-    ∙ or_swap (same_object held object) (is_among others object) (is_among objects held) (list_any (is_among others) objects)
+    ∙ or_across (same_object held object) (is_among others object) (is_among objects held) (list_any (is_among others) objects)
 
 bare_has_none : (objects : List ObjectId) → holds_any objects Bare ≡ false
 bare_has_none [] = refl

@@ -4,16 +4,20 @@ ghost use Rattle.std.specs.Prelude.{◌≡◌, ◌+◌, ◌*◌, ◌<◌, ℕ};
 ghost use Rattle.std.specs.List.{list_any};
 ghost use Rattle.ps_model.specs.board.Grid.{IsGrid, cell_at};
 ghost use Rattle.ps_board.specs.ColumnSets.{column_at};
-ghost use Rattle.ps_board.specs.CellSets.{IsSetOf};
 ghost use Rattle.ps_board.specs.RowsOfGrids.{row_slots};
 ghost use Rattle.ps_turn.specs.RowsOfCells.{NonePassOutside, row_cells};
 ghost use Rattle.ps_turn.specs.Sweeps.{holds_any};
 
-use ps_board::{Board, CellSet, Columns};
+use ps_board::{Board, Columns};
 use ps_model::{LayerId, ObjectId};
 
 /// The columns of a row in which one of the objects stands on a layer.
-fn layer_columns<B: Board>(board: &B, objects: &[ObjectId], layer: LayerId, row: u32) -> Columns
+fn layer_columns<B: Board>(
+    board: &B,
+    objects: &[ObjectId],
+    layer: LayerId,
+    row: u32,
+) -> Columns<B::Words>
     requires layer { layer.0 < (B.grid board.now).layers }
     requires row { row < (B.grid board.now).height }
     ensures { result ≡ row_slots (holds_any objects.now) (B.grid board.now) layer.0 row }
@@ -26,7 +30,7 @@ fn layer_columns<B: Board>(board: &B, objects: &[ObjectId], layer: LayerId, row:
 }
 
 /// The columns of a row in which one of the objects stands.
-fn row_columns<B: Board>(board: &B, objects: &[ObjectId], row: u32) -> Columns
+fn row_columns<B: Board>(board: &B, objects: &[ObjectId], row: u32) -> Columns<B::Words>
     requires shape { IsGrid (B.grid board.now) }
     requires row { row < (B.grid board.now).height }
     ensures { let g = B.grid board.now in (x : ℕ) → x < g.width →
@@ -40,7 +44,7 @@ fn row_columns<B: Board>(board: &B, objects: &[ObjectId], row: u32) -> Columns
 }
 
 /// The columns of a row in whose cells one of the objects stands, and no column beyond the board's last one.
-pub fn columns_with<B: Board>(board: &B, objects: &[ObjectId], row: u32) -> Columns
+pub fn columns_with<B: Board>(board: &B, objects: &[ObjectId], row: u32) -> Columns<B::Words>
     requires { row < (B.grid board.now).height }
     ensures { result ≡ row_cells (list_any (holds_any objects.now)) (B.grid board.now) row }
 {
@@ -49,7 +53,7 @@ pub fn columns_with<B: Board>(board: &B, objects: &[ObjectId], row: u32) -> Colu
 }
 
 /// Rows of the board, as a set of their numbers, outside of which none of the objects stands.
-pub fn rows_with<B: Board>(board: &B, objects: &[ObjectId]) -> Columns
+pub fn rows_with<B: Board>(board: &B, objects: &[ObjectId]) -> Columns<B::Words>
     ensures { NonePassOutside (list_any (holds_any objects.now)) (B.grid board.now) result }
 {
     let (_, _) = board.size();
@@ -58,18 +62,4 @@ pub fn rows_with<B: Board>(board: &B, objects: &[ObjectId]) -> Columns
         rows = rows.either(board.rows_holding(objects[index]));
     }
     rows
-}
-
-/// The cells in which one of the objects stands.
-pub fn cells_with<B: Board>(board: &B, objects: &[ObjectId]) -> CellSet
-    ensures { IsSetOf (list_any (holds_any objects.now)) (B.grid board.now) result }
-{
-    let (_, height) = board.size();
-    let holding = rows_with(board, objects);
-    let mut left = holding.both(Columns::below(height));
-    let mut rows = [Columns::none(); 64];
-    while let Some(row) = left.take_first() {
-        rows[row as usize] = row_columns(board, objects, row);
-    }
-    CellSet::from_rows(rows)
 }

@@ -38,7 +38,7 @@ alike-through names a b c h k state shape =
     record { equal = one.equal ∙ other.equal; grid = one.grid }
 
 -- a change in the first, or in the others
-change_grouped : (a b : Bool) (result : Result) → after_change a (after_change b result) ≡ after_change (a || b) result
+pub change_grouped : (a b : Bool) (result : Result) → after_change a (after_change b result) ≡ after_change (a || b) result
 change_grouped true b result = refl
 change_grouped false b result = refl
 

@@ -1,31 +1,28 @@
 -- Rules that do nothing: those that find no place, and those that leave all they fit as it is.
 use Rattle.std.proofs.Common.{◌≡◌, ℕ, zero, suc, ◌<◌, Bool, true, false, cond, ◌||◌, ◌&&◌, not, Option, Some, None, List, [], ◌∷◌, length, map, filter, fold, get_or, slice_get, refl, sym, ◌∙◌, ap, ap₂, arith}
-use Rattle.std.specs.Prelude.{All, nat_eq, slice_set}
+use Rattle.std.specs.Prelude.{All, slice_set}
 use Rattle.std.specs.Option.{option_or}
 use Rattle.std.specs.List.{flat_map}
-use Rattle.std.proofs.lemmas.Bool.Decides.{nat_tests}
 use Rattle.std.proofs.lemmas.Option.{same_Some}
 use Rattle.std.proofs.lemmas.List.Elements.{All-head, All-tail, All-weaker}
+use Rattle.std.proofs.Math.Bool.{or-false}
 use Rattle.ps_model.specs.declared.pieces.Direction.{Direction}
 use Rattle.ps_model.specs.declared.pieces.Slot.{Slot}
-use Rattle.ps_model.specs.declared.pieces.Slot.TheVariants.{Bare, Holds}
 use Rattle.ps_model.specs.board.Grid.{Grid}
 use Rattle.ps_model.specs.names.Names.{Names}
 use Rattle.ps_model.specs.rules.SourceRules.{Commands, no_commands}
 use Rattle.ps_model.specs.board.GameGrids.{IsCellOf, IsGridOf}
 use Rattle.ps_model.specs.meaning.RuleMeanings.{CellMeaning, RuleMeaning}
-use Rattle.ps_model.specs.meaning.Fitting.{motion_number}
 use Rattle.ps_model.specs.board.Places.{stretches, search_order, fits_there, fits_along, cells_in, places}
-use Rattle.ps_model.specs.board.Attempts.{State, Result, same_slot, same_cell, Rewritten, with_cell, rewritten_cell, rewritten_along, combinations, all_fit, rewritten_rows, applied, both, queued, queue_after, all_applied, attempt_by, combinations_on, attempt}
+use Rattle.ps_model.specs.board.Attempts.{State, Result, Rewritten, with_cell, rewritten_cell, rewritten_along, combinations, all_fit, rewritten_rows, applied, both, queued, queue_after, all_applied, attempt_by, combinations_on, attempt}
 use Rattle.ps_laws.specs.IdleRules.{nothing_done, IsIdle, IsCellIn, FitsNowhere, FitsNone, LeavesAll}
 use Rattle.ps_laws.proofs.common.Everywhere.{All-slice_get, All-joined}
-use Rattle.ps_laws.proofs.alike.TurnedPlaces.{and_then}
+use Rattle.ps_laws.proofs.common.SameThings.{same_cell-own}
+use Rattle.ps_laws.proofs.common.Lists.{none-filtered}
+use Rattle.ps_laws.proofs.alike.TurnedAttempts.{chosen_by}
+use Rattle.ps_laws.proofs.common.Truths.{and_then, second-false, both-hold}
 
 -- no place -----------------------------------------------------------------------------------------------------------------
-
-none-filtered : {X : Type 0} (test : X → Bool) (xs : List X) → ((x : X) → test x ≡ false) → filter test xs ≡ []
-none-filtered test [] h = refl
-none-filtered test (x ∷ xs) h = rw (h x) (none-filtered test xs h)
 
 none-joined : {X Y : Type 0} (f : X → List Y) (xs : List X) → ((x : X) → f x ≡ []) → flat_map f xs ≡ []
 none-joined f [] h = refl
@@ -35,10 +32,6 @@ none-joined f (x ∷ xs) h = rw (h x) (none-joined f xs h)
 nowhere-there : (g : Grid) (meaning : CellMeaning) → FitsNowhere g meaning → (number : ℕ) (found : Option (List Slot)) → slice_get g.cells number ≡ found → fits_there meaning found ≡ false
 nowhere-there g meaning nowhere number None e = refl
 nowhere-there g meaning nowhere number (Some cell) e = All-slice_get (λ cell. meaning.fits cell ≡ false) g.cells number cell nowhere e
-
-second-false : (first second : Bool) → second ≡ false → and_then first second ≡ false
-second-false true second h = h
-second-false false second h = refl
 
 -- no list of cells fits where one of the rule's cells fits none
 nowhere-along : (g : Grid) (meaning : CellMeaning) → FitsNowhere g meaning → (meanings : List CellMeaning) (k : ℕ) → k < length meanings → get_or meanings k meaning ≡ meaning →
@@ -66,11 +59,7 @@ none-combined f (first ∷ others) row zero within e none =
 none-combined f (first ∷ others) row (suc k) within e none =
     ap (flat_map (λ rest. map (λ place. place ∷ rest) (f first))) (none-combined f others row k (omega arith) e none)
 
--- a rewriting where a test holds, and otherwise another
-abbrev chosen : Bool → Rewritten → Rewritten → Rewritten
-chosen test made otherwise = elim test [ true ↦ made | false ↦ otherwise ]
-
-chosen-either : (test : Bool) (made otherwise : Rewritten) → (test ≡ true → made ≡ otherwise) → chosen test made otherwise ≡ otherwise
+chosen-either : (test : Bool) (made otherwise : Rewritten) → (test ≡ true → made ≡ otherwise) → chosen_by test made otherwise ≡ otherwise
 chosen-either true made otherwise h = h refl
 chosen-either false made otherwise h = refl
 
@@ -99,32 +88,17 @@ idle-fitting_none names rule meaning h none state shape =
 
 -- cells left as they are ---------------------------------------------------------------------------------------------------
 
-same_number : (n : ℕ) → nat_eq n n ≡ true
-same_number n = grind (arith, nat_tests)
-
-slot-itself : (slot : Slot) → same_slot slot slot ≡ true
-slot-itself Bare = refl
-slot-itself (Holds object motion) = rw (same_number object.0, same_number (motion_number motion)) refl
-
-cell-itself : (cell : List Slot) → same_cell cell cell ≡ true
-cell-itself [] = refl
-cell-itself (slot ∷ slots) = rw (slot-itself slot) (cell-itself slots)
-
 put-itself : {X : Type 0} (xs : List X) (i : ℕ) (x : X) → slice_get xs i ≡ Some x → slice_set xs i x ≡ xs
 put-itself [] i x e = refl
 put-itself (y ∷ ys) zero x e = ap (λ first. first ∷ ys) (same_Some x y (sym e))
 put-itself (y ∷ ys) (suc i) x e = ap (λ rest. y ∷ rest) (put-itself ys i x e)
 
-or_false : (a : Bool) → a || false ≡ a
-or_false true = refl
-or_false false = refl
-
 -- a cell put in its own place
 with_cell-itself : (r : Rewritten) (number : ℕ) (cell : List Slot) → slice_get r.grid.cells number ≡ Some cell → with_cell r number cell cell ≡ r
 with_cell-itself r number cell e =
     ap₂ (λ (cells : List (List Slot)) (same : Bool). let g : Grid = r.grid in let made : Rewritten = record { grid = record g { cells = cells }; changed = r.changed || not same } in made)
-    (put-itself r.grid.cells number cell e) (cell-itself cell)
-    ∙ ap (λ (changed : Bool). let made : Rewritten = record { grid = r.grid; changed = changed } in made) (or_false r.changed)
+    (put-itself r.grid.cells number cell e) (same_cell-own cell)
+    ∙ ap (λ (changed : Bool). let made : Rewritten = record { grid = r.grid; changed = changed } in made) (or-false r.changed)
 
 -- the cell of a rule leaves all cells of a grid that it fits as they are
 abbrev Leaves : Grid → CellMeaning → Type 0
@@ -136,10 +110,6 @@ cell-left r meaning leaves number None e fits = refl
 cell-left r meaning leaves number (Some cell) e fits =
     ap (with_cell r number cell) (All-slice_get (λ cell. meaning.fits cell ≡ true → meaning.rewritten cell ≡ cell) r.grid.cells number cell leaves e fits)
     ∙ with_cell-itself r number cell e
-
-both-hold : (first second : Bool) → and_then first second ≡ true → (first ≡ true) × (second ≡ true)
-both-hold true second h = (refl, h)
-both-hold false second h = absurd (cc h)
 
 along-left : (meanings : List CellMeaning) (cells : List ℕ) (r : Rewritten) → All (Leaves r.grid) meanings → fits_along r.grid meanings cells ≡ true → rewritten_along r meanings cells ≡ r
 along-left [] cells r leave fit = refl
@@ -173,7 +143,7 @@ kept_message None = refl
 kept_message (Some text) = refl
 
 nothing-joins : (queue : Commands) → both queue no_commands ≡ queue
-nothing-joins queue = rw (or_false queue.cancel, or_false queue.restart, or_false queue.again, or_false queue.checkpoint, or_false queue.win, kept_message queue.message) refl
+nothing-joins queue = rw (or-false queue.cancel, or-false queue.restart, or-false queue.again, or-false queue.checkpoint, or-false queue.win, kept_message queue.message) refl
 
 -- the queue and no commands, by what it holds
 nothing-enters : (queue : Commands) → queued queue no_commands ≡ queue
@@ -183,7 +153,7 @@ nothing-enters queue = by-cases queue.cancel queue.restart where
   by-cases false true = refl
   by-cases false false = nothing-joins queue
 
-queue-left : (queue : Commands) (rule : RuleMeaning) → rule.commands ≡ no_commands → (pss : List (List (List ℕ))) → queue_after queue rule pss ≡ queue
+pub queue-left : (queue : Commands) (rule : RuleMeaning) → rule.commands ≡ no_commands → (pss : List (List (List ℕ))) → queue_after queue rule pss ≡ queue
 queue-left queue rule none [] = refl
 queue-left queue rule none (ps ∷ pss) = ap (queued queue) none ∙ nothing-enters queue
 

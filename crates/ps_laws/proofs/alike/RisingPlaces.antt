@@ -8,7 +8,7 @@ use Rattle.ps_model.specs.declared.pieces.Direction.TheVariants.{Up, Down, Left,
 use Rattle.ps_model.specs.board.Grid.{Grid}
 use Rattle.ps_model.specs.meaning.RuleMeanings.{CellMeaning}
 use Rattle.ps_model.specs.board.Places.{cells_rightwards, cells_downwards, row_by_row, column_by_column, ways_along, fits_along, cells_in, places}
-use Rattle.ps_laws.proofs.common.Everywhere.{either_way, All-always, All-flat_map}
+use Rattle.ps_laws.proofs.common.Everywhere.{either_way, All-each}
 
 -- the numbers rise, from one on
 abbrev pub Rises : ℕ → List ℕ → Type 0
@@ -37,10 +37,6 @@ taken-within (suc size) zero line others h within low rises = absurd (omega arit
 taken-within (suc size) (suc next) [] others h within low rises = within low tt
 taken-within (suc size) (suc next) (cell ∷ cells) others h within low rises = (rises.0, taken-within size next cells others (omega arith) within (suc cell) rises.1)
 
--- lists that come of anything, joined
-All-each_flat_map : {X Y : Type 0} (P : Y → Type 0) (f : X → List Y) (xs : List X) → ((x : X) → All P (f x)) → All P (flat_map f xs)
-All-each_flat_map P f xs h = All-flat_map P (λ x. ⊤) f xs (λ x t. h x) (All-always (λ x. ⊤) xs (λ x. tt))
-
 -- all ways along a line
 ways-within : (sizes line : List ℕ) → All (Within line) (ways_along sizes line)
 ways-within [] line = All-cons (Within line) [] [] (λ low rises. tt) (All-nil (Within line))
@@ -53,7 +49,7 @@ ways-within (size ∷ next ∷ rest) line =
     let gaps : List ℕ = range_with_len 0 (suc (length line - size)) in
     either_way (All (Within line)) (nat_le size (length line)) (map (λ others. take size line ++ others) (flat_map others_behind gaps)) []
     (All-map (Within line) (λ others. take size line ++ others) (flat_map others_behind gaps)
-    (All-each_flat_map (λ others. Within line (take size line ++ others)) others_behind gaps (λ gap.
+    (All-each (λ others. Within line (take size line ++ others)) others_behind gaps (λ gap.
     All-weaker (Within (drop (size + gap) line)) (λ others. Within line (take size line ++ others))
     (λ others within. taken-within size (size + gap) line others (omega arith) within) (others_behind gap) (ways-within (next ∷ rest) (drop (size + gap) line)))))
     (All-nil (Within line))
@@ -76,7 +72,7 @@ ways-rise sizes line rises = All-weaker (Within line) (Rises 0) (λ cells within
 -- places downwards
 down-rise : (g : Grid) (row : List (List CellMeaning)) → All (Rises 0) (places g Down row)
 down-rise g row =
-    All-each_flat_map (Rises 0) (λ end. filter (fits_along g (cells_in row)) (ways_along (map length row) (cells_downwards g end))) (column_by_column g) (λ end.
+    All-each (Rises 0) (λ end. filter (fits_along g (cells_in row)) (ways_along (map length row) (cells_downwards g end))) (column_by_column g) (λ end.
     All-filter (fits_along g (cells_in row)) (Rises 0) (ways_along (map length row) (cells_downwards g end))
     (ways-rise (map length row) (cells_downwards g end) (steps-rise end 0 (g.height - end % g.height) 0 (omega arith))))
 
@@ -88,7 +84,7 @@ right-rise g row zero none =
     (ap (λ (rows : ℕ). flat_map found (flat_map (λ at. map (λ column. column * g.height + at) (range_with_len 0 g.width)) (range_with_len 0 rows))) none)
     (All-nil (Rises 0))
 right-rise g row (suc more) some =
-    All-each_flat_map (Rises 0) (λ end. filter (fits_along g (cells_in row)) (ways_along (map length row) (cells_rightwards g end))) (row_by_row g) (λ end.
+    All-each (Rises 0) (λ end. filter (fits_along g (cells_in row)) (ways_along (map length row) (cells_rightwards g end))) (row_by_row g) (λ end.
     All-filter (fits_along g (cells_in row)) (Rises 0) (ways_along (map length row) (cells_rightwards g end))
     (ways-rise (map length row) (cells_rightwards g end) (columns-rise end g.height 0 (g.width - end / g.height) 0 (omega arith) (omega arith))))
 

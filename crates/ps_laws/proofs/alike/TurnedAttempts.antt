@@ -1,6 +1,6 @@
 -- Attempts of rules turned round. The cells of a place are different cells, so they may be rewritten in either order.
-use Rattle.std.proofs.Common.{◌≡◌, ℕ, zero, suc, ◌<◌, ◌≤◌, Bool, true, false, ◌||◌, not, Option, Some, None, List, [], ◌∷◌, ◌++◌, length, map, fold, reverse, slice_get, refl, sym, ◌∙◌, ap, ap₂, arith}
-use Rattle.std.specs.Prelude.{◌≢◌, All, slice_set}
+use Rattle.std.proofs.Common.{◌≡◌, ℕ, suc, ◌<◌, ◌≤◌, Bool, true, false, ◌||◌, not, Option, Some, None, List, [], ◌∷◌, ◌++◌, length, map, fold, reverse, slice_get, refl, sym, ◌∙◌, ap, ap₂, arith}
+use Rattle.std.specs.Prelude.{◌≢◌, All}
 use Rattle.std.specs.List.{flat_map}
 use Rattle.std.proofs.lemmas.List.{map-id, reverse-append, length-reverse, set_comm}
 use Rattle.std.proofs.lemmas.List.Elements.{All-nil, All-cons, All-head, All-tail, All-map}
@@ -20,17 +20,11 @@ use Rattle.ps_model.specs.meaning.TurnedRound.{row_turned, turned_round, turned_
 use Rattle.ps_laws.proofs.common.Everywhere.{All-mapped, All-flat_map, All-always}
 use Rattle.ps_laws.proofs.common.Stages.{map-flat_map, same_map, same_flat_map}
 use Rattle.ps_laws.proofs.alike.RisingPlaces.{Rises, IsForwards, places-rise}
-use Rattle.ps_laws.proofs.alike.TurnedPlaces.{and_then, cells_in-turned, row_turned-twice, fits-turned, places-turned}
+use Rattle.ps_laws.proofs.alike.TurnedPlaces.{cells_in-turned, row_turned-twice, fits-turned, places-turned}
+use Rattle.ps_laws.proofs.common.Lists.{read_other}
+use Rattle.ps_laws.proofs.common.Truths.{and_then, both-hold}
 
 -- two cells ----------------------------------------------------------------------------------------------------------------
-
--- a write at one place leaves every other
-read_other : {X : Type 0} (xs : List X) (i j : ℕ) (x : X) → i ≢ j → slice_get (slice_set xs i x) j ≡ slice_get xs j
-read_other [] i j x n = refl
-read_other (y ∷ ys) zero zero x n = absurd (n refl)
-read_other (y ∷ ys) zero (suc j) x n = refl
-read_other (y ∷ ys) (suc i) zero x n = refl
-read_other (y ∷ ys) (suc i) (suc j) x n = read_other ys i j x (λ e. n (ap suc e))
 
 -- a cell rewritten leaves the others
 cell-other : (r : Rewritten) (meaning : CellMeaning) (i j : ℕ) (found : Option (List Slot)) → i ≢ j → slice_get (rewritten_cell r meaning i found).grid.cells j ≡ slice_get r.grid.cells j
@@ -104,10 +98,7 @@ fit-lengths : (g : Grid) (meanings : List CellMeaning) (cells : List ℕ) → fi
 fit-lengths g [] [] h = refl
 fit-lengths g [] (cell ∷ cells) h = absurd (cc h)
 fit-lengths g (meaning ∷ meanings) [] h = absurd (cc h)
-fit-lengths g (meaning ∷ meanings) (cell ∷ cells) h = ap suc (fit-lengths g meanings cells (second_holds (fits_there meaning (slice_get g.cells cell)) (fits_along g meanings cells) h)) where
-  second_holds : (first second : Bool) → and_then first second ≡ true → second ≡ true
-  second_holds true second h = h
-  second_holds false second h = absurd (cc h)
+fit-lengths g (meaning ∷ meanings) (cell ∷ cells) h = ap suc (fit-lengths g meanings cells (both-hold (fits_there meaning (slice_get g.cells cell)) (fits_along g meanings cells) h).1)
 
 -- the cells of a row turned round
 row-turned : (g : Grid) (row : List (List CellMeaning)) (place : List ℕ) (r : Rewritten) → fits_along g (cells_in row) place ≡ true → Rises 0 place →
@@ -130,19 +121,16 @@ rows-turned : (g : Grid) (rows : List (List (List CellMeaning))) (ps : List (Lis
 rows-turned g [] ps r fit rise = refl
 rows-turned g (row ∷ rows) [] r fit rise = refl
 rows-turned g (row ∷ rows) (place ∷ ps) r fit rise =
-    let both : (fits_along g (cells_in row) place ≡ true) × (all_fit g rows ps ≡ true) = both_hold (fits_along g (cells_in row) place) (all_fit g rows ps) fit in
+    let both : (fits_along g (cells_in row) place ≡ true) × (all_fit g rows ps ≡ true) = both-hold (fits_along g (cells_in row) place) (all_fit g rows ps) fit in
     ap (λ (made : Rewritten). rewritten_rows made (map row_turned rows) (map reverse ps)) (row-turned g row place r both.0 (All-head (Rises 0) place ps rise))
-    ∙ rows-turned g rows ps (rewritten_along r (cells_in row) place) both.1 (All-tail (Rises 0) place ps rise) where
-      both_hold : (first second : Bool) → and_then first second ≡ true → (first ≡ true) × (second ≡ true)
-      both_hold true second h = (refl, h)
-      both_hold false second h = absurd (cc h)
+    ∙ rows-turned g rows ps (rewritten_along r (cells_in row) place) both.1 (All-tail (Rises 0) place ps rise)
 
 -- a rewriting where a test holds, and otherwise another
-abbrev chosen : Bool → Rewritten → Rewritten → Rewritten
-chosen test made otherwise = elim test [ true ↦ made | false ↦ otherwise ]
+abbrev pub chosen_by : Bool → Rewritten → Rewritten → Rewritten
+chosen_by test made otherwise = elim test [ true ↦ made | false ↦ otherwise ]
 
 -- equal choices: the tests are equal, and so are the first rewritings where the tests hold
-chosen-same : (test other : Bool) (first second otherwise : Rewritten) → test ≡ other → (other ≡ true → first ≡ second) → chosen test first otherwise ≡ chosen other second otherwise
+chosen-same : (test other : Bool) (first second otherwise : Rewritten) → test ≡ other → (other ≡ true → first ≡ second) → chosen_by test first otherwise ≡ chosen_by other second otherwise
 chosen-same true true first second otherwise e h = h refl
 chosen-same true false first second otherwise e h = absurd (cc e)
 chosen-same false true first second otherwise e h = absurd (cc e)

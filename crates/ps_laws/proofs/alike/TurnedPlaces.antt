@@ -14,6 +14,7 @@ use Rattle.ps_model.specs.meaning.RuleMeanings.{CellMeaning}
 use Rattle.ps_model.specs.board.Places.{cells_rightwards, cells_downwards, row_by_row, column_by_column, ways_along, fits_there, fits_along, cells_in, places}
 use Rattle.ps_model.specs.meaning.TurnedRound.{row_turned}
 use Rattle.ps_laws.proofs.common.Stages.{map-flat_map, same_map, same_flat_map}
+use Rattle.ps_laws.proofs.common.Truths.{and_then, second-false}
 
 -- lists read backwards -----------------------------------------------------------------------------------------------------
 
@@ -66,14 +67,6 @@ row_turned-twice row = ap reverse (map-reverse reverse (map reverse row)) ∙ re
 
 -- what fits ----------------------------------------------------------------------------------------------------------------
 
--- one test, and another if that holds
-abbrev pub and_then : Bool → Bool → Bool
-and_then first second = elim first [ true ↦ second | false ↦ false ]
-
-neither : (test more : Bool) → more ≡ false → and_then test more ≡ false
-neither true more h = h
-neither false more h = refl
-
 in_turn : (here more : Bool) → and_then more (and_then here true) ≡ and_then here more
 in_turn true true = refl
 in_turn true false = refl
@@ -86,7 +79,7 @@ unequal-fit g [] [] h = absurd (h refl)
 unequal-fit g [] (cell ∷ cells) h = refl
 unequal-fit g (meaning ∷ meanings) [] h = refl
 unequal-fit g (meaning ∷ meanings) (cell ∷ cells) h =
-    neither (fits_there meaning (slice_get g.cells cell)) (fits_along g meanings cells) (unequal-fit g meanings cells (λ e. h (ap suc e)))
+    second-false (fits_there meaning (slice_get g.cells cell)) (fits_along g meanings cells) (unequal-fit g meanings cells (λ e. h (ap suc e)))
 
 -- two lists one behind the other
 fits-append : (g : Grid) (meanings others : List CellMeaning) (cells more : List ℕ) → length meanings ≡ length cells →

@@ -1,24 +1,21 @@
 -- The places of a row lie on the board, and have a cell for each cell of the row.
 use Rattle.std.proofs.Common.{◌≡◌, ℕ, suc, ◌<◌, Bool, true, false, cond, Option, Some, None, List, [], ◌∷◌, length, refl, ap, arith, filter}
 use Rattle.std.specs.Prelude.{All, slice_get}
-use Rattle.std.specs.List.{flat_map}
 use Rattle.std.proofs.lemmas.Option.{slice_get_within}
-use Rattle.std.proofs.lemmas.List.Elements.{All-nil, All-cons, All-append, All-weaker}
+use Rattle.std.proofs.lemmas.List.Elements.{All-nil, All-cons, All-weaker}
 use Rattle.ps_model.specs.declared.pieces.Slot.{Slot}
 use Rattle.ps_model.specs.declared.pieces.Direction.{Direction}
 use Rattle.ps_model.specs.board.Grid.{Grid, cell_count}
 use Rattle.ps_model.specs.board.Places.{fits_there, fits_along, cells_in, stretches, search_order, places}
 use Rattle.ps_model.specs.meaning.RuleMeanings.{CellMeaning}
 use Rattle.ps_laws.specs.Sliding.{PlacesLieOnBoards, PlacesAreWhole}
+use Rattle.ps_laws.proofs.common.Everywhere.{All-each}
+use Rattle.ps_laws.proofs.common.Truths.{both-hold}
 
 -- cells that fit are cells of the board, and as many as the row's
 pub record AreFit (g : Grid) (meanings : List CellMeaning) (cells : List ℕ) : Type 0 where
   pub within : All (λ cell. cell < length g.cells) cells
   pub whole : length cells ≡ length meanings
-
-both_hold : (first second : Bool) → elim first [ true ↦ second | false ↦ false ] ≡ true → (first ≡ true) × (second ≡ true)
-both_hold true second e = (refl, e)
-both_hold false second e = absurd (cc e)
 
 is_within : (g : Grid) (meaning : CellMeaning) (cell : ℕ) (found : Option (List Slot)) → slice_get g.cells cell ≡ found → fits_there meaning found ≡ true → cell < length g.cells
 is_within g meaning cell None e fits = absurd (cc fits)
@@ -29,7 +26,7 @@ fits-within g [] [] e = record { within = All-nil (λ cell. cell < length g.cell
 fits-within g [] (cell ∷ cells) e = absurd (cc e)
 fits-within g (meaning ∷ meanings) [] e = absurd (cc e)
 fits-within g (meaning ∷ meanings) (cell ∷ cells) e =
-    let both = both_hold (fits_there meaning (slice_get g.cells cell)) (fits_along g meanings cells) e in
+    let both = both-hold (fits_there meaning (slice_get g.cells cell)) (fits_along g meanings cells) e in
     let rest = fits-within g meanings cells both.1 in
     record {
       within = All-cons (λ cell. cell < length g.cells) cell cells (is_within g meaning cell (slice_get g.cells cell) refl both.0) rest.within;
@@ -44,13 +41,9 @@ kept_by_test P test (x ∷ xs) told = kept (test x) refl (kept_by_test P test xs
   kept true e rest = All-cons P x (filter test xs) (told x e) rest
   kept false e rest = rest
 
-All-of_each : {X Y : Type 0} (P : Y → Type 0) (f : X → List Y) (xs : List X) → ((x : X) → All P (f x)) → All P (flat_map f xs)
-All-of_each P f [] h = All-nil P
-All-of_each P f (x ∷ xs) h = All-append P (f x) (flat_map f xs) (h x) (All-of_each P f xs h)
-
 pub places-fit : (g : Grid) (direction : Direction) (row : List (List CellMeaning)) → All (AreFit g (cells_in row)) (places g direction row)
 places-fit g direction row =
-    All-of_each (AreFit g (cells_in row)) (λ end. filter (fits_along g (cells_in row)) (stretches g direction _ end)) (search_order g direction)
+    All-each (AreFit g (cells_in row)) (λ end. filter (fits_along g (cells_in row)) (stretches g direction _ end)) (search_order g direction)
     (λ end. kept_by_test (AreFit g (cells_in row)) (fits_along g (cells_in row)) (stretches g direction _ end) (fits-within g (cells_in row)))
 
 pub places_lie : PlacesLieOnBoards

@@ -1,27 +1,19 @@
 -- A chain of winners that ends in a bare cell has no more links than there are cells: no cell stands in it twice.
-use Rattle.std.proofs.Common.{inl, inr, ◌≡◌, ℕ, zero, suc, ◌≤◌, ◌<◌, Bool, true, false, ◌||◌, List, [], ◌∷◌, length, refl, sym, ◌∙◌, ap, arith}
+use Rattle.std.proofs.Common.{inl, inr, ◌≡◌, ℕ, zero, suc, ◌≤◌, ◌<◌, Bool, true, false, List, [], ◌∷◌, length, refl, sym, ◌∙◌, ap, arith}
 use Rattle.std.specs.Prelude.{◌⊎◌}
 use Rattle.std.specs.List.{list_any, IsDistinct, AllByRecursion}
 use Rattle.std.proofs.Math.Dec.{eqb}
-use Rattle.std.proofs.lemmas.Bool.{eqb-true}
+use Rattle.std.proofs.lemmas.Bool.{eqb-true, or_parts, or_cases}
 use Rattle.std.proofs.lemmas.Map.Steps.{length-le_from_distinct_below}
 use Rattle.ps_model.specs.board.Grid.{Grid, cell_count}
 use Rattle.ps_model.specs.board.Movement.{is_bare, slides_within}
 use Rattle.ps_laws.specs.Sliding.{ChainsSlide}
 use Rattle.ps_laws.proofs.common.Winners.{IsLink, link_of, slides_by, winner-contends, slides_within-more}
 
-either_of : (first second : Bool) → (first || second) ≡ true → (first ≡ true) ⊎ (second ≡ true)
-either_of true second e = inl refl
-either_of false second e = inr e
-
-neither_of : (first second : Bool) → (first || second) ≡ false → (first ≡ false) × (second ≡ false)
-neither_of true second e = absurd (cc e)
-neither_of false second e = (refl, e)
-
 -- what no element equals, each differs from
 apart_from_all : (cell : ℕ) (cells : List ℕ) → list_any (eqb cell) cells ≡ false → AllByRecursion (λ other. eqb cell other ≡ false) cells
 apart_from_all cell [] e = tt
-apart_from_all cell (other ∷ cells) e = let both = neither_of (eqb cell other) (list_any (eqb cell) cells) e in (both.0, apart_from_all cell cells both.1)
+apart_from_all cell (other ∷ cells) e = let both = or_parts (eqb cell other) (list_any (eqb cell) cells) e in (both.0, apart_from_all cell cells both.1)
 
 module _ (g : Grid) (layer : ℕ) where
   -- so many links lead to a bare cell, and no fewer do
@@ -63,7 +55,7 @@ module _ (g : Grid) (layer : ℕ) where
   lengthened links cell cells within ranks chain = record {
     long = ap suc chain.long;
     apart = (apart_from_all cell cells (not_among links cell cells (list_any (eqb cell) cells) (ranks.least links (omega arith)) chain refl), chain.apart);
-    each = λ other e. among other (either_of (eqb other cell) (list_any (eqb other) cells) e);
+    each = λ other e. among other (or_cases (eqb other cell) (list_any (eqb other) cells) e);
   } where
     among : (other : ℕ) → (eqb other cell ≡ true) ⊎ (list_any (eqb other) cells ≡ true) → (other < cell_count g) × (slides_within g layer (suc links) other ≡ true)
     among other (inl same) = let is : other ≡ cell = eqb-true other cell same in rw is (within, ranks.enough)

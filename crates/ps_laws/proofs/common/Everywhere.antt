@@ -32,6 +32,11 @@ pub All-flat_map : {X Y : Type 0} (P : Y → Type 0) (Q : X → Type 0) (f : X �
 All-flat_map P Q f [] h all = All-nil P
 All-flat_map P Q f (x ∷ xs) h all = All-append P (f x) (flat_map f xs) (h x (All-head Q x xs all)) (All-flat_map P Q f xs h (All-tail Q x xs all))
 
+-- the lists that come of anything, joined
+pub All-each : {X Y : Type 0} (P : Y → Type 0) (f : X → List Y) (xs : List X) → ((x : X) → All P (f x)) → All P (flat_map f xs)
+All-each P f [] h = All-nil P
+All-each P f (x ∷ xs) h = All-append P (f x) (flat_map f xs) (h x) (All-each P f xs h)
+
 -- the elements of lists, joined
 pub All-joined : {X : Type 0} (P : X → Type 0) (xss : List (List X)) → All (All P) xss → All P (flat_map (λ xs. xs) xss)
 All-joined P xss all = All-flat_map P (All P) (λ xs. xs) xss (λ xs h. h) all

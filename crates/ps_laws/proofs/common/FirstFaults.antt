@@ -1,10 +1,11 @@
 -- The first fault of faults that are joined.
-use Rattle.std.proofs.Common.{◌≡◌, ℕ, true, List, [], ◌∷◌, ◌++◌, Some, None, refl, sym, ap, ◌∙◌}
+use Rattle.std.proofs.Common.{◌≡◌, ℕ, Bool, true, false, List, [], ◌∷◌, ◌++◌, Some, None, refl, sym, ap, ◌∙◌}
 use Rattle.std.specs.List.{flat_map}
 use Rattle.std.proofs.lemmas.Grind.{flat_map-append}
 use Rattle.std.proofs.lemmas.List.{append-nil}
 use Rattle.ps_model.specs.declared.faults.Fault.{Fault}
-use Rattle.ps_model.specs.text.Faults.{first_fault}
+use Rattle.ps_model.specs.declared.faults.FaultKind.{FaultKind}
+use Rattle.ps_model.specs.text.Faults.{first_fault, when}
 use Rattle.ps_model.specs.text.Lines.{Line}
 use Rattle.ps_model.specs.text.LineNumbers.{line_at, here}
 use Rattle.ps_laws.proofs.common.LinesInOrder.{here-there}
@@ -18,6 +19,15 @@ first-front (first ∷ others) behind fault e = e
 pub none-first : (faults : List Fault) → first_fault faults ≡ None → faults ≡ []
 none-first [] e = refl
 none-first (first ∷ others) e = absurd (let h = e in cc)
+
+-- faults behind none
+pub behind-none : (front behind : List Fault) → front ≡ [] → front ++ behind ≡ behind
+behind-none front behind e = ap (λ (faults : List Fault). faults ++ behind) e
+
+-- a fault that isn't told
+pub untold : (test : Bool) (kind : FaultKind) (line : ℕ) → when test kind line ≡ [] → test ≡ false
+untold true kind line e = cc
+untold false kind line e = refl
 
 -- the faults of a line that is there, and of no other
 pub faults-here : (f : Line → List Fault) (text : List ℕ) (line : ℕ) → (line_at text line).is_there ≡ true → flat_map f (here text line) ≡ f (line_at text line)

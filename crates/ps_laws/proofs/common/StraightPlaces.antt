@@ -1,6 +1,6 @@
 -- The places of a row are straight lines.
 use Rattle.std.proofs.Common.{◌≡◌, ℕ, zero, suc, ◌+◌, ◌-◌, ◌*◌, ◌/◌, ◌%◌, ◌≤◌, Bool, true, false, List, [], ◌∷◌, ◌++◌, length, map, filter, flat_map, take, drop, reverse, refl, sym, ◌∙◌, ap, ap₂, arith}
-use Rattle.std.specs.Prelude.{All, nat_le, ⊤}
+use Rattle.std.specs.Prelude.{All, nat_le}
 use Rattle.std.specs.List.{range_with_len}
 use Rattle.std.proofs.lemmas.Bool.Decides.{nat_tests}
 use Rattle.std.proofs.lemmas.List.{map-append, length-map, drop-map}
@@ -11,15 +11,12 @@ use Rattle.ps_model.specs.declared.pieces.Direction.TheVariants.{Up, Down, Left,
 use Rattle.ps_model.specs.board.Grid.{Grid}
 use Rattle.ps_model.specs.board.Places.{cells_rightwards, cells_downwards, search_order, stretches, ways_along, fits_along, cells_in}
 use Rattle.ps_laws.specs.Sliding.{steps_of, IsStraight, PlacesAreStraight}
-use Rattle.ps_laws.proofs.common.Everywhere.{All-always, All-flat_map}
+use Rattle.ps_laws.proofs.common.Everywhere.{All-each}
 
 -- what two values have, each where the test picks it
 by_test : {A : Type 0} (P : A → Type 0) (test : Bool) (first second : A) → (test ≡ true → P first) → P second → P (elim test [ true ↦ first | false ↦ second ])
 by_test P true first second p q = p refl
 by_test P false first second p q = q
-
-All-each : {X Y : Type 0} (P : Y → Type 0) (f : X → List Y) (xs : List X) → ((x : X) → All P (f x)) → All P (flat_map f xs)
-All-each P f xs h = All-flat_map P (λ x. ⊤) f xs (λ x t. h x) (All-always (λ x. ⊤) xs (λ x. tt))
 
 -- the rest of a range
 drop-range : (k from count : ℕ) → drop k (range_with_len from count) ≡ range_with_len (from + k) (count - k)

@@ -4,8 +4,10 @@ use Rattle.std.specs.Prelude.{nat_lt, find}
 use Rattle.std.specs.Option.{option_or}
 use Rattle.std.specs.List.{range_with_len}
 use Rattle.std.proofs.lemmas.Bool.Decides.{nat_tests, eqb_tells}
+use Rattle.std.proofs.lemmas.Bool.{ltb-true, and_parts, false_from_ne_true}
 use Rattle.ps_model.specs.board.Grid.{Grid, cell_count}
 use Rattle.ps_model.specs.board.Movement.{target, is_bare, is_number, least_contender, winner, slides_within}
+use Rattle.ps_laws.proofs.common.SameThings.{is_number-true, is_number-own}
 
 -- the first number of a range that passes
 find_first : (p : ℕ → Bool) (a n c : ℕ) → a ≤ c → c < a + n → p c ≡ true → ((s : ℕ) → s < c → p s ≡ false) → find p (range_with_len a n) ≡ Some c
@@ -32,24 +34,8 @@ find_passes p a (suc n) c e = elim (found_here p a c (p a) (find p (range_with_l
   | inr f ↦ let more = find_passes p (a + 1) n c f in (more.0, omega (arith, more.1))
 ]
 
--- the test of an option's number
-pub is_number-true : (o : Option ℕ) (t : ℕ) → is_number o t ≡ true → o ≡ Some t
-is_number-true None t e = absurd (cc)
-is_number-true (Some m) t e = let same : m ≡ t = grind (arith, nat_tests, e) in ap Some same
-
-is_number-own : (o : Option ℕ) (t : ℕ) → o ≡ Some t → is_number o t ≡ true
-is_number-own o t e = rw e (grind (arith, nat_tests))
-
-passes-true : (a b : Bool) → (a && b) ≡ true → (a ≡ true) × (b ≡ true)
-passes-true true b e = (refl, e)
-passes-true false b e = absurd (cc)
-
-barred : (b : Bool) → (b ≡ true → ⊥) → b ≡ false
-barred true bars = absurd (bars refl)
-barred false bars = refl
-
 passes-false : (a b : Bool) → (a ≡ true → b ≡ true → ⊥) → (a && b) ≡ false
-passes-false true b bars = barred b (bars refl)
+passes-false true b bars = false_from_ne_true b (bars refl)
 passes-false false b bars = refl
 
 -- the least contender that passes
@@ -69,7 +55,7 @@ least-none g layer cell passes bars = find_none (λ from. is_number (target g la
 least-contends : (g : Grid) (layer cell : ℕ) (passes : ℕ → Bool) (c : ℕ) → least_contender g layer cell passes ≡ Some c → (target g layer c ≡ Some cell) × (c < cell_count g)
 least-contends g layer cell passes c e =
     let found = find_passes (λ from. is_number (target g layer from) cell && passes from) 0 (cell_count g) c e in
-    let both = passes-true (is_number (target g layer c) cell) (passes c) found.0 in
+    let both = and_parts (is_number (target g layer c) cell) (passes c) found.0 in
     (is_number-true (target g layer c) cell both.0, omega (arith, found.1))
 
 either : (g : Grid) (layer cell : ℕ) (p q : ℕ → Bool) (c : ℕ) (o : Option ℕ) → least_contender g layer cell p ≡ o → option_or o (least_contender g layer cell q) ≡ Some c →
@@ -92,12 +78,6 @@ pub winner-of_bare : (g : Grid) (layer cell c : ℕ) → is_bare g layer cell �
     ((s : ℕ) → target g layer s ≡ Some cell → c ≤ s) → winner g layer cell ≡ Some c
 winner-of_bare g layer cell c bare within aims least = rw (bare, winner) (least-is g layer cell (λ from. true) c within aims refl (λ s a y. least s a))
 
-above_is : (cell s : ℕ) → nat_lt cell s ≡ true → cell < s
-above_is cell s e = grind (arith, nat_tests, e)
-
-is_above : (cell s : ℕ) → cell < s → nat_lt cell s ≡ true
-is_above cell s h = grind (arith, nat_tests)
-
 not_under : (a b c d : ℕ) → (a < b → c < d) → d ≤ c → b ≤ a
 not_under a b c d h k = grind arith
 
@@ -108,12 +88,12 @@ winner-of_left g layer cell c bare within aims apart behind over ahead = rw (bar
   next : (b : Bool) → nat_lt cell c ≡ b → option_or (least_contender g layer cell (nat_lt cell)) (least_contender g layer cell (λ from. true)) ≡ Some c
   next true e =
       let first : least_contender g layer cell (nat_lt cell) ≡ Some c = least-is g layer cell (nat_lt cell) c within aims e
-      (λ s a y. let higher = above_is cell s y in not_under s c s cell (behind s a) (omega arith)) in
+      (λ s a y. let higher = ltb-true cell s y in not_under s c s cell (behind s a) (omega arith)) in
       rw first refl
   next false e =
       let not_above : c ≤ cell = grind (arith, nat_tests, e) in
       let none : least_contender g layer cell (nat_lt cell) ≡ None = least-none g layer cell (nat_lt cell)
-      (λ s a y. let higher = above_is cell s y in let below = ahead s a not_above in omega arith) in
+      (λ s a y. let higher = ltb-true cell s y in let below = ahead s a not_above in omega arith) in
       let first : least_contender g layer cell (λ from. true) ≡ Some c = least-is g layer cell (λ from. true) c within aims refl
       (λ s a y. not_under s c cell c (over s a) not_above) in
       rw none first

@@ -38,7 +38,7 @@ held-piece : (kept : Held) (piece : List ℕ) → held (bytes_of kept ++ piece) 
 held-piece kept [] = held-nothing_more kept
 held-piece kept (byte ∷ bytes) = held_one_more kept byte bytes ∙ held-piece (held_behind kept byte) bytes
 
-keys_of-nothing_more : (kept : Held) → keys_of (bytes_of kept ++ []) ≡ []
+pub keys_of-nothing_more : (kept : Held) → keys_of (bytes_of kept ++ []) ≡ []
 keys_of-nothing_more Nothing = refl
 keys_of-nothing_more Escape = refl
 keys_of-nothing_more Bracket = refl

@@ -6,6 +6,7 @@ use Rattle.std.proofs.lemmas.Bool.{eqb-true, and_parts}
 use Rattle.std.proofs.lemmas.List.{map-append}
 use Rattle.std.proofs.lemmas.List.Elements.{All-head, All-tail, filter_map-append}
 use Rattle.std.proofs.lemmas.List.Folds.{list_all-append, list_any-append}
+use Rattle.std.proofs.Math.Bool.{and-true, and_assoc, and-or_distrib_right}
 use Rattle.ps_model.specs.declared.pieces.LayerId.{LayerId}
 use Rattle.ps_model.specs.declared.pieces.ObjectId.{ObjectId}
 use Rattle.ps_model.specs.declared.pieces.Motion.{Motion}
@@ -23,25 +24,7 @@ use Rattle.ps_laws.specs.CompilingCells.{IsOnOneLayer}
 
 -- tests ------------------------------------------------------------------------------------------------------------------
 
-and-true : (a : Bool) → (a && true) ≡ a
-and-true true = refl
-and-true false = refl
-
-or-false : (a : Bool) → (a || false) ≡ a
-or-false true = refl
-or-false false = refl
-
-and-assoc : (a b c : Bool) → ((a && b) && c) ≡ (a && (b && c))
-and-assoc true b c = refl
-and-assoc false b c = refl
-
 -- one of two, and another
-or-and : (a b c : Bool) → ((a || b) && c) ≡ ((a && c) || (b && c))
-or-and true b true = refl
-or-and true true false = refl
-or-and true false false = refl
-or-and false b c = refl
-
 -- two pairs, paired the other way
 and-paired : (a b c d : Bool) → ((a && b) && (c && d)) ≡ ((a && c) && (b && d))
 and-paired true true c d = refl
@@ -120,7 +103,7 @@ module _ (names : Names) (cell : List Slot) where
   all_standing None [] = refl
   all_standing (Some motion) [] = refl
   all_standing None (object ∷ objects) =
-      and-assoc (here object) (all_here objects) (all_move (claims_of names (Each objects None)))
+      and_assoc (here object) (all_here objects) (all_move (claims_of names (Each objects None)))
       ∙ ap₂ (λ (a b : Bool). a && b) (stands_somehow object) (all_standing None objects)
   all_standing (Some motion) (object ∷ objects) =
       and-paired (here object) (all_here objects) (moves_on (own_layer names object) motion) (all_move (claims_of names (Each objects (Some motion))))
@@ -137,7 +120,7 @@ module _ (names : Names) (cell : List Slot) where
   any_moving layer motion [] on = refl
   any_moving layer motion (object ∷ objects) on =
       let here_too = and_parts (nat_eq (layer_of names object) layer) (list_all (λ other. nat_eq (layer_of names other) layer) objects) on in
-      or-and (here object) (any_here objects) (moves_on (record { 0 = layer }) motion)
+      and-or_distrib_right (here object) (any_here objects) (moves_on (record { 0 = layer }) motion)
       ∙ ap₂ (λ (a b : Bool). a || b)
       (ap (λ (l : ℕ). here object && moves_on (record { 0 = l }) motion) (sym (eqb-true (layer_of names object) layer here_too.0)) ∙ stands_moving motion object)
       (any_moving layer motion objects here_too.1)
@@ -149,7 +132,7 @@ module _ (names : Names) (cell : List Slot) where
   any_standing (Some motion) (first ∷ others) on =
       let moves : Bool = moves_on (own_layer names first) motion in
       ap (λ a. any_here (first ∷ others) && a) (and-true moves)
-      ∙ or-and (here first) (any_here others) moves
+      ∙ and-or_distrib_right (here first) (any_here others) moves
       ∙ ap₂ (λ (a b : Bool). a || b) (stands_moving motion first) (any_moving (layer_of names first) motion others on)
 
   -- one of each of some lists

@@ -19,6 +19,7 @@ use Rattle.ps_model.specs.meaning.Wanted.{Wanted, denied}
 use Rattle.ps_model.specs.meaning.Rewriting.{claims_of, slot_without, claim_on, kept_motion, claimed, unclaimed, rewritten_slot, rewritten_from}
 use Rattle.ps_model.specs.meaning.Compiled.{is_gone, slot_freed, object_written, slot_written, write_on, written_from, cell_written}
 use Rattle.ps_model.specs.meaning.CompiledCells.{layered, motion_written, object_of_claim, claim_write, clear_write, is_alone, layer_writes, write_of}
+use Rattle.ps_laws.proofs.common.Truths.{equal_so}
 
 -- a layer that the right claims --------------------------------------------------------------------------------------------
 
@@ -97,12 +98,6 @@ slot-written : (left right : List Claim) (layer : ℕ) (slot : Slot) →
 slot-written left right layer slot = right_writes left right (map clear_write (filter (is_alone right) left)) layer slot (left_writes left right layer slot)
 
 -- objects that go from their layers --------------------------------------------------------------------------------------
-
--- the first is the second as the second is the first
-equal_so : (a b : ℕ) (x y : Bool) → nat_eq a b ≡ x → nat_eq b a ≡ y → x ≡ y
-equal_so a b true y e f = sym (eq-eqb b a (sym (eqb-true a b e))) ∙ f
-equal_so a b false true e f = sym e ∙ eq-eqb a b (sym (eqb-true b a f))
-equal_so a b false false e f = refl
 
 equal_back : (a b : ℕ) → nat_eq a b ≡ nat_eq b a
 equal_back a b = equal_so a b (nat_eq a b) (nat_eq b a) refl refl

@@ -3,6 +3,7 @@ use Rattle.std.proofs.Common.{◌≡◌, ℕ, ◌+◌, ◌<◌, ◌≤◌, ◌�
 use Rattle.std.specs.List.{All}
 use Rattle.std.proofs.lemmas.List.{length-append, append-nil}
 use Rattle.std.proofs.lemmas.List.Elements.{All-head, All-tail}
+use Rattle.std.proofs.lemmas.Bool.{both_ways}
 use Rattle.ps_model.specs.board.Turns.{Script}
 use Rattle.ps_model.specs.game.Outputs.{output, front}
 use Rattle.ps_model.specs.game.Tellings.{Call, Gives, Fails, ReaderCalls, Unasked, Asked, Told, read, all_bytes, has_failing_call, last_behind, empty_pieces, empty_reads}
@@ -69,7 +70,7 @@ no_empty_write text reader_before reader_after writer_before writer_after answer
     same_count writer_before.empty_calls writer_after.empty_calls right.tells.no_empty_write more
 
 -- pieces that aren't empty
-no_empty_piece : (pieces : List (List ℕ)) → All IsPiece pieces → empty_pieces pieces ≡ 0
+pub no_empty_piece : (pieces : List (List ℕ)) → All IsPiece pieces → empty_pieces pieces ≡ 0
 no_empty_piece [] all = refl
 no_empty_piece ([] ∷ pieces) all = let piece : IsPiece [] = All-head IsPiece [] pieces all in let no : 1 ≤ 0 = piece.some in absurd (omega (arith, no))
 no_empty_piece ((byte ∷ bytes) ∷ pieces) all = no_empty_piece pieces (All-tail IsPiece (byte ∷ bytes) pieces all)
@@ -133,34 +134,31 @@ no_call_behind_empty_one text reader_before reader_after writer_before writer_af
 well_unasked : (reading : ReaderCalls) → reading ≡ Unasked → has_failing_call reading ≡ true → ⊥
 well_unasked reading is failed = let no : false ≡ true = rw is at failed in absurd (cc)
 
-not_both : (b : Bool) → b ≡ true → b ≡ false → ⊥
-not_both b e d = absurd (cc)
-
 pub read_fault_is_told : ReadFaultIsTold
-read_fault_is_told text told (Ends ending) failed other (script, found, right) = not_both _ failed right.reader_is_well
+read_fault_is_told text told (Ends ending) failed other (script, found, right) = both_ways _ right.reader_is_well failed
 read_fault_is_told text told (Refuses fault) failed other right = well_unasked told.reading right.asked_nothing failed
 read_fault_is_told text told WantsMemory failed other (inl right) = well_unasked told.reading right.asked_nothing failed
-read_fault_is_told text told WantsMemory failed other (inr (script, found, right)) = not_both _ failed right.reader_is_well
+read_fault_is_told text told WantsMemory failed other (inr (script, found, right)) = both_ways _ right.reader_is_well failed
 read_fault_is_told text told CannotRead failed other right = other refl
-read_fault_is_told text told CannotWrite failed other (script, found, right) = not_both _ failed right.reader_is_well
+read_fault_is_told text told CannotWrite failed other (script, found, right) = both_ways _ right.reader_is_well failed
 
 pub write_fault_is_told : WriteFaultIsTold
-write_fault_is_told text told (Ends ending) failed other (script, found, right) = not_both _ failed right.writer_is_well
-write_fault_is_told text told (Refuses fault) failed other right = not_both _ failed right.writer_is_well
-write_fault_is_told text told WantsMemory failed other (inl right) = not_both _ failed right.writer_is_well
-write_fault_is_told text told WantsMemory failed other (inr (script, found, right)) = not_both _ failed right.writer_is_well
-write_fault_is_told text told CannotRead failed other (script, found, right) = not_both _ failed right.writer_is_well
+write_fault_is_told text told (Ends ending) failed other (script, found, right) = both_ways _ right.writer_is_well failed
+write_fault_is_told text told (Refuses fault) failed other right = both_ways _ right.writer_is_well failed
+write_fault_is_told text told WantsMemory failed other (inl right) = both_ways _ right.writer_is_well failed
+write_fault_is_told text told WantsMemory failed other (inr (script, found, right)) = both_ways _ right.writer_is_well failed
+write_fault_is_told text told CannotRead failed other (script, found, right) = both_ways _ right.writer_is_well failed
 write_fault_is_told text told CannotWrite failed other right = other refl
 
 pub no_read_fault_unasked : NoReadFaultUnasked
 no_read_fault_unasked text told is (script, found, right) = rw is at right.cause
 
 pub no_write_fault_unfailed : NoWriteFaultUnfailed
-no_write_fault_unfailed text told well (script, found, right) = not_both _ right.cause well
+no_write_fault_unfailed text told well (script, found, right) = both_ways _ well right.cause
 
 pub no_run_on_failed_devices : NoRunOnFailedDevices
-no_run_on_failed_devices text reader_before reader_after writer_before writer_after answer (inl failed) right = not_both _ failed right.tells.reader_was_well
-no_run_on_failed_devices text reader_before reader_after writer_before writer_after answer (inr failed) right = not_both _ failed right.tells.writer_was_well
+no_run_on_failed_devices text reader_before reader_after writer_before writer_after answer (inl failed) right = both_ways _ right.tells.reader_was_well failed
+no_run_on_failed_devices text reader_before reader_after writer_before writer_after answer (inr failed) right = both_ways _ right.tells.writer_was_well failed
 
 -- bytes ----------------------------------------------------------------------------------------------------------------
 

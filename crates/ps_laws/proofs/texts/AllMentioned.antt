@@ -2,13 +2,13 @@
 -- mentions. The steps in which it is made are enough, since the mentions of a line are added once at most.
 use Rattle.std.proofs.Common.{◌≡◌, ℕ, zero, suc, ◌+◌, ◌≤◌, ◌||◌, ◌⊎◌, inl, inr, Bool, true, false, cond, List, [], ◌∷◌, ◌++◌, length, refl, sym, ap, ◌∙◌, arith}
 use mathlib.Core.Path.{subst}
-use Rattle.std.specs.Prelude.{nat_eq, slice_get}
+use Rattle.std.specs.Prelude.{slice_get}
 use Rattle.std.specs.List.{list_any}
-use Rattle.std.proofs.lemmas.Bool.{eqb-true, or_cases}
-use Rattle.std.proofs.lemmas.Bool.Decides.{nat_tests}
+use Rattle.std.proofs.lemmas.Bool.{eqb-true, or_cases, eq-eqb}
 use Rattle.std.proofs.lemmas.List.{length-append}
 use Rattle.std.proofs.lemmas.List.Folds.{list_any-append}
 use Rattle.std.proofs.lemmas.List.Sums.{sum_by-cons}
+use Rattle.std.proofs.Math.Bool.{or-true}
 use Rattle.ps_model.specs.names.Meanings.{LegendName, Mention, OfObject, OfLine, same_mention, mentions_of, mentions_of_name, with_mentioned, all_mentioned, mention_count}
 
 -- the legend line of the place is on the list
@@ -18,18 +18,11 @@ has listed place = list_any (same_mention (OfLine place)) listed
 pub impossible : {A : Type 0} → false ≡ true → A
 impossible e = absurd (let h = e in cc)
 
-pub same_number : (first second : ℕ) → first ≡ second → nat_eq first second ≡ true
-same_number first second e = grind (arith, nat_tests)
-
-or_true : (b : Bool) → (b || true) ≡ true
-or_true true = refl
-or_true false = refl
-
 in-front : (front back : List Mention) (place : ℕ) → has front place ≡ true → has (front ++ back) place ≡ true
 in-front front back place e = list_any-append (same_mention (OfLine place)) front back ∙ ap (λ (b : Bool). b || has back place) e
 
 in-back : (front back : List Mention) (place : ℕ) → has back place ≡ true → has (front ++ back) place ≡ true
-in-back front back place e = list_any-append (same_mention (OfLine place)) front back ∙ ap (λ (b : Bool). has front place || b) e ∙ or_true (has front place)
+in-back front back place e = list_any-append (same_mention (OfLine place)) front back ∙ ap (λ (b : Bool). has front place || b) e ∙ or-true (has front place)
 
 in-either : (front back : List Mention) (place : ℕ) → has (front ++ back) place ≡ true → (has front place ≡ true) ⊎ (has back place ≡ true)
 in-either front back place e = or_cases (has front place) (has back place) (sym (list_any-append (same_mention (OfLine place)) front back) ∙ e)
@@ -71,7 +64,7 @@ line-less : (listed : List Mention) (number step place : ℕ) (names : List Lege
 line-less listed number step place [] e none = omega arith
 line-less listed number zero place (name ∷ names) e none =
     let here : number ≡ place = omega arith in
-    let now : has (listed ++ OfLine place ∷ []) number ≡ true = in-back listed (OfLine place ∷ []) number (is-first (OfLine place) [] number (same_number number place here)) in
+    let now : has (listed ++ OfLine place ∷ []) number ≡ true = in-back listed (OfLine place ∷ []) number (is-first (OfLine place) [] number (eq-eqb number place here)) in
     let before : has listed number ≡ false = ap (has listed) here ∙ none in
     let gone : cond (has (listed ++ OfLine place ∷ []) number) 0 (length name.mentions) ≡ 0 = ap (λ (b : Bool). cond b 0 (length name.mentions)) now in
     let counted : cond (has listed number) 0 (length name.mentions) ≡ length name.mentions = ap (λ (b : Bool). cond b 0 (length name.mentions)) before in

@@ -23,10 +23,13 @@ use Rattle.ps_model.specs.names.Meanings.{is_aggregate}
 use Rattle.ps_model.specs.names.LayerLines.{Layer, objects_of_layer, last_among, layers_found}
 use Rattle.ps_model.specs.names.NamesRead.{Declared, NameSections, entry_of, entries_of, glyph_of, glyph_with, layer_numbers, names_of, sections_of, name_sections}
 use Rattle.ps_model.specs.names.DeclarationFaults.{are_declared_again, is_bad_object, faults_of_object, object_faults, faults_of_layer}
+use Rattle.ps_model.specs.names.NameFaults.{no_layer_faults}
 use Rattle.ps_laws.specs.GamesOfTexts.{NamesReadAreBounded, GamesAreBounded}
 use Rattle.ps_laws.proofs.common.Everywhere.{All-filter_map}
 use Rattle.ps_laws.proofs.texts.MentionedObjects.{Speaks, all_declared-below}
-use Rattle.ps_laws.proofs.texts.FaultlessNames.{none-before, none-behind, untold, IsFaultless, faultless_sections, names_of_every_game}
+use Rattle.ps_laws.proofs.texts.FaultlessNames.{IsFaultless, faultless_sections, names_of_every_game}
+use Rattle.ps_laws.proofs.common.Lists.{none-before, none-behind}
+use Rattle.ps_laws.proofs.common.FirstFaults.{untold}
 
 -- how many there are -----------------------------------------------------------------------------------------------------
 
@@ -99,9 +102,13 @@ each-under count (object ∷ objects) (Some place ∷ places) long e h =
     All-cons (IsUnder count) place (layer_numbers places) (All-head (IsUnderIf count) (Some place) places h)
     (each-under count objects places (omega arith) e (All-tail (IsUnderIf count) (Some place) places h))
 
+-- a place for each object
+pub length-found : (count : ℕ) (layers : List Layer) → length (layers_found count layers) ≡ count
+length-found count layers = length-map-range_with_len (λ number. last_among (map objects_of_layer layers) (record { 0 = number })) 0 count
+
 -- how many objects there are
 pub layers_found-counted : (count : ℕ) (layers : List Layer) → length (layer_numbers (layers_found count layers)) ≡ count
-layers_found-counted count layers = rw length-map (length-map-range_with_len (λ number. last_among (map objects_of_layer layers) (record { 0 = number })) 0 count)
+layers_found-counted count layers = rw length-map (length-found count layers)
 
 -- names ------------------------------------------------------------------------------------------------------------------
 
@@ -121,23 +128,30 @@ glyphs-below count declared all =
 abbrev IsEntryBelow : ℕ → List ℕ × Meaning → Type 0
 IsEntryBelow count entry = IsBelow count entry.1
 
-sections-bounded : (header : ℕ) (objects : List ObjectText) (lines layer_lines : List WrittenLine) → IsFaultless header (sections_of objects lines layer_lines) → AreBounded (names_of (sections_of objects lines layer_lines))
-sections-bounded header objects lines layer_lines h =
+-- names of few objects and layers, where each object has its layer
+pub few-bounded : (objects : List ObjectText) (lines layer_lines : List WrittenLine) → length objects ≤ OBJECT_LIMIT →
+    length (sections_of objects lines layer_lines).layers ≤ LAYER_LIMIT → no_layer_faults (sections_of objects lines layer_lines) ≡ [] →
+    AreBounded (names_of (sections_of objects lines layer_lines))
+few-bounded objects lines layer_lines few few_layers placed =
     let sections : NameSections = sections_of objects lines layer_lines in
     let count : ℕ = length objects in
     let places : List (Option ℕ) = layers_found count sections.layers in
     let long : length (layer_numbers places) ≡ count = layers_found-counted count sections.layers in
-    let found : length places ≡ count = length-map-range_with_len (λ number. last_among (map objects_of_layer sections.layers) (record { 0 = number })) 0 count in
-    let few : 0 + count ≤ OBJECT_LIMIT = objects-few 0 [] objects h.objects (omega arith) in
-    let few_layers : 0 + length sections.layers ≤ LAYER_LIMIT = layers-few 0 sections.layers h.layers (omega arith) in
     let speak : All (Speaks count) sections.declared = all_declared-below objects lines in
     record {
       few_objects = omega (arith, long, few);
       few_layers = omega (arith, few_layers);
-      layers_below = each-under (length sections.layers) objects places found h.placed (found-under count sections.layers);
+      layers_below = each-under (length sections.layers) objects places (length-found count sections.layers) placed (found-under count sections.layers);
       names_below = subst (λ (n : ℕ). All (IsEntryBelow n) (entries_of sections.declared)) (sym long) (All-map (IsEntryBelow count) entry_of sections.declared speak);
       glyphs_below = subst (λ (n : ℕ). All (IsGlyphBelow n) (filter_map glyph_of sections.declared)) (sym long) (glyphs-below count sections.declared speak);
     }
+
+sections-bounded : (header : ℕ) (objects : List ObjectText) (lines layer_lines : List WrittenLine) → IsFaultless header (sections_of objects lines layer_lines) → AreBounded (names_of (sections_of objects lines layer_lines))
+sections-bounded header objects lines layer_lines h =
+    let layers : List Layer = (sections_of objects lines layer_lines).layers in
+    let few : 0 + length objects ≤ OBJECT_LIMIT = objects-few 0 [] objects h.objects (omega arith) in
+    let few_layers : 0 + length layers ≤ LAYER_LIMIT = layers-few 0 layers h.layers (omega arith) in
+    few-bounded objects lines layer_lines (omega (arith, few)) (omega (arith, few_layers)) h.placed
 
 pub names_read-bounded : NamesReadAreBounded
 names_read-bounded header object_lines legend_lines layer_lines e =

@@ -1,10 +1,8 @@
 -- What it is that names without faults have: each kind of fault by itself is missing.
-use Rattle.std.proofs.Common.{◌≡◌, ℕ, Bool, true, false, Option, Some, None, List, [], ◌∷◌, ◌++◌, refl, sym}
+use Rattle.std.proofs.Common.{◌≡◌, ℕ, Option, Some, None, List, [], ◌∷◌, ◌++◌, sym}
 use mathlib.Core.Path.{subst}
 use Rattle.ps_model.specs.declared.texts.Section.TheVariants.{Objects, Legend, Layers}
 use Rattle.ps_model.specs.declared.faults.Fault.{Fault}
-use Rattle.ps_model.specs.declared.faults.FaultKind.{FaultKind}
-use Rattle.ps_model.specs.text.Faults.{when}
 use Rattle.ps_model.specs.text.TextFaults.{text_fault}
 use Rattle.ps_model.specs.text.Lines.{Line, lines_of}
 use Rattle.ps_model.specs.text.Sections.{section_lines, header_number, heading_faults}
@@ -14,20 +12,7 @@ use Rattle.ps_model.specs.names.DeclarationFaults.{object_faults, form_faults, n
 use Rattle.ps_model.specs.names.NameFaults.{folded_names, no_layer_faults, missing_faults, whole_faults, faults_of_sections, name_faults}
 use Rattle.ps_model.specs.game.Games.{Game, game_read, line_faults, game}
 use Rattle.ps_laws.proofs.texts.OneGame.{game_is_faultless}
-
--- there are no faults in the parts of none
-pub none-before : {A : Type 0} (xs ys : List A) → xs ++ ys ≡ [] → xs ≡ []
-none-before [] ys e = refl
-none-before (x ∷ xs) ys e = cc
-
-pub none-behind : {A : Type 0} (xs ys : List A) → xs ++ ys ≡ [] → ys ≡ []
-none-behind [] ys e = e
-none-behind (x ∷ xs) ys e = cc
-
--- a fault that isn't told
-pub untold : (test : Bool) (kind : FaultKind) (line : ℕ) → when test kind line ≡ [] → test ≡ false
-untold true kind line e = cc
-untold false kind line e = refl
+use Rattle.ps_laws.proofs.common.Lists.{none-before, none-behind}
 
 -- sections of names without faults of these kinds
 pub record IsFaultless (header : ℕ) (sections : NameSections) : Type 0 where

@@ -17,7 +17,9 @@ use Rattle.ps_model.specs.session.LevelFaults.{is_too_large, row_faults, rows_fa
 use Rattle.ps_model.specs.session.GameLevels.{IsEntryWithinLimits}
 use Rattle.ps_model.specs.game.Games.{Game, game_read, line_faults}
 use Rattle.ps_laws.specs.GamesOfTexts.{GameLevelsAreWithinLimits}
-use Rattle.ps_laws.proofs.texts.FaultlessNames.{none-before, none-behind, untold, of_every_faultless}
+use Rattle.ps_laws.proofs.texts.FaultlessNames.{of_every_faultless}
+use Rattle.ps_laws.proofs.common.Lists.{none-before, none-behind}
+use Rattle.ps_laws.proofs.common.FirstFaults.{untold}
 
 -- a row without faults isn't where a level is too large
 row-fits : (names : Names) (width place : ℕ) (row : Line) → row_faults names width place row ≡ [] → is_too_large width place ≡ false
@@ -30,7 +32,7 @@ below-limit : (width place : ℕ) → is_too_large width place ≡ false → pla
 below-limit width place e h = grind (arith, nat_tests)
 
 -- rows without faults are no more than the limit
-rows-fit : (names : Names) (width place : ℕ) (rows : List Line) → place ≤ SIDE_LIMIT → rows_faults names width place rows ≡ [] → place + length rows ≤ SIDE_LIMIT
+pub rows-fit : (names : Names) (width place : ℕ) (rows : List Line) → place ≤ SIDE_LIMIT → rows_faults names width place rows ≡ [] → place + length rows ≤ SIDE_LIMIT
 rows-fit names width place [] h e = omega arith
 rows-fit names width place (row ∷ rows) h e =
     let here : List Fault = row_faults names width place row in
@@ -39,7 +41,8 @@ rows-fit names width place (row ∷ rows) h e =
     let rest : suc place + length rows ≤ SIDE_LIMIT = rows-fit names width (suc place) rows less (none-behind here others e) in
     omega (arith, rest)
 
-entry-within : (names : Names) (place : ℕ) (entry : EntryLines) → entry_faults names place entry ≡ [] → IsEntryWithinLimits (entry_of_lines names entry)
+-- an entry without faults
+pub entry-within : (names : Names) (place : ℕ) (entry : EntryLines) → entry_faults names place entry ≡ [] → IsEntryWithinLimits (entry_of_lines names entry)
 entry-within names place (MessageLine line) e = tt
 entry-within names place (LevelRows first below) e =
     let width : ℕ = length (characters_of first) in

@@ -25,6 +25,7 @@ use Rattle.ps_model.specs.board.GameGrids.{IsSlotOf, IsCellFrom, IsCellOf}
 use Rattle.ps_model.specs.session.GameLevels.{AreObjectsOf, IsEntryOf}
 use Rattle.ps_laws.specs.GamesOfTexts.{LoadedLevelsAreGrids, EntriesReadAreOfNames}
 use Rattle.ps_laws.proofs.common.Everywhere.{either_one, All-always, All-mapped, All-flat_map, All-joined}
+use Rattle.ps_laws.proofs.grids.KeptCells.{IsObjectOf}
 
 -- loading ----------------------------------------------------------------------------------------------------------------
 
@@ -97,9 +98,6 @@ columns-game names width rows all =
 
 -- background -------------------------------------------------------------------------------------------------------------
 
-abbrev IsObjectOf : Names → ObjectId → Type 0
-IsObjectOf names object = object.0 < object_count names
-
 one-found : (names : Names) (test : Bool) (object other : ObjectId) (found : Option ObjectId) → IsObjectOf names object → IsObjectOf names (unwrap_or found other) → IsObjectOf names (unwrap_or (cond test (Some object) found) other)
 one-found names true object other found h k = h
 one-found names false object other found h k = k
@@ -150,13 +148,13 @@ columns-counted rows (column ∷ columns) =
     long ∙ omega (arith, suc-mul (length columns) (length rows))
 
 -- a level has so many cells as its columns and rows say
-cells-counted : (names : Names) (width : ℕ) (rows : List Line) → length (grounded names (in_columns width (map (row_cells names width) rows))) ≡ width * length rows
+pub cells-counted : (names : Names) (width : ℕ) (rows : List Line) → length (grounded names (in_columns width (map (row_cells names width) rows))) ≡ width * length rows
 cells-counted names width rows =
     let read : List (List (List ObjectId)) = map (row_cells names width) rows in
     length-map (in_columns width read) (with_ground names (ground names (in_columns width read))) ∙ columns-counted read (range_with_len 0 width) ∙ ap (λ (n : ℕ). n * length read) (length-range_with_len 0 width)
     ∙ ap (λ (n : ℕ). width * n) (length-map rows (row_cells names width))
 
-entry_of-game : (names : Names) → AreBounded names → 0 < object_count names → (entry : EntryLines) → IsEntryOf names (entry_of_lines names entry)
+pub entry_of-game : (names : Names) → AreBounded names → 0 < object_count names → (entry : EntryLines) → IsEntryOf names (entry_of_lines names entry)
 entry_of-game names bounded some (MessageLine line) = tt
 entry_of-game names bounded some (LevelRows first below) =
     let width : ℕ = length (characters_of first) in

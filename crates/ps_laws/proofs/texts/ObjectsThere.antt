@@ -9,6 +9,7 @@ use Rattle.std.specs.Map.{lookup}
 use Rattle.std.proofs.lemmas.List.{length-map}
 use Rattle.std.proofs.lemmas.List.Elements.{All-nil, All-cons, All-head, All-tail, All-map, All-weaker}
 use Rattle.std.proofs.lemmas.Map.Entries.{All-lookup}
+use Rattle.std.proofs.lemmas.Bool.{not-false, eq-eqb}
 use Rattle.ps_model.specs.declared.texts.Joiner.{Joiner}
 use Rattle.ps_model.specs.declared.texts.Joiner.TheVariants.{And, Or}
 use Rattle.ps_model.specs.declared.faults.Fault.{Fault}
@@ -25,10 +26,12 @@ use Rattle.ps_model.specs.names.DeclarationFaults.{faults_of_legend_name}
 use Rattle.ps_laws.specs.GamesOfTexts.{HasObject, NamesReadHaveObjects, GamesHaveObjects}
 use Rattle.ps_laws.proofs.common.Everywhere.{either_one, All-always, All-mapped, All-filter_map, All-slice_get}
 use Rattle.ps_laws.proofs.common.OptionalSteps.{step-each, mapped-each}
-use Rattle.ps_laws.proofs.texts.AllMentioned.{has, same_number}
+use Rattle.ps_laws.proofs.texts.AllMentioned.{has}
 use Rattle.ps_laws.proofs.texts.NoObjects.{StartsWithLine, no_such_legend}
-use Rattle.ps_laws.proofs.texts.FaultlessNames.{none-before, none-behind, untold, IsFaultless, faultless_sections, names_of_every_game}
+use Rattle.ps_laws.proofs.texts.FaultlessNames.{IsFaultless, faultless_sections, names_of_every_game}
 use Rattle.ps_laws.proofs.texts.BoundedNames.{layers_found-counted, names_read-bounded}
+use Rattle.ps_laws.proofs.common.Lists.{none-before, none-behind}
+use Rattle.ps_laws.proofs.common.FirstFaults.{untold}
 
 -- what lines declare -------------------------------------------------------------------------------------------------------
 
@@ -100,7 +103,7 @@ starts_with_line count (None ∷ found) some all e = absurd (let h = e in cc)
 starts_with_line count (Some (OfObject object) ∷ found) some all e = absurd (All-head (λ (mention : Option Mention). IfSome mention (IsLine count)) (Some (OfObject object)) found all)
 starts_with_line count (Some (OfLine place) ∷ found) some all e = record {
   within = All-head (λ (mention : Option Mention). IfSome mention (IsLine count)) (Some (OfLine place)) found all;
-  there = ap (λ (b : Bool). b || has (filter_map (λ mention. mention) found) place) (same_number place place refl);
+  there = ap (λ (b : Bool). b || has (filter_map (λ mention. mention) found) place) (eq-eqb place place refl);
 }
 
 -- a name whose names on the right are all declared
@@ -144,10 +147,6 @@ at-place P number (suc step) (name ∷ names) h all =
     let e : number + 1 + step ≡ number + suc step = omega arith in
     (found.0, found.1, subst (λ (n : ℕ). P n found.0) e found.2)
 
-is_true : (b : Bool) → not b ≡ false → b ≡ true
-is_true true e = refl
-is_true false e = absurd (let h = e in cc)
-
 -- a name that is well named
 record IsWell (legend : List LegendName) (place : ℕ) (name : LegendName) : Type 0 where
   declared : name.all_declared ≡ true
@@ -158,7 +157,7 @@ well legend place name meanings e =
     let unknown : List Fault = when (not name.all_declared) UnknownName name.line in
     let cycle : List Fault = when (is_on_cycle legend place name) Cycle name.line in
     record {
-      declared = is_true name.all_declared (untold (not name.all_declared) UnknownName name.line (none-before unknown _ e));
+      declared = not-false name.all_declared (untold (not name.all_declared) UnknownName name.line (none-before unknown _ e));
       straight = untold (is_on_cycle legend place name) Cycle name.line (none-before cycle _ (none-behind unknown _ e));
     }
 

@@ -8,6 +8,7 @@ use Rattle.std.proofs.lemmas.List.{length-map, append-nil, reverse-append}
 use Rattle.std.proofs.lemmas.List.Splits.{length-slice_split}
 use Rattle.std.proofs.lemmas.List.Sums.{length-filter}
 use Rattle.std.proofs.lemmas.List.Elements.{All-nil, All-cons, All-head, All-tail, All-map}
+use Rattle.std.proofs.lemmas.Bool.{both_ways, or_parts, and_parts}
 use Rattle.ps_model.specs.declared.faults.Fault.{Fault}
 use Rattle.ps_model.specs.declared.faults.FaultKind.TheVariants.{BadBracket, UnknownWord, RowsDiffer, NothingRight, NameTwice, NoAggregate, Unbound, LateMove, PlusAlone, PlusLate, Ellipsis as EllipsisFault}
 use Rattle.ps_model.specs.declared.texts.Section.TheVariants.{Objects, Legend, Layers, Rules}
@@ -29,27 +30,15 @@ use Rattle.ps_laws.specs.WholeRows.{HasCells, IsWholeRow, IsWholeLine, RulesRead
 use Rattle.ps_laws.proofs.common.Everywhere.{All-mapped}
 use Rattle.ps_laws.proofs.texts.WholeParts.{GoesOn, parts-whole}
 use Rattle.ps_laws.proofs.texts.WrittenCells.{IsLeftWithCells, shape_of-cells}
-use Rattle.ps_laws.proofs.texts.FaultlessNames.{none-before, none-behind, untold, of_every_faultless}
-
--- neither of two tests
-neither_first : (a b : Bool) → (a || b) ≡ false → a ≡ false
-neither_first true b e = e
-neither_first false b e = refl
-
-neither_second : (a b : Bool) → (a || b) ≡ false → b ≡ false
-neither_second true b e = absurd (cc)
-neither_second false b e = e
-
--- a test that holds and doesn't
-clash : (b : Bool) → b ≡ true → b ≡ false → ⊥
-clash true e f = cc
-clash false e f = cc
+use Rattle.ps_laws.proofs.texts.FaultlessNames.{of_every_faultless}
+use Rattle.ps_laws.proofs.common.Lists.{none-before, none-behind}
+use Rattle.ps_laws.proofs.common.FirstFaults.{untold}
 
 -- what passes no test, each element doesn't
 none_passes : {A : Type 0} (test : A → Bool) (xs : List A) → list_any test xs ≡ false → All (λ x. test x ≡ false) xs
 none_passes test [] e = All-nil (λ x. test x ≡ false)
 none_passes test (x ∷ xs) e =
-    All-cons (λ x. test x ≡ false) x xs (neither_first (test x) (list_any test xs) e) (none_passes test xs (neither_second (test x) (list_any test xs) e))
+    All-cons (λ x. test x ≡ false) x xs (or_parts (test x) (list_any test xs) e).0 (none_passes test xs (or_parts (test x) (list_any test xs) e).1)
 
 -- rows ---------------------------------------------------------------------------------------------------------------------
 
@@ -70,10 +59,6 @@ gap-first : (cells other : List Token) → has_kind is_ellipsis cells ≡ false 
 gap-first cells other e =
     ap (λ (first : Bool). first && list_all (λ (token : Token). is_ellipsis token.symbol) (cells ++ other)) e
 
-gap-has : (first more : Bool) → (first && more) ≡ true → first ≡ true
-gap-has true more e = refl
-gap-has false more e = absurd (cc)
-
 -- whether the last of these cells has an ellipsis, or the one before them where there is none
 abbrev last_has : Bool → List (List Token) → Bool
 last_has before [] = before
@@ -90,20 +75,20 @@ last-first cell (next ∷ cells) more =
 -- behind a cell, which has an ellipsis where it is a gap, there are no gaps side by side, and none comes last
 cells-go-on : (before gap : Bool) (cells others : List (List Token)) → (gap ≡ true → before ≡ true) →
     ellipses_touch_behind before cells ≡ false → last_has before cells ≡ false → GoesOn is_gap gap (beside cells others)
-cells-go-on before true [] others has touch last = absurd (clash before (has refl) last)
+cells-go-on before true [] others has touch last = absurd (both_ways before last (has refl))
 cells-go-on before false [] others has touch last = tt
 cells-go-on before true (cell ∷ cells) others has touch last =
     let here : Bool = has_kind is_ellipsis cell in
     let none : here ≡ false =
-    sym (ap (λ (first : Bool). first && here) (has refl)) ∙ neither_first (before && here) (ellipses_touch_behind here cells) touch in (
+    sym (ap (λ (first : Bool). first && here) (has refl)) ∙ (or_parts (before && here) (ellipses_touch_behind here cells) touch).0 in (
       gap-first cell (slice_index_or others 0 []) none,
-      cells-go-on here false cells (drop 1 others) (λ e. absurd (cc)) (neither_second (before && here) (ellipses_touch_behind here cells) touch) last,
+      cells-go-on here false cells (drop 1 others) (λ e. absurd (cc)) (or_parts (before && here) (ellipses_touch_behind here cells) touch).1 last,
     )
 cells-go-on before false (cell ∷ cells) others has touch last =
     let here : Bool = has_kind is_ellipsis cell in
     let more : Bool = list_all (λ (token : Token). is_ellipsis token.symbol) (cell ++ slice_index_or others 0 []) in
-    cells-go-on here (is_gap (cell, slice_index_or others 0 [])) cells (drop 1 others) (gap-has here more)
-    (neither_second (before && here) (ellipses_touch_behind here cells) touch) last
+    cells-go-on here (is_gap (cell, slice_index_or others 0 [])) cells (drop 1 others) (λ e. (and_parts here more e).0)
+    (or_parts (before && here) (ellipses_touch_behind here cells) touch).1 last
 
 -- the parts of a row without wrong ellipses have cells
 parts-have-cells : (cells others : List (List Token)) → HasCells cells → ends_in_ellipsis cells ≡ false → ellipses_touch cells ≡ false →
@@ -111,11 +96,11 @@ parts-have-cells : (cells others : List (List Token)) → HasCells cells → end
 parts-have-cells [] others some ends touch = absurd (omega (arith, some))
 parts-have-cells (cell ∷ cells) others some ends touch =
     let here : Bool = has_kind is_ellipsis cell in
-    let first : here ≡ false = neither_first here _ ends in
+    let first : here ≡ false = (or_parts here _ ends).0 in
     let last : last_has here cells ≡ false =
     sym (last-first cell cells [])
     ∙ ap (λ (back : List (List Token)). has_kind is_ellipsis (slice_index_or back 0 [])) (append-nil (reverse (cell ∷ cells)))
-    ∙ neither_second here (has_kind is_ellipsis (slice_index_or (reverse (cell ∷ cells)) 0 [])) ends in
+    ∙ (or_parts here (has_kind is_ellipsis (slice_index_or (reverse (cell ∷ cells)) 0 [])) ends).1 in
     parts-whole is_gap true (beside (cell ∷ cells) others) (
       gap-first cell (slice_index_or others 0 []) first,
       cells-go-on here false cells (drop 1 others) (λ e. absurd (cc)) touch last,
@@ -124,9 +109,9 @@ parts-have-cells (cell ∷ cells) others some ends touch =
 -- a row without wrong ellipses is whole
 row-whole : (cells others : List (List Token)) → HasCells cells → has_wrong_cells cells ≡ false → IsWholeRow (row_of_cells (paired_cells (cells, others)))
 row-whole cells others some e =
-    let stands : (ends_in_ellipsis cells || (ellipses_touch cells || has_many_ellipses cells)) ≡ false = neither_second (list_any mixes_ellipsis cells) _ e in
-    let apart : (ellipses_touch cells || has_many_ellipses cells) ≡ false = neither_second (ends_in_ellipsis cells) _ stands in
-    let many : has_many_ellipses cells ≡ false = neither_second (ellipses_touch cells) (has_many_ellipses cells) apart in
+    let stands : (ends_in_ellipsis cells || (ellipses_touch cells || has_many_ellipses cells)) ≡ false = (or_parts (list_any mixes_ellipsis cells) _ e).1 in
+    let apart : (ellipses_touch cells || has_many_ellipses cells) ≡ false = (or_parts (ends_in_ellipsis cells) _ stands).1 in
+    let many : has_many_ellipses cells ≡ false = (or_parts (ellipses_touch cells) (has_many_ellipses cells) apart).1 in
     let few : length (filter (has_kind is_ellipsis) cells) ≤ 2 = grind (arith, nat_tests) in
     let gaps : length (filter is_gap (beside cells others)) ≡ count_by is_gap (beside cells others) = length-filter is_gap (beside cells others) in
     let cut : length (slice_split is_gap (beside cells others)) ≡ count_by is_gap (beside cells others) + 1 = length-slice_split is_gap (beside cells others) in
@@ -138,7 +123,7 @@ row-whole cells others some e =
       cells =
           All-mapped HasCells HasCells (map pair_of) (slice_split is_gap (beside cells others))
           (λ part has. subst (λ (n : ℕ). 0 < n) (sym (length-map part pair_of)) has)
-          (parts-have-cells cells others some (neither_first (ends_in_ellipsis cells) _ stands) (neither_first (ellipses_touch cells) _ apart));
+          (parts-have-cells cells others some (or_parts (ends_in_ellipsis cells) _ stands).0 (or_parts (ellipses_touch cells) _ apart).0);
     }
 
 -- the left of each pair is of the first list
@@ -154,7 +139,7 @@ IsWrittenWell cells = HasCells cells × (has_wrong_cells cells ≡ false)
 
 rows-whole : (shape : RuleShape) → IsLeftWithCells shape → has_bad_ellipsis shape ≡ false → All IsWholeRow (rows_of shape)
 rows-whole shape some e =
-    let left : has_wrong_ellipsis shape.left ≡ false = neither_first (has_wrong_ellipsis shape.left) _ e in
+    let left : has_wrong_ellipsis shape.left ≡ false = (or_parts (has_wrong_ellipsis shape.left) _ e).0 in
     let right : list_any (λ (row : WrittenRow). has_wrong_cells row.cells) shape.left.rows ≡ false = left in
     let each : All (λ (row : WrittenRow). IsWrittenWell row.cells) shape.left.rows =
     λ k d within. (some k d within, none_passes (λ (row : WrittenRow). has_wrong_cells row.cells) shape.left.rows right k d within) in

@@ -14,12 +14,14 @@ use Rattle.ps_names.specs.Flattened.{merged, spoken, all_spoken, spoken_by, room
 use Rattle.ps_names.specs.declared.legend_names.LegendName as code
 use Rattle.ps_names.specs.LegendNames.{legend_shown}
 use Rattle.std.proofs.lemmas.Option.{slice_get_past}
+use Rattle.std.proofs.Math.Bool.{or-false, or-true}
+use Rattle.std.proofs.lemmas.Bool.{and_parts}
 use Rattle.ps_names.specs.declared.mention.Mention.{Mention as Waits}
 use Rattle.ps_names.specs.Known.{mention_shown, mentions_shown}
 use Rattle.ps_names.proofs.common.Elements.{element-first}
 use Rattle.ps_names.specs.Levels.{level, is_below, are_below}
-use Rattle.ps_names.proofs.mentions.LevelLaws.{first, second, raise-each, mentions-at}
-use Rattle.ps_names.proofs.mentions.ReachLaw.{list-old, list-new, any-more, or_one, or_true}
+use Rattle.ps_names.proofs.mentions.LevelLaws.{raise-each, mentions-at}
+use Rattle.ps_names.proofs.mentions.ReachLaw.{list-old, list-new, any-more}
 use Rattle.ps_names.proofs.mentions.MergedLaws.{merged-old, merged-new, Within, among-left, among-right, among-cases, among-one, among-self, merged-within, absorbed, merged-append, merged-twice}
 
 abbrev has : ℕ → List Mention → Bool
@@ -40,12 +42,12 @@ sum-other h' true len rest' rest more e f = rw e (omega arith)
 sum-other h' false len rest' rest more e f = rw e (omega arith)
 
 other-line : (listed : List Mention) (place new : ℕ) → nat_eq place new ≡ false → has place (listed ++ OfLine new ∷ []) ≡ has place listed
-other-line listed place new q = any-more (OfLine place) listed (OfLine new) false q ∙ or_one _
+other-line listed place new q = any-more (OfLine place) listed (OfLine new) false q ∙ or-false _
 
 pub room-object : (listed : List Mention) (object : ObjectId) (place : ℕ) (names : List LegendName) → room_from (listed ++ OfObject object ∷ []) place names ≡ room_from listed place names
 room-object listed object place [] = refl
 room-object listed object place (name ∷ names) =
-    sum-same _ _ (length name.mentions) _ _ (any-more (OfLine place) listed (OfObject object) false refl ∙ or_one _) (room-object listed object (suc place) names)
+    sum-same _ _ (length name.mentions) _ _ (any-more (OfLine place) listed (OfObject object) false refl ∙ or-false _) (room-object listed object (suc place) names)
 
 room-behind : (listed : List Mention) (new place : ℕ) (names : List LegendName) → new < place → room_from (listed ++ OfLine new ∷ []) place names ≡ room_from listed place names
 room-behind listed new place [] less = refl
@@ -59,7 +61,7 @@ room-line listed new place k [] e none = refl
 room-line listed new place zero (name ∷ names) e none =
     let same : place ≡ new = omega arith in
     let q : nat_eq place new ≡ true = grind (arith, nat_tests) in
-    let there : has place (listed ++ OfLine new ∷ []) ≡ true = any-more (OfLine place) listed (OfLine new) true q ∙ or_true _ in
+    let there : has place (listed ++ OfLine new ∷ []) ≡ true = any-more (OfLine place) listed (OfLine new) true q ∙ or-true _ in
     sum-new _ _ (length name.mentions) _ _ there (ap (λ p. has p listed) same ∙ none) (room-behind listed new (suc place) names (omega arith))
 room-line listed new place (suc k) (name ∷ names) e none =
     let q : nat_eq place new ≡ false = grind (arith, nat_tests) in
@@ -74,8 +76,8 @@ lower levels limit (mention ∷ others) = cond (is_below levels limit mention) (
 lower-append : (levels : List ℕ) (limit : ℕ) (mentions others : List Mention) → are_below levels limit mentions ≡ true → lower levels limit (mentions ++ others) ≡ mentions ++ lower levels limit others
 lower-append levels limit [] others e = refl
 lower-append levels limit (mention ∷ mentions) others e =
-    ap (λ b. cond b (mention ∷ lower levels limit (mentions ++ others)) []) (first (is_below levels limit mention) (are_below levels limit mentions) e)
-    ∙ ap (λ ms. mention ∷ ms) (lower-append levels limit mentions others (second (is_below levels limit mention) (are_below levels limit mentions) e))
+    ap (λ b. cond b (mention ∷ lower levels limit (mentions ++ others)) []) (and_parts (is_below levels limit mention) (are_below levels limit mentions) e).0
+    ∙ ap (λ ms. mention ∷ ms) (lower-append levels limit mentions others (and_parts (is_below levels limit mention) (are_below levels limit mentions) e).1)
 
 not-self : (n : ℕ) → nat_lt n n ≡ false
 not-self n = grind (arith, nat_tests)
@@ -214,7 +216,7 @@ module _ (legend : List LegendName) (levels : List ℕ) (by_line : ℕ → List 
           let absent : is_among (objs listed) object ≡ false = object-there object listed ∙ q in
           let added : objs (listed ++ OfObject object ∷ []) ≡ objs listed ++ object ∷ [] = objs-object listed object in
           ap objs (list-new legend steps (OfObject object) others listed q)
-          ∙ new (after-object listed (listed ++ OfObject object ∷ []) others object closed (λ place. any-more (OfLine place) listed (OfObject object) false refl ∙ or_one _)
+          ∙ new (after-object listed (listed ++ OfObject object ∷ []) others object closed (λ place. any-more (OfLine place) listed (OfObject object) false refl ∙ or-false _)
           (λ x e. ap (λ os. is_among os x) added ∙ among-left (objs listed) (object ∷ []) x e)
           (ap (λ os. is_among os object) added ∙ among-right (objs listed) (object ∷ []) object (among-self object)))
           ∙ ap (λ os. merged os rest) added ∙ sym (merged-new (objs listed) object rest absent)

@@ -1,11 +1,12 @@
 -- A line that mentions only lines of lower levels doesn't stand for itself.
-use Rattle.std.proofs.Common.{◌≡◌, ◌∙◌, ℕ, zero, suc, ◌+◌, ◌<◌, ◌≤◌, Bool, true, false, List, [], ◌∷◌, ◌++◌, ◌&&◌, ◌||◌, length, refl, sym, ap, arith, get_or, Some}
+use Rattle.std.proofs.Common.{◌≡◌, ◌∙◌, ℕ, zero, suc, ◌+◌, ◌<◌, ◌≤◌, Bool, true, false, List, [], ◌∷◌, ◌++◌, ◌||◌, length, refl, sym, ap, arith, get_or, Some}
 use Rattle.std.specs.Prelude.{nat_eq, nat_lt, option_map}
 use Rattle.std.proofs.lemmas.List.{length-map, get_or_past}
 use Rattle.std.proofs.lemmas.Option.{slice_get-map, slice_get-get_or, slice_get_past}
 use Rattle.std.specs.List.{list_any}
 use Rattle.std.proofs.lemmas.List.Folds.{list_all-append}
 use Rattle.std.proofs.lemmas.Bool.Decides.{nat_tests}
+use Rattle.std.proofs.lemmas.Bool.{and_from, and_parts}
 use Rattle.ps_model.specs.names.Meanings.{LegendName, Mention, OfObject, OfLine, same_mention, mentions_of, mentions_of_name, with_mentioned, all_mentioned, is_on_cycle, mention_count}
 use Rattle.ps_names.specs.declared.legend_names.LegendName as code
 use Rattle.ps_names.specs.Known.{mentions_shown}
@@ -13,24 +14,12 @@ use Rattle.ps_names.specs.LegendNames.{name_shown, legend_shown}
 use Rattle.ps_names.specs.Levels.{level, is_below, are_below, Fall}
 use Rattle.ps_names.proofs.mentions.ReachLaw.{list-old, list-new}
 
-pub both : (a b : Bool) → a ≡ true → b ≡ true → (a && b) ≡ true
-both true b e f = f
-both false b e f = cc
-
-pub first : (a b : Bool) → (a && b) ≡ true → a ≡ true
-first true b e = refl
-first false b e = e
-
-pub second : (a b : Bool) → (a && b) ≡ true → b ≡ true
-second true b e = e
-second false b e = cc
-
 irreflexive : (n : ℕ) → nat_lt n n ≡ true → ⊥
 irreflexive n e = let less : n < n = grind (arith, nat_tests) in omega arith
 
 module _ (levels : List ℕ) where
   append-below : (limit : ℕ) (first second : List Mention) → are_below levels limit first ≡ true → are_below levels limit second ≡ true → are_below levels limit (first ++ second) ≡ true
-  append-below limit first second e f = list_all-append (is_below levels limit) first second ∙ both _ _ e f
+  append-below limit first second e f = list_all-append (is_below levels limit) first second ∙ and_from _ _ e f
 
   raise : (low high : ℕ) → low ≤ high → (mention : Mention) → is_below levels low mention ≡ true → is_below levels high mention ≡ true
   raise low high less (OfObject object) e = refl
@@ -39,19 +28,19 @@ module _ (levels : List ℕ) where
   pub raise-each : (low high : ℕ) → low ≤ high → (mentions : List Mention) → are_below levels low mentions ≡ true → are_below levels high mentions ≡ true
   raise-each low high less [] e = refl
   raise-each low high less (mention ∷ others) e =
-      both _ _ (raise low high less mention (first _ _ e)) (raise-each low high less others (second (is_below levels low mention) _ e))
+      and_from _ _ (raise low high less mention (and_parts _ _ e).0) (raise-each low high less others (and_parts (is_below levels low mention) _ e).1)
 
   -- a line is not among those of lower levels
   not-below : (place : ℕ) (mentions : List Mention) → are_below levels (level levels place) mentions ≡ true → list_any (same_mention (OfLine place)) mentions ≡ false
   not-below place [] e = refl
   not-below place (OfObject object ∷ others) e = not-below place others e
   not-below place (OfLine other ∷ others) e =
-      by (nat_eq place other) refl (not-below place others (second (is_below levels (level levels place) (OfLine other)) _ e))
+      by (nat_eq place other) refl (not-below place others (and_parts (is_below levels (level levels place) (OfLine other)) _ e).1)
     where
       by : (b : Bool) → nat_eq place other ≡ b → list_any (same_mention (OfLine place)) others ≡ false → (nat_eq place other || list_any (same_mention (OfLine place)) others) ≡ false
       by true q rest =
           let same : place ≡ other = grind (arith, nat_tests) in
-          let less : nat_lt (level levels other) (level levels place) ≡ true = first _ _ e in
+          let less : nat_lt (level levels other) (level levels place) ≡ true = (and_parts _ _ e).0 in
           let less' : nat_lt (level levels other) (level levels other) ≡ true = ap (λ p. nat_lt (level levels other) (level levels p)) (sym same) ∙ less in
           absurd (irreflexive (level levels other) less')
       by false q rest = ap (λ b. b || list_any (same_mention (OfLine place)) others) q ∙ rest
@@ -71,14 +60,14 @@ module _ (legend : List LegendName) (levels : List ℕ) (limit : ℕ) (fall : Fa
       by (list_any (same_mention mention) listed) refl
       (stays-below steps listed others a there)
       (stays-below steps (listed ++ mention ∷ []) (mentions_of legend mention ++ others)
-      (append-below levels limit listed (mention ∷ []) a (both _ _ here refl))
+      (append-below levels limit listed (mention ∷ []) a (and_from _ _ here refl))
       (append-below levels limit (mentions_of legend mention) others (mentioned-below mention here) there))
     where
       here : is_below levels limit mention ≡ true
-      here = first _ _ b
+      here = (and_parts _ _ b).0
 
       there : are_below levels limit others ≡ true
-      there = second (is_below levels limit mention) _ b
+      there = (and_parts (is_below levels limit mention) _ b).1
 
       by : (known : Bool) → list_any (same_mention mention) listed ≡ known
           → are_below levels limit (with_mentioned legend steps listed others) ≡ true
@@ -130,7 +119,7 @@ lowest-below place limit above = let none : level [] place ≡ 0 = no-level plac
 each-below : (limit : ℕ) → 0 < limit → (mentions : List Mention) → are_below [] limit mentions ≡ true
 each-below limit above [] = refl
 each-below limit above (OfObject object ∷ others) = each-below limit above others
-each-below limit above (OfLine place ∷ others) = both _ _ (lowest-below place limit above) (each-below limit above others)
+each-below limit above (OfLine place ∷ others) = and_from _ _ (lowest-below place limit above) (each-below limit above others)
 
 -- where no line has a level
 pub flat-fall : (legend : List LegendName) (levels : List ℕ) → levels ≡ [] → Fall legend levels

@@ -1,12 +1,12 @@
 -- Merging lists of objects.
-use Rattle.std.proofs.Common.{◌≡◌, ◌∙◌, ℕ, Bool, true, false, List, [], ◌∷◌, ◌++◌, ◌||◌, refl, sym, ap, arith, append_assoc}
+use Rattle.std.proofs.Common.{◌≡◌, ◌∙◌, Bool, true, false, List, [], ◌∷◌, ◌++◌, ◌||◌, refl, sym, ap, append_assoc}
 use lib.Pointwise.{pointwise}
 use Rattle.std.proofs.lemmas.List.Folds.{list_any-append}
-use Rattle.std.proofs.lemmas.Bool.Decides.{nat_tests}
+use Rattle.std.proofs.lemmas.Bool.{and_parts, or_left, or_right}
 use Rattle.ps_model.specs.declared.pieces.ObjectId.{ObjectId}
 use Rattle.ps_model.specs.names.Names.{is_among, same_object}
+use Rattle.ps_laws.proofs.common.SameThings.{same_object-true, same_object-own}
 use Rattle.ps_names.specs.Flattened.{merged}
-use Rattle.ps_names.proofs.mentions.LevelLaws.{first, second}
 
 module _ (known : List ObjectId) (object : ObjectId) (others : List ObjectId) where
   pub merged-old : is_among known object ≡ true → merged known (object ∷ others) ≡ merged known others
@@ -15,25 +15,11 @@ module _ (known : List ObjectId) (object : ObjectId) (others : List ObjectId) wh
   pub merged-new : is_among known object ≡ false → merged known (object ∷ others) ≡ merged (known ++ object ∷ []) others
   merged-new e = rw (merged, e) refl
 
-or-left : (a b : Bool) → a ≡ true → (a || b) ≡ true
-or-left true b e = refl
-or-left false b e = cc
-
-or-right : (a b : Bool) → b ≡ true → (a || b) ≡ true
-or-right true b e = refl
-or-right false b e = e
-
-pub same-one : (x y : ObjectId) → same_object x y ≡ true → x ≡ y
-same-one x y e = let n : x.0 ≡ y.0 = grind (arith, nat_tests) in ap (λ (k : ℕ). let o : ObjectId = record { 0 = k } in o) n
-
-same-self : (x : ObjectId) → same_object x x ≡ true
-same-self x = grind (arith, nat_tests)
-
 pub among-left : (xs ys : List ObjectId) (x : ObjectId) → is_among xs x ≡ true → is_among (xs ++ ys) x ≡ true
-among-left xs ys x e = list_any-append (same_object x) xs ys ∙ or-left _ _ e
+among-left xs ys x e = list_any-append (same_object x) xs ys ∙ or_left _ _ e
 
 pub among-right : (xs ys : List ObjectId) (x : ObjectId) → is_among ys x ≡ true → is_among (xs ++ ys) x ≡ true
-among-right xs ys x e = list_any-append (same_object x) xs ys ∙ or-right _ _ e
+among-right xs ys x e = list_any-append (same_object x) xs ys ∙ or_right _ _ e
 
 -- all of the one are among the other
 abbrev pub Within : List ObjectId → List ObjectId → Type 0
@@ -59,10 +45,10 @@ merged-has known (object ∷ others) x e = by (is_among known object) (same_obje
         → (is_among others x ≡ true → is_among (merged (known ++ object ∷ []) others) x ≡ true)
         → is_among (merged known (object ∷ others)) x ≡ true
     by true true q s old new =
-        let here : is_among known x ≡ true = ap (is_among known) (same-one x object s) ∙ q in
+        let here : is_among known x ≡ true = ap (is_among known) (same_object-true x object s) ∙ q in
         ap (λ os. is_among os x) (merged-old known object others q) ∙ merged-keeps known others x here
     by false true q s old new =
-        let here : is_among (known ++ object ∷ []) x ≡ true = among-right known (object ∷ []) x (or-left (same_object x object) false s) in
+        let here : is_among (known ++ object ∷ []) x ≡ true = among-right known (object ∷ []) x (or_left (same_object x object) false s) in
         ap (λ os. is_among os x) (merged-new known object others q) ∙ merged-keeps (known ++ object ∷ []) others x here
     by true false q s old new = ap (λ os. is_among os x) (merged-old known object others q) ∙ old (ap (λ b. b || is_among others x) (sym s) ∙ e)
     by false false q s old new = ap (λ os. is_among os x) (merged-new known object others q) ∙ new (ap (λ b. b || is_among others x) (sym s) ∙ e)
@@ -81,7 +67,7 @@ merged-append known (x ∷ xs) ys = by (is_among known x) refl (merged-append kn
 pub absorbed : (known xs : List ObjectId) → Within xs known → merged known xs ≡ known
 absorbed known [] in_it = refl
 absorbed known (x ∷ xs) in_it =
-    merged-old known x xs (in_it x (or-left (same_object x x) _ (same-self x))) ∙ absorbed known xs (λ y e. in_it y (or-right (same_object y x) _ e))
+    merged-old known x xs (in_it x (or_left (same_object x x) _ (same_object-own x))) ∙ absorbed known xs (λ y e. in_it y (or_right (same_object y x) _ e))
 
 -- merging what was merged
 pub merged-twice : (known others xs : List ObjectId) → merged known (merged others xs) ≡ merged (merged known others) xs
@@ -109,11 +95,11 @@ pub among-one : (object x : ObjectId) (known : List ObjectId) → is_among (obje
 among-one object x known e f = by (same_object x object) refl
   where
     by : (b : Bool) → same_object x object ≡ b → is_among known x ≡ true
-    by true q = ap (is_among known) (same-one x object q) ∙ f
+    by true q = ap (is_among known) (same_object-true x object q) ∙ f
     by false q = let no : (false || false) ≡ true = ap (λ b. b || false) (sym q) ∙ e in cc
 
 pub among-self : (object : ObjectId) → is_among (object ∷ []) object ≡ true
-among-self object = or-left (same_object object object) false (same-self object)
+among-self object = or_left (same_object object object) false (same_object-own object)
 
 -- what is merged is of the two
 pub merged-within : (known others : List ObjectId) → Within (merged known others) (known ++ others)
@@ -135,5 +121,5 @@ equal-lists E same [] [] e = refl
 equal-lists E same [] (y ∷ ys) e = cc
 equal-lists E same (x ∷ xs) [] e = cc
 equal-lists E same (x ∷ xs) (y ∷ ys) e =
-    let one : x ≡ y = same x y (first (E x y) (pointwise E xs ys) e) in
-    ap (λ o. o ∷ xs) one ∙ ap (λ os. y ∷ os) (equal-lists E same xs ys (second (E x y) (pointwise E xs ys) e))
+    let one : x ≡ y = same x y (and_parts (E x y) (pointwise E xs ys) e).0 in
+    ap (λ o. o ∷ xs) one ∙ ap (λ os. y ∷ os) (equal-lists E same xs ys (and_parts (E x y) (pointwise E xs ys) e).1)

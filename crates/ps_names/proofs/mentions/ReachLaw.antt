@@ -12,6 +12,7 @@ use Rattle.ps_model.specs.declared.pieces.ObjectId.{ObjectId}
 use Rattle.ps_model.specs.names.Names.{is_among, same_object}
 use Rattle.ps_model.specs.names.Meanings.{LegendName, Mention, OfObject, OfLine, same_mention, mentions_of, mentions_of_name, with_mentioned, object_of, all_mentioned, mention_count}
 use Rattle.std.proofs.lemmas.List.{length-map}
+use Rattle.std.proofs.Math.Bool.{or-false, or-true}
 use Rattle.ps_names.specs.declared.legend_names.LegendName as code
 use Rattle.ps_names.specs.declared.mention.Mention.{Mention as Waits}
 use Rattle.ps_names.specs.Known.{mentions_shown}
@@ -23,21 +24,13 @@ record Tells (lines : ℕ) (listed : List Mention) (reached : Reached) : Type 0 
   long : length reached.lines ≡ lines
   marks : (place : ℕ) → place < lines → get_or reached.lines place false ≡ list_any (same_mention (OfLine place)) listed
 
-pub or_one : (b : Bool) → (b || false) ≡ b
-or_one true = refl
-or_one false = refl
-
 pub any-more : (m : Mention) (listed : List Mention) (new : Mention) (same : Bool) → same_mention m new ≡ same → list_any (same_mention m) (listed ++ new ∷ []) ≡ (list_any (same_mention m) listed || same)
-any-more m listed new same e = list_any-append (same_mention m) listed (new ∷ []) ∙ ap (λ b. list_any (same_mention m) listed || b) (ap (λ b. b || false) e ∙ or_one same)
+any-more m listed new same e = list_any-append (same_mention m) listed (new ∷ []) ∙ ap (λ b. list_any (same_mention m) listed || b) (ap (λ b. b || false) e ∙ or-false same)
 
 object-listed : (object : ObjectId) (listed : List Mention) → is_among (filter_map object_of listed) object ≡ list_any (same_mention (OfObject object)) listed
 object-listed object [] = refl
 object-listed object (OfObject other ∷ listed) = ap (λ b. same_object object other || b) (object-listed object listed)
 object-listed object (OfLine place ∷ listed) = object-listed object listed
-
-pub or_true : (b : Bool) → (b || true) ≡ true
-or_true true = refl
-or_true false = refl
 
 -- an object more
 with-object : (lines : ℕ) (listed : List Mention) (reached : Reached) (object : ObjectId) → Tells lines listed reached
@@ -46,7 +39,7 @@ with-object lines listed reached object t =
     record {
       objects = rw (t.objects, filter_map-append) refl;
       long = t.long;
-      marks = λ place less. t.marks place less ∙ sym (any-more (OfLine place) listed (OfObject object) false refl ∙ or_one _);
+      marks = λ place less. t.marks place less ∙ sym (any-more (OfLine place) listed (OfObject object) false refl ∙ or-false _);
     }
 
 marked-at : (lines : ℕ) (listed : List Mention) (reached : Reached) (new place : ℕ) (same : Bool) → nat_eq place new ≡ same → Tells lines listed reached → new < lines → place < lines
@@ -55,10 +48,10 @@ marked-at lines listed reached new place true q t within less =
     let e : place ≡ new = grind (arith, nat_tests) in
     let long : new < length reached.lines = rw (t.long) within in
     ap (λ p. get_or (slice_set reached.lines new true) p false) e ∙ get_or-set_same reached.lines new true false long
-    ∙ sym (any-more (OfLine place) listed (OfLine new) true q ∙ or_true _)
+    ∙ sym (any-more (OfLine place) listed (OfLine new) true q ∙ or-true _)
 marked-at lines listed reached new place false q t within less =
     let n : place ≢ new = grind (arith, nat_tests) in
-    get_or-set_other reached.lines new place true false n ∙ t.marks place less ∙ sym (any-more (OfLine place) listed (OfLine new) false q ∙ or_one _)
+    get_or-set_other reached.lines new place true false n ∙ t.marks place less ∙ sym (any-more (OfLine place) listed (OfLine new) false q ∙ or-false _)
 
 -- a line more
 with-line : (lines : ℕ) (listed : List Mention) (reached : Reached) (new : ℕ) → Tells lines listed reached → new < lines
@@ -83,7 +76,7 @@ listed-none lines listed reached new t past =
     record {
       objects = t.objects ∙ sym (filter_map-append object_of listed (OfLine new ∷ []) ∙ append-nil (filter_map object_of listed));
       long = t.long;
-      marks = λ place less. t.marks place less ∙ sym (any-more (OfLine place) listed (OfLine new) false (other-place lines new place _ refl less past) ∙ or_one _);
+      marks = λ place less. t.marks place less ∙ sym (any-more (OfLine place) listed (OfLine new) false (other-place lines new place _ refl less past) ∙ or-false _);
     }
 
 module _ (legend : List LegendName) (steps : ℕ) (mention : Mention) (others : List Mention) where

@@ -8,6 +8,7 @@ use Rattle.std.specs.Map.{lookup}
 use Rattle.std.specs.List.{list_any}
 use Rattle.std.specs.Str.{bytes_eq}
 use Rattle.std.proofs.lemmas.List.{map-append, length-map}
+use Rattle.std.proofs.lemmas.Bool.{or_parts}
 use Rattle.indexmap.specs.IndexMap.{IndexMap, insert_entry, get}
 use Rattle.indexmap.proofs.CallerLemmas.{insert_entry-new}
 use Rattle.ps_model.specs.names.Meanings as model
@@ -75,12 +76,8 @@ before-shown name (entry ∷ es) i e k less =
     key-shown (e ∷ es) zero d h = refl
     key-shown (e ∷ es) (suc k) d h = key-shown es k d (omega arith)
 
-both-false : (a b : Bool) → (a || b) ≡ false → (a ≡ false) × (b ≡ false)
-both-false true b e = cc
-both-false false b e = (refl, e)
-
 -- a name that isn't known is none of them
 pub none-before : (name : List ℕ) (known : List (List ℕ)) → list_any (bytes_eq name) known ≡ false → (k : ℕ) → k < length known → bytes_eq name (slice_index_or known k []) ≡ false
 none-before name [] e k less = absurd (omega arith)
-none-before name (key ∷ known) e zero less = (both-false (bytes_eq name key) (list_any (bytes_eq name) known) e).0
-none-before name (key ∷ known) e (suc k) less = none-before name known (both-false (bytes_eq name key) (list_any (bytes_eq name) known) e).1 k (omega arith)
+none-before name (key ∷ known) e zero less = (or_parts (bytes_eq name key) (list_any (bytes_eq name) known) e).0
+none-before name (key ∷ known) e (suc k) less = none-before name known (or_parts (bytes_eq name key) (list_any (bytes_eq name) known) e).1 k (omega arith)

@@ -102,7 +102,3 @@ module _ (objects : List ObjectText) (lines layer_lines : List WrittenLine) wher
       → count ≡ length layers_here → glyphs ≡ filter_map glyph_named table → (let names : Names = record { entries = entries_with table; layers = layers; layer_count = count; glyphs = glyphs } in names)
       ≡ names_of (sections_of objects lines layer_lines)
   names-made table layers count glyphs t l c g = rw (g, l, c, t) names-here
-
-pub front-empty : {A : Type 0} (a b : List A) → a ++ b ≡ [] → a ≡ []
-front-empty [] b e = refl
-front-empty (x ∷ a) b e = cc

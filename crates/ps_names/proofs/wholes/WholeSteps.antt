@@ -1,9 +1,7 @@
 -- One object, or one name of the legend more, of those that are looked at for the whole.
-use Rattle.std.proofs.Common.{◌≡◌, ◌≢◌, ℕ, zero, suc, ◌<◌, Bool, true, false, List, [], ◌∷◌, length, drop, get_or, Option, Some, refl, sym, ◌∙◌, arith}
-use Rattle.std.specs.Prelude.{nat_eq}
+use Rattle.std.proofs.Common.{◌≡◌, ℕ, zero, suc, ◌<◌, Bool, true, false, List, [], ◌∷◌, length, drop, get_or, Option, Some, refl, ◌∙◌, arith}
 use Rattle.std.specs.Option.{is_none}
 use Rattle.std.specs.Str.{bytes_eq}
-use Rattle.std.proofs.lemmas.Bool.Decides.{nat_tests}
 use Rattle.ps_model.specs.declared.faults.FaultKind.{FaultKind}
 use Rattle.ps_model.specs.text.Faults.{first_fault}
 use Rattle.ps_model.specs.text.Lines.{folded}
@@ -11,19 +9,14 @@ use Rattle.ps_model.specs.names.Names.{Meaning}
 use Rattle.ps_model.specs.names.ObjectLines.{ObjectText}
 use Rattle.ps_model.specs.names.Meanings.{LegendName}
 use Rattle.ps_model.specs.names.NameFaults.{shares_layer}
+use Rattle.ps_laws.proofs.common.Truths.{equal_so}
 use Rattle.ps_names.specs.Wholes.{no_layers, declares, lines_of_name, faults_of_lines, shared_layers}
-
-eq-sym : (x y : ℕ) (a b : Bool) → nat_eq x y ≡ a → nat_eq y x ≡ b → a ≡ b
-eq-sym x y true true p q = refl
-eq-sym x y false false p q = refl
-eq-sym x y true false p q = let e : x ≡ y = grind (arith, nat_tests) in let n : y ≢ x = grind (arith, nat_tests) in absurd (n (sym e))
-eq-sym x y false true p q = let e : y ≡ x = grind (arith, nat_tests) in let n : x ≢ y = grind (arith, nat_tests) in absurd (n (sym e))
 
 pub bytes_eq-sym : (xs ys : List ℕ) → bytes_eq xs ys ≡ bytes_eq ys xs
 bytes_eq-sym [] [] = refl
 bytes_eq-sym [] (y ∷ ys) = refl
 bytes_eq-sym (x ∷ xs) [] = refl
-bytes_eq-sym (x ∷ xs) (y ∷ ys) = rw (eq-sym x y _ _ refl refl, bytes_eq-sym xs ys) refl
+bytes_eq-sym (x ∷ xs) (y ∷ ys) = rw (equal_so x y _ _ refl refl, bytes_eq-sym xs ys) refl
 
 -- the line of a name that is the one given
 pub name-hit : (kind : FaultKind) (query : List ℕ) (name : LegendName) (legend : List LegendName) → bytes_eq (folded name.name) query ≡ true

@@ -3,4 +3,4 @@ use Rattle.ps_engine.proofs.rooms.rooms_of.Given as goal
 
 -- so many rooms are made
 abbrev pub invariant-loop-number : goal.invariant-loop-number
-invariant-loop-number l = length l.rooms.items ≡ l._number
+invariant-loop-number g l = length l.rooms.items ≡ l._number

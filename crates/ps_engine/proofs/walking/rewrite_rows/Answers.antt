@@ -3,6 +3,7 @@ use Rattle.std.proofs.lemmas.Bool.Decides.{nat_tests}
 use Rattle.std.proofs.lemmas.Option.{slice_get_read}
 use Rattle.ps_model.specs.board.Attempts.{Rewritten, rewritten_along}
 use Rattle.ps_places.specs.RowPlaces.{cells_meaning, place_at}
+use Rattle.ps_engine.proofs.Choosing.{first_of_fitting}
 use Rattle.ps_engine.proofs.Rewriting.{rewritten_from, rewritten_more, same_height}
 use Rattle.ps_engine.proofs.walking.rewrite_rows.Goals as goal
 
@@ -47,3 +48,13 @@ loop-number-preserved g c =
       table = c.rewrite-any.ensures.table ∙ c.loop-number.invariant.table;
       sides = c.rewrite-any.ensures.sides ∙ c.loop-number.invariant.sides;
     }
+
+pub rewrite_fitting-any-requires-clause-fits : goal.rewrite_fitting-any-requires-clause-fits
+rewrite_fitting-any-requires-clause-fits g c =
+    let filled : c.is_empty.result ≡ false = search rules in
+    let some : 0 < length c.args.rows.now = grind (arith, nat_tests, c.is_empty.ensures, filled) in
+    first_of_fitting (g.B.Board.grid c.args.board.now) (g.B.Board.table c.args.board.now) c.args.rows.now
+    c.args.rooms.now c.index-rows-0.result c.index-rooms-0.result
+    (slice_get_read c.args.rows.now _ 0 c.index-rows-0.result refl some c.index-rows-0.is)
+    (slice_get_read c.args.rooms.now _ 0 c.index-rooms-0.result refl (omega (arith, some, c.requires.long))
+    c.index-rooms-0.is) c.requires.fit

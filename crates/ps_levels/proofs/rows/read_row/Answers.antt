@@ -1,5 +1,6 @@
 use Rattle.std.proofs.Common.{rules, ◌≡◌, ◌∙◌, sym, ap, map, List, ℕ, Option, None, Some}
 use Rattle.std.specs.Borrow.{Bor}
+use Rattle.ps_laws.proofs.common.FirstFaults.{none-first}
 use Rattle.ps_names.specs.declared.meaning.Meaning as code
 use Rattle.ps_model.specs.declared.faults.Fault.{Fault as TheFault}
 use Rattle.ps_model.specs.text.Faults.{first_fault}
@@ -9,7 +10,7 @@ use Rattle.ps_model.specs.text.LineNumbers.{line_at}
 use Rattle.ps_model.specs.text.Lines.{Line}
 use Rattle.ps_levels.specs.Cells.{meanings_shown, objects_of}
 use Rattle.ps_laws.proofs.common.LinesInOrder.{line_at-number}
-use Rattle.ps_levels.proofs.RowSteps.{faults-seen, cells-by-meanings, none-first}
+use Rattle.ps_levels.proofs.RowSteps.{faults-seen, cells-by-meanings}
 use Rattle.ps_levels.proofs.rows.read_row.Goals as goal
 
 pub returns-in-Some : goal.returns-in-Some

@@ -13,6 +13,9 @@ use Rattle.ps_model.specs.names.NamesRead.{sections_of, layer_numbers}
 use Rattle.ps_model.specs.names.NameFaults.{faults_of_sections}
 use Rattle.ps_model.specs.declared.refusal.Refusal.{Refusal}
 use Rattle.ps_model.specs.declared.refusal.Refusal.TheVariants.{Refused}
+use Rattle.ps_laws.proofs.common.FirstFaults.{first-front, behind-none}
+use Rattle.ps_laws.proofs.common.Lists.{none-before}
+use Rattle.ps_laws.proofs.texts.BoundedNames.{length-found, few-bounded}
 use Rattle.ps_names.specs.declared.meaning.Meaning as code
 use Rattle.ps_names.specs.Known.{Named}
 use Rattle.ps_names.specs.NamesShown.{layer_numbers_shown}
@@ -22,11 +25,10 @@ use Rattle.ps_names.specs.MeaningSteps.{meaning_shown_if, meanings_shown}
 use Rattle.ps_names.specs.Sections.{legend_of, declaring_faults, faults_of_whole}
 use Rattle.ps_names.specs.Tables.{with_meanings, entries_with}
 use Rattle.ps_names.specs.Wholes.{no_layers}
-use Rattle.ps_names.proofs.bounds.Bounds.{bounded, length-found}
-use Rattle.ps_names.proofs.common.FirstFaults.{first-found, no-first, no-front}
+use Rattle.ps_names.proofs.common.FirstFaults.{no-first}
 use Rattle.ps_names.proofs.common.Refused.{refused-reads}
 use Rattle.ps_names.proofs.common.Pairs.{first-part, second-part}
-use Rattle.ps_names.proofs.wholes.Reading.{meanings_here, table_here, layers_here, layers-same, faults-here, whole-here, names-made, length-meanings, told_here, front-empty}
+use Rattle.ps_names.proofs.wholes.Reading.{meanings_here, table_here, layers_here, layers-same, faults-here, whole-here, names-made, length-meanings, told_here}
 use Rattle.ps_names.proofs.read.names_of_sections.Goals as goal
 
 pub returns-in_err-declared : goal.returns-in_err-declared
@@ -36,7 +38,7 @@ returns-in_err-declared c =
     let layer_lines : List WrittenLine = lines_shown c.args.layer_lines.now in
     let fault : Refusal = c.in_err-declared.field-0.0 in
     let told : (f : TheFault) → fault ≡ Refused f → first_fault (faults_of_sections c.args.header (sections_of objects lines layer_lines)) ≡ Some f =
-    λ f e. ap first_fault (sym (faults-here objects lines layer_lines c.args.header)) ∙ first-found (declaring_faults objects lines) _ f (c.in_err-declared.ensures.reads.1.1 f e) in
+    λ f e. ap first_fault (sym (faults-here objects lines layer_lines c.args.header)) ∙ first-front (declaring_faults objects lines) _ f (c.in_err-declared.ensures.reads.1.1 f e) in
     search (rules, told)
 
 pub returns-in_err-layering : goal.returns-in_err-layering
@@ -51,8 +53,8 @@ returns-in_err-layering c =
     let as_layers : (t : List (Named × Option Meaning)) → List TheFault = λ t. layer_faults (layers_of_lines (entries_with t) layer_lines) in
     let fault : Refusal = c.in_err-layering.field-0.0 in
     let told : (f : TheFault) → fault ≡ Refused f → first_fault (faults_of_sections c.args.header (sections_of objects lines layer_lines)) ≡ Some f =
-    λ f e. ap first_fault (sym (faults-here objects lines layer_lines c.args.header)) ∙ ap first_fault (no-front (declaring_faults objects lines) _ c.in_ok-declared.ensures.reads.1.0)
-    ∙ first-found (layer_faults (layers_here objects lines layer_lines)) _ f (ap (λ t. first_fault (as_layers t)) (sym table) ∙ c.in_err-layering.ensures.reads.1.1 f e) in
+    λ f e. ap first_fault (sym (faults-here objects lines layer_lines c.args.header)) ∙ ap first_fault (behind-none (declaring_faults objects lines) _ c.in_ok-declared.ensures.reads.1.0)
+    ∙ first-front (layer_faults (layers_here objects lines layer_lines)) _ f (ap (λ t. first_fault (as_layers t)) (sym table) ∙ c.in_err-layering.ensures.reads.1.1 f e) in
     search (rules, told)
 
 pub fault_of_whole-requires-clause-places : goal.fault_of_whole-requires-clause-places
@@ -102,7 +104,7 @@ returns-in_err-refuse c =
     (c.deref-3.ensures.value ∙ placed) (first-part (second-part c.in_ok-declared.ensures.reads.0)) (second-part (second-part c.in_ok-declared.ensures.reads.0)) table in
     let fault : Refusal = c.in_err-refuse.field-0.0 in
     let told : (f : TheFault) → fault ≡ Refused f → first_fault (faults_of_sections c.args.header (sections_of objects lines layer_lines)) ≡ Some f =
-    λ f e. ap first_fault (sym (faults-here objects lines layer_lines c.args.header)) ∙ ap first_fault (no-front (declaring_faults objects lines) _ c.in_ok-declared.ensures.reads.1.0)
+    λ f e. ap first_fault (sym (faults-here objects lines layer_lines c.args.header)) ∙ ap first_fault (behind-none (declaring_faults objects lines) _ c.in_ok-declared.ensures.reads.1.0)
     ∙ ap (λ (before : List TheFault). first_fault (before ++ told_here objects lines layer_lines c.args.header)) here ∙ ap first_fault (sym whole) ∙ sym c.fault_of_whole.ensures ∙ c.in_err-refuse.ensures.refused f e in
     refused-reads c.from_residual-in_err-refuse.result fault _ (faults_of_sections c.args.header (sections_of objects lines layer_lines)) c.from_residual-in_err-refuse.ensures.1 told
 
@@ -129,7 +131,7 @@ returns c =
     (c.deref-3.ensures.value ∙ placed) (first-part (second-part c.in_ok-declared.ensures.reads.0)) (second-part (second-part c.in_ok-declared.ensures.reads.0)) table in (
       names-made objects lines layer_lines c.in_ok-table.table (layer_numbers_shown c.in_ok-own_layers.own_layers.items) c.in_ok-layering.layering.count _ table (own ∙ ap layer_numbers placed) (second-part c.in_ok-layering.ensures.reads.0 ∙ ap (λ (t : List (Named × Option Meaning)). length (layers_of_lines (entries_with t) layer_lines)) table) c.in_ok-glyphs.ensures,
       (
-        sym (faults-here objects lines layer_lines c.args.header) ∙ no-front (declaring_faults objects lines) _ c.in_ok-declared.ensures.reads.1.0 ∙ ap (λ (before : List TheFault). before ++ told_here objects lines layer_lines c.args.header) here ∙ sym whole ∙ no-first _ (sym c.in_ok-refuse.ensures.fine ∙ c.fault_of_whole.ensures),
+        sym (faults-here objects lines layer_lines c.args.header) ∙ behind-none (declaring_faults objects lines) _ c.in_ok-declared.ensures.reads.1.0 ∙ ap (λ (before : List TheFault). before ++ told_here objects lines layer_lines c.args.header) here ∙ sym whole ∙ no-first _ (sym c.in_ok-refuse.ensures.fine ∙ c.fault_of_whole.ensures),
         tt,
       ),
     )
@@ -157,14 +159,14 @@ invariant_of-result c =
     (c.deref-3.ensures.value ∙ placed) (first-part (second-part c.in_ok-declared.ensures.reads.0)) (second-part (second-part c.in_ok-declared.ensures.reads.0)) table in
     let part = names-made objects lines layer_lines c.in_ok-table.table (layer_numbers_shown c.in_ok-own_layers.own_layers.items) c.in_ok-layering.layering.count _ table (own ∙ ap layer_numbers placed)
     (second-part c.in_ok-layering.ensures.reads.0 ∙ ap (λ (t : List (Named × Option Meaning)). length (layers_of_lines (entries_with t) layer_lines)) table) c.in_ok-glyphs.ensures in
-    let none = front-empty (no_layers objects c.deref-3.result.now) _ (no-first _ (sym c.in_ok-refuse.ensures.fine ∙ c.fault_of_whole.ensures)) in
+    let none = none-before (no_layers objects c.deref-3.result.now) _ (no-first _ (sym c.in_ok-refuse.ensures.fine ∙ c.fault_of_whole.ensures)) in
     let same = layers-same objects lines layer_lines in
     let on : no_layers objects (sections_of objects lines layer_lines).object_layers ≡ [] =
     ap (λ ls. no_layers objects (layers_found (length objects) ls)) (sym same) ∙ ap (no_layers objects) (sym (c.deref-3.ensures.value ∙ placed)) ∙ none in
     let long : c.in_ok-layering.layering.count ≡ length (sections_of objects lines layer_lines).layers =
     second-part c.in_ok-layering.ensures.reads.0 ∙ ap (λ (t : List (Named × Option Meaning)). length (layers_of_lines (entries_with t) layer_lines)) table ∙ ap length same in
     record {
-      bounded = subst AreBounded (sym part) (bounded objects lines layer_lines (subst (λ (n : ℕ). n ≤ OBJECT_LIMIT) count c.in_ok-declared.ensures.few) (subst (λ (n : ℕ). n ≤ LAYER_LIMIT) long c.in_ok-layering.ensures.few) on);
+      bounded = subst AreBounded (sym part) (few-bounded objects lines layer_lines (subst (λ (n : ℕ). n ≤ OBJECT_LIMIT) count c.in_ok-declared.ensures.few) (subst (λ (n : ℕ). n ≤ LAYER_LIMIT) long c.in_ok-layering.ensures.few) on);
       players_kept = c.in_ok-players.ensures;
       backgrounds_kept = c.in_ok-backgrounds.ensures;
     }

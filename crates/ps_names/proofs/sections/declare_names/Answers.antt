@@ -10,11 +10,11 @@ use Rattle.ps_model.specs.text.Faults.{first_fault}
 use Rattle.std.specs.List.{enumerate_from}
 use Rattle.ps_model.specs.declared.refusal.Refusal.{Refusal}
 use Rattle.ps_model.specs.declared.refusal.Refusal.TheVariants.{Refused}
+use Rattle.ps_laws.proofs.common.FirstFaults.{first-front}
 use Rattle.ps_names.specs.Known.{Named, keys, mentions_of_names, named_object}
 use Rattle.ps_names.specs.LegendShown.{declarations_shown, named_line}
 use Rattle.ps_names.specs.LinesShown.{objects_shown, lines_shown}
 use Rattle.ps_names.specs.Sections.{legend_of, legend_with, legend_faults, declared_of, declaring_faults}
-use Rattle.ps_names.proofs.common.FirstFaults.{first-found}
 use Rattle.ps_names.proofs.common.Pairs.{same-pair}
 use Rattle.ps_names.proofs.wholes.SectionLaws.{keys-objects, mentions-known}
 use Rattle.ps_names.proofs.sections.declare_names.Goals as goal
@@ -34,7 +34,7 @@ returns-in_err-known-clause-reads c =
     let lines : List WrittenLine = lines_shown c.args.lines.now in
     let fault : Refusal = c.in_err-known.field-0.0 in
     let told : (f : TheFault) → fault ≡ Refused f → first_fault (declaring_faults objects lines) ≡ Some f =
-    λ f e. first-found (object_faults 0 [] objects) _ f (c.in_err-known.ensures.reads.1.1 f e) in
+    λ f e. first-front (object_faults 0 [] objects) _ f (c.in_err-known.ensures.reads.1.1 f e) in
     search (rules, told)
 
 pub returns-in_err-declarations-clause-reads : goal.returns-in_err-declarations-clause-reads
@@ -44,7 +44,7 @@ returns-in_err-declarations-clause-reads c =
     let forms = forms-of objects lines c.in_ok-known.known c.in_ok-known.ensures.reads.0 in
     let fault : Refusal = c.in_err-declarations.field-0.0 in
     let told : (f : TheFault) → fault ≡ Refused f → first_fault (declaring_faults objects lines) ≡ Some f =
-    λ f e. rw (c.in_ok-known.ensures.reads.1.0) (first-found (form_faults (folded_names objects) lines) _ f (ap first_fault forms ∙ c.in_err-declarations.ensures.reads.1.1 f e)) in
+    λ f e. rw (c.in_ok-known.ensures.reads.1.0) (first-front (form_faults (folded_names objects) lines) _ f (ap first_fault forms ∙ c.in_err-declarations.ensures.reads.1.1 f e)) in
     search (rules, told)
 
 pub returns-in_err-legend-clause-reads : goal.returns-in_err-legend-clause-reads

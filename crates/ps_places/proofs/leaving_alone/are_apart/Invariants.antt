@@ -6,9 +6,9 @@ use Rattle.ps_places.proofs.leaving_alone.are_apart.Given as goal
 
 -- no place on the rows that aren't left has another one so many cells behind it
 abbrev pub invariant-loop-row : goal.invariant-loop-row
-invariant-loop-row l =
+invariant-loop-row g l =
     (row : ℕ) → row < SIDE_LIMIT → column_at l.left row ≡ false →
     NotApartOn l.fn.axis l.fn.rows l.starts l.fn.distance row
 
 abbrev pub decreases-loop-row : goal.decreases-loop-row
-decreases-loop-row l = length (set_columns l.left)
+decreases-loop-row g l = length (set_columns l.left)

@@ -4,7 +4,7 @@ use Rattle.ps_places.specs.LeavingAlone.{ApartLieAlone}
 use Rattle.ps_places.proofs.leaving_alone.places_lie_alone.Goals as goal
 
 pub loop-distance-preserved : goal.loop-distance-preserved
-loop-distance-preserved c = λ distance more low. elim (cases_eq distance c.loop-distance.distance) [
+loop-distance-preserved g c = λ distance more low. elim (cases_eq distance c.loop-distance.distance) [
   | inl same ↦
       let good : c.apart_lie_alone.result ≡ true = search rules in
       subst (ApartLieAlone c.args.axis c.args.part.now c.args.rows c.args.starts.now) (sym same)

@@ -6,7 +6,7 @@ use Rattle.ps_places.specs.LeavingAlone.{starts_behind}
 use Rattle.ps_places.proofs.leaving_alone.starts_behind.Goals as goal
 
 pub returns-in-Right : goal.returns-in-Right
-returns-in-Right c = λ x low.
+returns-in-Right g c = λ x low.
     ap (λ (cs : List Bool). column_at cs x) c.behind.ensures
     ∙ column_at-where (λ y. column_at c.kept_on_row-in-Right.result (y + c.args.distance)) x low
     ∙ c.kept_on_row-in-Right.ensures (x + c.args.distance)

@@ -4,9 +4,9 @@ use Rattle.ps_places.proofs.Positions.{behind-none, behind-some}
 use Rattle.ps_places.proofs.parts.behind_position.Goals as goal
 
 pub returns-then-from : goal.returns-then-from
-returns-then-from c = ap set_columns c.none.ensures ∙ sym (behind-none c.args.set c.args.from c.if-from.true)
+returns-then-from g c = ap set_columns c.none.ensures ∙ sym (behind-none c.args.set c.args.from c.if-from.true)
 
 pub returns : goal.returns
-returns c =
+returns g c =
     ap set_columns (c.without.ensures ∙ ap (columns_without c.args.set) c.below.ensures)
     ∙ behind-some c.args.set c.args.from

@@ -5,11 +5,11 @@ use Rattle.ps_places.proofs.starts.add_row.Given as goal
 
 -- the columns that aren't left have got the row
 abbrev pub invariant-loop-column : goal.invariant-loop-column
-invariant-loop-column l =
+invariant-loop-column g l =
     record {
       adding : IsAdding l.fn.starts l.count l.number l.fn.columns l.found l.row l.starts l.left;
       long : length l.starts ≡ length l.fn.starts;
     }
 
 abbrev pub decreases-loop-column : goal.decreases-loop-column
-decreases-loop-column l = length (set_columns l.left)
+decreases-loop-column g l = length (set_columns l.left)

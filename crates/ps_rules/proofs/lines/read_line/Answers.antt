@@ -6,13 +6,13 @@ use Rattle.ps_model.specs.text.Lines.{Line}
 use Rattle.ps_model.specs.rules.RuleFaults.{Above, faults_of_form, faults_of_line, has_left_out}
 use Rattle.ps_model.specs.rules.RuleLines.{LineForm, form_of, line_of_form}
 use Rattle.ps_model.specs.rules.RuleSymbols.{Token, tokens_of, tokens_kept}
+use Rattle.ps_laws.proofs.common.FirstFaults.{first-front}
 use Rattle.ps_rules.specs.AboveShown.{above_shown}
 use Rattle.ps_rules.specs.FormsShown.{form_at}
 use Rattle.ps_rules.specs.RulesShown.{line_shown}
 use Rattle.ps_rules.specs.SymbolsShown.{tokens_shown}
 use Rattle.ps_model.specs.declared.refusal.Refusal.{Refusal}
 use Rattle.ps_model.specs.declared.refusal.Refusal.TheVariants.{Refused}
-use Rattle.ps_rules.proofs.RuleSteps.{first-some}
 use Rattle.ps_rules.proofs.FormSteps.{next-of-form, count-of-form, line-count}
 use Rattle.ps_rules.proofs.lines.read_line.Goals as goal
 
@@ -27,7 +27,7 @@ returns-in_err-made-clause-read c =
     ap tokens_shown c.deref-2.ensures.value ∙ c.in_ok-kept.ensures ∙ ap tokens_kept tokens in
     let fault : Refusal = c.in_err-made.field-0.0 in
     let told : (f : TheFault) → fault ≡ Refused f → first_fault (faults_of_line above c.args.line (tokens_of c.args.names.now line) form) ≡ Some f =
-    λ f e. first-some (faults_of_form above c.args.line form) _ f
+    λ f e. first-front (faults_of_form above c.args.line form) _ f
     (ap (λ (ts : List Token). first_fault (faults_of_form above c.args.line (form_of line ts))) (sym kept) ∙ c.in_err-made.ensures.1.1 f e) in
     search (rules, told)
 

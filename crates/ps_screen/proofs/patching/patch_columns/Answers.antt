@@ -4,9 +4,10 @@ use Rattle.std.specs.Prelude.{encode_utf8}
 use Rattle.ps_model.specs.board.Grid.{cell_at}
 use Rattle.ps_model.specs.session.Frames.{shown_character}
 use Rattle.ps_board.specs.ColumnSets.{column_at, columns_without, set_columns, with_column}
+use Rattle.ps_board.proofs.Taken.{was_in}
 use Rattle.ps_screen.proofs.Groups.{Group, group_drawn, group_kept, group_of, group_within, was_left}
 use Rattle.ps_screen.proofs.PlainRows.{all_drawn}
-use Rattle.ps_screen.proofs.Taken.{first_was_in, no_more, was_in}
+use Rattle.ps_screen.proofs.Taken.{first_was_in, no_more}
 use Rattle.ps_screen.proofs.patching.patch_columns.Goals as goal
 
 pub cell_character-requires-clause-cell : goal.cell_character-requires-clause-cell

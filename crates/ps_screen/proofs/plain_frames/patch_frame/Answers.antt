@@ -2,11 +2,12 @@ use Rattle.std.proofs.Common.{◌≡◌, ◌∙◌, ◌+◌, ◌*◌, ℕ, inl, 
 use Rattle.std.proofs.lemmas.Bool.{cases_eq, false≢true}
 use Rattle.ps_board.specs.ColumnSets.{both_columns, column_at, columns_below}
 use Rattle.ps_board.proofs.ColumnLaws.{none_in}
+use Rattle.ps_board.proofs.Taken.{was_in}
 use Rattle.ps_screen.specs.PlainFrames.{row_start}
 use Rattle.ps_screen.specs.PlainRows.{IsPlainRow}
 use Rattle.ps_screen.proofs.PlainFrames.{ends_stay, frame_drawn, has_ends, row_of, row_stays, row_written}
 use Rattle.ps_screen.proofs.PlainRows.{drawn_but, out_of_both, same_plain, within_width}
-use Rattle.ps_screen.proofs.Taken.{first_gone, first_was_in, not_left, was_in}
+use Rattle.ps_screen.proofs.Taken.{first_gone, first_was_in, not_left}
 use Rattle.ps_screen.proofs.plain_frames.patch_frame.Goals as goal
 
 pub loop-row-init : goal.loop-row-init

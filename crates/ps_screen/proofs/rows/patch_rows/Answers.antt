@@ -3,9 +3,10 @@ use Rattle.std.proofs.lemmas.Bool.{cases_eq, false≢true}
 use Rattle.std.proofs.lemmas.List.{get_or-set_other, get_or-set_same, get_or_default, length-set}
 use Rattle.ps_board.specs.ColumnSets.{both_columns, column_at, columns_below}
 use Rattle.ps_board.proofs.ColumnLaws.{none_in}
+use Rattle.ps_board.proofs.Taken.{was_in}
 use Rattle.ps_screen.proofs.KeptRows.{same_frame_row}
 use Rattle.ps_screen.proofs.PlainRows.{out_of_both, within_width}
-use Rattle.ps_screen.proofs.Taken.{first_gone, first_was_in, not_left, was_in}
+use Rattle.ps_screen.proofs.Taken.{first_gone, first_was_in, not_left}
 use Rattle.ps_screen.proofs.rows.patch_rows.Goals as goal
 
 pub loop-row-init : goal.loop-row-init

@@ -2,7 +2,7 @@ use Rattle.std.proofs.Common.{◌≡◌, ◌≤◌, ◌∙◌, ℕ, List, [], Er
 use Rattle.std.proofs.lemmas.Grind.{common_steps}
 use Rattle.ps_model.specs.declared.limits.TheConstants.{CALL_LIMIT}
 use Rattle.ps_devices.specs.Devices.{Loses}
-use Rattle.ps_run.proofs.Playing.{one_call}
+use Rattle.ps_devices.proofs.Calls.{one_call}
 use Rattle.ps_run.proofs.Running as runs
 use Rattle.ps_run.proofs.play.Play.play.Goals as goal
 

@@ -13,7 +13,7 @@ use Rattle.ps_session.proofs.session.Session.start.Given.{Over}
 use Rattle.ps_session.proofs.session.Session.start.Goals as goal
 
 -- the opening is what the stage has come to
-opens : (g : Over) (c : goal.In_ok-add g) →
+opens : (g : Over) (c : goal.In_ok-move_text g) →
     opening_step (script_for g.B.Board.table_for c.args.game (g.R.Rules.meant c.args.rules.now.plain) (g.R.Rules.meant c.args.rules.now.late))
     ≡ came (location_shown [] c.in_ok-location.location) c.enter.new.self.text
 opens g c =
@@ -32,5 +32,5 @@ returns-clause-session g c = rw c.in_ok-history.ensures (sym (ap (λ (step : Ste
 
 pub returns-clause-written : goal.returns-clause-written
 returns-clause-written g c =
-    c.in_ok-add.ensures.added
-    ∙ ap (λ (text : List ℕ). c.args.output.now ++ text) (c.text.ensures ∙ sym (ap (λ (step : Step). step.text) (opens g c)))
+    c.in_ok-move_text.ensures.moved
+    ∙ ap (λ (text : List ℕ). c.args.output.now ++ text) (sym (ap (λ (step : Step). step.text) (opens g c)))
