@@ -1,14 +1,22 @@
 -- Sets of columns as the bits of words.
-use Rattle.std.proofs.Common.{◌≡◌, ◌≢◌, ◌∙◌, ℕ, ◌+◌, ◌-◌, ◌*◌, ◌/◌, ◌%◌, ◌^◌, ◌<◌, ◌≤◌, ◌&&◌, ◌||◌, ◌⊎◌, inl, inr, not, suc, zero, Bool, true, false, [], ◌∷◌, length, min, max, refl, sym, ap, ap₂, arith, bit_or, w64}
+use Rattle.std.proofs.Common.{◌≡◌, ◌≢◌, ◌∙◌, ℕ, ◌+◌, ◌-◌, ◌*◌, ◌/◌, ◌%◌, ◌^◌, ◌<◌, ◌≤◌, ◌&&◌, ◌||◌, ◌⊎◌, inl, inr, not}
+use Rattle.std.proofs.Common.{suc, zero, Bool, true, false, [], ◌∷◌, length, min, max, refl, sym, ap, ap₂, arith}
+use Rattle.std.proofs.Common.{bit_or, w64}
 use Rattle.std.specs.Prelude.{nat_eq, nat_le, nat_lt, if◌then◌else◌, bit_and}
 use Rattle.std.specs.Int.{bit_at, bit_not, trailing_zeros}
 use Rattle.std.proofs.lemmas.Bool.Decides.{nat_tests}
 use Rattle.std.proofs.lemmas.Nat.{or_lt, pow-add, pow_pos, shr_split}
-use Rattle.std.proofs.lemmas.Nat.Bits.{bit_at-zero, bit_at-lt, bit_at_cat_low, bit_at_cat_high, bit_at_and, bit_at_or, bit_at_not, bit_at_above, bit_at_ones, bit_at_ones_above, ones_shr, bit_at_set_same, bit_at_set_other, bit_at_clear_same, bit_at_clear_other, bit_at-trailing_zeros, shr_and_one}
+use Rattle.std.proofs.lemmas.Nat.Bits.{bit_at-zero, bit_at-lt, bit_at_cat_low, bit_at_cat_high, bit_at_and, bit_at_or}
+use Rattle.std.proofs.lemmas.Nat.Bits.{bit_at_not, bit_at_above, bit_at_ones, bit_at_ones_above, ones_shr}
+use Rattle.std.proofs.lemmas.Nat.Bits.{bit_at_set_same, bit_at_set_other, bit_at_clear_same, bit_at_clear_other}
+use Rattle.std.proofs.lemmas.Nat.Bits.{bit_at-trailing_zeros, shr_and_one}
 use Rattle.std.proofs.Math.Nat.{div-div-eq-div-mul, mod-lt}
 use Rattle.ps_model.specs.declared.limits.TheConstants.{SIDE_LIMIT}
-use Rattle.ps_board.specs.ColumnSets.{column_at, set_columns, bit_is_set, word_columns, with_column, both_columns, either_columns, columns_ahead, columns_behind, columns_below, columns_without, no_columns}
-use Rattle.ps_board.proofs.ColumnLaws.{column_at-where, column_at-beyond, column_at-all, columns-agree, set_columns-first, set_columns-none}
+use Rattle.ps_board.specs.ColumnSets.{column_at, set_columns, bit_is_set, word_columns, with_column, both_columns}
+use Rattle.ps_board.specs.ColumnSets.{either_columns, columns_ahead, columns_behind, columns_below, columns_without}
+use Rattle.ps_board.specs.ColumnSets.{no_columns}
+use Rattle.ps_board.proofs.ColumnLaws.{column_at-where, column_at-beyond, column_at-all, columns-agree}
+use Rattle.ps_board.proofs.ColumnLaws.{set_columns-first, set_columns-none}
 
 -- the bits of two words, taken together
 min_bits : (p q : ℕ) → p < 2 → q < 2 → nat_eq (min p q) 1 ≡ (nat_eq p 1 && nat_eq q 1)
@@ -51,45 +59,56 @@ zero_word = columns-agree (bit_is_set 0) (λ x. false) (λ x low. ap (λ (bit : 
 moved_bit : (word count x : ℕ) → bit_at (word / 2 ^ count) x ≡ bit_at word (x + count)
 moved_bit word count x =
     let turned : count + x ≡ x + count = omega arith in
-    ap (λ (n : ℕ). n % 2) (div-div-eq-div-mul word (2 ^ count) (2 ^ x) ∙ ap (λ (n : ℕ). word / n) (sym (pow-add 2 count x) ∙ ap (λ (n : ℕ). 2 ^ n) turned))
+    ap (λ (n : ℕ). n % 2)
+    (div-div-eq-div-mul word (2 ^ count) (2 ^ x)
+    ∙ ap (λ (n : ℕ). word / n) (sym (pow-add 2 count x) ∙ ap (λ (n : ℕ). 2 ^ n) turned))
 
-pub moved_word : (word count : ℕ) → word < 2 ^ 64 → word_columns (word / 2 ^ count) ≡ columns_behind (word_columns word) count
+pub moved_word : (word count : ℕ) → word < 2 ^ 64 →
+    word_columns (word / 2 ^ count) ≡ columns_behind (word_columns word) count
 moved_word word count within =
     columns-agree (bit_is_set (word / 2 ^ count)) (λ x. column_at (word_columns word) (x + count))
     (λ x low. ap (λ (bit : ℕ). nat_eq bit 1) (moved_bit word count x)
-    ∙ sym (column_at-all (bit_is_set word) (x + count) (λ high. ap (λ (bit : ℕ). nat_eq bit 1) (bit_at_above word 64 (x + count) within high))))
+    ∙ sym (column_at-all (bit_is_set word) (x + count)
+    (λ high. ap (λ (bit : ℕ). nat_eq bit 1) (bit_at_above word 64 (x + count) within high))))
 
 pub moved_out : (word count : ℕ) → SIDE_LIMIT ≤ count → word_columns 0 ≡ columns_behind (word_columns word) count
 moved_out word count far =
     zero_word
-    ∙ columns-agree (λ x. false) (λ x. column_at (word_columns word) (x + count)) (λ x low. sym (column_at-beyond (bit_is_set word) (x + count) (omega (arith, far))))
+    ∙ columns-agree (λ x. false) (λ x. column_at (word_columns word) (x + count))
+    (λ x low. sym (column_at-beyond (bit_is_set word) (x + count) (omega (arith, far))))
 
 -- the bits of a word moved up, and what leaves the word
 kept_bit : (word x : ℕ) → x < 64 → bit_at (word % 2 ^ 64) x ≡ bit_at word x
-kept_bit word x low = sym (bit_at_cat_low (word / 2 ^ 64) 64 (word % 2 ^ 64) x low) ∙ ap (λ (n : ℕ). bit_at n x) (shr_split word 64)
+kept_bit word x low = sym (bit_at_cat_low (word / 2 ^ 64) 64 (word % 2 ^ 64) x low)
+    ∙ ap (λ (n : ℕ). bit_at n x) (shr_split word 64)
 
 raised_bit : (word count x : ℕ) (behind : Bool) → nat_le count x ≡ behind → x < SIDE_LIMIT →
     nat_eq (bit_at (word * 2 ^ count) x) 1 ≡ (behind && column_at (word_columns word) (x - count))
 raised_bit word count x true t low =
     let far : count ≤ x = grind (arith, nat_tests) in
     let plain : word * 2 ^ count + 0 ≡ word * 2 ^ count = omega arith in
-    ap (λ (bit : ℕ). nat_eq bit 1) (ap (λ (n : ℕ). bit_at n x) (sym plain) ∙ bit_at_cat_high word count 0 x (pow_pos count) far)
+    ap (λ (bit : ℕ). nat_eq bit 1)
+    (ap (λ (n : ℕ). bit_at n x) (sym plain) ∙ bit_at_cat_high word count 0 x (pow_pos count) far)
     ∙ sym (column_at-where (bit_is_set word) (x - count) (omega (arith, low)))
 raised_bit word count x false t low =
     let near : x < count = grind (arith, nat_tests) in
     let plain : word * 2 ^ count + 0 ≡ word * 2 ^ count = omega arith in
-    ap (λ (bit : ℕ). nat_eq bit 1) (ap (λ (n : ℕ). bit_at n x) (sym plain) ∙ bit_at_cat_low word count 0 x near ∙ bit_at-zero x)
+    ap (λ (bit : ℕ). nat_eq bit 1) (ap (λ (n : ℕ). bit_at n x) (sym plain) ∙ bit_at_cat_low word count 0 x near
+    ∙ bit_at-zero x)
 
 pub raised_word : (word count : ℕ) → word_columns (word * 2 ^ count % 2 ^ 64) ≡ columns_ahead (word_columns word) count
 raised_word word count =
-    columns-agree (bit_is_set (word * 2 ^ count % 2 ^ 64)) (λ x. nat_le count x && column_at (word_columns word) (x - count))
-    (λ x low. ap (λ (bit : ℕ). nat_eq bit 1) (kept_bit (word * 2 ^ count) x low) ∙ raised_bit word count x (nat_le count x) refl low)
+    columns-agree (bit_is_set (word * 2 ^ count % 2 ^ 64))
+    (λ x. nat_le count x && column_at (word_columns word) (x - count))
+    (λ x low. ap (λ (bit : ℕ). nat_eq bit 1) (kept_bit (word * 2 ^ count) x low)
+    ∙ raised_bit word count x (nat_le count x) refl low)
 
 pub raised_out : (word count : ℕ) → SIDE_LIMIT ≤ count → word_columns 0 ≡ columns_ahead (word_columns word) count
 raised_out word count far =
     zero_word
     ∙ columns-agree (λ x. false) (λ x. nat_le count x && column_at (word_columns word) (x - count))
-    (λ x low. let short : nat_le count x ≡ false = grind (arith, nat_tests, far, low) in sym (ap (λ (b : Bool). b && column_at (word_columns word) (x - count)) short))
+    (λ x low. let short : nat_le count x ≡ false = grind (arith, nat_tests, far, low) in
+    sym (ap (λ (b : Bool). b && column_at (word_columns word) (x - count)) short))
 
 -- the lowest bits
 pub below_none : (count : ℕ) → count ≡ 0 → word_columns 0 ≡ columns_below count
@@ -98,7 +117,8 @@ below_none count e = zero_word ∙ columns-agree (λ x. false) (λ x. nat_lt x c
 pub below_all : (count : ℕ) → SIDE_LIMIT ≤ count → word_columns (2 ^ 64 - 1) ≡ columns_below count
 below_all count many =
     columns-agree (bit_is_set (2 ^ 64 - 1)) (λ x. nat_lt x count)
-    (λ x low. let within : nat_lt x count ≡ true = grind (arith, nat_tests, low, many) in ap (λ (bit : ℕ). nat_eq bit 1) (bit_at_ones 64 x low) ∙ sym within)
+    (λ x low. let within : nat_lt x count ≡ true = grind (arith, nat_tests, low, many) in
+    ap (λ (bit : ℕ). nat_eq bit 1) (bit_at_ones 64 x low) ∙ sym within)
 
 low_ones : (count x : ℕ) (low : Bool) → nat_lt x count ≡ low → nat_eq (bit_at (2 ^ count - 1) x) 1 ≡ low
 low_ones count x true t = ap (λ (bit : ℕ). nat_eq bit 1) (bit_at_ones count x (grind (arith, nat_tests)))
@@ -111,8 +131,10 @@ below_some count few =
     ∙ columns-agree (bit_is_set (2 ^ count - 1)) (λ x. nat_lt x count) (λ x low. low_ones count x (nat_lt x count) refl)
 
 -- a bit tested
-pub tested_word : (word column : ℕ) → column < SIDE_LIMIT → nat_eq (bit_and (word / 2 ^ column) 1) 1 ≡ column_at (word_columns word) column
-tested_word word column low = ap (λ (bit : ℕ). nat_eq bit 1) (shr_and_one word column) ∙ sym (column_at-where (bit_is_set word) column low)
+pub tested_word : (word column : ℕ) → column < SIDE_LIMIT →
+    nat_eq (bit_and (word / 2 ^ column) 1) 1 ≡ column_at (word_columns word) column
+tested_word word column low = ap (λ (bit : ℕ). nat_eq bit 1) (shr_and_one word column)
+    ∙ sym (column_at-where (bit_is_set word) column low)
 
 pub tested_beyond : (word column : ℕ) → SIDE_LIMIT ≤ column → false ≡ column_at (word_columns word) column
 tested_beyond word column high = sym (column_at-beyond (bit_is_set word) column high)
@@ -127,39 +149,53 @@ without_bit word column = bit_and word (bit_not w64 (1 * 2 ^ column % 2 ^ 64))
 set_bit : (word column x : ℕ) (same : Bool) → nat_eq x column ≡ same → column < SIDE_LIMIT → x < SIDE_LIMIT →
     nat_eq (bit_at (with_bit word column) x) 1 ≡ (if same then true else column_at (word_columns word) x)
 set_bit word column x true t low within =
-    let is : x ≡ column = grind (arith, nat_tests) in rw is (ap (λ (bit : ℕ). nat_eq bit 1) (bit_at_set_same w64 word column low))
+    let is : x ≡ column = grind (arith, nat_tests) in
+    rw is (ap (λ (bit : ℕ). nat_eq bit 1) (bit_at_set_same w64 word column low))
 set_bit word column x false t low within =
-    let other : x ≢ column = grind (arith, nat_tests) in ap (λ (bit : ℕ). nat_eq bit 1) (bit_at_set_other w64 word column low x other) ∙ sym (column_at-where (bit_is_set word) x within)
+    let other : x ≢ column = grind (arith, nat_tests) in
+    ap (λ (bit : ℕ). nat_eq bit 1) (bit_at_set_other w64 word column low x other)
+    ∙ sym (column_at-where (bit_is_set word) x within)
 
 cleared_bit : (word column x : ℕ) (same : Bool) → nat_eq x column ≡ same → column < SIDE_LIMIT → x < SIDE_LIMIT →
     nat_eq (bit_at (without_bit word column) x) 1 ≡ (if same then false else column_at (word_columns word) x)
 cleared_bit word column x true t low within =
-    let is : x ≡ column = grind (arith, nat_tests) in rw is (ap (λ (bit : ℕ). nat_eq bit 1) (bit_at_clear_same w64 word column low))
+    let is : x ≡ column = grind (arith, nat_tests) in
+    rw is (ap (λ (bit : ℕ). nat_eq bit 1) (bit_at_clear_same w64 word column low))
 cleared_bit word column x false t low within =
     let other : x ≢ column = grind (arith, nat_tests) in
-    ap (λ (bit : ℕ). nat_eq bit 1) (bit_at_clear_other w64 word column low x within other) ∙ sym (column_at-where (bit_is_set word) x within)
+    ap (λ (bit : ℕ). nat_eq bit 1) (bit_at_clear_other w64 word column low x within other)
+    ∙ sym (column_at-where (bit_is_set word) x within)
 
-pub set_word : (word column : ℕ) → column < SIDE_LIMIT → word_columns (with_bit word column) ≡ with_column (word_columns word) column true
+pub set_word : (word column : ℕ) → column < SIDE_LIMIT →
+    word_columns (with_bit word column) ≡ with_column (word_columns word) column true
 set_word word column low =
-    columns-agree (bit_is_set (with_bit word column)) (λ x. if nat_eq x column then true else column_at (word_columns word) x)
+    columns-agree (bit_is_set (with_bit word column))
+    (λ x. if nat_eq x column then true else column_at (word_columns word) x)
     (λ x within. set_bit word column x (nat_eq x column) refl low within)
 
-pub cleared_word : (word column : ℕ) → column < SIDE_LIMIT → word_columns (without_bit word column) ≡ with_column (word_columns word) column false
+pub cleared_word : (word column : ℕ) → column < SIDE_LIMIT →
+    word_columns (without_bit word column) ≡ with_column (word_columns word) column false
 cleared_word word column low =
-    columns-agree (bit_is_set (without_bit word column)) (λ x. if nat_eq x column then false else column_at (word_columns word) x)
+    columns-agree (bit_is_set (without_bit word column))
+    (λ x. if nat_eq x column then false else column_at (word_columns word) x)
     (λ x within. cleared_bit word column x (nat_eq x column) refl low within)
 
-past_column : (word column x : ℕ) (set : Bool) → SIDE_LIMIT ≤ column → x < SIDE_LIMIT → bit_is_set word x ≡ (if nat_eq x column then set else column_at (word_columns word) x)
+past_column : (word column x : ℕ) (set : Bool) → SIDE_LIMIT ≤ column → x < SIDE_LIMIT →
+    bit_is_set word x ≡ (if nat_eq x column then set else column_at (word_columns word) x)
 past_column word column x set high within =
-    let other : nat_eq x column ≡ false = grind (arith, nat_tests, high, within) in rw other (sym (column_at-where (bit_is_set word) x within))
+    let other : nat_eq x column ≡ false = grind (arith, nat_tests, high, within) in
+    rw other (sym (column_at-where (bit_is_set word) x within))
 
-pub kept_word : (word column : ℕ) (set : Bool) → SIDE_LIMIT ≤ column → word_columns word ≡ with_column (word_columns word) column set
+pub kept_word : (word column : ℕ) (set : Bool) → SIDE_LIMIT ≤ column →
+    word_columns word ≡ with_column (word_columns word) column set
 kept_word word column set high =
-    columns-agree (bit_is_set word) (λ x. if nat_eq x column then set else column_at (word_columns word) x) (λ x within. past_column word column x set high within)
+    columns-agree (bit_is_set word) (λ x. if nat_eq x column then set else column_at (word_columns word) x)
+    (λ x within. past_column word column x set high within)
 
 -- the lowest bit taken out
 pub first_taken : (word : ℕ) → 0 < word → word < 2 ^ 64 →
-    set_columns (word_columns word) ≡ trailing_zeros w64 word ∷ set_columns (word_columns (without_bit word (trailing_zeros w64 word)))
+    set_columns (word_columns word) ≡ trailing_zeros w64 word ∷ set_columns
+    (word_columns (without_bit word (trailing_zeros w64 word)))
 first_taken word some within =
     let first : ℕ = trailing_zeros w64 word in
     let says = bit_at-trailing_zeros w64 word some within in
@@ -168,8 +204,11 @@ first_taken word some within =
     (ap (λ (bit : ℕ). nat_eq bit 1) says.1)
     (ap (λ (bit : ℕ). nat_eq bit 1) (bit_at_clear_same w64 word first says.0))
     (λ x before. ap (λ (bit : ℕ). nat_eq bit 1) (least x before))
-    (λ x low after. sym (ap (λ (bit : ℕ). nat_eq bit 1) (bit_at_clear_other w64 word first says.0 x low (λ e. omega arith))))
-    (λ x before. ap (λ (bit : ℕ). nat_eq bit 1) (bit_at_clear_other w64 word first says.0 x (omega (arith, before, says.0)) (λ e. omega arith) ∙ least x before))
+    (λ x low after.
+    sym (ap (λ (bit : ℕ). nat_eq bit 1) (bit_at_clear_other w64 word first says.0 x low (λ e. omega arith))))
+    (λ x before.
+    ap (λ (bit : ℕ). nat_eq bit 1)
+    (bit_at_clear_other w64 word first says.0 x (omega (arith, before, says.0)) (λ e. omega arith) ∙ least x before))
 
 pub none_set : (word : ℕ) → word ≡ 0 → set_columns (word_columns word) ≡ []
 none_set word e = rw e (ap set_columns zero_word ∙ set_columns-none)
@@ -195,12 +234,15 @@ flipped word x fits low = elim (bit_value (bit_at word x) (bit_at-lt word x)) [
   | inr e ↦ rw (bit_at_not w64 word x fits low, e) refl
 ]
 
-pub minus_word : (a b : ℕ) → b < 2 ^ 64 → word_columns (bit_and a (18446744073709551615 - b)) ≡ columns_without (word_columns a) (word_columns b)
+pub minus_word : (a b : ℕ) → b < 2 ^ 64 → word_columns (bit_and a (18446744073709551615 - b))
+    ≡ columns_without (word_columns a) (word_columns b)
 minus_word a b fits =
     and_word a (18446744073709551615 - b)
-    ∙ columns-agree (λ x. column_at (word_columns a) x && column_at (word_columns (18446744073709551615 - b)) x) (λ x. column_at (word_columns a) x && not (column_at (word_columns b) x))
+    ∙ columns-agree (λ x. column_at (word_columns a) x && column_at (word_columns (18446744073709551615 - b)) x)
+    (λ x. column_at (word_columns a) x && not (column_at (word_columns b) x))
     (λ x low. ap (λ (set : Bool). column_at (word_columns a) x && set)
-    (column_at-where (bit_is_set (18446744073709551615 - b)) x low ∙ flipped b x fits low ∙ ap not (sym (column_at-where (bit_is_set b) x low))))
+    (column_at-where (bit_is_set (18446744073709551615 - b)) x low ∙ flipped b x fits low
+    ∙ ap not (sym (column_at-where (bit_is_set b) x low))))
 
 -- a word with more bits is still a word
 pub or_below : (a b : ℕ) → a < 2 ^ 64 → b < 2 ^ 64 → bit_or a b < 2 ^ 64

@@ -19,8 +19,9 @@ use std::alloc::Global;
 /// A board of cells in columns from the left, each column from the top. The cell in column `x` and row `y` has the
 /// number `x * height + y`, and in each cell each collision layer has room for one object.
 ///
-/// A board has from 1 to 64 columns, from 1 to 64 rows and from 1 to 32 layers, and keeps them. The room for all its
-/// objects is there from the start, so that only making a board takes memory.
+/// A board has a column, a row and a layer at least, and at most `SIDE_LIMIT` columns, as many rows and `LAYER_LIMIT`
+/// layers, and keeps them. The room for all its objects is there from the start, so that only making a board takes
+/// memory.
 ///
 /// A board may keep the layer of each object of its game, and then an object may be put on its own layer alone. What
 /// stands on a layer may be put on the same layer elsewhere.
@@ -175,4 +176,13 @@ pub trait Board: Drop {
         requires same { DifferOnlyOn rows (grid self.now) (grid other.old) }
         ensures grid { grid other.new ≡ at_rest (grid self.now) }
         ensures table { table other.new ≡ table self.now };
+}
+
+/// Recalls that a board has the shape of one: from 1 to 64 columns and rows, from 1 to 32 layers, and as many cells and
+/// slots as these say. A proof about the cells of a board that was passed in needs it, and learns it from a call alone.
+/// Nothing is done when it runs.
+pub fn recall_shape<B: Board>(board: &B)
+    ensures { IsGrid (B.grid board.now) }
+{
+    let (_width, _height) = board.size();
 }

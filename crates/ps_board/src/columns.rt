@@ -10,8 +10,11 @@ ghost use Rattle.ps_board.specs.ColumnSets.{no_columns, set_columns, with_column
 use ps_model::SIDE_LIMIT;
 use std::marker::Model;
 
-/// A set of columns of one row of a board. Contracts see a list of 64 truth values, value `x` for column `x`; columns
-/// beyond those are in no set.
+/// How many truth values a word holds.
+pub const WORD_BITS: u32 = 64;
+
+/// A set of columns of one row of a board. Contracts see a list of `SIDE_LIMIT` truth values, value `x` for column `x`;
+/// columns beyond those are in no set.
 #[derive(Clone, Copy, Debug)]
 pub struct Columns {
     bits: u64,
@@ -44,7 +47,7 @@ impl Columns {
         Columns { bits: 0 }
     }
 
-    /// The columns below a number, all of them from 64 on.
+    /// The columns below a number, all of them from `SIDE_LIMIT` on.
     pub fn below(count: u32) -> Columns
         ensures { result ≡ columns_below count }
     {
@@ -55,7 +58,7 @@ impl Columns {
             return Columns { bits: u64::MAX };
         }
         Columns {
-            bits: u64::MAX >> (SIDE_LIMIT - count),
+            bits: u64::MAX >> (WORD_BITS - count),
         }
     }
 

@@ -9,8 +9,8 @@ mod columns;
 mod list_board;
 mod slots;
 
-pub use board::Board;
+pub use board::{Board, recall_shape};
 pub use cell_sets::CellSet;
-pub use columns::Columns;
+pub use columns::{Columns, WORD_BITS};
 pub use list_board::ListBoard;
 pub use ps_model::{Direction, LayerId, Memory, Motion, ObjectId, Slot};

@@ -1,5 +1,6 @@
 -- The rows of a rule rewritten at the places that are chosen, row by row.
-use Rattle.std.proofs.Common.{◌≡◌, ◌∙◌, ℕ, suc, zero, ◌<◌, ◌≤◌, Bool, true, false, Option, Some, List, [], ◌∷◌, length, drop, fold, refl, sym, ap, ap₂, arith}
+use Rattle.std.proofs.Common.{◌≡◌, ◌∙◌, ℕ, suc, zero, ◌<◌, ◌≤◌, Bool, true, false, Option, Some, List, [], ◌∷◌, length}
+use Rattle.std.proofs.Common.{drop, fold, refl, sym, ap, ap₂, arith}
 use Rattle.std.specs.Prelude.{slice_get}
 use Rattle.std.proofs.lemmas.List.{drop_all}
 use Rattle.ps_match.specs.InRoom.{sides_of}
@@ -17,25 +18,35 @@ use Rattle.ps_engine.proofs.Sought.{no_more, passed_over}
 
 -- what is left of rows rewritten, from one on
 abbrev pub rewritten_from : Option (List ℕ) → ℕ → List CompiledRow → List RowRoom → ℕ → Rewritten → Rewritten
-rewritten_from table height rows rooms n r = rewritten_rows r (rows_meaning table (drop n rows)) (chosen (choices_of height (drop n rows) (drop n rooms)))
+rewritten_from table height rows rooms n r =
+    rewritten_rows r (rows_meaning table (drop n rows)) (chosen (choices_of height (drop n rows) (drop n rooms)))
 
-pub rewritten_more : (table : Option (List ℕ)) (height n m : ℕ) (rows : List CompiledRow) (rooms : List RowRoom) (row : CompiledRow) (room : RowRoom) (r : Rewritten) →
+pub rewritten_more : (table : Option (List ℕ)) (height n m : ℕ) (rows : List CompiledRow) (rooms : List RowRoom)
+    (row : CompiledRow) (room : RowRoom) (r : Rewritten) →
     slice_get rows n ≡ Some row → slice_get rooms n ≡ Some room → m ≡ suc n →
-    rewritten_from table height rows rooms n r ≡ rewritten_from table height rows rooms m (rewritten_along r (cells_meaning table row.parts) (place_at height row room))
+    rewritten_from table height rows rooms n r ≡ rewritten_from table height rows rooms m
+    (rewritten_along r (cells_meaning table row.parts) (place_at height row room))
 rewritten_more table height n m [] rooms row room r is there next = absurd (cc)
 rewritten_more table height n m (x ∷ rows) [] row room r is there next = absurd (cc)
 rewritten_more table height zero m (x ∷ rows) (y ∷ rooms) row room r is there next =
     let e : x ≡ row = cc in
     let d : y ≡ room = cc in
-    ap (λ (ms : List CellMeaning). rewritten_from table height rows rooms 0 (rewritten_along r ms (place_at height x y))) (cells_in-meant table x.parts)
-    ∙ ap₂ (λ (a : CompiledRow) (b : RowRoom). rewritten_from table height rows rooms 0 (rewritten_along r (cells_meaning table a.parts) (place_at height a b))) e d
-    ∙ ap (λ (k : ℕ). rewritten_from table height (x ∷ rows) (y ∷ rooms) k (rewritten_along r (cells_meaning table row.parts) (place_at height row room))) (sym next)
+    ap (λ (ms : List CellMeaning). rewritten_from table height rows rooms 0
+    (rewritten_along r ms (place_at height x y))) (cells_in-meant table x.parts)
+    ∙ ap₂ (λ (a : CompiledRow) (b : RowRoom). rewritten_from table height rows rooms 0
+    (rewritten_along r (cells_meaning table a.parts) (place_at height a b))) e d
+    ∙ ap (λ (k : ℕ). rewritten_from table height (x ∷ rows) (y ∷ rooms) k
+    (rewritten_along r (cells_meaning table row.parts) (place_at height row room))) (sym next)
 rewritten_more table height (suc n) m (x ∷ rows) (y ∷ rooms) row room r is there next =
     rewritten_more table height n (suc n) rows rooms row room r is there refl
-    ∙ ap (λ (k : ℕ). rewritten_from table height (x ∷ rows) (y ∷ rooms) k (rewritten_along r (cells_meaning table row.parts) (place_at height row room))) (sym next)
+    ∙ ap (λ (k : ℕ). rewritten_from table height (x ∷ rows) (y ∷ rooms) k
+    (rewritten_along r (cells_meaning table row.parts) (place_at height row room))) (sym next)
 
-pub rewritten_end : (table : Option (List ℕ)) (height n : ℕ) (rows : List CompiledRow) (rooms : List RowRoom) (r : Rewritten) → length rows ≤ n → rewritten_from table height rows rooms n r ≡ r
-rewritten_end table height n rows rooms r h = ap (λ (rs : List CompiledRow). rewritten_rows r (rows_meaning table rs) (chosen (choices_of height rs (drop n rooms)))) (drop_all n rows h)
+pub rewritten_end : (table : Option (List ℕ)) (height n : ℕ) (rows : List CompiledRow) (rooms : List RowRoom)
+    (r : Rewritten) → length rows ≤ n → rewritten_from table height rows rooms n r ≡ r
+rewritten_end table height n rows rooms r h =
+    ap (λ (rs : List CompiledRow). rewritten_rows r (rows_meaning table rs)
+    (chosen (choices_of height rs (drop n rooms)))) (drop_all n rows h)
 
 pub same_height : (now start : Grid) → sides_of now ≡ sides_of start → now.height ≡ start.height
 same_height now start same = ap (λ (s : ℕ × ℕ × ℕ). s.1) same
@@ -48,31 +59,40 @@ when_fit : (test : Bool) (more r : Rewritten) → test ≡ true → (elim test [
 when_fit test more r e = rw e refl
 
 module _ (meant : List (List (List CellMeaning))) where
-  pub does_nothing : (r : Rewritten) (places : List (List ℕ)) → all_fit r.grid meant places ≡ false → applied meant r places ≡ r
+  pub does_nothing : (r : Rewritten) (places : List (List ℕ)) → all_fit r.grid meant places ≡ false →
+    applied meant r places ≡ r
   does_nothing r places off = by_fit (all_fit r.grid meant places) (rewritten_rows r meant places) r off
 
-  pub is_applied : (r : Rewritten) (places : List (List ℕ)) → all_fit r.grid meant places ≡ true → applied meant r places ≡ rewritten_rows r meant places
+  pub is_applied : (r : Rewritten) (places : List (List ℕ)) → all_fit r.grid meant places ≡ true →
+    applied meant r places ≡ rewritten_rows r meant places
   is_applied r places fit = when_fit (all_fit r.grid meant places) (rewritten_rows r meant places) r fit
 
   -- one turn of the walk: the combination that is chosen is applied, and those that can't be are passed over
-  pub one_turn : (before after : Rewritten) (places : List (List ℕ)) (behind end : List (List (List ℕ))) → all_fit before.grid meant places ≡ true → after ≡ rewritten_rows before meant places →
-      from_first (all_fit after.grid meant) behind ≡ end → fold (applied meant) after end ≡ fold (applied meant) before (places ∷ behind)
+  pub one_turn : (before after : Rewritten) (places : List (List ℕ)) (behind end : List (List (List ℕ))) →
+    all_fit before.grid meant places ≡ true → after ≡ rewritten_rows before meant places →
+      from_first (all_fit after.grid meant) behind ≡ end →
+      fold (applied meant) after end ≡ fold (applied meant) before (places ∷ behind)
   one_turn before after places behind end fit made sought =
       ap (fold (applied meant) after) (sym sought)
       ∙ sym (passed_over (all_fit after.grid meant) (applied meant) after behind (does_nothing after))
       ∙ ap (λ (r : Rewritten). fold (applied meant) r behind) (made ∙ sym (is_applied before places fit))
 
 module _ (rows : List CompiledRow) (rooms : List RowRoom) (table other : Option (List ℕ)) (height high : ℕ) where
-  pub turn : (before after : Rewritten) (end : List (List (List ℕ))) → other ≡ table → high ≡ height → all_fit before.grid (rows_meaning table rows) (chosen (choices_of height rows rooms)) ≡ true →
+  pub turn : (before after : Rewritten) (end : List (List (List ℕ))) → other ≡ table → high ≡ height →
+    all_fit before.grid (rows_meaning table rows) (chosen (choices_of height rows rooms)) ≡ true →
       after ≡ rewritten_rows before (rows_meaning table rows) (chosen (choices_of height rows rooms)) →
       from_first (all_fit after.grid (rows_meaning other rows)) (behind (choices_of high rows rooms)) ≡ end →
-      fold (applied (rows_meaning table rows)) after end ≡ fold (applied (rows_meaning table rows)) before (chosen (choices_of height rows rooms) ∷ behind (choices_of height rows rooms))
+      fold (applied (rows_meaning table rows)) after end ≡ fold (applied (rows_meaning table rows)) before
+      (chosen (choices_of height rows rooms) ∷ behind (choices_of height rows rooms))
   turn before after end e d fit made sought =
-      one_turn (rows_meaning table rows) before after (chosen (choices_of height rows rooms)) (behind (choices_of height rows rooms)) end fit made
-      (ap₂ (λ (t : Option (List ℕ)) (h : ℕ). from_first (all_fit after.grid (rows_meaning t rows)) (behind (choices_of h rows rooms))) (sym e) (sym d) ∙ sought)
+      one_turn (rows_meaning table rows) before after (chosen (choices_of height rows rooms))
+      (behind (choices_of height rows rooms)) end fit made
+      (ap₂ (λ (t : Option (List ℕ)) (h : ℕ). from_first (all_fit after.grid (rows_meaning t rows))
+      (behind (choices_of h rows rooms))) (sym e) (sym d) ∙ sought)
 
 -- fewer are left behind the next one
-pub fewer : {X : Type 0} (kind : X → Bool) (xs : List X) (y : X) (ys : List X) → from_first kind xs ≡ y ∷ ys → length ys < length xs
+pub fewer : {X : Type 0} (kind : X → Bool) (xs : List X) (y : X) (ys : List X) → from_first kind xs ≡ y ∷ ys →
+    length ys < length xs
 fewer kind xs y ys found =
     let most : length (from_first kind xs) ≤ length xs = no_more kind xs in
     let long : length (from_first kind xs) ≡ suc (length ys) = ap length found in

@@ -1,8 +1,10 @@
 -- Rooms that forget places before those that are chosen: what is left to apply comes to the same.
-use Rattle.std.proofs.Common.{◌≡◌, ◌∙◌, ℕ, suc, zero, ◌+◌, ◌≤◌, inl, inr, true, cond, Option, Some, None, List, [], ◌∷◌, length, map, filter, refl, sym, ap, ap₂, arith}
+use Rattle.std.proofs.Common.{◌≡◌, ◌∙◌, ℕ, suc, zero, ◌+◌, ◌≤◌, inl, inr, true, cond, Option, Some, None, List, [], ◌∷◌}
+use Rattle.std.proofs.Common.{length, map, filter, refl, sym, ap, ap₂, arith}
 use Rattle.std.specs.Prelude.{slice_get, slice_set}
 use Rattle.std.proofs.lemmas.Bool.{cases_eq}
 use Rattle.std.proofs.lemmas.List.{length-append, length-map, length-set}
+use Rattle.std.proofs.lemmas.Option.{same_Some}
 use Rattle.ps_model.specs.board.Grid.{Grid}
 use Rattle.ps_model.specs.board.Places.{cells_in, fits_along}
 use Rattle.ps_model.specs.board.Attempts.{Rewritten, all_fit}
@@ -14,14 +16,15 @@ use Rattle.ps_places.specs.Forgetting.{HaveForgotten}
 use Rattle.ps_places.specs.RowPlaces.{all_places, place_fits, places_behind, row_meaning}
 use Rattle.ps_places.specs.Starts.{HasLinesOf}
 use Rattle.ps_engine.specs.Choices.{behind, choices_of, chosen, spread}
-use Rattle.ps_engine.specs.Choosing.{AreForgotten, AreLeft, ArePlaced, AreStarted, ComeToSame, HaveLinesOf, IsPlaced, rows_meaning}
-use Rattle.ps_engine.proofs.Choosing.{cells_in-meant, inside}
+use Rattle.ps_engine.specs.Choosing.{AreForgotten, AreLeft, ArePlaced, AreStarted, ComeToSame, HaveLinesOf, IsPlaced}
+use Rattle.ps_engine.specs.Choosing.{rows_meaning}
+use Rattle.ps_engine.proofs.Choosing.{cells_in-meant}
 use Rattle.ps_engine.proofs.Forgetting.{AreSameFitting, same_behind, same_chosen}
 use Rattle.ps_engine.proofs.RoomsChanged.{get_other, get_same, none_there}
 use Rattle.ps_engine.proofs.RowsAsleep.{rows_let_sleep}
 use Rattle.ps_engine.proofs.Sleeping.{sleeping_left_out}
 
--- one room more ---------------------------------------------------------------------------------------------------------------
+-- one room more -------------------------------------------------------------------------------------------------------
 
 nothing_forgotten : (height : ℕ) (row : CompiledRow) (room : RowRoom) → HaveForgotten height row room room
 nothing_forgotten height row room = record {
@@ -38,7 +41,7 @@ pub none_forgotten : (rows : List CompiledRow) (rooms : List RowRoom) → AreFor
 none_forgotten rows rooms = record {
   long = refl;
   each = λ k height row before after is was now.
-      let e : after ≡ before = inside (sym now ∙ was) in
+      let e : after ≡ before = same_Some _ _ (sym now ∙ was) in
       rw e (nothing_forgotten height row before);
 }
 
@@ -55,15 +58,16 @@ forgotten_more rows old rooms n row before after so left is there one = record {
       HaveForgotten height r first last
   at k height r first last own was now = elim (cases_eq k n) [
     | inl here ↦
-        let e : last ≡ after = inside (sym now ∙ ap (slice_get (slice_set rooms n after)) here
+        let e : last ≡ after = same_Some _ _ (sym now ∙ ap (slice_get (slice_set rooms n after)) here
         ∙ get_same rooms n before after there) in
-        let d : r ≡ row = inside (sym own ∙ ap (slice_get rows) here ∙ is) in
-        let f : first ≡ before = inside (sym was ∙ ap (slice_get old) here ∙ sym (left n (omega arith)) ∙ there) in
+        let d : r ≡ row = same_Some _ _ (sym own ∙ ap (slice_get rows) here ∙ is) in
+        let f : first ≡ before =
+        same_Some _ _ (sym was ∙ ap (slice_get old) here ∙ sym (left n (omega arith)) ∙ there) in
         rw (e, d, f) (one height)
     | inr other ↦ so.each k height r first last own was (sym (get_other rooms n k after other) ∙ now)
   ]
 
--- lines -----------------------------------------------------------------------------------------------------------------------
+-- lines ---------------------------------------------------------------------------------------------------------------
 
 module _ (g : Grid) (rows : List CompiledRow) (old new : List RowRoom) (so : AreForgotten rows old new) where
   pub lines_kept : HaveLinesOf g rows old → HaveLinesOf g rows new
@@ -84,7 +88,7 @@ module _ (g : Grid) (rows : List CompiledRow) (old new : List RowRoom) (so : Are
         record { on_line = rw kept.line own.on_line; spaced = rw kept.way own.spaced }
     at None was = absurd (none_there old new k room so.long there was)
 
--- combinations ----------------------------------------------------------------------------------------------------------------
+-- combinations --------------------------------------------------------------------------------------------------------
 
 abbrev Each : List CompiledRow → List RowRoom → List RowRoom → Type 0
 Each rows old new =
@@ -112,7 +116,7 @@ module _ (g : Grid) (table : Option (List ℕ)) where
   alike count (row ∷ rows) (o ∷ old) [] long even each started left = absurd (omega (arith, even))
   alike zero (row ∷ rows) (o ∷ old) (n ∷ new) long even each started left =
       let one = each 0 g.height row o n refl refl refl in
-      let e : n ≡ o = inside (left 0 (omega arith)) in (
+      let e : n ≡ o = same_Some _ _ (left 0 (omega arith)) in (
         record {
           at = one.at;
           later = one.later;
@@ -160,7 +164,7 @@ module _ (g : Grid) (table : Option (List ℕ)) where
         (same_behind g meant (choices_of g.height rows old) (choices_of g.height rows new)
         (alike count rows old new long so.long so.each started left)))
 
--- no more are left ------------------------------------------------------------------------------------------------------------
+-- no more are left ----------------------------------------------------------------------------------------------------
 
 spread_long : (places : List (List ℕ)) (rest : List (List ℕ)) (rests : List (List (List ℕ))) →
     length (spread places (rest ∷ rests)) ≡ length places + length (spread places rests)

@@ -17,6 +17,8 @@ use Rattle.ps_model.specs.board.Grid.{Grid, IsGrid}
 use Rattle.ps_model.specs.board.Places.{cells_in, fits_along, places, search_order, stretches}
 use Rattle.ps_model.specs.board.Attempts.{Rewritten, applied, combinations}
 use Rattle.ps_model.specs.meaning.RuleMeanings.{CellMeaning}
+use Rattle.ps_laws.proofs.common.Everywhere.{All-each}
+use Rattle.ps_laws.proofs.alike.TurnedAttempts.{chosen_by}
 use Rattle.ps_board.specs.ColumnSets.{column_at, set_columns}
 use Rattle.ps_board.proofs.ColumnLaws.{first_in, none_in}
 use Rattle.ps_board.proofs.PassedColumns.{cell_below}
@@ -38,23 +40,17 @@ use Rattle.ps_places.specs.PartTargets.{AreTargets, has_partner, is_kept, is_rea
 use Rattle.ps_places.specs.PartTargets.{number_in_row, other_part, own_part, position_of, target_at}
 use Rattle.ps_places.specs.RowPlaces.{parts_meaning}
 use Rattle.ps_places.proofs.TargetCells.{line_of-on, position_of-on, targets-are}
+use Rattle.ps_places.proofs.InSearchOrder.{alone}
 use Rattle.ps_engine.specs.Writing.{AreWithin, is_written, start_column, start_row}
 use Rattle.ps_engine.proofs.WrittenOnce.{StandsAside, applied_along, fits_within, places_from, target_fits, target_of}
 use Rattle.ps_engine.proofs.WritersAside.{cells_aside, written_twice}
-use Rattle.ps_places.proofs.NextWays.{all-flat_map}
 use Rattle.ps_places.proofs.PlacesWritten.{nothing_behind}
+use Rattle.ps_engine.proofs.OneByOne.{no_places}
 
 -- one row alone -------------------------------------------------------------------------------------------------------
 
--- a combination of one place
-abbrev alone : List ℕ → List (List ℕ)
-alone place = place ∷ []
-
 abbrev asked : Bool → Bool
 asked fit = elim fit [ true ↦ true | false ↦ false ]
-
-abbrev chosen_by : Bool → Rewritten → Rewritten → Rewritten
-chosen_by fit x y = elim fit [ true ↦ x | false ↦ y ]
 
 asked_twice : (fit : Bool) (x y : Rewritten) → chosen_by (asked fit) x y ≡ chosen_by fit x y
 asked_twice true x y = refl
@@ -345,7 +341,7 @@ module _ (g : Grid) (table : Option (List ℕ)) (axis : Axis) (first second : Li
 
     all_kept : All (λ place. fits_along g (cells_in meant) place ≡ true) all
     all_kept =
-        all-flat_map (λ place. fits_along g (cells_in meant) place ≡ true)
+        All-each (λ place. fits_along g (cells_in meant) place ≡ true)
         (λ end. filter (fits_along g (cells_in meant)) (stretches g (direction_of axis) (map length meant) end))
         (search_order g (direction_of axis))
         (λ end. kept_all (fits_along g (cells_in meant)) (stretches g (direction_of axis) (map length meant) end))
@@ -379,7 +375,8 @@ module _ (g : Grid) (table : Option (List ℕ)) (axis : Axis) (first second : Li
     reached_is n low = ap (λ (b : Bool). nat_le steps (position_of axis g.height n) && b) (sym (kept_is n low))
 
     any_target : (n : ℕ) → n < g.width * g.height →
-        list_any (λ place. nat_eq n (target_of (length before) place)) all ≡ is_written axis g.height steps rows starts n
+        list_any (λ place. nat_eq n (target_of (length before) place)) all
+        ≡ is_written axis g.height steps rows starts n
     any_target n low =
         ap (λ (k : ℕ). list_any (λ place. nat_eq n (target_of k place)) all) long_is
         ∙ targets-are g table axis first second grid some more leads steps n within low ∙ reached_is n low
@@ -398,7 +395,7 @@ module _ (g : Grid) (table : Option (List ℕ)) (axis : Axis) (first second : Li
         (is_written axis g.height steps rows starts)
         (λ n low. any_target n (rw (← grid.cells) low))
 
-    -- whether there is a place ------------------------------------------------------------------------------------------
+    -- whether there is a place ----------------------------------------------------------------------------------------
 
     no_target : (n : ℕ) → set_columns rows ≡ [] → n < g.width * g.height →
         is_written axis g.height steps rows starts n ≡ false
@@ -444,10 +441,7 @@ module _ (g : Grid) (table : Option (List ℕ)) (axis : Axis) (first second : Li
         let clash : false ≡ true =
         ap (list_any (λ p. nat_eq there.number (target_of (length before) p))) (sym no)
         ∙ any_target there.number there.low ∙ there.is in
-        absurd (cc) where
-          no_places : (ps : List (List ℕ)) → map alone ps ++ [] ≡ [] → ps ≡ []
-          no_places [] e = refl
-          no_places (p ∷ ps) e = absurd (cc)
+        absurd (cc)
 
 -- the writer of a rule ------------------------------------------------------------------------------------------------
 

@@ -2,8 +2,8 @@
 use Rattle.std.proofs.Common.{◌≡◌, ◌≢◌, ◌∙◌, ℕ, ◌+◌, ◌-◌, ◌*◌, ◌/◌, ◌%◌, ◌<◌, ◌≤◌, ◌||◌, ◌&&◌, inl, inr, Bool, true}
 use Rattle.std.proofs.Common.{false, not, List, [], ◌∷◌, length, refl, sym, ap, ap₂, arith}
 use Rattle.std.specs.Prelude.{nat_eq, nat_le, slice_index_or}
-use Rattle.std.proofs.Math.Bool.{and-false}
-use Rattle.std.proofs.lemmas.Bool.{and_parts, cases_eq, eqb-true, eq-eqb, ne_eqb}
+use Rattle.std.proofs.Math.Bool.{and-false, or-false}
+use Rattle.std.proofs.lemmas.Bool.{and_parts, cases_eq, eqb-true, eq-eqb, ne_eqb, or_right}
 use Rattle.std.proofs.lemmas.Bool.Decides.{nat_tests}
 use Rattle.std.proofs.lemmas.Nat.{div_below, mod_below}
 use Rattle.ps_model.specs.declared.limits.TheConstants.{SIDE_LIMIT}
@@ -14,7 +14,7 @@ use Rattle.ps_board.specs.ColumnSets.{column_at, columns_ahead, set_columns}
 use Rattle.ps_board.proofs.ColumnLaws.{column_at-where, first_in, none_in}
 use Rattle.ps_board.proofs.Taken.{taken_gone, taken_out}
 use Rattle.ps_match.specs.Together.{rewritten_where}
-use Rattle.ps_match.proofs.Chosen.{or_nothing, where-agree, where-none}
+use Rattle.ps_match.proofs.Chosen.{where-agree, where-none}
 use Rattle.ps_match.proofs.RowWritten.{told, told-more}
 use Rattle.ps_program.specs.declared.rows.Axis.{Axis}
 use Rattle.ps_program.specs.declared.rows.Axis.TheVariants.{Down, Right}
@@ -28,10 +28,6 @@ pub record AreOf (rows left : List Bool) : Type 0 where
 
 pub all-of : (rows : List Bool) → AreOf rows rows
 all-of rows = record { at = λ row low is. is }
-
-or_right : (a b : Bool) → b ≡ true → (a || b) ≡ true
-or_right true b e = refl
-or_right false b e = e
 
 pub fewer-of : (rows set left : List Bool) (k : ℕ) → set_columns set ≡ k ∷ set_columns left → AreOf rows set →
     AreOf rows left
@@ -122,7 +118,7 @@ one_more axis height steps row n rows set left columns starts low under taken al
           (start_row axis height steps n) row other)))
           ∙ sym (ap (λ (b : Bool). passed_by axis height steps rows starts set n || b)
           (not_behind axis height steps row columns n (is_behind axis height steps row columns n) refl other)
-          ∙ or_nothing (passed_by axis height steps rows starts set n))
+          ∙ or-false (passed_by axis height steps rows starts set n))
     ]
 
 -- the loop over rows

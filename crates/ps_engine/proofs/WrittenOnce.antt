@@ -4,7 +4,7 @@ use Rattle.std.proofs.Common.{◌≡◌, ◌∙◌, ℕ, suc, ◌<◌, ◌||◌,
 use Rattle.std.proofs.Common.{[], ◌∷◌, ◌++◌, length, fold, drop, refl, sym, ap, ap₂}
 use Rattle.std.specs.Prelude.{All, nat_eq, slice_get, slice_index_or, slice_set}
 use Rattle.std.specs.List.{list_any}
-use Rattle.std.proofs.Math.Bool.{or-false}
+use Rattle.std.proofs.Math.Bool.{or-false, or_assoc}
 use Rattle.std.proofs.lemmas.Bool.{cases_eq, eqb-true, ne_eqb}
 use Rattle.std.proofs.lemmas.List.{set-get_or}
 use Rattle.std.proofs.lemmas.List.Elements.{All-head, All-tail}
@@ -14,11 +14,12 @@ use Rattle.ps_model.specs.board.Grid.{Grid, cell_at}
 use Rattle.ps_model.specs.board.Places.{fits_along, fits_there}
 use Rattle.ps_model.specs.board.Attempts.{Rewritten, rewritten_along, rewritten_cell, with_cell}
 use Rattle.ps_model.specs.meaning.RuleMeanings.{CellMeaning}
+use Rattle.ps_laws.proofs.common.SameThings.{same_cell-own}
+use Rattle.ps_laws.proofs.common.Truths.{both-hold}
 use Rattle.ps_match.specs.Together.{cell_where, rewritten_where}
-use Rattle.ps_places.proofs.WrittenToItself.{cell_itself, with_change}
-use Rattle.ps_match.proofs.Chosen.{cell_at-where, length-where, or_nothing, where-agree, where-one}
+use Rattle.ps_places.proofs.WrittenToItself.{with_change}
+use Rattle.ps_match.proofs.Chosen.{cell_at-where, length-where, where-agree, where-one}
 use Rattle.ps_match.proofs.RowWritten.{told, told-more}
-use Rattle.ps_places.proofs.CellsInTurn.{both_true}
 
 -- a cell of a rule leaves what it fits as it is, and what fits it fits it behind a writing
 pub record StandsAside (becomes : List Slot → List Slot) (a : CellMeaning) : Type 0 where
@@ -55,7 +56,7 @@ put_again r n cell is =
     let cells : List (List Slot) = (r.grid).cells in
     let put : slice_set cells n cell ≡ cells =
     ap (slice_set cells n) (sym (get_or_from_slice_get cells n cell cell is)) ∙ set-get_or cells n cell in
-    ap₂ (with_change r) put (ap not (cell_itself cell))
+    ap₂ (with_change r) put (ap not (same_cell-own cell))
     ∙ ap (λ (b : Bool). let again : Rewritten = record { grid = r.grid; changed = b } in again) (or-false r.changed)
 
 module _ (g : Grid) (m : CellMeaning) where
@@ -98,7 +99,7 @@ rest_fits g m [] aside chosen [] e = refl
 rest_fits g m [] aside chosen (n ∷ place) e = absurd (cc)
 rest_fits g m (a ∷ others) aside chosen [] e = absurd (cc)
 rest_fits g m (a ∷ others) aside chosen (n ∷ place) e =
-    let parts = both_true (fits_there a (slice_get g.cells n)) (fits_along g others place) e in
+    let parts = both-hold (fits_there a (slice_get g.cells n)) (fits_along g others place) e in
     if_both _ _ (still_fits g m a (All-head (StandsAside m.rewritten) a others aside) chosen n (chosen n) refl parts.0)
     (rest_fits g m others (All-tail (StandsAside m.rewritten) a others aside) chosen place parts.1)
 
@@ -108,7 +109,7 @@ rest_still : (becomes : List Slot → List Slot) (others : List CellMeaning) →
 rest_still becomes [] aside r place e = refl
 rest_still becomes (a ∷ others) aside r [] e = refl
 rest_still becomes (a ∷ others) aside r (n ∷ place) e =
-    let parts = both_true (fits_there a (slice_get (r.grid).cells n)) (fits_along r.grid others place) e in
+    let parts = both-hold (fits_there a (slice_get (r.grid).cells n)) (fits_along r.grid others place) e in
     ap (λ (x : Rewritten). rewritten_along x others place)
     (idle_there becomes r a (All-head (StandsAside becomes) a others aside) n (slice_get (r.grid).cells n) refl parts.0)
     ∙ rest_still becomes others (All-tail (StandsAside becomes) a others aside) r place parts.1
@@ -118,20 +119,20 @@ module _ (m : CellMeaning) (after : List CellMeaning) where
       fits_along h (before ++ m ∷ after) place ≡ true →
       fits_there m (slice_get h.cells (target_of (length before) place)) ≡ true
   target_fits h [] [] e = absurd (cc)
-  target_fits h [] (n ∷ place) e = (both_true (fits_there m (slice_get h.cells n)) (fits_along h after place) e).0
+  target_fits h [] (n ∷ place) e = (both-hold (fits_there m (slice_get h.cells n)) (fits_along h after place) e).0
   target_fits h (b ∷ before) [] e = absurd (cc)
   target_fits h (b ∷ before) (n ∷ place) e =
-      target_fits h before place (both_true (fits_there b (slice_get h.cells n)) (fits_along h
+      target_fits h before place (both-hold (fits_there b (slice_get h.cells n)) (fits_along h
       (before ++ m ∷ after) place) e).1
 
   after_fits : (h : Grid) (before : List CellMeaning) (place : List ℕ) →
       fits_along h (before ++ m ∷ after) place ≡ true →
       fits_along h after (drop (suc (length before)) place) ≡ true
   after_fits h [] [] e = absurd (cc)
-  after_fits h [] (n ∷ place) e = (both_true (fits_there m (slice_get h.cells n)) (fits_along h after place) e).1
+  after_fits h [] (n ∷ place) e = (both-hold (fits_there m (slice_get h.cells n)) (fits_along h after place) e).1
   after_fits h (b ∷ before) [] e = absurd (cc)
   after_fits h (b ∷ before) (n ∷ place) e =
-      after_fits h before place (both_true (fits_there b (slice_get h.cells n)) (fits_along h
+      after_fits h before place (both-hold (fits_there b (slice_get h.cells n)) (fits_along h
       (before ++ m ∷ after) place) e).1
 
   fits_again : (g : Grid) → All (StandsAside m.rewritten) after → (before : List CellMeaning) →
@@ -142,11 +143,11 @@ module _ (m : CellMeaning) (after : List CellMeaning) where
       fits_along (rewritten_where g m.rewritten chosen).grid (before ++ m ∷ after) place ≡ true
   fits_again g behind [] aside chosen [] e here = absurd (cc)
   fits_again g behind [] aside chosen (n ∷ place) e here =
-      if_both _ _ here (rest_fits g m after behind chosen place (both_true (fits_there m (slice_get g.cells n))
+      if_both _ _ here (rest_fits g m after behind chosen place (both-hold (fits_there m (slice_get g.cells n))
       (fits_along g after place) e).1)
   fits_again g behind (b ∷ before) aside chosen [] e here = absurd (cc)
   fits_again g behind (b ∷ before) aside chosen (n ∷ place) e here =
-      let parts = both_true (fits_there b (slice_get g.cells n)) (fits_along g (before ++ m ∷ after) place) e in
+      let parts = both-hold (fits_there b (slice_get g.cells n)) (fits_along g (before ++ m ∷ after) place) e in
       if_both _ _ (still_fits g m b (All-head (StandsAside m.rewritten) b before aside) chosen n
       (chosen n) refl parts.0)
       (fits_again g behind before (All-tail (StandsAside m.rewritten) b before aside) chosen place parts.1 here)
@@ -162,7 +163,7 @@ module _ (m : CellMeaning) (after : List CellMeaning) where
   written_through r [] aside (n ∷ place) e = refl
   written_through r (b ∷ before) aside [] e = absurd (cc)
   written_through r (b ∷ before) aside (n ∷ place) e =
-      let parts = both_true (fits_there b (slice_get (r.grid).cells n)) (fits_along r.grid
+      let parts = both-hold (fits_there b (slice_get (r.grid).cells n)) (fits_along r.grid
       (before ++ m ∷ after) place) e in
       ap (λ (x : Rewritten). rewritten_along x (before ++ m ∷ after) place)
       (idle_there m.rewritten r b (All-head (StandsAside m.rewritten) b before aside) n (slice_get
@@ -255,7 +256,7 @@ module _ (g : Grid) (before after : List CellMeaning) (m : CellMeaning) (aside :
       (λ k low. elim (cases_eq k (at place)) [
         | inl same ↦ let so : done k ≡ true = ap done same ∙ is in sym (e k low ∙ ap (λ (b : Bool). b || nat_eq k
             (at place)) so ∙ sym so)
-        | inr other ↦ sym (e k low ∙ rw (ne_eqb k (at place) other) (or_nothing (done k)))
+        | inr other ↦ sym (e k low ∙ rw (ne_eqb k (at place) other) (or-false (done k)))
       ])
   one_place_by done more place false is fits e = first_time done more place fits is e
 
@@ -268,17 +269,13 @@ module _ (g : Grid) (before after : List CellMeaning) (m : CellMeaning) (aside :
   abbrev is_target : List (List ℕ) → ℕ → Bool
   is_target places n = list_any (λ place. nat_eq n (at place)) places
 
-  or_three : (a b c : Bool) → ((a || b) || c) ≡ (a || (b || c))
-  or_three true b c = refl
-  or_three false b c = refl
-
   pub places_from : (done : ℕ → Bool) (places : List (List ℕ)) → All Fits places →
       fold (applied_along whole) (now done) places ≡ now (λ n. done n || is_target places n)
-  places_from done [] fit = where-agree g m.rewritten done (λ n. done n || false) (λ k low. sym (or_nothing (done k)))
+  places_from done [] fit = where-agree g m.rewritten done (λ n. done n || false) (λ k low. sym (or-false (done k)))
   places_from done (place ∷ places) fit =
       let more : ℕ → Bool = λ k. done k || nat_eq k (at place) in
       ap (λ (r : Rewritten). fold (applied_along whole) r places)
       (one_place_by done more place (done (at place)) refl (All-head Fits place places fit) (λ k low. refl))
       ∙ places_from more places (All-tail Fits place places fit)
       ∙ where-agree g m.rewritten (λ n. more n || is_target places n) (λ n. done n || is_target (place ∷ places) n)
-      (λ k low. or_three (done k) (nat_eq k (at place)) (is_target places k))
+      (λ k low. or_assoc (done k) (nat_eq k (at place)) (is_target places k))

@@ -13,7 +13,8 @@ pub record Choice : Type 0 where
 
 -- what is chosen for rows, on a board so high
 abbrev pub choice_of : ℕ → CompiledRow → RowRoom → Choice
-choice_of height row room = record { all = all_places height row room; at = place_at height row room; later = places_behind height row room }
+choice_of height row room =
+    record { all = all_places height row room; at = place_at height row room; later = places_behind height row room }
 
 abbrev pub choices_of : ℕ → List CompiledRow → List RowRoom → List Choice
 choices_of height [] rooms = []

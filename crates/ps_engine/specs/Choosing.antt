@@ -23,13 +23,15 @@ row_places g table row = places g (direction_of row.axis) (row_meaning table row
 
 -- something holds of each of the rows with such a number and its room
 abbrev pub OfEach : (ℕ → Type 0) → List CompiledRow → List RowRoom → (CompiledRow → RowRoom → Type 0) → Type 0
-OfEach Such rows rooms holds = (k : ℕ) (row : CompiledRow) (room : RowRoom) → Such k → slice_get rows k ≡ Some row → slice_get rooms k ≡ Some room → holds row room
+OfEach Such rows rooms holds = (k : ℕ) (row : CompiledRow) (room : RowRoom) → Such k → slice_get rows k ≡ Some row →
+    slice_get rooms k ≡ Some room → holds row room
 
 -- the lines of rows' rooms are those of the board
 abbrev pub HaveLinesOf : Grid → List CompiledRow → List RowRoom → Type 0
 HaveLinesOf g rows rooms = OfEach (λ k. 0 ≤ k) rows rooms (HasLinesOf g)
 
--- the place that is chosen for a row is on a line of the board, each of its parts behind the one before; so for each row
+-- the place that is chosen for a row is on a line of the board, each of its parts behind the one before; so for each
+-- row
 pub record IsPlaced (g : Grid) (row : CompiledRow) (room : RowRoom) : Type 0 where
   pub on_line : IsOnLine g row room
   pub spaced : HasSpacedWay row room
@@ -46,17 +48,21 @@ abbrev pub FitFrom : Grid → Option (List ℕ) → List CompiledRow → List Ro
 FitFrom g table rows rooms from = OfEach (λ k. from ≤ k) rows rooms (FitsThere g table)
 
 -- the first of some places at which a row fits is chosen for it
-pub record IsChosenOf (g : Grid) (table : Option (List ℕ)) (row : CompiledRow) (places : List (List ℕ)) (room : RowRoom) : Type 0 where
-  pub found : from_first (place_fits g table row.parts) places ≡ place_at g.height row room ∷ places_behind g.height row room
+pub record IsChosenOf (g : Grid) (table : Option (List ℕ)) (row : CompiledRow) (places : List (List ℕ))
+    (room : RowRoom) : Type 0 where
+  pub found : from_first (place_fits g table row.parts) places ≡ place_at g.height row room
+    ∷ places_behind g.height row room
   pub place : IsPlaced g row room
   pub among : IsAmong row room
 
 -- of the first so many rows each starts again at its first place at which it fits
 abbrev pub AreStarted : Grid → Option (List ℕ) → List CompiledRow → List RowRoom → ℕ → Type 0
-AreStarted g table rows rooms count = OfEach (λ k. k < count) rows rooms (λ row room. IsChosenOf g table row (all_places g.height row room) room)
+AreStarted g table rows rooms count =
+    OfEach (λ k. k < count) rows rooms (λ row room. IsChosenOf g table row (all_places g.height row room) room)
 
 -- one of the first so many rows fits at none of its places
-pub record LacksPlace (g : Grid) (table : Option (List ℕ)) (rows : List CompiledRow) (rooms : List RowRoom) (count : ℕ) : Type 0 where
+pub record LacksPlace (g : Grid) (table : Option (List ℕ)) (rows : List CompiledRow) (rooms : List RowRoom)
+    (count : ℕ) : Type 0 where
   pub number : ℕ
   pub low : number < count
   pub row : CompiledRow
@@ -68,7 +74,8 @@ pub record LacksPlace (g : Grid) (table : Option (List ℕ)) (rows : List Compil
 -- the rooms have the same starts, whatever places are chosen
 pub record HaveStartsOf (old new : List RowRoom) : Type 0 where
   pub long : length new ≡ length old
-  pub each : (k : ℕ) (before after : RowRoom) → slice_get old k ≡ Some before → slice_get new k ≡ Some after → HaveSameStarts before after
+  pub each : (k : ℕ) (before after : RowRoom) → slice_get old k ≡ Some before → slice_get new k ≡ Some after →
+    HaveSameStarts before after
 
 -- the rooms from one on are as they were
 abbrev pub AreLeft : List RowRoom → List RowRoom → ℕ → Type 0

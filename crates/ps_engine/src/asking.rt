@@ -6,7 +6,7 @@ ghost use Rattle.ps_engine.specs.Choosing.{row_places};
 ghost use Rattle.ps_engine.specs.RulesInRoom.{rule_meaning};
 
 use crate::lent_queue::LentQueue;
-use ps_match::Scan;
+use ps_match::{Scan, recall_shape};
 use ps_places::{RowRoom, find_starts};
 use ps_program::{CompiledRow, CompiledRule};
 
@@ -15,7 +15,7 @@ fn row_has_place<B: Scan>(board: &B, row: &CompiledRow, room: &mut RowRoom) -> b
     ensures some { result ≡ true → row_places (B.grid board.now) (B.table board.now) row.now ≢ [] }
     ensures none { result ≡ false → row_places (B.grid board.now) (B.table board.now) row.now ≡ [] }
 {
-    let (_width, _height) = board.size();
+    recall_shape(board);
     let parts = row.parts.as_slice();
     if parts.len() == 1 {
         return !room
@@ -35,7 +35,7 @@ fn rows_have_places<'r, B: Scan>(board: &B, rule: &CompiledRule<'r>, rooms: &mut
         combinations_on (B.grid board.now) (rule_meaning (B.table board.now) rule.now) ≡ [] }
     ensures long { length rooms.new ≡ length rooms.old }
 {
-    let (_width, _height) = board.size();
+    recall_shape(board);
     let rows = rule.rows.as_slice();
     for number in 0..rows.len() {
         if !row_has_place(board, &rows[number], &mut rooms[number]) {
@@ -61,7 +61,7 @@ pub fn attempt_commands<'r, B: Scan>(
         all ≡ attempt (rule_meaning (B.table board.now) rule.now) before }
     ensures rooms { length rooms.new ≡ length rooms.old }
 {
-    let (_width, _height) = board.size();
+    recall_shape(board);
     if rows_have_places(board, rule, rooms) {
         queue.enter(rule.commands);
     }

@@ -13,7 +13,7 @@ use crate::one_cell::{attempt_cell, only_cell};
 use crate::one_part::{attempt_part, only_part};
 use crate::walking::walk;
 use crate::writing::attempt_writer;
-use ps_match::Scan;
+use ps_match::{Scan, recall_shape};
 use ps_places::{RowRoom, find_starts};
 use ps_program::CompiledRule;
 
@@ -23,7 +23,7 @@ fn lacks_motion<B: Scan>(board: &B, rule: &CompiledRule) -> bool
     ensures { result ≡ true →
         combinations_on (B.grid board.now) (rule_meaning (B.table board.now) rule.now) ≡ [] }
 {
-    let (_width, _height) = board.size();
+    recall_shape(board);
     for test in rule.moving.as_slice() {
         if board.rows_moving(test).is_empty() {
             return true;

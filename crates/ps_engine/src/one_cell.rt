@@ -10,7 +10,7 @@ ghost use Rattle.ps_match.specs.InRoom.{sides_of};
 ghost use Rattle.ps_match.specs.Together.{rewritten_where};
 
 use crate::lent_queue::LentQueue;
-use ps_match::{Columns, Scan};
+use ps_match::{Columns, Scan, recall_shape};
 use ps_places::rows_of_mask;
 use ps_program::{CompiledCell, CompiledRow, CompiledRule};
 
@@ -85,7 +85,7 @@ pub fn attempt_cell<'r, B: Scan>(
     ensures table { B.table board.new ≡ B.table board.old }
     ensures sides { sides_of (B.grid board.new) ≡ sides_of (B.grid board.old) }
 {
-    let (_width, _height) = board.size();
+    recall_shape(board);
     let written = write_all(board, cell);
     if written.found {
         queue.enter(rule.commands);

@@ -15,7 +15,7 @@ ghost use Rattle.ps_engine.specs.RulesInRoom.{rule_meaning};
 ghost use Rattle.ps_engine.specs.Writing.{AreWithin, is_behind, is_written, row_behind};
 
 use crate::lent_queue::LentQueue;
-use ps_match::{Columns, Scan};
+use ps_match::{Columns, Scan, recall_shape};
 use ps_places::RowRoom;
 use ps_program::{Axis, CellWrite, CompiledCell, CompiledRow, CompiledRule, Writer};
 
@@ -52,7 +52,7 @@ fn write_behind<B: Scan>(
     ensures table { B.table board.new ≡ B.table board.old }
     ensures sides { sides_of (B.grid board.new) ≡ sides_of (B.grid board.old) }
 {
-    let (_width, _height) = board.size();
+    recall_shape(board);
     match axis {
         Axis::Down => board.rewrite(write, row + steps, columns),
         Axis::Right => board.rewrite(write, row, columns.ahead(steps)),
@@ -77,7 +77,7 @@ fn write_targets<B: Scan>(
     ensures table { B.table board.new ≡ B.table board.old }
     ensures sides { sides_of (B.grid board.new) ≡ sides_of (B.grid board.old) }
 {
-    let (_width, _height) = board.size();
+    recall_shape(board);
     let mut left = rows;
     let mut changed = false;
     while let Some(row) = left.take_first() {
@@ -106,7 +106,7 @@ pub fn attempt_writer<'r, B: Scan>(
     ensures table { B.table board.new ≡ B.table board.old }
     ensures sides { sides_of (B.grid board.new) ≡ sides_of (B.grid board.old) }
 {
-    let (_width, _height) = board.size();
+    recall_shape(board);
     let row = &rule.rows.as_slice()[0];
     let cell = writing_cell(row, writer);
     let rows = room.find_targets(board, row, writer.leads);

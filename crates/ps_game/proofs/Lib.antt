@@ -1,5 +1,4 @@
 pub mod HeadingsTold
-pub mod ImpossibleLines
 pub mod LineSteps
 pub mod SectionEnds
 pub mod SectionLines

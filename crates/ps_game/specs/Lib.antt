@@ -1,4 +1,3 @@
 pub mod Finds
 pub mod Headings
-pub mod ImpossibleRules
 pub mod SectionPlaces

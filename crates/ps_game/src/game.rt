@@ -5,12 +5,13 @@ ghost use Rattle.ps_model.specs.declared.faults.Fault.{Fault as TheFault};
 ghost use Rattle.ps_model.specs.text.Faults.{first_fault};
 ghost use Rattle.ps_model.specs.game.Games.{game, faults, game_of_lines, line_faults};
 ghost use Rattle.ps_model.specs.text.Lines.{lines_of};
-ghost use Rattle.ps_model.specs.rules.ReadingFaults.{reading_faults};
+ghost use Rattle.ps_model.specs.rules.ReadingFaults.{faults_of_readings, reading_faults};
 ghost use Rattle.ps_levels.specs.Sized.{IsSizedEntry};
 ghost use Rattle.ps_game.specs.Finds.{Finds};
 ghost use Rattle.ps_game.specs.SectionPlaces.{AreSections};
 
 use crate::counts::first_too_many;
+use crate::occurrences::occurrences_of;
 use crate::parts::{entries_of, names_of, rules_of, wins_of};
 use crate::possible::first_impossible;
 use crate::prelude::{read_options, read_title};
@@ -18,7 +19,7 @@ use crate::sections::{Sections, read_sections};
 use ps_levels::{Entry, Win};
 use ps_model::{Options, Refusal};
 use ps_names::Names;
-use ps_rules::RuleText;
+use ps_rules::{Occurrences, RuleText};
 use ps_text::{Source, Text};
 use std::alloc::Global;
 use std::marker::Model;
@@ -54,12 +55,12 @@ impl Model for Game {
     } };
 }
 
-/// Whether the readings of the rules are neither too many nor, of some rule, all impossible. `Refused` with the first
-/// fault of the readings, if they have one.
-fn check_readings(alloc: Global, names: &Names, rules: &RuleText) -> Result<(), Refusal>
-    ensures fine { OnOk result (reading_faults names.now rules.now ≡ []) }
+/// Whether the readings of rules, told by their occurrences, are neither too many nor, of some rule, all impossible.
+/// `Refused` with the first fault of the readings, if they have one.
+fn check_occurrences(alloc: Global, names: &Names, rules: &[Occurrences<'_>]) -> Result<(), Refusal>
+    ensures fine { OnOk result (faults_of_readings names.now rules.now ≡ []) }
     ensures refused { IfErr result (λ e. (fault : TheFault) → e ≡ Refusal.Refused fault
-        → first_fault (reading_faults names.now rules.now) ≡ Some fault) }
+        → first_fault (faults_of_readings names.now rules.now) ≡ Some fault) }
 {
     if let Some(fault) = first_too_many(alloc, names, rules)? {
         return Err(Refusal::Refused(fault));
@@ -68,6 +69,16 @@ fn check_readings(alloc: Global, names: &Names, rules: &RuleText) -> Result<(), 
         return Err(Refusal::Refused(fault));
     }
     Ok(())
+}
+
+/// The same of the rules of a text: their occurrences are made once for all that is asked of them.
+fn check_readings(alloc: Global, names: &Names, rules: &RuleText) -> Result<(), Refusal>
+    ensures fine { OnOk result (reading_faults names.now rules.now ≡ []) }
+    ensures refused { IfErr result (λ e. (fault : TheFault) → e ≡ Refusal.Refused fault
+        → first_fault (reading_faults names.now rules.now) ≡ Some fault) }
+{
+    let occurrences = occurrences_of(alloc, rules.lines())?;
+    check_occurrences(alloc, names, &occurrences)
 }
 
 /// The game of a text whose sections are told: each part is read in its turn, so that the first fault is met first.

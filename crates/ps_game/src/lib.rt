@@ -5,6 +5,7 @@
 mod counts;
 mod game;
 mod headings;
+mod occurrences;
 mod parts;
 mod possible;
 mod prelude;

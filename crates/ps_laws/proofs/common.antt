@@ -17,3 +17,6 @@ pub mod Zipped
 pub mod BoardPlaces
 pub mod Chains
 pub mod StraightPlaces
+pub mod Lists
+pub mod Truths
+pub mod SameThings

@@ -7,5 +7,4 @@ mod LevelSteps
 mod StretchSteps
 mod EntrySteps
 mod WrittenRows
-mod BelowCount
 mod SizedLevels

@@ -8,7 +8,7 @@ ghost use Rattle.ps_match.specs.Together.{is_on_row, rewritten_where};
 
 use crate::rooms::Rooms;
 use crate::writing::write_cell;
-use ps_board::Columns;
+use ps_board::{Columns, recall_shape};
 use ps_program::CellWrite;
 
 /// Writes a cell, if it is wanted, and answers whether it changed, or something had `changed` before.
@@ -27,7 +27,7 @@ fn write_if<B: Rooms>(
         result ≡ (changed || all.changed) }
     ensures table { B.table board.new ≡ B.table board.old }
 {
-    let (_width, _height) = board.size();
+    recall_shape(board);
     if !wanted {
         return changed;
     }

@@ -1,5 +1,6 @@
 -- The order of the visits: the object that goes is its target's winner.
-use Rattle.std.proofs.Common.{◌≡◌, ◌≢◌, ℕ, suc, ◌+◌, ◌<◌, ◌≤◌, ◌⊎◌, inl, inr, Bool, true, false, Option, Some, None, List, length, refl, sym, ◌∙◌, ap, subst, arith}
+use Rattle.std.proofs.Common.{◌≡◌, ◌≢◌, ℕ, suc, ◌+◌, ◌<◌, ◌≤◌, ◌⊎◌, inl, inr, Bool, true, false, Option, Some, None}
+use Rattle.std.proofs.Common.{List, length, refl, sym, ◌∙◌, ap, subst, arith}
 use Rattle.std.specs.Prelude.{nat_eq, slice_index_or}
 use Rattle.std.proofs.lemmas.Bool.Decides.{nat_tests, eqb_tells}
 use Rattle.std.proofs.lemmas.List.{length-set}
@@ -17,22 +18,26 @@ use Rattle.ps_laws.proofs.common.Winners.{slides_by, winner-of_bare, winner-of_l
 use Rattle.ps_move.specs.Visits.{way, if_bare, is_going}
 use Rattle.ps_move.specs.Midway.{IsMidway, motion_left}
 use Rattle.ps_move.specs.Order.{next_on, ComesBefore, InTime, going_on, HasWon, IsInOrder}
-use Rattle.ps_move.proofs.Steps.{Goes, waits, stepped, entered, left_bare, beside, on_another_layer, step_midway, step_goes, step_going_on, step_going_on_other, neighbour-same, bare_holds, landed_at}
+use Rattle.ps_move.proofs.Steps.{Goes, waits, stepped, entered, left_bare, beside, on_another_layer, step_midway}
+use Rattle.ps_move.proofs.Steps.{step_goes, step_going_on, step_going_on_other, neighbour-same, bare_holds, landed_at}
 
 -- what it means that an object aims somewhere
 pub aim_some : (g : Grid) (cell : ℕ) (slot : Slot) (to : ℕ) → aim_of g cell slot ≡ Some to →
-    (object : ObjectId) × (direction : Direction) × (slot ≡ Holds object (Going direction)) × (neighbour g direction cell ≡ Some to)
+    (object : ObjectId) × (direction : Direction) × (slot ≡ Holds object (Going direction))
+    × (neighbour g direction cell ≡ Some to)
 aim_some g cell Bare to e = absurd (cc)
 aim_some g cell (Holds object Still) to e = absurd (cc)
 aim_some g cell (Holds object (Going direction)) to e = (object, direction, refl, e)
 aim_some g cell (Holds object Acting) to e = absurd (cc)
 
-pub aims_from : (g : Grid) (layer cell to : ℕ) (object : ObjectId) (direction : Direction) → slot_at g cell layer ≡ Holds object (Going direction) → neighbour g direction cell ≡ Some to →
+pub aims_from : (g : Grid) (layer cell to : ℕ) (object : ObjectId) (direction : Direction) →
+    slot_at g cell layer ≡ Holds object (Going direction) → neighbour g direction cell ≡ Some to →
     target g layer cell ≡ Some to
 aims_from g layer cell to object direction stands near = ap (aim_of g cell) stands ∙ near
 
 -- that it can go
-bare_way : (g : Grid) (layer n to : ℕ) (slot : Slot) → slot_at g n layer ≡ slot → if_bare g layer (Some n) ≡ Some to → (n ≡ to) × (slot_at g to layer ≡ Bare)
+bare_way : (g : Grid) (layer n to : ℕ) (slot : Slot) → slot_at g n layer ≡ slot → if_bare g layer (Some n) ≡ Some to →
+    (n ≡ to) × (slot_at g to layer ≡ Bare)
 bare_way g layer n to Bare e w =
     let P : Slot → Type 0 = λ s. elim (is_bare_slot s) [ true ↦ Some n | false ↦ None ] ≡ Some to in
     let w' : Some n ≡ Some to = subst P e w in
@@ -43,40 +48,52 @@ bare_way g layer n to (Holds object motion) e w =
     let w' : None ≡ Some to = subst P e w in
     absurd (cc)
 
-pub way_some : (g : Grid) (layer : ℕ) (aim : Option ℕ) (to : ℕ) → if_bare g layer aim ≡ Some to → (aim ≡ Some to) × (slot_at g to layer ≡ Bare)
+pub way_some : (g : Grid) (layer : ℕ) (aim : Option ℕ) (to : ℕ) → if_bare g layer aim ≡ Some to →
+    (aim ≡ Some to) × (slot_at g to layer ≡ Bare)
 way_some g layer None to w = absurd (cc)
-way_some g layer (Some n) to w = let found = bare_way g layer n to (slot_at g n layer) refl w in (ap Some found.0, found.1)
+way_some g layer (Some n) to w = let found = bare_way g layer n to (slot_at g n layer) refl w in
+    (ap Some found.0, found.1)
 
-pub way_is : (g : Grid) (layer cell to : ℕ) → target g layer cell ≡ Some to → slot_at g to layer ≡ Bare → way g layer cell ≡ Some to
+pub way_is : (g : Grid) (layer cell to : ℕ) → target g layer cell ≡ Some to → slot_at g to layer ≡ Bare →
+    way g layer cell ≡ Some to
 way_is g layer cell to aims bare =
     let free : is_bare g layer to ≡ true = ap is_bare_slot bare in
     ap (if_bare g layer) aims ∙ ap (λ (b : Bool). elim b [ true ↦ Some to | false ↦ None ]) free
 
 -- whoever aimed at a cell that is bare by now can go there
-pub still_aims : (before now : Grid) (m : IsMidway before now) (layer from to : ℕ) → target before layer from ≡ Some to → slot_at now to layer ≡ Bare → way now layer from ≡ Some to
+pub still_aims : (before now : Grid) (m : IsMidway before now) (layer from to : ℕ) →
+    target before layer from ≡ Some to → slot_at now to layer ≡ Bare → way now layer from ≡ Some to
 still_aims before now m layer from to aims bare = by_going (m.goes layer from) refl where
-  found : (object : ObjectId) × (direction : Direction) × (slot_at before from layer ≡ Holds object (Going direction)) × (neighbour before direction from ≡ Some to)
+  found : (object : ObjectId) × (direction : Direction) × (slot_at before from layer ≡ Holds object (Going direction))
+    × (neighbour before direction from ≡ Some to)
   found = aim_some before from (slot_at before from layer) to aims
 
   by_going : (b : Bool) → m.goes layer from ≡ b → way now layer from ≡ Some to
   by_going true e =
       let left : Motion = motion_left (m.goes layer from) (Going found.1) in
       let lands : landing before m.goes layer from ≡ to = rw (e, landing, aims) refl in
-      absurd (bare_holds found.0 left (sym bare ∙ landed_at now layer (landing before m.goes layer from) to found.0 left lands (m.lands layer from found.0 (Going found.1) found.2)))
+      absurd (bare_holds found.0 left
+      (sym bare ∙ landed_at now layer (landing before m.goes layer from) to found.0 left lands
+      (m.lands layer from found.0 (Going found.1) found.2)))
   by_going false e =
       let left : Motion = motion_left (m.goes layer from) (Going found.1) in
       let stays : landing before m.goes layer from ≡ from = rw (e, landing) refl in
       let kept : left ≡ Going found.1 = ap (λ (b : Bool). motion_left b (Going found.1)) e in
-      let here : slot_at now from layer ≡ Holds found.0 left = landed_at now layer (landing before m.goes layer from) from found.0 left stays (m.lands layer from found.0 (Going found.1) found.2) in
+      let here : slot_at now from layer ≡ Holds found.0 left =
+      landed_at now layer (landing before m.goes layer from) from found.0 left stays
+      (m.lands layer from found.0 (Going found.1) found.2) in
       way_is now layer from to
-      (aims_from now layer from to found.0 found.1 (here ∙ ap (Holds found.0) kept) (neighbour-same now before found.1 from m.width m.height ∙ found.3)) bare
+      (aims_from now layer from to found.0 found.1 (here ∙ ap (Holds found.0) kept)
+      (neighbour-same now before found.1 from m.width m.height ∙ found.3)) bare
 
 -- and whoever aims somewhere by now did so at the start
-pub did_aim : (before now : Grid) (m : IsMidway before now) (layer from to : ℕ) → target now layer from ≡ Some to → target before layer from ≡ Some to
+pub did_aim : (before now : Grid) (m : IsMidway before now) (layer from to : ℕ) → target now layer from ≡ Some to →
+    target before layer from ≡ Some to
 did_aim before now m layer from to aims =
     let found = aim_some now from (slot_at now from layer) to aims in
     let w = waits before now layer from found.0 found.1 m found.2 in
-    aims_from before layer from to found.0 found.1 w.stood (sym (neighbour-same now before found.1 from m.width m.height) ∙ found.3)
+    aims_from before layer from to found.0 found.1 w.stood
+    (sym (neighbour-same now before found.1 from m.width m.height) ∙ found.3)
 
 -- the place after a visit
 pub next_own : (cell layer : ℕ) → next_on (cell, layer) layer ≡ cell
@@ -88,9 +105,11 @@ next_past cell layer = grind (arith, nat_tests)
 next_other : (cell layer l : ℕ) → l ≢ layer → next_on (cell, layer + 1) l ≡ next_on (cell, layer) l
 next_other cell layer l n = grind (arith, nat_tests)
 
-later : (cell layer l from : ℕ) → (l ≡ layer → from ≢ cell) → next_on (cell, layer) l ≤ from → next_on (cell, layer + 1) l ≤ from
+later : (cell layer l from : ℕ) → (l ≡ layer → from ≢ cell) → next_on (cell, layer) l ≤ from →
+    next_on (cell, layer + 1) l ≤ from
 later cell layer l from n h = elim (eqb_tells l layer) [
-  | inl e ↦ let own : cell ≤ from = subst (λ (k : ℕ). k ≤ from) (ap (next_on (cell, layer)) e.1 ∙ next_own cell layer) h in
+  | inl e ↦ let own : cell ≤ from =
+    subst (λ (k : ℕ). k ≤ from) (ap (next_on (cell, layer)) e.1 ∙ next_own cell layer) h in
       let apart : from ≢ cell = n e.1 in
       let past : cell + 1 ≤ from = omega (arith, apart) in
       subst (λ (k : ℕ). k ≤ from) (sym (ap (next_on (cell, layer + 1)) e.1 ∙ next_past cell layer)) past
@@ -104,63 +123,80 @@ comes_past cell from to apart h = record {
   ahead = λ high. h.ahead (omega arith);
 }
 
-comes_later : (cell layer l from to : ℕ) → (l ≡ layer → from ≢ cell) → ComesBefore (next_on (cell, layer) l) from to → ComesBefore (next_on (cell, layer + 1) l) from to
+comes_later : (cell layer l from to : ℕ) → (l ≡ layer → from ≢ cell) → ComesBefore (next_on (cell, layer) l) from to →
+    ComesBefore (next_on (cell, layer + 1) l) from to
 comes_later cell layer l from to n h = elim (eqb_tells l layer) [
-  | inl e ↦ let own : ComesBefore cell from to = subst (λ (k : ℕ). ComesBefore k from to) (ap (next_on (cell, layer)) e.1 ∙ next_own cell layer) h in
+  | inl e ↦ let own : ComesBefore cell from to =
+    subst (λ (k : ℕ). ComesBefore k from to) (ap (next_on (cell, layer)) e.1 ∙ next_own cell layer) h in
       let past : ComesBefore (cell + 1) from to = comes_past cell from to (n e.1) own in
       subst (λ (k : ℕ). ComesBefore k from to) (sym (ap (next_on (cell, layer + 1)) e.1 ∙ next_past cell layer)) past
   | inr e ↦ subst (λ (k : ℕ). ComesBefore k from to) (sym (next_other cell layer l e.1)) h
 ]
 
 -- the object of that cell can't go
-none_there : (now : Grid) (layer cell l from to : ℕ) → way now layer cell ≡ None → way now l from ≡ Some to → l ≡ layer → from ≢ cell
+none_there : (now : Grid) (layer cell l from to : ℕ) → way now layer cell ≡ None → way now l from ≡ Some to →
+    l ≡ layer → from ≢ cell
 none_there now layer cell l from to none goes e f =
     let same : way now layer cell ≡ Some to = rw (← e, ← f) goes in
     cc
 
 -- a visit in which nothing went
-pub time_stays : (before now : Grid) (went : Bool) (layer cell : ℕ) → way now layer cell ≡ None → InTime before now went (cell, layer) → InTime before now went (cell, layer + 1)
+pub time_stays : (before now : Grid) (went : Bool) (layer cell : ℕ) → way now layer cell ≡ None →
+    InTime before now went (cell, layer) → InTime before now went (cell, layer + 1)
 time_stays before now went layer cell none t = record {
-  to_bare = λ l from to within goes bare. later cell layer l from (none_there now layer cell l from to none goes) (t.to_bare l from to within goes bare);
-  to_left = λ l from to within goes left. comes_later cell layer l from to (none_there now layer cell l from to none goes) (t.to_left l from to within goes left);
-  unmoved = λ e l from to within goes. later cell layer l from (none_there now layer cell l from to none goes) (t.unmoved e l from to within goes);
+  to_bare = λ l from to within goes bare. later cell layer l from (none_there now layer cell l from to none goes)
+    (t.to_bare l from to within goes bare);
+  to_left = λ l from to within goes left. comes_later cell layer l from to
+    (none_there now layer cell l from to none goes) (t.to_left l from to within goes left);
+  unmoved = λ e l from to within goes. later cell layer l from (none_there now layer cell l from to none goes)
+    (t.unmoved e l from to within goes);
 }
 
 -- what can go after an object went
-aims_by : (g : Grid) (layer cell to : ℕ) (slot : Slot) → slot_at g cell layer ≡ slot → target g layer cell ≡ Some to → aim_of g cell slot ≡ Some to
+aims_by : (g : Grid) (layer cell to : ℕ) (slot : Slot) → slot_at g cell layer ≡ slot → target g layer cell ≡ Some to →
+    aim_of g cell slot ≡ Some to
 aims_by g layer cell to slot e aims = ap (aim_of g cell) (sym e) ∙ aims
 
-aims_same : (a b : Grid) (cell : ℕ) (slot : Slot) → a.width ≡ b.width → a.height ≡ b.height → aim_of a cell slot ≡ aim_of b cell slot
+aims_same : (a b : Grid) (cell : ℕ) (slot : Slot) → a.width ≡ b.width → a.height ≡ b.height →
+    aim_of a cell slot ≡ aim_of b cell slot
 aims_same a b cell Bare w h = refl
 aims_same a b cell (Holds object Still) w h = refl
 aims_same a b cell (Holds object (Going direction)) w h = neighbour-same a b direction cell w h
 aims_same a b cell (Holds object Acting) w h = refl
 
-way_after_here : (now : Grid) (layer cell : ℕ) (object : ObjectId) (direction : Direction) (to : ℕ) → Goes now layer cell object direction to →
-    (from t : ℕ) → target (stepped now layer cell object to) layer from ≡ Some t → slot_at (stepped now layer cell object to) t layer ≡ Bare →
+way_after_here : (now : Grid) (layer cell : ℕ) (object : ObjectId) (direction : Direction) (to : ℕ) →
+    Goes now layer cell object direction to →
+    (from t : ℕ) → target (stepped now layer cell object to) layer from ≡ Some t →
+    slot_at (stepped now layer cell object to) t layer ≡ Bare →
     ((way now layer from ≡ Some t) × (from ≢ cell)) ⊎ ((t ≡ cell) × (from ≢ cell))
 way_after_here now layer cell object direction to h from t aims bare = elim (eqb_tells from cell) [
-  | inl e ↦ let gone : aim_of (stepped now layer cell object to) from Bare ≡ Some t = aims_by (stepped now layer cell object to) layer from t Bare
+  | inl e ↦ let gone : aim_of (stepped now layer cell object to) from Bare ≡ Some t =
+    aims_by (stepped now layer cell object to) layer from t Bare
       (rw e.1 (left_bare now layer cell object direction to h)) aims in
       absurd (cc)
   | inr e ↦ elim (eqb_tells from to) [
-    | inl f ↦ let rests : aim_of (stepped now layer cell object to) from (Holds object Still) ≡ Some t = aims_by (stepped now layer cell object to) layer from t (Holds object Still)
+    | inl f ↦ let rests : aim_of (stepped now layer cell object to) from (Holds object Still) ≡ Some t =
+    aims_by (stepped now layer cell object to) layer from t (Holds object Still)
         (rw f.1 (entered now layer cell object direction to h)) aims in
         absurd (cc)
     | inr f ↦ elim (eqb_tells t cell) [
       | inl u ↦ inr (u.1, e.1)
       | inr u ↦ elim (eqb_tells t to) [
         | inl v ↦ absurd (bare_holds object Still (sym bare ∙ rw v.1 (entered now layer cell object direction to h)))
-        | inr v ↦ let aimed : target now layer from ≡ Some t = aims_same now (stepped now layer cell object to) from (slot_at now from layer) refl refl
-            ∙ ap (aim_of (stepped now layer cell object to) from) (sym (beside now layer cell object direction to h from layer e.1 f.1)) ∙ aims in
-            inl (way_is now layer from t aimed (sym (beside now layer cell object direction to h t layer u.1 v.1) ∙ bare), e.1)
+        | inr v ↦ let aimed : target now layer from ≡ Some t =
+        aims_same now (stepped now layer cell object to) from (slot_at now from layer) refl refl
+            ∙ ap (aim_of (stepped now layer cell object to) from)
+            (sym (beside now layer cell object direction to h from layer e.1 f.1)) ∙ aims in
+            inl (way_is now layer from t aimed (sym (beside now layer cell object direction to h t layer u.1 v.1)
+            ∙ bare), e.1)
       ]
     ]
   ]
 ]
 
 -- after an object went, what can go could before, or its target is the cell that was left
-way_after : (now : Grid) (layer cell : ℕ) (object : ObjectId) (direction : Direction) (to : ℕ) → Goes now layer cell object direction to →
+way_after : (now : Grid) (layer cell : ℕ) (object : ObjectId) (direction : Direction) (to : ℕ) →
+    Goes now layer cell object direction to →
     (l from t : ℕ) → way (stepped now layer cell object to) l from ≡ Some t →
     ((way now l from ≡ Some t) × (l ≡ layer → from ≢ cell)) ⊎ ((l ≡ layer) × (t ≡ cell) × (from ≢ cell))
 way_after now layer cell object direction to h l from t goes = by_layer (eqb_tells l layer) where
@@ -182,7 +218,8 @@ way_after now layer cell object direction to h l from t goes = by_layer (eqb_tel
   by_layer (inr e) =
       let aimed : target now l from ≡ Some t = aims_same now after from (slot_at now from l) refl refl
       ∙ ap (aim_of after from) (sym (on_another_layer now layer cell object direction to h from l e.1)) ∙ found.0 in
-      inl (way_is now l from t aimed (sym (on_another_layer now layer cell object direction to h t l e.1) ∙ found.1), λ (f : l ≡ layer). absurd (e.1 f))
+      inl (way_is now l from t aimed (sym (on_another_layer now layer cell object direction to h t l e.1) ∙ found.1),
+      λ (f : l ≡ layer). absurd (e.1 f))
 
 comes_anew : (cell from : ℕ) → from ≢ cell → ComesBefore (cell + 1) from cell
 comes_anew cell from apart = record {
@@ -192,8 +229,10 @@ comes_anew cell from apart = record {
 }
 
 -- a visit in which an object went
-time_goes : (before now : Grid) (went : Bool) (layer cell : ℕ) (object : ObjectId) (direction : Direction) (to : ℕ) → Goes now layer cell object direction to →
-    is_bare before layer cell ≡ false → InTime before now went (cell, layer) → InTime before (stepped now layer cell object to) true (cell, layer + 1)
+time_goes : (before now : Grid) (went : Bool) (layer cell : ℕ) (object : ObjectId) (direction : Direction) (to : ℕ) →
+    Goes now layer cell object direction to →
+    is_bare before layer cell ≡ false → InTime before now went (cell, layer) →
+    InTime before (stepped now layer cell object to) true (cell, layer + 1)
 time_goes before now went layer cell object direction to h stood t = record {
   to_bare = λ l from at within goes bare. elim (way_after now layer cell object direction to h l from at goes) [
     | inl w ↦ later cell layer l from w.1 (t.to_bare l from at within w.0 bare)
@@ -201,28 +240,34 @@ time_goes before now went layer cell object direction to h stood t = record {
   ];
   to_left = λ l from at within goes left. elim (way_after now layer cell object direction to h l from at goes) [
     | inl w ↦ comes_later cell layer l from at w.1 (t.to_left l from at within w.0 left)
-    | inr w ↦ let next : next_on (cell, layer + 1) l ≡ cell + 1 = ap (next_on (cell, layer + 1)) w.0 ∙ next_past cell layer in
+    | inr w ↦ let next : next_on (cell, layer + 1) l ≡ cell + 1 = ap (next_on (cell, layer + 1)) w.0
+    ∙ next_past cell layer in
         rw (next, w.1) (comes_anew cell from w.2)
   ];
   unmoved = λ e l from at within goes. absurd (cc);
 }
 
 -- what left its cell went
-left_gone : (before now : Grid) (m : IsMidway before now) (layer cell : ℕ) → is_bare before layer cell ≡ false → slot_at now cell layer ≡ Bare → m.goes layer cell ≡ true
+left_gone : (before now : Grid) (m : IsMidway before now) (layer cell : ℕ) → is_bare before layer cell ≡ false →
+    slot_at now cell layer ≡ Bare → m.goes layer cell ≡ true
 left_gone before now m layer cell stood bare = by_slot (slot_at before cell layer) refl stood where
-  by_going : (object : ObjectId) (motion : Motion) (b : Bool) → slot_at before cell layer ≡ Holds object motion → m.goes layer cell ≡ b → b ≡ true
+  by_going : (object : ObjectId) (motion : Motion) (b : Bool) → slot_at before cell layer ≡ Holds object motion →
+    m.goes layer cell ≡ b → b ≡ true
   by_going object motion true e f = refl
   by_going object motion false e f =
       let stays : landing before m.goes layer cell ≡ cell = rw (f, landing) refl in
       absurd (bare_holds object (motion_left (m.goes layer cell) motion)
-      (sym bare ∙ landed_at now layer (landing before m.goes layer cell) cell object (motion_left (m.goes layer cell) motion) stays (m.lands layer cell object motion e)))
+      (sym bare
+      ∙ landed_at now layer (landing before m.goes layer cell) cell object (motion_left (m.goes layer cell) motion)
+      stays (m.lands layer cell object motion e)))
 
   by_slot : (slot : Slot) → slot_at before cell layer ≡ slot → is_bare_slot slot ≡ false → m.goes layer cell ≡ true
   by_slot Bare e f = absurd (cc)
   by_slot (Holds object motion) e f = by_going object motion (m.goes layer cell) e refl
 
 -- the object that goes has won its target
-step_wins : (before now : Grid) (went : Bool) (layer cell : ℕ) (object : ObjectId) (direction : Direction) (to : ℕ) → (o : IsInOrder before now went (cell, layer)) → Goes now layer cell object direction to →
+step_wins : (before now : Grid) (went : Bool) (layer cell : ℕ) (object : ObjectId) (direction : Direction) (to : ℕ) →
+    (o : IsInOrder before now went (cell, layer)) → Goes now layer cell object direction to →
     target before layer cell ≡ Some to → winner before layer to ≡ Some cell
 step_wins before now went layer cell object direction to o h aims = by_bare (is_bare before layer to) refl where
   within : cell < cell_count before
@@ -236,13 +281,17 @@ step_wins before now went layer cell object direction to o h aims = by_bare (is_
       (λ s a. subst (λ (k : ℕ). k ≤ s) (next_own cell layer) (o.time.to_bare layer s to h.here.1 (goes s a) e))
   by_bare false e =
       let order : (s : ℕ) → target before layer s ≡ Some to → ComesBefore cell s to =
-      λ (s : ℕ) (a : target before layer s ≡ Some to). subst (λ (k : ℕ). ComesBefore k s to) (next_own cell layer) (o.time.to_left layer s to h.here.1 (goes s a) e) in
-      winner-of_left before layer to cell e within aims (λ (f : cell ≡ to). h.apart (sym f)) (λ s a. (order s a).behind) (λ s a. (order s a).over) (λ s a. (order s a).ahead)
+      λ (s : ℕ) (a : target before layer s ≡ Some to). subst (λ (k : ℕ). ComesBefore k s to) (next_own cell layer)
+      (o.time.to_left layer s to h.here.1 (goes s a) e) in
+      winner-of_left before layer to cell e within aims (λ (f : cell ≡ to). h.apart (sym f)) (λ s a. (order s a).behind)
+      (λ s a. (order s a).over) (λ s a. (order s a).ahead)
 
-as_many_cells : (now : Grid) (layer cell : ℕ) (object : ObjectId) (to : ℕ) → length (stepped now layer cell object to).cells ≡ length now.cells
+as_many_cells : (now : Grid) (layer cell : ℕ) (object : ObjectId) (to : ℕ) →
+    length (stepped now layer cell object to).cells ≡ length now.cells
 as_many_cells now layer cell object to = simp length-set
 
-step_chain : (before now : Grid) (went : Bool) (layer cell : ℕ) (object : ObjectId) (direction : Direction) (to : ℕ) → (o : IsInOrder before now went (cell, layer)) → Goes now layer cell object direction to →
+step_chain : (before now : Grid) (went : Bool) (layer cell : ℕ) (object : ObjectId) (direction : Direction) (to : ℕ) →
+    (o : IsInOrder before now went (cell, layer)) → Goes now layer cell object direction to →
     target before layer cell ≡ Some to → HasWon before (stepped now layer cell object to) layer cell
 step_chain before now went layer cell object direction to o h aims = by_bare (is_bare before layer to) refl where
   wins : winner before layer to ≡ Some cell
@@ -253,7 +302,8 @@ step_chain before now went layer cell object direction to o h aims = by_bare (is
       let all = count_by-le-length (λ (c : List Slot). is_going (slice_index_or c layer Bare)) now.cells in
       let less = step_going_on now layer cell object direction to h in
       let cells = as_many_cells now layer cell object to in
-      record { to = to; wins = wins; links = 1; few = omega arith; chain = slides_by before layer 0 cell (record { to = to; aims = aims; wins = wins; leads = inl e }) }
+      record { to = to; wins = wins; links = 1; few = omega arith; chain =
+      slides_by before layer 0 cell (record { to = to; aims = aims; wins = wins; leads = inl e }) }
   by_bare false e =
       let further = o.won layer to (left_gone before now o.midway layer to e h.bare) in
       let less = step_going_on now layer cell object direction to h in
@@ -263,11 +313,13 @@ step_chain before now went layer cell object direction to o h aims = by_bare (is
         wins = wins;
         links = suc further.links;
         few = omega arith;
-        chain = slides_by before layer further.links cell (record { to = to; aims = aims; wins = wins; leads = inr (e, further.chain) });
+        chain = slides_by before layer further.links cell
+        (record { to = to; aims = aims; wins = wins; leads = inr (e, further.chain) });
       }
 
 -- what had won still has
-won_still : (before now : Grid) (layer cell : ℕ) (object : ObjectId) (direction : Direction) (to : ℕ) → Goes now layer cell object direction to →
+won_still : (before now : Grid) (layer cell : ℕ) (object : ObjectId) (direction : Direction) (to : ℕ) →
+    Goes now layer cell object direction to →
     (l from : ℕ) → HasWon before now l from → HasWon before (stepped now layer cell object to) l from
 won_still before now layer cell object direction to h l from w =
     let cells = as_many_cells now layer cell object to in
@@ -278,12 +330,15 @@ won_still before now layer cell object direction to h l from w =
     record { to = w.to; wins = w.wins; links = w.links; few = omega arith; chain = w.chain }
 
 -- one object goes
-pub step_order : (before now : Grid) (went : Bool) (layer cell : ℕ) (object : ObjectId) (direction : Direction) (to : ℕ) → IsInOrder before now went (cell, layer) → Goes now layer cell object direction to →
+pub step_order : (before now : Grid) (went : Bool) (layer cell : ℕ) (object : ObjectId) (direction : Direction)
+    (to : ℕ) → IsInOrder before now went (cell, layer) → Goes now layer cell object direction to →
     IsInOrder before (stepped now layer cell object to) true (cell, layer + 1)
 step_order before now went layer cell object direction to o h =
     let w = waits before now layer cell object direction o.midway h.stands in
-    let aims : target before layer cell ≡ Some to = did_aim before now o.midway layer cell to (aims_from now layer cell to object direction h.stands h.aims) in
-    let own : HasWon before (stepped now layer cell object to) layer cell = step_chain before now went layer cell object direction to o h aims in
+    let aims : target before layer cell ≡ Some to =
+    did_aim before now o.midway layer cell to (aims_from now layer cell to object direction h.stands h.aims) in
+    let own : HasWon before (stepped now layer cell object to) layer cell =
+    step_chain before now went layer cell object direction to o h aims in
     record {
       midway = step_midway before now layer cell object direction to o.midway h;
       won = λ l from e. elim (step_goes before now layer cell object direction to o.midway h l from e) [
@@ -304,15 +359,20 @@ pub next_first : (cell l : ℕ) → next_on (cell, 0) l ≡ cell
 next_first cell l = grind (arith, nat_tests)
 
 -- after the last layer of a cell comes the first of the next
-pub next_cell : (before now : Grid) (went : Bool) (cell layer : ℕ) → layer ≡ now.layers → IsInOrder before now went (cell, layer) → IsInOrder before now went (cell + 1, 0)
+pub next_cell : (before now : Grid) (went : Bool) (cell layer : ℕ) → layer ≡ now.layers →
+    IsInOrder before now went (cell, layer) → IsInOrder before now went (cell + 1, 0)
 next_cell before now went cell layer end o =
-    let same : (l : ℕ) → l < now.layers → next_on (cell, layer) l ≡ next_on (cell + 1, 0) l = λ (l : ℕ) (h : l < now.layers). next_end cell layer l (omega arith) in
+    let same : (l : ℕ) → l < now.layers → next_on (cell, layer) l ≡ next_on (cell + 1, 0) l =
+    λ (l : ℕ) (h : l < now.layers). next_end cell layer l (omega arith) in
     record {
       midway = o.midway;
       won = o.won;
       time = record {
-        to_bare = λ l from to within goes bare. subst (λ (k : ℕ). k ≤ from) (same l within) (o.time.to_bare l from to within goes bare);
-        to_left = λ l from to within goes left. same_next (next_on (cell, layer) l) (next_on (cell + 1, 0) l) from to (same l within) (o.time.to_left l from to within goes left);
-        unmoved = λ e l from to within goes. subst (λ (k : ℕ). k ≤ from) (same l within) (o.time.unmoved e l from to within goes);
+        to_bare = λ l from to within goes bare. subst (λ (k : ℕ). k ≤ from) (same l within)
+        (o.time.to_bare l from to within goes bare);
+        to_left = λ l from to within goes left. same_next (next_on (cell, layer) l) (next_on (cell + 1, 0) l) from to
+        (same l within) (o.time.to_left l from to within goes left);
+        unmoved = λ e l from to within goes. subst (λ (k : ℕ). k ≤ from) (same l within)
+        (o.time.unmoved e l from to within goes);
       };
     }

@@ -48,7 +48,9 @@ impl Slid {
 ///
 /// `exact` says where everything stands afterwards, and `slid` what that means for each object: it stands where it
 /// stood or in its target, and none is lost or made.
-pub fn slide<B: Board>(board: &mut B) -> Slid
+///
+/// `moving` is room for the cells in which something moves; what it had before is forgotten. No memory is taken.
+pub fn slide<B: Board>(board: &mut B, moving: &mut CellSet) -> Slid
     ensures exact { B.grid board.new ≡ slid (B.grid board.old) }
     ensures slid { IsWeaklySlid (B.grid board.old) (B.grid board.new) }
     ensures some_pass { 0 < result }
@@ -56,9 +58,9 @@ pub fn slide<B: Board>(board: &mut B) -> Slid
     ensures few_passes { result ≤ going_count (B.grid board.old) + 1 }
     ensures table { B.table board.new ≡ B.table board.old }
 {
-    let moving = CellSet::moving(board);
+    moving.set_moving(board);
     let mut passes = 1;
-    while pass(board, &moving) {
+    while pass(board, moving) {
         passes += 1;
     }
     board.clear_moves();
@@ -265,7 +267,8 @@ mod tests {
                 }
             }
         }
-        let slid = slide(&mut board);
+        let mut moving = CellSet::try_new(alloc)?;
+        let slid = slide(&mut board, &mut moving);
         for layer in 0..layers {
             for y in 0..height {
                 for x in 0..width {

@@ -1,7 +1,7 @@
 -- Places of a part that begin so many cells apart, row by row of the board.
 use Rattle.std.proofs.Common.{◌≡◌, ◌∙◌, ℕ, ◌<◌, ◌≤◌, ◌&&◌, ◌||◌, inl, inr, Bool, true, false, List, [], ◌∷◌, length}
 use Rattle.std.proofs.Common.{refl, sym, ap, ap₂, arith}
-use Rattle.std.specs.Prelude.{nat_eq, suc, zero}
+use Rattle.std.specs.Prelude.{suc, zero}
 use Rattle.std.proofs.lemmas.Bool.{cases_eq, ne_eqb}
 use Rattle.ps_model.specs.declared.limits.TheConstants.{SIDE_LIMIT}
 use Rattle.ps_board.specs.ColumnSets.{both_columns, column_at, set_columns}
@@ -31,14 +31,6 @@ no_start axis rows starts distance row out =
       at = λ x low on. let clash : false ≡ true =
           sym (ap (λ (b : Bool). b && column_at (columns_on starts row) x) out) ∙ on in absurd (cc);
     }
-
--- a set without its first number
-pub taken_among : (set left : List Bool) (k row : ℕ) → set_columns set ≡ k ∷ set_columns left → row < SIDE_LIMIT →
-    column_at left row ≡ true → column_at set row ≡ true
-taken_among set left k row is low on = taken_out set left k row is low ∙ rw on (or_true (nat_eq row k)) where
-  or_true : (b : Bool) → (b || true) ≡ true
-  or_true true = refl
-  or_true false = refl
 
 -- there is no column with both
 pub not_apart : (axis : Axis) (rows : List Bool) (starts : List (List Bool)) (distance row : ℕ)

@@ -1,30 +1,19 @@
 -- Whether one of a list has something, of lists that are made of others.
 use Rattle.std.proofs.Common.{◌≡◌, ◌∙◌, ℕ, zero, suc, ◌+◌, ◌<◌, ◌≤◌, ◌||◌, ◌&&◌, inl, inr, Bool, true, false, cond}
-use Rattle.std.proofs.Common.{List, [], ◌∷◌, map, filter, refl, sym, ap, ap₂, arith}
+use Rattle.std.proofs.Common.{List, [], ◌∷◌, filter, refl, sym, ap, ap₂, arith}
 use Rattle.std.specs.Prelude.{nat_le}
-use Rattle.std.specs.List.{flat_map, list_any, range_with_len}
-use Rattle.std.proofs.lemmas.Bool.{cases_eq}
-use Rattle.std.proofs.lemmas.List.Folds.{list_any-append}
+use Rattle.std.specs.List.{list_any, range_with_len}
+use Rattle.std.proofs.lemmas.Bool.{cases_eq, or_right}
+use Rattle.std.proofs.Math.Bool.{and-false, and-or_distrib_left}
 use Rattle.ps_model.specs.declared.limits.TheConstants.{SIDE_LIMIT}
+use Rattle.ps_laws.proofs.common.Truths.{or_across}
 use Rattle.ps_board.specs.ColumnSets.{columns_where, set_columns}
 use Rattle.ps_board.proofs.ColumnLaws.{set_columns-where}
 use Rattle.ps_places.specs.Ways.{positions_from}
-use Rattle.ps_match.proofs.Chosen.{or_across}
 
 pub any-alike : {X : Type 0} (f h : X → Bool) (xs : List X) → ((x : X) → f x ≡ h x) → list_any f xs ≡ list_any h xs
 any-alike f h [] same = refl
 any-alike f h (x ∷ xs) same = ap₂ (λ (a b : Bool). a || b) (same x) (any-alike f h xs same)
-
-pub any-flat_map : {X Y : Type 0} (f : Y → Bool) (h : X → List Y) (xs : List X) →
-    list_any f (flat_map h xs) ≡ list_any (λ x. list_any f (h x)) xs
-any-flat_map f h [] = refl
-any-flat_map f h (x ∷ xs) = list_any-append f (h x) (flat_map h xs) ∙ ap (λ (b : Bool). list_any f (h x) || b)
-    (any-flat_map f h xs)
-
-pub any-map : {X Y : Type 0} (f : Y → Bool) (h : X → Y) (xs : List X) →
-    list_any f (map h xs) ≡ list_any (λ x. f (h x)) xs
-any-map f h [] = refl
-any-map f h (x ∷ xs) = ap (λ (b : Bool). f (h x) || b) (any-map f h xs)
 
 kept_or : {X : Type 0} (f : X → Bool) (x : X) (xs : List X) (b : Bool) →
     list_any f (cond b (x ∷ xs) xs) ≡ ((b && f x) || list_any f xs)
@@ -37,17 +26,10 @@ any-filter f test [] = refl
 any-filter f test (x ∷ xs) = kept_or f x (filter test xs) (test x) ∙ ap (λ (b : Bool). (test x && f x) || b)
     (any-filter f test xs)
 
-both_or : (b c d : Bool) → ((b && c) || (b && d)) ≡ (b && (c || d))
-both_or true c d = refl
-both_or false c d = refl
-
-neither : (b : Bool) → false ≡ (b && false)
-neither true = refl
-neither false = refl
-
 pub any-both : {X : Type 0} (b : Bool) (f : X → Bool) (xs : List X) → list_any (λ x. b && f x) xs ≡ (b && list_any f xs)
-any-both b f [] = neither b
-any-both b f (x ∷ xs) = ap (λ (c : Bool). (b && f x) || c) (any-both b f xs) ∙ both_or b (f x) (list_any f xs)
+any-both b f [] = sym (and-false b)
+any-both b f (x ∷ xs) = ap (λ (c : Bool). (b && f x) || c) (any-both b f xs)
+    ∙ sym (and-or_distrib_left b (f x) (list_any f xs))
 
 none_any : {X : Type 0} (xs : List X) → list_any (λ x. false) xs ≡ false
 none_any [] = refl
@@ -95,16 +77,12 @@ any-here f a zero k low high is = absurd (omega arith)
 any-here f a (suc n) k low high is = elim (cases_eq k a) [
   | inl same ↦ let here : f a ≡ true = ap f (sym same) ∙ is in ap (λ (b : Bool). b || list_any f (range_with_len
       (a + 1) n)) here
-  | inr other ↦ or_true (f a) _ (any-here f (a + 1) n k (omega (arith, low, other)) (omega (arith, high)) is)
-] where
-  or_true : (a b : Bool) → b ≡ true → (a || b) ≡ true
-  or_true true b e = refl
-  or_true false b e = e
+  | inr other ↦ or_right (f a) _ (any-here f (a + 1) n k (omega (arith, low, other)) (omega (arith, high)) is)
+]
 
-pub same_tests : (a b : Bool) → (a ≡ true → b ≡ true) → (b ≡ true → a ≡ true) → a ≡ b
-same_tests true b forth back = sym (forth refl)
-same_tests false true forth back = back refl
-same_tests false false forth back = refl
+-- all positions there may be
+abbrev pub all : List ℕ
+all = range_with_len 0 SIDE_LIMIT
 
 -- positions of a set from one on
 pub any-positions : (f test : ℕ → Bool) (from : ℕ) →

@@ -10,6 +10,7 @@ use Rattle.std.proofs.lemmas.List.{drop_all}
 use Rattle.ps_model.specs.declared.pieces.Slot.{Slot}
 use Rattle.ps_model.specs.board.Grid.{Grid}
 use Rattle.ps_model.specs.board.Places.{fits_there, fits_along}
+use Rattle.ps_laws.proofs.common.Truths.{first-false, second-false}
 use Rattle.ps_program.specs.declared.cells.CompiledCell.{CompiledCell}
 use Rattle.ps_program.specs.ProgramShown.{mask_shown}
 use Rattle.ps_match.specs.InRoom.{meaning_of_mask}
@@ -49,13 +50,6 @@ split g table cells at size index c e h =
 unless : (test : Bool) (then_ : Bool) → test ≡ true → (elim test [ true ↦ then_ | false ↦ false ]) ≡ then_
 unless test then_ e = rw e refl
 
-pub if_here : (test rest : Bool) → test ≡ false → (elim test [ true ↦ rest | false ↦ false ]) ≡ false
-if_here test rest e = rw e refl
-
-pub if_rest : (test rest : Bool) → rest ≡ false → (elim test [ true ↦ rest | false ↦ false ]) ≡ false
-if_rest true rest e = e
-if_rest false rest e = refl
-
 pub fits_from-on : (g : Grid) (table : Option (List ℕ)) (cells : List CompiledCell) (at : ℕ → ℕ) (size index : ℕ)
     (c : CompiledCell) → slice_get cells index ≡ Some c → index < size →
     fits_there (meaning_of_mask (mask_shown c.mask)) (slice_get g.cells (at index)) ≡ true →
@@ -74,7 +68,7 @@ pub fits_from-off : (g : Grid) (table : Option (List ℕ)) (cells : List Compile
     fits_from g table cells at size index ≡ false
 fits_from-off g table cells at size index c e h fit =
     split g table cells at size index c e h
-    ∙ if_here (fits_there (cell_meaning table c) (slice_get g.cells (at index))) _
+    ∙ first-false (fits_there (cell_meaning table c) (slice_get g.cells (at index))) _
     (sym (fits_by_mask table c (slice_get g.cells (at index))) ∙ fit)
 
 -- all cells were looked at
@@ -101,12 +95,12 @@ one_off g table (d ∷ cells) at a zero i c e low off = absurd (omega arith)
 one_off g table (d ∷ cells) at a (suc n) zero c e low off =
     let is : d ≡ c = cc in
     let here : a + 0 ≡ a = omega arith in
-    if_here (fits_there (cell_meaning table d) (slice_get g.cells (at a))) _
+    first-false (fits_there (cell_meaning table d) (slice_get g.cells (at a))) _
     (ap₂ (λ (d : CompiledCell) (k : ℕ). fits_there (cell_meaning table d) (slice_get g.cells (at k))) is (sym here)
     ∙ off)
 one_off g table (d ∷ cells) at a (suc n) (suc i) c e low off =
     let next : a + 1 + i ≡ a + suc i = omega arith in
-    if_rest (fits_there (cell_meaning table d) (slice_get g.cells (at a))) _
+    second-false (fits_there (cell_meaning table d) (slice_get g.cells (at a))) _
     (one_off g table cells at (a + 1) n i c e (omega arith)
     (ap (λ (k : ℕ). fits_there (cell_meaning table c) (slice_get g.cells (at k))) next ∙ off))
 

@@ -12,6 +12,7 @@ use Rattle.ps_model.specs.declared.limits.TheConstants.{SIDE_LIMIT}
 use Rattle.ps_model.specs.board.Places.{fits_along, fits_there}
 use Rattle.ps_model.specs.board.Attempts.{Rewritten, rewritten_along, rewritten_cell}
 use Rattle.ps_model.specs.meaning.RuleMeanings.{CellMeaning}
+use Rattle.ps_laws.proofs.common.Truths.{both-hold}
 use Rattle.ps_program.specs.declared.cells.CompiledCell.{CompiledCell}
 use Rattle.ps_program.specs.ProgramShown.{mask_shown, write_shown}
 use Rattle.ps_match.specs.InRoom.{meaning_of_mask, meaning_of_write, write_in_room}
@@ -147,10 +148,6 @@ rewritten_from-next r table part step index number c low e =
     (rewritten_by_write r table c number (slice_get (r.grid).cells number))
 
 -- what is left fits where the next cell does, and what is left behind it
-pub both_true : (here rest : Bool) → (elim here [ true ↦ rest | false ↦ false ]) ≡ true → (here ≡ true) × (rest ≡ true)
-both_true true rest e = (refl, e)
-both_true false rest e = absurd (cc)
-
 pub fits_from-parts : (g : Grid) (table : Option (List ℕ)) (part : List CompiledCell) (step index number : ℕ)
     (c : CompiledCell) → index < length part → c ≡ get_or part index c →
     fits_from g table part step index number ≡ true →
@@ -159,6 +156,6 @@ pub fits_from-parts : (g : Grid) (table : Option (List ℕ)) (part : List Compil
 fits_from-parts g table part step index number c low e fit =
     let found : Option (List Slot) = slice_get g.cells number in
     let here : Bool = fits_there (meaning_of_mask (mask_shown c.mask)) found in
-    let both = both_true here (fits_from g table part step (index + 1) (number + step))
+    let both = both-hold here (fits_from g table part step (index + 1) (number + step))
     (sym (fits_now g table part step index number c here low e refl) ∙ fit) in
     (sym (fits_by_mask table c found) ∙ both.0, both.1)

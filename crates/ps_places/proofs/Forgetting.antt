@@ -1,5 +1,7 @@
--- Places before the one that is chosen are left out: those that are left end in the one that is chosen and those behind it.
-use Rattle.std.proofs.Common.{◌≡◌, ◌∙◌, ℕ, suc, zero, ◌+◌, ◌-◌, ◌*◌, ◌<◌, ◌≤◌, ◌⊎◌, ◌&&◌, inl, inr, Bool, true, false, List, [], ◌∷◌, ◌++◌, length, map, take, drop, get_or, refl, sym, ap, ap₂, arith}
+-- Places before the one that is chosen are left out: those that are left end in the one that is chosen and those behind
+-- it.
+use Rattle.std.proofs.Common.{◌≡◌, ◌∙◌, ℕ, suc, zero, ◌+◌, ◌-◌, ◌*◌, ◌<◌, ◌≤◌, ◌⊎◌, ◌&&◌, inl, inr, Bool, true, false}
+use Rattle.std.proofs.Common.{List, [], ◌∷◌, ◌++◌, length, map, take, drop, get_or, refl, sym, ap, ap₂, arith}
 use Rattle.std.specs.Prelude.{filter, nat_le, not, slice_index_or, slice_set}
 use Rattle.std.specs.List.{flat_map, range_with_len}
 use Rattle.std.proofs.Math.Nat.{mul-le-mul_right}
@@ -15,16 +17,18 @@ use Rattle.ps_program.specs.declared.rows.Axis.{Axis}
 use Rattle.ps_program.specs.declared.rows.CompiledRow.{CompiledRow}
 use Rattle.ps_places.specs.declared.room.RowRoom.{RowRoom}
 use Rattle.ps_places.specs.Forgetting.{HaveForgotten, IsAmong, IsPlaceOf, IsWayOf, first_position}
-use Rattle.ps_places.specs.RowPlaces.{all_places, part_sizes, places_behind, places_on, places_on_lines, sets_on, way_cells, way_of}
+use Rattle.ps_places.specs.RowPlaces.{all_places, part_sizes, places_behind, places_on, places_on_lines, sets_on}
+use Rattle.ps_places.specs.RowPlaces.{way_cells, way_of}
 use Rattle.ps_places.specs.Seeking.{place_on, places_after}
 use Rattle.ps_places.specs.Ways.{from_first, positions_from, ways_behind, ways_from}
 use Rattle.ps_places.proofs.FirstOf.{first-here, first-later}
 use Rattle.ps_places.proofs.NextWays.{ways-end}
-use Rattle.ps_places.proofs.Positions.{EndsIn, behind-some, filter-kept, filter-left, positions-again, positions-all, positions-are, positions-end, positions-first}
+use Rattle.ps_places.proofs.Positions.{EndsIn, behind-some, filter-kept, filter-left, positions-again, positions-all}
+use Rattle.ps_places.proofs.Positions.{positions-are, positions-end, positions-first}
 use Rattle.ps_places.proofs.Ranges.{passing-agree}
 use Rattle.ps_places.proofs.SeekingPlaces.{front, slice-on}
 
--- lists that end in others ------------------------------------------------------------------------------------------------
+-- lists that end in others --------------------------------------------------------------------------------------------
 
 module _ {X : Type 0} where
   ends-itself : (xs : List X) → EndsIn xs xs
@@ -89,7 +93,7 @@ ends-map f xs ys others ends = record {
       ∙ append_assoc (map f ends.before) (map f ys) others;
 }
 
--- positions ---------------------------------------------------------------------------------------------------------------
+-- positions -----------------------------------------------------------------------------------------------------------
 
 pub positions-here : (set : List Bool) (p : ℕ) → column_at set p ≡ true → p < SIDE_LIMIT →
     positions_from set p ≡ p ∷ positions_from set (p + 1)
@@ -99,7 +103,7 @@ positions-here set p is low =
     ∙ filter-kept (column_at set) p (range_with_len (p + 1) (SIDE_LIMIT - (p + 1))) is
     ∙ ap (λ (l : List ℕ). p ∷ l) (sym (positions-are set (p + 1) (SIDE_LIMIT - (p + 1)) refl))
 
--- a way among others ------------------------------------------------------------------------------------------------------
+-- a way among others --------------------------------------------------------------------------------------------------
 
 -- a list of ways that begin at one position, and others
 begins-here : (p : ℕ) (ways others front : List (List ℕ)) (way : List ℕ) (rest : List (List ℕ)) →
@@ -171,7 +175,7 @@ pub among-in-front : (parts : List (List CompiledCell)) (starts : List (List Boo
     IsPlaceOf lines starts parts line (take (length parts) (way ++ rest))
 among-in-front parts starts lines line way rest long place = rw (front way rest (length parts) long) place
 
--- the set of the first part without the positions before one --------------------------------------------------------------
+-- the set of the first part without the positions before one ----------------------------------------------------------
 
 -- one set of a list written
 drop-written : {X : Type 0} (xs : List X) (k : ℕ) (y : X) → drop k (slice_set xs k y) ≡ slice_set (drop k xs) 0 y
@@ -225,7 +229,7 @@ ways-behind-left (old ∷ sets) (size ∷ sizes) set (p ∷ way) e =
     ++ flat_map (λ q. map (λ way. q ∷ way) (ways_from sets sizes (q + size))) ps)
     (positions-again old set p (p + 1) e (omega arith))
 
--- places ------------------------------------------------------------------------------------------------------------------
+-- places --------------------------------------------------------------------------------------------------------------
 
 module _ (axis : Axis) (height : ℕ) (parts : List (List CompiledCell)) (starts : List (List Bool)) (lines : List Bool)
     (line : ℕ) (way : List ℕ) (set : List Bool) (some : 0 < length parts)
@@ -280,7 +284,8 @@ module _ (axis : Axis) (height : ℕ) (parts : List (List CompiledCell)) (starts
       let more = ends-behind (places_on_lines axis height parts starts ends.before)
       (map cells (ways_from sets (part_sizes parts) 0) ++ later)
       (map cells (ways_from sets (part_sizes parts) (first_position way)) ++ later)
-      (ends-map cells (ways_from sets (part_sizes parts) 0) (ways_from sets (part_sizes parts) (first_position way)) later
+      (ends-map cells (ways_from sets (part_sizes parts) 0) (ways_from sets (part_sizes parts) (first_position way))
+      later
       (ways-end sets (part_sizes parts) 0 (first_position way) (omega arith))) in
       record { before = more.before; whole = whole ∙ more.whole }
 
@@ -329,7 +334,7 @@ module _ (axis : Axis) (height : ℕ) (parts : List (List CompiledCell)) (starts
       (place_on axis height parts line way ∷ places_after axis height parts starts lines line way)
       left-of-all chosen-left first
 
--- the room of a row ---------------------------------------------------------------------------------------------------------
+-- the room of a row ---------------------------------------------------------------------------------------------------
 
 pub first-set : (starts : List (List Bool)) (count k : ℕ) (set d : List Bool) → 0 < count → k < length starts →
     set ≡ get_or starts k d → slice_index_or (take count (drop k starts)) 0 [] ≡ set
@@ -373,7 +378,8 @@ forgotten height row old new set among left lines starts line way =
     record {
       at = ap₂ (λ (l : ℕ) (w : List ℕ). place_on row.axis height row.parts l (take (length row.parts) w)) line way;
       later = from _ _ _ _ starts lines line way
-          ∙ behind-alike row.axis height row.parts old.starts.items old.lines old.line (way_of row old) set some among left;
+          ∙ behind-alike row.axis height row.parts old.starts.items old.lines old.line
+          (way_of row old) set some among left;
       line = line;
       way = way;
       lines = λ x is. without-fewer old.lines (columns_below old.line) x

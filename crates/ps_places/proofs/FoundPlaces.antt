@@ -17,7 +17,7 @@ use Rattle.ps_program.specs.declared.cells.CompiledCell.{CompiledCell}
 use Rattle.ps_program.specs.declared.rows.Axis.{Axis}
 use Rattle.ps_program.specs.declared.rows.Axis.TheVariants.{Down, Right}
 use Rattle.ps_board.specs.ColumnSets.{column_at, columns_where, set_columns}
-use Rattle.ps_board.proofs.ColumnLaws.{set_columns-are, set_columns-where}
+use Rattle.ps_board.proofs.ColumnLaws.{set_columns-are, set_columns-where, none_on}
 use Rattle.ps_board.proofs.Taken.{AreBelow, ArePassed, gathered-all}
 use Rattle.ps_places.specs.FoundStarts.{AreLinesFound, BeginInSets, HasNoWay, begins_on, part_of, set_of}
 use Rattle.ps_places.specs.Lines.{cell_meaning, cell_on, line_count, line_long, part_meaning}
@@ -26,7 +26,7 @@ use Rattle.ps_places.specs.Starts.{AreWhere}
 use Rattle.ps_places.specs.Ways.{positions_from, ways_from}
 use Rattle.ps_places.proofs.LinePlaces.{line_cells-are, places-by_line, places_along, way_cells-are}
 use Rattle.ps_places.proofs.LineWays.{AreSetsOf, cells_of_way, fits_from_position, ways_on_line}
-use Rattle.ps_places.proofs.Ranges.{flat_map-none, none_there, passing-agree}
+use Rattle.ps_places.proofs.Ranges.{flat_map-none, passing-agree}
 
 -- a part begins where its meaning has room and fits
 pub begins_on-meant : (g : Grid) (table : Option (List ℕ)) (axis : Axis) (line : ℕ) (part : List CompiledCell)
@@ -112,7 +112,7 @@ no_ways_from g cell long (part ∷ parts) zero from low none =
     (ways_from (true_sets g cell long parts) (map length parts) (position + length part)))
     (filter (λ position. nat_le from position) positions))
     (set_columns-where (fits_from_position g cell long part)
-    ∙ none_there (fits_from_position g cell long part) 0 SIDE_LIMIT (λ position near far. none position (omega arith)))
+    ∙ none_on (fits_from_position g cell long part) 0 SIDE_LIMIT (λ position near far. none position (omega arith)))
 no_ways_from g cell long (part ∷ parts) (suc number) from low none =
     flat_map-none (λ position. map (λ way. position ∷ way)
     (ways_from (true_sets g cell long parts) (map length parts) (position + length part)))
@@ -186,7 +186,7 @@ found_places g table axis line parts starts low small long any some found =
     ∙ ap (λ (sizes : List ℕ). map (cells_of_way cell sizes) (ways_from sets sizes 0)) (sizes-meant table parts)
     ∙ ways-meant axis g.height line (part_sizes parts) (ways_from sets (part_sizes parts) 0)
 
--- all places ------------------------------------------------------------------------------------------------------------------
+-- all places ----------------------------------------------------------------------------------------------------------
 
 few_lines : (g : Grid) (axis : Axis) → IsGrid g → line_count axis g ≤ SIDE_LIMIT
 few_lines g Down grid = grid.columns

@@ -5,6 +5,7 @@ use Rattle.std.specs.Prelude.{nat_le, nat_lt, slice_set}
 use Rattle.std.proofs.Math.Bool.{and-false}
 use Rattle.std.proofs.lemmas.Bool.Decides.{nat_tests}
 use Rattle.std.proofs.lemmas.List.{get_or-set_same, get_or-set_other}
+use Rattle.std.proofs.lemmas.Bool.{not-true}
 use Rattle.ps_model.specs.declared.limits.TheConstants.{SIDE_LIMIT}
 use Rattle.ps_model.specs.board.Grid.{Grid}
 use Rattle.ps_board.specs.ColumnSets.{column_at, no_columns, set_columns, with_column}
@@ -71,11 +72,8 @@ row_found g table axis part rows more columns starts row empty low inside is non
       at = λ x near.
           ap₂ (λ (b : Bool) (cs : List Bool). b && column_at cs x) on set
           ∙ looked_at g table axis part row columns empty none are x near;
-      some = λ has. rw set (some (by empty (sym on ∙ has)));
-    } where
-      by : (b : Bool) → not b ≡ true → b ≡ false
-      by true e = absurd (cc)
-      by false e = refl
+      some = λ has. rw set (some (not-true empty (sym on ∙ has)));
+    }
 
 pub row_kept : (g : Grid) (table : Option (List ℕ)) (axis : Axis) (part : List CompiledCell)
     (rows more columns : List Bool) (starts : List (List Bool)) (row other : ℕ)

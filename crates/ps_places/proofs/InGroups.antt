@@ -4,7 +4,7 @@ use Rattle.std.proofs.Common.{◌≡◌, ◌≢◌, ◌∙◌, ℕ, zero, suc, �
 use Rattle.std.proofs.Common.{false}
 use Rattle.std.proofs.Common.{Some, List, [], ◌∷◌, length, refl, subst, sym, ap, ap₂, arith}
 use Rattle.std.specs.Prelude.{if◌then◌else◌, nat_le, nat_lt, slice_get}
-use Rattle.std.proofs.Math.Bool.{and-false, or-false}
+use Rattle.std.proofs.Math.Bool.{and-false, or-false, or-true}
 use Rattle.std.proofs.Math.Nat.{add-mul}
 use Rattle.std.proofs.lemmas.Bool.{and_parts, cases_Bool, cases_eq, cases_lt, le-ltb, lt-ltb}
 use Rattle.std.proofs.lemmas.Bool.Decides.{nat_tests}
@@ -273,10 +273,7 @@ module _ (g : Grid) (starts : ℕ → Bool) (step : ℕ) (all : List CellMeaning
   now_done done now i n here =
       let both = and_parts (changes i && covers starts step i n) (now (n - i * step)) here in
       let less : i < i + 1 = omega arith in
-      rw (both.0, both.1, lt-ltb i (i + 1) less) (or_true (done (n - i * step))) where
-        or_true : (b : Bool) → (b || true) ≡ true
-        or_true true = refl
-        or_true false = refl
+      rw (both.0, both.1, lt-ltb i (i + 1) less) (or-true (done (n - i * step)))
 
   not_next : (done now : ℕ → Bool) (i n j : ℕ) → next_cells now i n ≡ false →
       grouped done now (i + 1) j n ≡ grouped done now i j n

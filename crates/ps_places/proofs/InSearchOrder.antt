@@ -6,7 +6,7 @@ use Rattle.std.proofs.Common.{true, false}
 use Rattle.std.proofs.Common.{List, [], ◌∷◌, ◌++◌, length, map, fold, refl, sym, ap, arith}
 use Rattle.std.specs.Prelude.{nat_eq, nat_lt}
 use Rattle.std.specs.List.{flat_map, range_with_len}
-use Rattle.std.proofs.Math.Bool.{and-false}
+use Rattle.std.proofs.Math.Bool.{and-false, or-false, and-true, or-true}
 use Rattle.std.proofs.lemmas.Bool.{cases_eq, eq-eqb, ne_eqb, lt-ltb, le-ltb}
 use Rattle.std.proofs.lemmas.Grind.{flat_map-append, fold-append}
 use Rattle.std.proofs.lemmas.List.{map-append}
@@ -17,7 +17,6 @@ use Rattle.ps_model.specs.board.Grid.{Grid}
 use Rattle.ps_model.specs.board.Places.{column_by_column, row_by_row, search_order}
 use Rattle.ps_model.specs.board.Attempts.{Rewritten}
 use Rattle.ps_board.proofs.PassedColumns.{cell_below}
-use Rattle.ps_match.proofs.Chosen.{or_nothing}
 use Rattle.ps_match.proofs.RowWritten.{cell_known, lt_next}
 
 -- a combination of one place
@@ -65,7 +64,7 @@ module _ (g : Grid) (from : ℕ → List (List ℕ)) (act : Rewritten → List (
         let high : a ≤ k = omega arith in
         rw (lt-ltb k (a + 1) low, le-ltb k a high, eq-eqb k a e) refl
     | inr other ↦ lt_next k a other ∙ sym (ap (λ (b : Bool). nat_lt k a || b) (ne_eqb k a other)
-        ∙ or_nothing (nat_lt k a))
+        ∙ or-false (nat_lt k a))
   ]
 
   numbers_walked : (a n : ℕ) → a + n ≤ g.width * g.height → walk (after (λ k. nat_lt k a)) (range_with_len a n)
@@ -99,14 +98,10 @@ module _ (g : Grid) (from : ℕ → List (List ℕ)) (act : Rewritten → List (
           lt-ltb x (x + 1) low,
           eq-eqb
               cell cell refl,
-        ) (sym (or_all (nat_lt x x)))
+        ) (sym (or-true (nat_lt x x)))
         | inr other ↦ same_above row x k cell quotient remainder other
-            ∙ sym (ap (λ (b : Bool). above row x k || b) (ne_eqb k cell other) ∙ or_nothing (above row x k))
+            ∙ sym (ap (λ (b : Bool). above row x k || b) (ne_eqb k cell other) ∙ or-false (above row x k))
       ] where
-        or_all : (b : Bool) → (b || true) ≡ true
-        or_all true = refl
-        or_all false = refl
-
         same_above : (row x k cell : ℕ) → cell / g.height ≡ x → cell % g.height ≡ row → k ≢ cell →
             above row (x + 1) k ≡ above row x k
         same_above row x k cell quotient remainder other = elim (cases_eq (k / g.height) x) [
@@ -136,7 +131,7 @@ module _ (g : Grid) (from : ℕ → List (List ℕ)) (act : Rewritten → List (
       ∙ row_walked row (a + 1) n under (omega arith) ∙ ap (λ (count : ℕ). after (above row count)) (sym e)
 
   or_later : (a b : Bool) → ((a || b) || false) ≡ (a || b)
-  or_later a b = or_nothing (a || b)
+  or_later a b = or-false (a || b)
 
   next_row : (row : ℕ) → after (above row g.width) ≡ after (above (row + 1) 0)
   next_row row =
@@ -146,15 +141,12 @@ module _ (g : Grid) (from : ℕ → List (List ℕ)) (act : Rewritten → List (
       let high : 0 ≤ k / g.height = omega arith in
       ap (λ (b : Bool). nat_lt (k % g.height) row || (nat_eq (k % g.height) row && b))
       (lt-ltb (k / g.height) g.width column)
-      ∙ ap (λ (b : Bool). nat_lt (k % g.height) row || b) (and_yes (nat_eq (k % g.height) row))
+      ∙ ap (λ (b : Bool). nat_lt (k % g.height) row || b) (and-true (nat_eq (k % g.height) row))
       ∙ sym (below_next row (k % g.height))
       ∙ sym (ap (λ (b : Bool). nat_lt (k % g.height) (row + 1) || (nat_eq (k % g.height) (row + 1) && b))
       (le-ltb (k / g.height) 0 high)
       ∙ ap (λ (b : Bool). nat_lt (k % g.height) (row + 1) || b) (and-false (nat_eq (k % g.height) (row + 1)))
-      ∙ or_nothing (nat_lt (k % g.height) (row + 1)))) where
-        and_yes : (b : Bool) → (b && true) ≡ b
-        and_yes true = refl
-        and_yes false = refl
+      ∙ or-false (nat_lt (k % g.height) (row + 1))))
 
   abbrev cells_of_row : ℕ → List ℕ
   cells_of_row row = map (λ column. column * g.height + row) (range_with_len 0 g.width)

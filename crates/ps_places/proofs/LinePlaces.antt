@@ -8,13 +8,14 @@ use Rattle.std.proofs.Math.Nat.{add-mul}
 use Rattle.ps_model.specs.board.Grid.{Grid}
 use Rattle.ps_model.specs.board.Places.{cells_in, cells_downwards, cells_rightwards, fits_along, places, ways_along}
 use Rattle.ps_model.specs.meaning.RuleMeanings.{CellMeaning}
+use Rattle.ps_laws.proofs.common.Stages.{flat_map-flat_map}
 use Rattle.ps_program.specs.Axes.{direction_of}
 use Rattle.ps_program.specs.declared.rows.Axis.{Axis}
 use Rattle.ps_program.specs.declared.rows.Axis.TheVariants.{Down, Right}
 use Rattle.ps_places.specs.Lines.{cell_on, line_cells, line_count, line_long}
 use Rattle.ps_places.specs.RowPlaces.{way_cells}
 use Rattle.ps_places.proofs.LineWays.{cells_of_way, line_from}
-use Rattle.ps_places.proofs.Ranges.{agree_from, flat_map-agree, map-range-agree, map-range-shift, nested}
+use Rattle.ps_places.proofs.Ranges.{agree_from, flat_map-agree, map-range-agree, map-range-shift}
 use Rattle.ps_places.proofs.Ranges.{range_lists-agree, ranges_apart}
 
 -- the cells of a line by position
@@ -110,7 +111,8 @@ places-by_line g Down parts =
 places-by_line g Right parts =
     let fits : List ℕ → Bool = fits_along g (cells_in parts) in
     let at : ℕ → List (List ℕ) = λ cell. filter fits (ways_along (map length parts) (cells_rightwards g cell)) in
-    nested at (λ row. map (λ column. column * g.height + row) (range_with_len 0 g.width)) (range_with_len 0 g.height)
+    flat_map-flat_map at (λ row. map (λ column. column * g.height + row) (range_with_len 0 g.width))
+    (range_with_len 0 g.height)
     ∙ range_lists-agree (λ row. flat_map at (map (λ column. column * g.height + row) (range_with_len 0 g.width)))
     (places_along g Right parts) 0 g.height
     (λ row near far.

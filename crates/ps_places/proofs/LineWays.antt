@@ -10,9 +10,10 @@ use Rattle.ps_model.specs.declared.limits.TheConstants.{SIDE_LIMIT}
 use Rattle.ps_model.specs.board.Grid.{Grid}
 use Rattle.ps_model.specs.board.Places.{cells_in, fits_along, fits_there, ways_along}
 use Rattle.ps_model.specs.meaning.RuleMeanings.{CellMeaning}
+use Rattle.ps_laws.proofs.common.Stages.{map-flat_map}
 use Rattle.ps_board.specs.ColumnSets.{set_columns}
 use Rattle.ps_places.specs.Ways.{positions_from, ways_from}
-use Rattle.ps_places.proofs.Ranges.{agree_from, both_ends, drop-map-range, filter-flat_map, lists_passing, map-flat_map}
+use Rattle.ps_places.proofs.Ranges.{agree_from, both_ends, drop-map-range, filter-flat_map, lists_passing}
 use Rattle.ps_places.proofs.Ranges.{passing_from, range_lists-agree}
 
 -- the line's cells from a position on

@@ -1,14 +1,17 @@
 -- Ways of parts on a line: the first one of a kind that is told part by part, from a position on or behind another way.
-use Rattle.std.proofs.Common.{◌≡◌, ◌∙◌, ℕ, ◌+◌, ◌≤◌, ◌&&◌, inl, inr, Bool, true, false, List, [], ◌∷◌, map, length, get_or, refl, sym, ap, arith}
+use Rattle.std.proofs.Common.{◌≡◌, ◌∙◌, ℕ, ◌+◌, ◌≤◌, ◌&&◌, inl, inr, Bool, true, false, List, [], ◌∷◌, map, length}
+use Rattle.std.proofs.Common.{get_or, refl, sym, ap, arith}
 use Rattle.std.specs.Prelude.{All, nat_le}
 use Rattle.std.specs.List.{flat_map}
 use Rattle.std.proofs.lemmas.Bool.{cases_Bool}
 use Rattle.std.proofs.lemmas.Bool.Decides.{nat_tests}
 use Rattle.std.proofs.lemmas.Grind.{flat_map-append}
 use Rattle.std.proofs.lemmas.List.Elements.{All-append, All-cons, All-map, All-nil}
+use Rattle.ps_laws.proofs.common.Everywhere.{All-each}
 use Rattle.ps_board.specs.ColumnSets.{set_columns}
 use Rattle.ps_places.specs.Ways.{from_first, positions_from, ways_behind, ways_from}
-use Rattle.ps_places.proofs.FirstOf.{first-append-none, first-append-some, first-filter-none, first-fits, first-flat_map, first-later, first-map, first-rest-none}
+use Rattle.ps_places.proofs.FirstOf.{first-append-none, first-append-some, first-filter-none, first-fits}
+use Rattle.ps_places.proofs.FirstOf.{first-flat_map, first-later, first-map, first-rest-none}
 use Rattle.ps_places.proofs.Positions.{EndsIn, positions-end}
 
 -- a way is of the kind where its first position has a property and the others are of a kind
@@ -138,11 +141,6 @@ next_way-unfit kind here others set sets size sizes p way made out =
 
 -- each way has a position for each part -----------------------------------------------------------------------------
 
-pub all-flat_map : {X Y : Type 0} (P : Y → Type 0) (f : X → List Y) (xs : List X) → ((x : X) → All P (f x)) →
-    All P (flat_map f xs)
-all-flat_map P f [] all = All-nil P
-all-flat_map P f (x ∷ xs) all = All-append P (f x) (flat_map f xs) (all x) (all-flat_map P f xs all)
-
 longer : (n m p : ℕ) (ways : List (List ℕ)) → m ≡ n + 1 → All (λ way. length way ≡ n) ways →
     All (λ way. length way ≡ m) (map (λ way. p ∷ way) ways)
 longer n m p ways e all = All-map (λ way. length way ≡ m) (λ way. p ∷ way) ways
@@ -154,7 +152,7 @@ ways_from-long [] [] from e = All-cons (λ way. length way ≡ 0) [] [] refl (Al
 ways_from-long [] (size ∷ sizes) from e = absurd (omega (arith, e))
 ways_from-long (set ∷ sets) [] from e = All-nil (λ way. length way ≡ 0)
 ways_from-long (set ∷ sets) (size ∷ sizes) from e =
-    all-flat_map (λ way. length way ≡ length (size ∷ sizes)) (λ p. map (λ way. p ∷ way)
+    All-each (λ way. length way ≡ length (size ∷ sizes)) (λ p. map (λ way. p ∷ way)
     (ways_from sets sizes (p + size))) (positions_from set from)
     (λ p. longer (length sizes) (length (size ∷ sizes)) p (ways_from sets sizes (p + size)) (omega arith)
     (ways_from-long sets sizes (p + size) (omega (arith, e))))

@@ -4,7 +4,7 @@ use Rattle.std.proofs.Common.{Option, Some, None, List, [], ◌∷◌, length, r
 use Rattle.std.specs.Prelude.{not, nat_lt, slice_get}
 use Rattle.std.specs.List.{list_all, list_any}
 use Rattle.std.proofs.Math.Bool.{and-false}
-use Rattle.std.proofs.lemmas.Bool.{cases_lt}
+use Rattle.std.proofs.lemmas.Bool.{cases_lt, and_cases}
 use Rattle.std.proofs.lemmas.Bool.Decides.{nat_tests}
 use Rattle.std.proofs.lemmas.Option.{get_or_from_slice_get}
 use Rattle.ps_model.specs.declared.limits.TheConstants.{SIDE_LIMIT}
@@ -38,18 +38,14 @@ not_left_out rows row is low out =
     ∙ out
 
 -- a row that isn't in both sets is missing in one of them
-missing_by : (a b : Bool) → (a && b) ≡ false → (a ≡ false) ⊎ (b ≡ false)
-missing_by true b e = inr e
-missing_by false b e = inl refl
-
 pub missing : (rows others both : List Bool) (row : ℕ) → both ≡ both_columns rows others → row < SIDE_LIMIT →
     column_at both row ≡ false → (column_at rows row ≡ false) ⊎ (column_at others row ≡ false)
 missing rows others both row is low out =
-    missing_by (column_at rows row) (column_at others row)
+    and_cases (column_at rows row) (column_at others row)
     (sym (ap (λ (cs : List Bool). column_at cs row) is
     ∙ column_at-where (λ y. column_at rows y && column_at others y) row low) ∙ out)
 
--- a mask ---------------------------------------------------------------------------------------------------------------
+-- a mask --------------------------------------------------------------------------------------------------------------
 
 not_all : (slots : List Slot) (object : LayeredObject) → is_held_in slots object ≡ false →
     (needed : List LayeredObject) (k : ℕ) → slice_get needed k ≡ Some object →
@@ -159,7 +155,7 @@ motion-more g mask test k rows moving both grid asks has is only =
           (missing rows moving both row is (omega (arith, low, grid.rows)) out);
     }
 
--- the cells of a part ---------------------------------------------------------------------------------------------------
+-- the cells of a part -------------------------------------------------------------------------------------------------
 
 pub cell-right : (g : Grid) (mask : CellMask) (steps : ℕ) (rows : List Bool) → FitsOnlyOn g mask rows →
     HasCellOnlyOn g mask Right steps rows

@@ -10,6 +10,7 @@ use Rattle.std.proofs.lemmas.List.{length-map}
 use Rattle.std.proofs.lemmas.List.FromFn.{length-map-range_with_len}
 use Rattle.std.proofs.lemmas.Nat.{div-add-mod', div_below, mod_below}
 use Rattle.std.proofs.lemmas.Option.{slice_get_past}
+use Rattle.std.proofs.Math.Bool.{and-false}
 use Rattle.ps_model.specs.declared.pieces.Slot.{Slot}
 use Rattle.ps_model.specs.board.Grid.{Grid, IsGrid}
 use Rattle.ps_model.specs.board.Places.{cells_in, fits_along, fits_there, stretches, ways_along}
@@ -103,10 +104,7 @@ pub begins_beyond : (g : Grid) (axis : Axis) (all : List CellMeaning) (n : ℕ) 
 begins_beyond g axis all n some high =
     ap (λ (b : Bool). nat_le (length all) (long_from axis g n) && b)
     (beyond_by g all (step_along axis g.height) n some high)
-    ∙ and_no (nat_le (length all) (long_from axis g n)) where
-      and_no : (b : Bool) → (b && false) ≡ false
-      and_no true = refl
-      and_no false = refl
+    ∙ and-false (nat_le (length all) (long_from axis g n))
 
 -- where the part begins by its row and its column ---------------------------------------------------------------------
 

@@ -11,8 +11,9 @@ use Rattle.ps_model.specs.board.Grid.{Grid, cell_at}
 use Rattle.ps_model.specs.board.Attempts.{Rewritten, rewritten_along, rewritten_cell}
 use Rattle.ps_model.specs.board.Places.{fits_along, fits_there}
 use Rattle.ps_model.specs.meaning.RuleMeanings.{CellMeaning}
+use Rattle.ps_laws.proofs.common.Truths.{both-hold}
 use Rattle.ps_places.specs.Lines.{cells_from}
-use Rattle.ps_places.proofs.CellsInTurn.{both_true, cells_from-next}
+use Rattle.ps_places.proofs.CellsInTurn.{cells_from-next}
 use Rattle.ps_places.proofs.WrittenAs.{as-one, cell_at-as, length-as, written_as}
 use Rattle.ps_places.proofs.WrittenToItself.{kept_cell}
 use Rattle.ps_places.proofs.InGroups.{AreAlone, AreIdle, by-cases, cell_now, covers, covers-on, covers-parts, during}
@@ -36,13 +37,13 @@ pub fits_each : (g : Grid) (ms : List CellMeaning) (step first : ℕ) →
     (k : ℕ) (m : CellMeaning) → slice_get ms k ≡ Some m → fits_there m (slice_get g.cells (first + k * step)) ≡ true
 fits_each g [] step first fits k m is = absurd (cc)
 fits_each g (one ∷ ms) step first fits zero m is =
-    let both = both_true (fits_there one (slice_get g.cells first))
+    let both = both-hold (fits_there one (slice_get g.cells first))
     (fits_along g ms (cells_from step (first + step) (length ms))) (sym (cells_next g one ms step first) ∙ fits) in
     let same : one ≡ m = cc in
     let at : first + 0 * step ≡ first = omega arith in
     rw (at, ← same) both.0
 fits_each g (one ∷ ms) step first fits (suc k) m is =
-    let both = both_true (fits_there one (slice_get g.cells first))
+    let both = both-hold (fits_there one (slice_get g.cells first))
     (fits_along g ms (cells_from step (first + step) (length ms))) (sym (cells_next g one ms step first) ∙ fits) in
     let at : first + suc k * step ≡ first + step + k * step = omega arith in
     rw at (fits_each g ms step (first + step) both.1 k m is)

@@ -5,13 +5,13 @@ use Rattle.std.proofs.Common.{◌≡◌, ◌∙◌, ℕ, ◌*◌, ◌<◌, ◌||
 use Rattle.std.proofs.Common.{List, [], ◌∷◌, ◌++◌, length, map, filter, fold, refl, sym, ap}
 use Rattle.std.specs.Prelude.{nat_eq}
 use Rattle.std.proofs.lemmas.Bool.{cases_Bool, cases_eq, ne_eqb}
+use Rattle.std.proofs.Math.Bool.{or-false}
 use Rattle.ps_model.specs.declared.pieces.Direction.{Direction}
 use Rattle.ps_model.specs.board.Grid.{Grid}
 use Rattle.ps_model.specs.board.Attempts.{Rewritten, applied, combinations, rewritten_along}
 use Rattle.ps_model.specs.board.Places.{cells_in, fits_along, places, stretches}
 use Rattle.ps_model.specs.meaning.RuleMeanings.{CellMeaning}
 use Rattle.ps_places.specs.Lines.{cells_from}
-use Rattle.ps_match.proofs.Chosen.{or_nothing}
 use Rattle.ps_match.proofs.RowWritten.{told}
 use Rattle.ps_places.proofs.InGroups.{AreAlone, AreIdle, after, after-agree, after-none, during, during-end}
 use Rattle.ps_places.proofs.InGroups.{during-start}
@@ -76,7 +76,7 @@ module _ (g : Grid) (direction : Direction) (step : ℕ) (starts : ℕ → Bool)
       after-agree g starts step all changes apart done more
       (λ k low on. elim (cases_eq k n) [
         | inl same ↦ let no : true ≡ false = sym on ∙ ap starts same ∙ off in absurd (cc)
-        | inr other ↦ sym (e k low ∙ ap (λ (b : Bool). done k || b) (ne_eqb k n other) ∙ or_nothing (done k))
+        | inr other ↦ sym (e k low ∙ ap (λ (b : Bool). done k || b) (ne_eqb k n other) ∙ or-false (done k))
       ])
 
   one_end : (done more : ℕ → Bool) (n : ℕ) → n < length g.cells → done n ≡ false → IsOneMore g done more n →

@@ -1,18 +1,21 @@
 -- The positions of a set from one on: those from another on behind them, and the next ones behind the first.
-use Rattle.std.proofs.Common.{◌≡◌, ◌∙◌, ℕ, ◌+◌, ◌-◌, ◌<◌, ◌≤◌, ◌&&◌, inl, inr, suc, zero, Bool, true, false, cond, List, [], ◌∷◌, ◌++◌, refl, sym, ap, ap₂, arith}
+use Rattle.std.proofs.Common.{◌≡◌, ◌∙◌, ℕ, ◌+◌, ◌-◌, ◌<◌, ◌≤◌, ◌&&◌, inl, inr, suc, zero, Bool, true, false, cond, List}
+use Rattle.std.proofs.Common.{[], ◌∷◌, ◌++◌, refl, sym, ap, ap₂, arith}
 use Rattle.std.specs.Prelude.{filter, nat_le, nat_lt, not}
 use Rattle.std.specs.List.{range_with_len}
 use Rattle.std.proofs.lemmas.Bool.{cases_Bool, cases_eq, cases_lt}
 use Rattle.std.proofs.lemmas.Bool.Decides.{nat_tests}
 use Rattle.std.proofs.lemmas.List.Elements.{filter-append}
 use Rattle.std.proofs.lemmas.List.{append-nil}
+use Rattle.std.proofs.Math.Bool.{and_comm}
 use Rattle.ps_model.specs.declared.limits.TheConstants.{SIDE_LIMIT}
 use Rattle.ps_board.specs.ColumnSets.{both_columns, column_at, columns_below, columns_without, no_columns, set_columns}
 use Rattle.ps_board.proofs.ColumnLaws.{column_at-where, set_columns-are, set_columns-none}
 use Rattle.ps_places.specs.Ways.{from_first, positions_from}
 use Rattle.ps_places.proofs.FirstOf.{first-here, first-later, first-passes}
+use Rattle.ps_places.proofs.Ranges.{all_from}
 
--- a list filtered -----------------------------------------------------------------------------------------------------------
+-- a list filtered -----------------------------------------------------------------------------------------------------
 
 pub filter-kept : {X : Type 0} (test : X → Bool) (x : X) (xs : List X) → test x ≡ true →
     filter test (x ∷ xs) ≡ x ∷ filter test xs
@@ -47,24 +50,7 @@ filter-less f h (x ∷ xs) more = elim (cases_Bool (f x)) [
   ]
 ]
 
--- numbers in rising order -----------------------------------------------------------------------------------------------
-
--- all of them are far enough
-all_far : (f : ℕ → Bool) (a s n : ℕ) → a ≤ s → filter (λ x. nat_le a x) (filter f (range_with_len s n))
-    ≡ filter f (range_with_len s n)
-all_far f a s zero far = refl
-all_far f a s (suc n) far = elim (cases_Bool (f s)) [
-  | inl is ↦
-      let here : nat_le a s ≡ true = grind (arith, nat_tests, far) in
-      ap (filter (λ x. nat_le a x)) (filter-kept f s (range_with_len (s + 1) n) is)
-      ∙ filter-kept (λ x. nat_le a x) s (filter f (range_with_len (s + 1) n)) here
-      ∙ ap (λ (l : List ℕ). s ∷ l) (all_far f a (s + 1) n (omega arith))
-      ∙ sym (filter-kept f s (range_with_len (s + 1) n) is)
-  | inr out ↦
-      ap (filter (λ x. nat_le a x)) (filter-left f s (range_with_len (s + 1) n) out)
-      ∙ all_far f a (s + 1) n (omega arith)
-      ∙ sym (filter-left f s (range_with_len (s + 1) n) out)
-]
+-- numbers in rising order ---------------------------------------------------------------------------------------------
 
 from_start : (f : ℕ → Bool) (a s n m : ℕ) → s ≤ a → m ≡ s + n - a →
     filter (λ x. nat_le a x) (filter f (range_with_len s n)) ≡ filter f (range_with_len a m)
@@ -72,7 +58,7 @@ from_start f a s zero m low e = let none : m ≡ 0 = omega arith in rw none refl
 from_start f a s (suc n) m low e = elim (cases_eq s a) [
   | inl same ↦
       let long : m ≡ suc n = omega (arith, same, e) in
-      rw (long, same) (all_far f a a (suc n) (omega arith))
+      rw (long, same) (all_from f a a (suc n) (omega arith))
   | inr other ↦
       let below : s < a = omega (arith, other, low) in
       let here : nat_le a s ≡ false = grind (arith, nat_tests, below) in
@@ -94,7 +80,7 @@ positions-are set a m e = from_start (column_at set) a 0 SIDE_LIMIT m (omega ari
 
 pub positions-all : (set : List Bool) → positions_from set 0 ≡ set_columns set
 unfolding set_columns
-positions-all set = all_far (column_at set) 0 0 SIDE_LIMIT (omega arith)
+positions-all set = all_from (column_at set) 0 0 SIDE_LIMIT (omega arith)
 
 -- one position and those behind it ----------------------------------------------------------------------------------
 
@@ -287,12 +273,6 @@ first-of-kind set kind p ps e =
     first.2 (SIDE_LIMIT - (p + 1)) (omega arith)
     ∙ ap (λ (l : List ℕ). p ∷ l) (sym (positions-are set (p + 1) (SIDE_LIMIT - (p + 1)) refl))
 
-and_turned : (a b : Bool) → (a && b) ≡ (b && a)
-and_turned true true = refl
-and_turned true false = refl
-and_turned false true = refl
-and_turned false false = refl
-
 -- the numbers in a set of which something holds
 pub both-kept : (set where_ : List Bool) (kind : ℕ → Bool) → ((x : ℕ) → x < SIDE_LIMIT → column_at where_ x ≡ kind x) →
     set_columns (both_columns where_ set) ≡ filter kind (set_columns set)
@@ -300,7 +280,7 @@ unfolding set_columns
 both-kept set where_ kind are =
     set_columns-are (both_columns where_ set) (λ x. column_at set x && kind x)
     (λ x low. column_at-where (λ y. column_at where_ y && column_at set y) x low
-    ∙ ap (λ (b : Bool). b && column_at set x) (are x low) ∙ and_turned (kind x) (column_at set x))
+    ∙ ap (λ (b : Bool). b && column_at set x) (are x low) ∙ and_comm (kind x) (column_at set x))
     ∙ sym (filter-twice (column_at set) kind (range_with_len 0 SIDE_LIMIT))
 
 -- the first one, looked for in what is left of a set from one on

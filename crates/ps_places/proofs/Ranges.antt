@@ -3,9 +3,8 @@ use Rattle.std.proofs.Common.{◌≡◌, ◌∙◌, ℕ, ◌+◌, ◌-◌, ◌<�
 use Rattle.std.proofs.Common.{map, filter, drop, append_assoc, refl, sym, ap, ap₂, arith}
 use Rattle.std.specs.Prelude.{nat_le}
 use Rattle.std.specs.List.{range_with_len, flat_map}
-use Rattle.std.proofs.lemmas.List.{map-append}
-use Rattle.std.proofs.lemmas.Grind.{flat_map-append}
 use Rattle.std.proofs.lemmas.Bool.Decides.{nat_tests}
+use Rattle.ps_board.proofs.ColumnLaws.{none_on}
 
 module _ {X : Type 0} where
   -- functions that agree on the indices
@@ -85,19 +84,6 @@ range_lists-agree f h a (suc n) e =
     ap₂ (λ (xs ys : List _). xs ++ ys) (e a (omega arith) (omega arith))
     (range_lists-agree f h (a + 1) n (λ i low high. e i (omega arith) (omega arith)))
 
--- lists of lists
-pub nested : {A B C : Type 0} (f : B → List C) (h : A → List B) (xs : List A) →
-    flat_map f (flat_map h xs) ≡ flat_map (λ x. flat_map f (h x)) xs
-nested f h [] = refl
-nested f h (x ∷ xs) = flat_map-append f (h x) (flat_map h xs)
-    ∙ ap (λ (others : List _). flat_map f (h x) ++ others) (nested f h xs)
-
-pub map-flat_map : {A B C : Type 0} (f : B → C) (h : A → List B) (xs : List A) →
-    map f (flat_map h xs) ≡ flat_map (λ x. map f (h x)) xs
-map-flat_map f h [] = refl
-map-flat_map f h (x ∷ xs) = map-append f (h x) (flat_map h xs)
-    ∙ ap (λ (others : List _). map f (h x) ++ others) (map-flat_map f h xs)
-
 -- what passes a test
 passing : {X : Type 0} (test : X → Bool) (x : X) (xs ys : List X) (b : Bool) →
     cond b (x ∷ (xs ++ ys)) (xs ++ ys) ≡ cond b (x ∷ xs) xs ++ ys
@@ -143,20 +129,11 @@ pub passing-agree : {X : Type 0} (f h : ℕ → List X) (test : ℕ → Bool) (x
 passing-agree f h test [] e = refl
 passing-agree f h test (x ∷ xs) e = agree_by f h test x xs (test x) refl e (passing-agree f h test xs e)
 
--- numbers that pass a test ----------------------------------------------------------------------------------------------------
-
--- none behind the front of a range
-pub none_there : (test : ℕ → Bool) (a n : ℕ) → ((x : ℕ) → a ≤ x → x < a + n → test x ≡ false) →
-    filter test (range_with_len a n) ≡ []
-none_there test a zero e = refl
-none_there test a (suc n) e =
-    ap (λ (b : Bool). cond b (a ∷ filter test (range_with_len (a + 1) n)) (filter test (range_with_len (a + 1) n)))
-    (e a (omega arith) (omega arith))
-    ∙ none_there test (a + 1) n (λ x low high. e x (omega arith) (omega arith))
+-- numbers that pass a test --------------------------------------------------------------------------------------------
 
 front_only : (test : ℕ → Bool) (a n m : ℕ) → n ≤ m → ((x : ℕ) → a + n ≤ x → test x ≡ false) →
     filter test (range_with_len a m) ≡ filter test (range_with_len a n)
-front_only test a zero m few e = none_there test a m (λ x low high. e x (omega arith))
+front_only test a zero m few e = none_on test a m (λ x low high. e x (omega arith))
 front_only test a (suc n) zero few e = absurd (omega arith)
 front_only test a (suc n) (suc m) few e =
     ap (λ (xs : List ℕ). cond (test a) (a ∷ xs) xs)
@@ -179,7 +156,8 @@ dropped_by : (test more : ℕ → Bool) (x : ℕ) (xs : List ℕ) (b : Bool) →
 dropped_by test more x xs true e = ap (λ (b : Bool). cond b (x ∷ filter more xs) (filter more xs)) e
 dropped_by test more x xs false e = refl
 
-all_from : (test : ℕ → Bool) (from a n : ℕ) → from ≤ a →
+-- numbers that are all far enough
+pub all_from : (test : ℕ → Bool) (from a n : ℕ) → from ≤ a →
     filter (λ p. nat_le from p) (filter test (range_with_len a n)) ≡ filter test (range_with_len a n)
 all_from test from a zero far = refl
 all_from test from a (suc n) far =

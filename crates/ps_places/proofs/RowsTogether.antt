@@ -4,15 +4,17 @@ use Rattle.std.proofs.Common.{Bool, true, false, Option, Some}
 use Rattle.std.proofs.Common.{List, [], ◌∷◌, length, fold, refl, subst, sym, ap, ap₂, arith}
 use Rattle.std.specs.Prelude.{nat_eq, nat_le, nat_lt, slice_get}
 use Rattle.std.proofs.Math.Nat.{add-mul}
-use Rattle.std.proofs.lemmas.Bool.{and_parts, cases_Bool, cases_eq, eq-eqb, eqb-true, lt-ltb, ne_eqb}
+use Rattle.std.proofs.lemmas.Bool.{and_parts, cases_Bool, cases_eq, eq-eqb, eqb-true, lt-ltb, ne_eqb, and_from}
 use Rattle.std.proofs.lemmas.Bool.Decides.{nat_tests}
 use Rattle.std.proofs.lemmas.List.{length-map}
 use Rattle.std.proofs.lemmas.Nat.{div-add-mod', div-mul-add, div_below, mod-mul-add, mod_below}
 use Rattle.std.proofs.lemmas.Option.{slice_get_within}
+use Rattle.std.proofs.Math.Bool.{or-true, or-false}
 use Rattle.ps_model.specs.declared.limits.TheConstants.{SIDE_LIMIT}
 use Rattle.ps_model.specs.board.Grid.{Grid, IsGrid}
 use Rattle.ps_model.specs.board.Attempts.{Rewritten, applied, combinations}
 use Rattle.ps_model.specs.board.Places.{places}
+use Rattle.ps_laws.proofs.common.Truths.{same_tests}
 use Rattle.ps_board.specs.ColumnSets.{column_at, columns_ahead, set_columns}
 use Rattle.ps_board.proofs.ColumnLaws.{column_at-where, first_in, none_in}
 use Rattle.ps_board.proofs.PassedColumns.{cell_below}
@@ -33,12 +35,6 @@ use Rattle.ps_places.proofs.InGroups.{during-end, during-start, idle_step, next_
 use Rattle.ps_places.proofs.StartNumbers.{all_applied, begins_good, begins_start, changes_in, changes_of, places_alone}
 use Rattle.ps_places.proofs.StartNumbers.{room_by, starts_number}
 use Rattle.ps_places.proofs.WrittenAs.{as_then, height-as}
-use Rattle.ps_places.proofs.AnyOf.{same_tests}
-
--- two tests that hold together
-
-true_and : (a b : Bool) → a ≡ true → b ≡ true → (a && b) ≡ true
-true_and a b e f = rw (e, f) refl
 
 pub le_true : (a b : ℕ) → a ≤ b → nat_le a b ≡ true
 le_true a b low = grind (arith, nat_tests, low)
@@ -84,10 +80,10 @@ module _ (g : Grid) (table : Option (List ℕ)) (axis : Axis) (part : List Compi
       let quotient : e / g.height ≡ x = ap (λ (k : ℕ). k / g.height) is ∙ div-mul-add x g.height row under in
       let remainder : e % g.height ≡ row = ap (λ (k : ℕ). k % g.height) is ∙ mod-mul-add x g.height row under in
       let low : e < length g.cells = rw (grid.cells, is) (cell_below g.width g.height x row across under) in
-      true_and (nat_lt e (length g.cells)) (is_start rows starts (e % g.height) (e / g.height))
+      and_from (nat_lt e (length g.cells)) (is_start rows starts (e % g.height) (e / g.height))
       (lt-ltb e (length g.cells) low)
       (ap₂ (is_start rows starts) remainder quotient
-      ∙ true_and (column_at rows row) (column_at (columns_on starts row) x) on here)
+      ∙ and_from (column_at rows row) (column_at (columns_on starts row) x) on here)
 
   here_down : axis ≡ Down → (row i n : ℕ) → row < g.height → column_at rows row ≡ true → n < length g.cells →
       i < length part →
@@ -102,8 +98,8 @@ module _ (g : Grid) (table : Option (List ℕ)) (axis : Axis) (part : List Compi
       let place : x * g.height + n % g.height ≡ n = div-add-mod' n g.height in
       let first : n - i * 1 ≡ x * g.height + row = omega (arith, at, place) in
       let far : i * 1 ≤ n = omega (arith, at, place) in
-      true_and (covers (starts_number g rows starts) 1 i n) (on_this row (n - i * 1))
-      (true_and (nat_le (i * 1) n) (starts_number g rows starts (n - i * 1)) (le_true (i * 1) n far)
+      and_from (covers (starts_number g rows starts) 1 i n) (on_this row (n - i * 1))
+      (and_from (nat_le (i * 1) n) (starts_number g rows starts (n - i * 1)) (le_true (i * 1) n far)
       (started (n - i * 1) row x under across first on both.1))
       (eq-eqb ((n - i * 1) % g.height) row (ap (λ (k : ℕ). k % g.height) first ∙ mod-mul-add x g.height row under)))
       (λ there.
@@ -121,7 +117,7 @@ module _ (g : Grid) (table : Option (List ℕ)) (axis : Axis) (part : List Compi
       let below : row + i < g.height = omega (arith, room, at, few) in
       let start = begins_start g table axis part rows starts grid some found e parts.1 in
       let own = (and_parts (column_at rows (e % g.height)) (column_at (columns_on starts (e % g.height)) x) start).1 in
-      true_and (nat_eq (n % g.height) (row + i)) (column_at (columns_on starts row) (n / g.height))
+      and_from (nat_eq (n % g.height) (row + i)) (column_at (columns_on starts row) (n / g.height))
       (eq-eqb (n % g.height) (row + i) (ap (λ (k : ℕ). k % g.height) is ∙ mod-mul-add x g.height (row + i) below))
       (ap (column_at (columns_on starts row)) (ap (λ (k : ℕ). k / g.height) is ∙ div-mul-add x g.height (row + i) below)
       ∙ ap (λ (r : ℕ). column_at (columns_on starts r) x) (sym at) ∙ own))
@@ -149,8 +145,8 @@ module _ (g : Grid) (table : Option (List ℕ)) (axis : Axis) (part : List Compi
       let parts : x * g.height ≡ (x - i) * g.height + i * g.height = ap (λ (k : ℕ). k * g.height) (sym whole) ∙ split in
       let first : n - i * g.height ≡ (x - i) * g.height + row = omega (arith, at, place, parts) in
       let far : i * g.height ≤ n = omega (arith, place, parts) in
-      true_and (covers (starts_number g rows starts) g.height i n) (on_this row (n - i * g.height))
-      (true_and (nat_le (i * g.height) n) (starts_number g rows starts (n - i * g.height))
+      and_from (covers (starts_number g rows starts) g.height i n) (on_this row (n - i * g.height))
+      (and_from (nat_le (i * g.height) n) (starts_number g rows starts (n - i * g.height))
       (le_true (i * g.height) n far)
       (started (n - i * g.height) row (x - i) under (omega (arith, across)) first on more.1))
       (eq-eqb ((n - i * g.height) % g.height) row (ap (λ (k : ℕ). k % g.height) first
@@ -169,9 +165,9 @@ module _ (g : Grid) (table : Option (List ℕ)) (axis : Axis) (part : List Compi
       let back : x - i ≡ y = omega (arith, column) in
       let start = begins_start g table axis part rows starts grid some found e parts.1 in
       let own = (and_parts (column_at rows (e % g.height)) (column_at (columns_on starts (e % g.height)) y) start).1 in
-      true_and (nat_eq (n % g.height) row) (nat_le i x && column_at (columns_on starts row) (x - i))
+      and_from (nat_eq (n % g.height) row) (nat_le i x && column_at (columns_on starts row) (x - i))
       (eq-eqb (n % g.height) row (ap (λ (k : ℕ). k % g.height) is ∙ mod-mul-add (y + i) g.height row under))
-      (true_and (nat_le i x) (column_at (columns_on starts row) (x - i)) (le_true i x near)
+      (and_from (nat_le i x) (column_at (columns_on starts row) (x - i)) (le_true i x near)
       (ap (column_at (columns_on starts row)) back ∙ ap (λ (r : ℕ). column_at (columns_on starts r) y) (sym at) ∙ own)))
 
   here_by : (a : Axis) → axis ≡ a → (row i n : ℕ) → row < g.height → column_at rows row ≡ true → n < length g.cells →
@@ -257,19 +253,12 @@ module _ (g : Grid) (table : Option (List ℕ)) (axis : Axis) (part : List Compi
   one_more_by left rest row r is low = elim (cases_eq r row) [
     | inl same ↦
         let gone : column_at rest r ≡ false = ap (column_at rest) same ∙ taken_gone left rest row is in
-        rw (gone, eq-eqb r row same) (sym (or_true (not (column_at left r))))
+        rw (gone, eq-eqb r row same) (sym (or-true (not (column_at left r))))
     | inr other ↦
         let alike : column_at left r ≡ column_at rest r = taken_out left rest row r is low
         ∙ ap (λ (b : Bool). b || column_at rest r) (ne_eqb r row other) in
-        rw (alike, ne_eqb r row other) (sym (or_no (not (column_at rest r))))
-  ] where
-    or_true : (b : Bool) → (b || true) ≡ true
-    or_true true = refl
-    or_true false = refl
-
-    or_no : (b : Bool) → (b || false) ≡ b
-    or_no true = refl
-    or_no false = refl
+        rw (alike, ne_eqb r row other) (sym (or-false (not (column_at rest r))))
+  ]
 
   pub row_more : (left rest : List Bool) (row : ℕ) (now next : Rewritten) → set_columns left ≡ row ∷ set_columns rest →
       column_at rows row ≡ true →
@@ -346,4 +335,4 @@ room_on_row g now table axis part rows starts found sides row k on low =
           let first = first_in (columns_on starts row) x xs e in
           room_in g table axis part row k x under low
           (sym ((found.each row under).at x first.1)
-          ∙ true_and (column_at rows row) (column_at (columns_on starts row) x) on first.0)
+          ∙ and_from (column_at rows row) (column_at (columns_on starts row) x) on first.0)

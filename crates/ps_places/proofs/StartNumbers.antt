@@ -8,6 +8,7 @@ use Rattle.std.proofs.lemmas.Bool.{and_parts, cases_lt, lt-ltb}
 use Rattle.std.proofs.lemmas.Bool.Decides.{nat_tests}
 use Rattle.std.proofs.lemmas.List.{length-map}
 use Rattle.std.proofs.lemmas.Nat.{div-add-mod', div-mul-add, div_below, mod-mul-add, mod_below}
+use Rattle.std.proofs.Math.Bool.{and-false}
 use Rattle.ps_model.specs.declared.limits.TheConstants.{SIDE_LIMIT}
 use Rattle.ps_model.specs.board.Grid.{Grid, IsGrid}
 use Rattle.ps_model.specs.board.Places.{fits_along, places, search_order}
@@ -209,17 +210,14 @@ module _ (g : Grid) (table : Option (List ℕ)) (axis : Axis) (part : List Compi
         let off : begins n ≡ false =
         ap (λ (b : Bool). nat_lt n (length g.cells) && (b && column_at (columns_on starts (n % g.height))
         (n / g.height))) out
-        ∙ and_no (nat_lt n (length g.cells)) in
+        ∙ and-false (nat_lt n (length g.cells)) in
         place_is n low ∙ ap (λ (b : Bool).
         cond b (cells_from (step_along axis g.height) n (length (part_meaning table part)) ∷ []) []) off
     | inr high ↦
         from_is g axis (part_meaning table part) n
         ∙ ap (λ (b : Bool). cond b (cells_from (step_along axis g.height) n (length (part_meaning table part)) ∷ []) [])
         (begins_beyond g axis (part_meaning table part) n some_meant high)
-  ] where
-    and_no : (b : Bool) → (b && false) ≡ false
-    and_no true = refl
-    and_no false = refl
+  ]
 
   pub no_places : set_columns rows ≡ [] → places g (direction_of axis) (part_meaning table part ∷ []) ≡ []
   no_places none = flat_map-none (places_from g (direction_of axis) (part_meaning table part))

@@ -1,6 +1,6 @@
 -- The cells of the places of a row of two parts that have one number in the row: they are those that lie so many
 -- steps behind each beginning of the part that they are of, where it has a partner.
-use Rattle.std.proofs.Common.{◌≡◌, ◌∙◌, ℕ, zero, suc, ◌+◌, ◌-◌, ◌*◌, ◌<◌, ◌≤◌, ◌&&◌, ◌||◌, Bool, true, false, Option}
+use Rattle.std.proofs.Common.{◌≡◌, ◌∙◌, ℕ, zero, suc, ◌+◌, ◌-◌, ◌*◌, ◌<◌, ◌≤◌, ◌&&◌, Bool, true, false, Option}
 use Rattle.std.proofs.Common.{List, [], ◌∷◌, ◌++◌, length, map, refl, sym, ap, ap₂, arith}
 use Rattle.std.specs.Prelude.{nat_eq, nat_le, slice_index_or}
 use Rattle.std.specs.List.{flat_map, list_any, range_with_len}
@@ -9,10 +9,13 @@ use Rattle.std.proofs.lemmas.Bool.Decides.{nat_tests}
 use Rattle.std.proofs.lemmas.List.{get_or_append_left, get_or-append-add, length-map}
 use Rattle.std.proofs.lemmas.List.FromFn.{length-map-range_with_len, get_or-map-range_with_len}
 use Rattle.std.proofs.lemmas.Nat.{div-add-mod', div-mul-add, mod-mul-add, div_below, mod_below}
+use Rattle.std.proofs.Math.Bool.{and_comm, or-false}
 use Rattle.ps_model.specs.declared.limits.TheConstants.{SIDE_LIMIT}
 use Rattle.ps_model.specs.board.Grid.{Grid, IsGrid}
 use Rattle.ps_model.specs.board.Places.{places}
 use Rattle.ps_model.specs.meaning.RuleMeanings.{CellMeaning}
+use Rattle.ps_laws.proofs.common.Truths.{same_tests}
+use Rattle.ps_laws.proofs.common.Lists.{any-flat_map, any-map}
 use Rattle.ps_board.specs.ColumnSets.{columns_where}
 use Rattle.ps_program.specs.Axes.{direction_of}
 use Rattle.ps_program.specs.declared.cells.CompiledCell.{CompiledCell}
@@ -27,12 +30,8 @@ use Rattle.ps_places.proofs.LinePlaces.{places-by_line, places_along}
 use Rattle.ps_places.proofs.LineWays.{cells_of_way, fits_from_position}
 use Rattle.ps_places.specs.PartTargets.{is_reached, is_target, has_partner, line_of, number_in_row, own_part}
 use Rattle.ps_places.specs.PartTargets.{position_of}
-use Rattle.ps_places.proofs.AnyOf.{any-alike, any-both, any-flat_map, any-found, any-here, any-map, any-positions}
-use Rattle.ps_places.proofs.AnyOf.{any-swap, same_tests}
-
--- all positions there may be
-abbrev all : List ℕ
-all = range_with_len 0 SIDE_LIMIT
+use Rattle.ps_places.proofs.AnyOf.{any-alike, any-both, any-found, any-here, any-positions, all}
+use Rattle.ps_places.proofs.AnyOf.{any-swap}
 
 -- tests joined in another order
 first_kept : (t p e le : Bool) → le ≡ true → (t && (le && (p && e))) ≡ (e && (t && p))
@@ -105,12 +104,9 @@ any_way hit t u n1 n2 =
     ∙ any-flat_map (λ way. hit (p ∷ way)) (λ q. map (λ way. q ∷ way) ([] ∷ [])) (positions_from (columns_where u)
     (p + n1))
     ∙ any-alike (λ q. list_any (λ way. hit (p ∷ way)) (map (λ way. q ∷ way) ([] ∷ []))) (λ q. hit (p ∷ q ∷ []))
-    (positions_from (columns_where u) (p + n1)) (λ q. or_none (hit (p ∷ q ∷ [])))
+    (positions_from (columns_where u) (p + n1)) (λ q. or-false (hit (p ∷ q ∷ [])))
     ∙ any-positions (λ q. hit (p ∷ q ∷ [])) u (p + n1))
-    ∙ any-positions (λ p. list_any (λ q. u q && (nat_le (p + n1) q && hit (p ∷ q ∷ []))) all) t 0 where
-      or_none : (b : Bool) → (b || false) ≡ b
-      or_none true = refl
-      or_none false = refl
+    ∙ any-positions (λ p. list_any (λ q. u q && (nat_le (p + n1) q && hit (p ∷ q ∷ []))) all) t 0
 
 -- where that is said of the first part's position alone, or of the second part's
 any_first : (hit : List ℕ → Bool) (e t u : ℕ → Bool) (n1 n2 : ℕ) → ((p q : ℕ) → hit (p ∷ q ∷ []) ≡ e p) →
@@ -125,13 +121,8 @@ any_first hit e t u n1 n2 says =
     (any-alike (λ q. u q && (nat_le (p + n1) q && hit (p ∷ q ∷ []))) (λ q. e p && (nat_le (p + n1) q && u q)) all
     (λ q. ap (λ (b : Bool). u q && (nat_le (p + n1) q && b)) (says p q) ∙ turned (u q) (nat_le (p + n1) q) (e p))
     ∙ any-both (e p) (λ q. nat_le (p + n1) q && u q) all)
-    ∙ ap (λ (b : Bool). t p && (nat_le 0 p && b)) (swapped (e p) (list_any (λ q. nat_le (p + n1) q && u q) all))
-    ∙ first_kept (t p) (list_any (λ q. nat_le (p + n1) q && u q) all) (e p) (nat_le 0 p) (from_start p)) where
-      swapped : (a b : Bool) → (a && b) ≡ (b && a)
-      swapped true true = refl
-      swapped true false = refl
-      swapped false true = refl
-      swapped false false = refl
+    ∙ ap (λ (b : Bool). t p && (nat_le 0 p && b)) (and_comm (e p) (list_any (λ q. nat_le (p + n1) q && u q) all))
+    ∙ first_kept (t p) (list_any (λ q. nat_le (p + n1) q && u q) all) (e p) (nat_le 0 p) (from_start p))
 
 any_second : (hit : List ℕ → Bool) (e t u : ℕ → Bool) (n1 n2 : ℕ) → ((p q : ℕ) → hit (p ∷ q ∷ []) ≡ e q) →
     list_any hit (ways_from (columns_where t ∷ columns_where u ∷ []) (n1 ∷ n2 ∷ []) 0)

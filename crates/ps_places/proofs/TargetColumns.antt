@@ -3,12 +3,13 @@ use Rattle.std.proofs.Common.{◌≡◌, ◌∙◌, ℕ, zero, suc, ◌+◌, ◌
 use Rattle.std.proofs.Common.{not, cond, Option, List, [], ◌∷◌, filter, length, refl, sym, ap, ap₂, arith}
 use Rattle.std.specs.Prelude.{nat_eq, nat_le, nat_lt, slice_index_or, slice_set}
 use Rattle.std.specs.List.{list_any, range_with_len}
-use Rattle.std.proofs.Math.Bool.{and-false}
-use Rattle.std.proofs.lemmas.Bool.{and_parts, cases_eq, cases_lt, le-ltb, lt-ltb}
+use Rattle.std.proofs.Math.Bool.{and-false, or-false, or_assoc}
+use Rattle.std.proofs.lemmas.Bool.{and_parts, cases_eq, cases_lt, le-ltb, lt-ltb, not-true}
 use Rattle.std.proofs.lemmas.Bool.Decides.{nat_tests}
 use Rattle.std.proofs.lemmas.List.{get_or-set_same, get_or-set_other}
 use Rattle.ps_model.specs.declared.limits.TheConstants.{SIDE_LIMIT}
 use Rattle.ps_model.specs.board.Grid.{Grid}
+use Rattle.ps_laws.proofs.common.Truths.{same_tests}
 use Rattle.ps_board.specs.ColumnSets.{both_columns, column_at, columns_ahead, columns_behind, columns_below}
 use Rattle.ps_board.specs.ColumnSets.{columns_without, either_columns, no_columns, set_columns, with_column}
 use Rattle.ps_board.proofs.ColumnLaws.{column_at-beyond, column_at-where, first_in, none_in}
@@ -18,20 +19,12 @@ use Rattle.ps_program.specs.declared.rows.Axis.TheVariants.{Down}
 use Rattle.ps_places.specs.Candidates.{BeginsOnlyOn}
 use Rattle.ps_places.specs.PartTargets.{IsReach, IsRowKept, is_kept, is_paired, is_passed, is_within}
 use Rattle.ps_places.specs.Starts.{AreWhere, begins_down}
-use Rattle.ps_places.proofs.AnyOf.{any-found, any-here, same_tests}
+use Rattle.ps_places.proofs.AnyOf.{any-found, any-here, all}
 use Rattle.ps_places.proofs.FoundDown.{below_edge, room_by}
 use Rattle.ps_places.proofs.LineSets.{none_has, with_below, with_here, with_other}
 use Rattle.ps_places.proofs.RowsTogether.{le_true, true_le}
 
--- all columns there may be
-abbrev all : List ℕ
-all = range_with_len 0 SIDE_LIMIT
-
 -- reaching to the left ------------------------------------------------------------------------------------------------
-
-or_three : (a b c : Bool) → ((a || b) || c) ≡ (a || (b || c))
-or_three true b c = refl
-or_three false b c = refl
 
 any-join : (f : ℕ → Bool) (a n m k j : ℕ) → k ≡ n + m → j ≡ a + n →
     list_any f (range_with_len a k) ≡ (list_any f (range_with_len a n) || list_any f (range_with_len j m))
@@ -43,7 +36,7 @@ any-join f a (suc n) m k j e d =
     let more : k ≡ suc (n + m) = omega (arith, e) in
     ap (λ (c : ℕ). list_any f (range_with_len a c)) more
     ∙ ap (λ (b : Bool). f a || b) (any-join f (a + 1) n m (n + m) j refl (omega (arith, d)))
-    ∙ sym (or_three (f a) (list_any f (range_with_len (a + 1) n)) (list_any f (range_with_len j m)))
+    ∙ sym (or_assoc (f a) (list_any f (range_with_len (a + 1) n)) (list_any f (range_with_len j m)))
 
 none_within : (set : List Bool) (x steps : ℕ) → SIDE_LIMIT ≤ x →
     list_any (is_within set) (range_with_len x steps) ≡ false
@@ -70,6 +63,18 @@ reach-more reach behind more steps b e set is =
             ∙ column_at-beyond (λ y. column_at reach y || column_at behind y) x far
             ∙ sym (none_within set x (steps + steps) far)
       ];
+    }
+
+pub reach-far : (set reach : List Bool) (steps : ℕ) → SIDE_LIMIT ≤ steps → IsReach set reach steps →
+    IsReach set reach SIDE_LIMIT
+reach-far set reach steps far is =
+    record {
+      at = λ x.
+          is.at x
+          ∙ any-join (is_within set) x SIDE_LIMIT (steps - SIDE_LIMIT) steps (x + SIDE_LIMIT) (omega (arith, far)) refl
+          ∙ ap (λ (b : Bool). list_any (is_within set) (range_with_len x SIDE_LIMIT) || b)
+          (none_within set (x + SIDE_LIMIT) (steps - SIDE_LIMIT) (omega arith))
+          ∙ or-false (list_any (is_within set) (range_with_len x SIDE_LIMIT));
     }
 
 once : (a b : Bool) → (a && b) ≡ ((b && a) || false)
@@ -261,17 +266,14 @@ some_by rows old row other columns empty low room some before is = elim (cases_e
       (not empty))) (sym same) ∙ is in
       let read : slice_index_or (slice_set old row columns) other [] ≡ columns =
       ap (λ (k : ℕ). slice_index_or (slice_set old row columns) k []) same ∙ get_or-set_same old row columns [] room in
-      rw read (some (by empty yes))
+      rw read (some (not-true empty yes))
   | inr apart ↦ elim (cases_lt other SIDE_LIMIT) [
     | inl near ↦ rw (get_or-set_other old row other columns [] apart) (before (sym (with_other rows row other
         (not empty) near apart) ∙ is))
     | inr far ↦ let clash : false ≡ true = sym (column_at-beyond (λ y. cond (nat_eq y row) (not empty)
         (column_at rows y)) other far) ∙ is in absurd (cc)
   ]
-] where
-  by : (b : Bool) → not b ≡ true → b ≡ false
-  by true e = absurd (cc)
-  by false e = refl
+]
 
 pub row-kept : (rows : List Bool) (old : List (List Bool)) (row : ℕ) (columns more : List Bool) (new : List
     (List Bool)) (empty : Bool) →

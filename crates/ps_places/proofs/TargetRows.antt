@@ -2,15 +2,16 @@
 use Rattle.std.proofs.Common.{◌≡◌, ◌≢◌, ◌∙◌, ℕ, ◌+◌, ◌-◌, ◌<◌, ◌≤◌, ◌||◌, ◌&&◌, ◌⊎◌, inl, inr, Bool, true, false}
 use Rattle.std.proofs.Common.{Option, List, [], length, refl, sym, ap, ap₂, arith}
 use Rattle.std.specs.Prelude.{nat_eq, nat_le, nat_lt, slice_index_or}
-use Rattle.std.specs.List.{list_any, range_with_len}
-use Rattle.std.proofs.Math.Bool.{and-false}
+use Rattle.std.specs.List.{list_any}
+use Rattle.std.proofs.Math.Bool.{and-false, or-false}
 use Rattle.std.proofs.lemmas.Bool.{cases_eq, cases_lt, eq-eqb, le-ltb, lt-ltb, ne_eqb}
 use Rattle.std.proofs.lemmas.Bool.Decides.{nat_tests}
 use Rattle.ps_model.specs.declared.limits.TheConstants.{SIDE_LIMIT}
 use Rattle.ps_model.specs.board.Grid.{Grid, IsGrid}
+use Rattle.ps_laws.proofs.common.Truths.{same_tests}
 use Rattle.ps_board.specs.ColumnSets.{both_columns, column_at, either_columns, no_columns}
 use Rattle.ps_board.proofs.ColumnLaws.{column_at-where}
-use Rattle.ps_match.proofs.Chosen.{any_agree, any_none, any_one, or_nothing}
+use Rattle.ps_match.proofs.Chosen.{any_agree, any_none, any_one}
 use Rattle.ps_match.proofs.RowWritten.{lt_next}
 use Rattle.ps_program.specs.declared.cells.CompiledCell.{CompiledCell}
 use Rattle.ps_program.specs.declared.rows.Axis.{Axis}
@@ -21,15 +22,11 @@ use Rattle.ps_places.specs.Lines.{part_fits}
 use Rattle.ps_places.specs.PartTargets.{AreKept, AreTargets, IsRowKept, IsRowOfTargets, has_partner, is_apart}
 use Rattle.ps_places.specs.PartTargets.{is_kept, is_paired, is_target, other_part, own_part, target_at}
 use Rattle.ps_places.specs.Starts.{AreWhere, begins_down}
-use Rattle.ps_places.proofs.AnyOf.{any-alike, any-either, same_tests}
+use Rattle.ps_places.proofs.AnyOf.{any-alike, any-either, all}
 use Rattle.ps_places.proofs.FoundAcross.{begins-are, nowhere_by}
 use Rattle.ps_places.proofs.FoundDown.{below_edge}
 use Rattle.ps_places.proofs.LineSets.{none_has}
 use Rattle.ps_places.proofs.OnlyOn.{missing}
-
--- all positions there may be
-abbrev all : List ℕ
-all = range_with_len 0 SIDE_LIMIT
 
 -- nothing is kept yet -------------------------------------------------------------------------------------------------
 
@@ -204,7 +201,7 @@ one_above b size row k far = elim (cases_eq k (row - size)) [
       let apart : k + size ≢ row = λ e. other (let is : k ≡ row - size = omega (arith, e) in is) in
       ap (λ (t : Bool). t && b k) (lt_next (k + size) row apart)
       ∙ sym (ap (λ (t : Bool). (nat_lt (k + size) row && b k) || (t && b k)) (ne_eqb k (row - size) other)
-      ∙ or_nothing (nat_lt (k + size) row && b k))
+      ∙ or-false (nat_lt (k + size) row && b k))
 ]
 
 pub above-more : (g : Grid) (table : Option (List ℕ)) (first : List CompiledCell) (size row start : ℕ)
@@ -360,7 +357,7 @@ one_below b a k = elim (cases_eq k a) [
       ∙ sym (ap₂ (λ (s t : Bool). (s && b k) || (t && b k)) (le_past a k same) (eq-eqb k a same))
   | inr other ↦
       ap (λ (t : Bool). t && b k) (le_apart a k other)
-      ∙ sym (ap (λ (t : Bool). (nat_le (a + 1) k && b k) || (t && b k)) (ne_eqb k a other) ∙ or_nothing (nat_le
+      ∙ sym (ap (λ (t : Bool). (nat_le (a + 1) k && b k) || (t && b k)) (ne_eqb k a other) ∙ or-false (nat_le
       (a + 1) k && b k))
 ]
 

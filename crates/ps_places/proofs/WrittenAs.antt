@@ -9,15 +9,17 @@ use Rattle.std.specs.List.{list_any, range_with_len}
 use Rattle.std.proofs.lemmas.Bool.{cases_Bool, cases_lt}
 use Rattle.std.proofs.lemmas.List.FromFn.{length-map-range_with_len, get_or-map-range_with_len}
 use Rattle.std.proofs.lemmas.Option.{get_or_from_slice_get, slice_get-get_or, slice_get_past}
+use Rattle.std.proofs.Math.Bool.{or-false}
 use Rattle.ps_model.specs.declared.pieces.Slot.{Slot}
 use Rattle.ps_model.specs.board.Grid.{Grid, cell_at}
 use Rattle.ps_model.specs.board.Attempts.{Rewritten, rewritten_cell, same_cell}
 use Rattle.ps_model.specs.meaning.RuleMeanings.{CellMeaning}
+use Rattle.ps_laws.proofs.common.SameThings.{same_cell-own}
+use Rattle.ps_laws.proofs.common.Truths.{or_across}
 use Rattle.ps_match.specs.Together.{cell_where, changes_where, rewritten_where}
 use Rattle.ps_places.specs.WrittenTogether.{then_where}
-use Rattle.ps_match.proofs.Chosen.{or_across, any_agree, or_nothing, rewritten_of, where-none, where-one}
+use Rattle.ps_match.proofs.Chosen.{any_agree, rewritten_of, where-none, where-one}
 use Rattle.ps_match.proofs.RowWritten.{told}
-use Rattle.ps_places.proofs.WrittenToItself.{cell_itself}
 use Rattle.ps_places.proofs.Ranges.{map-range-agree}
 
 -- whether a cell has become another one
@@ -60,8 +62,8 @@ step_change : (g h : Grid) (first second : ℕ → List Slot) (made : List Slot 
 step_change g h first second made chosen n at step = elim (cases_Bool (chosen n)) [
   | inl now ↦
       let here : cell_at h n ≡ cell_at g n = at ∙ step.same now in
-      rw (now, step.written now, here, step.same now, cell_itself (cell_at g n)) refl
-  | inr not_now ↦ rw (not_now, step.left not_now) (sym (or_nothing (is_changed g first n)))
+      rw (now, step.written now, here, step.same now, same_cell-own (cell_at g n)) refl
+  | inr not_now ↦ rw (not_now, step.left not_now) (sym (or-false (is_changed g first n)))
 ]
 
 module _ (g : Grid) where
@@ -155,4 +157,4 @@ module _ (g : Grid) where
       sym (where-none g (λ cell. cell) (λ n. false) (λ n low. refl))
       ∙ ap (rewritten_of g (map (cell_at g) (range_with_len 0 (length g.cells))))
       (any_agree (λ n. false) (is_changed g (cell_at g)) 0 (length g.cells)
-      (λ n low high. sym (ap not (cell_itself (cell_at g n)))))
+      (λ n low high. sym (ap not (same_cell-own (cell_at g n)))))

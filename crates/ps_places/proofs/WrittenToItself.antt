@@ -4,18 +4,17 @@ use Rattle.std.proofs.Common.{filter, refl, sym, ap, ap₂}
 use Rattle.std.specs.Prelude.{not, slice_get, slice_set}
 use Rattle.std.specs.List.{list_all}
 use Rattle.std.proofs.Math.Bool.{or-false}
-use Rattle.std.proofs.lemmas.Bool.{and_parts, eq-eqb, not-false}
+use Rattle.std.proofs.lemmas.Bool.{and_parts, not-false}
 use Rattle.std.proofs.lemmas.List.{set-get_or}
 use Rattle.std.proofs.lemmas.Option.{get_or_from_slice_get}
 use Rattle.ps_model.specs.declared.pieces.Slot.{Slot}
-use Rattle.ps_model.specs.declared.pieces.Slot.TheVariants.{Bare, Holds}
 use Rattle.ps_model.specs.meaning.Compiled as model
 use Rattle.ps_model.specs.meaning.Compiled.{cell_written, mask_fits}
-use Rattle.ps_model.specs.meaning.Fitting.{motion_number}
 use Rattle.ps_model.specs.meaning.RuleMeanings.{CellMeaning}
 use Rattle.ps_model.specs.board.Grid.{Grid}
 use Rattle.ps_model.specs.board.Places.{fits_there}
-use Rattle.ps_model.specs.board.Attempts.{Rewritten, rewritten_cell, same_cell, same_slot}
+use Rattle.ps_model.specs.board.Attempts.{Rewritten, rewritten_cell, same_cell}
+use Rattle.ps_laws.proofs.common.SameThings.{same_cell-own}
 use Rattle.ps_board.specs.Runnable.{has_room_for}
 use Rattle.ps_program.specs.declared.cells.CompiledCell.{CompiledCell}
 use Rattle.ps_program.specs.ProgramShown.{cell_shown, mask_shown, write_shown}
@@ -23,16 +22,6 @@ use Rattle.ps_program.specs.Leaving.{is_listed, keeps_layer, leaves}
 use Rattle.ps_program.proofs.LeavingCells.{leaves-cell}
 use Rattle.ps_match.specs.InRoom.{cell_in_room, write_in_room}
 use Rattle.ps_places.specs.Lines.{cell_meaning}
-
--- a cell holds the same as itself
-slot_itself : (slot : Slot) → same_slot slot slot ≡ true
-slot_itself Bare = refl
-slot_itself (Holds object motion) =
-    rw (eq-eqb object.0 object.0 refl, eq-eqb (motion_number motion) (motion_number motion) refl) refl
-
-pub cell_itself : (cell : List Slot) → same_cell cell cell ≡ true
-cell_itself [] = refl
-cell_itself (slot ∷ slots) = rw (slot_itself slot) (cell_itself slots)
 
 -- a write that changes nothing that its cell fits still doesn't, without what has no room
 pub all_of_kept : {X : Type 0} (test keep : X → Bool) (xs : List X) → list_all test xs ≡ true →
@@ -81,7 +70,7 @@ kept_cell r m number (Some slots) is stays =
     ap (slice_set cells number) (sym (get_or_from_slice_get cells number slots slots is))
     ∙ set-get_or cells number slots in
     ap (λ (new : List Slot). with_change r (slice_set cells number new) (not (same_cell slots new))) (stays slots refl)
-    ∙ ap₂ (with_change r) put (ap not (cell_itself slots))
+    ∙ ap₂ (with_change r) put (ap not (same_cell-own slots))
     ∙ ap (λ (b : Bool). let again : Rewritten = record { grid = r.grid; changed = b } in again) (or-false r.changed)
 
 pub idle_cell : (r : Rewritten) (table : Option (List ℕ)) (cell : CompiledCell) (number : ℕ)

@@ -28,7 +28,8 @@ pub record IsPlaceOf (lines : List Bool) (starts : List (List Bool)) (parts : Li
 abbrev pub IsAmong : CompiledRow → RowRoom → Type 0
 IsAmong row room = IsPlaceOf room.lines room.starts.items row.parts room.line (way_of row room)
 
--- places are forgotten: the same one is chosen, and the same ones are behind it. Those that are left are the same for each kind of
+-- places are forgotten: the same one is chosen, and the same ones are behind it. Those that are left are the same for
+-- each kind of
 -- which the one that is chosen is the first.
 pub record HaveForgotten (height : ℕ) (row : CompiledRow) (old new : RowRoom) : Type 0 where
   pub at : place_at height row new ≡ place_at height row old

@@ -1,4 +1,5 @@
--- The places of a row of a rule, as what is kept of it tells: lines of the board, and on each of them a set of positions for each
+-- The places of a row of a rule, as what is kept of it tells: lines of the board, and on each of them a set of
+-- positions for each
 -- part.
 use Rattle.std.specs.Prelude.{ℕ, ◌+◌, ◌*◌, Bool, Option, List, [], ◌∷◌, ◌++◌, map, take, drop, length}
 use Rattle.std.specs.List.{flat_map}
@@ -35,12 +36,14 @@ sets_on starts count line = take count (drop (line * count) starts)
 abbrev pub way_cells : Axis → ℕ → ℕ → List ℕ → List ℕ → List ℕ
 way_cells axis height line [] way = []
 way_cells axis height line (size ∷ sizes) [] = []
-way_cells axis height line (size ∷ sizes) (position ∷ way) = line_cells axis height line position size ++ way_cells axis height line sizes way
+way_cells axis height line (size ∷ sizes) (position ∷ way) =
+    line_cells axis height line position size ++ way_cells axis height line sizes way
 
 -- the places of parts on a line, and on each of some lines
 abbrev pub places_on : Axis → ℕ → List (List CompiledCell) → List (List Bool) → ℕ → List (List ℕ)
 places_on axis height parts starts line =
-    map (way_cells axis height line (part_sizes parts)) (ways_from (sets_on starts (length parts) line) (part_sizes parts) 0)
+    map (way_cells axis height line (part_sizes parts))
+    (ways_from (sets_on starts (length parts) line) (part_sizes parts) 0)
 
 abbrev pub places_on_lines : Axis → ℕ → List (List CompiledCell) → List (List Bool) → List ℕ → List (List ℕ)
 places_on_lines axis height parts starts lines = flat_map (places_on axis height parts starts) lines

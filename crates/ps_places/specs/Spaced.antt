@@ -4,7 +4,8 @@ use Rattle.ps_program.specs.declared.rows.CompiledRow.{CompiledRow}
 use Rattle.ps_places.specs.declared.room.RowRoom.{RowRoom}
 use Rattle.ps_places.specs.RowPlaces.{part_sizes, way_of}
 
--- the first of parts of these sizes begins at a position or behind it, and each other one at the end of the part before it or
+-- the first of parts of these sizes begins at a position or behind it, and each other one at the end of the part before
+-- it or
 -- behind that
 abbrev pub IsSpaced : List ℕ → ℕ → List ℕ → Type 0
 IsSpaced [] from way = ⊤

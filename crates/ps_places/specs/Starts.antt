@@ -15,7 +15,8 @@ pub record AreWhere (holds : ℕ → Bool) (columns : List Bool) : Type 0 where
 
 -- a part that goes down begins in a column on a row of the board, and has room there to the lower edge
 abbrev pub begins_down : Grid → Option (List ℕ) → List CompiledCell → ℕ → ℕ → Bool
-begins_down g table part row x = nat_lt x g.width && (nat_le (row + length part) g.height && part_fits g table Down x part row)
+begins_down g table part row x =
+    nat_lt x g.width && (nat_le (row + length part) g.height && part_fits g table Down x part row)
 
 -- the lines of a row's room are lines of the board, and so is that of its place
 pub record HasLinesOf (g : Grid) (row : CompiledRow) (room : RowRoom) : Type 0 where

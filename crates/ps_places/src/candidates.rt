@@ -4,7 +4,7 @@ ghost use Rattle.std.specs.Prelude.{◌≡◌, ◌<◌, false, true};
 ghost use Rattle.ps_places.specs.Candidates.{BeginsOnlyOn, FitsOnlyOn};
 ghost use Rattle.ps_places.specs.CellCandidates.{HasCellOnlyOn};
 
-use ps_match::{Columns, Scan};
+use ps_match::{Columns, Scan, recall_shape};
 use ps_model::SIDE_LIMIT;
 use ps_program::{Axis, CellMask, CompiledCell};
 
@@ -13,7 +13,7 @@ use ps_program::{Axis, CellMask, CompiledCell};
 pub fn rows_of_mask<B: Scan>(board: &B, mask: &CellMask) -> Columns
     ensures { FitsOnlyOn (B.grid board.now) mask.now result }
 {
-    let (_width, _height) = board.size();
+    recall_shape(board);
     let mut rows = Columns::below(SIDE_LIMIT);
     for object in mask.needed.as_slice() {
         let having = board.rows_with(object);
@@ -34,7 +34,7 @@ pub fn rows_of_mask<B: Scan>(board: &B, mask: &CellMask) -> Columns
 fn rows_of_cell<B: Scan>(board: &B, axis: Axis, mask: &CellMask, steps: u32) -> Columns
     ensures { HasCellOnlyOn (B.grid board.now) mask.now axis steps result }
 {
-    let (_width, _height) = board.size();
+    recall_shape(board);
     let rows = rows_of_mask(board, mask);
     match axis {
         Axis::Down => rows.behind(steps),
@@ -46,7 +46,7 @@ fn rows_of_cell<B: Scan>(board: &B, axis: Axis, mask: &CellMask, steps: u32) -> 
 pub fn rows_of_part<B: Scan>(board: &B, axis: Axis, part: &[CompiledCell]) -> Columns
     ensures { BeginsOnlyOn (B.grid board.now) (B.table board.now) axis part.now result }
 {
-    let (_width, _height) = board.size();
+    recall_shape(board);
     let mut rows = Columns::below(SIDE_LIMIT);
     let mut steps = 0;
     for cell in part {

@@ -18,7 +18,7 @@ ghost use Rattle.ps_places.specs.Ways.{from_first, positions_from};
 use crate::parts::{behind_position, part_fits, rewrite_fitting_part, rewrite_part};
 use crate::room::RowRoom;
 use crate::ways::{first_way, next_way};
-use ps_match::{Columns, Scan};
+use ps_match::{Columns, Scan, recall_shape};
 use ps_program::CompiledRow;
 
 /// Finds the first place at which a row fits, on its lines from one on, and answers the line; the way there is put
@@ -92,7 +92,7 @@ fn seek_on<B: Scan>(
     ensures spaced { let sizes = part_sizes row.now.parts in
         IsSpaced sizes 0 way.old → IfSome result (λ _next. IsSpaced sizes 0 way.new) }
 {
-    let (_width, _height) = board.size();
+    recall_shape(board);
     let parts = row.parts.as_slice();
     let count = parts.len();
     let at = line as usize * count;
@@ -230,7 +230,7 @@ impl RowRoom {
         ensures table { B.table board.new ≡ B.table board.old }
         ensures sides { sides_of (B.grid board.new) ≡ sides_of (B.grid board.old) }
     {
-        let (_width, _height) = board.size();
+        recall_shape(board);
         let parts = row.parts.as_slice();
         let mut any = changed;
         for number in 0..parts.len() {

@@ -5,7 +5,7 @@ ghost use Rattle.ps_program.specs.declared.rows.Axis.TheVariants.{Right};
 ghost use Rattle.ps_places.specs.Lines.{part_fits};
 ghost use Rattle.ps_places.specs.Starts.{AreWhere, begins_down};
 
-use ps_match::{Columns, Scan};
+use ps_match::{Columns, Scan, recall_shape};
 use ps_model::SIDE_LIMIT;
 use ps_program::CompiledCell;
 
@@ -14,7 +14,7 @@ pub fn columns_across<B: Scan>(board: &B, part: &[CompiledCell], row: u32) -> Co
     requires { row < (B.grid board.now).height }
     ensures { AreWhere (part_fits (B.grid board.now) (B.table board.now) Right row part.now) result }
 {
-    let (_width, _height) = board.size();
+    recall_shape(board);
     let mut columns = Columns::below(SIDE_LIMIT);
     let mut steps = 0;
     for cell in part {

@@ -13,7 +13,7 @@ ghost use Rattle.ps_places.specs.Starts.{AreWhere};
 use crate::candidates::rows_of_part;
 use crate::columns::{columns_across, columns_down};
 use crate::room::RowRoom;
-use ps_match::{Columns, Scan};
+use ps_match::{Columns, Scan, recall_shape};
 use ps_program::{Axis, CompiledCell};
 
 /// The columns of a row of the board in which a part begins.
@@ -61,7 +61,7 @@ impl RowRoom {
         ensures some { let meant = part_meaning (B.table board.now) part.now in
             0 < length (set_columns result) → places (B.grid board.now) (direction_of axis) (meant ∷ []) ≢ [] }
     {
-        let (_width, _height) = board.size();
+        recall_shape(board);
         find_rows(board, axis, part, self.starts.as_mut_slice())
     }
 }

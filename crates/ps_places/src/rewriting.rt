@@ -13,7 +13,7 @@ ghost use Rattle.ps_places.specs.PartStarts.{AreStarts};
 ghost use Rattle.ps_places.specs.WrittenTogether.{cell_changed, cells_changed, row_at};
 
 use crate::room::RowRoom;
-use ps_match::{Columns, Scan};
+use ps_match::{Columns, Scan, recall_shape};
 use ps_program::{Axis, CompiledCell};
 
 /// Rewrites one cell of a part, so many steps behind the first one, of all places that begin in some columns of a row
@@ -34,7 +34,7 @@ fn rewrite_cell<B: Scan>(
     ensures table { B.table board.new ≡ B.table board.old }
     ensures sides { sides_of (B.grid board.new) ≡ sides_of (B.grid board.old) }
 {
-    let (_width, _height) = board.size();
+    recall_shape(board);
     if !cell.changes {
         return changed;
     }
@@ -91,7 +91,7 @@ fn rewrite_rows<B: Scan>(
     ensures table { B.table board.new ≡ B.table board.old }
     ensures sides { sides_of (B.grid board.new) ≡ sides_of (B.grid board.old) }
 {
-    let (_width, _height) = board.size();
+    recall_shape(board);
     let mut changed = false;
     let mut left = rows;
     while let Some(row) = left.take_first() {

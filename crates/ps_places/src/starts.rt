@@ -15,7 +15,7 @@ ghost use Rattle.ps_places.specs.Starts.{HasLinesOf};
 use crate::candidates::rows_of_part;
 use crate::columns::{columns_across, columns_down};
 use crate::room::RowRoom;
-use ps_match::{Columns, Scan};
+use ps_match::{Columns, Scan, recall_shape};
 use ps_model::SIDE_LIMIT;
 use ps_program::{Axis, CompiledCell, CompiledRow};
 use ps_text::List;
@@ -24,7 +24,7 @@ use ps_text::List;
 fn rows_of_all<B: Scan>(board: &B, parts: &[List<CompiledCell>]) -> Columns
     ensures { HaveWaysOnlyOn (B.grid board.now) (B.table board.now) Right parts.now result }
 {
-    let (_width, _height) = board.size();
+    recall_shape(board);
     let mut rows = Columns::below(SIDE_LIMIT);
     for part in parts {
         if rows.is_empty() {
@@ -50,7 +50,7 @@ fn find_on_row<B: Scan>(
     ensures none { result ≡ false → HasNoWay (B.grid board.now) (B.table board.now) Right parts.now row }
     ensures long { length sets.new ≡ length sets.old }
 {
-    let (_width, _height) = board.size();
+    recall_shape(board);
     for number in 0..parts.len() {
         let columns = columns_across(board, parts[number].as_slice(), row);
         if columns.is_empty() {
@@ -193,7 +193,7 @@ pub fn find_starts<B: Scan>(board: &B, row: &CompiledRow, room: &mut RowRoom)
         all ≡ all_places (B.grid board.now).height row.now room.new }
     ensures lines { HasLinesOf (B.grid board.now) row.now room.new }
 {
-    let (_width, _height) = board.size();
+    recall_shape(board);
     let parts = row.parts.as_slice();
     room.lines = find_lines(board, row.axis, parts, room.starts.as_mut_slice());
 }

@@ -13,7 +13,7 @@ ghost use Rattle.ps_places.specs.Starts.{AreWhere, begins_down};
 use crate::candidates::rows_of_part;
 use crate::columns::{columns_across, columns_down};
 use crate::room::RowRoom;
-use ps_match::{Columns, Scan};
+use ps_match::{Columns, Scan, recall_shape};
 use ps_model::SIDE_LIMIT;
 use ps_program::{Axis, CompiledCell, CompiledRow};
 
@@ -29,13 +29,13 @@ fn reach_twice(reach: Columns, steps: u32) -> Columns
 fn up_to(set: Columns) -> Columns
     ensures { IsReach set result SIDE_LIMIT }
 {
-    let one = set.both(Columns::below(SIDE_LIMIT));
-    let two = reach_twice(one, 1);
-    let four = reach_twice(two, 2);
-    let eight = reach_twice(four, 4);
-    let sixteen = reach_twice(eight, 8);
-    let half = reach_twice(sixteen, 16);
-    reach_twice(half, 32)
+    let mut reach = set.both(Columns::below(SIDE_LIMIT));
+    let mut steps = 1;
+    while steps < SIDE_LIMIT {
+        reach = reach_twice(reach, steps);
+        steps += steps;
+    }
+    reach
 }
 
 /// The columns of a set, and all to the right of one of them.
@@ -197,7 +197,7 @@ impl RowRoom {
             AreTargets grid (B.table board.now) row.now.axis leads (part_of parts 0) (part_of parts 1) result
             self.new.starts.items }
     {
-        let (_width, _height) = board.size();
+        recall_shape(board);
         let parts = row.parts.as_slice();
         let first = parts[0].as_slice();
         let second = parts[1].as_slice();

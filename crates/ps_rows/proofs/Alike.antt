@@ -1,26 +1,30 @@
 -- Two boards of the same size for the same game show the same where their planes have the same cells.
-use Rattle.std.proofs.Common.{◌≡◌, ℕ, zero, suc, ◌+◌, ◌-◌, ◌*◌, ◌/◌, ◌%◌, ◌^◌, ◌<◌, ◌≤◌, inl, inr, Bool, true, false, ◌&&◌, Option, Some, None, List, [], ◌∷◌, get_or, refl, sym, ap, ap₂, ◌∙◌, arith, bit_and, bit_xor}
+use Rattle.std.proofs.Common.{◌≡◌, ℕ, ◌+◌, ◌-◌, ◌*◌, ◌/◌, ◌%◌, ◌^◌, ◌<◌, ◌≤◌, inl, inr, Bool, true, false, ◌&&◌, Option}
+use Rattle.std.proofs.Common.{Some, None, List, [], ◌∷◌, get_or, refl, sym, ap, ap₂, ◌∙◌, arith, bit_and, bit_xor}
 use Rattle.std.specs.Prelude.{nat_eq, nat_lt, slice_get, option_map}
 use Rattle.std.specs.List.{list_any}
 use Rattle.std.specs.Int.{bit_at}
-use Rattle.std.proofs.lemmas.Bool.{cases_eq, cases_lt, cases_Bool, eqb-true, eq-eqb, and_parts, false≢true, lt-ltb, le-ltb}
+use Rattle.std.proofs.lemmas.Bool.{cases_eq, cases_lt, cases_Bool, and_parts, false≢true, lt-ltb, le-ltb}
 use Rattle.std.proofs.lemmas.Nat.{mul-add-lt, div-mul-add, mod-mul-add, mod_below, div_below}
 use Rattle.std.proofs.lemmas.Nat.Bits.{same_from_bits, bit_at_xor, bit_at-zero}
+use Rattle.std.proofs.Math.Bool.{and-true, and-false}
 use Rattle.ps_model.specs.declared.pieces.ObjectId.{ObjectId}
 use Rattle.ps_model.specs.declared.pieces.Direction.TheVariants.{Up, Down, Left, Right}
 use Rattle.ps_model.specs.declared.pieces.Motion.{Motion}
-use Rattle.ps_model.specs.declared.pieces.Motion.TheVariants.{Still, Going, Acting}
+use Rattle.ps_model.specs.declared.pieces.Motion.TheVariants.{Going, Acting}
 use Rattle.ps_model.specs.declared.pieces.Slot.{Slot}
 use Rattle.ps_model.specs.declared.pieces.Slot.TheVariants.{Bare, Holds}
 use Rattle.ps_model.specs.board.Attempts.{same_slot, same_cell}
 use Rattle.ps_model.specs.board.Grid.{motion_in, object_in, slot_of}
 use Rattle.ps_model.specs.board.Movement.{is_number}
 use Rattle.ps_model.specs.board.Turns.{same_cells}
-use Rattle.ps_model.specs.meaning.Fitting.{same_motion, motion_number}
+use Rattle.ps_model.specs.meaning.Fitting.{same_motion}
 use Rattle.ps_model.specs.names.Names.{same_object}
+use Rattle.ps_laws.proofs.common.SameThings.{same_cell-own, same_motion-true, same_object-true}
 use Rattle.ps_rows.specs.Planes.{has_column, has_cell}
 use Rattle.ps_rows.specs.Members.{on_layer}
-use Rattle.ps_rows.specs.Showing.{numbered, motions_from, motion_plane, motion_planes, object_shown, motion_shown, slot_shown, cell_shown, cells_shown, AreObjectsShown, AreMotionsShown}
+use Rattle.ps_rows.specs.Showing.{numbered, motions_from, motion_plane, motion_planes, object_shown, motion_shown}
+use Rattle.ps_rows.specs.Showing.{slot_shown, cell_shown, cells_shown, AreObjectsShown, AreMotionsShown}
 use Rattle.ps_rows.specs.Sameness.{AreSameRows, IsSamePlane, AreSamePlanes, IsSameLayer}
 use Rattle.ps_rows.proofs.Bits.{has_column-zero}
 use Rattle.ps_rows.proofs.Scans.{bit_cases, has_column-and, has_column-width}
@@ -30,7 +34,7 @@ use Rattle.ps_rows.proofs.Moves.{five_true, five_false, five_high, first_motion-
 use Rattle.ps_rows.proofs.Rests.{slot_read}
 use Rattle.ps_rows.proofs.Tables.{tabled_same}
 
--- rows -------------------------------------------------------------------------------------------------------------------
+-- rows ----------------------------------------------------------------------------------------------------------------
 
 column_off : (word x : ℕ) → bit_at word x ≡ 0 → has_column word x ≡ false
 unfolding has_column
@@ -68,19 +72,12 @@ not_differ a b x none = elim (bit_cases a x) [
   ]
 ]
 
-and_true : (b : Bool) → (b && true) ≡ b
-and_true true = refl
-and_true false = refl
-
-and_false : (b : Bool) → (b && false) ≡ false
-and_false true = refl
-and_false false = refl
-
 -- the bits in which two words differ, of so many columns
 abbrev pub differing : ℕ → ℕ → ℕ → ℕ
 differing width a b = bit_and (bit_xor a b) (18446744073709551615 / 2 ^ (64 - width))
 
-differing_at : (width a b x : ℕ) → 0 < width → width ≤ 64 → has_column (differing width a b) x ≡ (has_column (bit_xor a b) x && nat_lt x width)
+differing_at : (width a b x : ℕ) → 0 < width → width ≤ 64 →
+    has_column (differing width a b) x ≡ (has_column (bit_xor a b) x && nat_lt x width)
 differing_at width a b x some narrow =
     has_column-and (bit_xor a b) (18446744073709551615 / 2 ^ (64 - width)) x
     ∙ ap (λ (low : Bool). has_column (bit_xor a b) x && low) (has_column-width width x some narrow)
@@ -88,39 +85,48 @@ differing_at width a b x some narrow =
 pub rows_same : (width a b : ℕ) → 0 < width → width ≤ 64 → differing width a b ≡ 0 → AreSameRows width a b
 rows_same width a b some narrow none = λ x h.
     not_differ a b x
-    (sym (and_true (has_column (bit_xor a b) x))
+    (sym (and-true (has_column (bit_xor a b) x))
     ∙ ap (λ (low : Bool). has_column (bit_xor a b) x && low) (sym (lt-ltb x width h))
     ∙ sym (differing_at width a b x some narrow)
     ∙ ap (λ (word : ℕ). has_column word x) none
     ∙ has_column-zero x)
 
-no_difference : (width a b : ℕ) → 0 < width → width ≤ 64 → AreSameRows width a b → (x : ℕ) → has_column (differing width a b) x ≡ false
+no_difference : (width a b : ℕ) → 0 < width → width ≤ 64 → AreSameRows width a b → (x : ℕ) →
+    has_column (differing width a b) x ≡ false
 no_difference width a b some narrow same x = elim (cases_lt x width) [
-  | inl h ↦ differing_at width a b x some narrow ∙ ap (λ (differ : Bool). differ && nat_lt x width) (differ_not a b x (same x h))
-  | inr h ↦ differing_at width a b x some narrow ∙ ap (λ (low : Bool). has_column (bit_xor a b) x && low) (le-ltb x width h) ∙ and_false (has_column (bit_xor a b) x)
+  | inl h ↦ differing_at width a b x some narrow ∙ ap (λ (differ : Bool). differ && nat_lt x width)
+    (differ_not a b x (same x h))
+  | inr h ↦ differing_at width a b x some narrow ∙ ap (λ (low : Bool). has_column (bit_xor a b) x && low)
+    (le-ltb x width h) ∙ and-false (has_column (bit_xor a b) x)
 ]
 
 pub same_rows : (width a b : ℕ) → 0 < width → width ≤ 64 → AreSameRows width a b → differing width a b ≡ 0
 same_rows width a b some narrow same =
-    same_from_bits (differing width a b) 0 (λ x. bit_off (differing width a b) x (no_difference width a b some narrow same x) ∙ sym (bit_at-zero x))
+    same_from_bits (differing width a b) 0
+    (λ x. bit_off (differing width a b) x (no_difference width a b some narrow same x) ∙ sym (bit_at-zero x))
 
--- planes -----------------------------------------------------------------------------------------------------------------
+-- planes --------------------------------------------------------------------------------------------------------------
 
 -- cells of planes that are the same
-cell_of_plane : (width height : ℕ) (first second : List ℕ) (plane cell : ℕ) → 0 < height → cell < width * height → IsSamePlane width height first second plane →
+cell_of_plane : (width height : ℕ) (first second : List ℕ) (plane cell : ℕ) → 0 < height → cell < width * height →
+    IsSamePlane width height first second plane →
     has_cell height first cell plane ≡ has_cell height second cell plane
 unfolding has_cell
-cell_of_plane width height first second plane cell some inside same = same (cell % height) (mod_below cell height some) (cell / height) (div_below cell height width some inside)
+cell_of_plane width height first second plane cell some inside same =
+    same (cell % height) (mod_below cell height some) (cell / height) (div_below cell height width some inside)
 
-pub column_read : (height : ℕ) (words : List ℕ) (row plane x : ℕ) → row < height → has_column (get_or words (plane * height + row) 0) x ≡ has_cell height words (x * height + row) plane
+pub column_read : (height : ℕ) (words : List ℕ) (row plane x : ℕ) → row < height →
+    has_column (get_or words (plane * height + row) 0) x ≡ has_cell height words (x * height + row) plane
 unfolding has_cell
 column_read height words row plane x under = rw (mod-mul-add x height row under, div-mul-add x height row under) refl
 
-plane_of_cells : (width height : ℕ) (first second : List ℕ) (plane : ℕ) → ((cell : ℕ) → cell < width * height → has_cell height first cell plane ≡ has_cell height second cell plane) →
+plane_of_cells : (width height : ℕ) (first second : List ℕ) (plane : ℕ) →
+    ((cell : ℕ) → cell < width * height → has_cell height first cell plane ≡ has_cell height second cell plane) →
     IsSamePlane width height first second plane
 plane_of_cells width height first second plane same = λ row under x h.
     let place : x * height + row < height * width = mul-add-lt x height row width h under in
-    column_read height first row plane x under ∙ same (x * height + row) (omega arith) ∙ sym (column_read height second row plane x under)
+    column_read height first row plane x under ∙ same (x * height + row) (omega arith)
+    ∙ sym (column_read height second row plane x under)
 
 -- the five planes of motions
 five_in : (first q : ℕ) → first ≤ q → q < first + 5 → list_any (nat_eq q) (motion_planes first) ≡ true
@@ -154,104 +160,90 @@ five_motion first q low high = elim (cases_eq q first) [
 ]
 
 -- the words of another board of the same size for the same game are as many
-pub other_whole : (table table' : List ℕ) (layers layers' height height' long : ℕ) → table' ≡ table → layers' ≡ layers → height' ≡ height → long ≡ motions_from table' layers' * height' →
+pub other_whole : (table table' : List ℕ) (layers layers' height height' long : ℕ) → table' ≡ table → layers' ≡ layers →
+    height' ≡ height → long ≡ motions_from table' layers' * height' →
     long ≡ motions_from table layers * height
 other_whole table table' layers layers' height height' long a b c whole = whole ∙ rw (a, b, c) refl
 
 -- what another board of the same size for the same game keeps of its words
-pub other_objects : (table table' : List ℕ) (width width' height height' : ℕ) (words : List ℕ) → table' ≡ table → width' ≡ width → height' ≡ height →
+pub other_objects : (table table' : List ℕ) (width width' height height' : ℕ) (words : List ℕ) → table' ≡ table →
+    width' ≡ width → height' ≡ height →
     AreObjectsShown table' height' words (width' * height') → AreObjectsShown table height words (width * height)
 other_objects table table' width width' height height' words a b c shown = let turned = rw (a, b, c) at shown in turned
 
-pub other_motions : (table table' : List ℕ) (width width' height height' layers layers' : ℕ) (words : List ℕ) → table' ≡ table → width' ≡ width → height' ≡ height → layers' ≡ layers →
-    AreMotionsShown table' layers' height' words (width' * height') → AreMotionsShown table layers height words (width * height)
-other_motions table table' width width' height height' layers layers' words a b c d shown = let turned = rw (a, b, c, d) at shown in turned
+pub other_motions : (table table' : List ℕ) (width width' height height' layers layers' : ℕ) (words : List ℕ) →
+    table' ≡ table → width' ≡ width → height' ≡ height → layers' ≡ layers →
+    AreMotionsShown table' layers' height' words (width' * height') →
+    AreMotionsShown table layers height words (width * height)
+other_motions table table' width width' height height' layers layers' words a b c d shown = let turned =
+    rw (a, b, c, d) at shown in turned
 
--- layers -----------------------------------------------------------------------------------------------------------------
+-- layers --------------------------------------------------------------------------------------------------------------
 
-pub layer_same : (table : List ℕ) (width height : ℕ) (first second : List ℕ) (layer : ℕ) → 0 < height → AreSamePlanes width height first second (on_layer table layer) →
-    AreSamePlanes width height first second (motion_planes (motions_from table layer)) → IsSameLayer table width height first second layer
+pub layer_same : (table : List ℕ) (width height : ℕ) (first second : List ℕ) (layer : ℕ) → 0 < height →
+    AreSamePlanes width height first second (on_layer table layer) →
+    AreSamePlanes width height first second (motion_planes (motions_from table layer)) →
+    IsSameLayer table width height first second layer
 unfolding slot_shown object_shown motion_shown
 layer_same table width height first second layer some objects motions = λ cell inside.
     let object =
-    find_same (has_cell height first cell) (has_cell height second cell) (on_layer table layer) (λ p listed. cell_of_plane width height first second p cell some inside (objects p listed)) in
+    find_same (has_cell height first cell) (has_cell height second cell) (on_layer table layer)
+    (λ p listed. cell_of_plane width height first second p cell some inside (objects p listed)) in
     let motion =
     first_motion-same (has_cell height first cell) (has_cell height second cell) (motions_from table layer)
-    (λ q low high. cell_of_plane width height first second q cell some inside (motions q (five_in (motions_from table layer) q low high))) in
+    (λ q low high. cell_of_plane width height first second q cell some inside
+    (motions q (five_in (motions_from table layer) q low high))) in
     rw (object, motion) refl
 
 pub back : Option ObjectId → Option ℕ
 back None = None
 back (Some object) = Some object.0
 
-object_back : (object : Option ℕ) (motion : Motion) → back (object_in (slot_of (option_map numbered object) motion)) ≡ object
+object_back : (object : Option ℕ) (motion : Motion) → back (object_in (slot_of (option_map numbered object) motion))
+    ≡ object
 unfolding back
 object_back None motion = refl
 object_back (Some o) motion = refl
 
-pub slot_object : (table : List ℕ) (height : ℕ) (words : List ℕ) (cell layer : ℕ) → back (object_in (slot_shown table height words cell layer)) ≡ object_shown table height words cell layer
+pub slot_object : (table : List ℕ) (height : ℕ) (words : List ℕ) (cell layer : ℕ) →
+    back (object_in (slot_shown table height words cell layer)) ≡ object_shown table height words cell layer
 unfolding slot_shown
-slot_object table height words cell layer = object_back (object_shown table height words cell layer) (motion_shown table height words cell layer)
+slot_object table height words cell layer =
+    object_back (object_shown table height words cell layer) (motion_shown table height words cell layer)
 
-pub same_objects : (table : List ℕ) (width height : ℕ) (first second : List ℕ) (layer : ℕ) → AreObjectsShown table height first (width * height) → AreObjectsShown table height second (width * height) →
+pub same_objects : (table : List ℕ) (width height : ℕ) (first second : List ℕ) (layer : ℕ) →
+    AreObjectsShown table height first (width * height) → AreObjectsShown table height second (width * height) →
     IsSameLayer table width height first second layer → AreSamePlanes width height first second (on_layer table layer)
 same_objects table width height first second layer shown showing same = λ plane listed.
     let own : slice_get table plane ≡ Some layer = listed_member table layer plane listed in
     plane_of_cells width height first second plane (λ cell inside.
     shown cell plane layer inside own
     ∙ ap (λ (object : Option ℕ). is_number object plane)
-    (sym (slot_object table height first cell layer) ∙ ap (λ (slot : Slot). back (object_in slot)) (same cell inside) ∙ slot_object table height second cell layer)
+    (sym (slot_object table height first cell layer) ∙ ap (λ (slot : Slot). back (object_in slot)) (same cell inside)
+    ∙ slot_object table height second cell layer)
     ∙ sym (showing cell plane layer inside own))
 
 five_low : (first q : ℕ) → list_any (nat_eq q) (motion_planes first) ≡ true → first ≤ q
-five_low first q h = elim (cases_lt q first) [ inl a ↦ absurd (false≢true (sym (five_false first q (inl a)) ∙ h)) | inr b ↦ b ]
+five_low first q h = elim (cases_lt q first) [ inl a ↦ absurd (false≢true (sym (five_false first q (inl a)) ∙ h))
+    | inr b ↦ b ]
 
-pub same_moves : (table : List ℕ) (width height layers : ℕ) (first second : List ℕ) (layer : ℕ) → layer < layers → AreMotionsShown table layers height first (width * height) →
+pub same_moves : (table : List ℕ) (width height layers : ℕ) (first second : List ℕ) (layer : ℕ) → layer < layers →
+    AreMotionsShown table layers height first (width * height) →
     AreMotionsShown table layers height second (width * height) → IsSameLayer table width height first second layer →
     AreSamePlanes width height first second (motion_planes (motions_from table layer))
 same_moves table width height layers first second layer on shown showing same = λ plane listed.
-    let found = five_motion (motions_from table layer) plane (five_low (motions_from table layer) plane listed) (five_high (motions_from table layer) plane listed) in
+    let found = five_motion (motions_from table layer) plane (five_low (motions_from table layer) plane listed)
+    (five_high (motions_from table layer) plane listed) in
     plane_of_cells width height first second plane (λ cell inside.
     shown cell layer found.0 plane inside on found.1
     ∙ ap (λ (slot : Slot). same_motion found.0 (motion_in slot)) (same cell inside)
     ∙ sym (showing cell layer found.0 plane inside on found.1))
 
--- boards -----------------------------------------------------------------------------------------------------------------
-
-pub slot_itself : (slot : Slot) → same_slot slot slot ≡ true
-slot_itself Bare = refl
-slot_itself (Holds object motion) = rw (eq-eqb object.0 object.0 refl, eq-eqb (motion_number motion) (motion_number motion) refl) refl
-
-cell_itself : (cell : List Slot) → same_cell cell cell ≡ true
-cell_itself [] = refl
-cell_itself (slot ∷ slots) = rw (slot_itself slot) (cell_itself slots)
+-- boards --------------------------------------------------------------------------------------------------------------
 
 cells_itself : (cells : List (List Slot)) → same_cells cells cells ≡ true
 cells_itself [] = refl
-cells_itself (cell ∷ cells) = rw (cell_itself cell) (cells_itself cells)
-
-motion_of : ℕ → Motion
-motion_of zero = Still
-motion_of (suc zero) = Going Up
-motion_of (suc (suc zero)) = Going Down
-motion_of (suc (suc (suc zero))) = Going Left
-motion_of (suc (suc (suc (suc zero)))) = Going Right
-motion_of (suc (suc (suc (suc (suc n))))) = Acting
-
-motion_back : (motion : Motion) → motion_of (motion_number motion) ≡ motion
-unfolding motion_of
-motion_back Still = refl
-motion_back (Going Up) = refl
-motion_back (Going Down) = refl
-motion_back (Going Left) = refl
-motion_back (Going Right) = refl
-motion_back Acting = refl
-
-motion_known : (first second : Motion) → same_motion first second ≡ true → first ≡ second
-motion_known first second h = sym (motion_back first) ∙ ap motion_of (eqb-true (motion_number first) (motion_number second) h) ∙ motion_back second
-
-object_known : (first second : ObjectId) → same_object first second ≡ true → first ≡ second
-object_known first second h = ap numbered (eqb-true first.0 second.0 h)
+cells_itself (cell ∷ cells) = rw (same_cell-own cell) (cells_itself cells)
 
 pub slot_known : (first second : Slot) → same_slot first second ≡ true → first ≡ second
 slot_known Bare Bare h = refl
@@ -259,14 +251,16 @@ slot_known Bare (Holds object motion) h = absurd (false≢true h)
 slot_known (Holds object motion) Bare h = absurd (false≢true h)
 slot_known (Holds object motion) (Holds other moving) h =
     let parts = and_parts (same_object object other) (same_motion motion moving) h in
-    ap₂ (λ (o : ObjectId) (m : Motion). let slot : Slot = Holds o m in slot) (object_known object other parts.0) (motion_known motion moving parts.1)
+    ap₂ (λ (o : ObjectId) (m : Motion). let slot : Slot = Holds o m in slot) (same_object-true object other parts.0)
+    (same_motion-true motion moving parts.1)
 
 cell_known : (first second : List Slot) → same_cell first second ≡ true → first ≡ second
 cell_known [] [] h = refl
 cell_known [] (y ∷ ys) h = absurd (false≢true h)
 cell_known (x ∷ xs) [] h = absurd (false≢true h)
 cell_known (x ∷ xs) (y ∷ ys) h =
-    let parts = and_parts (same_slot x y) (same_cell xs ys) h in ap₂ (λ (z : Slot) (zs : List Slot). z ∷ zs) (slot_known x y parts.0) (cell_known xs ys parts.1)
+    let parts = and_parts (same_slot x y) (same_cell xs ys) h in
+    ap₂ (λ (z : Slot) (zs : List Slot). z ∷ zs) (slot_known x y parts.0) (cell_known xs ys parts.1)
 
 cells_known : (first second : List (List Slot)) → same_cells first second ≡ true → first ≡ second
 cells_known [] [] h = refl
@@ -279,31 +273,39 @@ cells_known (x ∷ xs) (y ∷ ys) h =
 -- what two boards of the same size for the same game show
 abbrev pub shown_same : List ℕ → ℕ → ℕ → ℕ → List ℕ → List ℕ → Bool
 shown_same table width height layers first second =
-    same_cells (cells_shown table layers height first (width * height)) (cells_shown table layers height second (width * height))
+    same_cells (cells_shown table layers height first (width * height))
+    (cells_shown table layers height second (width * height))
 
-pub board_same : (table : List ℕ) (width height layers : ℕ) (first second : List ℕ) → ((layer : ℕ) → layer < layers → IsSameLayer table width height first second layer) →
+pub board_same : (table : List ℕ) (width height layers : ℕ) (first second : List ℕ) →
+    ((layer : ℕ) → layer < layers → IsSameLayer table width height first second layer) →
     true ≡ shown_same table width height layers first second
 unfolding cells_shown cell_shown
 board_same table width height layers first second same =
     sym (ap (same_cells (cells_shown table layers height first (width * height)))
     (sym (tabled_same (cell_shown table layers height first) (cell_shown table layers height second) (width * height)
-    (λ cell inside. tabled_same (slot_shown table height first cell) (slot_shown table height second cell) layers (λ layer on. same layer on cell inside))))
+    (λ cell inside. tabled_same (slot_shown table height first cell) (slot_shown table height second cell) layers
+    (λ layer on. same layer on cell inside))))
     ∙ cells_itself (cells_shown table layers height first (width * height)))
 
 layer_of_board : (table : List ℕ) (width height layers : ℕ) (first second : List ℕ) (layer : ℕ) → layer < layers →
-    cells_shown table layers height first (width * height) ≡ cells_shown table layers height second (width * height) → IsSameLayer table width height first second layer
+    cells_shown table layers height first (width * height) ≡ cells_shown table layers height second (width * height) →
+    IsSameLayer table width height first second layer
 layer_of_board table width height layers first second layer on same = λ cell inside.
     sym (slot_read table layers height first (width * height) cell layer inside on)
     ∙ ap (λ (cells : List (List Slot)). get_or (get_or cells cell []) layer Bare) same
     ∙ slot_read table layers height second (width * height) cell layer inside on
 
-pub board_other : (table : List ℕ) (width height layers : ℕ) (first second : List ℕ) (layer : ℕ) (told : Bool) → layer < layers → told ≡ false →
-    (IsSameLayer table width height first second layer → told ≡ true) → false ≡ shown_same table width height layers first second
-board_other table width height layers first second layer told on fails tells = elim (cases_Bool (shown_same table width height layers first second)) [
+pub board_other : (table : List ℕ) (width height layers : ℕ) (first second : List ℕ) (layer : ℕ) (told : Bool) →
+    layer < layers → told ≡ false →
+    (IsSameLayer table width height first second layer → told ≡ true) →
+    false ≡ shown_same table width height layers first second
+board_other table width height layers first second layer told on fails tells =
+    elim (cases_Bool (shown_same table width height layers first second)) [
   | inl h ↦
       absurd (false≢true
       (sym fails
       ∙ tells (layer_of_board table width height layers first second layer on
-      (cells_known (cells_shown table layers height first (width * height)) (cells_shown table layers height second (width * height)) h))))
+      (cells_known (cells_shown table layers height first (width * height))
+      (cells_shown table layers height second (width * height)) h))))
   | inr h ↦ sym h
 ]

@@ -1,17 +1,21 @@
 -- Layers of a row written one after the other come to its cells written.
-use Rattle.std.proofs.Common.{◌≡◌, ◌∙◌, ℕ, zero, suc, ◌+◌, ◌*◌, ◌/◌, ◌%◌, ◌<◌, ◌≤◌, inl, inr, Bool, true, false, not, ◌&&◌, ◌||◌, Option, List, [], ◌∷◌, length, get_or, refl, sym, ap, ap₂, arith, bit_and}
+use Rattle.std.proofs.Common.{◌≡◌, ◌∙◌, ℕ, zero, suc, ◌+◌, ◌*◌, ◌/◌, ◌%◌, ◌<◌, ◌≤◌, inl, inr, Bool, true, false, not}
+use Rattle.std.proofs.Common.{◌&&◌, Option, List, [], ◌∷◌, length, get_or, refl, sym, ap, ap₂, arith, bit_and}
 use Rattle.std.specs.Prelude.{nat_eq, nat_lt, if◌then◌else◌}
 use Rattle.std.specs.List.{list_any, range_with_len}
-use Rattle.std.proofs.lemmas.Bool.{and_parts, cases_Bool, cases_eq, eq-eqb, ne_eqb, lt-ltb, le-ltb, or_parts, false≢true}
+use Rattle.std.proofs.lemmas.Bool.{and_parts, cases_Bool, cases_eq, eq-eqb, ne_eqb, lt-ltb, le-ltb, or_parts}
+use Rattle.std.proofs.lemmas.Bool.{false≢true, not-false}
 use Rattle.std.proofs.lemmas.List.{same_lists, get_or_default}
 use Rattle.ps_model.specs.declared.pieces.Slot.{Slot}
 use Rattle.ps_model.specs.declared.pieces.Slot.TheVariants.{Bare}
 use Rattle.ps_model.specs.board.Attempts.{Rewritten, same_cell, same_slot}
 use Rattle.ps_model.specs.board.Grid.{Grid, cell_at, slot_at}
 use Rattle.ps_model.specs.meaning.Compiled.{CellWrite, cell_written, written_from}
+use Rattle.ps_laws.proofs.common.SameThings.{same_slot-own}
 use Rattle.ps_board.specs.ColumnSets.{bit_is_set, column_at, word_columns}
 use Rattle.ps_board.proofs.ColumnLaws.{column_at-where}
 use Rattle.std.proofs.lemmas.Nat.{div_below}
+use Rattle.std.proofs.Math.Bool.{and-true, and-false}
 use Rattle.ps_match.specs.InRoom.{slot_after, write_in_room}
 use Rattle.ps_match.specs.Together.{cell_where, changes_where, is_on_row, rewritten_where}
 use Rattle.ps_match.specs.Touches.{touches}
@@ -21,28 +25,20 @@ use Rattle.ps_match.proofs.LeftAlone.{untouched}
 use Rattle.ps_match.proofs.RowWritten.{lt_next}
 use Rattle.ps_rows.specs.Planes.{has_column}
 use Rattle.ps_rows.specs.SlotsWritten.{AreSlotsLeft, AreSlotsWritten, in_columns}
-use Rattle.ps_rows.proofs.Alike.{slot_itself}
 use Rattle.ps_rows.proofs.Bits.{has_column-zero}
 use Rattle.ps_rows.proofs.Scans.{has_column-and}
-
-and_false : (a : Bool) → (a && false) ≡ false
-and_false true = refl
-and_false false = refl
-
-or_nothing : (a : Bool) → (a || false) ≡ a
-or_nothing true = refl
-or_nothing false = refl
 
 abbrev pub slot_when : Bool → Slot → Slot → Slot
 slot_when b new old = if b then new else old
 
--- layers -----------------------------------------------------------------------------------------------------------------
+-- layers --------------------------------------------------------------------------------------------------------------
 
 module _ (g : Grid) (chosen : ℕ → Bool) (after : ℕ → Slot → Slot) where
   pub slots_none : AreSlotsWritten g g chosen (λ l. nat_lt l 0) after
   slots_none = λ c l inside below.
-      sym (ap (λ (b : Bool). slot_when (chosen c && b) (after l (slot_at g c l)) (slot_at g c l)) (le-ltb l 0 (omega arith))
-      ∙ ap (λ (b : Bool). slot_when b (after l (slot_at g c l)) (slot_at g c l)) (and_false (chosen c)))
+      sym (ap (λ (b : Bool). slot_when (chosen c && b) (after l (slot_at g c l)) (slot_at g c l))
+      (le-ltb l 0 (omega arith))
+      ∙ ap (λ (b : Bool). slot_when b (after l (slot_at g c l)) (slot_at g c l)) (and-false (chosen c)))
 
   pub left_none : AreSlotsLeft g chosen (λ l. nat_lt l 0) after
   left_none = λ c l inside below here on. absurd (false≢true (sym (le-ltb l 0 (omega arith)) ∙ on))
@@ -51,62 +47,78 @@ module _ (g : Grid) (chosen : ℕ → Bool) (after : ℕ → Slot → Slot) wher
     slot_still : (c l : ℕ) → c < g.width * g.height → l < g.layers → l ≡ count → slot_at now c l ≡ slot_at g c l
     slot_still c l inside below e =
         so c l inside below
-        ∙ ap (λ (b : Bool). slot_when (chosen c && b) (after l (slot_at g c l)) (slot_at g c l)) (le-ltb l count (omega arith))
-        ∙ ap (λ (b : Bool). slot_when b (after l (slot_at g c l)) (slot_at g c l)) (and_false (chosen c))
+        ∙ ap (λ (b : Bool). slot_when (chosen c && b) (after l (slot_at g c l)) (slot_at g c l))
+        (le-ltb l count (omega arith))
+        ∙ ap (λ (b : Bool). slot_when b (after l (slot_at g c l)) (slot_at g c l)) (and-false (chosen c))
 
-    pub slots_next : (next : Grid) → now.width ≡ g.width → now.height ≡ g.height → now.layers ≡ g.layers → AreSlotsWritten now next chosen (λ l. nat_eq l count) after →
+    pub slots_next : (next : Grid) → now.width ≡ g.width → now.height ≡ g.height → now.layers ≡ g.layers →
+    AreSlotsWritten now next chosen (λ l. nat_eq l count) after →
         AreSlotsWritten g next chosen (λ l. nat_lt l (count + 1)) after
     slots_next next wide high deep step = λ c l inside below.
         let inside_now : c < now.width * now.height = rw (wide, high) inside in
         let below_now : l < now.layers = rw deep below in
         step c l inside_now below_now ∙ elim (cases_eq l count) [
           | inl e ↦
-              ap₂ (λ (b : Bool) (s : Slot). slot_when (chosen c && b) (after l s) s) (eq-eqb l count e) (slot_still c l inside below e)
-              ∙ sym (ap (λ (b : Bool). slot_when (chosen c && b) (after l (slot_at g c l)) (slot_at g c l)) (lt-ltb l (count + 1) (omega arith)))
+              ap₂ (λ (b : Bool) (s : Slot). slot_when (chosen c && b) (after l s) s) (eq-eqb l count e)
+              (slot_still c l inside below e)
+              ∙ sym (ap (λ (b : Bool). slot_when (chosen c && b) (after l (slot_at g c l)) (slot_at g c l))
+              (lt-ltb l (count + 1) (omega arith)))
           | inr n ↦
-              ap (λ (b : Bool). slot_when (chosen c && b) (after l (slot_at now c l)) (slot_at now c l)) (ne_eqb l count n)
-              ∙ ap (λ (b : Bool). slot_when b (after l (slot_at now c l)) (slot_at now c l)) (and_false (chosen c))
+              ap (λ (b : Bool). slot_when (chosen c && b) (after l (slot_at now c l)) (slot_at now c l))
+              (ne_eqb l count n)
+              ∙ ap (λ (b : Bool). slot_when b (after l (slot_at now c l)) (slot_at now c l)) (and-false (chosen c))
               ∙ so c l inside below
-              ∙ sym (ap (λ (b : Bool). slot_when (chosen c && b) (after l (slot_at g c l)) (slot_at g c l)) (lt_next l count n))
+              ∙ sym (ap (λ (b : Bool). slot_when (chosen c && b) (after l (slot_at g c l)) (slot_at g c l))
+              (lt_next l count n))
         ]
 
-    pub left_next : now.width ≡ g.width → now.height ≡ g.height → now.layers ≡ g.layers → AreSlotsLeft g chosen (λ l. nat_lt l count) after → AreSlotsLeft now chosen (λ l. nat_eq l count) after →
+    pub left_next : now.width ≡ g.width → now.height ≡ g.height → now.layers ≡ g.layers →
+    AreSlotsLeft g chosen (λ l. nat_lt l count) after → AreSlotsLeft now chosen (λ l. nat_eq l count) after →
         AreSlotsLeft g chosen (λ l. nat_lt l (count + 1)) after
     left_next wide high deep front step = λ c l inside below here on. elim (cases_eq l count) [
       | inl e ↦
           let inside_now : c < now.width * now.height = rw (wide, high) inside in
           let below_now : l < now.layers = rw deep below in
-          ap (λ (s : Slot). same_slot s (after l s)) (sym (slot_still c l inside below e)) ∙ step c l inside_now below_now here (eq-eqb l count e)
+          ap (λ (s : Slot). same_slot s (after l s)) (sym (slot_still c l inside below e))
+          ∙ step c l inside_now below_now here (eq-eqb l count e)
       | inr n ↦ front c l inside below here (sym (lt_next l count n) ∙ on)
     ]
 
-    pub left_here : now.width ≡ g.width → now.height ≡ g.height → now.layers ≡ g.layers → AreSlotsLeft g chosen (λ l. true) after → AreSlotsLeft now chosen (λ l. nat_eq l count) after
+    pub left_here : now.width ≡ g.width → now.height ≡ g.height → now.layers ≡ g.layers →
+    AreSlotsLeft g chosen (λ l. true) after → AreSlotsLeft now chosen (λ l. nat_eq l count) after
     left_here wide high deep all = λ c l inside below here on.
         let inside_g : c < g.width * g.height = rw (← wide, ← high) inside in
         let below_g : l < g.layers = rw (← deep) below in
-        let e : l ≡ count = elim (cases_eq l count) [ inl e ↦ e | inr n ↦ absurd (false≢true (sym (ne_eqb l count n) ∙ on)) ] in
-        ap (λ (s : Slot). same_slot s (after l s)) (slot_still c l inside_g below_g e) ∙ all c l inside_g below_g here refl
+        let e : l ≡ count =
+        elim (cases_eq l count) [ inl e ↦ e | inr n ↦ absurd (false≢true (sym (ne_eqb l count n) ∙ on)) ] in
+        ap (λ (s : Slot). same_slot s (after l s)) (slot_still c l inside_g below_g e)
+        ∙ all c l inside_g below_g here refl
 
     pub slots_all : g.layers ≤ count → AreSlotsWritten g now chosen (λ l. true) after
     slots_all end = λ c l inside below.
-        so c l inside below ∙ ap (λ (b : Bool). slot_when (chosen c && b) (after l (slot_at g c l)) (slot_at g c l)) (lt-ltb l count (omega arith))
+        so c l inside below ∙ ap (λ (b : Bool). slot_when (chosen c && b) (after l (slot_at g c l)) (slot_at g c l))
+        (lt-ltb l count (omega arith))
 
-    pub left_all : g.layers ≤ count → AreSlotsLeft g chosen (λ l. nat_lt l count) after → AreSlotsLeft g chosen (λ l. true) after
+    pub left_all : g.layers ≤ count → AreSlotsLeft g chosen (λ l. nat_lt l count) after →
+    AreSlotsLeft g chosen (λ l. true) after
     left_all end front = λ c l inside below here on. front c l inside below here (lt-ltb l count (omega arith))
 
 -- a layer that the write doesn't touch
-module _ (table : Option (List ℕ)) (write : CellWrite) (g : Grid) (chosen : ℕ → Bool) (layer : ℕ) (none : touches write layer ≡ false) where
+module _ (table : Option (List ℕ)) (write : CellWrite) (g : Grid) (chosen : ℕ → Bool) (layer : ℕ)
+    (none : touches write layer ≡ false) where
   abbrev kept : ℕ → Slot → Slot
   kept = slot_after (write_in_room table write)
 
   pub slots_untouched : AreSlotsWritten g g chosen (λ l. nat_eq l layer) kept
   slots_untouched = λ c l inside below. elim (cases_eq l layer) [
     | inl e ↦
-        let same : kept l (slot_at g c l) ≡ slot_at g c l = untouched table l write (slot_at g c l) (ap (touches write) e ∙ none) in
-        sym (ap (λ (s : Slot). slot_when (chosen c && nat_eq l layer) s (slot_at g c l)) same ∙ either (chosen c && nat_eq l layer) (slot_at g c l))
+        let same : kept l (slot_at g c l) ≡ slot_at g c l =
+        untouched table l write (slot_at g c l) (ap (touches write) e ∙ none) in
+        sym (ap (λ (s : Slot). slot_when (chosen c && nat_eq l layer) s (slot_at g c l)) same
+        ∙ either (chosen c && nat_eq l layer) (slot_at g c l))
     | inr n ↦
         sym (ap (λ (b : Bool). slot_when (chosen c && b) (kept l (slot_at g c l)) (slot_at g c l)) (ne_eqb l layer n)
-        ∙ ap (λ (b : Bool). slot_when b (kept l (slot_at g c l)) (slot_at g c l)) (and_false (chosen c)))
+        ∙ ap (λ (b : Bool). slot_when b (kept l (slot_at g c l)) (slot_at g c l)) (and-false (chosen c)))
   ] where
     either : (b : Bool) (s : Slot) → slot_when b s s ≡ s
     either true s = refl
@@ -114,14 +126,18 @@ module _ (table : Option (List ℕ)) (write : CellWrite) (g : Grid) (chosen : �
 
   pub left_untouched : AreSlotsLeft g chosen (λ l. nat_eq l layer) kept
   left_untouched = λ c l inside below here on.
-      let e : l ≡ layer = elim (cases_eq l layer) [ inl e ↦ e | inr n ↦ absurd (false≢true (sym (ne_eqb l layer n) ∙ on)) ] in
-      ap (same_slot (slot_at g c l)) (untouched table l write (slot_at g c l) (ap (touches write) e ∙ none)) ∙ slot_itself (slot_at g c l)
+      let e : l ≡ layer =
+      elim (cases_eq l layer) [ inl e ↦ e | inr n ↦ absurd (false≢true (sym (ne_eqb l layer n) ∙ on)) ] in
+      ap (same_slot (slot_at g c l)) (untouched table l write (slot_at g c l) (ap (touches write) e ∙ none))
+      ∙ same_slot-own (slot_at g c l)
 
--- cells ------------------------------------------------------------------------------------------------------------------
+-- cells ---------------------------------------------------------------------------------------------------------------
 
 -- cells are known by their slots
-cells_by_slots : (xs ys : List (List Slot)) (n layers : ℕ) → length xs ≡ n → length ys ≡ n → ((c : ℕ) → c < n → length (get_or xs c []) ≡ layers) →
-    ((c : ℕ) → c < n → length (get_or ys c []) ≡ layers) → ((c l : ℕ) → c < n → l < layers → get_or (get_or xs c []) l Bare ≡ get_or (get_or ys c []) l Bare) → xs ≡ ys
+cells_by_slots : (xs ys : List (List Slot)) (n layers : ℕ) → length xs ≡ n → length ys ≡ n →
+    ((c : ℕ) → c < n → length (get_or xs c []) ≡ layers) →
+    ((c : ℕ) → c < n → length (get_or ys c []) ≡ layers) →
+    ((c l : ℕ) → c < n → l < layers → get_or (get_or xs c []) l Bare ≡ get_or (get_or ys c []) l Bare) → xs ≡ ys
 cells_by_slots xs ys n layers long many first second same =
     same_lists xs ys (long ∙ sym many)
     (λ k d h.
@@ -132,43 +148,50 @@ cells_by_slots xs ys n layers long many first second same =
     (λ i e j.
     let below : i < layers = rw (← first k low) j in
     let as_long : i < length (get_or ys k []) = rw (second k low) below in
-    get_or_default (get_or xs k []) i e Bare j ∙ same k i low below ∙ sym (get_or_default (get_or ys k []) i e Bare as_long))
+    get_or_default (get_or xs k []) i e Bare j ∙ same k i low below
+    ∙ sym (get_or_default (get_or ys k []) i e Bare as_long))
     ∙ sym (get_or_default ys k d [] there))
 
 -- a cell that becomes what it was, slot by slot
-cell_left : (write : CellWrite) (n : ℕ) (slots : List Slot) → ((i : ℕ) → i < length slots → same_slot (get_or slots i Bare) (slot_after write (n + i) (get_or slots i Bare)) ≡ true) →
+cell_left : (write : CellWrite) (n : ℕ) (slots : List Slot) →
+    ((i : ℕ) → i < length slots → same_slot (get_or slots i Bare) (slot_after write (n + i) (get_or slots i Bare))
+    ≡ true) →
     same_cell slots (written_from write n slots) ≡ true
 cell_left write n [] left = refl
 cell_left write n (slot ∷ slots) left =
     let plain : n + 0 ≡ n = omega arith in
-    ap₂ (λ (a b : Bool). a && b) (ap (λ (k : ℕ). same_slot slot (slot_after write k slot)) (sym plain) ∙ left 0 (omega arith))
+    ap₂ (λ (a b : Bool). a && b) (ap (λ (k : ℕ). same_slot slot (slot_after write k slot)) (sym plain)
+    ∙ left 0 (omega arith))
     (cell_left write (suc n) slots
     (λ i below. let e : suc n + i ≡ n + suc i = omega arith in
-    ap (λ (k : ℕ). same_slot (get_or slots i Bare) (slot_after write k (get_or slots i Bare))) e ∙ left (suc i) (omega arith)))
+    ap (λ (k : ℕ). same_slot (get_or slots i Bare) (slot_after write k (get_or slots i Bare))) e
+    ∙ left (suc i) (omega arith)))
 
-slot_left : (write : CellWrite) (n : ℕ) (slots : List Slot) (i : ℕ) → i < length slots → same_cell slots (written_from write n slots) ≡ true →
+slot_left : (write : CellWrite) (n : ℕ) (slots : List Slot) (i : ℕ) → i < length slots →
+    same_cell slots (written_from write n slots) ≡ true →
     same_slot (get_or slots i Bare) (slot_after write (n + i) (get_or slots i Bare)) ≡ true
 slot_left write n [] i below same = absurd (omega arith)
 slot_left write n (slot ∷ slots) zero below same =
     let plain : n + 0 ≡ n = omega arith in
-    ap (λ (k : ℕ). same_slot slot (slot_after write k slot)) plain ∙ (and_parts (same_slot slot (slot_after write n slot)) (same_cell slots (written_from write (suc n) slots)) same).0
+    ap (λ (k : ℕ). same_slot slot (slot_after write k slot)) plain
+    ∙ (and_parts (same_slot slot (slot_after write n slot)) (same_cell slots (written_from write (suc n) slots)) same).0
 slot_left write n (slot ∷ slots) (suc i) below same =
     let e : n + suc i ≡ suc n + i = omega arith in
     ap (λ (k : ℕ). same_slot (get_or slots i Bare) (slot_after write k (get_or slots i Bare))) e
-    ∙ slot_left write (suc n) slots i (omega arith) (and_parts (same_slot slot (slot_after write n slot)) (same_cell slots (written_from write (suc n) slots)) same).1
+    ∙ slot_left write (suc n) slots i (omega arith)
+    (and_parts (same_slot slot (slot_after write n slot)) (same_cell slots (written_from write (suc n) slots)) same).1
 
 none_of : (p : ℕ → Bool) (a n k : ℕ) → a ≤ k → k < a + n → list_any p (range_with_len a n) ≡ false → p k ≡ false
 none_of p a zero k low high none = absurd (omega arith)
 none_of p a (suc n) k low high none =
     let parts = or_parts (p a) (list_any p (range_with_len (a + 1) n)) none in
-    elim (cases_eq k a) [ inl e ↦ ap p e ∙ parts.0 | inr other ↦ none_of p (a + 1) n k (omega arith) (omega arith) parts.1 ]
+    elim (cases_eq k a) [ inl e ↦ ap p e ∙ parts.0
+    | inr other ↦ none_of p (a + 1) n k (omega arith) (omega arith) parts.1 ]
 
-not_false : (b : Bool) → not b ≡ false → b ≡ true
-not_false true e = refl
-not_false false e = absurd (false≢true (sym e))
-
-module _ (table : Option (List ℕ)) (write : CellWrite) (g next : Grid) (chosen : ℕ → Bool) (long : length g.cells ≡ g.width * g.height)
-    (slots : (c : ℕ) → c < g.width * g.height → length (cell_at g c) ≡ g.layers) (next_long : length next.cells ≡ g.width * g.height)
+module _ (table : Option (List ℕ)) (write : CellWrite) (g next : Grid) (chosen : ℕ → Bool)
+    (long : length g.cells ≡ g.width * g.height)
+    (slots : (c : ℕ) → c < g.width * g.height → length (cell_at g c) ≡ g.layers)
+    (next_long : length next.cells ≡ g.width * g.height)
     (next_slots : (c : ℕ) → c < g.width * g.height → length (cell_at next c) ≡ g.layers) where
   abbrev after : ℕ → Slot → Slot
   after = slot_after (write_in_room table write)
@@ -176,34 +199,42 @@ module _ (table : Option (List ℕ)) (write : CellWrite) (g next : Grid) (chosen
   abbrev becomes : List Slot → List Slot
   becomes = cell_written (write_in_room table write)
 
-  slot_becomes : (c l : ℕ) → c < g.width * g.height → l < g.layers → get_or (becomes (cell_at g c)) l Bare ≡ after l (slot_at g c l)
+  slot_becomes : (c l : ℕ) → c < g.width * g.height → l < g.layers →
+    get_or (becomes (cell_at g c)) l Bare ≡ after l (slot_at g c l)
   slot_becomes c l low below =
       let deep : l < length (cell_at g c) = rw (slots c low) below in
       let plain : 0 + l ≡ l = omega arith in
-      get_or-written_from (write_in_room table write) 0 (cell_at g c) l deep ∙ ap (λ (n : ℕ). after n (slot_at g c l)) plain
+      get_or-written_from (write_in_room table write) 0 (cell_at g c) l deep
+      ∙ ap (λ (n : ℕ). after n (slot_at g c l)) plain
 
-  wanted_at : (c : ℕ) → c < g.width * g.height → cell_at (rewritten_where g becomes chosen).grid c ≡ cell_where g becomes chosen c
+  wanted_at : (c : ℕ) → c < g.width * g.height → cell_at (rewritten_where g becomes chosen).grid c
+    ≡ cell_where g becomes chosen c
   wanted_at c low = cell_at-where g becomes chosen c (rw long low)
 
-  wanted_slots : (c : ℕ) → c < g.width * g.height → length (cell_at (rewritten_where g becomes chosen).grid c) ≡ g.layers
+  wanted_slots : (c : ℕ) → c < g.width * g.height → length (cell_at (rewritten_where g becomes chosen).grid c)
+    ≡ g.layers
   wanted_slots c low = ap length (wanted_at c low) ∙ elim (cases_Bool (chosen c)) [
     | inl sure ↦ rw sure (length-written_from (write_in_room table write) 0 (cell_at g c) ∙ slots c low)
     | inr never ↦ rw never (slots c low)
   ]
 
-  cells_written : AreSlotsWritten g next chosen (λ l. true) after → next.cells ≡ (rewritten_where g becomes chosen).grid.cells
+  cells_written : AreSlotsWritten g next chosen (λ l. true) after →
+    next.cells ≡ (rewritten_where g becomes chosen).grid.cells
   cells_written so =
-      cells_by_slots next.cells (rewritten_where g becomes chosen).grid.cells (g.width * g.height) g.layers next_long (length-where g becomes chosen ∙ long) next_slots wanted_slots
+      cells_by_slots next.cells (rewritten_where g becomes chosen).grid.cells (g.width * g.height) g.layers next_long
+      (length-where g becomes chosen ∙ long) next_slots wanted_slots
       (λ c l low below. so c l low below ∙ elim (cases_Bool (chosen c)) [
         | inl sure ↦
-            ap (λ (b : Bool). slot_when (b && true) (after l (slot_at g c l)) (slot_at g c l)) sure ∙ sym (slot_becomes c l low below)
+            ap (λ (b : Bool). slot_when (b && true) (after l (slot_at g c l)) (slot_at g c l)) sure
+            ∙ sym (slot_becomes c l low below)
             ∙ sym (ap (λ (cell : List Slot). get_or cell l Bare) (wanted_at c low ∙ rw sure refl))
         | inr never ↦
             ap (λ (b : Bool). slot_when (b && true) (after l (slot_at g c l)) (slot_at g c l)) never
             ∙ sym (ap (λ (cell : List Slot). get_or cell l Bare) (wanted_at c low ∙ rw never refl))
       ])
 
-  change_none : AreSlotsLeft g chosen (λ l. true) after → (c : ℕ) → c < g.width * g.height → changes_where g becomes chosen c ≡ false
+  change_none : AreSlotsLeft g chosen (λ l. true) after → (c : ℕ) → c < g.width * g.height →
+    changes_where g becomes chosen c ≡ false
   change_none left c low = elim (cases_Bool (chosen c)) [
     | inl sure ↦
         rw sure (ap not (cell_left (write_in_room table write) 0 (cell_at g c)
@@ -213,17 +244,22 @@ module _ (table : Option (List ℕ)) (write : CellWrite) (g next : Grid) (chosen
     | inr never ↦ rw never refl
   ]
 
-  left_none_changes : list_any (changes_where g becomes chosen) (range_with_len 0 (length g.cells)) ≡ false → AreSlotsLeft g chosen (λ l. true) after
+  left_none_changes : list_any (changes_where g becomes chosen) (range_with_len 0 (length g.cells)) ≡ false →
+    AreSlotsLeft g chosen (λ l. true) after
   left_none_changes none = λ c l low below sure on.
       let inside : c < 0 + length g.cells = omega (arith, long, low) in
-      let stays : (chosen c && not (same_cell (cell_at g c) (becomes (cell_at g c)))) ≡ false = none_of (changes_where g becomes chosen) 0 (length g.cells) c (omega arith) inside none in
+      let stays : (chosen c && not (same_cell (cell_at g c) (becomes (cell_at g c)))) ≡ false =
+      none_of (changes_where g becomes chosen) 0 (length g.cells) c (omega arith) inside none in
       let same : same_cell (cell_at g c) (becomes (cell_at g c)) ≡ true =
-      not_false (same_cell (cell_at g c) (becomes (cell_at g c))) (ap (λ (b : Bool). b && not (same_cell (cell_at g c) (becomes (cell_at g c)))) (sym sure) ∙ stays) in
+      not-false (same_cell (cell_at g c) (becomes (cell_at g c)))
+      (ap (λ (b : Bool). b && not (same_cell (cell_at g c) (becomes (cell_at g c)))) (sym sure) ∙ stays) in
       let deep : l < length (cell_at g c) = rw (slots c low) below in
       let plain : 0 + l ≡ l = omega arith in
-      ap (λ (n : ℕ). same_slot (slot_at g c l) (after n (slot_at g c l))) (sym plain) ∙ slot_left (write_in_room table write) 0 (cell_at g c) l deep same
+      ap (λ (n : ℕ). same_slot (slot_at g c l) (after n (slot_at g c l))) (sym plain)
+      ∙ slot_left (write_in_room table write) 0 (cell_at g c) l deep same
 
-  changed_exactly : (changed : Bool) → (changed ≡ false → AreSlotsLeft g chosen (λ l. true) after) → (AreSlotsLeft g chosen (λ l. true) after → changed ≡ false) →
+  changed_exactly : (changed : Bool) → (changed ≡ false → AreSlotsLeft g chosen (λ l. true) after) →
+    (AreSlotsLeft g chosen (λ l. true) after → changed ≡ false) →
       changed ≡ (rewritten_where g becomes chosen).changed
   unfolding rewritten_where
   changed_exactly changed quiet left = elim (cases_Bool changed) [
@@ -231,11 +267,15 @@ module _ (table : Option (List ℕ)) (write : CellWrite) (g next : Grid) (chosen
       | inl some ↦ told ∙ sym some
       | inr none ↦ absurd (false≢true (sym (left (left_none_changes none)) ∙ told))
     ]
-    | inr silent ↦ silent ∙ sym (any_none (changes_where g becomes chosen) 0 (length g.cells) (λ c low high. change_none (quiet silent) c (rw (← long) (omega arith))))
+    | inr silent ↦ silent
+    ∙ sym (any_none (changes_where g becomes chosen) 0 (length g.cells)
+    (λ c low high. change_none (quiet silent) c (rw (← long) (omega arith))))
   ]
 
-  pub row_rewritten : (changed : Bool) → next.width ≡ g.width → next.height ≡ g.height → next.layers ≡ g.layers → AreSlotsWritten g next chosen (λ l. true) after →
-      (changed ≡ false → AreSlotsLeft g chosen (λ l. true) after) → (AreSlotsLeft g chosen (λ l. true) after → changed ≡ false) →
+  pub row_rewritten : (changed : Bool) → next.width ≡ g.width → next.height ≡ g.height → next.layers ≡ g.layers →
+    AreSlotsWritten g next chosen (λ l. true) after →
+      (changed ≡ false → AreSlotsLeft g chosen (λ l. true) after) →
+      (AreSlotsLeft g chosen (λ l. true) after → changed ≡ false) →
       record { grid = next; changed = changed } ≡ rewritten_where g becomes chosen
   unfolding rewritten_where
   row_rewritten changed wide high deep so quiet left =
@@ -243,28 +283,30 @@ module _ (table : Option (List ℕ)) (write : CellWrite) (g next : Grid) (chosen
       ap (λ (k : Grid). let r : Rewritten = record { grid = k; changed = changed } in r) sides
       ∙ ap₂ (rewritten_of g) (cells_written so) (changed_exactly changed quiet left)
 
--- sets of columns ---------------------------------------------------------------------------------------------------------
-
-and_true : (a : Bool) → (a && true) ≡ a
-and_true true = refl
-and_true false = refl
+-- sets of columns -----------------------------------------------------------------------------------------------------
 
 column_of_word : (word x : ℕ) → x < 64 → has_column word x ≡ column_at (word_columns word) x
 unfolding has_column
 column_of_word word x low = sym (column_at-where (bit_is_set word) x low)
 
-module _ (width word full : ℕ) (columns : List Bool) (narrow : width ≤ 64) (wide : (x : ℕ) → x < 64 → has_column full x ≡ nat_lt x width) where
+module _ (width word full : ℕ) (columns : List Bool) (narrow : width ≤ 64)
+    (wide : (x : ℕ) → x < 64 → has_column full x ≡ nat_lt x width) where
   pub set_within : (x : ℕ) → width ≤ x → x < 64 → has_column (bit_and word full) x ≡ false
-  set_within x far low = has_column-and word full x ∙ ap (λ (b : Bool). has_column word x && b) (wide x low ∙ le-ltb x width far) ∙ and_false (has_column word x)
+  set_within x far low = has_column-and word full x ∙ ap (λ (b : Bool). has_column word x && b)
+    (wide x low ∙ le-ltb x width far) ∙ and-false (has_column word x)
 
-  set_column : (x : ℕ) → x < width → word_columns word ≡ columns → has_column (bit_and word full) x ≡ column_at columns x
+  set_column : (x : ℕ) → x < width → word_columns word ≡ columns →
+    has_column (bit_and word full) x ≡ column_at columns x
   set_column x near is =
       let low : x < 64 = omega arith in
-      has_column-and word full x ∙ ap (λ (b : Bool). has_column word x && b) (wide x low ∙ lt-ltb x width near) ∙ and_true (has_column word x) ∙ column_of_word word x low
+      has_column-and word full x ∙ ap (λ (b : Bool). has_column word x && b) (wide x low ∙ lt-ltb x width near)
+      ∙ and-true (has_column word x) ∙ column_of_word word x low
       ∙ ap (λ (set : List Bool). column_at set x) is
 
-  pub set_rewritten : (g : Grid) (becomes : List Slot → List Slot) (row : ℕ) → g.width ≡ width → row < g.height → length g.cells ≡ g.width * g.height → word_columns word ≡ columns →
-      rewritten_where g becomes (in_columns g.height row (bit_and word full)) ≡ rewritten_where g becomes (is_on_row g.height row columns)
+  pub set_rewritten : (g : Grid) (becomes : List Slot → List Slot) (row : ℕ) → g.width ≡ width → row < g.height →
+    length g.cells ≡ g.width * g.height → word_columns word ≡ columns →
+      rewritten_where g becomes (in_columns g.height row (bit_and word full)) ≡ rewritten_where g becomes
+      (is_on_row g.height row columns)
   set_rewritten g becomes row same under long is =
       where-agree g becomes (in_columns g.height row (bit_and word full)) (is_on_row g.height row columns)
       (λ n low.
@@ -273,10 +315,12 @@ module _ (width word full : ℕ) (columns : List Bool) (narrow : width ≤ 64) (
       let near : n / g.height < width = rw (← same) (div_below n g.height g.width some inside) in
       ap (λ (b : Bool). nat_eq (n % g.height) row && b) (set_column (n / g.height) near is))
 
-  pub set_empty : (g : Grid) (becomes : List Slot → List Slot) (row : ℕ) → g.width ≡ width → row < g.height → length g.cells ≡ g.width * g.height → word_columns word ≡ columns → bit_and word full ≡ 0 →
+  pub set_empty : (g : Grid) (becomes : List Slot → List Slot) (row : ℕ) → g.width ≡ width → row < g.height →
+    length g.cells ≡ g.width * g.height → word_columns word ≡ columns → bit_and word full ≡ 0 →
       record { grid = g; changed = false } ≡ rewritten_where g becomes (is_on_row g.height row columns)
   set_empty g becomes row same under long is none =
       sym (where-none g becomes (in_columns g.height row (bit_and word full))
-      (λ n low. ap (λ (w : ℕ). nat_eq (n % g.height) row && has_column w (n / g.height)) none ∙ ap (λ (b : Bool). nat_eq (n % g.height) row && b) (has_column-zero (n / g.height))
-      ∙ and_false (nat_eq (n % g.height) row)))
+      (λ n low. ap (λ (w : ℕ). nat_eq (n % g.height) row && has_column w (n / g.height)) none
+      ∙ ap (λ (b : Bool). nat_eq (n % g.height) row && b) (has_column-zero (n / g.height))
+      ∙ and-false (nat_eq (n % g.height) row)))
       ∙ set_rewritten g becomes row same under long is

@@ -1,8 +1,9 @@
 -- Columns in which the words of a row are the same in the planes of all objects show the same objects.
-use Rattle.std.proofs.Common.{◌≡◌, ℕ, zero, suc, ◌+◌, ◌-◌, ◌*◌, ◌^◌, ◌<◌, ◌≤◌, Bool, true, false, not, List, [], ◌∷◌, length, get_or, map, refl, sym, ap, ◌∙◌, arith, bit_and}
+use Rattle.std.proofs.Common.{◌≡◌, ℕ, zero, suc, ◌+◌, ◌-◌, ◌*◌, ◌^◌, ◌<◌, ◌≤◌, true, false, List, [], ◌∷◌, length}
+use Rattle.std.proofs.Common.{get_or, map, refl, sym, ap, ◌∙◌, arith, bit_and}
 use Rattle.std.specs.Prelude.{nat_lt, option_map}
 use Rattle.std.specs.List.{range_with_len}
-use Rattle.std.proofs.lemmas.Bool.{and_parts, false≢true, lt-ltb}
+use Rattle.std.proofs.lemmas.Bool.{and_parts, lt-ltb, not-true}
 use Rattle.std.proofs.lemmas.Nat.{mul-add-lt}
 use Rattle.std.proofs.lemmas.Option.{slice_get_within}
 use Rattle.ps_model.specs.declared.pieces.Slot.{Slot}
@@ -25,36 +26,48 @@ use Rattle.ps_rows.proofs.Tables.{tabled_at}
 
 -- two cells of a row, each of a board, have the same objects where each object's plane has both or neither
 same_shown : (table : List ℕ) (height : ℕ) (first second : List ℕ) (row x y : ℕ) → row < height →
-    ((o : ℕ) → o < length table → has_column (get_or first (o * height + row) 0) x ≡ has_column (get_or second (o * height + row) 0) y) → (layer : ℕ) →
+    ((o : ℕ) → o < length table → has_column (get_or first (o * height + row) 0) x
+    ≡ has_column (get_or second (o * height + row) 0) y) → (layer : ℕ) →
     object_shown table height first (x * height + row) layer ≡ object_shown table height second (y * height + row) layer
 unfolding object_shown
 same_shown table height first second row x y under same layer =
-    find_same (has_cell height first (x * height + row)) (has_cell height second (y * height + row)) (on_layer table layer)
+    find_same (has_cell height first (x * height + row)) (has_cell height second (y * height + row))
+    (on_layer table layer)
     (λ o listed.
     let below : o < length table = slice_get_within table o layer (listed_member table layer o listed) in
     sym (column_read height first row o x under) ∙ same o below ∙ column_read height second row o y under)
 
 pub object_of_shown : (table : List ℕ) (height : ℕ) (words : List ℕ) (cell layer : ℕ) →
-    object_in (slot_shown table height words cell layer) ≡ option_map numbered (object_shown table height words cell layer)
+    object_in (slot_shown table height words cell layer)
+    ≡ option_map numbered (object_shown table height words cell layer)
 unfolding slot_shown
-object_of_shown table height words cell layer = object_of_slot (object_shown table height words cell layer) (motion_shown table height words cell layer)
+object_of_shown table height words cell layer =
+    object_of_slot (object_shown table height words cell layer) (motion_shown table height words cell layer)
 
-one_more : (x y : Slot) (xs ys : List Slot) → object_in x ≡ object_in y → objects_in xs ≡ objects_in ys → objects_in (x ∷ xs) ≡ objects_in (y ∷ ys)
+one_more : (x y : Slot) (xs ys : List Slot) → object_in x ≡ object_in y → objects_in xs ≡ objects_in ys →
+    objects_in (x ∷ xs) ≡ objects_in (y ∷ ys)
 one_more x y xs ys e f = rw (e, f) refl
 
 same_objects : (table : List ℕ) (height : ℕ) (first second : List ℕ) (cell other : ℕ) →
-    ((layer : ℕ) → object_shown table height first cell layer ≡ object_shown table height second other layer) → (a n : ℕ) →
-    objects_in (map (slot_shown table height first cell) (range_with_len a n)) ≡ objects_in (map (slot_shown table height second other) (range_with_len a n))
+    ((layer : ℕ) → object_shown table height first cell layer ≡ object_shown table height second other layer) →
+    (a n : ℕ) →
+    objects_in (map (slot_shown table height first cell) (range_with_len a n))
+    ≡ objects_in (map (slot_shown table height second other) (range_with_len a n))
 same_objects table height first second cell other same a zero = refl
 same_objects table height first second cell other same a (suc n) =
     one_more (slot_shown table height first cell a) (slot_shown table height second other a)
-    (map (slot_shown table height first cell) (range_with_len (a + 1) n)) (map (slot_shown table height second other) (range_with_len (a + 1) n))
-    (object_of_shown table height first cell a ∙ ap (option_map numbered) (same a) ∙ sym (object_of_shown table height second other a))
+    (map (slot_shown table height first cell) (range_with_len (a + 1) n))
+    (map (slot_shown table height second other) (range_with_len (a + 1) n))
+    (object_of_shown table height first cell a ∙ ap (option_map numbered) (same a)
+    ∙ sym (object_of_shown table height second other a))
     (same_objects table height first second cell other same (a + 1) n)
 
-cells_same : (table : List ℕ) (width height layers : ℕ) (first second : List ℕ) (row x y : ℕ) → row < height → x < width → y < width →
-    ((o : ℕ) → o < length table → has_column (get_or first (o * height + row) 0) x ≡ has_column (get_or second (o * height + row) 0) y) →
-    objects_in (cell_at (grid_shown table width height layers first) (x * height + row)) ≡ objects_in (cell_at (grid_shown table width height layers second) (y * height + row))
+cells_same : (table : List ℕ) (width height layers : ℕ) (first second : List ℕ) (row x y : ℕ) → row < height →
+    x < width → y < width →
+    ((o : ℕ) → o < length table → has_column (get_or first (o * height + row) 0) x
+    ≡ has_column (get_or second (o * height + row) 0) y) →
+    objects_in (cell_at (grid_shown table width height layers first) (x * height + row))
+    ≡ objects_in (cell_at (grid_shown table width height layers second) (y * height + row))
 unfolding cells_shown cell_shown
 cells_same table width height layers first second row x y under across over same =
     let place : x * height + row < height * width = mul-add-lt x height row width across under in
@@ -62,19 +75,25 @@ cells_same table width height layers first second row x y under across over same
     let inside : x * height + row < width * height = omega arith in
     let within : y * height + row < width * height = omega arith in
     ap objects_in (tabled_at (cell_shown table layers height first) (width * height) (x * height + row) [] inside)
-    ∙ same_objects table height first second (x * height + row) (y * height + row) (same_shown table height first second row x y under same) 0 layers
-    ∙ sym (ap objects_in (tabled_at (cell_shown table layers height second) (width * height) (y * height + row) [] within))
+    ∙ same_objects table height first second (x * height + row) (y * height + row)
+    (same_shown table height first second row x y under same) 0 layers
+    ∙ sym (ap objects_in
+    (tabled_at (cell_shown table layers height second) (width * height) (y * height + row) [] within))
 
-pub others_same : (table : List ℕ) (width height layers : ℕ) (first second : List ℕ) (row word : ℕ) → row < height → width ≤ 64 →
+pub others_same : (table : List ℕ) (width height layers : ℕ) (first second : List ℕ) (row word : ℕ) → row < height →
+    width ≤ 64 →
     HasDifferences height row (length table) first second word →
-    DifferOnlyIn (word_columns word) (grid_shown table width height layers first) (grid_shown table width height layers second) row
+    DifferOnlyIn (word_columns word) (grid_shown table width height layers first)
+    (grid_shown table width height layers second) row
 others_same table width height layers first second row word under narrow same = λ column h none.
     cells_same table width height layers first second row column column under h h
     (λ o below. same o column below (column_clear word column (omega (arith, h, narrow)) none))
 
 -- a column is in the set of those that are in no other word, and any other there shows what it shows
-pub itself_alike : (width full unlike column : ℕ) → column < width → width ≤ 64 → unlike < 2 ^ 64 → ((x : ℕ) → x < 64 → has_column full x ≡ nat_lt x width) →
-    has_column unlike column ≡ false → column_at (word_columns (bit_and full (18446744073709551615 - unlike))) column ≡ true
+pub itself_alike : (width full unlike column : ℕ) → column < width → width ≤ 64 → unlike < 2 ^ 64 →
+    ((x : ℕ) → x < 64 → has_column full x ≡ nat_lt x width) →
+    has_column unlike column ≡ false → column_at (word_columns (bit_and full (18446744073709551615 - unlike))) column
+    ≡ true
 unfolding has_column
 itself_alike width full unlike column across narrow fits wide none =
     let low : column < 64 = omega (arith, across, narrow) in
@@ -82,20 +101,20 @@ itself_alike width full unlike column across narrow fits wide none =
     ∙ has_column-and full (18446744073709551615 - unlike) column
     ∙ rw (wide column low, lt-ltb column width across, has_column-not unlike column fits low, none) refl
 
-not_true : (b : Bool) → not b ≡ true → b ≡ false
-not_true false h = refl
-not_true true h = absurd (false≢true h)
-
-like_column : (full unlike x : ℕ) → x < 64 → unlike < 2 ^ 64 → column_at (word_columns (bit_and full (18446744073709551615 - unlike))) x ≡ true → has_column unlike x ≡ false
+like_column : (full unlike x : ℕ) → x < 64 → unlike < 2 ^ 64 →
+    column_at (word_columns (bit_and full (18446744073709551615 - unlike))) x ≡ true → has_column unlike x ≡ false
 unfolding has_column
 like_column full unlike x low fits has =
-    let both = sym (has_column-and full (18446744073709551615 - unlike) x) ∙ sym (column_at-where (bit_is_set (bit_and full (18446744073709551615 - unlike))) x low) ∙ has in
+    let both = sym (has_column-and full (18446744073709551615 - unlike) x)
+    ∙ sym (column_at-where (bit_is_set (bit_and full (18446744073709551615 - unlike))) x low) ∙ has in
     let parts = and_parts (has_column full x) (has_column (18446744073709551615 - unlike) x) both in
-    not_true (has_column unlike x) (sym (has_column-not unlike x fits low) ∙ parts.1)
+    not-true (has_column unlike x) (sym (has_column-not unlike x fits low) ∙ parts.1)
 
-pub columns_alike : (table : List ℕ) (width height layers : ℕ) (words : List ℕ) (row column full unlike : ℕ) → row < height → column < width → width ≤ 64 → unlike < 2 ^ 64 →
+pub columns_alike : (table : List ℕ) (width height layers : ℕ) (words : List ℕ) (row column full unlike : ℕ) →
+    row < height → column < width → width ≤ 64 → unlike < 2 ^ 64 →
     HasUnlikeOf height row (length table) words column unlike →
-    AreAlike (word_columns (bit_and full (18446744073709551615 - unlike))) (grid_shown table width height layers words) row column
+    AreAlike (word_columns (bit_and full (18446744073709551615 - unlike))) (grid_shown table width height layers words)
+    row column
 columns_alike table width height layers words row column full unlike under over narrow fits told = λ x across has.
     let low : x < 64 = omega (arith, across, narrow) in
     cells_same table width height layers words words row x column under across over

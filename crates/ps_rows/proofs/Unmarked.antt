@@ -1,5 +1,6 @@
 -- Rows that aren't marked in the planes of an object, of a motion, or of all motions.
-use Rattle.std.proofs.Common.{◌≡◌, ◌∙◌, ℕ, suc, ◌+◌, ◌*◌, ◌<◌, ◌≤◌, ◌&&◌, inl, inr, Bool, false, not, Some, List, [], ◌∷◌, length, get_or, refl, sym, arith, bit_or}
+use Rattle.std.proofs.Common.{◌≡◌, ◌∙◌, ℕ, suc, ◌+◌, ◌*◌, ◌<◌, ◌≤◌, ◌&&◌, inl, inr, Bool, false, not, Some, List, []}
+use Rattle.std.proofs.Common.{◌∷◌, length, get_or, refl, sym, arith, bit_or}
 use Rattle.std.specs.Prelude.{nat_lt, slice_get}
 use Rattle.std.specs.List.{list_any}
 use Rattle.std.proofs.lemmas.Bool.{cases_Bool, cases_eq, cases_lt, and_parts, or_parts, false≢true}
@@ -16,6 +17,7 @@ use Rattle.ps_model.specs.board.Grid.{cell_at, motion_in}
 use Rattle.ps_model.specs.board.Movement.{is_number}
 use Rattle.ps_model.specs.meaning.Compiled.{slot_holds}
 use Rattle.ps_model.specs.meaning.Fitting.{same_motion}
+use Rattle.ps_laws.proofs.common.SameThings.{is_number-true}
 use Rattle.ps_board.specs.RowsOfGrids.{is_moving}
 use Rattle.ps_match.specs.Nowhere.{NoneMovesOnRow}
 use Rattle.ps_rows.specs.Planes.{has_column}
@@ -24,17 +26,19 @@ use Rattle.ps_rows.specs.RowTests.{IsRowOf, held, moved}
 use Rattle.ps_rows.specs.Showing.{motions_from, motion_plane, grid_shown, AreObjectsShown, AreMotionsShown}
 use Rattle.ps_rows.proofs.Absent.{not_marked}
 use Rattle.ps_rows.proofs.Bits.{has_column-zero}
-use Rattle.ps_rows.proofs.Listed.{number_is}
 use Rattle.ps_rows.proofs.Moves.{plane_low, plane_high}
 use Rattle.ps_rows.proofs.Scans.{other_row, moving_row_is, beyond_row, has_column-or}
 
 -- no slot of a cell passes a test
-no_slot : (passes : Slot → Bool) (cell : List Slot) → ((layer : ℕ) → passes (get_or cell layer Bare) ≡ false) → list_any passes cell ≡ false
+no_slot : (passes : Slot → Bool) (cell : List Slot) → ((layer : ℕ) → passes (get_or cell layer Bare) ≡ false) →
+    list_any passes cell ≡ false
 no_slot passes [] each = refl
 no_slot passes (slot ∷ slots) each = rw (each 0, no_slot passes slots (λ layer. each (suc layer))) refl
 
 -- what isn't going to do anything else is at rest
-at_rest_by : (motion : Motion) → ((other : Motion) → same_motion other Still ≡ false → same_motion other motion ≡ false) → not (same_motion Still motion) ≡ false
+at_rest_by : (motion : Motion) →
+    ((other : Motion) → same_motion other Still ≡ false → same_motion other motion ≡ false) →
+    not (same_motion Still motion) ≡ false
 at_rest_by Still none = refl
 at_rest_by (Going Up) none = absurd (false≢true (sym (none (Going Up) refl)))
 at_rest_by (Going Down) none = absurd (false≢true (sym (none (Going Down) refl)))
@@ -43,17 +47,22 @@ at_rest_by (Going Right) none = absurd (false≢true (sym (none (Going Right) re
 at_rest_by Acting none = absurd (false≢true (sym (none Acting refl)))
 
 -- the marks of one plane more
-pub one_plane_rows : (first : ℕ) (index : List ℕ) (plane rows : ℕ) → ((each row : ℕ) → first ≤ each → each < plane → has_column rows row ≡ false → has_column (get_or index each 0) row ≡ false) →
-    (each row : ℕ) → first ≤ each → each < plane + 1 → has_column (bit_or rows (get_or index plane 0)) row ≡ false → has_column (get_or index each 0) row ≡ false
+pub one_plane_rows : (first : ℕ) (index : List ℕ) (plane rows : ℕ) →
+    ((each row : ℕ) → first ≤ each → each < plane → has_column rows row ≡ false →
+    has_column (get_or index each 0) row ≡ false) →
+    (each row : ℕ) → first ≤ each → each < plane + 1 → has_column (bit_or rows (get_or index plane 0)) row ≡ false →
+    has_column (get_or index each 0) row ≡ false
 one_plane_rows first index plane rows before each row low below none =
-    let parts = or_parts (has_column rows row) (has_column (get_or index plane 0) row) (sym (has_column-or rows (get_or index plane 0) row) ∙ none) in
+    let parts = or_parts (has_column rows row) (has_column (get_or index plane 0) row)
+    (sym (has_column-or rows (get_or index plane 0) row) ∙ none) in
     elim (cases_eq each plane) [
       | inl e ↦ rw e parts.1
       | inr apart ↦ before each row low (omega arith) parts.0
     ]
 
 -- each motion but rest has a plane
-by_motion : (first : ℕ) (motion : Motion) (P : Motion → Type 0) → same_motion motion Still ≡ false → ((m : Motion) (plane : ℕ) → motion_plane first m ≡ Some plane → P m) → P motion
+by_motion : (first : ℕ) (motion : Motion) (P : Motion → Type 0) → same_motion motion Still ≡ false →
+    ((m : Motion) (plane : ℕ) → motion_plane first m ≡ Some plane → P m) → P motion
 by_motion first Still P going there = absurd (false≢true (sym going))
 by_motion first (Going Up) P going there = there (Going Up) first refl
 by_motion first (Going Down) P going there = there (Going Down) (first + 1) refl
@@ -61,10 +70,13 @@ by_motion first (Going Left) P going there = there (Going Left) (first + 2) refl
 by_motion first (Going Right) P going there = there (Going Right) (first + 3) refl
 by_motion first Acting P going there = there Acting (first + 4) refl
 
-module _ (table : List ℕ) (width height layers : ℕ) (words : List ℕ) (row : ℕ) (some : 0 < height) (narrow : width ≤ 64) (under : row < height) where
+module _ (table : List ℕ) (width height layers : ℕ) (words : List ℕ) (row : ℕ) (some : 0 < height) (narrow : width ≤ 64)
+    (under : row < height) where
   -- an object stands on no layer of the row
-  pub not_holding : (index : List ℕ) (count : ℕ) (object : ObjectId) → AreObjectsShown table height words (width * height) → length table ≤ count →
-      AreRowsMarked count height words index → (object.0 < length table → has_column (get_or index object.0 0) row ≡ false) → (x : ℕ) → x < width →
+  pub not_holding : (index : List ℕ) (count : ℕ) (object : ObjectId) →
+    AreObjectsShown table height words (width * height) → length table ≤ count →
+      AreRowsMarked count height words index →
+      (object.0 < length table → has_column (get_or index object.0 0) row ≡ false) → (x : ℕ) → x < width →
       list_any (slot_holds object) (cell_at (grid_shown table width height layers words) (x * height + row)) ≡ false
   not_holding index count object shown counted marked clear x across =
       no_slot (slot_holds object) (cell_at (grid_shown table width height layers words) (x * height + row))
@@ -75,47 +87,67 @@ module _ (table : List ℕ) (width height layers : ℕ) (words : List ℕ) (row 
       elim (cases_Bool (nat_lt layer layers && own)) [
         | inl both ↦
             let parts = and_parts (nat_lt layer layers) own both in
-            let below : object.0 < length table = slice_get_within table object.0 layer (number_is (slice_get table object.0) layer parts.1) in
-            not_marked table width height layers words index count row sought some narrow under shown counted marked both (clear below)
+            let below : object.0 < length table =
+            slice_get_within table object.0 layer (is_number-true (slice_get table object.0) layer parts.1) in
+            not_marked table width height layers words index count row sought some narrow under shown counted marked
+            both (clear below)
         | inr other ↦ other_row table width height layers words row some narrow under sought other
       ] in
       sym (told x across) ∙ has_column-zero x)
 
   -- a row that isn't marked for a motion
-  moved_nowhere : (test : MotionTest) (plane : ℕ) → AreMotionsShown table layers height words (width * height) → (test.layer).0 < layers →
-      motion_plane (motions_from table (test.layer).0) test.motion ≡ Some plane → get_or words (plane * height + row) 0 ≡ 0 →
+  moved_nowhere : (test : MotionTest) (plane : ℕ) → AreMotionsShown table layers height words (width * height) →
+    (test.layer).0 < layers →
+      motion_plane (motions_from table (test.layer).0) test.motion ≡ Some plane →
+      get_or words (plane * height + row) 0 ≡ 0 →
       IsRowOf (grid_shown table width height layers words) row 0 (moved test)
-  moved_nowhere test plane shown on asked blank = moving_row_is table width height layers words row some narrow under test 0 plane shown on asked (sym blank)
+  moved_nowhere test plane shown on asked blank =
+    moving_row_is table width height layers words row some narrow under test 0 plane shown on asked (sym blank)
 
-  pub none_moves : (index : List ℕ) (count : ℕ) (test : MotionTest) (plane : ℕ) → AreMotionsShown table layers height words (width * height) → motions_from table layers ≤ count →
-      AreRowsMarked count height words index → (test.layer).0 < layers → motion_plane (motions_from table (test.layer).0) test.motion ≡ Some plane →
-      has_column (get_or index plane 0) row ≡ false → NoneMovesOnRow (grid_shown table width height layers words) test row
+  pub none_moves : (index : List ℕ) (count : ℕ) (test : MotionTest) (plane : ℕ) →
+    AreMotionsShown table layers height words (width * height) → motions_from table layers ≤ count →
+      AreRowsMarked count height words index → (test.layer).0 < layers →
+      motion_plane (motions_from table (test.layer).0) test.motion ≡ Some plane →
+      has_column (get_or index plane 0) row ≡ false →
+      NoneMovesOnRow (grid_shown table width height layers words) test row
   none_moves index count test plane shown counted marked on asked clear = λ x across.
-      let high : plane < motions_from table (test.layer).0 + 5 = plane_high (motions_from table (test.layer).0) test.motion plane asked in
-      sym (moved_nowhere test plane shown on asked (marked plane row (omega arith) under clear) x across) ∙ has_column-zero x
+      let high : plane < motions_from table (test.layer).0 + 5 =
+      plane_high (motions_from table (test.layer).0) test.motion plane asked in
+      sym (moved_nowhere test plane shown on asked (marked plane row (omega arith) under clear) x across)
+      ∙ has_column-zero x
 
   -- a row that isn't marked for any motion
   unmoved : (layer : ℕ) (motion : Motion) → AreMotionsShown table layers height words (width * height) →
-      ((plane : ℕ) → length table ≤ plane → plane < motions_from table layers → get_or words (plane * height + row) 0 ≡ 0) → same_motion motion Still ≡ false →
-      IsRowOf (grid_shown table width height layers words) row 0 (moved (record { layer = record { 0 = layer }; motion = motion }))
+      ((plane : ℕ) → length table ≤ plane → plane < motions_from table layers →
+      get_or words (plane * height + row) 0 ≡ 0) → same_motion motion Still ≡ false →
+      IsRowOf (grid_shown table width height layers words) row 0
+      (moved (record { layer = record { 0 = layer }; motion = motion }))
   unmoved layer motion shown blank going = elim (cases_lt layer layers) [
     | inl on ↦
         let first : ℕ = motions_from table layer in
-        let there : (m : Motion) (plane : ℕ) → motion_plane first m ≡ Some plane → IsRowOf (grid_shown table width height layers words) row 0 (moved (record { layer = record { 0 = layer }; motion = m })) =
+        let there : (m : Motion) (plane : ℕ) → motion_plane first m ≡ Some plane →
+        IsRowOf (grid_shown table width height layers words) row 0
+        (moved (record { layer = record { 0 = layer }; motion = m })) =
         λ m plane asked.
         let low : first ≤ plane = plane_low first m plane asked in
         let high : plane < first + 5 = plane_high first m plane asked in
-        moved_nowhere (record { layer = record { 0 = layer }; motion = m }) plane shown on asked (blank plane (omega arith) (omega arith)) in
-        by_motion first motion (λ m. IsRowOf (grid_shown table width height layers words) row 0 (moved (record { layer = record { 0 = layer }; motion = m }))) going there
+        moved_nowhere (record { layer = record { 0 = layer }; motion = m }) plane shown on asked
+        (blank plane (omega arith) (omega arith)) in
+        by_motion first motion
+        (λ m. IsRowOf (grid_shown table width height layers words) row 0
+        (moved (record { layer = record { 0 = layer }; motion = m }))) going there
     | inr off ↦
-        beyond_row table width height layers words row some narrow under (record { layer = record { 0 = layer }; motion = motion }) 0 off
+        beyond_row table width height layers words row some narrow under
+        (record { layer = record { 0 = layer }; motion = motion }) 0 off
         (λ x low. has_column-zero x ∙ sym going)
   ]
 
   pub none_moving : AreMotionsShown table layers height words (width * height) →
-      ((plane : ℕ) → length table ≤ plane → plane < motions_from table layers → get_or words (plane * height + row) 0 ≡ 0) → (x : ℕ) → x < width →
+      ((plane : ℕ) → length table ≤ plane → plane < motions_from table layers →
+      get_or words (plane * height + row) 0 ≡ 0) → (x : ℕ) → x < width →
       list_any is_moving (cell_at (grid_shown table width height layers words) (x * height + row)) ≡ false
   none_moving shown blank x across =
       let cell : List Slot = cell_at (grid_shown table width height layers words) (x * height + row) in
       no_slot is_moving cell
-      (λ layer. at_rest_by (motion_in (get_or cell layer Bare)) (λ other going. sym (unmoved layer other shown blank going x across) ∙ has_column-zero x))
+      (λ layer. at_rest_by (motion_in (get_or cell layer Bare))
+      (λ other going. sym (unmoved layer other shown blank going x across) ∙ has_column-zero x))

@@ -6,6 +6,7 @@ use Rattle.ps_model.specs.declared.compiled.LayeredObject.{LayeredObject}
 use Rattle.ps_model.specs.declared.compiled.MotionTest.{MotionTest}
 use Rattle.ps_model.specs.board.Grid.{Grid, cell_at}
 use Rattle.ps_model.specs.meaning.Compiled.{is_held_in, moves_as_asked}
+use Rattle.ps_board.specs.declared.columns.TheConstants.{WORD_BITS}
 use Rattle.ps_rows.specs.Planes.{has_column}
 
 -- the word tells the cells of the row that pass the test
@@ -14,7 +15,7 @@ IsRowOf g row word test = (x : ℕ) → x < g.width → has_column word x ≡ te
 
 -- the word has no column beyond the grid
 abbrev pub IsWithin : Grid → ℕ → Type 0
-IsWithin g word = (x : ℕ) → g.width ≤ x → x < 64 → has_column word x ≡ false
+IsWithin g word = (x : ℕ) → g.width ≤ x → x < WORD_BITS → has_column word x ≡ false
 
 -- what a mask asks of a cell, part by part
 abbrev pub held : LayeredObject → List Slot → Bool
@@ -39,4 +40,5 @@ moved_all tests cell = list_all (moves_as_asked cell) tests
 abbrev pub five_rows : ℕ → List ℕ → ℕ → ℕ → ℕ
 five_rows height words first row =
     let word : ℕ → ℕ = λ plane. slice_index words (plane * height + row) in
-    bit_or (bit_or (bit_or (bit_or (word first) (word (first + 1))) (word (first + 2))) (word (first + 3))) (word (first + 4))
+    bit_or (bit_or (bit_or (bit_or (word first) (word (first + 1))) (word (first + 2))) (word (first + 3)))
+    (word (first + 4))

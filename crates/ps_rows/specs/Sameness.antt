@@ -1,6 +1,7 @@
 -- Two boards of the same size for the same game: where their words have the same cells.
 use Rattle.std.specs.Prelude.{◌≡◌, ◌<◌, ◌+◌, ◌*◌, ℕ, nat_eq, true, false, List, slice_index}
 use Rattle.std.specs.List.{list_any}
+use Rattle.ps_board.specs.declared.columns.TheConstants.{WORD_BITS}
 use Rattle.ps_rows.specs.Planes.{has_column}
 use Rattle.ps_rows.specs.Showing.{slot_shown}
 
@@ -15,7 +16,8 @@ IsSamePlane width height first second plane = (row : ℕ) → row < height →
 
 -- each of these planes has
 abbrev pub AreSamePlanes : ℕ → ℕ → List ℕ → List ℕ → List ℕ → Type 0
-AreSamePlanes width height first second planes = (plane : ℕ) → list_any (nat_eq plane) planes ≡ true → IsSamePlane width height first second plane
+AreSamePlanes width height first second planes = (plane : ℕ) → list_any (nat_eq plane) planes ≡ true →
+    IsSamePlane width height first second plane
 
 -- a layer shows the same in each cell
 abbrev pub IsSameLayer : List ℕ → ℕ → ℕ → List ℕ → List ℕ → ℕ → Type 0
@@ -30,12 +32,16 @@ HasDifferences height row planes first second word = (plane x : ℕ) → plane <
 -- a word has each column that isn't in another word as one of them is, and hasn't that one
 abbrev pub HasUnlike : ℕ → ℕ → ℕ → Type 0
 HasUnlike of column word =
-    (has_column word column ≡ false) × ((x : ℕ) → x < 64 → has_column word x ≡ false → has_column of x ≡ has_column of column)
+    (has_column word column ≡ false)
+    × ((x : ℕ) → x < WORD_BITS → has_column word x ≡ false → has_column of x ≡ has_column of column)
 
--- a word has each column of a row that isn't in one of so many planes, the first ones, as one of them is, and hasn't that one
+-- a word has each column of a row that isn't in one of so many planes, the first ones, as one of them is, and hasn't
+-- that one
 abbrev pub HasUnlikeOf : ℕ → ℕ → ℕ → List ℕ → ℕ → ℕ → Type 0
-HasUnlikeOf height row planes words column word = (has_column word column ≡ false) × ((plane x : ℕ) → plane < planes → x < 64 → has_column word x ≡ false →
-    has_column (slice_index words (plane * height + row)) x ≡ has_column (slice_index words (plane * height + row)) column)
+HasUnlikeOf height row planes words column word = (has_column word column ≡ false)
+    × ((plane x : ℕ) → plane < planes → x < WORD_BITS → has_column word x ≡ false →
+    has_column (slice_index words (plane * height + row)) x ≡ has_column (slice_index words (plane * height + row))
+    column)
 
 -- a plane has the same words in both on each row that isn't in a set
 abbrev pub DifferOnlyOnRows : ℕ → ℕ → List ℕ → List ℕ → ℕ → Type 0

@@ -1,6 +1,8 @@
--- What planes show. A game has one plane for each object, and behind them five for each layer, of the objects that are about
+-- What planes show. A game has one plane for each object, and behind them five for each layer, of the objects that are
+-- about
 -- to go up, down, left or right, or to act.
-use Rattle.std.specs.Prelude.{◌≡◌, ◌<◌, ℕ, ◌+◌, ◌-◌, ◌*◌, Bool, cond, Option, Some, None, option_map, List, [], ◌∷◌, ◌++◌, length, map, replicate, slice_get, take, find}
+use Rattle.std.specs.Prelude.{◌≡◌, ◌<◌, ℕ, ◌+◌, ◌-◌, ◌*◌, Bool, cond, Option, Some, None, option_map, List, [], ◌∷◌}
+use Rattle.std.specs.Prelude.{◌++◌, length, map, replicate, slice_get, take, find}
 use Rattle.std.specs.List.{range_with_len}
 use Rattle.ps_model.specs.declared.pieces.ObjectId.{ObjectId}
 use Rattle.ps_model.specs.declared.pieces.Direction.TheVariants.{Up, Down, Left, Right}
@@ -38,7 +40,9 @@ motion_planes first = first ∷ (first + 1) ∷ (first + 2) ∷ (first + 3) ∷ 
 unfoldable pub first_motion : (ℕ → Bool) → ℕ → Motion
 first_motion passes first =
     cond (passes first) (Going Up)
-    (cond (passes (first + 1)) (Going Down) (cond (passes (first + 2)) (Going Left) (cond (passes (first + 3)) (Going Right) (cond (passes (first + 4)) Acting Still))))
+    (cond (passes (first + 1)) (Going Down)
+    (cond (passes (first + 2)) (Going Left)
+    (cond (passes (first + 3)) (Going Right) (cond (passes (first + 4)) Acting Still))))
 
 -- the number of the object that stands on a layer of a cell: the first whose plane has the cell
 unfoldable pub object_shown : List ℕ → ℕ → List ℕ → ℕ → ℕ → Option ℕ
@@ -51,7 +55,8 @@ motion_shown table height words cell layer = first_motion (has_cell height words
 -- the slot of a cell on a layer
 unfoldable pub slot_shown : List ℕ → ℕ → List ℕ → ℕ → ℕ → Slot
 slot_shown table height words cell layer =
-    slot_of (option_map numbered (object_shown table height words cell layer)) (motion_shown table height words cell layer)
+    slot_of (option_map numbered (object_shown table height words cell layer))
+    (motion_shown table height words cell layer)
 
 -- the slots of a cell, and all cells
 unfoldable pub cell_shown : List ℕ → ℕ → ℕ → List ℕ → ℕ → List Slot
@@ -62,20 +67,24 @@ cells_shown table layers height words cells = map (cell_shown table layers heigh
 
 -- an object's plane has no cell but those which show the object
 abbrev pub AreObjectsShown : List ℕ → ℕ → List ℕ → ℕ → Type 0
-AreObjectsShown table height words cells = (cell object layer : ℕ) → cell < cells → slice_get table object ≡ Some layer →
+AreObjectsShown table height words cells = (cell object layer : ℕ) → cell < cells →
+    slice_get table object ≡ Some layer →
     has_cell height words cell object ≡ is_number (object_shown table height words cell layer) object
 
 -- a motion's plane has no cell but those whose object has that motion
 abbrev pub AreMotionsShown : List ℕ → ℕ → ℕ → List ℕ → ℕ → Type 0
-AreMotionsShown table layers height words cells = (cell layer : ℕ) (motion : Motion) (plane : ℕ) → cell < cells → layer < layers →
+AreMotionsShown table layers height words cells = (cell layer : ℕ) (motion : Motion) (plane : ℕ) → cell < cells →
+    layer < layers →
     motion_plane (motions_from table layer) motion ≡ Some plane →
     has_cell height words cell plane ≡ same_motion motion (motion_in (slot_shown table height words cell layer))
 
--- the words with an object and its motion in a cell of a layer, whose objects have these planes, and whose motions have five
+-- the words with an object and its motion in a cell of a layer, whose objects have these planes, and whose motions have
+-- five
 -- from the first on
 abbrev pub with_slot_in : ℕ → ℕ → List ℕ → Option ℕ → ℕ → Motion → List ℕ → List ℕ
 with_slot_in height cell planes object first motion words =
-    with_cell_in height cell (motion_plane first motion) (with_cell_in height cell object words planes) (motion_planes first)
+    with_cell_in height cell (motion_plane first motion) (with_cell_in height cell object words planes)
+    (motion_planes first)
 
 -- the words with those from a place on cleared
 abbrev pub cleared_from : ℕ → List ℕ → List ℕ
@@ -84,4 +93,5 @@ cleared_from start words = take start words ++ replicate (length words - start) 
 -- the grid that is shown
 abbrev pub grid_shown : List ℕ → ℕ → ℕ → ℕ → List ℕ → Grid
 grid_shown table width height layers words =
-    record { width = width; height = height; layers = layers; cells = cells_shown table layers height words (width * height) }
+    record { width = width; height = height; layers = layers; cells =
+    cells_shown table layers height words (width * height) }

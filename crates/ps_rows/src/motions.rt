@@ -1,6 +1,7 @@
 //! The five planes of a layer's motions.
 
 ghost use Rattle.std.specs.Prelude.{◌≡◌, ◌+◌, ◌*◌, ◌/◌, ◌^◌, ◌<◌, ◌≤◌, vec_len};
+ghost use Rattle.ps_model.specs.declared.limits.TheConstants.{SIDE_LIMIT};
 ghost use Rattle.ps_rows.specs.Planes.{has_cell, with_cell_in};
 ghost use Rattle.ps_rows.specs.Showing.{first_motion, motion_plane, motion_planes};
 
@@ -24,7 +25,7 @@ pub fn motion_plane(first: u32, motion: Motion) -> Option<u32>
 
 /// The first motion whose plane has a cell.
 pub fn first_motion(planes: &Planes, cell: u32, first: u32) -> Motion
-    requires column { cell / planes.now.height < 64 }
+    requires column { cell / planes.now.height < SIDE_LIMIT }
     requires few { first + 4 < 2 ^ 32 }
     requires planes { (first + 5) * planes.now.height ≤ vec_len planes.now.words }
     ensures { result ≡ first_motion (has_cell planes.now.height planes.now.words.items cell) first }
@@ -49,7 +50,7 @@ pub fn first_motion(planes: &Planes, cell: u32, first: u32) -> Motion
 
 /// Gives a cell this motion alone.
 pub fn choose_motion(planes: &mut Planes, cell: u32, first: u32, motion: Motion)
-    requires column { cell / planes.old.height < 64 }
+    requires column { cell / planes.old.height < SIDE_LIMIT }
     requires few { first + 4 < 2 ^ 32 }
     requires planes { (first + 5) * planes.old.height ≤ vec_len planes.old.words }
     ensures words { let p = planes.old in

@@ -4,6 +4,7 @@ ghost use Rattle.std.specs.Prelude.{◌≡◌, ◌+◌, ◌*◌, ◌/◌, ◌%�
 ghost use Rattle.std.specs.Prelude.{slice_index, slice_set, true, vec_len};
 ghost use Rattle.ps_model.specs.board.Movement.{is_number};
 ghost use Rattle.ps_model.specs.declared.limits.TheConstants.{SIDE_LIMIT};
+ghost use Rattle.ps_board.specs.declared.columns.TheConstants.{WORD_BITS};
 ghost use Rattle.ps_rows.specs.Planes.{
   HavePlanes,
   has_cell,
@@ -38,7 +39,7 @@ pub struct Planes {
 
 /// Whether a word has a column.
 pub fn has_column(word: u64, column: u32) -> bool
-    requires { column < 64 }
+    requires { column < WORD_BITS }
     ensures { result ≡ has_column word column }
 {
     (word >> column) & 1 == 1
@@ -46,7 +47,7 @@ pub fn has_column(word: u64, column: u32) -> bool
 
 /// A word with a column, or without it.
 fn with_column(word: u64, column: u32, on: bool) -> u64
-    requires { column < 64 }
+    requires { column < WORD_BITS }
     ensures { result ≡ with_column word column on }
 {
     if on {
@@ -165,7 +166,7 @@ impl Planes {
 
     /// Whether a plane has a cell.
     pub fn has_cell(&self, cell: u32, plane: u32) -> bool
-        requires column { cell / self.now.height < 64 }
+        requires column { cell / self.now.height < SIDE_LIMIT }
         requires plane { (plane + 1) * self.now.height ≤ vec_len self.now.words }
         ensures { result ≡ has_cell self.now.height self.now.words.items cell plane }
     {
@@ -174,7 +175,7 @@ impl Planes {
 
     /// Puts a cell into a plane, or takes it away.
     fn set_cell(&mut self, cell: u32, plane: u32, on: bool)
-        requires column { cell / self.old.height < 64 }
+        requires column { cell / self.old.height < SIDE_LIMIT }
         requires plane { (plane + 1) * self.old.height ≤ vec_len self.old.words }
         ensures words { self.new.words.items ≡ with_cell self.old.height self.old.words.items cell plane on }
         ensures height { self.new.height ≡ self.old.height }
@@ -187,7 +188,7 @@ impl Planes {
 
     /// Puts a cell into the chosen one of these planes, if one is chosen, and takes it away from the others.
     pub fn choose_plane(&mut self, cell: u32, planes: &[u32], chosen: Option<u32>)
-        requires column { cell / self.old.height < 64 }
+        requires column { cell / self.old.height < SIDE_LIMIT }
         requires planes { HavePlanes self.old.height self.old.words.items planes.now }
         ensures words { let p = self.old in
             self.new.words.items ≡ with_cell_in p.height cell chosen p.words.items planes.now }
@@ -202,7 +203,7 @@ impl Planes {
     /// The first of these planes that has a cell.
     #[tactic(auto, using(crate::proofs::Steps::found_nowhere))]
     pub fn first_plane(&self, cell: u32, planes: &[u32]) -> Option<u32>
-        requires column { cell / self.now.height < 64 }
+        requires column { cell / self.now.height < SIDE_LIMIT }
         requires planes { HavePlanes self.now.height self.now.words.items planes.now }
         ensures { result ≡ find (has_cell self.now.height self.now.words.items cell) planes.now }
     {

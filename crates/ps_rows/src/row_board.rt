@@ -58,7 +58,7 @@ fn put_slot(
     first: u32,
     motion: Motion,
 )
-    requires column { cell / planes.old.height < 64 }
+    requires column { cell / planes.old.height < SIDE_LIMIT }
     requires objects { HavePlanes planes.old.height planes.old.words.items objects.now }
     requires few { first + 4 < 2 ^ 32 }
     requires motions { (first + 5) * planes.old.height ≤ vec_len planes.old.words }
@@ -362,7 +362,7 @@ impl Board for RowBoard {
 #[cfg(test)]
 mod tests {
     use super::*;
-    use ps_model::Direction;
+    use ps_model::{Direction, LAYER_LIMIT, OBJECT_LIMIT, SIDE_LIMIT};
     use std::test::Fail;
 
     const PUSHED: Motion = Motion::Going(Direction::Left);
@@ -492,7 +492,7 @@ mod tests {
         board.put(9, LayerId(0), Some(ObjectId(1)), Motion::Still);
         let empty = board.alike(1, 2);
         let held = board.alike(1, 3);
-        for column in 0..64u32 {
+        for column in 0..SIDE_LIMIT {
             assert_eq!(rt; board.alike(0, 4).has(column), column < 5);
             assert_eq!(rt; empty.has(column), column == 0 || column == 2);
             assert_eq!(rt; held.has(column), column == 1 || column == 3);
@@ -503,20 +503,24 @@ mod tests {
 
     #[test]
     fn the_largest_board_has_its_last_slot(rt: HostRuntime) -> Result<(), Fail> {
-        let mut own_layers = [LayerId(30); 64];
-        own_layers[63] = LayerId(31);
-        let mut board = RowBoard::try_empty(rt.alloc(), 64, 64, 32, &own_layers)?;
-        board.put(4095, LayerId(31), Some(ObjectId(63)), Motion::Acting);
-        for cell in 0..4095u32 {
-            assert_eq!(rt; board.object(cell, LayerId(31)), None);
-            assert_eq!(rt; board.motion(cell, LayerId(31)), Motion::Still);
+        let highest = LayerId(LAYER_LIMIT - 1);
+        let last = ObjectId(OBJECT_LIMIT - 1);
+        let mut own_layers = [LayerId(LAYER_LIMIT - 2); OBJECT_LIMIT as usize];
+        own_layers[last.0 as usize] = highest;
+        let (side, layers) = (SIDE_LIMIT, LAYER_LIMIT);
+        let mut board = RowBoard::try_empty(rt.alloc(), side, side, layers, &own_layers)?;
+        let corner = SIDE_LIMIT * SIDE_LIMIT - 1;
+        board.put(corner, highest, Some(last), Motion::Acting);
+        for cell in 0..corner {
+            assert_eq!(rt; board.object(cell, highest), None);
+            assert_eq!(rt; board.motion(cell, highest), Motion::Still);
         }
-        for layer in 0..31u32 {
-            assert_eq!(rt; board.object(4095, LayerId(layer)), None);
-            assert_eq!(rt; board.motion(4095, LayerId(layer)), Motion::Still);
+        for layer in 0..highest.0 {
+            assert_eq!(rt; board.object(corner, LayerId(layer)), None);
+            assert_eq!(rt; board.motion(corner, LayerId(layer)), Motion::Still);
         }
-        assert_eq!(rt; board.object(4095, LayerId(31)), Some(ObjectId(63)));
-        assert_eq!(rt; board.motion(4095, LayerId(31)), Motion::Acting);
+        assert_eq!(rt; board.object(corner, highest), Some(last));
+        assert_eq!(rt; board.motion(corner, highest), Motion::Acting);
         Ok(())
     }
 }

@@ -1,24 +1,27 @@
 //! Whether planes have the same cells on two boards, or in two columns of one.
 
 ghost use Rattle.std.specs.Prelude.{◌≡◌, ◌+◌, ◌*◌, ◌<◌, ◌≤◌, length, slice_index, true, vec_len};
+ghost use Rattle.ps_model.specs.declared.limits.TheConstants.{SIDE_LIMIT};
+ghost use Rattle.ps_board.specs.declared.columns.TheConstants.{WORD_BITS};
 ghost use Rattle.ps_rows.specs.Planes.{HavePlanes};
 ghost use Rattle.ps_rows.specs.Sameness.{AreSamePlanes, AreSameRows, HasDifferences, IsSamePlane};
 ghost use Rattle.ps_rows.specs.Sameness.{HasUnlike, HasUnlikeOf};
 
 use crate::planes::{Planes, has_column, plane_row};
+use ps_board::WORD_BITS;
 
 /// Whether two rows have the same columns, of so many from the left on.
 fn same_row(first: u64, second: u64, width: u32) -> bool
-    requires { (0 < width) × (width ≤ 64) }
+    requires { (0 < width) × (width ≤ WORD_BITS) }
     ensures same { result ≡ true → AreSameRows width first second }
     ensures other { AreSameRows width first second → result ≡ true }
 {
-    (first ^ second) & (u64::MAX >> (64 - width)) == 0
+    (first ^ second) & (u64::MAX >> (WORD_BITS - width)) == 0
 }
 
 /// Whether a plane has the same cells on two boards of this width. One without columns on both isn't read.
 fn same_plane(first: &Planes, second: &Planes, width: u32, plane: u32) -> bool
-    requires width { (0 < width) × (width ≤ 64) }
+    requires width { (0 < width) × (width ≤ SIDE_LIMIT) }
     requires height { second.now.height ≡ first.now.height }
     requires first { (plane + 1) * first.now.height ≤ vec_len first.now.words }
     requires second { (plane + 1) * first.now.height ≤ vec_len second.now.words }
@@ -43,7 +46,7 @@ fn same_plane(first: &Planes, second: &Planes, width: u32, plane: u32) -> bool
 
 /// Whether these planes have the same cells on two boards of this width.
 pub fn same_planes(first: &Planes, second: &Planes, width: u32, planes: &[u32]) -> bool
-    requires width { (0 < width) × (width ≤ 64) }
+    requires width { (0 < width) × (width ≤ SIDE_LIMIT) }
     requires height { second.now.height ≡ first.now.height }
     requires first { HavePlanes first.now.height first.now.words.items planes.now }
     requires second { HavePlanes first.now.height second.now.words.items planes.now }
@@ -76,7 +79,7 @@ pub fn differing_row(first: &[u64], second: &[u64], height: u32, row: u32, plane
 
 /// The columns of a row in which a plane isn't as in one of them. A row that the plane has empty isn't read.
 fn unlike_in(planes: &Planes, plane: u32, row: u32, column: u32) -> u64
-    requires column { column < 64 }
+    requires column { column < SIDE_LIMIT }
     requires row { row < planes.now.height }
     requires plane { (plane + 1) * planes.now.height ≤ vec_len planes.now.words }
     ensures { HasUnlike (slice_index planes.now.words.items (plane * planes.now.height + row)) column result }
@@ -93,7 +96,7 @@ fn unlike_in(planes: &Planes, plane: u32, row: u32, column: u32) -> u64
 
 /// The columns of a row in which so many planes, the first ones, aren't as in one of them.
 pub fn unlike_row(planes: &Planes, count: u32, row: u32, column: u32) -> u64
-    requires column { column < 64 }
+    requires column { column < SIDE_LIMIT }
     requires row { row < planes.now.height }
     requires planes { count * planes.now.height ≤ vec_len planes.now.words }
     ensures { HasUnlikeOf planes.now.height row count planes.now.words.items column result }

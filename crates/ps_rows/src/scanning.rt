@@ -5,6 +5,7 @@ ghost use Rattle.ps_model.specs.declared.pieces.Motion.TheVariants.{Still};
 ghost use Rattle.ps_model.specs.meaning.Compiled.{mask_fits};
 ghost use Rattle.ps_model.specs.meaning.Fitting.{same_motion};
 ghost use Rattle.ps_program.specs.ProgramShown.{mask_shown};
+ghost use Rattle.ps_board.specs.declared.columns.TheConstants.{WORD_BITS};
 ghost use Rattle.ps_rows.specs.Planes.{has_column};
 ghost use Rattle.ps_rows.specs.RowTests.{IsRowOf, IsWithin, held, held_all, held_any};
 ghost use Rattle.ps_rows.specs.RowTests.{five_rows, held_of_each, moved, moved_all};
@@ -12,14 +13,14 @@ ghost use Rattle.ps_rows.specs.Showing.{motions_from};
 
 use crate::motions::motion_plane;
 use crate::row_board::RowBoard;
-use ps_board::Board;
+use ps_board::{Board, WORD_BITS};
 use ps_model::{LayeredObject, Motion, MotionTest};
 use ps_program::CellMask;
 use ps_text::List;
 
 /// All columns, where rest is asked for, and else none.
 fn still_row(motion: Motion) -> u64
-    ensures { (x : ℕ) → x < 64 → has_column result x ≡ same_motion motion Still }
+    ensures { (x : ℕ) → x < WORD_BITS → has_column result x ≡ same_motion motion Still }
 {
     match motion {
         Motion::Still => u64::MAX,
@@ -29,10 +30,10 @@ fn still_row(motion: Motion) -> u64
 
 /// The columns of a board of so many.
 pub(crate) fn columns(width: u32) -> u64
-    requires { (0 < width) × (width ≤ 64) }
-    ensures { (x : ℕ) → x < 64 → has_column result x ≡ nat_lt x width }
+    requires { (0 < width) × (width ≤ WORD_BITS) }
+    ensures { (x : ℕ) → x < WORD_BITS → has_column result x ≡ nat_lt x width }
 {
-    u64::MAX >> (64 - width)
+    u64::MAX >> (WORD_BITS - width)
 }
 
 impl RowBoard {

@@ -5,6 +5,7 @@ use ps_board::{Board, Columns, ListBoard};
 use ps_match::Scan;
 use ps_model::{
     Direction, LayerId, LayerWrite, LayeredObject, Memory, Motion, ObjectId, ObjectWrite,
+    SIDE_LIMIT,
 };
 use ps_program::CellWrite;
 use ps_text::List;
@@ -173,6 +174,6 @@ fn what_has_no_room_is_not_put(rt: HostRuntime) -> Result<(), Fail> {
     let mut board = RowBoard::try_empty(rt.alloc(), 4, 2, 2, &OWN_LAYERS)?;
     let put = ObjectWrite::Put(ObjectId(1));
     let write = write_of(rt.alloc(), None, put, None)?;
-    assert!(&rt; !board.rewrite(&write, 1, Columns::below(64)));
+    assert!(&rt; !board.rewrite(&write, 1, Columns::below(SIDE_LIMIT)));
     Ok(())
 }

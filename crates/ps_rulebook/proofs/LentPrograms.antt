@@ -8,9 +8,12 @@ use Rattle.ps_program.specs.declared.program.CompiledSection.{CompiledSection}
 use Rattle.ps_rulebook.specs.PlayedGames.{AreCompiled, PlayAsWritten}
 use Rattle.ps_rulebook.proofs.PlayedGames.{games-play_as_written}
 
-pub rules-play_as_written : (names : Names) (lines : List RuleLine) (plain late : List CompiledSection) (first second : List model.CompiledSection) →
-    sections_shown plain ≡ first → sections_shown late ≡ second → AreCompiled names lines first second → PlayAsWritten names lines plain late
-rules-play_as_written names lines plain late first second shown too compiled text read e same_names same_lines table_for gives =
+pub rules-play_as_written : (names : Names) (lines : List RuleLine) (plain late : List CompiledSection)
+    (first second : List model.CompiledSection) →
+    sections_shown plain ≡ first → sections_shown late ≡ second → AreCompiled names lines first second →
+    PlayAsWritten names lines plain late
+rules-play_as_written names lines plain late first second shown too compiled text read e same_names same_lines table_for
+    gives =
     let own_plain : List model.CompiledSection = sections_shown plain in
     let own_late : List model.CompiledSection = sections_shown late in
     games-play_as_written text read e plain late

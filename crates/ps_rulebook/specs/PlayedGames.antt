@@ -1,4 +1,5 @@
--- A game that is played by its compiled programs: the script that turns of these programs play, and when it has the runs of
+-- A game that is played by its compiled programs: the script that turns of these programs play, and when it has the
+-- runs of
 -- the game as it is written.
 use Rattle.std.specs.Prelude.{◌≡◌, ℕ, Option, Some, List}
 use Rattle.ps_model.specs.declared.pieces.LayerId.{LayerId}
@@ -20,13 +21,15 @@ use Rattle.ps_stage.specs.Standings.{SessionParts, script_for}
 
 -- a game without its rules
 abbrev pub parts_of : Game → SessionParts
-parts_of read = record { title = read.title; options = read.options; names = read.names; entries = read.entries; wins = read.wins }
+parts_of read = record { title = read.title; options = read.options; names = read.names; entries = read.entries; wins =
+    read.wins }
 
 -- a kind of board gives every object room on its own layer, by the table that its boards have for layers
 abbrev pub GivesRoom : (List ℕ → Option (List ℕ)) → Type 0
 GivesRoom table_for = (layers : List LayerId) → HaveRoom (table_for (layer_numbers layers)) layers
 
--- two programs are compiled of these names and lines: each comes to what its part of the lines means on grids of the game,
+-- two programs are compiled of these names and lines: each comes to what its part of the lines means on grids of the
+-- game,
 -- and can run as it is on boards where each object has room on its own layer
 pub record AreCompiled (names : Names) (lines : List RuleLine) (plain late : List model.CompiledSection) : Type 0 where
   pub plain_alike : RunsAlike names Plain lines plain
@@ -42,7 +45,8 @@ meant_of sections table = sections_meaning table sections
 abbrev pub played_by : (List ℕ → Option (List ℕ)) → Game → List CompiledSection → List CompiledSection → Script
 played_by table_for read plain late = script_for table_for (parts_of read) (meant_of plain) (meant_of late)
 
--- if the names and the lines are those of the game of a text, that game, played by these sections, has the runs of the game
+-- if the names and the lines are those of the game of a text, that game, played by these sections, has the runs of the
+-- game
 -- as it is written
 abbrev pub PlayAsWritten : Names → List RuleLine → List CompiledSection → List CompiledSection → Type 0
 PlayAsWritten names lines plain late =
@@ -55,4 +59,5 @@ abbrev pub CompiledGamesPlayAsWritten : Type 0
 CompiledGamesPlayAsWritten =
     (text : List ℕ) (read : Game) → game text ≡ Some read → (plain late : List CompiledSection) →
     AreCompiled read.names read.rules (sections_shown plain) (sections_shown late) →
-    (table_for : List ℕ → Option (List ℕ)) → GivesRoom table_for → SameRuns (played_by table_for read plain late) (script_of read)
+    (table_for : List ℕ → Option (List ℕ)) → GivesRoom table_for →
+    SameRuns (played_by table_for read plain late) (script_of read)

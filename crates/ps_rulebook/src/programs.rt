@@ -7,6 +7,7 @@ ghost use Rattle.ps_program.specs.ProgramShown.{sections_shown};
 ghost use Rattle.ps_rulebook.specs.PlayedGames.{AreCompiled, PlayAsWritten};
 
 use crate::game_rules::GameRules;
+use ps_board::CellSet;
 use ps_compile::CompiledPrograms;
 use ps_model::Memory;
 use ps_turn::TurnRules;
@@ -31,5 +32,6 @@ pub fn rules_of_turns<'p, 'r>(
     Ok(TurnRules {
         plain: GameRules::try_new(alloc, &programs.plain)?,
         late: GameRules::try_new(alloc, &programs.late)?,
+        moving: CellSet::try_new(alloc)?,
     })
 }

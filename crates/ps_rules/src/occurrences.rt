@@ -102,6 +102,13 @@ impl<'r> Occurrences<'r> {
         self.rule
     }
 
+    /// The number of the rule's line, from 1.
+    pub fn line(&self) -> u32
+        ensures { result ≡ self.now.line }
+    {
+        self.rule.line
+    }
+
     /// The cells of the rule in written order.
     pub fn cells(&self) -> &[&'r CellPair]
         ensures { cell_list_shown result.now ≡ cells_of_rule self.now }

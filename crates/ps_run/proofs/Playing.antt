@@ -1,7 +1,8 @@
 -- What bytes do, one after the other.
-use Rattle.std.proofs.Common.{◌≡◌, ◌∙◌, ℕ, zero, suc, ◌+◌, ◌<◌, ◌≤◌, ◌-◌, inl, inr, false, true, List, [], ◌∷◌, ◌++◌, length, take, drop, get_or, Option, Some, None, refl, sym, subst, ap, append_assoc, append-nil, arith, Result, Ok, Err}
+use Rattle.std.proofs.Common.{◌≡◌, ◌∙◌, ℕ, zero, suc, ◌+◌, ◌<◌, ◌≤◌, ◌-◌, List, [], ◌∷◌, ◌++◌, length, take, drop}
+use Rattle.std.proofs.Common.{get_or, Option, Some, None, refl, sym, subst, ap, append_assoc, append-nil, arith, Result}
+use Rattle.std.proofs.Common.{Ok, Err}
 use Rattle.std.specs.Prelude.{OnOk, IfErr}
-use Rattle.std.proofs.lemmas.Bool.{cases_lt}
 use Rattle.std.proofs.lemmas.Grind.{common_steps}
 use Rattle.std.proofs.lemmas.List.{take-append-drop, length-append}
 use Rattle.ps_model.specs.declared.held.Held.{Held}
@@ -26,27 +27,34 @@ use Rattle.ps_run.specs.Played.{HavePlayed, HasTaken, HasTakenAndFailed, IsCutOf
 
 -- texts taken one after the other
 pub taken_twice :
-    (before now later : WriterState) (first second whole : List ℕ) → HasTaken before now first → HasTaken now later second → whole ≡ first ++ second → HasTaken before later whole
+    (before now later : WriterState) (first second whole : List ℕ) → HasTaken before now first →
+    HasTaken now later second → whole ≡ first ++ second → HasTaken before later whole
 taken_twice before now later first second whole (grows, calls, none) (grows_more, more_calls, no_more) same =
     let long : length whole ≡ length first + length second = ap length same ∙ length-append first second in
-    (grows_twice before.contents now.contents later.contents first second whole grows grows_more same, omega arith, no_more ∙ none)
+    (grows_twice before.contents now.contents later.contents first second whole grows grows_more same, omega arith,
+    no_more ∙ none)
 
 -- a text taken, and then some of another
 pub taken_and_failed :
-    (before now later : WriterState) (first second whole : List ℕ) → HasTaken before now first → HasTakenAndFailed now later second → whole ≡ first ++ second → HasTakenAndFailed before later whole
+    (before now later : WriterState) (first second whole : List ℕ) → HasTaken before now first →
+    HasTakenAndFailed now later second → whole ≡ first ++ second → HasTakenAndFailed before later whole
 taken_and_failed before now later first second whole (grows, calls, none) (grows_more, more_calls, no_more) same =
     let long : length whole ≡ length first + length second = ap length same ∙ length-append first second in
-    (grows_twice before.contents now.contents later.contents first second whole grows grows_more same, omega arith, no_more ∙ none)
+    (grows_twice before.contents now.contents later.contents first second whole grows grows_more same, omega arith,
+    no_more ∙ none)
 
 -- nothing more was taken
 pub taken_no_more :
-    (before now later : WriterState) (text : List ℕ) → HasTaken before now text → later.contents ≡ now.contents → later.calls ≡ now.calls → later.empty_calls ≡ now.empty_calls →
+    (before now later : WriterState) (text : List ℕ) → HasTaken before now text → later.contents ≡ now.contents →
+    later.calls ≡ now.calls → later.empty_calls ≡ now.empty_calls →
     HasTaken before later text
-taken_no_more before now later text (grows, calls, none) same same_calls no_more = (same ∙ grows, omega arith, no_more ∙ none)
+taken_no_more before now later text (grows, calls, none) same same_calls no_more =
+    (same ∙ grows, omega arith, no_more ∙ none)
 
 -- a byte that brings no key
 pub silent_byte :
-    (script : Script) (before now : WriterState) (session : Session) (kept : Held) (read : List ℕ) (byte : ℕ) → keys.key_behind kept byte ≡ None →
+    (script : Script) (before now : WriterState) (session : Session) (kept : Held) (read : List ℕ) (byte : ℕ) →
+    keys.key_behind kept byte ≡ None →
     HavePlayed script before now session kept read →
     HavePlayed script before now session (keys.held_behind kept byte) (read ++ byte ∷ [])
 silent_byte script before now session kept read byte none played =
@@ -60,7 +68,8 @@ silent_byte script before now session kept read byte none played =
 
 -- a byte that brings a key
 pub key_byte :
-    (script : Script) (before now later : WriterState) (session next : Session) (kept : Held) (read : List ℕ) (byte : ℕ) (key : Key) → keys.key_behind kept byte ≡ Some key →
+    (script : Script) (before now later : WriterState) (session next : Session) (kept : Held) (read : List ℕ) (byte : ℕ)
+    (key : Key) → keys.key_behind kept byte ≡ Some key →
     next ≡ (key_step script session key).session → HasTaken now later (key_step script session key).text →
     HavePlayed script before now session kept read →
     HavePlayed script before later next (keys.held_behind kept byte) (read ++ byte ∷ [])
@@ -70,12 +79,15 @@ key_byte script before now later session next kept read byte key brings steps ta
       was_well = played.was_well;
       session = steps ∙ ap (λ (s : Session). (key_step script s key).session) played.session ∙ sym wrote.1;
       held = (read_byte_by_byte read byte kept played.held).1;
-      wrote = taken_twice before now later (whole_front script read) (key_step script session key).text (whole_front script (read ++ byte ∷ [])) played.wrote taken
-          (wrote.0 ∙ ap (λ (s : Session). whole_front script read ++ (key_step script s key).text) (sym played.session));
+      wrote = taken_twice before now later (whole_front script read) (key_step script session key).text
+      (whole_front script (read ++ byte ∷ [])) played.wrote taken
+          (wrote.0 ∙ ap (λ (s : Session). whole_front script read ++ (key_step script s key).text)
+          (sym played.session));
     }
 
 -- what is cut off stays so behind a text
-pub cut_off_behind : (text first second whole : List ℕ) → IsCutOff first second → whole ≡ text ++ second → IsCutOff (text ++ first) whole
+pub cut_off_behind : (text first second whole : List ℕ) → IsCutOff first second → whole ≡ text ++ second →
+    IsCutOff (text ++ first) whole
 cut_off_behind text first second whole cut same = record {
   rest = cut.rest;
   some = cut.some;
@@ -95,7 +107,8 @@ cut_off_before first second whole cut (rest, same) =
 
 -- a byte whose key isn't written
 pub byte_stops :
-    (fault : PieceFault) (script : Script) (before now later : WriterState) (session : Session) (kept : Held) (read : List ℕ) (byte : ℕ) (key : Key) → keys.key_behind kept byte ≡ Some key →
+    (fault : PieceFault) (script : Script) (before now later : WriterState) (session : Session) (kept : Held)
+    (read : List ℕ) (byte : ℕ) (key : Key) → keys.key_behind kept byte ≡ Some key →
     (fault ≡ Memory → ending_of session ≡ None) →
     StopsAtText fault now later (key_step script session key).text →
     HavePlayed script before now session kept read →
@@ -115,15 +128,19 @@ byte_stops Write script before now later session kept read byte key brings unend
     record {
       was_well = played.was_well;
       taken = whole_front script read ++ stops.taken;
-      wrote = taken_and_failed before now later (whole_front script read) stops.taken (whole_front script read ++ stops.taken) played.wrote stops.wrote refl;
+      wrote = taken_and_failed before now later (whole_front script read) stops.taken
+      (whole_front script read ++ stops.taken) played.wrote stops.wrote refl;
       whole_before = (stops.taken, refl);
-      cut_off = cut_off_behind (whole_front script read) stops.taken (key_step script session key).text _ stops.cut_off whole;
+      cut_off = cut_off_behind (whole_front script read) stops.taken (key_step script session key).text _ stops.cut_off
+      whole;
     }
 
 -- what is written for bytes is a front of what is written for more
-pub front_of_piece : (script : Script) (first second : List ℕ) → IsFront (whole_front script first) (whole_front script (first ++ second))
+pub front_of_piece : (script : Script) (first second : List ℕ) →
+    IsFront (whole_front script first) (whole_front script (first ++ second))
 front_of_piece script first second =
-    (texts_of_keys script (session_of script first) (keys_of (keys.held first ++ second)), (front_in_pieces script first second).0)
+    (texts_of_keys script (session_of script first) (keys_of (keys.held first ++ second)),
+    (front_in_pieces script first second).0)
 
 pub front_twice : (a b c : List ℕ) → IsFront a b → IsFront b c → IsFront a c
 front_twice a b c (x, e) (y, d) = (x ++ y, d ∙ ap (λ z. z ++ y) e ∙ append_assoc a x y)
@@ -133,13 +150,18 @@ pub bytes_to : (bytes : List ℕ) (i : ℕ) → i < length bytes → take (i + 1
 bytes_to bytes i within = grind (arith, common_steps)
 
 -- behind the bytes of a piece up to one, and that one
-pub piece_to : (read piece : List ℕ) (i : ℕ) → i < length piece → (read ++ take i piece) ++ get_or piece i 0 ∷ [] ≡ read ++ take (i + 1) piece
-piece_to read piece i within = append_assoc read (take i piece) (get_or piece i 0 ∷ []) ∙ ap (λ bytes. read ++ bytes) (sym (bytes_to piece i within))
+pub piece_to : (read piece : List ℕ) (i : ℕ) → i < length piece → (read ++ take i piece) ++ get_or piece i 0 ∷ []
+    ≡ read ++ take (i + 1) piece
+piece_to read piece i within = append_assoc read (take i piece) (get_or piece i 0 ∷ [])
+    ∙ ap (λ bytes. read ++ bytes) (sym (bytes_to piece i within))
 
 -- a part of one more byte of a piece is a part of the piece
-part_of_piece : (read piece : List ℕ) (i count : ℕ) → i < length piece → (upto : ℕ) × ((read ++ take i piece) ++ take count (get_or piece i 0 ∷ []) ≡ read ++ take upto piece)
+part_of_piece : (read piece : List ℕ) (i count : ℕ) → i < length piece →
+    (upto : ℕ) × ((read ++ take i piece) ++ take count (get_or piece i 0 ∷ []) ≡ read ++ take upto piece)
 part_of_piece read piece i zero within = (i, append-nil (read ++ take i piece))
-part_of_piece read piece i (suc count) within = (i + 1, ap (λ bytes. (read ++ take i piece) ++ bytes) (one_byte count (get_or piece i 0)) ∙ piece_to read piece i within)
+part_of_piece read piece i (suc count) within =
+    (i + 1, ap (λ bytes. (read ++ take i piece) ++ bytes) (one_byte count (get_or piece i 0))
+    ∙ piece_to read piece i within)
   where
     one_byte : (count byte : ℕ) → take (suc count) (byte ∷ []) ≡ byte ∷ []
     one_byte zero byte = refl
@@ -148,7 +170,8 @@ part_of_piece read piece i (suc count) within = (i + 1, ap (λ bytes. (read ++ t
 -- a piece that stops at one of its bytes
 pub piece_stops :
     (fault : PieceFault) (script : Script) (before now : WriterState) (read piece : List ℕ) (i : ℕ) → i < length piece →
-    StopsAs fault script before now (read ++ take i piece) (get_or piece i 0 ∷ []) → StopsAs fault script before now read piece
+    StopsAs fault script before now (read ++ take i piece) (get_or piece i 0 ∷ []) →
+    StopsAs fault script before now read piece
 piece_stops Memory script before now read piece i within stops =
     let part = part_of_piece read piece i stops.count within in
     record {
@@ -159,8 +182,10 @@ piece_stops Memory script before now read piece i within stops =
     }
 piece_stops Write script before now read piece i within stops =
     let rest : (read ++ take (i + 1) piece) ++ drop (i + 1) piece ≡ read ++ piece =
-    append_assoc read (take (i + 1) piece) (drop (i + 1) piece) ∙ ap (λ bytes. read ++ bytes) (take-append-drop (i + 1) piece) in
-    let upto : IsCutOff stops.taken (whole_front script (read ++ take (i + 1) piece)) = rw (← piece_to read piece i within) stops.cut_off in
+    append_assoc read (take (i + 1) piece) (drop (i + 1) piece)
+    ∙ ap (λ bytes. read ++ bytes) (take-append-drop (i + 1) piece) in
+    let upto : IsCutOff stops.taken (whole_front script (read ++ take (i + 1) piece)) =
+    rw (← piece_to read piece i within) stops.cut_off in
     let behind : IsFront (whole_front script (read ++ take (i + 1) piece)) (whole_front script (read ++ piece)) =
     rw (← rest) (front_of_piece script (read ++ take (i + 1) piece) (drop (i + 1) piece)) in
     record {
@@ -173,7 +198,8 @@ piece_stops Write script before now read piece i within stops =
 
 -- a writer that failed has taken some of the text, but not all
 pub written_front :
-    (old new : WriterState) (bytes text : List ℕ) (count : ℕ) → bytes ≡ text → count < length bytes → Grows old.contents new.contents (take count bytes) → new.calls ≤ old.calls + (count + 1) →
+    (old new : WriterState) (bytes text : List ℕ) (count : ℕ) → bytes ≡ text → count < length bytes →
+    Grows old.contents new.contents (take count bytes) → new.calls ≤ old.calls + (count + 1) →
     new.empty_calls ≡ old.empty_calls → IsCutOffAt old new text
 written_front old new bytes text count same within grows calls none =
     let long : length (take count bytes) ≡ count = grind (arith, common_steps) in
@@ -189,26 +215,29 @@ written_front old new bytes text count same within grows calls none =
     }
 
 -- what follows from two facts of a result that is Ok
-pub if_ok : {A E : Type 0} {P Q R : Type 0} (result : Result A E) → (P → Q → R) → OnOk result P → OnOk result Q → OnOk result R
+pub if_ok : {A E : Type 0} {P Q R : Type 0} (result : Result A E) → (P → Q → R) → OnOk result P → OnOk result Q →
+    OnOk result R
 if_ok (Ok value) follows p q = follows p q
 if_ok (Err error) follows p q = tt
 
 -- what follows from a fact of an error
 pub if_err :
-    {A E : Type 0} {P Q : E → Type 0} (result : Result A E) → ((error : E) → result ≡ Err error → P error → Q error) → IfErr result P → IfErr result Q
+    {A E : Type 0} {P Q : E → Type 0} (result : Result A E) → ((error : E) → result ≡ Err error → P error → Q error) →
+    IfErr result P → IfErr result Q
 if_err (Ok value) follows p = tt
 if_err (Err error) follows p = follows error refl p
 
--- a call that a device counts
-pub one_call : (old new most : ℕ) → (old < most → new ≡ old + 1) → (most ≤ old → false ≡ true) → new ≡ old + 1
-one_call old new most counted worn = elim (cases_lt old most) [ inl below ↦ counted below | inr above ↦ (let e : false ≡ true = worn above in cc) ]
-
 -- what an output has that was empty before a text was added is the text
-pub text_taken : {A E : Type 0} (result : Result A E) (before now : WriterState) (output old text : List ℕ) → output ≡ old ++ text → old ≡ [] → OnOk result (HasTaken before now output) → OnOk result (HasTaken before now text)
-text_taken (Ok value) before now output old text e none taken = subst (HasTaken before now) (e ∙ ap (λ (bytes : List ℕ). bytes ++ text) none) taken
+pub text_taken : {A E : Type 0} (result : Result A E) (before now : WriterState) (output old text : List ℕ) →
+    output ≡ old ++ text → old ≡ [] → OnOk result (HasTaken before now output) → OnOk result (HasTaken before now text)
+text_taken (Ok value) before now output old text e none taken =
+    subst (HasTaken before now) (e ∙ ap (λ (bytes : List ℕ). bytes ++ text) none) taken
 text_taken (Err error) before now output old text e none taken = tt
 
-pub text_stopped : {A : Type 0} (result : Result A PieceFault) (before now : WriterState) (output old text : List ℕ) → output ≡ old ++ text → old ≡ [] →
-    IfErr result (λ fault. StopsAtText fault before now output) → IfErr result (λ fault. StopsAtText fault before now text)
+pub text_stopped : {A : Type 0} (result : Result A PieceFault) (before now : WriterState) (output old text : List ℕ) →
+    output ≡ old ++ text → old ≡ [] →
+    IfErr result (λ fault. StopsAtText fault before now output) →
+    IfErr result (λ fault. StopsAtText fault before now text)
 text_stopped (Ok value) before now output old text e none stops = tt
-text_stopped (Err fault) before now output old text e none stops = subst (StopsAtText fault before now) (e ∙ ap (λ (bytes : List ℕ). bytes ++ text) none) stops
+text_stopped (Err fault) before now output old text e none stops =
+    subst (StopsAtText fault before now) (e ∙ ap (λ (bytes : List ℕ). bytes ++ text) none) stops

@@ -13,5 +13,6 @@ text_at_rest names g (Whole text) plain = plain_at_rest names g text plain
 text_at_rest names g (Rows texts) rows = rows_at_rest names g texts.items rows
 
 -- so a board at rest has the same frame
-pub same_text : (names : Names) (g h : Grid) (text : FrameText) → h ≡ at_rest g → IsTextOf names g text → IsTextOf names h text
+pub same_text : (names : Names) (g h : Grid) (text : FrameText) → h ≡ at_rest g → IsTextOf names g text →
+    IsTextOf names h text
 same_text names g h text rest is = rw rest (text_at_rest names g text is)

@@ -1,5 +1,6 @@
 -- Rows of frames: which are the same, and what they make together.
-use Rattle.std.proofs.Common.{◌≡◌, ℕ, zero, suc, ◌+◌, ◌*◌, ◌<◌, ◌≤◌, Bool, List, [], ◌∷◌, ◌++◌, map, refl, sym, ap, ap₂, ◌∙◌, arith}
+use Rattle.std.proofs.Common.{◌≡◌, ℕ, zero, suc, ◌+◌, ◌*◌, ◌<◌, ◌≤◌, Bool, List, [], ◌∷◌, ◌++◌, map, refl, sym, ap, ap₂}
+use Rattle.std.proofs.Common.{◌∙◌, arith}
 use Rattle.std.specs.Prelude.{encode_utf8, codes}
 use Rattle.std.specs.List.{flat_map, range_with_len}
 use Rattle.std.proofs.Math.ListN.{get_or-map}
@@ -18,38 +19,47 @@ use Rattle.ps_board.proofs.ColumnLaws.{none_in}
 use Rattle.ps_screen.specs.KeptRows.{AreRowsOf}
 
 -- two functions that agree on a range
-flat_map_same : {X : Type 0} (f g : ℕ → List X) (a n : ℕ) → ((k : ℕ) → k < a + n → f k ≡ g k) → flat_map f (range_with_len a n) ≡ flat_map g (range_with_len a n)
+flat_map_same : {X : Type 0} (f g : ℕ → List X) (a n : ℕ) → ((k : ℕ) → k < a + n → f k ≡ g k) →
+    flat_map f (range_with_len a n) ≡ flat_map g (range_with_len a n)
 flat_map_same f g a zero agree = refl
 flat_map_same f g a (suc n) agree =
     let here : a < a + suc n = omega arith in
-    ap₂ (λ (x y : List _). x ++ y) (agree a here) (flat_map_same f g (a + 1) n (λ k h. let below : k < a + suc n = omega arith in agree k below))
+    ap₂ (λ (x y : List _). x ++ y) (agree a here)
+    (flat_map_same f g (a + 1) n (λ k h. let below : k < a + suc n = omega arith in agree k below))
 
 -- what a cell with the same objects is written as
 pub same_character : (names : Names) (g h : Grid) (a b : ℕ) → objects_in (cell_at g a) ≡ objects_in (cell_at h b) →
     encode_utf8 (shown_character names (cell_at g a)) ≡ encode_utf8 (shown_character names (cell_at h b))
-same_character names g h a b e = ap (λ (objects : List ObjectId). encode_utf8 (character_of (glyph_of_objects names objects))) e
+same_character names g h a b e =
+    ap (λ (objects : List ObjectId). encode_utf8 (character_of (glyph_of_objects names objects))) e
 
 -- rows with the same objects are written the same
-pub same_frame_row : (names : Names) (g h : Grid) (row : ℕ) → h.width ≡ g.width → h.height ≡ g.height → HaveSameRow g h row → frame_row names h row ≡ frame_row names g row
+pub same_frame_row : (names : Names) (g h : Grid) (row : ℕ) → h.width ≡ g.width → h.height ≡ g.height →
+    HaveSameRow g h row → frame_row names h row ≡ frame_row names g row
 same_frame_row names g h row wide high same =
     ap (λ (text : List ℕ). text ++ codes "\n")
-    (ap (λ (n : ℕ). flat_map (λ column. encode_utf8 (shown_character names (cell_at h (column * h.height + row)))) (range_with_len 0 n)) wide
-    ∙ flat_map_same (λ column. encode_utf8 (shown_character names (cell_at h (column * h.height + row)))) (λ column. encode_utf8 (shown_character names (cell_at g (column * g.height + row)))) 0 g.width
+    (ap (λ (n : ℕ). flat_map (λ column. encode_utf8 (shown_character names (cell_at h (column * h.height + row))))
+    (range_with_len 0 n)) wide
+    ∙ flat_map_same (λ column. encode_utf8 (shown_character names (cell_at h (column * h.height + row))))
+    (λ column. encode_utf8 (shown_character names (cell_at g (column * g.height + row)))) 0 g.width
     (λ column inside.
     let below : column < g.width = omega arith in
     ap (λ (n : ℕ). encode_utf8 (shown_character names (cell_at h (column * n + row)))) high
     ∙ sym (same_character names g h (column * g.height + row) (column * g.height + row) (same column below))))
 
 -- no column that differs
-pub none_differs : (columns : List Bool) (g h : Grid) (row : ℕ) → g.width ≤ SIDE_LIMIT → set_columns columns ≡ [] → DifferOnlyIn columns g h row → HaveSameRow g h row
-none_differs columns g h row narrow none only = λ column inside. only column inside (none_in columns column none (omega (arith, inside, narrow)))
+pub none_differs : (columns : List Bool) (g h : Grid) (row : ℕ) → g.width ≤ SIDE_LIMIT → set_columns columns ≡ [] →
+    DifferOnlyIn columns g h row → HaveSameRow g h row
+none_differs columns g h row narrow none only =
+    λ column inside. only column inside (none_in columns column none (omega (arith, inside, narrow)))
 
 flat_map-map : {X Y : Type 0} (f : X → List Y) (xs : List X) → flat_map (λ row. row) (map f xs) ≡ flat_map f xs
 flat_map-map f [] = refl
 flat_map-map f (x ∷ xs) = ap (λ r. f x ++ r) (flat_map-map f xs)
 
 -- the rows one after the other, and an empty line, are the frame
-pub rows_joined : (names : Names) (g : Grid) (texts : List (List ℕ)) → AreRowsOf names g texts → flat_map (λ row. row) texts ++ codes "\n" ≡ frame names g
+pub rows_joined : (names : Names) (g : Grid) (texts : List (List ℕ)) → AreRowsOf names g texts →
+    flat_map (λ row. row) texts ++ codes "\n" ≡ frame names g
 rows_joined names g texts rows =
     let drawn : List (List ℕ) = map (frame_row names g) (range_with_len 0 g.height) in
     let each : texts ≡ drawn =
@@ -59,10 +69,12 @@ rows_joined names g texts rows =
     get_or_default texts k d [] inside
     ∙ rows.each k below
     ∙ sym (get_or-map-range_with_len (frame_row names g) 0 g.height k k d below (omega arith))) in
-    ap (λ (text : List ℕ). text ++ codes "\n") (ap (flat_map (λ row. row)) each ∙ flat_map-map (frame_row names g) (range_with_len 0 g.height))
+    ap (λ (text : List ℕ). text ++ codes "\n")
+    (ap (flat_map (λ row. row)) each ∙ flat_map-map (frame_row names g) (range_with_len 0 g.height))
 
 -- drawn one after the other, they are the rows
-pub rows_drawn : (names : Names) (g : Grid) (texts : List (List ℕ)) → texts ≡ map (frame_row names g) (range_with_len 0 g.height) → AreRowsOf names g texts
+pub rows_drawn : (names : Names) (g : Grid) (texts : List (List ℕ)) →
+    texts ≡ map (frame_row names g) (range_with_len 0 g.height) → AreRowsOf names g texts
 rows_drawn names g texts is =
     rw is
     record {
@@ -81,12 +93,15 @@ cell_at_rest g n = get_or-map (map slot_at_rest) g.cells n []
 
 -- so the rows of a board at rest show the same
 pub same_row_at_rest : (g : Grid) (row : ℕ) → HaveSameRow (at_rest g) g row
-same_row_at_rest g row = λ column inside. ap objects_in (cell_at_rest g (column * g.height + row)) ∙ same_at_rest (cell_at g (column * g.height + row))
+same_row_at_rest g row = λ column inside. ap objects_in (cell_at_rest g (column * g.height + row))
+    ∙ same_at_rest (cell_at g (column * g.height + row))
 
 -- and they are written the same
-pub rows_at_rest : (names : Names) (g : Grid) (texts : List (List ℕ)) → AreRowsOf names g texts → AreRowsOf names (at_rest g) texts
+pub rows_at_rest : (names : Names) (g : Grid) (texts : List (List ℕ)) → AreRowsOf names g texts →
+    AreRowsOf names (at_rest g) texts
 rows_at_rest names g texts rows =
     record {
       long = rows.long;
-      each = λ row under. rows.each row under ∙ same_frame_row names (at_rest g) g row refl refl (same_row_at_rest g row);
+      each = λ row under. rows.each row under ∙ same_frame_row names (at_rest g) g row refl refl
+      (same_row_at_rest g row);
     }

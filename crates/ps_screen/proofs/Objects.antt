@@ -13,7 +13,11 @@ one_slot Bare = refl
 one_slot (Holds object motion) = refl
 
 -- the object of one more slot
-pub objects_in-more : (slots : List Slot) (layer : ℕ) → layer < length slots → objects_in (take (layer + 1) slots) ≡ objects_in (take layer slots) ++ option_to_list (object_in (get_or slots layer Bare))
+pub objects_in-more : (slots : List Slot) (layer : ℕ) → layer < length slots →
+    objects_in (take (layer + 1) slots) ≡ objects_in (take layer slots) ++ option_to_list
+    (object_in (get_or slots layer Bare))
 objects_in-more slots layer within =
-    let more : take (layer + 1) slots ≡ take layer slots ++ get_or slots layer Bare ∷ [] = grind (arith, common_steps) in
-    rw (more, filter_map-append object_in (take layer slots) (get_or slots layer Bare ∷ []), one_slot (get_or slots layer Bare)) refl
+    let more : take (layer + 1) slots ≡ take layer slots ++ get_or slots layer Bare ∷ [] =
+    grind (arith, common_steps) in
+    rw (more, filter_map-append object_in (take layer slots) (get_or slots layer Bare ∷ []),
+    one_slot (get_or slots layer Bare)) refl

@@ -9,6 +9,7 @@ ghost use Rattle.ps_model.specs.session.Frames.{written_line};
 use ps_model::Memory;
 use std::alloc::Global;
 use std::marker::Model;
+use std::mem;
 
 /// The bytes of a text that is to be written, as far as it is made.
 #[derive(Drop)]
@@ -73,6 +74,27 @@ impl OutputText {
         ensures kept { OnErr result (self.new ≡ self.old) }
     {
         self.text.extend_from_slice(bytes)?;
+        Ok(())
+    }
+
+    /// Moves the bytes of another text to the end of this one, and leaves that one without any. Where this one has none,
+    /// the two change places, and no byte is copied.
+    ///
+    /// # Errors
+    ///
+    /// `Memory`, and both are as before.
+    pub fn append(&mut self, other: &mut Self) -> Result<(), Memory>
+        ensures moved { OnOk result (self.new ≡ self.old ++ other.old) }
+        ensures emptied { OnOk result (other.new ≡ []) }
+        ensures kept { OnErr result (self.new ≡ self.old) }
+        ensures left { OnErr result (other.new ≡ other.old) }
+    {
+        if self.text.is_empty() {
+            mem::swap(&mut self.text, &mut other.text);
+            return Ok(());
+        }
+        self.add(other.bytes())?;
+        other.clear();
         Ok(())
     }
 

@@ -8,10 +8,12 @@ use Rattle.circular_buffer.specs.Buffer.{keep_last}
 
 -- what is kept of the boards shows what is kept of the grids
 pub map-keep_last : {X : Type 0} (f : X → Grid) (n : ℕ) (boards : List X) (board : X) →
-    map f (keep_last n (boards ++ board ∷ [])) ≡ drop (length (map f boards ++ f board ∷ []) - n) (map f boards ++ f board ∷ [])
+    map f (keep_last n (boards ++ board ∷ [])) ≡ drop (length (map f boards ++ f board ∷ []) - n)
+    (map f boards ++ f board ∷ [])
 map-keep_last f n boards board = grind (arith, common_steps, drop-map)
 
 -- the boards before the latest show the grids before the latest
-pub map-earlier : {X : Type 0} (f : X → Grid) (boards : List X) → map f (take (length boards - 1) boards) ≡ take (length (map f boards) - 1) (map f boards)
+pub map-earlier : {X : Type 0} (f : X → Grid) (boards : List X) →
+    map f (take (length boards - 1) boards) ≡ take (length (map f boards) - 1) (map f boards)
 map-earlier f boards =
     sym (ap (λ (n : ℕ). take (n - 1) (map f boards)) (length-map boards f) ∙ take-map f (length boards - 1) boards)

@@ -75,7 +75,7 @@ impl<'g, B: Board> Session<'g, B> {
         let mut stage = Stage::new(alloc, game);
         stage.tell_title()?;
         let location = stage.enter(rules, 0)?;
-        output.add(stage.text())?;
+        stage.move_text(output)?;
         Ok(Session {
             stage,
             location,
@@ -120,7 +120,7 @@ impl<'g, B: Board> Session<'g, B> {
         let Some(next) = next else {
             return Ok(self.phase());
         };
-        if let Err(Memory) = output.add(self.stage.text()) {
+        if let Err(Memory) = self.stage.move_text(output) {
             give_up(&mut self.stage, next);
             return Err(Memory);
         }

@@ -11,7 +11,8 @@ use Rattle.ps_levels.specs.EntriesShown.{entry_shown, entries_shown}
 use Rattle.ps_levels.specs.Sized.{IsSizedEntry}
 use Rattle.ps_stage.specs.Playable.{IsPlayable, ArePlayable}
 
-pub entry_found : (es : List Entry) (entries : List Meant) (i : ℕ) (x : Entry) → entries_shown es ≡ entries → i < length es → x ≡ get_or es i x →
+pub entry_found : (es : List Entry) (entries : List Meant) (i : ℕ) (x : Entry) → entries_shown es ≡ entries →
+    i < length es → x ≡ get_or es i x →
     slice_get entries i ≡ Some (entry_shown x)
 entry_found es entries i x e within is =
     ap (λ (l : List Meant). slice_get l i) (sym e)
@@ -19,12 +20,14 @@ entry_found es entries i x e within is =
     ∙ ap (option_map entry_shown) (slice_get-get_or es i x within)
     ∙ ap (λ (y : Entry). Some (entry_shown y)) (sym is)
 
-pub playable_at : (names : Names) (es : List Entry) (entries : List Meant) (i : ℕ) (x : Entry) (level : Level) → entries_shown es ≡ entries → i < length es → x ≡ get_or es i x →
+pub playable_at : (names : Names) (es : List Entry) (entries : List Meant) (i : ℕ) (x : Entry) (level : Level) →
+    entries_shown es ≡ entries → i < length es → x ≡ get_or es i x →
     entry_shown x ≡ LevelEntry level → ArePlayable names entries → IsPlayable names level
 playable_at names es entries i x level e within is shows playable =
     let long : i < length entries = rw (← e, length-map) within in
     let found : slice_get entries i ≡ Some (entry_shown x) = entry_found es entries i x e within is in
-    let there : slice_get entries i ≡ Some (get_or entries i (entry_shown x)) = slice_get-get_or entries i (entry_shown x) long in
+    let there : slice_get entries i ≡ Some (get_or entries i (entry_shown x)) =
+    slice_get-get_or entries i (entry_shown x) long in
     let here : get_or entries i (entry_shown x) ≡ entry_shown x = cc in
     record {
       bounded = playable.bounded;

@@ -13,17 +13,23 @@ use Rattle.ps_stage.specs.Standings.{Standing, play_of, with_done}
 
 -- the level of a done turn, with the history as it is then
 next_play : (level : Standing) (history : List Grid) (done : DoneTurn) (g : Grid) (changed : Bool) →
-    with_turn (with_board_in_history_if changed (play_of history level)) (done_shown done g) ≡ play_of (history_behind (history_change_if changed) history level.board) (with_done level done g)
+    with_turn (with_board_in_history_if changed (play_of history level)) (done_shown done g)
+    ≡ play_of (history_behind (history_change_if changed) history level.board) (with_done level done g)
 next_play level history done g true = refl
 next_play level history done g false = refl
 
 -- a done turn is told of that level
-pub done_taken : (script : Script) (level next : Standing) (history : List Grid) (done : DoneTurn) → next ≡ with_done level done next.board →
+pub done_taken : (script : Script) (level next : Standing) (history : List Grid) (done : DoneTurn) →
+    next ≡ with_done level done next.board →
     turn_taken script (play_of history level) (Finished (done_shown done next.board))
     ≡ after (frame script.names next.board)
-    (key_told script (play_of (history_behind (history_change_if done.changed) history level.board) next) (done_shown done next.board) AGAIN_LIMIT (all_key_turns script))
+    (key_told script (play_of (history_behind (history_change_if done.changed) history level.board) next)
+    (done_shown done next.board) AGAIN_LIMIT (all_key_turns script))
 done_taken script level next history done e =
     let behind : List Grid = history_behind (history_change_if done.changed) history level.board in
-    let same : with_turn (with_board_in_history_if done.changed (play_of history level)) (done_shown done next.board) ≡ play_of behind next =
+    let same : with_turn (with_board_in_history_if done.changed (play_of history level)) (done_shown done next.board)
+    ≡ play_of behind next =
     next_play level history done next.board done.changed ∙ sym (ap (play_of behind) e) in
-    ap (λ (p : Play). after (frame script.names p.board) (key_told script p (done_shown done next.board) AGAIN_LIMIT (all_key_turns script))) same
+    ap (λ (p : Play).
+    after (frame script.names p.board)
+    (key_told script p (done_shown done next.board) AGAIN_LIMIT (all_key_turns script))) same

@@ -61,11 +61,18 @@ impl<'g, B: Board> Stage<'g, B> {
         &self.game
     }
 
-    /// The text that was made since it was forgotten.
-    pub fn text(&self) -> &[u8]
-        ensures { result.now ≡ self.now.text }
+    /// Moves the text that was made since it was forgotten to the end of another, and keeps none of it.
+    ///
+    /// # Errors
+    ///
+    /// `Memory`, and both are as before.
+    pub fn move_text(&mut self, output: &mut OutputText) -> Result<(), Memory>
+        ensures game { self.new.game ≡ self.old.game }
+        ensures moved { OnOk result (output.new ≡ output.old ++ self.old.text) }
+        ensures kept { OnErr result (output.new ≡ output.old) }
+        ensures left { OnErr result (self.new.text ≡ self.old.text) }
     {
-        self.text.bytes()
+        output.append(&mut self.text)
     }
 
     /// Forgets the text, and keeps its room for the next.

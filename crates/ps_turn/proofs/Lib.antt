@@ -2,4 +2,5 @@ mod RowsOfCells
 mod RowsHeld
 mod Stayed
 mod Sweeps
+mod CellsChanged
 mod WhereObjectsStand

@@ -1,32 +1,37 @@
 -- Where objects stand, and what a motion given to them leaves as it is.
-use Rattle.std.proofs.Common.{◌≡◌, ◌∙◌, ℕ, ◌+◌, ◌*◌, ◌<◌, ◌||◌, Bool, true, false, cond, List, [], ◌∷◌, ◌++◌, ◌-◌, length, map, take, drop, get_or, refl, sym, ap, ap₂, arith}
+use Rattle.std.proofs.Common.{◌≡◌, ◌∙◌, ℕ, ◌+◌, ◌*◌, ◌<◌, ◌||◌, Bool, true, false, cond, List, [], ◌∷◌, length, map}
+use Rattle.std.proofs.Common.{take, get_or, refl, sym, ap, ap₂, arith}
 use Rattle.std.specs.Prelude.{nat_eq}
 use Rattle.std.specs.List.{list_any}
-use Rattle.std.proofs.lemmas.List.{set-get_or, length-map, length-take-le, length-drop, get_or-append_right, get_or-drop}
 use Rattle.std.proofs.lemmas.List.Folds.{list_any_more}
 use Rattle.std.proofs.lemmas.Bool.Decides.{nat_tests}
+use Rattle.std.proofs.lemmas.Bool.{or_parts}
 use Rattle.ps_model.specs.declared.pieces.ObjectId.{ObjectId}
 use Rattle.ps_model.specs.declared.pieces.Motion.{Motion}
 use Rattle.ps_model.specs.declared.pieces.Slot.{Slot}
 use Rattle.ps_model.specs.declared.pieces.Slot.TheVariants.{Bare, Holds}
-use Rattle.ps_model.specs.board.Grid.{Grid, cell_at, slot_at}
+use Rattle.ps_model.specs.board.Grid.{Grid, slot_at}
 use Rattle.ps_model.specs.meaning.Compiled.{slot_holds}
 use Rattle.ps_model.specs.names.Names.{is_among, same_object}
 use Rattle.ps_board.specs.ColumnSets.{column_at, either_columns}
 use Rattle.ps_board.specs.RowsOfGrids.{row_holders, row_slots}
 use Rattle.ps_board.proofs.ColumnLaws.{column_at-where, columns-agree}
-use Rattle.ps_turn.specs.Sweeps.{grid_with_cell, grid_with_cells, changed_from, holds_any, slot_set_moving}
+use Rattle.ps_turn.specs.Sweeps.{holds_any, slot_set_moving}
 
 -- one object more
-pub layer_more : (g : Grid) (objects : List ObjectId) (layer row count : ℕ) (all more : List Bool) (object : ObjectId) → count < length objects → object ≡ get_or objects count object →
+pub layer_more : (g : Grid) (objects : List ObjectId) (layer row count : ℕ) (all more : List Bool) (object : ObjectId) →
+    count < length objects → object ≡ get_or objects count object →
     all ≡ row_slots (holds_any (take count objects)) g layer row → more ≡ row_holders g object layer row →
     either_columns all more ≡ row_slots (holds_any (take (count + 1) objects)) g layer row
 layer_more g objects layer row count all more object within is so_far told =
-    columns-agree (λ x. column_at all x || column_at more x) (λ x. holds_any (take (count + 1) objects) (slot_at g (x * g.height + row) layer))
+    columns-agree (λ x. column_at all x || column_at more x)
+    (λ x. holds_any (take (count + 1) objects) (slot_at g (x * g.height + row) layer))
     (λ x low.
     ap₂ (λ (a b : Bool). a || b)
-    (ap (λ (columns : List Bool). column_at columns x) so_far ∙ column_at-where (λ y. holds_any (take count objects) (slot_at g (y * g.height + row) layer)) x low)
-    (ap (λ (columns : List Bool). column_at columns x) told ∙ column_at-where (λ y. slot_holds object (slot_at g (y * g.height + row) layer)) x low
+    (ap (λ (columns : List Bool). column_at columns x) so_far
+    ∙ column_at-where (λ y. holds_any (take count objects) (slot_at g (y * g.height + row) layer)) x low)
+    (ap (λ (columns : List Bool). column_at columns x) told
+    ∙ column_at-where (λ y. slot_holds object (slot_at g (y * g.height + row) layer)) x low
     ∙ ap (λ (o : ObjectId). slot_holds o (slot_at g (x * g.height + row) layer)) is)
     ∙ sym (list_any_more (λ o. slot_holds o (slot_at g (x * g.height + row) layer)) objects count object within))
 
@@ -35,56 +40,26 @@ pub same_by : (m n : ℕ) (b : Bool) → nat_eq m n ≡ b → nat_eq n m ≡ b
 same_by m n true e = grind (arith, nat_tests)
 same_by m n false e = grind (arith, nat_tests)
 
-pub among_by : (moved : List ObjectId) (object : ObjectId) → list_any (λ o. same_object o object) moved ≡ is_among moved object
+pub among_by : (moved : List ObjectId) (object : ObjectId) →
+    list_any (λ o. same_object o object) moved ≡ is_among moved object
 among_by [] object = refl
-among_by (o ∷ moved) object = ap₂ (λ (a b : Bool). a || b) (sym (same_by o.0 object.0 (nat_eq o.0 object.0) refl)) (among_by moved object)
+among_by (o ∷ moved) object = ap₂ (λ (a b : Bool). a || b) (sym (same_by o.0 object.0 (nat_eq o.0 object.0) refl))
+    (among_by moved object)
 
 -- a slot without one of the objects keeps its motion
 kept_by : (moved : List ObjectId) (motion was : Motion) (object : ObjectId) → is_among moved object ≡ false →
     slot_set_moving moved motion (Holds object was) ≡ Holds object was
 kept_by moved motion was object none = ap (λ (b : Bool). Holds object (cond b motion was)) none
 
-slot_kept : (moved : List ObjectId) (motion : Motion) (slot : Slot) → holds_any moved slot ≡ false → slot_set_moving moved motion slot ≡ slot
+slot_kept : (moved : List ObjectId) (motion : Motion) (slot : Slot) → holds_any moved slot ≡ false →
+    slot_set_moving moved motion slot ≡ slot
 slot_kept moved motion Bare none = refl
 slot_kept moved motion (Holds object was) none = kept_by moved motion was object (sym (among_by moved object) ∙ none)
 
-none_of : (a b : Bool) → (a || b) ≡ false → (a ≡ false) × (b ≡ false)
-none_of true b e = absurd (cc)
-none_of false b e = (refl, e)
-
-pub slots_kept : (moved : List ObjectId) (motion : Motion) (slots : List Slot) → list_any (holds_any moved) slots ≡ false → map (slot_set_moving moved motion) slots ≡ slots
+pub slots_kept : (moved : List ObjectId) (motion : Motion) (slots : List Slot) →
+    list_any (holds_any moved) slots ≡ false → map (slot_set_moving moved motion) slots ≡ slots
 slots_kept moved motion [] none = refl
 slots_kept moved motion (slot ∷ slots) none =
-    let parts = none_of (holds_any moved slot) (list_any (holds_any moved) slots) none in
-    ap₂ (λ (s : Slot) (ss : List Slot). s ∷ ss) (slot_kept moved motion slot parts.0) (slots_kept moved motion slots parts.1)
-
--- nor does its cell change
-pub cell_kept : (moved : List ObjectId) (motion : Motion) (g : Grid) (cell : ℕ) → list_any (holds_any moved) (cell_at g cell) ≡ false →
-    g ≡ grid_with_cell g cell (map (slot_set_moving moved motion) (cell_at g cell))
-cell_kept moved motion g cell none =
-    sym (ap (grid_with_cell g cell) (slots_kept moved motion (cell_at g cell) none)
-    ∙ ap (λ (cells : List (List Slot)). let h : Grid = record g { cells = cells } in h) (set-get_or g.cells cell []))
-
--- the cell that comes next is as it was
-next_cell : (f : List Slot → List Slot) (cells : List (List Slot)) (n : ℕ) → n < length cells → get_or (map f (take n cells) ++ drop n cells) n [] ≡ get_or cells n []
-next_cell f cells n within =
-    let long : length (map f (take n cells)) ≡ n = length-map (take n cells) f ∙ length-take-le n cells (omega arith) in
-    let same : n + (n - n) ≡ n = omega arith in
-    get_or-append_right (map f (take n cells)) (drop n cells) n n [] long (omega arith)
-    ∙ get_or-drop n cells (n - n) []
-    ∙ ap (λ (m : ℕ). get_or cells m []) same
-
--- and so is the next one of those from one on
-pub next_from : (f : List Slot → List Slot) (g : Grid) (first count : ℕ) → first + count < length g.cells →
-    cell_at (grid_with_cells g (changed_from f first count g.cells)) (first + count) ≡ cell_at g (first + count)
-next_from f g first count within =
-    let front : List (List Slot) = take first g.cells in
-    let behind : List (List Slot) = drop first g.cells in
-    let changed : List (List Slot) = map f (take count behind) ++ drop count behind in
-    let long : length front ≡ first = length-take-le first g.cells (omega (arith, within)) in
-    let left : length behind ≡ length g.cells - first = length-drop first g.cells in
-    let same : first + count - first ≡ count = omega arith in
-    get_or-append_right front changed first (first + count) [] long (omega arith)
-    ∙ ap (λ (n : ℕ). get_or changed n []) same
-    ∙ next_cell f behind count (omega (arith, within, left))
-    ∙ get_or-drop first g.cells count []
+    let parts = or_parts (holds_any moved slot) (list_any (holds_any moved) slots) none in
+    ap₂ (λ (s : Slot) (ss : List Slot). s ∷ ss) (slot_kept moved motion slot parts.0)
+    (slots_kept moved motion slots parts.1)

@@ -1,5 +1,5 @@
 -- How an input is given, slot by slot, to a board at rest.
-use Rattle.std.specs.Prelude.{ℕ, Bool, if◌then◌else◌, List, ◌++◌, map, take, drop, slice_set}
+use Rattle.std.specs.Prelude.{◌≡◌, ◌<◌, ◌+◌, ◌*◌, ℕ, Bool, if◌then◌else◌, List, map, slice_set}
 use Rattle.std.specs.List.{list_any}
 use Rattle.ps_model.specs.meaning.Compiled.{slot_holds}
 use Rattle.ps_model.specs.declared.pieces.Motion.{Motion}
@@ -7,7 +7,7 @@ use Rattle.ps_model.specs.declared.pieces.ObjectId.{ObjectId}
 use Rattle.ps_model.specs.declared.pieces.Slot.{Slot}
 use Rattle.ps_model.specs.declared.pieces.Slot.TheVariants.{Bare, Holds}
 use Rattle.ps_model.specs.names.Names.{is_among}
-use Rattle.ps_model.specs.board.Grid.{Grid}
+use Rattle.ps_model.specs.board.Grid.{Grid, cell_at}
 
 -- a slot whose object, if it is one of these, gets the motion, and else keeps its own
 abbrev pub slot_set_moving : List ObjectId → Motion → Slot → Slot
@@ -22,9 +22,19 @@ grid_with_cell g cell slots = record g { cells = slice_set g.cells cell slots }
 abbrev pub grid_with_cells : Grid → List (List Slot) → Grid
 grid_with_cells g cells = record g { cells = cells }
 
--- the cells, so many of them from one on changed
-abbrev pub changed_from : (List Slot → List Slot) → ℕ → ℕ → List (List Slot) → List (List Slot)
-changed_from change first count cells = take first cells ++ (map change (take count (drop first cells)) ++ drop count (drop first cells))
+-- the cell of a number is as the change leaves it
+abbrev pub IsCellChanged : (List Slot → List Slot) → Grid → ℕ → Type 0
+IsCellChanged change g cell = change (cell_at g cell) ≡ cell_at g cell
+
+-- and so are all cells of a row of a grid of these sides
+abbrev pub IsRowChanged : (List Slot → List Slot) → Grid → Grid → ℕ → Type 0
+IsRowChanged change sides g row = (x : ℕ) → x < sides.width → IsCellChanged change g (x * sides.height + row)
+
+-- some cells of a grid are changed, and no others; what was changed before stays so
+pub record AreChanged (change : List Slot → List Slot) (before after : Grid) : Type 0 where
+  pub sides : after ≡ grid_with_cells before after.cells
+  pub all : map change after.cells ≡ map change before.cells
+  pub kept : (cell : ℕ) → IsCellChanged change before cell → IsCellChanged change after cell
 
 -- the slot holds one of these objects
 abbrev pub holds_any : List ObjectId → Slot → Bool

@@ -1,15 +1,14 @@
 //! What an input does to a board.
 
-ghost use Rattle.std.specs.Prelude.{◌≡◌, ◌+◌, ◌*◌, ◌<◌, ℕ, slice_set, map};
+ghost use Rattle.std.specs.Prelude.{◌≡◌, ◌+◌, ◌*◌, ◌<◌, ℕ, map};
 ghost use Rattle.ps_model.specs.board.Grid.{IsGrid, IsPlace, cell_at, slot_at, with_slot, cell_count};
 ghost use Rattle.ps_model.specs.board.Inputs.{motion_of, with_motion};
-ghost use Rattle.ps_turn.specs.Sweeps.{slot_set_moving, grid_with_cell, grid_with_cells, changed_from, holds_any};
-ghost use Rattle.ps_board.specs.CellSets.{cell_in};
-ghost use Rattle.std.specs.List.{list_any};
+ghost use Rattle.ps_turn.specs.Sweeps.{AreChanged, IsCellChanged, IsRowChanged};
+ghost use Rattle.ps_turn.specs.Sweeps.{grid_with_cell, slot_set_moving};
 
 use crate::meanings::has_object;
-use crate::standing::cells_with;
-use ps_board::{Board, CellSet};
+use crate::standing::{columns_with, rows_with};
+use ps_board::{Board, Columns};
 use ps_model::{Direction, Input, LayerId, Motion, ObjectId};
 
 /// The motion that an input gives to a Player.
@@ -31,58 +30,38 @@ pub fn give_motion<B: Board>(board: &mut B, moved: &[ObjectId], motion: Motion)
     ensures table { B.table board.new ≡ B.table board.old }
 {
     board.clear_moves();
-    let standing = cells_with(board, moved);
-    let (width, _) = board.size();
-    for column in 0..width {
-        give_column(board, column, &standing, moved, motion);
+    let (_, height) = board.size();
+    let standing = rows_with(board, moved);
+    let mut left = standing.both(Columns::below(height));
+    while let Some(row) = left.take_first() {
+        give_row(board, row, moved, motion);
     }
 }
 
-/// Gives the motion to those of the objects that stand in the cells of a column, `standing` telling in which.
-fn give_column<B: Board>(
-    board: &mut B,
-    column: u32,
-    standing: &CellSet,
-    moved: &[ObjectId],
-    motion: Motion,
-)
-    requires column { column < (B.grid board.old).width }
-    requires standing { let g = B.grid board.old in (row : ℕ) → row < g.height → cell_in standing.now column row
-        ≡ list_any (holds_any moved.now) (cell_at g (column * g.height + row)) }
-    ensures moved { let g = B.grid board.old in B.grid board.new ≡ grid_with_cells g (changed_from
-        (map (slot_set_moving moved.now motion)) (column * g.height) g.height g.cells) }
+/// Gives the motion to those of the objects that stand in the cells of a row.
+fn give_row<B: Board>(board: &mut B, row: u32, moved: &[ObjectId], motion: Motion)
+    requires { row < (B.grid board.old).height }
+    ensures changed { AreChanged (map (slot_set_moving moved.now motion)) (B.grid board.old) (B.grid board.new) }
+    ensures here { IsRowChanged (map (slot_set_moving moved.now motion)) (B.grid board.old) (B.grid board.new) row }
     ensures table { B.table board.new ≡ B.table board.old }
 {
-    let (_, height) = board.size();
-    if !standing.has_column(column) {
-        return;
-    }
-    for row in 0..height {
-        give_if_there(board, column, row, standing, moved, motion);
+    let (_, _) = board.size();
+    let mut left = columns_with(board, moved, row);
+    while let Some(column) = left.take_first() {
+        give_there(board, column, row, moved, motion);
     }
 }
 
-/// Gives the motion to those of the objects that stand in a cell, if the cell is one of those in which one stands.
-fn give_if_there<B: Board>(
-    board: &mut B,
-    column: u32,
-    row: u32,
-    standing: &CellSet,
-    moved: &[ObjectId],
-    motion: Motion,
-)
+/// Gives the motion to those of the objects that stand in the cell of a column and a row.
+fn give_there<B: Board>(board: &mut B, column: u32, row: u32, moved: &[ObjectId], motion: Motion)
     requires column { column < (B.grid board.old).width }
     requires row { row < (B.grid board.old).height }
-    requires standing { let g = B.grid board.old in cell_in standing.now column row
-        ≡ list_any (holds_any moved.now) (cell_at g (column * g.height + row)) }
-    ensures moved { let g = B.grid board.old in let cell = column * g.height + row in
-        B.grid board.new ≡ grid_with_cell g cell (map (slot_set_moving moved.now motion) (cell_at g cell)) }
+    ensures changed { AreChanged (map (slot_set_moving moved.now motion)) (B.grid board.old) (B.grid board.new) }
+    ensures here { let height = (B.grid board.old).height in
+        IsCellChanged (map (slot_set_moving moved.now motion)) (B.grid board.new) (column * height + row) }
     ensures table { B.table board.new ≡ B.table board.old }
 {
     let (_, height) = board.size();
-    if !standing.has(column, row) {
-        return;
-    }
     give_cell(board, column * height + row, moved, motion);
 }
 

@@ -5,7 +5,7 @@ ghost use Rattle.ps_model.specs.board.Programs.{Section, program_run};
 ghost use Rattle.ps_turn.specs.States.{queue_shown, state_of};
 
 use crate::queue::Queue;
-use ps_board::Board;
+use ps_board::{Board, CellSet};
 use ps_model::Memory;
 
 /// The rules of one part of a turn, with what their runs need besides the board.
@@ -33,4 +33,6 @@ pub trait Rules<B: Board> {
 pub struct TurnRules<R> {
     pub plain: R,
     pub late: R,
+    /// Room for the cells of a movement in which something moves.
+    pub moving: CellSet,
 }

@@ -4,12 +4,11 @@ ghost use Rattle.std.specs.Prelude.{◌≡◌, ◌+◌, ◌*◌, ◌<◌, ℕ};
 ghost use Rattle.std.specs.List.{list_any};
 ghost use Rattle.ps_model.specs.board.Grid.{IsGrid, cell_at};
 ghost use Rattle.ps_board.specs.ColumnSets.{column_at};
-ghost use Rattle.ps_board.specs.CellSets.{IsSetOf};
 ghost use Rattle.ps_board.specs.RowsOfGrids.{row_slots};
 ghost use Rattle.ps_turn.specs.RowsOfCells.{NonePassOutside, row_cells};
 ghost use Rattle.ps_turn.specs.Sweeps.{holds_any};
 
-use ps_board::{Board, CellSet, Columns};
+use ps_board::{Board, Columns};
 use ps_model::{LayerId, ObjectId};
 
 /// The columns of a row in which one of the objects stands on a layer.
@@ -58,18 +57,4 @@ pub fn rows_with<B: Board>(board: &B, objects: &[ObjectId]) -> Columns
         rows = rows.either(board.rows_holding(objects[index]));
     }
     rows
-}
-
-/// The cells in which one of the objects stands.
-pub fn cells_with<B: Board>(board: &B, objects: &[ObjectId]) -> CellSet
-    ensures { IsSetOf (list_any (holds_any objects.now)) (B.grid board.now) result }
-{
-    let (_, height) = board.size();
-    let holding = rows_with(board, objects);
-    let mut left = holding.both(Columns::below(height));
-    let mut rows = [Columns::none(); 64];
-    while let Some(row) = left.take_first() {
-        rows[row as usize] = row_columns(board, objects, row);
-    }
-    CellSet::from_rows(rows)
 }

@@ -101,7 +101,7 @@ fn play<B: Board, R: Rules<B>>(
     let mut queue = Queue::new();
     prepare(game, input, board);
     rules.plain.run(board, &mut queue)?;
-    let _ = slide(board);
+    let _ = slide(board, &mut rules.moving);
     rules.late.run(board, &mut queue)?;
     Ok(queue)
 }

@@ -14,7 +14,8 @@ base_text rows = base_head ++ codes "RULES\nWINCONDITIONS\nLEVELS\n" ++ rows
 
 -- the whole text with these rules, win conditions and rows, each line with its line feed
 abbrev pub base_game : List ℕ → List ℕ → List ℕ → List ℕ
-base_game rules wins rows = base_head ++ (codes "RULES\n" ++ (rules ++ (codes "WINCONDITIONS\n" ++ (wins ++ (codes "LEVELS\n" ++ rows)))))
+base_game rules wins rows =
+    base_head ++ (codes "RULES\n" ++ (rules ++ (codes "WINCONDITIONS\n" ++ (wins ++ (codes "LEVELS\n" ++ rows)))))
 
 -- that text with an option below its title, with these rules and rows
 abbrev pub with_option : List ℕ → List ℕ → List ℕ → List ℕ

@@ -11,7 +11,8 @@ bytes_of lines = flat_map (λ line. line ++ 10 ∷ []) lines
 
 -- a text with other lines in place of so many from a number on
 abbrev pub changed : ℕ → ℕ → List ℕ → List ℕ → List ℕ
-changed number count lines text = bytes_of (take (number - 1) (raw_lines text)) ++ (lines ++ bytes_of (drop (number - 1 + count) (raw_lines text)))
+changed number count lines text =
+    bytes_of (take (number - 1) (raw_lines text)) ++ (lines ++ bytes_of (drop (number - 1 + count) (raw_lines text)))
 
 -- so many times the same bytes
 abbrev pub many : ℕ → List ℕ → List ℕ

@@ -10,7 +10,10 @@ use Rattle.ps_model.specs.declared.pieces.ObjectId.{ObjectId}
 use Rattle.ps_model.specs.declared.rules.Quantifier.TheVariants.{All}
 use Rattle.ps_model.specs.declared.faults.Fault.{Fault}
 use Rattle.ps_model.specs.declared.faults.FaultKind.{FaultKind}
-use Rattle.ps_model.specs.declared.faults.FaultKind.TheVariants.{TooLong, NotUtf8, SectionOrder, NoSection, Realtime, UnknownGlyph, PropertyGlyph, NoLevel, BadWin, UnknownWinName, UnknownName, NothingRight, TooManyReadings, Impossible}
+use Rattle.ps_model.specs.declared.faults.FaultKind.TheVariants.{TooLong, NotUtf8, SectionOrder, NoSection, Realtime}
+use Rattle.ps_model.specs.declared.faults.FaultKind.TheVariants.{UnknownGlyph, PropertyGlyph, NoLevel, BadWin}
+use Rattle.ps_model.specs.declared.faults.FaultKind.TheVariants.{UnknownWinName, UnknownName, NothingRight}
+use Rattle.ps_model.specs.declared.faults.FaultKind.TheVariants.{TooManyReadings, Impossible}
 use Rattle.ps_model.specs.declared.limits.TheConstants.{TEXT_LIMIT}
 use Rattle.ps_model.specs.text.Faults.{first_fault}
 use Rattle.ps_model.specs.text.TextFaults.{utf8_fault}
@@ -36,27 +39,32 @@ at_line line kind = Some (record { kind = kind; line = line })
 abbrev is_game : List ℕ → Bool
 is_game text = is_some (game text)
 
--- games ------------------------------------------------------------------------------------------------------------------
+-- games ---------------------------------------------------------------------------------------------------------------
 
 abbrev object : ℕ → ObjectId
 object number = record { 0 = number }
 
 -- the level of the row `P@.`
 abbrev one_level : Entry
-one_level = LevelEntry (record { width = 3; height = 1; cells = map (map object) ((2 ∷ 0 ∷ []) ∷ (3 ∷ 4 ∷ 0 ∷ []) ∷ (0 ∷ []) ∷ []) })
+one_level = LevelEntry
+    (record { width = 3; height = 1; cells = map (map object) ((2 ∷ 0 ∷ []) ∷ (3 ∷ 4 ∷ 0 ∷ []) ∷ (0 ∷ []) ∷ []) })
 
 -- the parts of a game
-entries : option_map (λ read. read.entries) (game (text_with [] (codes "message One\nP@.\n\nP@."))) ≡ Some (MessageEntry (codes "One") ∷ one_level ∷ one_level ∷ [])
+entries : option_map (λ read. read.entries) (game (text_with [] (codes "message One\nP@.\n\nP@.")))
+    ≡ Some (MessageEntry (codes "One") ∷ one_level ∷ one_level ∷ [])
 unfolding chars is_utf8 encode utf8_valid_len
 entries = refl
 
 wins : option_map (λ read. read.wins) (game (text_with (codes "All Target on @\n") (codes "P")))
-    ≡ Some (record { quantifier = All; subject = One (object 4); place = Some (AllOf 22 (object 3 ∷ object 4 ∷ [])) } ∷ [])
+    ≡ Some (record { quantifier = All; subject = One (object 4); place = Some (AllOf 22 (object 3 ∷ object 4 ∷ [])) }
+    ∷ [])
 unfolding chars is_utf8 encode utf8_valid_len
 wins = refl
 
-prelude : option_map {U = List ℕ × Options} (λ read. (read.title, read.options)) (game (codes "noundo\n" ++ base_text (codes "P")))
-    ≡ Some (codes "T", record { no_action = false; no_undo = true; no_restart = false; require_player_movement = false; run_rules_on_level_start = false })
+prelude : option_map {U = List ℕ × Options} (λ read. (read.title, read.options))
+    (game (codes "noundo\n" ++ base_text (codes "P")))
+    ≡ Some (codes "T", record { no_action = false; no_undo = true; no_restart = false; require_player_movement =
+    false; run_rules_on_level_start = false })
 unfolding chars is_utf8 encode utf8_valid_len
 prelude = refl
 
@@ -64,7 +72,8 @@ prelude = refl
 abbrev with_returns : List ℕ → List ℕ
 with_returns text = 239 ∷ 187 ∷ 191 ∷ flat_map (λ byte. if byte == 10 then 13 ∷ 10 ∷ [] else byte ∷ []) text
 
-line_ends : option_map {U = List ℕ × List Entry} (λ read. (read.title, read.entries)) (game (with_returns (text_with [] (codes "P@.\n")))) ≡ Some (codes "T", one_level ∷ [])
+line_ends : option_map {U = List ℕ × List Entry} (λ read. (read.title, read.entries))
+    (game (with_returns (text_with [] (codes "P@.\n")))) ≡ Some (codes "T", one_level ∷ [])
 unfolding chars is_utf8 encode utf8_valid_len
 line_ends = refl
 
@@ -87,7 +96,7 @@ no_text : is_game (255 ∷ text_with [] (codes "P")) ≡ false
 unfolding chars is_utf8 encode utf8_valid_len
 no_text = refl
 
--- faults -----------------------------------------------------------------------------------------------------------------
+-- faults --------------------------------------------------------------------------------------------------------------
 
 fine : first (text_with (codes "All Target on Crate\n") (codes "#P*O#\n")) ≡ None
 unfolding chars is_utf8 encode utf8_valid_len
@@ -102,8 +111,11 @@ wrong_byte : faults (codes "ti\n" ++ 255 ∷ []) ≡ record { kind = NotUtf8; li
 unfolding chars is_utf8 encode utf8_valid_len
 wrong_byte = refl
 
-too_long : (text : List ℕ) → nat_lt TEXT_LIMIT (length text) ≡ true → faults text ≡ record { kind = TooLong; line = 1 } ∷ []
-too_long text long = ap (λ test. faults_behind (elim test [ true ↦ Some (record { kind = TooLong; line = 1 }) | false ↦ utf8_fault text ]) text) long
+too_long : (text : List ℕ) → nat_lt TEXT_LIMIT (length text) ≡ true →
+    faults text ≡ record { kind = TooLong; line = 1 } ∷ []
+too_long text long = ap
+    (λ test. faults_behind (elim test [ true ↦ Some (record { kind = TooLong; line = 1 }) | false ↦ utf8_fault text ])
+    text) long
 
 -- no section at all, and a text of comment alone
 empty : first [] ≡ at_line 1 NoSection
@@ -124,7 +136,8 @@ unfolding chars is_utf8 encode utf8_valid_len
 hidden = refl
 
 -- a text that is cut off: within the last header, behind it, behind the first character of a level
-cut_off : map (λ end. first (base_head ++ codes "WINCONDITIONS\n" ++ end)) (codes "LEVEL" ∷ codes "LEVELS" ∷ codes "LEVELS\n#" ∷ [])
+cut_off : map (λ end. first (base_head ++ codes "WINCONDITIONS\n" ++ end))
+    (codes "LEVEL" ∷ codes "LEVELS" ∷ codes "LEVELS\n#" ∷ [])
     ≡ at_line 30 NoSection ∷ at_line 30 NoLevel ∷ None ∷ []
 unfolding chars is_utf8 encode utf8_valid_len
 cut_off = refl
@@ -137,7 +150,8 @@ unknown_glyph : first (text_with [] (codes "P?")) ≡ at_line 32 UnknownGlyph
 unfolding chars is_utf8 encode utf8_valid_len
 unknown_glyph = refl
 
-property_glyph : first (codes "OBJECTS\nBackground .\ngreen\nPlayer P\nwhite\nLEGEND\nQ = Player or Background\nCOLLISIONLAYERS\nBackground\nPlayer\nLEVELS\n..\nPQ\n") ≡ at_line 13 PropertyGlyph
+property_glyph : first
+    (codes "OBJECTS\nBackground .\ngreen\nPlayer P\nwhite\nLEGEND\nQ = Player or Background\nCOLLISIONLAYERS\nBackground\nPlayer\nLEVELS\n..\nPQ\n") ≡ at_line 13 PropertyGlyph
 unfolding chars is_utf8 encode utf8_valid_len
 property_glyph = refl
 
@@ -172,10 +186,11 @@ repeated_first : first (text_with (codes "No Q\n") (codes "P?\nLEVELS\n")) ≡ a
 unfolding chars is_utf8 encode utf8_valid_len
 repeated_first = refl
 
--- the order of the parts ---------------------------------------------------------------------------------------------------
+-- the order of the parts ----------------------------------------------------------------------------------------------
 
 -- an unknown name on a layer line comes before a rule without a right side
-names_first : first (base_head ++ codes "Q\nRULES\n[ A ] ->\nWINCONDITIONS\nNo Q\nLEVELS\nP?\n") ≡ at_line 29 UnknownName
+names_first : first (base_head ++ codes "Q\nRULES\n[ A ] ->\nWINCONDITIONS\nNo Q\nLEVELS\nP?\n")
+    ≡ at_line 29 UnknownName
 unfolding chars digits is_utf8 encode utf8_valid_len
 names_first = refl
 
@@ -201,6 +216,9 @@ unfolding chars digits is_utf8 encode utf8_valid_len
 impossible_last = refl
 
 -- too many readings of a rule come before that, also in a line below it
-readings_before : first (base_game (impossible_rule ++ codes "right [ AT | AT | AT | AT | AT | AT | AT | AT | AT | AT | AT | AT | AT ] -> cancel\n") [] (codes "P")) ≡ at_line 31 TooManyReadings
+readings_before : first
+    (base_game
+    (impossible_rule ++ codes "right [ AT | AT | AT | AT | AT | AT | AT | AT | AT | AT | AT | AT | AT ] -> cancel\n") []
+    (codes "P")) ≡ at_line 31 TooManyReadings
 unfolding chars digits is_utf8 encode utf8_valid_len
 readings_before = refl

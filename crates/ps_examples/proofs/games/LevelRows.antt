@@ -9,7 +9,8 @@ use Rattle.ps_model.specs.declared.pieces.ObjectId.{ObjectId}
 use Rattle.ps_model.specs.declared.texts.Section.TheVariants.{Levels}
 use Rattle.ps_model.specs.declared.faults.Fault.{Fault}
 use Rattle.ps_model.specs.declared.faults.FaultKind.{FaultKind}
-use Rattle.ps_model.specs.declared.faults.FaultKind.TheVariants.{UnknownGlyph, PropertyGlyph, TooLarge, NoLevel, TooManyEntries}
+use Rattle.ps_model.specs.declared.faults.FaultKind.TheVariants.{UnknownGlyph, PropertyGlyph, TooLarge, NoLevel}
+use Rattle.ps_model.specs.declared.faults.FaultKind.TheVariants.{TooManyEntries}
 use Rattle.ps_model.specs.text.Faults.{first_fault}
 use Rattle.ps_model.specs.text.Lines.{lines_of}
 use Rattle.ps_model.specs.text.Sections.{section_lines, header_number}
@@ -25,10 +26,14 @@ object number = record { 0 = number }
 abbrev names : Names
 names = record {
   entries =
-      (codes "background", One (object 0)) ∷ (codes ".", One (object 0)) ∷ (codes "player", One (object 1)) ∷ (codes "p", One (object 1))
-      ∷ (codes "crate", One (object 2)) ∷ (codes "*", One (object 2)) ∷ (codes "target", One (object 3)) ∷ (codes "o", One (object 3))
-      ∷ (codes "grass", One (object 4)) ∷ (195 ∷ 169 ∷ [], One (object 4)) ∷ (codes "@", AllOf 12 (object 2 ∷ object 3 ∷ []))
-      ∷ (codes "q", AnyOf 13 (object 1 ∷ object 2 ∷ [])) ∷ (codes "#", One (object 2)) ∷ (codes "%", AnyOf 13 (object 1 ∷ object 2 ∷ [])) ∷ [];
+      (codes "background", One (object 0)) ∷ (codes ".", One (object 0)) ∷ (codes "player", One (object 1)) ∷
+      (codes "p", One (object 1))
+      ∷ (codes "crate", One (object 2)) ∷ (codes "*", One (object 2)) ∷ (codes "target", One (object 3)) ∷
+      (codes "o", One (object 3))
+      ∷ (codes "grass", One (object 4)) ∷ (195 ∷ 169 ∷ [], One (object 4)) ∷
+      (codes "@", AllOf 12 (object 2 ∷ object 3 ∷ []))
+      ∷ (codes "q", AnyOf 13 (object 1 ∷ object 2 ∷ [])) ∷ (codes "#", One (object 2)) ∷
+      (codes "%", AnyOf 13 (object 1 ∷ object 2 ∷ [])) ∷ [];
   layers = 0 ∷ 2 ∷ 2 ∷ 1 ∷ 0 ∷ [];
   layer_count = 3;
   glyphs = [];
@@ -39,7 +44,8 @@ abbrev entries : List ℕ → List Entry
 entries rows = entries_read names (section_lines (lines_of (codes "LEVELS\n" ++ rows)) Levels)
 
 abbrev first : List ℕ → Option Fault
-first rows = let lines : _ = lines_of (codes "LEVELS\n" ++ rows) in first_fault (level_faults names (header_number lines Levels) (section_lines lines Levels))
+first rows = let lines : _ = lines_of (codes "LEVELS\n" ++ rows) in
+    first_fault (level_faults names (header_number lines Levels) (section_lines lines Levels))
 
 abbrev at_line : ℕ → FaultKind → Option Fault
 at_line line kind = Some (record { kind = kind; line = line })
@@ -48,11 +54,12 @@ at_line line kind = Some (record { kind = kind; line = line })
 abbrev level : ℕ → ℕ → List (List ℕ) → Entry
 level width height cells = LevelEntry (record { width = width; height = height; cells = map (map object) cells })
 
--- cells ------------------------------------------------------------------------------------------------------------------
+-- cells ---------------------------------------------------------------------------------------------------------------
 
 -- columns from the left, each from the top; a cell without background gets it behind its own objects; an aggregate
 -- shows all its objects, a synonym its object
-cells_in_columns : entries (codes "P@\n.#\n") ≡ level 2 2 ((1 ∷ 0 ∷ []) ∷ (0 ∷ []) ∷ (2 ∷ 3 ∷ 0 ∷ []) ∷ (2 ∷ 0 ∷ []) ∷ []) ∷ []
+cells_in_columns : entries (codes "P@\n.#\n")
+    ≡ level 2 2 ((1 ∷ 0 ∷ []) ∷ (0 ∷ []) ∷ (2 ∷ 3 ∷ 0 ∷ []) ∷ (2 ∷ 0 ∷ []) ∷ []) ∷ []
 unfolding chars encode
 cells_in_columns = refl
 
@@ -85,7 +92,8 @@ grass_as_ground = refl
 abbrev two_grounds : Names
 two_grounds = record {
   entries =
-      (codes "grass", One (object 0)) ∷ (codes "g", One (object 0)) ∷ (codes "sand", One (object 1)) ∷ (codes "s", One (object 1)) ∷ (codes "player", One (object 2))
+      (codes "grass", One (object 0)) ∷ (codes "g", One (object 0)) ∷ (codes "sand", One (object 1)) ∷
+      (codes "s", One (object 1)) ∷ (codes "player", One (object 2))
       ∷ (codes "p", One (object 2)) ∷ (codes "background", AnyOf 9 (object 0 ∷ object 1 ∷ [])) ∷ [];
   layers = 0 ∷ 0 ∷ 1 ∷ [];
   layer_count = 2;
@@ -104,11 +112,12 @@ unfolding chars encode
 first_in_columns = refl
 
 -- each level has its own ground; without one that is met it is Background, its first object where it is a property
-own_ground : on_grounds (codes "Ps\n\nP") ≡ level 2 1 ((2 ∷ 1 ∷ []) ∷ (1 ∷ []) ∷ []) ∷ level 1 1 ((2 ∷ 0 ∷ []) ∷ []) ∷ []
+own_ground : on_grounds (codes "Ps\n\nP") ≡ level 2 1 ((2 ∷ 1 ∷ []) ∷ (1 ∷ []) ∷ []) ∷ level 1 1 ((2 ∷ 0 ∷ []) ∷ [])
+    ∷ []
 unfolding chars encode
 own_ground = refl
 
--- entries ----------------------------------------------------------------------------------------------------------------
+-- entries -------------------------------------------------------------------------------------------------------------
 
 abbrev one_player : Entry
 one_player = level 1 1 ((1 ∷ 0 ∷ []) ∷ [])
@@ -152,7 +161,7 @@ longer_word : first (codes "P\n\nmessages") ≡ at_line 4 UnknownGlyph
 unfolding chars encode
 longer_word = refl
 
--- faults -----------------------------------------------------------------------------------------------------------------
+-- faults --------------------------------------------------------------------------------------------------------------
 
 fine : first (codes "P.\n\nmessage ?\n@#\n") ≡ None
 unfolding chars encode
@@ -258,7 +267,8 @@ too_many = refl
 
 -- the first fault of entries behind so many others
 abbrev first_behind : ℕ → List ℕ → Option Fault
-first_behind place rows = first_fault (entries_faults names place (entry_lines (section_lines (lines_of (codes "LEVELS\n" ++ rows)) Levels)))
+first_behind place rows =
+    first_fault (entries_faults names place (entry_lines (section_lines (lines_of (codes "LEVELS\n" ++ rows)) Levels)))
 
 last_level : first_behind 998 (codes "P\nP") ≡ None
 unfolding chars encode

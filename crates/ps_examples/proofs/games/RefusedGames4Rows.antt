@@ -13,62 +13,74 @@ use Rattle.ps_model.specs.session.KeySteps.{all_key_turns}
 use Rattle.ps_model.specs.declared.faults.FaultKind.TheVariants as kind
 use Rattle.ps_examples.proofs.games.WholeRuns.{refused}
 
-odd_fault_073 : refused (codes "title T\nOBJECTS\nBackground .\ngreen\nWall #\nbrown\nPlayer P\nwhite\nCrate *\norange\nTarget O\nblue\nA\nred\nB\npink\nC\ngray\nD\nblack\nLEGEND\n@ = Crate and Target\nX = @ or A\nAT = A or Target\nX = A and A\nAB = A or B\nX = A and A\nCOLLISIONLAYERS\nBackground\nTarget\nPlayer, Wall, Crate\nA B C D\nRULES\nWINCONDITIONS\nLEVELS\n#P*O.\n")
+odd_fault_073 : refused
+    (codes "title T\nOBJECTS\nBackground .\ngreen\nWall #\nbrown\nPlayer P\nwhite\nCrate *\norange\nTarget O\nblue\nA\nred\nB\npink\nC\ngray\nD\nblack\nLEGEND\n@ = Crate and Target\nX = @ or A\nAT = A or Target\nX = A and A\nAB = A or B\nX = A and A\nCOLLISIONLAYERS\nBackground\nTarget\nPlayer, Wall, Crate\nA B C D\nRULES\nWINCONDITIONS\nLEVELS\n#P*O.\n")
     ≡ Some (record { kind = kind.Twice; line = 25 })
 unfolding chars digits is_utf8 utf8_valid_len encode group program_run all_start_turns all_key_turns turn opening_step
 odd_fault_073 = refl
 
-odd_fault_076 : refused (codes "title T\nOBJECTS\nBackground .\ngreen\nWall #\nbrown\nPlayer P\nwhite\nCrate *\norange\nTarget O\nblue\nA\nred\nB\npink\nC\ngray\nD\nblack\nLEGEND\n@ = Crate and Target\nAT = A or Target\nAB = A or B\nAC=A or C\nBD = B or D or AB\nCOLLISIONLAYERS\nBackground\nTarget\nPlayer, Wall, Crate\nA B C\nRULES\nWINCONDITIONS\nLEVELS\n#P*O.\n")
+odd_fault_076 : refused
+    (codes "title T\nOBJECTS\nBackground .\ngreen\nWall #\nbrown\nPlayer P\nwhite\nCrate *\norange\nTarget O\nblue\nA\nred\nB\npink\nC\ngray\nD\nblack\nLEGEND\n@ = Crate and Target\nAT = A or Target\nAB = A or B\nAC=A or C\nBD = B or D or AB\nCOLLISIONLAYERS\nBackground\nTarget\nPlayer, Wall, Crate\nA B C\nRULES\nWINCONDITIONS\nLEVELS\n#P*O.\n")
     ≡ Some (record { kind = kind.NoLayer; line = 19 })
 unfolding chars digits is_utf8 utf8_valid_len encode group program_run all_start_turns all_key_turns turn opening_step
 odd_fault_076 = refl
 
-odd_fault_077 : refused (codes "title T\nOBJECTS\nBackground .\ngreen\nWall #\nbrown\nPlayer P\nwhite\nCrate *\norange\nTarget O\nblue\nA\nred\nB\npink\nC\ngray\nD\nblack\nLEGEND\n@ = Crate and Target\nCOLLISIONLAYERS\nBackground\nTarget\nPlayer, Wall, Crate\nA B C D\nRULES\n[ no @ ] -> cancel\nWINCONDITIONS\nLEVELS\n#P*O.\n")
+odd_fault_077 : refused
+    (codes "title T\nOBJECTS\nBackground .\ngreen\nWall #\nbrown\nPlayer P\nwhite\nCrate *\norange\nTarget O\nblue\nA\nred\nB\npink\nC\ngray\nD\nblack\nLEGEND\n@ = Crate and Target\nCOLLISIONLAYERS\nBackground\nTarget\nPlayer, Wall, Crate\nA B C D\nRULES\n[ no @ ] -> cancel\nWINCONDITIONS\nLEVELS\n#P*O.\n")
     ≡ Some (record { kind = kind.NoAggregate; line = 29 })
 unfolding chars digits is_utf8 utf8_valid_len encode group program_run all_start_turns all_key_turns turn opening_step
 odd_fault_077 = refl
 
-odd_fault_079 : refused (codes "title T\ntitle\nLEGEND\n@ = Crate and Target\nAT = A or Target\nAB = A or B\nX = A and A\nAC=A or C\nBD = B or D or AB\nQ = AT\nCOLLISIONLAYERS\nBackground\nTarget\nPlayer, Wall, Crate\nA B C D\nRULES\nfoo\nWINCONDITIONS\nLEVELS\n#P*O.\n")
+odd_fault_079 : refused
+    (codes "title T\ntitle\nLEGEND\n@ = Crate and Target\nAT = A or Target\nAB = A or B\nX = A and A\nAC=A or C\nBD = B or D or AB\nQ = AT\nCOLLISIONLAYERS\nBackground\nTarget\nPlayer, Wall, Crate\nA B C D\nRULES\nfoo\nWINCONDITIONS\nLEVELS\n#P*O.\n")
     ≡ Some (record { kind = kind.NoSection; line = 20 })
 unfolding chars digits is_utf8 utf8_valid_len encode group program_run all_start_turns all_key_turns turn opening_step
 odd_fault_079 = refl
 
-odd_fault_080 : refused (codes "title T\nOBJECTS\nBackground .\ngreen\nWall #\nbrown\nPlayer P\nwhite\nCrate *\norange\nTarget O\nblue\nA\nred\nB\npink\nC\ngray\nD\nblack\nLEGEND\n@ = Crate and Target\np = B\nAT = A or Target\nX = Y or A\nY = X or B\n; = A\nCOLLISIONLAYERS\nBackground\nTarget\nPlayer, Wall, Crate\nA B C D\nRULES\nWINCONDITIONS\nLEVELS\n#P*O.\n..;..\n")
+odd_fault_080 : refused
+    (codes "title T\nOBJECTS\nBackground .\ngreen\nWall #\nbrown\nPlayer P\nwhite\nCrate *\norange\nTarget O\nblue\nA\nred\nB\npink\nC\ngray\nD\nblack\nLEGEND\n@ = Crate and Target\np = B\nAT = A or Target\nX = Y or A\nY = X or B\n; = A\nCOLLISIONLAYERS\nBackground\nTarget\nPlayer, Wall, Crate\nA B C D\nRULES\nWINCONDITIONS\nLEVELS\n#P*O.\n..;..\n")
     ≡ Some (record { kind = kind.Twice; line = 23 })
 unfolding chars digits is_utf8 utf8_valid_len encode group program_run all_start_turns all_key_turns turn opening_step
 odd_fault_080 = refl
 
-odd_fault_081 : refused (codes "title T\nOBJECTS\nBackground .\ngreen\nWall #\nbrown\nPlayer P\nwhite\nCrate *\norange\nTarget O\nblue\nA\nred\nB\npink\nC\ngray\nD\nblack\nLEGEND\n@ = Crate and Target\n; = A\nCOLLISIONLAYERS\nBackground\nTarget\nPlayer, Wall, Crate\nA B C D\nRULES\nWINCONDITIONS\nall on on on\nLEVELS\n#P*O.\n..;..\n")
+odd_fault_081 : refused
+    (codes "title T\nOBJECTS\nBackground .\ngreen\nWall #\nbrown\nPlayer P\nwhite\nCrate *\norange\nTarget O\nblue\nA\nred\nB\npink\nC\ngray\nD\nblack\nLEGEND\n@ = Crate and Target\n; = A\nCOLLISIONLAYERS\nBackground\nTarget\nPlayer, Wall, Crate\nA B C D\nRULES\nWINCONDITIONS\nall on on on\nLEVELS\n#P*O.\n..;..\n")
     ≡ Some (record { kind = kind.UnknownWinName; line = 31 })
 unfolding chars digits is_utf8 utf8_valid_len encode group program_run all_start_turns all_key_turns turn opening_step
 odd_fault_081 = refl
 
-odd_fault_082 : refused (codes "title T\nOBJECTS\nBackground .\ngreen\nWall #\nbrown\nPlayer P\nwhite\nCrate *\norange\nTarget O\nblue\nA\nred\nB\npink\nC\ngray\nD\nblack\nLEGEND\nCOLLISIONLAYERS\nBackground\nTarget\nPlayer, Wall, Crate\nA B C D\nRULES\nWINCONDITIONS\nSome Wall on Z\nLEVELS\n#P*O.\n")
+odd_fault_082 : refused
+    (codes "title T\nOBJECTS\nBackground .\ngreen\nWall #\nbrown\nPlayer P\nwhite\nCrate *\norange\nTarget O\nblue\nA\nred\nB\npink\nC\ngray\nD\nblack\nLEGEND\nCOLLISIONLAYERS\nBackground\nTarget\nPlayer, Wall, Crate\nA B C D\nRULES\nWINCONDITIONS\nSome Wall on Z\nLEVELS\n#P*O.\n")
     ≡ Some (record { kind = kind.UnknownWinName; line = 29 })
 unfolding chars digits is_utf8 utf8_valid_len encode group program_run all_start_turns all_key_turns turn opening_step
 odd_fault_082 = refl
 
-odd_fault_084 : refused (codes "title T\nOBJECTS\nBackground .\ngreen\nWall #\nbrown\nPlayer P\nwhite\nCrate *\norange\nTarget O\nblue\nA\nred\nB\npink\nC\ngray\nD\nblack\nLEGEND\n@ = Crate and Target\nAT = A or Target\nAB = A or B\nCOLLISIONLAYERS\nBackground\nTarget\nPlayer, Wall, Crate\nA B C D\nRULES\nWINCONDITIONS\nNo A on\nLEVELS\nMessage\n#P*O.\n")
+odd_fault_084 : refused
+    (codes "title T\nOBJECTS\nBackground .\ngreen\nWall #\nbrown\nPlayer P\nwhite\nCrate *\norange\nTarget O\nblue\nA\nred\nB\npink\nC\ngray\nD\nblack\nLEGEND\n@ = Crate and Target\nAT = A or Target\nAB = A or B\nCOLLISIONLAYERS\nBackground\nTarget\nPlayer, Wall, Crate\nA B C D\nRULES\nWINCONDITIONS\nNo A on\nLEVELS\nMessage\n#P*O.\n")
     ≡ Some (record { kind = kind.BadWin; line = 32 })
 unfolding chars digits is_utf8 utf8_valid_len encode group program_run all_start_turns all_key_turns turn opening_step
 odd_fault_084 = refl
 
-odd_fault_085 : refused (codes "title T\nOBJECTS\nBackground .\ngreen\nWall #\nbrown\nPlayer P\nwhite\nCrate *\norange\nTarget O\nblue\nA\nred\nA\nB\npink\nC\nX X\nred\ngray\nD\nblack\nLEGEND\n@ = Crate and Target\nAT = A or Target\nAB = A or B\nAC=A or C\n; = A\nCOLLISIONLAYERS\nBackground\nTarget\nPlayer, Wall, Crate\nA B C D\nRULES\nWINCONDITIONS\nLEVELS\n#P*O.\n..;..\n")
+odd_fault_085 : refused
+    (codes "title T\nOBJECTS\nBackground .\ngreen\nWall #\nbrown\nPlayer P\nwhite\nCrate *\norange\nTarget O\nblue\nA\nred\nA\nB\npink\nC\nX X\nred\ngray\nD\nblack\nLEGEND\n@ = Crate and Target\nAT = A or Target\nAB = A or B\nAC=A or C\n; = A\nCOLLISIONLAYERS\nBackground\nTarget\nPlayer, Wall, Crate\nA B C D\nRULES\nWINCONDITIONS\nLEVELS\n#P*O.\n..;..\n")
     ≡ Some (record { kind = kind.Twice; line = 15 })
 unfolding chars digits is_utf8 utf8_valid_len encode group program_run all_start_turns all_key_turns turn opening_step
 odd_fault_085 = refl
 
-odd_fault_086 : refused (codes "title T\nOBJECTS\nBackground .\ngreen\nWall #\nbrown\nPlayer P\nwhite\nCrate *\norange\nTarget O\nblue\nA\nred\nB\npink\nC\ngray\nD\nblack\nLEGEND\n@ = Crate and Target\nAT = A or Target\nCOLLISIONLAYERS\nBackground\nTarget\nPlayer, Wall, Crate\n@\nA B C D\nRULES\nWINCONDITIONS\nLEVELS\n#P*O.\n")
+odd_fault_086 : refused
+    (codes "title T\nOBJECTS\nBackground .\ngreen\nWall #\nbrown\nPlayer P\nwhite\nCrate *\norange\nTarget O\nblue\nA\nred\nB\npink\nC\ngray\nD\nblack\nLEGEND\n@ = Crate and Target\nAT = A or Target\nCOLLISIONLAYERS\nBackground\nTarget\nPlayer, Wall, Crate\n@\nA B C D\nRULES\nWINCONDITIONS\nLEVELS\n#P*O.\n")
     ≡ Some (record { kind = kind.AggregateInLayer; line = 28 })
 unfolding chars digits is_utf8 utf8_valid_len encode group program_run all_start_turns all_key_turns turn opening_step
 odd_fault_086 = refl
 
-odd_fault_087 : refused (codes "title T\nOBJECTS\nBackground .\ngreen\nWall #\nbrown\nPlayer P\nwhite\nCrate *\norange\nTarget O\nblue\nA\nred\nB\npink\nC\ngray\nD\nblack\nE0\nx\nE1\nx\nE2\nx\nE3\nx\nE4\nx\nE5\nx\nE6\nx\nE7\nx\nE8\nx\nE9\nx\nE10\nx\nE11\nx\nE12\nx\nE13\nx\nE14\nx\nE15\nx\nE16\nx\nE17\nx\nE18\nx\nE19\nx\nE20\nx\nE21\nx\nE22\nx\nE23\nx\nE24\nx\nE25\nx\nE26\nx\nE27\nx\nE28\nx\nE29\nx\nE30\nx\nE31\nx\nE32\nx\nE33\nx\nE34\nx\nE35\nx\nE36\nx\nE37\nx\nE38\nx\nE39\nx\nE40\nx\nE41\nx\nE42\nx\nE43\nx\nE44\nx\nE45\nx\nE46\nx\nE47\nx\nE48\nx\nE49\nx\nE50\nx\nE51\nx\nE52\nx\nE53\nx\nE54\nx\nE55\nx\nE56\nx\nLEGEND\n@ = Crate and Target\nAT = A or Target\nX = @ or A\nAB = A or B\nAC=A or C\nBD = B or D or AB\nQ = AT\nZ = @\nCOLLISIONLAYERS\nBackground\nTarget\nPlayer, Wall, Crate\nA B C D E0 E1 E2 E3 E4 E5 E6 E7 E8 E9 E10 E11 E12 E13 E14 E15 E16 E17 E18 E19 E20 E21 E22 E23 E24 E25 E26 E27 E28 E29 E30 E31 E32 E33 E34 E35 E36 E37 E38 E39 E40 E41 E42 E43 E44 E45 E46 E47 E48 E49 E50 E51 E52 E53 E54 E55 E56\nRULES\n[ A | ... | ... | C ] -> cancel\nWINCONDITIONS\nLEVELS\n#P*O.\n")
+odd_fault_087 : refused
+    (codes "title T\nOBJECTS\nBackground .\ngreen\nWall #\nbrown\nPlayer P\nwhite\nCrate *\norange\nTarget O\nblue\nA\nred\nB\npink\nC\ngray\nD\nblack\nE0\nx\nE1\nx\nE2\nx\nE3\nx\nE4\nx\nE5\nx\nE6\nx\nE7\nx\nE8\nx\nE9\nx\nE10\nx\nE11\nx\nE12\nx\nE13\nx\nE14\nx\nE15\nx\nE16\nx\nE17\nx\nE18\nx\nE19\nx\nE20\nx\nE21\nx\nE22\nx\nE23\nx\nE24\nx\nE25\nx\nE26\nx\nE27\nx\nE28\nx\nE29\nx\nE30\nx\nE31\nx\nE32\nx\nE33\nx\nE34\nx\nE35\nx\nE36\nx\nE37\nx\nE38\nx\nE39\nx\nE40\nx\nE41\nx\nE42\nx\nE43\nx\nE44\nx\nE45\nx\nE46\nx\nE47\nx\nE48\nx\nE49\nx\nE50\nx\nE51\nx\nE52\nx\nE53\nx\nE54\nx\nE55\nx\nE56\nx\nLEGEND\n@ = Crate and Target\nAT = A or Target\nX = @ or A\nAB = A or B\nAC=A or C\nBD = B or D or AB\nQ = AT\nZ = @\nCOLLISIONLAYERS\nBackground\nTarget\nPlayer, Wall, Crate\nA B C D E0 E1 E2 E3 E4 E5 E6 E7 E8 E9 E10 E11 E12 E13 E14 E15 E16 E17 E18 E19 E20 E21 E22 E23 E24 E25 E26 E27 E28 E29 E30 E31 E32 E33 E34 E35 E36 E37 E38 E39 E40 E41 E42 E43 E44 E45 E46 E47 E48 E49 E50 E51 E52 E53 E54 E55 E56\nRULES\n[ A | ... | ... | C ] -> cancel\nWINCONDITIONS\nLEVELS\n#P*O.\n")
     ≡ Some (record { kind = kind.TooManyNames; line = 131 })
 unfolding chars digits is_utf8 utf8_valid_len encode group program_run all_start_turns all_key_turns turn opening_step
 odd_fault_087 = refl
 
-odd_fault_088 : refused (codes "title T\nOBJECTS\nBackground .\ngreen\nWall #\nbrown\nPlayer P\nwhite\nCrate *\norange\nTarget O\nblue\nA\nred\nB\npink\nC\ngray\nD\nblack\nLEGEND\n@ = Crate and Target\nAT = A or Target\nAB = A or B\nAC=A or C\nBD = B or D or AB\nQ = AT\n; = A\nCOLLISIONLAYERS\nBackground\nTarget\nPlayer, Wall, Crate\nA B C D\n, ,\nRULES\nWINCONDITIONS\nLEVELS\n#P*O.\n..;..\n")
+odd_fault_088 : refused
+    (codes "title T\nOBJECTS\nBackground .\ngreen\nWall #\nbrown\nPlayer P\nwhite\nCrate *\norange\nTarget O\nblue\nA\nred\nB\npink\nC\ngray\nD\nblack\nLEGEND\n@ = Crate and Target\nAT = A or Target\nAB = A or B\nAC=A or C\nBD = B or D or AB\nQ = AT\n; = A\nCOLLISIONLAYERS\nBackground\nTarget\nPlayer, Wall, Crate\nA B C D\n, ,\nRULES\nWINCONDITIONS\nLEVELS\n#P*O.\n..;..\n")
     ≡ Some (record { kind = kind.BadLine; line = 34 })
 unfolding chars digits is_utf8 utf8_valid_len encode group program_run all_start_turns all_key_turns turn opening_step
 odd_fault_088 = refl

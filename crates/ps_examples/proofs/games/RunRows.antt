@@ -1,4 +1,5 @@
--- Whole runs that are right, worked by hand: the reader gives a byte at a call, or all that it has; the writer takes all,
+-- Whole runs that are right, worked by hand: the reader gives a byte at a call, or all that it has; the writer takes
+-- all,
 -- or fails within a frame; memory is refused before anything is written, or behind a frame.
 use Rattle.std.proofs.Common.{◌≡◌, ℕ, inl, inr, List, [], ◌∷◌, refl, Some, true, false, arith}
 use Rattle.std.specs.Prelude.{codes}
@@ -17,7 +18,8 @@ use Rattle.ps_model.specs.text.Lines.{lines_of}
 use Rattle.ps_model.specs.game.Games.{game_read}
 use Rattle.ps_model.specs.game.Outputs.{opening_step}
 use Rattle.ps_model.specs.game.Tellings.{Gives, Fails, Unasked, Asked, ReaderState, WriterState}
-use Rattle.ps_model.specs.game.Headline.{Ends, Refuses, WantsMemory, CannotRead, CannotWrite, Answers, IsPiece, RunsRightly, script_of_text}
+use Rattle.ps_model.specs.game.Headline.{Ends, Refuses, WantsMemory, CannotRead, CannotWrite, Answers, IsPiece}
+use Rattle.ps_model.specs.game.Headline.{RunsRightly, script_of_text}
 use Rattle.ps_examples.proofs.games.BaseText.{base_text}
 
 -- a level with a player and two cells to the right
@@ -36,7 +38,9 @@ a_byte : (byte : ℕ) → IsPiece (byte ∷ [])
 a_byte byte = record { some = omega arith; few = omega arith }
 
 -- a byte at a call, and a byte that isn't read behind the ending
-byte_by_byte : Answers walk (record { reading = Asked ((100 ∷ []) ∷ (100 ∷ []) ∷ []) (Gives (codes "q")); left = codes "d"; wrote = codes "= T\n# level 1\nP..\n\n.P.\n\n..P\n\n* quit\n"; writer_failed = false }) (Ends Quit)
+byte_by_byte : Answers walk
+    (record { reading = Asked ((100 ∷ []) ∷ (100 ∷ []) ∷ []) (Gives (codes "q")); left = codes "d"; wrote =
+    codes "= T\n# level 1\nP..\n\n.P.\n\n..P\n\n* quit\n"; writer_failed = false }) (Ends Quit)
 unfolding chars digits is_utf8 utf8_valid_len encode group program_run all_start_turns all_key_turns turn opening_step
 byte_by_byte = (
   script,
@@ -59,13 +63,16 @@ byte_by_byte = (
 )
 
 -- all keys at a call, and then none
-keys_end : Answers walk (record { reading = Asked ((100 ∷ []) ∷ []) (Gives []); left = []; wrote = codes "= T\n# level 1\nP..\n\n.P.\n\n* end of keys\n"; writer_failed = false }) (Ends EndOfKeys)
+keys_end : Answers walk
+    (record { reading = Asked ((100 ∷ []) ∷ []) (Gives []); left = []; wrote =
+    codes "= T\n# level 1\nP..\n\n.P.\n\n* end of keys\n"; writer_failed = false }) (Ends EndOfKeys)
 unfolding chars digits is_utf8 utf8_valid_len encode group program_run all_start_turns all_key_turns turn opening_step
 keys_end = (
   script,
   has_game,
   record {
-    reads = record { pieces = All-from_recursion IsPiece ((100 ∷ []) ∷ []) (a_byte 100, tt); few = omega arith; calls = omega arith; goes_on = refl; spent = λ e. refl };
+    reads = record { pieces = All-from_recursion IsPiece ((100 ∷ []) ∷ []) (a_byte 100, tt); few = omega arith; calls =
+    omega arith; goes_on = refl; spent = λ e. refl };
     reader_is_well = refl;
     writer_is_well = refl;
     ending_is = refl;
@@ -75,23 +82,28 @@ keys_end = (
   },
 )
 
--- the same run by what its devices tell: the reader had been called before, and tells of two calls more, of which one gave
+-- the same run by what its devices tell: the reader had been called before, and tells of two calls more, of which one
+-- gave
 -- nothing; the writer took the last of three texts by two calls
 abbrev reader_before : ReaderState
-reader_before = record { remaining = Some (codes "d"); has_failed = false; last = 2; calls = 3; empty_calls = 1; odd_sized_calls = 2 }
+reader_before = record { remaining = Some (codes "d"); has_failed = false; last = 2; calls = 3; empty_calls =
+    1; odd_sized_calls = 2 }
 
 abbrev reader_after : ReaderState
-reader_after = record { remaining = Some []; has_failed = false; last = 0; calls = 5; empty_calls = 2; odd_sized_calls = 2 }
+reader_after = record { remaining = Some []; has_failed = false; last = 0; calls = 5; empty_calls = 2; odd_sized_calls =
+    2 }
 
 abbrev writer_before : WriterState
 writer_before = record { contents = Some (codes "?"); has_failed = false; calls = 1; empty_calls = 0 }
 
 abbrev writer_after : WriterState
-writer_after = record { contents = Some (codes "?= T\n# level 1\nP..\n\n.P.\n\n* end of keys\n"); has_failed = false; calls = 5; empty_calls = 0 }
+writer_after = record { contents = Some (codes "?= T\n# level 1\nP..\n\n.P.\n\n* end of keys\n"); has_failed =
+    false; calls = 5; empty_calls = 0 }
 
 keys_end_as_told : RunsRightly walk reader_before reader_after writer_before writer_after (Ends EndOfKeys)
 keys_end_as_told = record {
-  told = record { reading = Asked ((100 ∷ []) ∷ []) (Gives []); left = []; wrote = codes "= T\n# level 1\nP..\n\n.P.\n\n* end of keys\n"; writer_failed = false };
+  told = record { reading = Asked ((100 ∷ []) ∷ []) (Gives []); left = []; wrote =
+    codes "= T\n# level 1\nP..\n\n.P.\n\n* end of keys\n"; writer_failed = false };
   tells = record {
     reader_was_well = refl;
     reader_failed = refl;
@@ -111,13 +123,16 @@ keys_end_as_told = record {
 }
 
 -- the writer fails within the second key's frame
-cut_off : Answers walk (record { reading = Asked ((100 ∷ []) ∷ []) (Gives (codes "dd")); left = codes "q"; wrote = codes "= T\n# level 1\nP..\n\n.P.\n\n.."; writer_failed = true }) CannotWrite
+cut_off : Answers walk
+    (record { reading = Asked ((100 ∷ []) ∷ []) (Gives (codes "dd")); left = codes "q"; wrote =
+    codes "= T\n# level 1\nP..\n\n.P.\n\n.."; writer_failed = true }) CannotWrite
 unfolding chars digits is_utf8 utf8_valid_len encode group program_run all_start_turns all_key_turns turn opening_step
 cut_off = (
   script,
   has_game,
   record {
-    reads = record { pieces = All-from_recursion IsPiece ((100 ∷ []) ∷ []) (a_byte 100, tt); few = omega arith; calls = omega arith; goes_on = refl; spent = λ e. absurd (cc) };
+    reads = record { pieces = All-from_recursion IsPiece ((100 ∷ []) ∷ []) (a_byte 100, tt); few = omega arith; calls =
+    omega arith; goes_on = refl; spent = λ e. absurd (cc) };
     reader_is_well = refl;
     cause = refl;
     wrote = inl (record { rest = codes "P\n\n..P\n\n"; some = omega arith; is = refl });
@@ -126,13 +141,16 @@ cut_off = (
 )
 
 -- the writer fails within the line that says that the keys ended
-end_cut_off : Answers walk (record { reading = Asked [] (Gives []); left = []; wrote = codes "= T\n# level 1\nP..\n\n* en"; writer_failed = true }) CannotWrite
+end_cut_off : Answers walk
+    (record { reading = Asked [] (Gives []); left = []; wrote = codes "= T\n# level 1\nP..\n\n* en"; writer_failed =
+    true }) CannotWrite
 unfolding chars digits is_utf8 utf8_valid_len encode group program_run all_start_turns all_key_turns turn opening_step
 end_cut_off = (
   script,
   has_game,
   record {
-    reads = record { pieces = All-from_recursion IsPiece [] tt; few = omega arith; calls = omega arith; goes_on = refl; spent = λ e. refl };
+    reads = record { pieces = All-from_recursion IsPiece [] tt; few = omega arith; calls = omega arith; goes_on =
+    refl; spent = λ e. refl };
     reader_is_well = refl;
     cause = refl;
     wrote = inr (refl, record { rest = codes "d of keys\n"; some = omega arith; is = refl });
@@ -141,13 +159,16 @@ end_cut_off = (
 )
 
 -- the reader fails behind two keys
-reading_fails : Answers walk (record { reading = Asked ((100 ∷ []) ∷ (100 ∷ []) ∷ []) Fails; left = []; wrote = codes "= T\n# level 1\nP..\n\n.P.\n\n..P\n\n"; writer_failed = false }) CannotRead
+reading_fails : Answers walk
+    (record { reading = Asked ((100 ∷ []) ∷ (100 ∷ []) ∷ []) Fails; left = []; wrote =
+    codes "= T\n# level 1\nP..\n\n.P.\n\n..P\n\n"; writer_failed = false }) CannotRead
 unfolding chars digits is_utf8 utf8_valid_len encode group program_run all_start_turns all_key_turns turn opening_step
 reading_fails = (
   script,
   has_game,
   record {
-    reads = record { pieces = All-from_recursion IsPiece ((100 ∷ []) ∷ (100 ∷ []) ∷ []) (a_byte 100, (a_byte 100, tt)); few = omega arith; calls = omega arith; goes_on = refl; spent = λ e. absurd (cc) };
+    reads = record { pieces = All-from_recursion IsPiece ((100 ∷ []) ∷ (100 ∷ []) ∷ []) (a_byte 100, (a_byte 100, tt));
+    few = omega arith; calls = omega arith; goes_on = refl; spent = λ e. absurd (cc) };
     writer_is_well = refl;
     cause = tt;
     goes_on = refl;
@@ -159,13 +180,16 @@ reading_fails = (
 at_once : Answers walk (record { reading = Unasked; left = codes "d"; wrote = []; writer_failed = false }) WantsMemory
 at_once = inl (record { asked_nothing = refl; wrote_nothing = refl; writer_is_well = refl })
 
-behind_a_frame : Answers walk (record { reading = Asked [] (Gives (codes "dd")); left = []; wrote = codes "= T\n# level 1\nP..\n\n.P.\n\n"; writer_failed = false }) WantsMemory
+behind_a_frame : Answers walk
+    (record { reading = Asked [] (Gives (codes "dd")); left = []; wrote =
+    codes "= T\n# level 1\nP..\n\n.P.\n\n"; writer_failed = false }) WantsMemory
 unfolding chars digits is_utf8 utf8_valid_len encode group program_run all_start_turns all_key_turns turn opening_step
 behind_a_frame = inr (
   script,
   has_game,
   record {
-    reads = record { pieces = All-from_recursion IsPiece [] tt; few = omega arith; calls = omega arith; goes_on = refl; spent = λ e. absurd (cc) };
+    reads = record { pieces = All-from_recursion IsPiece [] tt; few = omega arith; calls = omega arith; goes_on =
+    refl; spent = λ e. absurd (cc) };
     reader_is_well = refl;
     writer_is_well = refl;
     keys = 1;
@@ -176,6 +200,7 @@ behind_a_frame = inr (
 )
 
 -- a text is refused, and neither device is called
-no_section : Answers [] (record { reading = Unasked; left = codes "d"; wrote = []; writer_failed = false }) (Refuses (record { kind = kind.NoSection; line = 1 }))
+no_section : Answers [] (record { reading = Unasked; left = codes "d"; wrote = []; writer_failed = false })
+    (Refuses (record { kind = kind.NoSection; line = 1 }))
 unfolding chars is_utf8 utf8_valid_len encode
 no_section = record { is_first = refl; asked_nothing = refl; wrote_nothing = refl; writer_is_well = refl }

@@ -2,7 +2,8 @@
 use Rattle.std.proofs.Common.{◌≡◌, ℕ, List, [], ◌∷◌, map, refl, Option, Some, None, true, false, Bool}
 use Rattle.std.specs.Prelude.{codes}
 use Rattle.ps_model.specs.declared.texts.Section.{Section}
-use Rattle.ps_model.specs.declared.texts.Section.TheVariants.{Prelude, Objects, Legend, Sounds, Layers, Rules, Wins, Levels}
+use Rattle.ps_model.specs.declared.texts.Section.TheVariants.{Prelude, Objects, Legend, Sounds, Layers, Rules, Wins}
+use Rattle.ps_model.specs.declared.texts.Section.TheVariants.{Levels}
 use Rattle.ps_model.specs.declared.faults.Fault.{Fault}
 use Rattle.ps_model.specs.declared.faults.FaultKind.{FaultKind}
 use Rattle.ps_model.specs.declared.faults.FaultKind.TheVariants.{SectionOrder, NoSection, Realtime}
@@ -17,16 +18,19 @@ abbrev numbers : List ℕ → Section → List ℕ
 numbers text section = map (λ line. line.number) (section_lines (lines_of text) section)
 
 -- lines of a section: without its header, without lines that aren't there, with blank lines
-lines_of_sections : map (numbers (codes "title T\n\nobjects (x)\nA\n(a)\nred\n\n==\nB\nLegend\nSOUNDS\nx\nCOLLISIONLAYERS\nLEVELS\nP\n(a\n\n) b"))
+lines_of_sections : map
+    (numbers (codes
+    "title T\n\nobjects (x)\nA\n(a)\nred\n\n==\nB\nLegend\nSOUNDS\nx\nCOLLISIONLAYERS\nLEVELS\nP\n(a\n\n) b"))
     (Prelude ∷ Objects ∷ Legend ∷ Sounds ∷ Layers ∷ Rules ∷ Wins ∷ Levels ∷ [])
     ≡ (1 ∷ 2 ∷ []) ∷ (4 ∷ 6 ∷ 7 ∷ 9 ∷ []) ∷ [] ∷ (12 ∷ []) ∷ [] ∷ [] ∷ [] ∷ (15 ∷ 18 ∷ []) ∷ []
 lines_of_sections = refl
 
 -- where sections begin
-header_numbers : map (header_number (lines_of (codes "OBJECTS\nA\nlevels\nP"))) (Objects ∷ Rules ∷ Levels ∷ []) ≡ 1 ∷ 0 ∷ 3 ∷ []
+header_numbers : map (header_number (lines_of (codes "OBJECTS\nA\nlevels\nP"))) (Objects ∷ Rules ∷ Levels ∷ [])
+    ≡ 1 ∷ 0 ∷ 3 ∷ []
 header_numbers = refl
 
--- headers ----------------------------------------------------------------------------------------------------------------
+-- headers -------------------------------------------------------------------------------------------------------------
 
 -- the first fault of headers and prelude
 abbrev first : List ℕ → Option Fault
@@ -43,7 +47,9 @@ needed_sections : first (codes "OBJECTS\nCOLLISIONLAYERS\nLEVELS\n\n") ≡ None
 needed_sections = refl
 
 -- each of the others may not; the last line is told
-without_one : map first (codes "OBJECTS\nCOLLISIONLAYERS" ∷ codes "x\nOBJECTS\nLEVELS\n\n" ∷ codes "COLLISIONLAYERS\nLEVELS\nP\n\n\n" ∷ codes "x" ∷ [] ∷ [])
+without_one : map first
+    (codes "OBJECTS\nCOLLISIONLAYERS" ∷ codes "x\nOBJECTS\nLEVELS\n\n" ∷ codes "COLLISIONLAYERS\nLEVELS\nP\n\n\n"
+    ∷ codes "x" ∷ [] ∷ [])
     ≡ at_line 2 NoSection ∷ at_line 4 NoSection ∷ at_line 5 NoSection ∷ at_line 1 NoSection ∷ at_line 1 NoSection ∷ []
 without_one = refl
 
@@ -69,10 +75,11 @@ as_colours : first (codes "OBJECTS\nA\n (x) Legend (y\n) \nCOLLISIONLAYERS\nObje
 as_colours = refl
 
 -- with another word beside it, or as a text that is taken as it stands, it is none
-no_header : first (codes "title OBJECTS\nOBJECTS\nOBJECTS x\nCOLLISIONLAYERS\nCOLLISIONLAYERS,\nLEVELS\nmessage OBJECTS") ≡ None
+no_header : first
+    (codes "title OBJECTS\nOBJECTS\nOBJECTS x\nCOLLISIONLAYERS\nCOLLISIONLAYERS,\nLEVELS\nmessage OBJECTS") ≡ None
 no_header = refl
 
--- real time --------------------------------------------------------------------------------------------------------------
+-- real time -----------------------------------------------------------------------------------------------------------
 
 real_time : first (codes "title T\n Realtime_Interval(x)0.5\nOBJECTS\nCOLLISIONLAYERS\nLEVELS") ≡ at_line 2 Realtime
 real_time = refl
@@ -82,45 +89,56 @@ real_time_first : first (codes "realtime_interval\nLEVELS\nOBJECTS") ≡ at_line
 real_time_first = refl
 
 -- not as a longer word, nor as another than the first, nor behind a title, nor in a comment, nor below the prelude
-no_real_time : first (codes "realtime_intervals 1\nx realtime_interval 1\n(\nrealtime_interval 1\n)\ntitle (\nrealtime_interval 1)\nOBJECTS\nrealtime_interval\nCOLLISIONLAYERS\nLEVELS")
+no_real_time : first
+    (codes "realtime_intervals 1\nx realtime_interval 1\n(\nrealtime_interval 1\n)\ntitle (\nrealtime_interval 1)\nOBJECTS\nrealtime_interval\nCOLLISIONLAYERS\nLEVELS")
     ≡ None
 no_real_time = refl
 
--- options ----------------------------------------------------------------------------------------------------------------
+-- options -------------------------------------------------------------------------------------------------------------
 
 abbrev options : List ℕ → List Bool
 options text =
     let set : Options = options_of (section_lines (lines_of text) Prelude) in
     set.no_action ∷ set.no_undo ∷ set.no_restart ∷ set.require_player_movement ∷ set.run_rules_on_level_start ∷ []
 
-each_option : map options (codes "noaction" ∷ codes "noundo" ∷ codes "norestart" ∷ codes "require_player_movement" ∷ codes "run_rules_on_level_start" ∷ [])
-    ≡ (true ∷ false ∷ false ∷ false ∷ false ∷ []) ∷ (false ∷ true ∷ false ∷ false ∷ false ∷ []) ∷ (false ∷ false ∷ true ∷ false ∷ false ∷ [])
+each_option : map options
+    (codes "noaction" ∷ codes "noundo" ∷ codes "norestart" ∷ codes "require_player_movement"
+    ∷ codes "run_rules_on_level_start" ∷ [])
+    ≡ (true ∷ false ∷ false ∷ false ∷ false ∷ []) ∷ (false ∷ true ∷ false ∷ false ∷ false ∷ []) ∷
+    (false ∷ false ∷ true ∷ false ∷ false ∷ [])
     ∷ (false ∷ false ∷ false ∷ true ∷ false ∷ []) ∷ (false ∷ false ∷ false ∷ false ∷ true ∷ []) ∷ []
 each_option = refl
 
 -- in any case of letters, with other words behind, with comments beside, and more than once
-several_options : options (codes "NoAction 1\n\n(x) noundo(y)\nNORESTART\nnorestart\nOBJECTS\n") ≡ true ∷ true ∷ true ∷ false ∷ false ∷ []
+several_options : options (codes "NoAction 1\n\n(x) noundo(y)\nNORESTART\nnorestart\nOBJECTS\n")
+    ≡ true ∷ true ∷ true ∷ false ∷ false ∷ []
 several_options = refl
 
 -- not as a longer word, nor as another than the first, nor behind a title, nor in a comment, nor below the prelude
-no_options : options (codes "noactions\nx noundo\ntitle noundo\n(norestart)\nzoomscreen 3x3\nOBJECTS\nnorestart\n") ≡ false ∷ false ∷ false ∷ false ∷ false ∷ []
+no_options : options (codes "noactions\nx noundo\ntitle noundo\n(norestart)\nzoomscreen 3x3\nOBJECTS\nnorestart\n")
+    ≡ false ∷ false ∷ false ∷ false ∷ false ∷ []
 no_options = refl
 
--- titles -----------------------------------------------------------------------------------------------------------------
+-- titles --------------------------------------------------------------------------------------------------------------
 
 abbrev titles : List (List ℕ) → List (List ℕ)
 titles texts = map (λ text. title_of (section_lines (lines_of text) Prelude)) texts
 
 -- as it stands but for the blanks at its ends, in any case of the word `title`, up to a comment
-one_title : titles (codes "title  The  Title \t\r\nOBJECTS" ∷ codes "\n (x) TITLE a = b\nOBJECTS" ∷ codes "title a (b) c" ∷ codes "title = =" ∷ [])
+one_title : titles
+    (codes "title  The  Title \t\r\nOBJECTS" ∷ codes "\n (x) TITLE a = b\nOBJECTS" ∷ codes "title a (b) c"
+    ∷ codes "title = =" ∷ [])
     ≡ codes "The  Title" ∷ codes "a = b" ∷ codes "a" ∷ codes "= =" ∷ []
 one_title = refl
 
 -- the first line counts, also where it is empty
-first_title : titles (codes "author A\ntitle B\ntitle C" ∷ codes "title\ntitle C" ∷ codes "title(x)\ntitle C" ∷ codes "title (x) y\ntitle C" ∷ [])
+first_title : titles
+    (codes "author A\ntitle B\ntitle C" ∷ codes "title\ntitle C" ∷ codes "title(x)\ntitle C"
+    ∷ codes "title (x) y\ntitle C" ∷ [])
     ≡ codes "B" ∷ [] ∷ [] ∷ [] ∷ []
 first_title = refl
 
 -- without a title line it is empty
-no_title : titles ([] ∷ codes "titles A" ∷ codes "a title A" ∷ codes "OBJECTS\ntitle A" ∷ codes "(title A)" ∷ []) ≡ [] ∷ [] ∷ [] ∷ [] ∷ [] ∷ []
+no_title : titles ([] ∷ codes "titles A" ∷ codes "a title A" ∷ codes "OBJECTS\ntitle A" ∷ codes "(title A)" ∷ [])
+    ≡ [] ∷ [] ∷ [] ∷ [] ∷ [] ∷ []
 no_title = refl

@@ -48,7 +48,7 @@ quietly session = record { session = session; text = [] }
 abbrev pub after : List ℕ → Step → Step
 after text step = record { session = step.session; text = text ++ step.text }
 
--- what is written --------------------------------------------------------------------------------------------------------
+-- what is written -----------------------------------------------------------------------------------------------------
 
 -- the line of a message
 abbrev pub message_line : List ℕ → List ℕ
@@ -75,7 +75,7 @@ level_line script entry = written_line (codes "# level ") (decimal (level_number
 abbrev pub done_line : Script → ℕ → List ℕ
 done_line script entry = written_line (codes "* level ") (decimal (level_number script entry) ++ codes " done")
 
--- boards -----------------------------------------------------------------------------------------------------------------
+-- boards --------------------------------------------------------------------------------------------------------------
 
 -- the last boards of a list, as many as are kept
 abbrev pub kept : List Grid → List Grid
@@ -92,7 +92,8 @@ with_board_in_history play = record {
 
 -- the level with that board
 abbrev pub with_board : Play → Grid → Play
-with_board play board = record { entry = play.entry; board = board; history = play.history; restart_board = play.restart_board }
+with_board play board = record { entry = play.entry; board = board; history = play.history; restart_board =
+    play.restart_board }
 
 -- the level with the board of a done turn; a restart goes back to it too, where the turn sets a checkpoint
 abbrev pub with_turn : Play → Done → Play

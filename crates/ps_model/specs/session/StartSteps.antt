@@ -29,7 +29,8 @@ start_told play None true left again_turns = again_turns play
 abbrev pub start_counted : Script → Play → Done → ℕ → (Play → Step) → Step
 start_counted script play done left again_turns = elim done.changed [
   | false ↦ quietly (Playing play)
-  | true ↦ let next : Play = with_turn play done in after (shown script next) (start_told next done.message done.again left again_turns)
+  | true ↦ let next : Play = with_turn play done in
+    after (shown script next) (start_told next done.message done.again left again_turns)
 ]
 
 -- an again turn of a start by its outcome: a blocked and a restarting one don't count, nor does one that left the board

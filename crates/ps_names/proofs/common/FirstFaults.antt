@@ -1,5 +1,5 @@
 -- The first fault of two lists.
-use Rattle.std.proofs.Common.{◌≡◌, true, List, [], ◌∷◌, ◌++◌, Option, None, Some, is_some, refl}
+use Rattle.std.proofs.Common.{◌≡◌, true, List, [], ◌∷◌, ◌++◌, Option, None, is_some, refl}
 use Rattle.ps_model.specs.declared.faults.Fault.{Fault}
 use Rattle.ps_model.specs.text.Faults.{first_fault}
 
@@ -21,12 +21,3 @@ no-first (x ∷ a) e = cc
 pub none-first : (a : List Fault) → a ≡ [] → None ≡ first_fault a
 none-first [] e = refl
 none-first (x ∷ a) e = cc
-
--- what is found in the front
-pub first-found : (a b : List Fault) (f : Fault) → first_fault a ≡ Some f → first_fault (a ++ b) ≡ Some f
-first-found [] b f e = cc
-first-found (x ∷ a) b f e = e
-
--- behind a front without faults
-pub no-front : (a b : List Fault) → a ≡ [] → a ++ b ≡ b
-no-front a b e = rw e refl

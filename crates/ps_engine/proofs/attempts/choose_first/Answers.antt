@@ -1,4 +1,5 @@
-use Rattle.std.proofs.Common.{◌≡◌, ◌∙◌, ℕ, ◌+◌, ◌<◌, ◌≤◌, Option, List, false, true, get_or, length, refl, ap, arith, rules}
+use Rattle.std.proofs.Common.{◌≡◌, ◌∙◌, ℕ, ◌+◌, ◌<◌, ◌≤◌, Option, List, false, true, get_or, length, refl, ap, arith}
+use Rattle.std.proofs.Common.{rules}
 use Rattle.std.proofs.lemmas.Option.{slice_get_read, slice_get_within}
 use Rattle.ps_model.specs.board.Grid.{Grid}
 use Rattle.ps_program.specs.declared.rows.CompiledRow.{CompiledRow}
@@ -17,7 +18,8 @@ returns-then-not-first_place-clause-none g c = λ e.
     let no : c.first_place.result ≡ false = search rules in
     let low : n < length rule.rows = omega (arith, c.loop-number-test.true, ap length c.as_slice-rows.ensures) in
     let inside : n < length c.loop-number.rooms = omega (arith, low, c.requires, c.loop-number.auto.rooms) in
-    let is : row ≡ get_or rule.rows n row = c.index-rows-number.is ∙ ap (λ (rs : List CompiledRow). get_or rs n row) c.as_slice-rows.ensures in
+    let is : row ≡ get_or rule.rows n row =
+    c.index-rows-number.is ∙ ap (λ (rs : List CompiledRow). get_or rs n row) c.as_slice-rows.ensures in
     none_first grid table row found c.find_starts.ensures.places
     rule.axis rule.rows n rule.along low is (c.first_place.ensures.none no)
 
@@ -32,36 +34,48 @@ loop-number-preserved g c =
     let yes : c.first_place.result ≡ true = search rules in
     let low : n < length rule.rows = omega (arith, c.loop-number-test.true, ap length c.as_slice-rows.ensures) in
     let inside : n < length c.loop-number.rooms = omega (arith, low, c.requires, c.loop-number.auto.rooms) in
-    let is : row ≡ get_or rule.rows n row = c.index-rows-number.is ∙ ap (λ (rs : List CompiledRow). get_or rs n row) c.as_slice-rows.ensures in
+    let is : row ≡ get_or rule.rows n row =
+    c.index-rows-number.is ∙ ap (λ (rs : List CompiledRow). get_or rs n row) c.as_slice-rows.ensures in
     let here : HasFirst grid table row c.first_place.new.self =
     is_first grid table row found c.find_starts.ensures.places c.first_place.new.self c.find_starts.ensures.lines
-    c.first_place.ensures.same (record { found = c.first_place.ensures.found yes; place = record { on_line = c.first_place.ensures.line yes; spaced = c.first_place.ensures.spaced yes }; among = c.first_place.ensures.among yes }) in
-    first_more grid table rule.rows c.loop-number.rooms n (n + 1) row c.first_place.new.self (omega arith) (slice_get_read rule.rows _ n row refl low is) inside here c.loop-number.invariant
+    c.first_place.ensures.same
+    (record { found = c.first_place.ensures.found yes; place =
+    record { on_line = c.first_place.ensures.line yes; spaced = c.first_place.ensures.spaced yes }; among =
+    c.first_place.ensures.among yes }) in
+    first_more grid table rule.rows c.loop-number.rooms n (n + 1) row c.first_place.new.self (omega arith)
+    (slice_get_read rule.rows _ n row refl low is) inside here c.loop-number.invariant
 
 pub returns-clause-found : goal.returns-clause-found
 returns-clause-found g c = λ e.
     let rule = c.args.rule.now in
     let long : length rule.rows ≤ length c.loop-number.rooms = omega (arith, c.requires, c.loop-number.auto.rooms) in
-    let passed : length rule.rows ≤ c.loop-number.number = omega (arith, c.loop-number-test.false, ap length c.as_slice-rows.ensures) in
-    all_combinations (g.B.Board.grid c.args.board.now) (g.B.Board.table c.args.board.now) rule.axis rule.rows c.loop-number.rooms rule.along long
-    (λ k r o low is there. c.loop-number.invariant k r o (omega (arith, passed, slice_get_within rule.rows k r is)) is there)
+    let passed : length rule.rows ≤ c.loop-number.number =
+    omega (arith, c.loop-number-test.false, ap length c.as_slice-rows.ensures) in
+    all_combinations (g.B.Board.grid c.args.board.now) (g.B.Board.table c.args.board.now) rule.axis rule.rows
+    c.loop-number.rooms rule.along long
+    (λ k r o low is there. c.loop-number.invariant k r o (omega (arith, passed, slice_get_within rule.rows k r is)) is
+    there)
 
 pub returns-clause-fit : goal.returns-clause-fit
 returns-clause-fit g c = λ e.
     let rule = c.args.rule.now in
     let long : length rule.rows ≤ length c.loop-number.rooms = omega (arith, c.requires, c.loop-number.auto.rooms) in
-    let passed : length rule.rows ≤ c.loop-number.number = omega (arith, c.loop-number-test.false, ap length c.as_slice-rows.ensures) in
+    let passed : length rule.rows ≤ c.loop-number.number =
+    omega (arith, c.loop-number-test.false, ap length c.as_slice-rows.ensures) in
     first_fits (g.B.Board.grid c.args.board.now) (g.B.Board.table c.args.board.now) rule.rows c.loop-number.rooms long
-    (λ k r o low is there. c.loop-number.invariant k r o (omega (arith, passed, slice_get_within rule.rows k r is)) is there)
+    (λ k r o low is there. c.loop-number.invariant k r o (omega (arith, passed, slice_get_within rule.rows k r is)) is
+    there)
 
 pub returns-clause-lines : goal.returns-clause-lines
 returns-clause-lines g c = λ e k r o low is there.
     let rule = c.args.rule.now in
-    let passed : length rule.rows ≤ c.loop-number.number = omega (arith, c.loop-number-test.false, ap length c.as_slice-rows.ensures) in
+    let passed : length rule.rows ≤ c.loop-number.number =
+    omega (arith, c.loop-number-test.false, ap length c.as_slice-rows.ensures) in
     (c.loop-number.invariant k r o (omega (arith, passed, slice_get_within rule.rows k r is)) is there).lines
 
 pub returns-clause-places : goal.returns-clause-places
 returns-clause-places g c = λ e k r o low is there.
     let rule = c.args.rule.now in
-    let passed : length rule.rows ≤ c.loop-number.number = omega (arith, c.loop-number-test.false, ap length c.as_slice-rows.ensures) in
+    let passed : length rule.rows ≤ c.loop-number.number =
+    omega (arith, c.loop-number-test.false, ap length c.as_slice-rows.ensures) in
     (c.loop-number.invariant k r o (omega (arith, passed, slice_get_within rule.rows k r is)) is there).place

@@ -15,7 +15,8 @@ returns-then-not-again-clause-looped g c =
     let off : c.pass-again.result ≡ false = search rules in
     let made : (let r : Result = record { state = next; changed = false } in r) ≡ pass meant now =
     ap (λ (b : Bool). let r : Result = record { state = next; changed = b } in r) (sym off)
-    ∙ c.pass-again.ensures.pass ∙ ap (λ (t : Option (List ℕ)). pass (groups_meaning t c.args.groups.now) now) c.loop-repeats.invariant.table in
+    ∙ c.pass-again.ensures.pass ∙ ap (λ (t : Option (List ℕ)). pass (groups_meaning t c.args.groups.now) now)
+    c.loop-repeats.invariant.table in
     looped_off meant c.loop-repeats.left now next made ∙ c.loop-repeats.invariant.looped
 
 pub loop-repeats-preserved : goal.loop-repeats-preserved
@@ -27,9 +28,11 @@ loop-repeats-preserved g c =
     let on : c.pass-again.result ≡ true = search rules in
     let made : (let r : Result = record { state = next; changed = true } in r) ≡ pass meant now =
     ap (λ (b : Bool). let r : Result = record { state = next; changed = b } in r) (sym on)
-    ∙ c.pass-again.ensures.pass ∙ ap (λ (t : Option (List ℕ)). pass (groups_meaning t c.args.groups.now) now) c.loop-repeats.invariant.table in
+    ∙ c.pass-again.ensures.pass ∙ ap (λ (t : Option (List ℕ)). pass (groups_meaning t c.args.groups.now) now)
+    c.loop-repeats.invariant.table in
     record {
-      looped = looped_on meant c.loop-repeats.left now next (c.loop-repeats.left - 1) (omega arith) made ∙ c.loop-repeats.invariant.looped;
+      looped = looped_on meant c.loop-repeats.left now next (c.loop-repeats.left - 1) (omega arith) made
+      ∙ c.loop-repeats.invariant.looped;
       table = c.pass-again.ensures.table ∙ c.loop-repeats.invariant.table;
       sides = c.pass-again.ensures.sides ∙ c.loop-repeats.invariant.sides;
     }

@@ -12,7 +12,8 @@ invariant-loop-repeats g l =
     let now : State = record { grid = g.B.Board.grid l.board; queue = l.queue } in
     let table = g.B.Board.table l.fn.board in
     record {
-      looped : looped (groups_meaning table l.groups) l.left now ≡ looped (groups_meaning table l.groups) l.fn.repeats before;
+      looped : looped (groups_meaning table l.groups) l.left now
+      ≡ looped (groups_meaning table l.groups) l.fn.repeats before;
       table : g.B.Board.table l.board ≡ table;
       sides : sides_of (g.B.Board.grid l.board) ≡ sides_of (g.B.Board.grid l.fn.board);
     }

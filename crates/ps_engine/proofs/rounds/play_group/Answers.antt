@@ -26,9 +26,11 @@ loop-round-preserved g c =
     let on : c.round-again.result ≡ true = search rules in
     let made : (let r : Result = record { state = next; changed = true } in r) ≡ round meant now =
     ap (λ (b : Bool). let r : Result = record { state = next; changed = b } in r) (sym on)
-    ∙ c.round-again.ensures.round ∙ ap (λ (t : Option (List ℕ)). round (rules_meaning t c.args.rules.now) now) c.loop-round.invariant.table in
+    ∙ c.round-again.ensures.round ∙ ap (λ (t : Option (List ℕ)). round (rules_meaning t c.args.rules.now) now)
+    c.loop-round.invariant.table in
     record {
-      group = settled_on meant (ROUND_LIMIT - c.loop-round._round) (ROUND_LIMIT - (c.loop-round._round + 1)) c.loop-round.changed now next (omega arith) made ∙ c.loop-round.invariant.group;
+      group = settled_on meant (ROUND_LIMIT - c.loop-round._round) (ROUND_LIMIT - (c.loop-round._round + 1))
+      c.loop-round.changed now next (omega arith) made ∙ c.loop-round.invariant.group;
       table = c.round-again.ensures.table ∙ c.loop-round.invariant.table;
       sides = c.round-again.ensures.sides ∙ c.loop-round.invariant.sides;
     }
@@ -42,11 +44,14 @@ returns-then-not-again-clause-group g c =
     let off : c.round-again.result ≡ false = search rules in
     let made : (let r : Result = record { state = next; changed = false } in r) ≡ round meant now =
     ap (λ (b : Bool). let r : Result = record { state = next; changed = b } in r) (sym off)
-    ∙ c.round-again.ensures.round ∙ ap (λ (t : Option (List ℕ)). round (rules_meaning t c.args.rules.now) now) c.loop-round.invariant.table in
-    settled_off meant (ROUND_LIMIT - c.loop-round._round) (ROUND_LIMIT - (c.loop-round._round + 1)) c.loop-round.changed now next (omega arith) made ∙ c.loop-round.invariant.group
+    ∙ c.round-again.ensures.round ∙ ap (λ (t : Option (List ℕ)). round (rules_meaning t c.args.rules.now) now)
+    c.loop-round.invariant.table in
+    settled_off meant (ROUND_LIMIT - c.loop-round._round) (ROUND_LIMIT - (c.loop-round._round + 1)) c.loop-round.changed
+    now next (omega arith) made ∙ c.loop-round.invariant.group
 
 pub returns-clause-group : goal.returns-clause-group
 returns-clause-group g c =
     let meant : List RuleMeaning = rules_meaning (g.B.Board.table c.args.board.now) c.args.rules.now in
     let now : State = record { grid = g.B.Board.grid c.loop-round.board; queue = c.loop-round.queue } in
-    settled_end meant (ROUND_LIMIT - c.loop-round._round) c.loop-round.changed now (omega arith) ∙ c.loop-round.invariant.group
+    settled_end meant (ROUND_LIMIT - c.loop-round._round) c.loop-round.changed now (omega arith)
+    ∙ c.loop-round.invariant.group

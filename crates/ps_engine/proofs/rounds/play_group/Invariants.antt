@@ -13,7 +13,8 @@ invariant-loop-round g l =
     let now : State = record { grid = g.B.Board.grid l.board; queue = l.queue } in
     let table = g.B.Board.table l.fn.board in
     record {
-      group : settled (rules_meaning table l.rules) (ROUND_LIMIT - l._round) l.changed now ≡ group (rules_meaning table l.rules) before;
+      group : settled (rules_meaning table l.rules) (ROUND_LIMIT - l._round) l.changed now
+      ≡ group (rules_meaning table l.rules) before;
       table : g.B.Board.table l.board ≡ table;
       sides : sides_of (g.B.Board.grid l.board) ≡ sides_of (g.B.Board.grid l.fn.board);
     }

@@ -16,22 +16,30 @@ pub forget-requires : goal.forget-requires
 forget-requires c =
     let n : ℕ = c.loop-number.number in
     let low : n < length c.args.rows.now = omega (arith, c.loop-number-test.true, c.requires.count) in
-    let inside : n < length c.loop-number.rooms = omega (arith, low, c.requires.long, c.loop-number.invariant.forgotten.long) in
-    c.requires.among n c.index-rows-number.result (get_or c.loop-number.rooms n c.index-rooms-number.result) c.loop-number-test.true
+    let inside : n < length c.loop-number.rooms =
+    omega (arith, low, c.requires.long, c.loop-number.invariant.forgotten.long) in
+    c.requires.among n c.index-rows-number.result (get_or c.loop-number.rooms n c.index-rooms-number.result)
+    c.loop-number-test.true
     (slice_get_read c.args.rows.now _ n c.index-rows-number.result refl low c.index-rows-number.is)
-    (sym (c.loop-number.invariant.left n (omega arith)) ∙ slice_get-get_or c.loop-number.rooms n c.index-rooms-number.result inside)
+    (sym (c.loop-number.invariant.left n (omega arith))
+    ∙ slice_get-get_or c.loop-number.rooms n c.index-rooms-number.result inside)
 
 pub loop-number-preserved : goal.loop-number-preserved
 loop-number-preserved c =
     let n : ℕ = c.loop-number.number in
     let low : n < length c.args.rows.now = omega (arith, c.loop-number-test.true, c.requires.count) in
-    let inside : n < length c.loop-number.rooms = omega (arith, low, c.requires.long, c.loop-number.invariant.forgotten.long) in
+    let inside : n < length c.loop-number.rooms =
+    omega (arith, low, c.requires.long, c.loop-number.invariant.forgotten.long) in
     let before : RowRoom = get_or c.loop-number.rooms n c.index-rooms-number.result in
-    let there : slice_get c.loop-number.rooms n ≡ Some before = slice_get-get_or c.loop-number.rooms n c.index-rooms-number.result inside in
+    let there : slice_get c.loop-number.rooms n ≡ Some before =
+    slice_get-get_or c.loop-number.rooms n c.index-rooms-number.result inside in
     record {
       forgotten =
-          forgotten_more c.args.rows.now c.args.rooms.now c.loop-number.rooms n c.index-rows-number.result before c.forget.new.self
+          forgotten_more c.args.rows.now c.args.rooms.now c.loop-number.rooms n c.index-rows-number.result before
+          c.forget.new.self
           c.loop-number.invariant.forgotten c.loop-number.invariant.left
-          (slice_get_read c.args.rows.now _ n c.index-rows-number.result refl low c.index-rows-number.is) there c.forget.ensures;
-      left = left_more c.args.rooms.now c.loop-number.rooms n before c.forget.new.self (n + 1) (omega arith) c.loop-number.invariant.left;
+          (slice_get_read c.args.rows.now _ n c.index-rows-number.result refl low c.index-rows-number.is) there
+          c.forget.ensures;
+      left = left_more c.args.rooms.now c.loop-number.rooms n before c.forget.new.self (n + 1)
+      (omega arith) c.loop-number.invariant.left;
     }

@@ -2,7 +2,8 @@ use Rattle.std.proofs.Common.{◌≡◌, ◌∙◌, ℕ, ◌+◌, ◌<◌, Some,
 use Rattle.std.specs.Prelude.{slice_get}
 use Rattle.std.proofs.lemmas.Option.{slice_get-get_or, slice_get_read}
 use Rattle.ps_places.specs.declared.room.RowRoom.{RowRoom}
-use Rattle.ps_engine.proofs.RoomsChanged.{left_as_they_are, left_more, lines_still, started_more, starts_as_they_are, starts_more}
+use Rattle.ps_engine.proofs.RoomsChanged.{left_as_they_are, left_more, lines_still, started_more, starts_as_they_are}
+use Rattle.ps_engine.proofs.RoomsChanged.{starts_more}
 use Rattle.ps_engine.proofs.walking.start_again.Goals as goal
 
 pub loop-number-init : goal.loop-number-init
@@ -16,8 +17,10 @@ pub first_place-requires : goal.first_place-requires
 first_place-requires g c =
     let n : ℕ = c.loop-number.number in
     let low : n < length c.args.rows.now = omega (arith, c.loop-number-test.true, c.requires.count) in
-    let inside : n < length c.loop-number.rooms = omega (arith, low, c.requires.long, c.loop-number.invariant.same.long) in
-    lines_still (g.B.Board.grid c.args.board.now) (g.B.Board.table c.args.board.now) c.args.rows.now c.args.rooms.now c.loop-number.rooms c.loop-number.invariant.same c.requires.lines n _ _ (omega arith)
+    let inside : n < length c.loop-number.rooms =
+    omega (arith, low, c.requires.long, c.loop-number.invariant.same.long) in
+    lines_still (g.B.Board.grid c.args.board.now) (g.B.Board.table c.args.board.now) c.args.rows.now c.args.rooms.now
+    c.loop-number.rooms c.loop-number.invariant.same c.requires.lines n _ _ (omega arith)
     (slice_get_read c.args.rows.now _ n c.index-rows-number.result refl low c.index-rows-number.is)
     (slice_get-get_or c.loop-number.rooms n c.index-rooms-number.result inside)
 
@@ -26,7 +29,8 @@ returns-then-not-first_place-clause-none g c = λ e.
     let n : ℕ = c.loop-number.number in
     let before : RowRoom = get_or c.loop-number.rooms n c.index-rooms-number.result in
     let low : n < length c.args.rows.now = omega (arith, c.loop-number-test.true, c.requires.count) in
-    let inside : n < length c.loop-number.rooms = omega (arith, low, c.requires.long, c.loop-number.invariant.same.long) in
+    let inside : n < length c.loop-number.rooms =
+    omega (arith, low, c.requires.long, c.loop-number.invariant.same.long) in
     let no : c.first_place.result ≡ false = search rules in
     record {
       number = n;
@@ -34,7 +38,8 @@ returns-then-not-first_place-clause-none g c = λ e.
       row = c.index-rows-number.result;
       room = before;
       row_is = slice_get_read c.args.rows.now _ n c.index-rows-number.result refl low c.index-rows-number.is;
-      room_is = sym (c.loop-number.invariant.left n (omega arith)) ∙ slice_get-get_or c.loop-number.rooms n c.index-rooms-number.result inside;
+      room_is = sym (c.loop-number.invariant.left n (omega arith))
+      ∙ slice_get-get_or c.loop-number.rooms n c.index-rooms-number.result inside;
       none = c.first_place.ensures.none no;
     }
 
@@ -42,28 +47,39 @@ pub returns-then-not-first_place-clause-same : goal.returns-then-not-first_place
 returns-then-not-first_place-clause-same g c =
     let n : ℕ = c.loop-number.number in
     let low : n < length c.args.rows.now = omega (arith, c.loop-number-test.true, c.requires.count) in
-    let inside : n < length c.loop-number.rooms = omega (arith, low, c.requires.long, c.loop-number.invariant.same.long) in
+    let inside : n < length c.loop-number.rooms =
+    omega (arith, low, c.requires.long, c.loop-number.invariant.same.long) in
     starts_more c.args.rooms.now c.loop-number.rooms n _ c.first_place.new.self c.loop-number.invariant.same
     (slice_get-get_or c.loop-number.rooms n c.index-rooms-number.result inside) c.first_place.ensures.same
 
 pub returns-then-not-first_place-clause-left : goal.returns-then-not-first_place-clause-left
 returns-then-not-first_place-clause-left g c = λ k high.
     let n : ℕ = c.loop-number.number in
-    left_more c.args.rooms.now c.loop-number.rooms n c.first_place.new.self c.first_place.new.self (n + 1) (omega arith) c.loop-number.invariant.left k (omega (arith, high, c.loop-number-test.true))
+    left_more c.args.rooms.now c.loop-number.rooms n c.first_place.new.self c.first_place.new.self (n + 1)
+    (omega arith) c.loop-number.invariant.left k (omega (arith, high, c.loop-number-test.true))
 
 pub loop-number-preserved : goal.loop-number-preserved
 loop-number-preserved g c =
     let n : ℕ = c.loop-number.number in
     let low : n < length c.args.rows.now = omega (arith, c.loop-number-test.true, c.requires.count) in
-    let inside : n < length c.loop-number.rooms = omega (arith, low, c.requires.long, c.loop-number.invariant.same.long) in
-    let row_is : slice_get c.args.rows.now n ≡ Some c.index-rows-number.result = slice_get_read c.args.rows.now _ n c.index-rows-number.result refl low c.index-rows-number.is in
+    let inside : n < length c.loop-number.rooms =
+    omega (arith, low, c.requires.long, c.loop-number.invariant.same.long) in
+    let row_is : slice_get c.args.rows.now n ≡ Some c.index-rows-number.result =
+    slice_get_read c.args.rows.now _ n c.index-rows-number.result refl low c.index-rows-number.is in
     let before : RowRoom = get_or c.loop-number.rooms n c.index-rooms-number.result in
-    let room_is : slice_get c.loop-number.rooms n ≡ Some before = slice_get-get_or c.loop-number.rooms n c.index-rooms-number.result inside in
+    let room_is : slice_get c.loop-number.rooms n ≡ Some before =
+    slice_get-get_or c.loop-number.rooms n c.index-rooms-number.result inside in
     let yes : c.first_place.result ≡ true = search rules in
     record {
       started =
-          started_more (g.B.Board.grid c.args.board.now) (g.B.Board.table c.args.board.now) c.args.rows.now c.loop-number.rooms n (n + 1) c.index-rows-number.result before c.first_place.new.self
-          (omega arith) row_is room_is c.first_place.ensures.same (record { found = c.first_place.ensures.found yes; place = record { on_line = c.first_place.ensures.line yes; spaced = c.first_place.ensures.spaced yes }; among = c.first_place.ensures.among yes }) c.loop-number.invariant.started;
-      same = starts_more c.args.rooms.now c.loop-number.rooms n before c.first_place.new.self c.loop-number.invariant.same room_is c.first_place.ensures.same;
-      left = left_more c.args.rooms.now c.loop-number.rooms n before c.first_place.new.self (n + 1) (omega arith) c.loop-number.invariant.left;
+          started_more (g.B.Board.grid c.args.board.now) (g.B.Board.table c.args.board.now) c.args.rows.now
+          c.loop-number.rooms n (n + 1) c.index-rows-number.result before c.first_place.new.self
+          (omega arith) row_is room_is c.first_place.ensures.same
+          (record { found = c.first_place.ensures.found yes; place =
+          record { on_line = c.first_place.ensures.line yes; spaced = c.first_place.ensures.spaced yes }; among =
+          c.first_place.ensures.among yes }) c.loop-number.invariant.started;
+      same = starts_more c.args.rooms.now c.loop-number.rooms n before c.first_place.new.self
+      c.loop-number.invariant.same room_is c.first_place.ensures.same;
+      left = left_more c.args.rooms.now c.loop-number.rooms n before c.first_place.new.self (n + 1)
+      (omega arith) c.loop-number.invariant.left;
     }

@@ -8,5 +8,7 @@ use Rattle.ps_game.proofs.headings.heading_fault.Goals as goal
 pub returns : goal.returns
 returns c =
     let line = line_at c.args.source.now c.args.line in
-    c.fault_of.ensures ∙ ap₂ (λ late real. fault_by late real c.args.line) c.is_late_header-late.ensures c.in_ok-real.ensures
-    ∙ ap (λ (n : ℕ). fault_by (is_late_header (rank c.args.above) line) (is_real_time line) n) (sym (line_at-number c.args.source.now c.args.line c.requires.0 c.requires.1))
+    c.fault_of.ensures ∙ ap₂ (λ late real. fault_by late real c.args.line) c.is_late_header-late.ensures
+    c.in_ok-real.ensures
+    ∙ ap (λ (n : ℕ). fault_by (is_late_header (rank c.args.above) line) (is_real_time line) n)
+    (sym (line_at-number c.args.source.now c.args.line c.requires.0 c.requires.1))

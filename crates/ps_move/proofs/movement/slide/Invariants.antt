@@ -6,18 +6,19 @@ use Rattle.ps_move.specs.Order.{IsInOrder}
 use Rattle.ps_move.specs.Parts.{IsStillBeside}
 use Rattle.ps_move.proofs.movement.slide.Given as goal
 
-abbrev pub invariant-loop-moving : goal.invariant-loop-moving
-invariant-loop-moving g l =
+abbrev pub invariant-loop-passes : goal.invariant-loop-passes
+invariant-loop-passes g l =
     record {
       order : IsInOrder (g.B.Board.grid l.fn.board) (g.B.Board.grid l.board) false (0, 0);
       some : 0 < l.passes;
       first : l.passes ≡ 1 → g.B.Board.grid l.board ≡ g.B.Board.grid l.fn.board;
       few : l.passes + going_count (g.B.Board.grid l.board) ≤ going_count (g.B.Board.grid l.fn.board) + 1;
-      room : IsGrid (g.B.Board.grid l.board) → going_count (g.B.Board.grid l.fn.board) ≤ SIDE_LIMIT * SIDE_LIMIT * LAYER_LIMIT;
+      room : IsGrid (g.B.Board.grid l.board) →
+      going_count (g.B.Board.grid l.fn.board) ≤ SIDE_LIMIT * SIDE_LIMIT * LAYER_LIMIT;
       still : IsStillBeside (g.B.Board.grid l.board) l.moving;
       table : g.B.Board.table l.board ≡ g.B.Board.table l.fn.board;
     }
 
 -- each pass but the last leaves fewer objects with a direction
-abbrev pub decreases-loop-moving : goal.decreases-loop-moving
-decreases-loop-moving g l = going_count (g.B.Board.grid l.board)
+abbrev pub decreases-loop-passes : goal.decreases-loop-passes
+decreases-loop-passes g l = going_count (g.B.Board.grid l.board)

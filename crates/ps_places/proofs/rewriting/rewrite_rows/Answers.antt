@@ -3,9 +3,9 @@ use Rattle.std.proofs.lemmas.List.{get_or_default}
 use Rattle.ps_model.specs.board.Grid.{Grid}
 use Rattle.ps_model.specs.board.Attempts.{Rewritten}
 use Rattle.ps_board.proofs.ColumnLaws.{first_in}
+use Rattle.ps_board.proofs.Taken.{was_in}
 use Rattle.ps_match.proofs.RowWritten.{told}
 use Rattle.ps_places.specs.WrittenTogether.{cells_changed}
-use Rattle.ps_places.proofs.AlonePlaces.{taken_among}
 use Rattle.ps_places.proofs.RowsTogether.{all_done, room_on_row, row_more, rows_none}
 use Rattle.ps_places.proofs.rewriting.rewrite_rows.Goals as goal
 
@@ -40,7 +40,7 @@ loop-row-preserved g c =
     record {
       among = λ r low on.
           c.loop-row.invariant.among r low
-          (taken_among c.loop-row.left c.take_first.new.self row r c.in-Some.ensures.some low on);
+          (was_in c.loop-row.left c.take_first.new.self row r c.in-Some.ensures.some low on);
       rewritten = λ grid some found alone.
           row_more start table c.args.axis c.args.part.now c.args.rows c.args.starts.now grid some found alone
           c.loop-row.left c.take_first.new.self row now next
@@ -59,7 +59,7 @@ pub returns-clause-rewritten : goal.returns-clause-rewritten
 returns-clause-rewritten g c =
     let start : Grid = g.B.Board.grid c.args.board.now in
     let table : Option (List ℕ) = g.B.Board.table c.args.board.now in
-    c.loop-row.invariant.rewritten c.size-width.ensures.shape c.requires.whole c.requires.starts c.requires.alone
-    ∙ all_done start table c.args.axis c.args.part.now c.args.rows c.args.starts.now c.size-width.ensures.shape
+    c.loop-row.invariant.rewritten c.recall_shape.ensures c.requires.whole c.requires.starts c.requires.alone
+    ∙ all_done start table c.args.axis c.args.part.now c.args.rows c.args.starts.now c.recall_shape.ensures
     c.requires.whole c.requires.starts c.requires.alone
     c.loop-row.left (c.in_default.ensures.none refl)

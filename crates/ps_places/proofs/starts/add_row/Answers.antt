@@ -18,11 +18,14 @@ loop-column-preserved c =
     omega (arith, line, c.requires.one, c.requires.room, c.loop-column.invariant.long) in
     record {
       adding =
-          adding-more c.args.starts.now c.loop-column.starts count c.args.number c.args.columns c.args.found c.loop-column.left c.take_first.new.self c.with.result c.args.row column room
+          adding-more c.args.starts.now c.loop-column.starts count c.args.number c.args.columns c.args.found
+          c.loop-column.left c.take_first.new.self c.with.result c.args.row column room
           c.requires.one c.in-Some.ensures.some
           (c.with.ensures
           ∙ ap (λ (set : List Bool). with_column set c.args.row true)
-          (c.set_before-before.ensures ∙ ap (λ (b : Bool). if b then set_of c.loop-column.starts count column c.args.number else no_columns) c.has.ensures))
+          (c.set_before-before.ensures
+          ∙ ap (λ (b : Bool). if b then set_of c.loop-column.starts count column c.args.number else no_columns)
+          c.has.ensures))
           c.loop-column.invariant.adding;
       long = length-set c.loop-column.starts (column * count + c.args.number) c.with.result
           ∙ c.loop-column.invariant.long;
@@ -30,5 +33,6 @@ loop-column-preserved c =
 
 pub returns-clause-added : goal.returns-clause-added
 returns-clause-added c =
-    added-all c.args.starts.now c.loop-column.starts c.args.count c.args.number c.args.columns c.args.found c.loop-column.left c.args.row (c.in_default.ensures.none refl)
+    added-all c.args.starts.now c.loop-column.starts c.args.count c.args.number c.args.columns c.args.found
+    c.loop-column.left c.args.row (c.in_default.ensures.none refl)
     c.loop-column.invariant.adding

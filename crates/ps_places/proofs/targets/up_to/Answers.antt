@@ -1,12 +1,19 @@
-use Rattle.ps_places.proofs.TargetColumns.{reach-init}
+use Rattle.std.proofs.Common.{arith}
+use Rattle.ps_places.proofs.TargetColumns.{reach-far, reach-init}
 use Rattle.ps_places.proofs.targets.up_to.Goals as goal
 
+pub loop-steps-init : goal.loop-steps-init
+loop-steps-init c = record {
+  some = omega arith;
+  reach = reach-init c.args.set c.below.result c.both-reach.result c.below.ensures c.both-reach.ensures;
+}
+
+pub loop-steps-preserved : goal.loop-steps-preserved
+loop-steps-preserved c = record {
+  some = omega (arith, c.loop-steps.invariant.some);
+  reach = c.reach_twice-reach.ensures c.args.set c.loop-steps.invariant.reach;
+}
+
 pub returns : goal.returns
-returns c =
-    c.reach_twice.ensures c.args.set
-    (c.reach_twice-half.ensures c.args.set
-    (c.reach_twice-sixteen.ensures c.args.set
-    (c.reach_twice-eight.ensures c.args.set
-    (c.reach_twice-four.ensures c.args.set
-    (c.reach_twice-two.ensures c.args.set (reach-init c.args.set c.below.result c.both-one.result c.below.ensures
-    c.both-one.ensures))))))
+returns c = reach-far c.args.set c.loop-steps.reach c.loop-steps.steps c.loop-steps-test.false
+    c.loop-steps.invariant.reach

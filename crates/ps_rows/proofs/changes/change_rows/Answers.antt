@@ -14,7 +14,8 @@ change_row-any-requires-clause-plane c =
     let plane : ℕ = get_or c.args.places.now c.loop-plane.plane-index 0 in
     let whole : (plane + 1) * c.args.planes.now.height ≤ length c.args.planes.now.words.items =
     c.requires.planes plane (listed_at c.args.places.now c.loop-plane.plane-index 0 below) in
-    let long : (plane + 1) * c.args.planes.now.height ≤ c.args.planes.now.words.len = omega (arith, whole, c.args.planes.now.words.ok.0) in
+    let long : (plane + 1) * c.args.planes.now.height ≤ c.args.planes.now.words.len =
+    omega (arith, whole, c.args.planes.now.words.ok.0) in
     rw (c.loop-plane.invariant.height, c.loop-plane.invariant.count) long
 
 pub loop-plane-preserved : goal.loop-plane-preserved
@@ -24,13 +25,17 @@ loop-plane-preserved c =
     let among = listed_at c.args.places.now c.loop-plane.plane-index 0 below in
     let was = c.loop-plane.invariant in
     let step = c.change_row-any.ensures in
-    let made : c.change_row-any.new.planes.words.items ≡ row_after c.args.planes.now.height c.args.row c.args.change c.loop-plane.planes.words.items plane =
-    step.words ∙ ap (λ (h : ℕ). row_after h c.args.row c.args.change c.loop-plane.planes.words.items plane) was.height in
+    let made : c.change_row-any.new.planes.words.items ≡ row_after c.args.planes.now.height c.args.row c.args.change
+    c.loop-plane.planes.words.items plane =
+    step.words ∙ ap (λ (h : ℕ). row_after h c.args.row c.args.change c.loop-plane.planes.words.items plane)
+    was.height in
     record {
       height = step.height ∙ was.height;
       count = step.count ∙ was.count;
       rows =
-          changed_more c.args.planes.now.height c.args.row c.args.change c.requires.row step.fits c.args.planes.now.words.items c.loop-plane.planes.words.items c.change_row-any.new.planes.words.items c.args.places.now c.loop-plane.plane-index below
+          changed_more c.args.planes.now.height c.args.row c.args.change c.requires.row step.fits
+          c.args.planes.now.words.items c.loop-plane.planes.words.items c.change_row-any.new.planes.words.items
+          c.args.places.now c.loop-plane.plane-index below
           c.requires.planes among made was.rows;
       before = λ none. was.before (step.before none);
       quiet = λ none. step.quiet none ∙ was.quiet (step.before none);
@@ -55,7 +60,9 @@ loop-plane-init c = record {
 pub returns-clause-words : goal.returns-clause-words
 returns-clause-words c =
     let end : length c.args.places.now ≤ c.loop-plane.plane-index = omega arith in
-    let P : List ℕ → Type 0 = λ planes. AreRowsChanged c.args.planes.now.height c.args.row c.args.change c.args.planes.now.words.items c.loop-plane.planes.words.items planes in
+    let P : List ℕ → Type 0 =
+    λ planes. AreRowsChanged c.args.planes.now.height c.args.row c.args.change c.args.planes.now.words.items
+    c.loop-plane.planes.words.items planes in
     subst P (take_all c.loop-plane.plane-index c.args.places.now end) c.loop-plane.invariant.rows
 
 pub returns-clause-height : goal.returns-clause-height
@@ -75,4 +82,5 @@ returns-clause-left c = c.loop-plane.invariant.left
 
 pub returns-then-change-eq0-clause-words : goal.returns-then-change-eq0-clause-words
 returns-then-change-eq0-clause-words c =
-    rows_kept c.args.planes.now.height c.args.row c.args.change c.args.planes.now.words.items c.args.places.now c.if-change-eq0.true
+    rows_kept c.args.planes.now.height c.args.row c.args.change c.args.planes.now.words.items c.args.places.now
+    c.if-change-eq0.true

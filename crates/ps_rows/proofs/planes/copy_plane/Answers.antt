@@ -12,10 +12,12 @@ returns c =
     let part : List ℕ = c.copy_from_slice.new.self in
     let wide : start + h - start ≡ h = omega arith in
     let long : length part ≡ h = search (rules, arith) in
-    let P : ℕ → Type 0 = λ n. ArePlanesOf h c.args.plane (c.args.plane + 1) c.args.words.now c.args.other.now (put_mid start n c.args.other.now part) in
+    let P : ℕ → Type 0 = λ n. ArePlanesOf h c.args.plane (c.args.plane + 1) c.args.words.now c.args.other.now
+    (put_mid start n c.args.other.now part) in
     subst P (sym wide)
     (plane_overwritten h c.args.plane c.args.words.now part c.args.other.now long c.requires.there
     (λ row under.
     let within : row < start + h - start = omega arith in
     ap (λ (ws : List ℕ). get_or ws row 0) c.copy_from_slice.ensures.after
-    ∙ get_or-take (start + h - start) (drop start c.args.words.now) row 0 within ∙ get_or-drop start c.args.words.now row 0))
+    ∙ get_or-take (start + h - start) (drop start c.args.words.now) row 0 within
+    ∙ get_or-drop start c.args.words.now row 0))

@@ -9,9 +9,12 @@ returns-then-rows_of-eq0-clause-same c = λ told row under x across.
     let p = c.args.first.now in
     let o = c.args.second.now in
     ap (λ (word : ℕ). has_column word x)
-    (neither_marked p.index.len o.index.len p.height o.height c.args.plane p.words.len o.words.len p.words.items o.words.items p.index.items o.index.items p.some_row c.requires.height p.whole o.whole
-    c.requires.first c.requires.second p.marked o.marked (sym (ap₂ bit_or c.rows_of.ensures c.rows_of-2.ensures) ∙ c.if-rows_of-eq0.true) row under (has_column-zero row))
+    (neither_marked p.index.len o.index.len p.height o.height c.args.plane p.words.len o.words.len p.words.items
+    o.words.items p.index.items o.index.items p.some_row c.requires.height p.whole o.whole
+    c.requires.first c.requires.second p.marked o.marked
+    (sym (ap₂ bit_or c.rows_of.ensures c.rows_of-2.ensures) ∙ c.if-rows_of-eq0.true) row under (has_column-zero row))
 
 pub returns-then-has_same_words-clause-same : goal.returns-then-has_same_words-clause-same
 returns-then-has_same_words-clause-same c = λ told row under x across.
-    ap (λ (word : ℕ). has_column word x) (c.has_same_words.ensures c.if-has_same_words.true row under (has_column-zero row))
+    ap (λ (word : ℕ). has_column word x)
+    (c.has_same_words.ensures c.if-has_same_words.true row under (has_column-zero row))

@@ -8,11 +8,16 @@ pub returns-then-not-has_column : goal.returns-then-not-has_column
 returns-then-not-has_column c =
     let p = c.args.planes.now in
     let plane : ℕ = c.args.plane in
-    let counted : plane < p.index.len = plane_indexed p.index.len p.height plane p.words.len p.some_row p.whole c.requires.plane in
-    let unmarked = ap (λ (word : ℕ). has_column word c.args.row) (sym c.rows_of.ensures) ∙ sym c.has_column.ensures ∙ c.if-not-has_column.true in
-    none_unlike (get_or p.words.items (plane * p.height + c.args.row) 0) c.args.column (p.marked plane c.args.row counted c.requires.row unmarked)
+    let counted : plane < p.index.len =
+    plane_indexed p.index.len p.height plane p.words.len p.some_row p.whole c.requires.plane in
+    let unmarked = ap (λ (word : ℕ). has_column word c.args.row) (sym c.rows_of.ensures) ∙ sym c.has_column.ensures
+    ∙ c.if-not-has_column.true in
+    none_unlike (get_or p.words.items (plane * p.height + c.args.row) 0) c.args.column
+    (p.marked plane c.args.row counted c.requires.row unmarked)
 
 pub returns-then-has_column : goal.returns-then-has_column
 returns-then-has_column c =
     let fits : c.row-word.result < 2 ^ 64 = search rules in
-    rw (← c.row-word.ensures) (others_unlike c.row-word.result c.args.column fits c.requires.column (sym c.has_column-2.ensures ∙ c.if-has_column.true))
+    rw (← c.row-word.ensures)
+    (others_unlike c.row-word.result c.args.column fits c.requires.column
+    (sym c.has_column-2.ensures ∙ c.if-has_column.true))

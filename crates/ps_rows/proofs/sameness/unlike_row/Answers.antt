@@ -7,4 +7,5 @@ loop-plane-init c = nothing_unlike c.args.planes.now.height c.args.row c.args.co
 pub loop-plane-preserved : goal.loop-plane-preserved
 loop-plane-preserved c =
     let p = c.args.planes.now in
-    one_more_unlike p.height c.args.row c.loop-plane.plane c.args.column c.loop-plane.unlike c.unlike_in-unlike.result p.words.items c.loop-plane.invariant c.unlike_in-unlike.ensures
+    one_more_unlike p.height c.args.row c.loop-plane.plane c.args.column c.loop-plane.unlike c.unlike_in-unlike.result
+    p.words.items c.loop-plane.invariant c.unlike_in-unlike.ensures

@@ -11,7 +11,8 @@ use Rattle.ps_run.proofs.text_run.run_compiled.Goals as goal
 
 -- the parts of a game by their fields
 same_parts :
-    (parts : SessionParts) (read : Game) → parts.title ≡ read.title → parts.options ≡ read.options → parts.names ≡ read.names → parts.entries ≡ read.entries → parts.wins ≡ read.wins →
+    (parts : SessionParts) (read : Game) → parts.title ≡ read.title → parts.options ≡ read.options →
+    parts.names ≡ read.names → parts.entries ≡ read.entries → parts.wins ≡ read.wins →
     parts ≡ parts_of read
 same_parts parts read title options names entries wins = rw (← title, ← options, ← names, ← entries, ← wins) refl
 
@@ -26,14 +27,17 @@ returns g c =
     let table_for : List ℕ → Option (List ℕ) = λ layers. Some layers in
     let script : Script = played_by table_for read plain late in
     let parts : c.new-parts.result ≡ parts_of read = same_parts c.new-parts.result read
-    (c.new-parts.ensures.title ∙ c.as_str.ensures ∙ ap (λ (r : Game). r.title) c.game.view_is) (c.new-parts.ensures.options ∙ ap (λ (r : Game). r.options) c.game.view_is)
+    (c.new-parts.ensures.title ∙ c.as_str.ensures ∙ ap (λ (r : Game). r.title) c.game.view_is)
+    (c.new-parts.ensures.options ∙ ap (λ (r : Game). r.options) c.game.view_is)
     (c.new-parts.ensures.names ∙ ap (λ (r : Game). r.names) c.game.view_is)
     (c.new-parts.ensures.entries ∙ ap entries_shown c.deref.ensures.value ∙ ap (λ (r : Game). r.entries) c.game.view_is)
     (c.new-parts.ensures.wins ∙ ap wins_shown c.deref-2.ensures.value ∙ ap (λ (r : Game). r.wins) c.game.view_is) in
     let comes = rw parts at c.run_game.ensures.answers in
     record {
       rightly = λ text is made.
-          comes_rightly text read script _ _ _ _ c.run_game.result is (c.in-Ok.ensures.played read.names read.rules made text read is refl refl table_for rows_give_room) c.requires.heard
+          comes_rightly text read script _ _ _ _ c.run_game.result is
+          (c.in-Ok.ensures.played read.names read.rules made text read is refl refl table_for rows_give_room)
+          c.requires.heard
           c.requires.well comes;
       true_of_text = λ text is. true_of_game text read script _ _ _ _ c.run_game.result is comes;
     }

@@ -11,7 +11,8 @@ loop-layer-preserved g c =
     let within : c.args.cell < length shown.cells = rw c.requires.shape.cells c.requires.cell in
     let slots : length (cell_at shown c.args.cell) ≡ shown.layers = c.requires.shape.slots c.args.cell _ within in
     let long : c.loop-layer.layer < length (cell_at shown c.args.cell) = rw slots (omega arith) in
-    rw (c.in_ok-push_some.ensures, c.loop-layer.invariant, c.object.ensures.value, objects_in-more (cell_at shown c.args.cell) c.loop-layer.layer long) refl
+    rw (c.in_ok-push_some.ensures, c.loop-layer.invariant, c.object.ensures.value,
+    objects_in-more (cell_at shown c.args.cell) c.loop-layer.layer long) refl
 
 pub returns : goal.returns
 returns g c =

@@ -7,5 +7,7 @@ use Rattle.ps_screen.proofs.patching.others_alike.Goals as goal
 
 pub returns-then-is_empty : goal.returns-then-is_empty
 returns-then-is_empty g c = λ x under has.
-    let none : column_at no_columns x ≡ false = elim (cases_lt x SIDE_LIMIT) [ inl low ↦ column_at-where (λ (y : ℕ). false) x low | inr high ↦ column_at-beyond (λ (y : ℕ). false) x high ] in
+    let none : column_at no_columns x ≡ false =
+    elim (cases_lt x SIDE_LIMIT) [ inl low ↦ column_at-where (λ (y : ℕ). false) x low
+    | inr high ↦ column_at-beyond (λ (y : ℕ). false) x high ] in
     absurd (false≢true (sym none ∙ ap (λ (set : List Bool). column_at set x) (sym c.none.ensures) ∙ has))

@@ -10,8 +10,10 @@ invariant-loop-column l =
     record {
       long : length l.text ≡ length l.fn.text;
       within : (x : ℕ) → x < SIDE_LIMIT → column_at l.left x ≡ true → column_at l.fn.columns x ≡ true;
-      there : (x : ℕ) → x < SIDE_LIMIT → column_at l.fn.columns x ≡ true → column_at l.left x ≡ false → slice_index l.text (l.start + x) ≡ l.byte;
-      elsewhere : (at : ℕ) → ((x : ℕ) → x < SIDE_LIMIT → column_at l.fn.columns x ≡ true → at ≢ l.start + x) → slice_index l.text at ≡ slice_index l.fn.text at;
+      there : (x : ℕ) → x < SIDE_LIMIT → column_at l.fn.columns x ≡ true → column_at l.left x ≡ false →
+      slice_index l.text (l.start + x) ≡ l.byte;
+      elsewhere : (at : ℕ) → ((x : ℕ) → x < SIDE_LIMIT → column_at l.fn.columns x ≡ true → at ≢ l.start + x) →
+      slice_index l.text at ≡ slice_index l.fn.text at;
     }
 
 abbrev pub decreases-loop-column : goal.decreases-loop-column

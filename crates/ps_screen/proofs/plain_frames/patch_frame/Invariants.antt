@@ -11,8 +11,10 @@ invariant-loop-row g l =
     record {
       ends : IsBlankFrame (g.B.Board.grid l.board).width (g.B.Board.grid l.board).height l.text;
       within : (row : ℕ) → row < SIDE_LIMIT → column_at l.left row ≡ true → row < (g.B.Board.grid l.board).height;
-      drawn : (row : ℕ) → row < (g.B.Board.grid l.board).height → column_at l.left row ≡ false → IsPlainRow l.names (g.B.Board.grid l.board) row (row_start (g.B.Board.grid l.board).width row) l.text;
-      left : (row : ℕ) → row < (g.B.Board.grid l.board).height → column_at l.left row ≡ true → IsPlainRow l.names (g.B.Board.grid l.shown) row (row_start (g.B.Board.grid l.board).width row) l.text;
+      drawn : (row : ℕ) → row < (g.B.Board.grid l.board).height → column_at l.left row ≡ false →
+      IsPlainRow l.names (g.B.Board.grid l.board) row (row_start (g.B.Board.grid l.board).width row) l.text;
+      left : (row : ℕ) → row < (g.B.Board.grid l.board).height → column_at l.left row ≡ true →
+      IsPlainRow l.names (g.B.Board.grid l.shown) row (row_start (g.B.Board.grid l.board).width row) l.text;
     }
 
 abbrev pub decreases-loop-row : goal.decreases-loop-row

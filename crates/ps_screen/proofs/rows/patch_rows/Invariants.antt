@@ -10,8 +10,10 @@ invariant-loop-row g l =
     record {
       long : length l.texts ≡ (g.B.Board.grid l.board).height;
       within : (row : ℕ) → row < SIDE_LIMIT → column_at l.left row ≡ true → row < (g.B.Board.grid l.board).height;
-      drawn : (row : ℕ) → row < (g.B.Board.grid l.board).height → column_at l.left row ≡ false → get_or l.texts row [] ≡ frame_row l.names (g.B.Board.grid l.board) row;
-      left : (row : ℕ) → row < (g.B.Board.grid l.shown).height → column_at l.left row ≡ true → get_or l.texts row [] ≡ frame_row l.names (g.B.Board.grid l.shown) row;
+      drawn : (row : ℕ) → row < (g.B.Board.grid l.board).height → column_at l.left row ≡ false →
+      get_or l.texts row [] ≡ frame_row l.names (g.B.Board.grid l.board) row;
+      left : (row : ℕ) → row < (g.B.Board.grid l.shown).height → column_at l.left row ≡ true →
+      get_or l.texts row [] ≡ frame_row l.names (g.B.Board.grid l.shown) row;
     }
 
 abbrev pub decreases-loop-row : goal.decreases-loop-row

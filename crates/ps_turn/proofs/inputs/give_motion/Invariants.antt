@@ -1,12 +1,21 @@
-use Rattle.std.proofs.Common.{◌≡◌, ◌*◌, ◌++◌, map, take, drop}
+use Rattle.std.proofs.Common.{◌≡◌, length, map}
 use Rattle.ps_model.specs.board.Grid.{Grid, at_rest}
-use Rattle.ps_turn.specs.Sweeps.{slot_set_moving, grid_with_cells}
+use Rattle.ps_board.specs.ColumnSets.{set_columns}
+use Rattle.ps_board.proofs.Taken.{AreBelow, ArePassed}
+use Rattle.ps_turn.specs.Sweeps.{AreChanged, IsRowChanged, slot_set_moving}
 use Rattle.ps_turn.proofs.inputs.give_motion.Given as goal
 
--- the cells of the columns passed by have the motion, and there is room as before
-abbrev pub invariant-loop-column : goal.invariant-loop-column
-invariant-loop-column g l =
+-- the cells of the rows that aren't left have the motion, and there is room as before
+abbrev pub invariant-loop-row : goal.invariant-loop-row
+invariant-loop-row g l =
     let rested : Grid = at_rest (g.B.Board.grid l.fn.board) in
-    (g.B.Board.grid l.board
-    ≡ grid_with_cells rested (map (map (slot_set_moving l.moved l.motion)) (take (l.column * rested.height) rested.cells) ++ drop (l.column * rested.height) rested.cells))
-    × (g.B.Board.table l.board ≡ g.B.Board.table l.fn.board)
+    let now : Grid = g.B.Board.grid l.board in
+    record {
+      changed : AreChanged (map (slot_set_moving l.moved l.motion)) rested now;
+      low : AreBelow rested.height l.left;
+      passed : ArePassed (IsRowChanged (map (slot_set_moving l.moved l.motion)) rested now) rested.height l.left;
+      table : g.B.Board.table l.board ≡ g.B.Board.table l.fn.board;
+    }
+
+abbrev pub decreases-loop-row : goal.decreases-loop-row
+decreases-loop-row g l = length (set_columns l.left)

@@ -5,8 +5,10 @@ use Rattle.ps_board.proofs.columns.Columns.has.Goals as goal
 
 pub returns-then-column-ge-SIDE_LIMIT : goal.returns-then-column-ge-SIDE_LIMIT
 returns-then-column-ge-SIDE_LIMIT c =
-    tested_beyond c.self.inside.bits c.args.column c.if-column-ge-SIDE_LIMIT.true ∙ ap (λ (columns : List Bool). column_at columns c.args.column) c.self.view_is
+    tested_beyond c.self.inside.bits c.args.column c.if-column-ge-SIDE_LIMIT.true
+    ∙ ap (λ (columns : List Bool). column_at columns c.args.column) c.self.view_is
 
 pub returns : goal.returns
 returns c =
-    tested_word c.self.inside.bits c.args.column (omega (arith, c.if-column-ge-SIDE_LIMIT.false)) ∙ ap (λ (columns : List Bool). column_at columns c.args.column) c.self.view_is
+    tested_word c.self.inside.bits c.args.column (omega (arith, c.if-column-ge-SIDE_LIMIT.false))
+    ∙ ap (λ (columns : List Bool). column_at columns c.args.column) c.self.view_is

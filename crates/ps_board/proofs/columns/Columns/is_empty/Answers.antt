@@ -7,4 +7,5 @@ pub returns-clause-none : goal.returns-clause-none
 returns-clause-none c = λ e. ap set_columns (sym c.self.view_is) ∙ none_tested c.self.inside.bits e
 
 pub returns-clause-some : goal.returns-clause-some
-returns-clause-some c = λ e. subst (λ (columns : List Bool). 0 < length (set_columns columns)) c.self.view_is (some_tested c.self.inside.bits e c.self.invariant)
+returns-clause-some c = λ e. subst (λ (columns : List Bool). 0 < length (set_columns columns)) c.self.view_is
+    (some_tested c.self.inside.bits e c.self.invariant)

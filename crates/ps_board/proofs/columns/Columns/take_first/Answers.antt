@@ -4,7 +4,9 @@ use Rattle.ps_board.proofs.ColumnWords.{none_set, first_taken}
 use Rattle.ps_board.proofs.columns.Columns.take_first.Goals as goal
 
 pub returns-then-self-eq0-clause-none : goal.returns-then-self-eq0-clause-none
-returns-then-self-eq0-clause-none c = λ e. ap set_columns (sym c.self.view_is) ∙ none_set c.self.inside.bits (omega (arith, c.if-self-eq0.true))
+returns-then-self-eq0-clause-none c = λ e. ap set_columns (sym c.self.view_is)
+    ∙ none_set c.self.inside.bits (omega (arith, c.if-self-eq0.true))
 
 pub returns-clause-some : goal.returns-clause-some
-returns-clause-some c = ap set_columns (sym c.self.view_is) ∙ first_taken c.self.inside.bits (omega (arith, c.if-self-eq0.false)) c.self.invariant
+returns-clause-some c = ap set_columns (sym c.self.view_is)
+    ∙ first_taken c.self.inside.bits (omega (arith, c.if-self-eq0.false)) c.self.invariant

@@ -5,7 +5,8 @@ use Rattle.ps_board.proofs.columns.Columns.with.Goals as goal
 
 pub returns-then-column-ge-SIDE_LIMIT : goal.returns-then-column-ge-SIDE_LIMIT
 returns-then-column-ge-SIDE_LIMIT c =
-    kept_word c.self.inside.bits c.args.column c.args.set c.if-column-ge-SIDE_LIMIT.true ∙ ap (λ (columns : List Bool). with_column columns c.args.column c.args.set) c.self.view_is
+    kept_word c.self.inside.bits c.args.column c.args.set c.if-column-ge-SIDE_LIMIT.true
+    ∙ ap (λ (columns : List Bool). with_column columns c.args.column c.args.set) c.self.view_is
 
 pub invariant_of-result-then-set : goal.invariant_of-result-then-set
 invariant_of-result-then-set c = set_below c.self.inside.bits c.args.column c.self.invariant

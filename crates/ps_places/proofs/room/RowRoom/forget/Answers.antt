@@ -23,7 +23,8 @@ returns c = λ height.
     (first_position (way_of c.args.row.now c.args.self.now)) =
     c.behind_position.ensures
     ∙ ap₂ (λ (set : List Bool) (p : ℕ). positions_from set p)
-    (sym (first-set starts count (line * count) c.index-starts-at.result c.index-starts-at.result some (omega (arith, within, some))
+    (sym (first-set starts count (line * count) c.index-starts-at.result c.index-starts-at.result some
+    (omega (arith, within, some))
     (rw (c.as_mut_slice-starts.ensures.value, at) at c.index-starts-at.is)))
     (c.from-position.ensures ∙ sym (first-of-way c.args.self.now.way count some)) in
     let written : List (List Bool) = slice_set c.as_mut_slice-starts.result.now
@@ -35,5 +36,6 @@ returns c = λ height.
     (c.without-self.ensures
     ∙ ap (columns_without c.args.self.now.lines) (c.below.ensures ∙ ap columns_below c.from-2.ensures))
     (with_items_is c.args.self.now.starts written long
-    ∙ ap₂ (λ (ss : List (List Bool)) (n : ℕ). slice_set ss n c.behind_position.result) c.as_mut_slice-starts.ensures.value at)
+    ∙ ap₂ (λ (ss : List (List Bool)) (n : ℕ). slice_set ss n c.behind_position.result)
+    c.as_mut_slice-starts.ensures.value at)
     refl refl

@@ -8,7 +8,10 @@ pub returns-then-index-eq0-clause-words : goal.returns-then-index-eq0-clause-wor
 returns-then-index-eq0-clause-words c =
     let p = c.args.self.now in
     let plane : ℕ = c.args.plane in
-    let counted : plane < p.index.len = plane_indexed p.index.len p.height plane p.words.len p.some_row p.whole c.requires in
+    let counted : plane < p.index.len =
+    plane_indexed p.index.len p.height plane p.words.len p.some_row p.whole c.requires in
     let own : plane < length p.index.items = omega (arith, counted, p.index.ok.0) in
-    let none : get_or p.index.items plane 0 ≡ 0 = sym (get_or_read p.index.items _ _ own c.index.ensures 0) ∙ c.if-index-eq0.true in
-    plane_blank p.height plane [] p.words.items (unmarked_plane p.index.len p.height plane p.words.items p.index.items counted p.marked none) (λ row under. refl)
+    let none : get_or p.index.items plane 0 ≡ 0 = sym (get_or_read p.index.items _ _ own c.index.ensures 0)
+    ∙ c.if-index-eq0.true in
+    plane_blank p.height plane [] p.words.items
+    (unmarked_plane p.index.len p.height plane p.words.items p.index.items counted p.marked none) (λ row under. refl)

@@ -15,17 +15,23 @@ returns-then-rows-index-eq0-clause-words c =
     let o = c.args.other.now in
     let plane : ℕ = c.args.plane in
     let E : ℕ → Type 0 = λ h. (plane + 1) * h ≤ o.words.len in
-    let counted : plane < p.index.len = plane_indexed p.index.len p.height plane p.words.len p.some_row p.whole c.requires.here in
-    let also : plane < o.index.len = plane_indexed o.index.len o.height plane o.words.len o.some_row o.whole (subst E (sym c.requires.height) c.requires.there) in
+    let counted : plane < p.index.len =
+    plane_indexed p.index.len p.height plane p.words.len p.some_row p.whole c.requires.here in
+    let also : plane < o.index.len = plane_indexed o.index.len o.height plane o.words.len o.some_row o.whole
+    (subst E (sym c.requires.height) c.requires.there) in
     let own : plane < length p.index.items = omega (arith, counted, p.index.ok.0) in
     let others : plane < length o.index.items = omega (arith, also, o.index.ok.0) in
     let none : bit_or (get_or p.index.items plane 0) (get_or o.index.items plane 0) ≡ 0 =
-    sym (ap₂ bit_or (get_or_read p.index.items _ _ own c.index-rows.ensures 0) (get_or_read o.index.items _ _ others c.index.ensures 0)) ∙ c.if-rows-index-eq0.true in
+    sym (ap₂ bit_or (get_or_read p.index.items _ _ own c.index-rows.ensures 0)
+    (get_or_read o.index.items _ _ others c.index.ensures 0)) ∙ c.if-rows-index-eq0.true in
     let M : ℕ → Type 0 = λ h. AreRowsMarked o.index.len h o.words.items o.index.items in
     let marked : AreRowsMarked o.index.len p.height o.words.items o.index.items = subst M c.requires.height o.marked in
     plane_blank p.height plane p.words.items o.words.items
-    (λ row under. marked plane row also under (neither_word (get_or p.index.items plane 0) (get_or o.index.items plane 0) none row).1)
-    (λ row under. p.marked plane row counted under (neither_word (get_or p.index.items plane 0) (get_or o.index.items plane 0) none row).0)
+    (λ row under.
+    marked plane row also under (neither_word (get_or p.index.items plane 0) (get_or o.index.items plane 0) none row).1)
+    (λ row under.
+    p.marked plane row counted under
+    (neither_word (get_or p.index.items plane 0) (get_or o.index.items plane 0) none row).0)
 
 pub invariant_of-other-clause-marked : goal.invariant_of-other-clause-marked
 invariant_of-other-clause-marked c =
@@ -36,8 +42,10 @@ invariant_of-other-clause-marked c =
     let left : List ℕ = c.copy_plane.new.other in
     let long : length left ≡ o.words.len = omega (arith, c.copy_plane.auto.other, c.as_mut_slice.ensures.len) in
     let E : ℕ → Type 0 = λ h. (plane + 1) * h ≤ o.words.len in
-    let counted : plane < p.index.len = plane_indexed p.index.len p.height plane p.words.len p.some_row p.whole c.requires.here in
-    let also : plane < o.index.len = plane_indexed o.index.len o.height plane o.words.len o.some_row o.whole (subst E (sym c.requires.height) c.requires.there) in
+    let counted : plane < p.index.len =
+    plane_indexed p.index.len p.height plane p.words.len p.some_row p.whole c.requires.here in
+    let also : plane < o.index.len = plane_indexed o.index.len o.height plane o.words.len o.some_row o.whole
+    (subst E (sym c.requires.height) c.requires.there) in
     let own : plane < length p.index.items = omega (arith, counted, p.index.ok.0) in
     let others : plane < length o.index.items = omega (arith, also, o.index.ok.0) in
     let same : mark ≡ get_or p.index.items plane 0 = get_or_read p.index.items _ _ own c.index-rows.ensures 0 in
@@ -47,8 +55,11 @@ invariant_of-other-clause-marked c =
     let B : List ℕ → Type 0 = λ ws. ArePlanesOf p.height plane (plane + 1) p.words.items ws left in
     let D : List ℕ → Type 0 = λ ws. ArePlanesOf p.height plane (plane + 1) p.words.items o.words.items ws in
     let changed : ArePlanesOf p.height plane (plane + 1) p.words.items o.words.items (with_items o.words left).items =
-    subst D (sym (with_items_is o.words left long)) (subst B c.as_mut_slice.ensures.value (subst A c.as_slice.ensures.value c.copy_plane.ensures)) in
-    let Q : ℕ → Type 0 = λ h. AreRowsMarked o.index.len h (with_items o.words left).items (slice_set o.index.items plane mark) in
+    subst D (sym (with_items_is o.words left long))
+    (subst B c.as_mut_slice.ensures.value (subst A c.as_slice.ensures.value c.copy_plane.ensures)) in
+    let Q : ℕ → Type 0 = λ h. AreRowsMarked o.index.len h (with_items o.words left).items
+    (slice_set o.index.items plane mark) in
     subst Q (sym c.requires.height)
-    (marked_plane o.index.len p.height plane mark p.words.items o.words.items (with_items o.words left).items o.index.items others changed marked
+    (marked_plane o.index.len p.height plane mark p.words.items o.words.items (with_items o.words left).items
+    o.index.items others changed marked
     (λ row under clear. p.marked plane row counted under (ap (λ (word : ℕ). has_column word row) (sym same) ∙ clear)))

@@ -1,4 +1,5 @@
-use Rattle.std.proofs.Common.{◌≡◌, ◌∙◌, ◌+◌, ◌*◌, ◌<◌, ◌≤◌, ℕ, Bool, List, true, false, length, get_or, refl, sym, ap, ap₂, arith, bit_or}
+use Rattle.std.proofs.Common.{◌≡◌, ◌∙◌, ◌+◌, ◌*◌, ◌<◌, ◌≤◌, ℕ, Bool, List, true, false, length, get_or, refl, sym, ap}
+use Rattle.std.proofs.Common.{ap₂, arith, bit_or}
 use Rattle.std.specs.Prelude.{slice_set}
 use Rattle.std.proofs.lemmas.Bool.{false≢true}
 use Rattle.ps_model.specs.declared.limits.TheConstants.{SIDE_LIMIT}
@@ -19,10 +20,12 @@ loop-row-init c =
     let marked : List Bool = c.from_word-marked.result in
     let wanted : List Bool = c.both-wanted.result in
     let below : c.below.result ≡ columns_below p.height = c.below.ensures in
-    let same : ℕ → Type 0 = λ row. column_at rows row ≡ true → get_or o.words.items (plane * p.height + row) 0 ≡ get_or p.words.items (plane * p.height + row) 0 in
+    let same : ℕ → Type 0 = λ row. column_at rows row ≡ true → get_or o.words.items (plane * p.height + row) 0
+    ≡ get_or p.words.items (plane * p.height + row) 0 in
     record {
       low = below-init wanted c.below.result c.both-left.result p.height below c.both-left.ensures;
-      wanted = λ row low on. wanted-init rows marked wanted c.below.result c.both-left.result row low c.both-wanted.ensures c.both-left.ensures on;
+      wanted = λ row low on. wanted-init rows marked wanted c.below.result c.both-left.result row low
+      c.both-wanted.ensures c.both-left.ensures on;
       passed =
           passed-init same wanted c.below.result c.both-left.result p.height p.rows below c.both-left.ensures
           (λ row under off on.
@@ -30,8 +33,10 @@ loop-row-init c =
           let clear = not_wanted rows marked wanted row low c.both-wanted.ensures off on in
           let none : has_column (bit_or (get_or p.index.items plane 0) (get_or o.index.items plane 0)) row ≡ false =
           ap (λ (word : ℕ). has_column word row) (sym (ap₂ bit_or c.rows_of.ensures c.rows_of-2.ensures))
-          ∙ column_clear _ row low (ap (λ (set : List Bool). column_at set row) (sym c.from_word-marked.ensures) ∙ clear) in
-          sym (row_unmarked p.index.len o.index.len p.height o.height plane p.words.len o.words.len row p.words.items o.words.items p.index.items o.index.items p.some_row c.requires.height
+          ∙ column_clear _ row low (ap (λ (set : List Bool). column_at set row) (sym c.from_word-marked.ensures)
+          ∙ clear) in
+          sym (row_unmarked p.index.len o.index.len p.height o.height plane p.words.len o.words.len row p.words.items
+          o.words.items p.index.items o.index.items p.some_row c.requires.height
           p.whole o.whole c.requires.here c.requires.there p.marked o.marked none under));
       elsewhere = λ other row under apart. refl;
       height = c.requires.height;
@@ -39,11 +44,13 @@ loop-row-init c =
     }
 
 pub row-word-requires-clause-row : goal.row-word-requires-clause-row
-row-word-requires-clause-row c = taken_below c.loop-row.left c.take_first.new.self _ c.in-Some.row c.in-Some.ensures.some c.loop-row.invariant.low
+row-word-requires-clause-row c =
+    taken_below c.loop-row.left c.take_first.new.self _ c.in-Some.row c.in-Some.ensures.some c.loop-row.invariant.low
 
 pub set_row-requires-clause-row : goal.set_row-requires-clause-row
 set_row-requires-clause-row c =
-    rw c.loop-row.invariant.height (taken_below c.loop-row.left c.take_first.new.self _ c.in-Some.row c.in-Some.ensures.some c.loop-row.invariant.low)
+    rw c.loop-row.invariant.height
+    (taken_below c.loop-row.left c.take_first.new.self _ c.in-Some.row c.in-Some.ensures.some c.loop-row.invariant.low)
 
 pub loop-row-preserved : goal.loop-row-preserved
 loop-row-preserved c =
@@ -54,22 +61,30 @@ loop-row-preserved c =
     let rows : List Bool = c.args.rows in
     let row : ℕ = c.in-Some.row in
     let was = c.loop-row.invariant in
-    let under : row < p.height = taken_below c.loop-row.left c.take_first.new.self p.height row c.in-Some.ensures.some was.low in
+    let under : row < p.height =
+    taken_below c.loop-row.left c.take_first.new.self p.height row c.in-Some.ensures.some was.low in
     let made : more ≡ slice_set now.words.items (plane * p.height + row) c.row-word.result =
-    c.set_row.ensures.words ∙ ap (λ (h : ℕ). slice_set now.words.items (plane * h + row) c.row-word.result) was.height in
-    let enough : (plane + 1) * p.height ≤ length now.words.items = omega (arith, c.requires.there, was.count, now.words.ok.0) in
-    let before : ℕ → Type 0 = λ y. column_at rows y ≡ true → get_or now.words.items (plane * p.height + y) 0 ≡ get_or p.words.items (plane * p.height + y) 0 in
-    let after : ℕ → Type 0 = λ y. column_at rows y ≡ true → get_or more (plane * p.height + y) 0 ≡ get_or p.words.items (plane * p.height + y) 0 in
+    c.set_row.ensures.words ∙ ap (λ (h : ℕ). slice_set now.words.items (plane * h + row) c.row-word.result)
+    was.height in
+    let enough : (plane + 1) * p.height ≤ length now.words.items =
+    omega (arith, c.requires.there, was.count, now.words.ok.0) in
+    let before : ℕ → Type 0 = λ y. column_at rows y ≡ true → get_or now.words.items (plane * p.height + y) 0
+    ≡ get_or p.words.items (plane * p.height + y) 0 in
+    let after : ℕ → Type 0 = λ y. column_at rows y ≡ true →
+    get_or more (plane * p.height + y) 0 ≡ get_or p.words.items (plane * p.height + y) 0 in
     record {
       low = below-more c.loop-row.left c.take_first.new.self p.height row c.in-Some.ensures.some was.low;
       wanted = wanted-more rows c.loop-row.left c.take_first.new.self row c.in-Some.ensures.some was.wanted;
       passed =
           passed-changed before after c.loop-row.left c.take_first.new.self p.height row p.rows c.in-Some.ensures.some
-          (λ on. row_written p.height plane row c.row-word.result now.words.items more under enough made ∙ c.row-word.ensures)
-          (λ y inside apart so on. row_kept p.height plane row c.row-word.result plane y now.words.items more under inside (λ e. apart) made ∙ so on) was.passed;
+          (λ on. row_written p.height plane row c.row-word.result now.words.items more under enough made
+          ∙ c.row-word.ensures)
+          (λ y inside apart so on. row_kept p.height plane row c.row-word.result plane y now.words.items more under
+          inside (λ e. apart) made ∙ so on) was.passed;
       elsewhere = λ other y inside off.
           row_kept p.height plane row c.row-word.result other y now.words.items more under inside
-          (λ e f. let here = wanted-first rows c.loop-row.left c.take_first.new.self row c.in-Some.ensures.some was.wanted in
+          (λ e f. let here =
+          wanted-first rows c.loop-row.left c.take_first.new.self row c.in-Some.ensures.some was.wanted in
           false≢true (sym (off e) ∙ ap (column_at rows) f ∙ here)) made
           ∙ was.elsewhere other y inside off;
       height = c.set_row.ensures.height ∙ was.height;
@@ -82,13 +97,15 @@ returns-clause-words c =
     let last = c.loop-row.other in
     let plane : ℕ = c.args.plane in
     let was = c.loop-row.invariant in
-    let same : ℕ → Type 0 = λ row. column_at c.args.rows row ≡ true → get_or last.words.items (plane * p.height + row) 0 ≡ get_or p.words.items (plane * p.height + row) 0 in
+    let same : ℕ → Type 0 = λ row. column_at c.args.rows row ≡ true → get_or last.words.items (plane * p.height + row) 0
+    ≡ get_or p.words.items (plane * p.height + row) 0 in
     record {
       below = λ other row under less. was.elsewhere other row under (λ e. absurd (omega (arith, e, less)));
       behind = λ other row under more. was.elsewhere other row under (λ e. absurd (omega (arith, e, more)));
       copied =
           λ other row under low high on.
           let e : other ≡ plane = omega (arith, low, high) in
-          rw e (passed-all same c.loop-row.left p.height row p.rows (c.in_default.ensures.none refl) was.passed under on);
+          rw e (passed-all same c.loop-row.left p.height row p.rows (c.in_default.ensures.none refl) was.passed under
+          on);
       left = λ other row under off. was.elsewhere other row under (λ e. off);
     }

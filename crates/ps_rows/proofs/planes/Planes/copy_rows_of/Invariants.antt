@@ -10,10 +10,13 @@ invariant-loop-row l =
     record {
       low : AreBelow l.self.height l.left;
       wanted : (row : ℕ) → row < SIDE_LIMIT → column_at l.left row ≡ true → column_at l.fn.rows row ≡ true;
-      passed : ArePassed (λ row. column_at l.fn.rows row ≡ true → get_or l.other.words.items (l.plane * l.self.height + row) 0 ≡ get_or l.self.words.items (l.plane * l.self.height + row) 0)
+      passed : ArePassed (λ row. column_at l.fn.rows row ≡ true →
+      get_or l.other.words.items (l.plane * l.self.height + row) 0 ≡ get_or l.self.words.items
+      (l.plane * l.self.height + row) 0)
           l.self.height l.left;
       elsewhere : (plane row : ℕ) → row < l.self.height → (plane ≡ l.plane → column_at l.fn.rows row ≡ false) →
-          get_or l.other.words.items (plane * l.self.height + row) 0 ≡ get_or l.initial.other.words.items (plane * l.self.height + row) 0;
+          get_or l.other.words.items (plane * l.self.height + row) 0 ≡ get_or l.initial.other.words.items
+          (plane * l.self.height + row) 0;
       height : l.other.height ≡ l.self.height;
       count : l.other.words.len ≡ l.initial.other.words.len;
     }

@@ -6,14 +6,18 @@ pub returns-then-rows_of-eq0 : goal.returns-then-rows_of-eq0
 returns-then-rows_of-eq0 c =
     let p = c.args.self.now in
     let o = c.args.other.now in
-    neither_marked p.index.len o.index.len p.height o.height c.args.plane p.words.len o.words.len p.words.items o.words.items p.index.items o.index.items p.some_row c.requires.height p.whole o.whole
-    c.requires.here c.requires.there p.marked o.marked (sym (ap₂ bit_or c.rows_of.ensures c.rows_of-2.ensures) ∙ c.if-rows_of-eq0.true)
+    neither_marked p.index.len o.index.len p.height o.height c.args.plane p.words.len o.words.len p.words.items
+    o.words.items p.index.items o.index.items p.some_row c.requires.height p.whole o.whole
+    c.requires.here c.requires.there p.marked o.marked
+    (sym (ap₂ bit_or c.rows_of.ensures c.rows_of-2.ensures) ∙ c.if-rows_of-eq0.true)
 
 pub loop-row-preserved : goal.loop-row-preserved
 loop-row-preserved c =
     let p = c.args.self.now in
     let o = c.args.other.now in
     let there : c.row-in-loop-row.result ≡ get_or o.words.items (c.args.plane * p.height + c.loop-row.row) 0 =
-    c.row-in-loop-row.ensures ∙ ap (λ (h : ℕ). get_or o.words.items (c.args.plane * h + c.loop-row.row) 0) c.requires.height in
+    c.row-in-loop-row.ensures ∙ ap (λ (h : ℕ). get_or o.words.items (c.args.plane * h + c.loop-row.row) 0)
+    c.requires.height in
     rw (c.with_column-rows.ensures, c.row.ensures, there)
-    (one_row_more p.height c.args.plane c.loop-row.row c.loop-row.rows p.words.items o.words.items c.loop-row-test.true p.rows c.loop-row.invariant)
+    (one_row_more p.height c.args.plane c.loop-row.row c.loop-row.rows p.words.items o.words.items c.loop-row-test.true
+    p.rows c.loop-row.invariant)

@@ -4,4 +4,5 @@ use Rattle.ps_rows.proofs.planes.Planes.has_cell.Goals as goal
 
 pub returns : goal.returns
 unfolding has_cell
-returns c = c.has_column.ensures ∙ ap (λ (word : ℕ). has_column word (c.args.cell / c.args.self.now.height)) c.row.ensures
+returns c = c.has_column.ensures ∙ ap (λ (word : ℕ). has_column word (c.args.cell / c.args.self.now.height))
+    c.row.ensures

@@ -10,13 +10,15 @@ use Rattle.ps_rows.proofs.row_board.RowBoard.any_row.Goals as goal
 pub loop-sought-init : goal.loop-sought-init
 loop-sought-init c =
     let b = c.args.self.now in
-    any_none (grid_shown b.members.table.items b.width b.planes.height b.layers b.planes.words.items) c.args.row is_held_in b.columns
+    any_none (grid_shown b.members.table.items b.width b.planes.height b.layers b.planes.words.items) c.args.row
+    is_held_in b.columns
 
 pub loop-sought-preserved : goal.loop-sought-preserved
 loop-sought-preserved c =
     let b = c.args.self.now in
     let below : c.loop-sought.sought-index < length c.args.objects.now = omega arith in
-    any_more (grid_shown b.members.table.items b.width b.planes.height b.layers b.planes.words.items) c.args.row is_held_in b.columns c.args.objects.now c.loop-sought.sought-index _
+    any_more (grid_shown b.members.table.items b.width b.planes.height b.layers b.planes.words.items) c.args.row
+    is_held_in b.columns c.args.objects.now c.loop-sought.sought-index _
     c.loop-sought.word c.object_row-word.result below c.loop-sought.invariant c.object_row-word.ensures
 
 pub returns : goal.returns
@@ -24,5 +26,6 @@ returns c =
     let b = c.args.self.now in
     let end : length c.args.objects.now ≤ c.loop-sought.sought-index = omega arith in
     let P : List LayeredObject → Type 0 =
-    λ xs. IsRowOf (grid_shown b.members.table.items b.width b.planes.height b.layers b.planes.words.items) c.args.row c.loop-sought.word (held_any xs) in
+    λ xs. IsRowOf (grid_shown b.members.table.items b.width b.planes.height b.layers b.planes.words.items) c.args.row
+    c.loop-sought.word (held_any xs) in
     subst P (take_all c.loop-sought.sought-index c.args.objects.now end) c.loop-sought.invariant

@@ -20,13 +20,23 @@ returns c =
     let columns : ℕ = c.args.columns in
     let gone : ℕ = c.gone_row.result in
     let own : c.own_write-own.result ≡ own_write (Some table) c.args.layer write.layers =
-    c.own_write-own.ensures ∙ ap (λ (writes : List LayerWrite). own_write (Some table) c.args.layer writes) c.as_slice.ensures in
-    let P : List LayeredObject → Type 0 = λ xs. IsRowOf (grid_shown table b.width b.planes.height b.layers b.planes.words.items) c.args.row gone (one_goes xs c.args.layer) in
+    c.own_write-own.ensures ∙ ap (λ (writes : List LayerWrite). own_write (Some table) c.args.layer writes)
+    c.as_slice.ensures in
+    let P : List LayeredObject → Type 0 =
+    λ xs. IsRowOf (grid_shown table b.width b.planes.height b.layers b.planes.words.items) c.args.row gone
+    (one_goes xs c.args.layer) in
     let kept : ℕ = bit_and (bit_and columns (18446744073709551615 - bit_and columns gone)) c.kept_row.result in
     let most : bit_and columns gone ≤ columns = and_le_l columns gone in
     let fits : columns < 2 ^ 64 = c.ranges.columns.fits in
     let fits_freed : bit_and columns gone < 2 ^ 64 = omega (arith, most, fits) in
-    layer_changed table b.width b.planes.height b.layers b.planes.words.items c.args.layer c.args.row b.planes.some_row b.columns c.requires.row c.requires.layer write columns gone c.kept_row.result fits fits_freed
-    c.requires.within (subst P c.as_slice-2.ensures c.gone_row.ensures) (λ moves. c.kept_row.ensures (ap moves_kept own ∙ moves)) c.motions_from-first.result c.objects_change-objects.result
-    c.motions_change.result c.motions_from-first.ensures.first (c.objects_change-objects.ensures ∙ ap (λ (o : Option LayerWrite). objects_change o columns (bit_and columns gone)) own)
-    (c.motions_change.ensures ∙ ap (λ (o : Option LayerWrite). motions_change c.motions_from-first.result o columns (bit_and columns gone) kept) own)
+    layer_changed table b.width b.planes.height b.layers b.planes.words.items c.args.layer c.args.row b.planes.some_row
+    b.columns c.requires.row c.requires.layer write columns gone c.kept_row.result fits fits_freed
+    c.requires.within (subst P c.as_slice-2.ensures c.gone_row.ensures)
+    (λ moves. c.kept_row.ensures (ap moves_kept own ∙ moves)) c.motions_from-first.result
+    c.objects_change-objects.result
+    c.motions_change.result c.motions_from-first.ensures.first
+    (c.objects_change-objects.ensures ∙ ap (λ (o : Option LayerWrite). objects_change o columns (bit_and columns gone))
+    own)
+    (c.motions_change.ensures
+    ∙ ap (λ (o : Option LayerWrite). motions_change c.motions_from-first.result o columns (bit_and columns gone) kept)
+    own)

@@ -17,7 +17,8 @@ has_one cell objects = list_any (is_held_in cell) objects
 pub loop-objects-init : goal.loop-objects-init
 loop-objects-init c =
     let b = c.args.self.now in
-    all_none (grid_shown b.members.table.items b.width b.planes.height b.layers b.planes.words.items) c.args.row has_one b.columns
+    all_none (grid_shown b.members.table.items b.width b.planes.height b.layers b.planes.words.items) c.args.row has_one
+    b.columns
 
 pub loop-objects-preserved : goal.loop-objects-preserved
 loop-objects-preserved c =
@@ -26,7 +27,8 @@ loop-objects-preserved c =
     let at_index = c.loop-objects.objects-index in
     let below : at_index < length c.args.lists.now = omega arith in
     let P : List LayeredObject → Type 0 = λ xs. IsRowOf g c.args.row c.any_row-word.result (held_any xs) in
-    all_more g c.args.row has_one b.columns c.args.lists.now at_index c.objects-item.result c.loop-objects.word c.any_row-word.result below c.loop-objects.invariant
+    all_more g c.args.row has_one b.columns c.args.lists.now at_index c.objects-item.result c.loop-objects.word
+    c.any_row-word.result below c.loop-objects.invariant
     (subst P (c.as_slice.ensures ∙ c.objects-item.is) c.any_row-word.ensures)
 
 pub returns : goal.returns
@@ -34,5 +36,6 @@ returns c =
     let b = c.args.self.now in
     let end : length c.args.lists.now ≤ c.loop-objects.objects-index = omega arith in
     let P : List (List LayeredObject) → Type 0 =
-    λ xs. IsRowOf (grid_shown b.members.table.items b.width b.planes.height b.layers b.planes.words.items) c.args.row c.loop-objects.word (held_of_each xs) in
+    λ xs. IsRowOf (grid_shown b.members.table.items b.width b.planes.height b.layers b.planes.words.items) c.args.row
+    c.loop-objects.word (held_of_each xs) in
     subst P (take_all c.loop-objects.objects-index c.args.lists.now end) c.loop-objects.invariant

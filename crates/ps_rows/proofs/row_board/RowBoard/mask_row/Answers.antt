@@ -17,7 +17,8 @@ returns-then-needed-eq0-clause-inside c =
     let g : Grid = grid_shown b.members.table.items b.width b.planes.height b.layers b.planes.words.items in
     let Needed : ℕ → Type 0 = λ word. IsRowOf g c.args.row word (held_all (mask_shown c.args.mask.now).needed) in
     let Listed : List LayeredObject → Type 0 = λ xs. IsRowOf g c.args.row c.all_row-needed.result (held_all xs) in
-    mask_nowhere g c.args.row (mask_shown c.args.mask.now) (subst Needed c.if-needed-eq0.true (subst Listed c.as_slice.ensures c.all_row-needed.ensures))
+    mask_nowhere g c.args.row (mask_shown c.args.mask.now)
+    (subst Needed c.if-needed-eq0.true (subst Listed c.as_slice.ensures c.all_row-needed.ensures))
 
 pub returns-then-needed-eq0-clause-within : goal.returns-then-needed-eq0-clause-within
 returns-then-needed-eq0-clause-within c =
@@ -29,19 +30,25 @@ returns-clause-inside c =
     let b = c.args.self.now in
     let g : Grid = grid_shown b.members.table.items b.width b.planes.height b.layers b.planes.words.items in
     let row : ℕ = c.args.row in
-    let wide : (x : ℕ) → x < 64 → has_column c.columns.result x ≡ nat_lt x b.width = λ x h. c.columns.ensures x h ∙ ap (nat_lt x) c.size-width.ensures.width in
+    let wide : (x : ℕ) → x < 64 → has_column c.columns.result x ≡ nat_lt x b.width =
+    λ x h. c.columns.ensures x h ∙ ap (nat_lt x) c.size-width.ensures.width in
     let fits : c.any_row-barred.result < 2 ^ 64 = search rules in
     let Needed : List LayeredObject → Type 0 = λ xs. IsRowOf g row c.all_row-needed.result (held_all xs) in
     let Barred : List LayeredObject → Type 0 = λ xs. IsRowOf g row c.any_row-barred.result (held_any xs) in
     let Listed : List (List LayeredObject) → Type 0 = λ xs. IsRowOf g row c.lists_row-listed.result (held_of_each xs) in
     let Moving : List MotionTest → Type 0 = λ xs. IsRowOf g row c.motions_row-moving.result (moved_all xs) in
-    mask_inside g row c.columns.result c.all_row-needed.result c.any_row-barred.result c.lists_row-listed.result c.motions_row-moving.result (mask_shown c.args.mask.now) b.columns fits wide
-    (subst Needed c.as_slice.ensures c.all_row-needed.ensures) (subst Barred c.as_slice-2.ensures c.any_row-barred.ensures)
-    (subst Listed c.as_slice-3.ensures c.lists_row-listed.ensures) (subst Moving c.as_slice-4.ensures c.motions_row-moving.ensures)
+    mask_inside g row c.columns.result c.all_row-needed.result c.any_row-barred.result c.lists_row-listed.result
+    c.motions_row-moving.result (mask_shown c.args.mask.now) b.columns fits wide
+    (subst Needed c.as_slice.ensures c.all_row-needed.ensures)
+    (subst Barred c.as_slice-2.ensures c.any_row-barred.ensures)
+    (subst Listed c.as_slice-3.ensures c.lists_row-listed.ensures)
+    (subst Moving c.as_slice-4.ensures c.motions_row-moving.ensures)
 
 pub returns-clause-within : goal.returns-clause-within
 returns-clause-within c =
     let b = c.args.self.now in
     let g : Grid = grid_shown b.members.table.items b.width b.planes.height b.layers b.planes.words.items in
-    let wide : (x : ℕ) → x < 64 → has_column c.columns.result x ≡ nat_lt x b.width = λ x h. c.columns.ensures x h ∙ ap (nat_lt x) c.size-width.ensures.width in
-    mask_within g c.columns.result c.all_row-needed.result (18446744073709551615 - c.any_row-barred.result) c.lists_row-listed.result c.motions_row-moving.result wide
+    let wide : (x : ℕ) → x < 64 → has_column c.columns.result x ≡ nat_lt x b.width =
+    λ x h. c.columns.ensures x h ∙ ap (nat_lt x) c.size-width.ensures.width in
+    mask_within g c.columns.result c.all_row-needed.result (18446744073709551615 - c.any_row-barred.result)
+    c.lists_row-listed.result c.motions_row-moving.result wide

@@ -10,13 +10,15 @@ use Rattle.ps_rows.proofs.row_board.RowBoard.motions_row.Goals as goal
 pub loop-test-init : goal.loop-test-init
 loop-test-init c =
     let b = c.args.self.now in
-    all_none (grid_shown b.members.table.items b.width b.planes.height b.layers b.planes.words.items) c.args.row moves_as_asked b.columns
+    all_none (grid_shown b.members.table.items b.width b.planes.height b.layers b.planes.words.items) c.args.row
+    moves_as_asked b.columns
 
 pub loop-test-preserved : goal.loop-test-preserved
 loop-test-preserved c =
     let b = c.args.self.now in
     let below : c.loop-test.test-index < length c.args.tests.now = omega arith in
-    all_more (grid_shown b.members.table.items b.width b.planes.height b.layers b.planes.words.items) c.args.row moves_as_asked b.columns c.args.tests.now c.loop-test.test-index _
+    all_more (grid_shown b.members.table.items b.width b.planes.height b.layers b.planes.words.items) c.args.row
+    moves_as_asked b.columns c.args.tests.now c.loop-test.test-index _
     c.loop-test.word c.motion_row-word.result below c.loop-test.invariant c.motion_row-word.ensures
 
 pub returns : goal.returns
@@ -24,5 +26,6 @@ returns c =
     let b = c.args.self.now in
     let end : length c.args.tests.now ≤ c.loop-test.test-index = omega arith in
     let P : List MotionTest → Type 0 =
-    λ xs. IsRowOf (grid_shown b.members.table.items b.width b.planes.height b.layers b.planes.words.items) c.args.row c.loop-test.word (moved_all xs) in
+    λ xs. IsRowOf (grid_shown b.members.table.items b.width b.planes.height b.layers b.planes.words.items) c.args.row
+    c.loop-test.word (moved_all xs) in
     subst P (take_all c.loop-test.test-index c.args.tests.now end) c.loop-test.invariant

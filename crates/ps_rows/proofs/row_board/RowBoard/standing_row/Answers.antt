@@ -14,9 +14,11 @@ pub row-word-requires-clause-plane : goal.row-word-requires-clause-plane
 row-word-requires-clause-plane c =
     let table : List ℕ = c.args.self.now.members.table.items in
     let plane : ℕ = get_or c.of-plane-items.result.now c.loop-plane.plane-index 0 in
-    let among : list_any (nat_eq plane) c.of-plane-items.result.now ≡ true = listed_at c.of-plane-items.result.now c.loop-plane.plane-index 0 c.loop-plane-test.true in
+    let among : list_any (nat_eq plane) c.of-plane-items.result.now ≡ true =
+    listed_at c.of-plane-items.result.now c.loop-plane.plane-index 0 c.loop-plane-test.true in
     let below : plane < length table =
-    slice_get_within table plane c.args.layer (listed_member table c.args.layer plane (ap (list_any (nat_eq plane)) (sym c.of-plane-items.ensures) ∙ among)) in
+    slice_get_within table plane c.args.layer
+    (listed_member table c.args.layer plane (ap (list_any (nat_eq plane)) (sym c.of-plane-items.ensures) ∙ among)) in
     omega arith
 
 pub loop-plane-init : goal.loop-plane-init
@@ -24,13 +26,17 @@ loop-plane-init c = λ x. has_column-zero x
 
 pub loop-plane-preserved : goal.loop-plane-preserved
 loop-plane-preserved c =
-    standing_more c.args.self.now.planes.height c.args.row c.args.self.now.planes.words.items c.of-plane-items.result.now c.loop-plane.plane-index c.loop-plane.word c.row-word.result c.loop-plane-test.true
+    standing_more c.args.self.now.planes.height c.args.row c.args.self.now.planes.words.items
+    c.of-plane-items.result.now c.loop-plane.plane-index c.loop-plane.word c.row-word.result c.loop-plane-test.true
     c.row-word.ensures c.loop-plane.invariant
 
 pub returns : goal.returns
 returns c =
     let b = c.args.self.now in
     let end : length c.of-plane-items.result.now ≤ c.loop-plane.plane-index = omega arith in
-    let P : List ℕ → Type 0 = λ planes. (x : ℕ) → has_column c.loop-plane.word x ≡ list_any (has_at b.planes.height c.args.row b.planes.words.items x) planes in
-    standing_is b.members.table.items b.width b.planes.height b.layers b.planes.words.items c.args.layer c.args.row b.planes.some_row b.columns c.requires.row c.requires.layer c.loop-plane.word
-    (subst P (take_all c.loop-plane.plane-index c.of-plane-items.result.now end ∙ c.of-plane-items.ensures) c.loop-plane.invariant)
+    let P : List ℕ → Type 0 = λ planes. (x : ℕ) →
+    has_column c.loop-plane.word x ≡ list_any (has_at b.planes.height c.args.row b.planes.words.items x) planes in
+    standing_is b.members.table.items b.width b.planes.height b.layers b.planes.words.items c.args.layer c.args.row
+    b.planes.some_row b.columns c.requires.row c.requires.layer c.loop-plane.word
+    (subst P (take_all c.loop-plane.plane-index c.of-plane-items.result.now end ∙ c.of-plane-items.ensures)
+    c.loop-plane.invariant)

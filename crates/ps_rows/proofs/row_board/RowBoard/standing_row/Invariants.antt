@@ -6,4 +6,6 @@ use Rattle.ps_rows.proofs.row_board.RowBoard.standing_row.Given as goal
 
 -- the columns that one of the planes passed by has
 abbrev pub invariant-loop-plane : goal.invariant-loop-plane
-invariant-loop-plane l = (x : ℕ) → has_column l.word x ≡ list_any (has_at l.self.planes.height l.row l.self.planes.words.items x) (take l.plane-index l.plane-items)
+invariant-loop-plane l = (x : ℕ) →
+    has_column l.word x ≡ list_any (has_at l.self.planes.height l.row l.self.planes.words.items x)
+    (take l.plane-index l.plane-items)

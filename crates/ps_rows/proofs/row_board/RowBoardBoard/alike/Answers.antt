@@ -9,13 +9,17 @@ returns-clause-own c =
     let b = c.args.self.now in
     let fits : c.unlike_row-unlike.result < 2 ^ 64 = search rules in
     ap (λ (set : List Bool). column_at set c.args.column) c.from_word.ensures
-    ∙ itself_alike b.width c.columns.result c.unlike_row-unlike.result c.args.column c.requires.column b.columns fits c.columns.ensures c.unlike_row-unlike.ensures.0
+    ∙ itself_alike b.width c.columns.result c.unlike_row-unlike.result c.args.column c.requires.column b.columns fits
+    c.columns.ensures c.unlike_row-unlike.ensures.0
 
 pub returns-clause-alike : goal.returns-clause-alike
 returns-clause-alike c =
     let b = c.args.self.now in
     let fits : c.unlike_row-unlike.result < 2 ^ 64 = search rules in
-    let IsUnlike : ℕ → Type 0 = λ count. HasUnlikeOf b.planes.height c.args.row count b.planes.words.items c.args.column c.unlike_row-unlike.result in
+    let IsUnlike : ℕ → Type 0 =
+    λ count. HasUnlikeOf b.planes.height c.args.row count b.planes.words.items c.args.column
+    c.unlike_row-unlike.result in
     rw c.from_word.ensures
-    (columns_alike b.members.table.items b.width b.planes.height b.layers b.planes.words.items c.args.row c.args.column c.columns.result c.unlike_row-unlike.result c.requires.row c.requires.column b.columns fits
+    (columns_alike b.members.table.items b.width b.planes.height b.layers b.planes.words.items c.args.row c.args.column
+    c.columns.result c.unlike_row-unlike.result c.requires.row c.requires.column b.columns fits
     (subst IsUnlike c.count-objects.ensures.value c.unlike_row-unlike.ensures))

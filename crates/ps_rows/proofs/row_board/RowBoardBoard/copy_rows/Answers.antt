@@ -17,15 +17,21 @@ invariant_of-other-clause-objects c =
     let copied : List ℕ = c.copy_rows.new.other.words.items in
     let tables : o.members.table.items ≡ table = same_Some o.members.table.items table c.requires.table in
     let showing : AreObjectsShown table height o.planes.words.items (b.width * height) =
-    other_objects table o.members.table.items b.width o.width height o.planes.height o.planes.words.items tables c.requires.width c.requires.height o.objects in
-    let P : ℕ → Type 0 = λ count. AreRowsOf height 0 count c.args.rows b.planes.words.items o.planes.words.items copied in
-    let are : AreRowsOf height 0 (length table) c.args.rows b.planes.words.items o.planes.words.items copied = subst P c.count-objects.ensures.value c.copy_rows.ensures.words in
+    other_objects table o.members.table.items b.width o.width height o.planes.height o.planes.words.items tables
+    c.requires.width c.requires.height o.objects in
+    let P : ℕ →
+    Type 0 = λ count. AreRowsOf height 0 count c.args.rows b.planes.words.items o.planes.words.items copied in
+    let are : AreRowsOf height 0 (length table) c.args.rows b.planes.words.items o.planes.words.items copied =
+    subst P c.count-objects.ensures.value c.copy_rows.ensures.words in
     let whole : length copied ≡ motions_from table b.layers * height =
     sym c.copy_rows.new.other.words.ok.0 ∙ c.copy_rows.ensures.count
-    ∙ other_whole table o.members.table.items b.layers o.layers height o.planes.height o.planes.words.len tables c.requires.layers c.requires.height o.whole in
-    rw (c.clear_from.ensures.words, c.clear_from.ensures.height, c.copy_rows.ensures.height, c.count-objects.ensures.value, tables, c.requires.width)
+    ∙ other_whole table o.members.table.items b.layers o.layers height o.planes.height o.planes.words.len tables
+    c.requires.layers c.requires.height o.whole in
+    rw (c.clear_from.ensures.words, c.clear_from.ensures.height, c.copy_rows.ensures.height,
+    c.count-objects.ensures.value, tables, c.requires.width)
     (rested_objects table b.layers height (b.width * height) copied b.planes.some_row whole
-    (objects_copied table height c.args.rows b.planes.words.items o.planes.words.items copied b.planes.some_row are (b.width * height) b.objects showing))
+    (objects_copied table height c.args.rows b.planes.words.items o.planes.words.items copied b.planes.some_row are
+    (b.width * height) b.objects showing))
 
 pub invariant_of-other-clause-motions : goal.invariant_of-other-clause-motions
 invariant_of-other-clause-motions c =
@@ -37,19 +43,24 @@ invariant_of-other-clause-motions c =
     let tables : o.members.table.items ≡ table = same_Some o.members.table.items table c.requires.table in
     let whole : length copied ≡ motions_from table b.layers * height =
     sym c.copy_rows.new.other.words.ok.0 ∙ c.copy_rows.ensures.count
-    ∙ other_whole table o.members.table.items b.layers o.layers height o.planes.height o.planes.words.len tables c.requires.layers c.requires.height o.whole in
+    ∙ other_whole table o.members.table.items b.layers o.layers height o.planes.height o.planes.words.len tables
+    c.requires.layers c.requires.height o.whole in
     let so : c.clear_from.new.self.words.items ≡ cleared_from (length table * height) copied =
     c.clear_from.ensures.words ∙ rw (c.copy_rows.ensures.height, c.count-objects.ensures.value) refl in
     let high : c.clear_from.new.self.height ≡ height = c.clear_from.ensures.height ∙ c.copy_rows.ensures.height in
     let M : List ℕ → ℕ → ℕ → ℕ → List ℕ → Type 0 = λ t l w h words. AreMotionsShown t l h words (w * h) in
-    let rested : M table b.layers b.width height (cleared_from (length table * height) copied) = rested_motions table b.layers height (b.width * height) copied b.planes.some_row whole in
-    let written : M table b.layers b.width height c.clear_from.new.self.words.items = subst (λ (words : List ℕ). M table b.layers b.width height words) (sym so) rested in
+    let rested : M table b.layers b.width height (cleared_from (length table * height) copied) =
+    rested_motions table b.layers height (b.width * height) copied b.planes.some_row whole in
+    let written : M table b.layers b.width height c.clear_from.new.self.words.items =
+    subst (λ (words : List ℕ). M table b.layers b.width height words) (sym so) rested in
     let tabled : M o.members.table.items b.layers b.width height c.clear_from.new.self.words.items =
     subst (λ (t : List ℕ). M t b.layers b.width height c.clear_from.new.self.words.items) (sym tables) written in
     let layered : M o.members.table.items o.layers b.width height c.clear_from.new.self.words.items =
-    subst (λ (l : ℕ). M o.members.table.items l b.width height c.clear_from.new.self.words.items) (sym c.requires.layers) tabled in
+    subst (λ (l : ℕ). M o.members.table.items l b.width height c.clear_from.new.self.words.items)
+    (sym c.requires.layers) tabled in
     let wide : M o.members.table.items o.layers o.width height c.clear_from.new.self.words.items =
-    subst (λ (w : ℕ). M o.members.table.items o.layers w height c.clear_from.new.self.words.items) (sym c.requires.width) layered in
+    subst (λ (w : ℕ). M o.members.table.items o.layers w height c.clear_from.new.self.words.items)
+    (sym c.requires.width) layered in
     subst (λ (h : ℕ). M o.members.table.items o.layers o.width h c.clear_from.new.self.words.items) (sym high) wide
 
 pub returns-clause-grid : goal.returns-clause-grid
@@ -60,15 +71,20 @@ returns-clause-grid c =
     let height : ℕ = b.planes.height in
     let copied : List ℕ = c.copy_rows.new.other.words.items in
     let tables : o.members.table.items ≡ table = same_Some o.members.table.items table c.requires.table in
-    let P : ℕ → Type 0 = λ count. AreRowsOf height 0 count c.args.rows b.planes.words.items o.planes.words.items copied in
-    let are : AreRowsOf height 0 (length table) c.args.rows b.planes.words.items o.planes.words.items copied = subst P c.count-objects.ensures.value c.copy_rows.ensures.words in
+    let P : ℕ →
+    Type 0 = λ count. AreRowsOf height 0 count c.args.rows b.planes.words.items o.planes.words.items copied in
+    let are : AreRowsOf height 0 (length table) c.args.rows b.planes.words.items o.planes.words.items copied =
+    subst P c.count-objects.ensures.value c.copy_rows.ensures.words in
     let whole : length copied ≡ motions_from table b.layers * height =
     sym c.copy_rows.new.other.words.ok.0 ∙ c.copy_rows.ensures.count
-    ∙ other_whole table o.members.table.items b.layers o.layers height o.planes.height o.planes.words.len tables c.requires.layers c.requires.height o.whole in
-    let same : DifferOnlyOn c.args.rows (grid_shown table b.width height b.layers b.planes.words.items) (grid_shown table b.width height b.layers o.planes.words.items) =
+    ∙ other_whole table o.members.table.items b.layers o.layers height o.planes.height o.planes.words.len tables
+    c.requires.layers c.requires.height o.whole in
+    let same : DifferOnlyOn c.args.rows (grid_shown table b.width height b.layers b.planes.words.items)
+    (grid_shown table b.width height b.layers o.planes.words.items) =
     rw (tables, c.requires.width, c.requires.height, c.requires.layers) at c.requires.same in
     let so : c.clear_from.new.self.words.items ≡ cleared_from (length table * height) copied =
     c.clear_from.ensures.words ∙ rw (c.copy_rows.ensures.height, c.count-objects.ensures.value) refl in
     rw (c.clear_from.ensures.height, c.copy_rows.ensures.height, tables, c.requires.width, c.requires.layers)
-    (grid_copied table height c.args.rows b.planes.words.items o.planes.words.items copied b.planes.some_row are b.width b.layers same (sym b.planes.words.ok.0 ∙ b.whole) whole
+    (grid_copied table height c.args.rows b.planes.words.items o.planes.words.items copied b.planes.some_row are b.width
+    b.layers same (sym b.planes.words.ok.0 ∙ b.whole) whole
     c.clear_from.new.self.words.items so)

@@ -15,6 +15,8 @@ returns c =
     let b = c.args.self.now in
     let g : Grid = grid_shown b.members.table.items b.width b.planes.height b.layers b.planes.words.items in
     c.from_word.ensures
-    ∙ columns-agree (bit_is_set (bit_and c.columns.result c.object_row.result)) (λ x. slot_holds c.args.object (slot_at g (x * b.planes.height + c.args.row) c.args.layer.0))
+    ∙ columns-agree (bit_is_set (bit_and c.columns.result c.object_row.result))
+    (λ x. slot_holds c.args.object (slot_at g (x * b.planes.height + c.args.row) c.args.layer.0))
     (row_cut g c.args.row c.args.layer.0 c.columns.result c.object_row.result (slot_holds c.args.object)
-    (cells_long b.members.table.items b.layers b.planes.height b.planes.words.items (b.width * b.planes.height)) c.columns.ensures c.object_row.ensures refl)
+    (cells_long b.members.table.items b.layers b.planes.height b.planes.words.items (b.width * b.planes.height))
+    c.columns.ensures c.object_row.ensures refl)

@@ -16,6 +16,9 @@ returns c =
     let g : Grid = grid_shown b.members.table.items b.width b.planes.height b.layers b.planes.words.items in
     let fits : c.motion_row.result < 2 ^ 64 = search rules in
     c.from_word.ensures
-    ∙ columns-agree (bit_is_set (bit_and c.columns.result (18446744073709551615 - c.motion_row.result))) (λ x. is_moving (slot_at g (x * b.planes.height + c.args.row) c.args.layer.0))
-    (movers_cut g c.args.row c.args.layer.0 c.columns.result c.motion_row.result (cells_long b.members.table.items b.layers b.planes.height b.planes.words.items (b.width * b.planes.height)) b.columns fits
+    ∙ columns-agree (bit_is_set (bit_and c.columns.result (18446744073709551615 - c.motion_row.result)))
+    (λ x. is_moving (slot_at g (x * b.planes.height + c.args.row) c.args.layer.0))
+    (movers_cut g c.args.row c.args.layer.0 c.columns.result c.motion_row.result
+    (cells_long b.members.table.items b.layers b.planes.height b.planes.words.items (b.width * b.planes.height))
+    b.columns fits
     c.columns.ensures c.motion_row.ensures)

@@ -19,17 +19,23 @@ pub returns-then-word-eq0-clause-rewritten : goal.returns-then-word-eq0-clause-r
 returns-then-word-eq0-clause-rewritten c =
     let b = c.args.self.now in
     let start : Grid = grid_shown b.members.table.items b.width b.planes.height b.layers b.planes.words.items in
-    let becomes : List Slot → List Slot = cell_written (write_in_room (Some b.members.table.items) (write_shown c.args.write.now)) in
+    let becomes : List Slot → List Slot =
+    cell_written (write_in_room (Some b.members.table.items) (write_shown c.args.write.now)) in
     let narrow : c.size-width.result.0 ≤ 64 = omega (arith, b.columns, c.size-width.ensures.width) in
-    set_empty c.size-width.result.0 c.word.result c.columns.result c.args.columns narrow c.columns.ensures start becomes c.args.row (sym c.size-width.ensures.width) c.requires
-    (cells_long b.members.table.items b.layers b.planes.height b.planes.words.items (b.width * b.planes.height)) c.word.ensures c.if-word-eq0.true
+    set_empty c.size-width.result.0 c.word.result c.columns.result c.args.columns narrow c.columns.ensures start becomes
+    c.args.row (sym c.size-width.ensures.width) c.requires
+    (cells_long b.members.table.items b.layers b.planes.height b.planes.words.items (b.width * b.planes.height))
+    c.word.ensures c.if-word-eq0.true
 
 pub returns-clause-rewritten : goal.returns-clause-rewritten
 returns-clause-rewritten c =
     let b = c.args.self.now in
     let start : Grid = grid_shown b.members.table.items b.width b.planes.height b.layers b.planes.words.items in
-    let becomes : List Slot → List Slot = cell_written (write_in_room (Some b.members.table.items) (write_shown c.args.write.now)) in
+    let becomes : List Slot → List Slot =
+    cell_written (write_in_room (Some b.members.table.items) (write_shown c.args.write.now)) in
     let narrow : c.size-width.result.0 ≤ 64 = omega (arith, b.columns, c.size-width.ensures.width) in
     c.write_columns.ensures.rewritten
-    ∙ set_rewritten c.size-width.result.0 c.word.result c.columns.result c.args.columns narrow c.columns.ensures start becomes c.args.row (sym c.size-width.ensures.width) c.requires
-    (cells_long b.members.table.items b.layers b.planes.height b.planes.words.items (b.width * b.planes.height)) c.word.ensures
+    ∙ set_rewritten c.size-width.result.0 c.word.result c.columns.result c.args.columns narrow c.columns.ensures start
+    becomes c.args.row (sym c.size-width.ensures.width) c.requires
+    (cells_long b.members.table.items b.layers b.planes.height b.planes.words.items (b.width * b.planes.height))
+    c.word.ensures

@@ -15,8 +15,11 @@ use Rattle.ps_rows.proofs.row_scan.RowBoardScan.write.Goals as goal
 pub write_columns-here-requires-clause-within : goal.write_columns-here-requires-clause-within
 write_columns-here-requires-clause-within c =
     let b = c.args.self.now in
-    let inside : c.args.cell < b.width * b.planes.height = rw (c.size-width.ensures.width, c.size-width.ensures.height) at c.if-width-height.false in
-    rw c.size-width.ensures.height (alone_within b.width (c.args.cell / b.planes.height) (div_below c.args.cell b.planes.height b.width b.planes.some_row inside) b.columns)
+    let inside : c.args.cell < b.width * b.planes.height =
+    rw (c.size-width.ensures.width, c.size-width.ensures.height) at c.if-width-height.false in
+    rw c.size-width.ensures.height
+    (alone_within b.width (c.args.cell / b.planes.height)
+    (div_below c.args.cell b.planes.height b.width b.planes.some_row inside) b.columns)
 
 pub returns-clause-rewritten : goal.returns-clause-rewritten
 returns-clause-rewritten c =
@@ -24,10 +27,16 @@ returns-clause-rewritten c =
     let cell : ℕ = c.args.cell in
     let start : Grid = grid_shown b.members.table.items b.width b.planes.height b.layers b.planes.words.items in
     let after = c.write_columns-here.new.self in
-    let next : Grid = grid_shown after.members.table.items after.width after.planes.height after.layers after.planes.words.items in
+    let next : Grid = grid_shown after.members.table.items after.width after.planes.height after.layers
+    after.planes.words.items in
     let write : CellWrite = write_in_room (Some b.members.table.items) (write_shown c.args.write.now) in
-    let inside : cell < b.width * b.planes.height = rw (c.size-width.ensures.width, c.size-width.ensures.height) at c.if-width-height.false in
+    let inside : cell < b.width * b.planes.height =
+    rw (c.size-width.ensures.width, c.size-width.ensures.height) at c.if-width-height.false in
     let here : Rewritten = record { grid = next; changed = c.write_columns-here.result } in
-    let P : ℕ → Type 0 = λ h. here ≡ rewritten_where start (cell_written write) (in_columns b.planes.height (cell % h) (column_alone (cell / h))) in
-    cell_rewritten start cell b.planes.some_row b.columns (cells_long b.members.table.items b.layers b.planes.height b.planes.words.items (b.width * b.planes.height)) inside write c.args.changed
+    let P : ℕ →
+    Type 0 = λ h. here ≡ rewritten_where start (cell_written write)
+    (in_columns b.planes.height (cell % h) (column_alone (cell / h))) in
+    cell_rewritten start cell b.planes.some_row b.columns
+    (cells_long b.members.table.items b.layers b.planes.height b.planes.words.items (b.width * b.planes.height)) inside
+    write c.args.changed
     c.write_columns-here.result next (subst P c.size-width.ensures.height c.write_columns-here.ensures.rewritten)

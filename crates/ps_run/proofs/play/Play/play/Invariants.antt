@@ -9,7 +9,8 @@ use Rattle.ps_run.proofs.play.Play.play.Given as goal
 -- the bytes read so far are played
 abbrev pub invariant-loop-call : goal.invariant-loop-call
 invariant-loop-call g l =
-    let script : Script = script_for g.B.Board.table_for l.fn.self.session.game (g.R.Rules.meant l.fn.self.rules.plain) (g.R.Rules.meant l.fn.self.rules.late) in
+    let script : Script = script_for g.B.Board.table_for l.fn.self.session.game (g.R.Rules.meant l.fn.self.rules.plain)
+    (g.R.Rules.meant l.fn.self.rules.late) in
     let had : ReaderState = g.I.ByteReader.state l.fn.reader in
     let has : ReaderState = g.I.ByteReader.state l.reader in
     let from : WriterState = g.W.ByteWriter.state l.fn.writer in

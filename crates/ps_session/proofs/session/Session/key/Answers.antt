@@ -9,8 +9,11 @@ pub invariant_of-self-2 : goal.invariant_of-self-2
 invariant_of-self-2 g c =
     let table : Option (List ℕ) = g.B.Board.table_for c.self.inside.stage.game.names.layers in
     let game : c.commit.new.stage.game ≡ c.self.inside.stage.game =
-    ap (λ (stage : StageValue). stage.game) c.commit.ensures.stage ∙ c.in_ok-next.ensures.game ∙ c.forget_text.ensures.game in
+    ap (λ (stage : StageValue). stage.game) c.commit.ensures.stage ∙ c.move_text.ensures.game
+    ∙ c.in_ok-next.ensures.game ∙ c.forget_text.ensures.game in
     let here : IsOnTable table c.next_at.new.location = rw c.in_ok-next.ensures.same c.self.invariant.1.0 in
-    let answers : AnswersOnTable table c.in_ok-next.next = rw (← c.forget_text.ensures.game) c.in_ok-next.ensures.table in
+    let answers : AnswersOnTable table c.in_ok-next.next =
+    rw (← c.forget_text.ensures.game) c.in_ok-next.ensures.table in
     let comes : AnswersOnTable table (Some c.in-Some.next) = subst (AnswersOnTable table) c.in-Some.is answers in
-    rw game (c.commit.ensures.limit, (c.commit.ensures.location table here comes, c.commit.ensures.boards table c.self.invariant.1.1 here))
+    rw game (c.commit.ensures.limit,
+    (c.commit.ensures.location table here comes, c.commit.ensures.boards table c.self.invariant.1.1 here))

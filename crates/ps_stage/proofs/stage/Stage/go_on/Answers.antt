@@ -9,6 +9,9 @@ use Rattle.ps_stage.proofs.stage.Stage.go_on.Goals as goal
 
 pub returns-in_ok-location-in-LevelDone-clause-came : goal.returns-in_ok-location-in-LevelDone-clause-came
 returns-in_ok-location-in-LevelDone-clause-came g c history =
-    let script : Script = script_for g.B.Board.table_for c.args.self.now.game (g.R.Rules.meant c.args.rules.now.plain) (g.R.Rules.meant c.args.rules.now.late) in
-    ap (λ (pending : Pending). after c.args.self.now.text (gone_on script (play_of history c.args.level.now) (pending_shown pending))) c.in-LevelDone.is
+    let script : Script = script_for g.B.Board.table_for c.args.self.now.game (g.R.Rules.meant c.args.rules.now.plain)
+    (g.R.Rules.meant c.args.rules.now.late) in
+    ap (λ (pending : Pending).
+    after c.args.self.now.text (gone_on script (play_of history c.args.level.now) (pending_shown pending)))
+    c.in-LevelDone.is
     ∙ c.in_ok-location-in-LevelDone.ensures.came history

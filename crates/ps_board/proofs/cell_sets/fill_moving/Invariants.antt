@@ -1,19 +1,19 @@
 use Rattle.std.proofs.Common.{◌≡◌, length}
 use Rattle.std.specs.List.{list_any}
-use Rattle.ps_model.specs.declared.limits.TheConstants.{SIDE_LIMIT}
 use Rattle.ps_board.specs.ColumnSets.{set_columns}
+use Rattle.ps_board.specs.RowsOfGrids.{is_moving}
 use Rattle.ps_board.proofs.RowByRow.{IsRowOf}
 use Rattle.ps_board.proofs.Taken.{AreBelow, ArePassed}
-use Rattle.ps_turn.specs.Sweeps.{holds_any}
-use Rattle.ps_turn.proofs.standing.cells_with.Given as goal
+use Rattle.ps_board.proofs.cell_sets.fill_moving.Given as goal
 
 -- the cells of the rows that aren't left
 abbrev pub invariant-loop-row : goal.invariant-loop-row
 invariant-loop-row g l =
     record {
       low : AreBelow (g.B.Board.grid l.board).height l.left;
-      passed : ArePassed (IsRowOf (list_any (holds_any l.objects)) (g.B.Board.grid l.board) l.rows) (g.B.Board.grid l.board).height l.left;
-      long : length l.rows ≡ SIDE_LIMIT;
+      passed : ArePassed (IsRowOf (list_any is_moving) (g.B.Board.grid l.board) l.rows) (g.B.Board.grid l.board).height
+      l.left;
+      long : length l.rows ≡ (g.B.Board.grid l.board).height;
     }
 
 abbrev pub decreases-loop-row : goal.decreases-loop-row
