@@ -25,7 +25,7 @@ use std::alloc::Global;
 ///
 /// A board may keep the layer of each object of its game, and then an object may be put on its own layer alone. What
 /// stands on a layer may be put on the same layer elsewhere.
-pub trait Board: Drop {
+pub trait Board<const WORDS: usize>: Drop {
     /// What the board shows.
     ghost grid: { Self → Grid };
 
@@ -109,30 +109,30 @@ pub trait Board: Drop {
         ensures { result ≡ same_cells (grid self.now).cells (grid other.now).cells };
 
     /// The columns of a row in which the object on a layer is about to do something.
-    fn movers(&self, layer: LayerId, row: u32) -> Columns
+    fn movers(&self, layer: LayerId, row: u32) -> Columns<WORDS>
         requires layer { layer.0 < (grid self.now).layers }
         requires row { row < (grid self.now).height }
         ensures { result ≡ row_movers (grid self.now) layer.0 row };
 
     /// The columns of a row in which an object stands on a layer.
-    fn holders(&self, object: ObjectId, layer: LayerId, row: u32) -> Columns
+    fn holders(&self, object: ObjectId, layer: LayerId, row: u32) -> Columns<WORDS>
         requires layer { layer.0 < (grid self.now).layers }
         requires row { row < (grid self.now).height }
         ensures { result ≡ row_holders (grid self.now) object layer.0 row };
 
     /// Rows, as a set of their numbers, without which nothing on the board is about to move or to act. There may be
     /// more of them, and all of them, as a board needn't look for it.
-    fn rows_moving_any(&self) -> Columns
+    fn rows_moving_any(&self) -> Columns<WORDS>
         ensures { PassOnlyOn is_moving (grid self.now) result };
 
     /// Rows, as a set of their numbers, without which an object stands nowhere, on whatever layer. There may be more of
     /// them, and all of them, as a board needn't look for it.
-    fn rows_holding(&self, object: ObjectId) -> Columns
+    fn rows_holding(&self, object: ObjectId) -> Columns<WORDS>
         ensures { PassOnlyOn (slot_holds object) (grid self.now) result };
 
     /// Columns of a row whose cells show the same objects, at rest or not, as one of them does, itself among them.
     /// There may be others, as a board needn't look for them.
-    fn alike(&self, row: u32, column: u32) -> Columns
+    fn alike(&self, row: u32, column: u32) -> Columns<WORDS>
         requires row { row < (grid self.now).height }
         requires column { column < (grid self.now).width }
         ensures own { column_at result column ≡ true }
@@ -148,7 +148,7 @@ pub trait Board: Drop {
     /// The columns of a row whose cells may show other objects, at rest or not, than on another board of the same size,
     /// with as many layers and the same room. The cells of all other columns show the same; a board may name columns
     /// that do.
-    fn differing(&self, other: &Self, row: u32) -> Columns
+    fn differing(&self, other: &Self, row: u32) -> Columns<WORDS>
         requires row { row < (grid self.now).height }
         requires width { (grid other.now).width ≡ (grid self.now).width }
         requires height { (grid other.now).height ≡ (grid self.now).height }
@@ -159,7 +159,7 @@ pub trait Board: Drop {
     /// Rows, as a set of their numbers, outside of which another board of the same size, with as many layers and the
     /// same room, shows the same objects, at rest or not. There may be more of them, and all of them, as a board
     /// needn't look for it.
-    fn rows_differing(&self, other: &Self) -> Columns
+    fn rows_differing(&self, other: &Self) -> Columns<WORDS>
         requires width { (grid other.now).width ≡ (grid self.now).width }
         requires height { (grid other.now).height ≡ (grid self.now).height }
         requires layers { (grid other.now).layers ≡ (grid self.now).layers }
@@ -168,7 +168,7 @@ pub trait Board: Drop {
 
     /// Makes another board of the same size, with as many layers and the same room, show what this one does, at rest.
     /// Outside of these rows the other board shows the same objects already.
-    fn copy_rows(&self, other: &mut Self, rows: Columns)
+    fn copy_rows(&self, other: &mut Self, rows: Columns<WORDS>)
         requires width { (grid other.old).width ≡ (grid self.now).width }
         requires height { (grid other.old).height ≡ (grid self.now).height }
         requires layers { (grid other.old).layers ≡ (grid self.now).layers }
@@ -181,7 +181,7 @@ pub trait Board: Drop {
 /// Recalls that a board has the shape of one: from 1 to 64 columns and rows, from 1 to 32 layers, and as many cells and
 /// slots as these say. A proof about the cells of a board that was passed in needs it, and learns it from a call alone.
 /// Nothing is done when it runs.
-pub fn recall_shape<B: Board>(board: &B)
+pub fn recall_shape<const WORDS: usize, B: Board<WORDS>>(board: &B)
     ensures { IsGrid (B.grid board.now) }
 {
     let (_width, _height) = board.size();

@@ -13,170 +13,200 @@ use std::marker::Model;
 /// How many truth values a word holds.
 pub const WORD_BITS: u32 = 64;
 
-/// A set of columns of one row of a board. Contracts see a list of `SIDE_LIMIT` truth values, value `x` for column `x`;
-/// columns beyond those are in no set.
+/// How many words a set has at most.
+pub const WORDS_LIMIT: usize = 4;
+
+/// A set of columns of one row of a board.
 #[derive(Clone, Copy, Debug)]
-pub struct Columns {
-    bits: u64,
+pub struct Columns<const WORDS: usize> {
+    words: [u64; WORDS],
 }
 
-impl Model for Columns {
-    ghost use Rattle.std.specs.Prelude.{Bool, List};
-    ghost use Rattle.std.specs.Prelude.{ℕ, ◌<◌, ◌^◌};
-    ghost use Rattle.std.proofs.Common.{ap};
-    ghost use Rattle.ps_board.specs.ColumnSets.{columns_word, word_columns};
-    ghost use Rattle.ps_board.specs.WordsOfColumns.{columns_word-of};
-
-    ghost Value = { List Bool };
-
-    ghost view = { λ c. word_columns c.bits };
-
-    ghost invariant = { λ c. c.bits < 2 ^ 64 };
-
-    ghost inverse = { λ columns. record { bits = columns_word columns } };
-
-    ghost inverse_ok = { λ c within.
-        ap (λ (word : ℕ). let same : Inside = record { bits = word } in same) (columns_word-of c.bits within) };
+/// The bits of a word below a number.
+fn word_below(count: u32) -> u64 {
+    if count == 0 {
+        return 0;
+    }
+    if WORD_BITS <= count {
+        return u64::MAX;
+    }
+    u64::MAX >> (WORD_BITS - count)
 }
 
-impl Columns {
+/// One of several words; zero, where there is none.
+fn word_or_zero(words: &[u64], index: usize) -> u64 {
+    if index < words.len() {
+        return words[index];
+    }
+    0
+}
+
+/// The word that stands at an index when all bits move down.
+fn word_behind(words: &[u64], index: usize, count: u32) -> u64 {
+    let from = index + (count / WORD_BITS) as usize;
+    let low = word_or_zero(words, from) >> (count % WORD_BITS);
+    if count % WORD_BITS == 0 {
+        return low;
+    }
+    low | word_or_zero(words, from + 1) << (WORD_BITS - count % WORD_BITS)
+}
+
+/// The word that stands at an index when all bits move up.
+fn word_ahead(words: &[u64], index: usize, count: u32) -> u64 {
+    let steps = (count / WORD_BITS) as usize;
+    if index < steps {
+        return 0;
+    }
+    let high = words[index - steps] << (count % WORD_BITS);
+    if count % WORD_BITS == 0 || index == steps {
+        return high;
+    }
+    high | words[index - steps - 1] >> (WORD_BITS - count % WORD_BITS)
+}
+
+impl<const WORDS: usize> Columns<WORDS> {
     /// No column.
-    pub fn none() -> Columns
-        ensures { result ≡ no_columns }
-    {
-        Columns { bits: 0 }
+    pub fn none() -> Columns<WORDS> {
+        Columns { words: [0; WORDS] }
     }
 
-    /// The columns below a number, all of them from `SIDE_LIMIT` on.
-    pub fn below(count: u32) -> Columns
-        ensures { result ≡ columns_below count }
-    {
-        if count == 0 {
-            return Columns { bits: 0 };
+    /// The columns below a number.
+    pub fn below(count: u32) -> Columns<WORDS> {
+        let mut words = [0; WORDS];
+        let mut first = 0;
+        for index in 0..WORDS {
+            words[index] = word_below(count.saturating_sub(first));
+            first = first.saturating_add(WORD_BITS);
         }
-        if SIDE_LIMIT <= count {
-            return Columns { bits: u64::MAX };
-        }
-        Columns {
-            bits: u64::MAX >> (WORD_BITS - count),
-        }
-    }
-
-    /// The columns whose bits are set in a word, column 0 its lowest bit.
-    pub fn from_word(word: u64) -> Columns
-        ensures { result ≡ word_columns word }
-    {
-        Columns { bits: word }
+        Columns { words }
     }
 
     /// Whether a column is in the set.
-    pub fn has(&self, column: u32) -> bool
-        ensures { result ≡ column_at self.now column }
-    {
-        let bits = self.bits;
-        if SIDE_LIMIT <= column {
+    pub fn has(&self, column: u32) -> bool {
+        let index = (column / WORD_BITS) as usize;
+        if WORDS <= index {
             return false;
         }
-        (bits >> column) & 1 == 1
+        (self.words[index] >> (column % WORD_BITS)) & 1 == 1
     }
 
     /// Whether no column is in the set.
-    pub fn is_empty(&self) -> bool
-        ensures none { result ≡ true → set_columns self.now ≡ [] }
-        ensures some { result ≡ false → 0 < length (set_columns self.now) }
-    {
-        self.bits == 0
+    pub fn is_empty(&self) -> bool {
+        let mut all = 0;
+        for index in 0..WORDS {
+            all |= self.words[index];
+        }
+        all == 0
     }
 
     /// The set with a column in it, or without it; no column beyond the last one is in a set.
-    pub fn with(self, column: u32, set: bool) -> Columns
-        ensures { result ≡ with_column self column set }
-    {
-        if SIDE_LIMIT <= column {
+    pub fn with(self, column: u32, set: bool) -> Columns<WORDS> {
+        let index = (column / WORD_BITS) as usize;
+        if WORDS <= index {
             return self;
         }
+        let mut words = self.words;
+        let bit = 1 << (column % WORD_BITS);
         if set {
-            return Columns {
-                bits: self.bits | (1 << column),
-            };
+            words[index] |= bit;
+        } else {
+            words[index] &= !bit;
         }
-        Columns {
-            bits: self.bits & !(1 << column),
-        }
+        Columns { words }
     }
 
     /// The columns that are in both sets.
-    pub fn both(self, other: Columns) -> Columns
-        ensures { result ≡ both_columns self other }
-    {
-        Columns {
-            bits: self.bits & other.bits,
+    pub fn both(self, other: Columns<WORDS>) -> Columns<WORDS> {
+        let mut words = self.words;
+        for index in 0..WORDS {
+            words[index] &= other.words[index];
         }
+        Columns { words }
     }
 
     /// The columns that are in one of the sets at least.
-    pub fn either(self, other: Columns) -> Columns
-        ensures { result ≡ either_columns self other }
-    {
-        Columns {
-            bits: self.bits | other.bits,
+    pub fn either(self, other: Columns<WORDS>) -> Columns<WORDS> {
+        let mut words = self.words;
+        for index in 0..WORDS {
+            words[index] |= other.words[index];
         }
+        Columns { words }
     }
 
     /// The columns of the set that aren't in another.
-    pub fn without(self, other: Columns) -> Columns
-        ensures { result ≡ columns_without self other }
-    {
-        Columns {
-            bits: self.bits & !other.bits,
+    pub fn without(self, other: Columns<WORDS>) -> Columns<WORDS> {
+        let mut words = self.words;
+        for index in 0..WORDS {
+            words[index] &= !other.words[index];
         }
+        Columns { words }
+    }
+
+    /// The columns that are in one of the sets alone.
+    pub fn unlike(self, other: Columns<WORDS>) -> Columns<WORDS> {
+        let mut words = self.words;
+        for index in 0..WORDS {
+            words[index] ^= other.words[index];
+        }
+        Columns { words }
     }
 
     /// The columns so many of whose neighbours to the right on is in the set: each one moves left by `count`.
-    pub fn behind(self, count: u32) -> Columns
-        ensures { result ≡ columns_behind self count }
-    {
-        let bits = self.bits;
-        if SIDE_LIMIT <= count {
-            return Columns { bits: 0 };
+    pub fn behind(self, count: u32) -> Columns<WORDS> {
+        let mut words = [0; WORDS];
+        for index in 0..WORDS {
+            words[index] = word_behind(&self.words, index, count);
         }
-        Columns {
-            bits: bits >> count,
-        }
+        Columns { words }
     }
 
     /// The columns so many of whose neighbours to the left on is in the set: each one moves right by `count`, and none
     /// stays that would move beyond the last one.
-    pub fn ahead(self, count: u32) -> Columns
-        ensures { result ≡ columns_ahead self count }
-    {
-        let bits = self.bits;
-        if SIDE_LIMIT <= count {
-            return Columns { bits: 0 };
+    pub fn ahead(self, count: u32) -> Columns<WORDS> {
+        let mut words = [0; WORDS];
+        for index in 0..WORDS {
+            words[index] = word_ahead(&self.words, index, count);
         }
-        Columns {
-            bits: bits << count,
-        }
+        Columns { words }
     }
 
-    /// The word whose set bits are the columns, column 0 its lowest bit.
-    pub fn word(self) -> u64
-        ensures { word_columns result ≡ self }
-    {
-        self.bits
+    /// All columns up to the last one of the set.
+    pub fn up_to_last(self) -> Columns<WORDS> {
+        let mut words = [0; WORDS];
+        let mut beyond = false;
+        let mut left = WORDS;
+        while 0 < left {
+            left -= 1;
+            let word = self.words[left];
+            if beyond {
+                words[left] = u64::MAX;
+            } else if word != 0 {
+                words[left] = u64::MAX >> word.leading_zeros();
+                beyond = true;
+            }
+        }
+        Columns { words }
+    }
+
+    /// Whether both sets are the same.
+    pub fn same(&self, other: &Columns<WORDS>) -> bool {
+        let mut differ = 0;
+        for index in 0..WORDS {
+            differ |= self.words[index] ^ other.words[index];
+        }
+        differ == 0
     }
 
     /// Takes the leftmost column out of the set; nothing, where there is none.
-    pub fn take_first(&mut self) -> Option<u32>
-        ensures some { IfSome result (λ first. set_columns self.old ≡ first ∷ set_columns self.new) }
-        ensures within { IfSome result (λ first. first < SIDE_LIMIT) }
-        ensures none { result ≡ None → set_columns self.old ≡ [] }
-    {
-        if self.bits == 0 {
-            return None;
+    pub fn take_first(&mut self) -> Option<u32> {
+        for index in 0..WORDS {
+            let word = self.words[index];
+            if word != 0 {
+                let first = word.trailing_zeros();
+                self.words[index] = word & (word - 1);
+                return Some(index as u32 * WORD_BITS + first);
+            }
         }
-        let first = self.bits.trailing_zeros();
-        self.bits &= !(1 << first);
-        Some(first)
+        None
     }
 }

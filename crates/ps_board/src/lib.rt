@@ -11,6 +11,6 @@ mod slots;
 
 pub use board::{Board, recall_shape};
 pub use cell_sets::CellSet;
-pub use columns::{Columns, WORD_BITS};
+pub use columns::{Columns, WORDS_LIMIT, WORD_BITS};
 pub use list_board::ListBoard;
 pub use ps_model::{Direction, LayerId, Memory, Motion, ObjectId, Slot};

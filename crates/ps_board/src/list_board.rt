@@ -8,7 +8,7 @@ ghost use Rattle.ps_model.specs.declared.limits.TheConstants.{LAYER_LIMIT, SIDE_
 ghost use Rattle.ps_model.specs.session.Frames.{objects_in};
 
 use crate::board::Board;
-use crate::columns::Columns;
+use crate::columns::{Columns, WORDS_LIMIT};
 use crate::slots::{is_moving, same_slots, slot_holds};
 use ps_model::{LayerId, Memory, Motion, ObjectId, Slot};
 use std::alloc::Global;
@@ -45,7 +45,7 @@ impl ListBoard {
     fn slot(&self, cell: u32, layer: LayerId) -> Slot
         requires cell { cell < self.now.width * self.now.height }
         requires layer { layer.0 < self.now.layers }
-        ensures { result ≡ slot_at (⟦<ListBoard as Board>⟧.grid self.now) cell layer.0 }
+        ensures { result ≡ slot_at (⟦<ListBoard as Board<WORDS_LIMIT>>⟧.grid self.now) cell layer.0 }
     {
         self.slots[self.place(cell, layer)]
     }
@@ -53,7 +53,7 @@ impl ListBoard {
     /// The slots of a cell.
     fn cell_slots(&self, cell: u32) -> &[Slot]
         requires { cell < self.now.width * self.now.height }
-        ensures cell { result.now ≡ cell_at (⟦<ListBoard as Board>⟧.grid self.now) cell }
+        ensures cell { result.now ≡ cell_at (⟦<ListBoard as Board<WORDS_LIMIT>>⟧.grid self.now) cell }
         ensures whole { length result.now ≡ self.now.layers }
     {
         let start = self.place(cell, LayerId(0));
@@ -66,8 +66,8 @@ impl ListBoard {
         requires width { other.now.width ≡ self.now.width }
         requires height { other.now.height ≡ self.now.height }
         requires layers { other.now.layers ≡ self.now.layers }
-        ensures { result ≡ true → objects_in (cell_at (⟦<ListBoard as Board>⟧.grid self.now) cell)
-            ≡ objects_in (cell_at (⟦<ListBoard as Board>⟧.grid other.now) cell) }
+        ensures { result ≡ true → objects_in (cell_at (⟦<ListBoard as Board<WORDS_LIMIT>>⟧.grid self.now) cell)
+            ≡ objects_in (cell_at (⟦<ListBoard as Board<WORDS_LIMIT>>⟧.grid other.now) cell) }
     {
         same_slots(self.cell_slots(cell), other.cell_slots(cell))
     }
@@ -105,7 +105,7 @@ fn slot_with(object: Option<ObjectId>, motion: Motion) -> Slot
     }
 }
 
-impl Board for ListBoard {
+impl Board<WORDS_LIMIT> for ListBoard {
     ghost grid = { λ b. record {
       width = b.width;
       height = b.height;
@@ -186,7 +186,7 @@ impl Board for ListBoard {
         same_slots(self.slots.as_slice(), other.slots.as_slice())
     }
 
-    fn movers(&self, layer: LayerId, row: u32) -> Columns {
+    fn movers(&self, layer: LayerId, row: u32) -> Columns<WORDS_LIMIT> {
         let mut moving = Columns::none();
         for column in 0..self.width {
             let slot = self.slot(column * self.height + row, layer);
@@ -195,7 +195,7 @@ impl Board for ListBoard {
         moving
     }
 
-    fn holders(&self, object: ObjectId, layer: LayerId, row: u32) -> Columns {
+    fn holders(&self, object: ObjectId, layer: LayerId, row: u32) -> Columns<WORDS_LIMIT> {
         let mut holding = Columns::none();
         for column in 0..self.width {
             let slot = self.slot(column * self.height + row, layer);
@@ -205,17 +205,17 @@ impl Board for ListBoard {
     }
 
     /// All rows: to know which, this board would have to look at each cell.
-    fn rows_moving_any(&self) -> Columns {
+    fn rows_moving_any(&self) -> Columns<WORDS_LIMIT> {
         Columns::below(self.height)
     }
 
     /// All rows, likewise.
-    fn rows_holding(&self, _object: ObjectId) -> Columns {
+    fn rows_holding(&self, _object: ObjectId) -> Columns<WORDS_LIMIT> {
         Columns::below(self.height)
     }
 
     /// That column alone.
-    fn alike(&self, _row: u32, column: u32) -> Columns {
+    fn alike(&self, _row: u32, column: u32) -> Columns<WORDS_LIMIT> {
         Columns::none().with(column, true)
     }
 
@@ -223,7 +223,7 @@ impl Board for ListBoard {
         self.width == other.width && self.height == other.height && self.layers == other.layers
     }
 
-    fn differing(&self, other: &ListBoard, row: u32) -> Columns {
+    fn differing(&self, other: &ListBoard, row: u32) -> Columns<WORDS_LIMIT> {
         let mut differing = Columns::none();
         for column in 0..self.width {
             let same = self.same_cell(other, column * self.height + row);
@@ -233,12 +233,12 @@ impl Board for ListBoard {
     }
 
     /// All rows, likewise.
-    fn rows_differing(&self, _other: &ListBoard) -> Columns {
+    fn rows_differing(&self, _other: &ListBoard) -> Columns<WORDS_LIMIT> {
         Columns::below(self.height)
     }
 
     /// The whole board is copied.
-    fn copy_rows(&self, other: &mut ListBoard, _rows: Columns) {
+    fn copy_rows(&self, other: &mut ListBoard, _rows: Columns<WORDS_LIMIT>) {
         self.copy_into(other);
         other.clear_moves();
     }

@@ -19,7 +19,7 @@ use ps_program::CompiledRule;
 
 /// Whether the board knows that nothing has a motion which a rule asks for; then the rule has no combination. No memory
 /// is taken.
-fn lacks_motion<B: Scan>(board: &B, rule: &CompiledRule) -> bool
+fn lacks_motion<const WORDS: usize, B: Scan<WORDS>>(board: &B, rule: &CompiledRule) -> bool
     ensures { result ≡ true →
         combinations_on (B.grid board.now) (rule_meaning (B.table board.now) rule.now) ≡ [] }
 {
@@ -34,7 +34,7 @@ fn lacks_motion<B: Scan>(board: &B, rule: &CompiledRule) -> bool
 
 /// Whether the board knows that an object which a rule needs is nowhere; then the rule has no combination. No memory is
 /// taken.
-fn lacks_object<B: Scan>(board: &B, rule: &CompiledRule) -> bool
+fn lacks_object<const WORDS: usize, B: Scan<WORDS>>(board: &B, rule: &CompiledRule) -> bool
     ensures { result ≡ true →
         combinations_on (B.grid board.now) (rule_meaning (B.table board.now) rule.now) ≡ [] }
 {
@@ -48,7 +48,7 @@ fn lacks_object<B: Scan>(board: &B, rule: &CompiledRule) -> bool
 
 /// Whether the board knows that it lacks what a rule asks for; then the rule has no combination. Motions come first: in
 /// most attempts nothing moves as it is asked for. No memory is taken.
-fn lacks_needed<B: Scan>(board: &B, rule: &CompiledRule) -> bool
+fn lacks_needed<const WORDS: usize, B: Scan<WORDS>>(board: &B, rule: &CompiledRule) -> bool
     ensures { result ≡ true →
         combinations_on (B.grid board.now) (rule_meaning (B.table board.now) rule.now) ≡ [] }
 {
@@ -60,7 +60,7 @@ fn lacks_needed<B: Scan>(board: &B, rule: &CompiledRule) -> bool
 
 /// Finds where each row of a rule fits on the board as it is, and chooses the first place of each. Answers whether
 /// each row has one: whether the rule has a combination.
-fn choose_first<'r, B: Scan>(board: &B, rule: &CompiledRule<'r>, rooms: &mut [RowRoom]) -> bool
+fn choose_first<'r, const WORDS: usize, B: Scan<WORDS>>(board: &B, rule: &CompiledRule<'r>, rooms: &mut [RowRoom<WORDS>]) -> bool
     requires { length rule.now.rows ≤ length rooms.old }
     ensures found { let choices = choices_of (B.grid board.now).height rule.now.rows rooms.new in
         result ≡ true →
@@ -89,11 +89,11 @@ fn choose_first<'r, B: Scan>(board: &B, rule: &CompiledRule<'r>, rooms: &mut [Ro
 /// An attempt of a rule that rewrites cells, its combinations walked one after the other: each is applied if every row
 /// still fits, and the rule's commands enter the queue, if it has one. Answers whether a cell changed. No memory is
 /// taken.
-pub fn attempt_rows<'r, B: Scan>(
+pub fn attempt_rows<'r, const WORDS: usize, B: Scan<WORDS>>(
     rule: &CompiledRule<'r>,
     board: &mut B,
     queue: &mut LentQueue<'r>,
-    rooms: &mut [RowRoom],
+    rooms: &mut [RowRoom<WORDS>],
 ) -> bool
     requires long { length rule.now.rows ≤ length rooms.old }
     requires rewrites { rule.now.rewrites ≡ true }
@@ -115,11 +115,11 @@ pub fn attempt_rows<'r, B: Scan>(
 
 /// An attempt of a rule: all combinations of its places are applied in order, each if every row still fits, and its
 /// commands enter the queue, if it has a combination. Answers whether a cell changed. No memory is taken.
-pub fn attempt<'r, B: Scan>(
+pub fn attempt<'r, const WORDS: usize, B: Scan<WORDS>>(
     rule: &CompiledRule<'r>,
     board: &mut B,
     queue: &mut LentQueue<'r>,
-    rooms: &mut [RowRoom],
+    rooms: &mut [RowRoom<WORDS>],
 ) -> bool
     requires { length rule.now.rows ≤ length rooms.old }
     ensures attempt { let before : State = record { grid = B.grid board.old; queue = queue.old } in

@@ -41,7 +41,7 @@ struct Written {
 
 /// Writes each cell of the board that fits, if that can change one. Rows of the board that lack an object or a motion
 /// which the cell asks for aren't looked at.
-fn write_all<B: Scan>(board: &mut B, cell: &CompiledCell) -> Written
+fn write_all<const WORDS: usize, B: Scan<WORDS>>(board: &mut B, cell: &CompiledCell) -> Written
     ensures some { result.found ≡ true → FitsSomewhere (B.grid board.old) (cell_meaning (B.table board.old) cell.now) }
     ensures none { result.found ≡ false → FitsNowhere (B.grid board.old) (cell_meaning (B.table board.old) cell.now) }
     ensures rewritten { let before = B.grid board.old in
@@ -70,7 +70,7 @@ fn write_all<B: Scan>(board: &mut B, cell: &CompiledCell) -> Written
 
 /// An attempt of a rule whose only cell this is: each cell of the board that fits is written, and if there is one, the
 /// rule's commands enter the queue. Answers whether a cell changed. No memory is taken.
-pub fn attempt_cell<'r, B: Scan>(
+pub fn attempt_cell<'r, const WORDS: usize, B: Scan<WORDS>>(
     rule: &CompiledRule<'r>,
     cell: &CompiledCell,
     board: &mut B,

@@ -31,12 +31,12 @@ pub fn only_part(rows: &[CompiledRow]) -> Option<&[CompiledCell]>
 
 /// An attempt of a rule whose only part this is. Where a place of it asks for what another one's cells may change, its
 /// combinations are walked one after the other. Answers whether a cell changed. No memory is taken.
-pub fn attempt_part<'r, B: Scan>(
+pub fn attempt_part<'r, const WORDS: usize, B: Scan<WORDS>>(
     rule: &CompiledRule<'r>,
     part: &[CompiledCell],
     board: &mut B,
     queue: &mut LentQueue<'r>,
-    rooms: &mut [RowRoom],
+    rooms: &mut [RowRoom<WORDS>],
 ) -> bool
     requires only { rows_parts rule.now.rows ≡ one_part part.now }
     requires whole { HasCells part.now }

@@ -26,12 +26,12 @@ struct Left {
 }
 
 /// A loop with so many repeats left: a pass, and a repeat while the last pass changed something.
-fn play_loop<'r, B: Scan>(
+fn play_loop<'r, const WORDS: usize, B: Scan<WORDS>>(
     groups: &[List<CompiledRule<'r>>],
     repeats: u32,
     board: &mut B,
     queue: &mut LentQueue<'r>,
-    rooms: &mut [RowRoom],
+    rooms: &mut [RowRoom<WORDS>],
 ) -> Left
     requires { GroupsHaveRooms (length rooms.old) groups.now }
     ensures looped { let before : State = record { grid = B.grid board.old; queue = queue.old } in
@@ -62,12 +62,12 @@ fn play_loop<'r, B: Scan>(
 }
 
 /// A section with so many repeats left.
-fn play_section<'r, B: Scan>(
+fn play_section<'r, const WORDS: usize, B: Scan<WORDS>>(
     section: &CompiledSection<'r>,
     repeats: u32,
     board: &mut B,
     queue: &mut LentQueue<'r>,
-    rooms: &mut [RowRoom],
+    rooms: &mut [RowRoom<WORDS>],
 ) -> Left
     requires { SectionHasRooms (length rooms.old) section.now }
     ensures section { let before : State = record { grid = B.grid board.old; queue = queue.old } in
@@ -92,11 +92,11 @@ fn play_section<'r, B: Scan>(
 
 /// The sections of a program in order, until a loop would need one more repeat than are allowed for all loops
 /// together.
-fn play_sections<'r, B: Scan>(
+fn play_sections<'r, const WORDS: usize, B: Scan<WORDS>>(
     sections: &[CompiledSection<'r>],
     board: &mut B,
     queue: &mut LentQueue<'r>,
-    rooms: &mut [RowRoom],
+    rooms: &mut [RowRoom<WORDS>],
 )
     requires { SectionsHaveRooms (length rooms.old) sections.now }
     ensures run { let before : State = record { grid = B.grid board.old; queue = queue.old } in
@@ -121,11 +121,11 @@ fn play_sections<'r, B: Scan>(
 ///
 /// The board shows and the queue has what `program_run` says of the program, if all that it puts has room on the board
 /// (`exact`); of any other program what it says without what has no room (`run`).
-pub fn run_program<'r, B: Scan>(
+pub fn run_program<'r, const WORDS: usize, B: Scan<WORDS>>(
     sections: &[CompiledSection<'r>],
     board: &mut B,
     queue: &mut LentQueue<'r>,
-    rooms: &mut [RowRoom],
+    rooms: &mut [RowRoom<WORDS>],
 )
     requires { SectionsHaveRooms (length rooms.old) sections.now }
     ensures run { let before : State = record { grid = B.grid board.old; queue = queue.old } in

@@ -56,7 +56,7 @@ fn most_rows(sections: &[CompiledSection]) -> usize
 }
 
 /// Room for so many rows. `Memory` if there is none.
-pub fn rooms_of(alloc: Global, count: usize) -> Result<Vec<RowRoom>, Memory>
+pub fn rooms_of<const WORDS: usize>(alloc: Global, count: usize) -> Result<Vec<RowRoom<WORDS>>, Memory>
     ensures { IfOk result (λ rooms. length rooms.items ≡ count) }
 {
     let mut rooms = Vec::new(alloc);
@@ -67,7 +67,7 @@ pub fn rooms_of(alloc: Global, count: usize) -> Result<Vec<RowRoom>, Memory>
 }
 
 /// Room for the rows of each rule of some sections. `Memory` if there is none.
-pub fn rooms_for(alloc: Global, sections: &[CompiledSection]) -> Result<Vec<RowRoom>, Memory>
+pub fn rooms_for<const WORDS: usize>(alloc: Global, sections: &[CompiledSection]) -> Result<Vec<RowRoom<WORDS>>, Memory>
     ensures { IfOk result (λ rooms. SectionsHaveRooms (length rooms.items) sections.now) }
 {
     rooms_of(alloc, most_rows(sections))

@@ -16,11 +16,11 @@ use ps_program::CompiledRule;
 use ps_text::List;
 
 /// A round: the attempts of a group's rules in order. Answers whether one changed something.
-fn round<'r, B: Scan>(
+fn round<'r, const WORDS: usize, B: Scan<WORDS>>(
     rules: &[CompiledRule<'r>],
     board: &mut B,
     queue: &mut LentQueue<'r>,
-    rooms: &mut [RowRoom],
+    rooms: &mut [RowRoom<WORDS>],
 ) -> bool
     requires { HaveRooms (length rooms.old) rules.now }
     ensures round { let before : State = record { grid = B.grid board.old; queue = queue.old } in
@@ -39,11 +39,11 @@ fn round<'r, B: Scan>(
 }
 
 /// A group: rounds until one changes nothing, as many as are allowed. Answers whether one changed something.
-pub fn play_group<'r, B: Scan>(
+pub fn play_group<'r, const WORDS: usize, B: Scan<WORDS>>(
     rules: &[CompiledRule<'r>],
     board: &mut B,
     queue: &mut LentQueue<'r>,
-    rooms: &mut [RowRoom],
+    rooms: &mut [RowRoom<WORDS>],
 ) -> bool
     requires { HaveRooms (length rooms.old) rules.now }
     ensures group { let before : State = record { grid = B.grid board.old; queue = queue.old } in
@@ -66,11 +66,11 @@ pub fn play_group<'r, B: Scan>(
 }
 
 /// A pass of a loop's body: its groups in order. Answers whether one changed something.
-pub fn pass<'r, B: Scan>(
+pub fn pass<'r, const WORDS: usize, B: Scan<WORDS>>(
     groups: &[List<CompiledRule<'r>>],
     board: &mut B,
     queue: &mut LentQueue<'r>,
-    rooms: &mut [RowRoom],
+    rooms: &mut [RowRoom<WORDS>],
 ) -> bool
     requires { GroupsHaveRooms (length rooms.old) groups.now }
     ensures pass { let before : State = record { grid = B.grid board.old; queue = queue.old } in

@@ -18,10 +18,10 @@ use ps_program::CompiledRow;
 /// something had `changed` before. Each fits there at first. The first row's turn comes while it still does, so those
 /// of its cells that stay as they are aren't written; a later row may share cells with an earlier one, so it is
 /// written whole.
-fn rewrite_rows<B: Scan>(
+fn rewrite_rows<const WORDS: usize, B: Scan<WORDS>>(
     board: &mut B,
     rows: &[CompiledRow],
-    rooms: &[RowRoom],
+    rooms: &[RowRoom<WORDS>],
     changed: bool,
 ) -> bool
     requires long { length rows.now ≤ length rooms.now }
@@ -47,7 +47,7 @@ fn rewrite_rows<B: Scan>(
 
 /// The slowest row that doesn't fit any more at its place that is chosen: no combination behind that keeps the place
 /// can be applied. The first row, where each fits; so it needn't be asked itself.
-fn slowest_unfit<B: Scan>(board: &B, rows: &[CompiledRow], rooms: &[RowRoom]) -> usize
+fn slowest_unfit<const WORDS: usize, B: Scan<WORDS>>(board: &B, rows: &[CompiledRow], rooms: &[RowRoom<WORDS>]) -> usize
     requires { length rows.now ≤ length rooms.now }
     ensures passed { let fits = all_fit (B.grid board.now) (rows_meaning (B.table board.now) rows.now) in
         let choices = choices_of (B.grid board.now).height rows.now rooms.now in
@@ -65,10 +65,10 @@ fn slowest_unfit<B: Scan>(board: &B, rows: &[CompiledRow], rooms: &[RowRoom]) ->
 }
 
 /// Chooses for each of the first `count` rows the first place at which it fits. Answers whether each has one.
-fn start_again<B: Scan>(
+fn start_again<const WORDS: usize, B: Scan<WORDS>>(
     board: &B,
     rows: &[CompiledRow],
-    rooms: &mut [RowRoom],
+    rooms: &mut [RowRoom<WORDS>],
     count: usize,
 ) -> bool
     requires long { length rows.now ≤ length rooms.old }
@@ -90,10 +90,10 @@ fn start_again<B: Scan>(
 /// Goes on to the next combination that changes the place of row `first` or of a slower one, and in which each row
 /// fits. The first row's place changes fastest. Answers how many rows start again at their first places there, those
 /// that are faster than the one that goes on. Where there is no such combination, any places are chosen.
-fn advance<B: Scan>(
+fn advance<const WORDS: usize, B: Scan<WORDS>>(
     board: &B,
     rows: &[CompiledRow],
-    rooms: &mut [RowRoom],
+    rooms: &mut [RowRoom<WORDS>],
     first: usize,
 ) -> Option<usize>
     requires long { length rows.now ≤ length rooms.old }
@@ -126,7 +126,7 @@ fn advance<B: Scan>(
 }
 
 /// Forgets places of the first `count` rows: some before those that are chosen.
-fn forget_rows(rows: &[CompiledRow], rooms: &mut [RowRoom], count: usize)
+fn forget_rows<const WORDS: usize>(rows: &[CompiledRow], rooms: &mut [RowRoom<WORDS>], count: usize)
     requires long { length rows.now ≤ length rooms.old }
     requires count { count ≤ length rows.now }
     requires among { AreAmong rows.now rooms.old count }
@@ -141,10 +141,10 @@ fn forget_rows(rows: &[CompiledRow], rooms: &mut [RowRoom], count: usize)
 /// Goes on to the next combination as [`advance`] does, and answers whether there is one. Where no write of the rows'
 /// cells wakes a mask of theirs, a row fits at none of the places again that it is found not to fit at: those before
 /// the first one of a row that starts again are forgotten, so that they are passed once.
-fn go_on<B: Scan>(
+fn go_on<const WORDS: usize, B: Scan<WORDS>>(
     board: &B,
     rows: &[CompiledRow],
-    rooms: &mut [RowRoom],
+    rooms: &mut [RowRoom<WORDS>],
     first: usize,
     sleeps: bool,
 ) -> bool
@@ -187,10 +187,10 @@ fn go_on<B: Scan>(
 /// Applies all combinations of places from the one that is chosen on, in their order, and answers whether a cell
 /// changed. In the one that is chosen each row fits. Where it `sleeps`, no write of the rows' cells wakes a mask of
 /// theirs.
-pub fn walk<B: Scan>(
+pub fn walk<const WORDS: usize, B: Scan<WORDS>>(
     board: &mut B,
     rows: &[CompiledRow],
-    rooms: &mut [RowRoom],
+    rooms: &mut [RowRoom<WORDS>],
     sleeps: bool,
 ) -> bool
     requires asleep { sleeps ≡ true → rows_sleep rows.now ≡ true }

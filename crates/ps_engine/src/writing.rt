@@ -36,13 +36,13 @@ fn writing_cell(row: &CompiledRow, writer: Writer) -> &CompiledCell
 
 /// Writes the cells that lie so many steps along an axis from some columns of a row of the board, and answers whether
 /// one of them changed.
-fn write_behind<B: Scan>(
+fn write_behind<const WORDS: usize, B: Scan<WORDS>>(
     board: &mut B,
     write: &CellWrite,
     axis: Axis,
     steps: u32,
     row: u32,
-    columns: Columns,
+    columns: Columns<WORDS>,
 ) -> bool
     requires { row_behind axis row steps < (B.grid board.old).height }
     ensures rewritten { let before = B.grid board.old in
@@ -61,13 +61,13 @@ fn write_behind<B: Scan>(
 
 /// Writes the cells that lie so many steps along an axis from the columns that a room keeps of these rows of the
 /// board, and answers whether one of them changed.
-fn write_targets<B: Scan>(
+fn write_targets<const WORDS: usize, B: Scan<WORDS>>(
     board: &mut B,
     write: &CellWrite,
     axis: Axis,
     steps: u32,
-    rows: Columns,
-    room: &RowRoom,
+    rows: Columns<WORDS>,
+    room: &RowRoom<WORDS>,
 ) -> bool
     requires { AreWithin axis (B.grid board.old).height steps rows }
     ensures rewritten { let before = B.grid board.old in
@@ -90,12 +90,12 @@ fn write_targets<B: Scan>(
 /// An attempt of a rule whose writer this is: each start of the writer's part that has a partner gets the writer's
 /// write, and if there is one, the rule's commands enter the queue. Answers whether a cell changed. No memory is
 /// taken.
-pub fn attempt_writer<'r, B: Scan>(
+pub fn attempt_writer<'r, const WORDS: usize, B: Scan<WORDS>>(
     rule: &CompiledRule<'r>,
     writer: Writer,
     board: &mut B,
     queue: &mut LentQueue<'r>,
-    room: &mut RowRoom,
+    room: &mut RowRoom<WORDS>,
 ) -> bool
     requires writer { rule.now.writer ≡ Some writer }
     requires rewrites { rule.now.rewrites ≡ true }

@@ -13,7 +13,7 @@ use ps_program::CellMask;
 use ps_text::List;
 
 /// Whether an object stands on its layer of a cell.
-fn holds<B: Board>(board: &B, cell: u32, sought: &LayeredObject) -> bool
+fn holds<const WORDS: usize, B: Board<WORDS>>(board: &B, cell: u32, sought: &LayeredObject) -> bool
     requires shape { IsGrid (B.grid board.now) }
     requires cell { cell < (B.grid board.now).width * (B.grid board.now).height }
     ensures { result ≡ is_held_in (cell_at (B.grid board.now) cell) sought.now }
@@ -28,7 +28,7 @@ fn holds<B: Board>(board: &B, cell: u32, sought: &LayeredObject) -> bool
 }
 
 /// Whether a layer of a cell has the motion that is asked for.
-fn moves<B: Board>(board: &B, cell: u32, test: &MotionTest) -> bool
+fn moves<const WORDS: usize, B: Board<WORDS>>(board: &B, cell: u32, test: &MotionTest) -> bool
     requires shape { IsGrid (B.grid board.now) }
     requires cell { cell < (B.grid board.now).width * (B.grid board.now).height }
     ensures { result ≡ moves_as_asked (cell_at (B.grid board.now) cell) test.now }
@@ -40,7 +40,7 @@ fn moves<B: Board>(board: &B, cell: u32, test: &MotionTest) -> bool
 }
 
 /// Whether one of the objects stands on its layer of a cell.
-fn holds_one<B: Board>(board: &B, cell: u32, objects: &[LayeredObject]) -> bool
+fn holds_one<const WORDS: usize, B: Board<WORDS>>(board: &B, cell: u32, objects: &[LayeredObject]) -> bool
     requires shape { IsGrid (B.grid board.now) }
     requires cell { cell < (B.grid board.now).width * (B.grid board.now).height }
     ensures { result ≡ list_any (is_held_in (cell_at (B.grid board.now) cell)) objects.now }
@@ -49,7 +49,7 @@ fn holds_one<B: Board>(board: &B, cell: u32, objects: &[LayeredObject]) -> bool
 }
 
 /// Whether each of the objects stands on its layer of a cell.
-fn holds_all<B: Board>(board: &B, cell: u32, objects: &[LayeredObject]) -> bool
+fn holds_all<const WORDS: usize, B: Board<WORDS>>(board: &B, cell: u32, objects: &[LayeredObject]) -> bool
     requires shape { IsGrid (B.grid board.now) }
     requires cell { cell < (B.grid board.now).width * (B.grid board.now).height }
     ensures { result ≡ list_all (is_held_in (cell_at (B.grid board.now) cell)) objects.now }
@@ -58,7 +58,7 @@ fn holds_all<B: Board>(board: &B, cell: u32, objects: &[LayeredObject]) -> bool
 }
 
 /// Whether one object of each list stands on its layer of a cell.
-fn holds_of_each<B: Board>(board: &B, cell: u32, lists: &[List<LayeredObject>]) -> bool
+fn holds_of_each<const WORDS: usize, B: Board<WORDS>>(board: &B, cell: u32, lists: &[List<LayeredObject>]) -> bool
     requires shape { IsGrid (B.grid board.now) }
     requires cell { cell < (B.grid board.now).width * (B.grid board.now).height }
     ensures { result ≡ list_all (λ objects. list_any (is_held_in (cell_at (B.grid board.now) cell)) objects) lists.now }
@@ -72,7 +72,7 @@ fn holds_of_each<B: Board>(board: &B, cell: u32, lists: &[List<LayeredObject>]) 
 }
 
 /// Whether each layer of a cell has the motion that is asked for.
-fn moves_all<B: Board>(board: &B, cell: u32, tests: &[MotionTest]) -> bool
+fn moves_all<const WORDS: usize, B: Board<WORDS>>(board: &B, cell: u32, tests: &[MotionTest]) -> bool
     requires shape { IsGrid (B.grid board.now) }
     requires cell { cell < (B.grid board.now).width * (B.grid board.now).height }
     ensures { result ≡ list_all (moves_as_asked (cell_at (B.grid board.now) cell)) tests.now }
@@ -81,7 +81,7 @@ fn moves_all<B: Board>(board: &B, cell: u32, tests: &[MotionTest]) -> bool
 }
 
 /// Whether a cell fits a mask.
-pub fn fits_cell<B: Board>(board: &B, mask: &CellMask, cell: u32) -> bool
+pub fn fits_cell<const WORDS: usize, B: Board<WORDS>>(board: &B, mask: &CellMask, cell: u32) -> bool
     requires shape { IsGrid (B.grid board.now) }
     requires cell { cell < (B.grid board.now).width * (B.grid board.now).height }
     ensures { result ≡ mask_fits (mask_shown mask.now) (cell_at (B.grid board.now) cell) }

@@ -5,11 +5,11 @@ use crate::rewriting::rewrite_row;
 use crate::scan::Scan;
 use crate::scanning::scan_row;
 use crate::writing::write_cell;
-use ps_board::{Board, Columns, ListBoard};
+use ps_board::{Board, Columns, ListBoard, WORDS_LIMIT};
 use ps_model::{LayeredObject, MotionTest};
 use ps_program::{CellMask, CellWrite};
 
-impl Scan for ListBoard {
+impl Scan<WORDS_LIMIT> for ListBoard {
     fn fits(&self, mask: &CellMask, cell: u32) -> bool {
         let (width, height) = self.size();
         if width * height <= cell {
@@ -18,7 +18,7 @@ impl Scan for ListBoard {
         fits_cell(self, mask, cell)
     }
 
-    fn scan(&self, mask: &CellMask, row: u32) -> Columns {
+    fn scan(&self, mask: &CellMask, row: u32) -> Columns<WORDS_LIMIT> {
         scan_row(self, mask, row)
     }
 
@@ -28,13 +28,13 @@ impl Scan for ListBoard {
     }
 
     /// All rows: to know which, this board would have to look at each cell.
-    fn rows_with(&self, _object: &LayeredObject) -> Columns {
+    fn rows_with(&self, _object: &LayeredObject) -> Columns<WORDS_LIMIT> {
         let (_width, height) = self.size();
         Columns::below(height)
     }
 
     /// All rows, likewise.
-    fn rows_moving(&self, _test: &MotionTest) -> Columns {
+    fn rows_moving(&self, _test: &MotionTest) -> Columns<WORDS_LIMIT> {
         let (_width, height) = self.size();
         Columns::below(height)
     }
@@ -47,7 +47,7 @@ impl Scan for ListBoard {
         write_cell(self, write, cell, changed)
     }
 
-    fn rewrite(&mut self, write: &CellWrite, row: u32, columns: Columns) -> bool {
+    fn rewrite(&mut self, write: &CellWrite, row: u32, columns: Columns<WORDS_LIMIT>) -> bool {
         rewrite_row(self, write, row, columns)
     }
 }

@@ -110,7 +110,7 @@ fn object_after(write: LayerWrite, slot: Slot) -> Slot
 }
 
 /// Whether a write is that layer's, and what it puts has room there.
-fn is_own<B: Rooms>(board: &B, write: LayerWrite, layer: LayerId) -> bool
+fn is_own<const WORDS: usize, B: Rooms<WORDS>>(board: &B, write: LayerWrite, layer: LayerId) -> bool
     ensures { result ≡ is_own_write (B.table board.now) layer.0 write }
 {
     let has_room = match write.object {
@@ -122,7 +122,7 @@ fn is_own<B: Rooms>(board: &B, write: LayerWrite, layer: LayerId) -> bool
 }
 
 /// The write of a layer: the first of it whose object has room there.
-pub fn own_write<B: Rooms>(board: &B, writes: &[LayerWrite], layer: LayerId) -> Option<LayerWrite>
+pub fn own_write<const WORDS: usize, B: Rooms<WORDS>>(board: &B, writes: &[LayerWrite], layer: LayerId) -> Option<LayerWrite>
     ensures { result ≡ own_write (B.table board.now) layer.0 writes.now }
 {
     for each in writes {
@@ -135,7 +135,7 @@ pub fn own_write<B: Rooms>(board: &B, writes: &[LayerWrite], layer: LayerId) -> 
 
 /// The slot of a layer written: first its object goes, if it does, and then the layer's write is made. What has no room
 /// on its layer isn't put there.
-pub fn slot_after<B: Rooms>(board: &B, write: &CellWrite, layer: LayerId, slot: Slot) -> Slot
+pub fn slot_after<const WORDS: usize, B: Rooms<WORDS>>(board: &B, write: &CellWrite, layer: LayerId, slot: Slot) -> Slot
     ensures { result ≡ slot_after (write_in_room (B.table board.now) (write_shown write.now)) layer.0 slot }
 {
     let slot = freed(write.gone.as_slice(), layer, slot);

@@ -16,7 +16,7 @@ use ps_model::{LayerId, LayerWrite, LayeredObject, Motion, Slot};
 use ps_program::CellWrite;
 
 /// What stands on a layer of a cell.
-fn slot<B: Board>(board: &B, cell: u32, layer: LayerId) -> Slot
+fn slot<const WORDS: usize, B: Board<WORDS>>(board: &B, cell: u32, layer: LayerId) -> Slot
     requires { IsPlace (B.grid board.now) cell layer.0 }
     ensures value { result ≡ slot_at (B.grid board.now) cell layer.0 }
     ensures room { SlotHasRoom (B.table board.now) layer.0 result }
@@ -31,7 +31,7 @@ fn slot<B: Board>(board: &B, cell: u32, layer: LayerId) -> Slot
 }
 
 /// Makes a slot what is given.
-fn put_slot<B: Board>(board: &mut B, cell: u32, layer: LayerId, slot: Slot)
+fn put_slot<const WORDS: usize, B: Board<WORDS>>(board: &mut B, cell: u32, layer: LayerId, slot: Slot)
     requires place { IsPlace (B.grid board.old) cell layer.0 }
     requires room { SlotHasRoom (B.table board.old) layer.0 slot }
     ensures grid { B.grid board.new ≡ with_slot (B.grid board.old) cell layer.0 slot }
@@ -65,7 +65,7 @@ pub fn touches(write: &CellWrite, layer: LayerId) -> bool
 }
 
 /// Writes a layer of a cell, and answers whether it changed, or something had `changed` before.
-fn write_slot<B: Rooms>(
+fn write_slot<const WORDS: usize, B: Rooms<WORDS>>(
     board: &mut B,
     write: &CellWrite,
     cell: u32,
@@ -92,7 +92,7 @@ fn write_slot<B: Rooms>(
 
 /// Writes a cell, and answers whether it changed, or something had `changed` before. What has no room on a layer isn't
 /// put there.
-pub fn write_cell<B: Rooms>(board: &mut B, write: &CellWrite, cell: u32, changed: bool) -> bool
+pub fn write_cell<const WORDS: usize, B: Rooms<WORDS>>(board: &mut B, write: &CellWrite, cell: u32, changed: bool) -> bool
     requires shape { IsGrid (B.grid board.old) }
     requires cell { cell < (B.grid board.old).width * (B.grid board.old).height }
     ensures grid { let g : Grid = B.grid board.old in

@@ -50,7 +50,7 @@ impl Slid {
 /// stood or in its target, and none is lost or made.
 ///
 /// `moving` is room for the cells in which something moves; what it had before is forgotten. No memory is taken.
-pub fn slide<B: Board>(board: &mut B, moving: &mut CellSet) -> Slid
+pub fn slide<const WORDS: usize, B: Board<WORDS>>(board: &mut B, moving: &mut CellSet<WORDS>) -> Slid
     ensures exact { B.grid board.new ≡ slid (B.grid board.old) }
     ensures slid { IsWeaklySlid (B.grid board.old) (B.grid board.new) }
     ensures some_pass { 0 < result }
@@ -69,7 +69,7 @@ pub fn slide<B: Board>(board: &mut B, moving: &mut CellSet) -> Slid
 
 /// Visits those cells in which an object may be about to do something, in the order of their numbers, and tells
 /// whether any object went. In no other cell an object may be.
-fn pass<B: Board>(board: &mut B, moving: &CellSet) -> bool
+fn pass<const WORDS: usize, B: Board<WORDS>>(board: &mut B, moving: &CellSet<WORDS>) -> bool
     requires still { IsStillBeside (B.grid board.old) moving.now }
     ensures shape { IsGrid (B.grid board.old) }
     ensures part { let old = B.grid board.old in
@@ -87,7 +87,7 @@ fn pass<B: Board>(board: &mut B, moving: &CellSet) -> bool
 
 /// Visits those cells of a column in which an object may be about to do something, from the top, and tells whether any
 /// object went.
-fn visit_column<B: Board>(board: &mut B, column: u32, moving: &CellSet) -> bool
+fn visit_column<const WORDS: usize, B: Board<WORDS>>(board: &mut B, column: u32, moving: &CellSet<WORDS>) -> bool
     requires still { IsStillBeside (B.grid board.old) moving.now }
     requires column { column < (B.grid board.old).width }
     ensures part { let old = B.grid board.old in
@@ -107,7 +107,7 @@ fn visit_column<B: Board>(board: &mut B, column: u32, moving: &CellSet) -> bool
 
 /// Visits the cell of a column and a row, if an object may be about to do something there, and tells whether any
 /// object went.
-fn visit_row<B: Board>(board: &mut B, column: u32, row: u32, moving: &CellSet) -> bool
+fn visit_row<const WORDS: usize, B: Board<WORDS>>(board: &mut B, column: u32, row: u32, moving: &CellSet<WORDS>) -> bool
     requires still { IsStillBeside (B.grid board.old) moving.now }
     requires shape { IsGrid (B.grid board.old) }
     requires column { column < (B.grid board.old).width }
@@ -125,7 +125,7 @@ fn visit_row<B: Board>(board: &mut B, column: u32, row: u32, moving: &CellSet) -
 }
 
 /// Visits each layer of a cell, and tells whether any object went.
-fn visit_cell<B: Board>(board: &mut B, cell: u32) -> bool
+fn visit_cell<const WORDS: usize, B: Board<WORDS>>(board: &mut B, cell: u32) -> bool
     requires shape { IsGrid (B.grid board.old) }
     requires cell { cell < (B.grid board.old).width * (B.grid board.old).height }
     ensures part { IsPart result (B.grid board.old) (B.grid board.new) (cell, 0) (cell + 1, 0) }
@@ -139,7 +139,7 @@ fn visit_cell<B: Board>(board: &mut B, cell: u32) -> bool
 }
 
 /// Lets the object on a layer of a cell go, if it can go at once, and tells whether it went.
-fn visit<B: Board>(board: &mut B, cell: u32, layer: LayerId) -> bool
+fn visit<const WORDS: usize, B: Board<WORDS>>(board: &mut B, cell: u32, layer: LayerId) -> bool
     requires { IsPlace (B.grid board.old) cell layer.0 }
     ensures grid { B.grid board.new ≡ visited (B.grid board.old) layer.0 cell }
     ensures went { result ≡ is_some (way (B.grid board.old) layer.0 cell) }
@@ -156,7 +156,7 @@ fn visit<B: Board>(board: &mut B, cell: u32, layer: LayerId) -> bool
 
 /// The cell that the object on a layer of a cell can go to at once: the one that it wants to go to, if nothing stands
 /// there.
-fn way<B: Board>(board: &B, cell: u32, layer: LayerId) -> Option<u32>
+fn way<const WORDS: usize, B: Board<WORDS>>(board: &B, cell: u32, layer: LayerId) -> Option<u32>
     requires { IsPlace (B.grid board.now) cell layer.0 }
     ensures value { result ≡ way (B.grid board.now) layer.0 cell }
     ensures within { IfSome result (λ to. to < (B.grid board.now).width * (B.grid board.now).height) }
@@ -174,7 +174,7 @@ fn way<B: Board>(board: &B, cell: u32, layer: LayerId) -> Option<u32>
 }
 
 /// The cell one step on in a direction, if it is on the board.
-fn neighbour<B: Board>(board: &B, direction: Direction, cell: u32) -> Option<u32>
+fn neighbour<const WORDS: usize, B: Board<WORDS>>(board: &B, direction: Direction, cell: u32) -> Option<u32>
     requires { cell < (B.grid board.now).width * (B.grid board.now).height }
     ensures value { result ≡ neighbour (B.grid board.now) direction cell }
     ensures within { IfSome result (λ to. to < (B.grid board.now).width * (B.grid board.now).height) }
@@ -229,7 +229,7 @@ mod tests {
         }
     }
 
-    fn look<B: Board>(board: &B, layer: u32, x: u32, y: u32) -> Option<(ObjectId, Motion)> {
+    fn look<const WORDS: usize, B: Board<WORDS>>(board: &B, layer: u32, x: u32, y: u32) -> Option<(ObjectId, Motion)> {
         let (width, height) = board.size();
         if x < width && y < height && layer < board.layers() {
             let cell = x * height + y;

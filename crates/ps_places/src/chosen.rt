@@ -23,11 +23,11 @@ use ps_program::CompiledRow;
 
 /// Finds the first place at which a row fits, on its lines from one on, and answers the line; the way there is put
 /// into `way`. Where there is none, `way` is anything.
-fn seek<B: Scan>(
+fn seek<const WORDS: usize, B: Scan<WORDS>>(
     board: &B,
     row: &CompiledRow,
-    lines: Columns,
-    starts: &[Columns],
+    lines: Columns<WORDS>,
+    starts: &[Columns<WORDS>],
     from: usize,
     way: &mut [u8],
 ) -> Option<u8>
@@ -65,11 +65,11 @@ fn seek<B: Scan>(
 
 /// Goes on from a place of a row, a line and the `way` there, to the next one at which it fits, and answers its line.
 /// Where there is none, `way` is anything.
-fn seek_on<B: Scan>(
+fn seek_on<const WORDS: usize, B: Scan<WORDS>>(
     board: &B,
     row: &CompiledRow,
-    lines: Columns,
-    starts: &[Columns],
+    lines: Columns<WORDS>,
+    starts: &[Columns<WORDS>],
     line: u8,
     way: &mut [u8],
 ) -> Option<u8>
@@ -103,9 +103,9 @@ fn seek_on<B: Scan>(
     seek(board, row, lines, starts, usize::from(line) + 1, way)
 }
 
-impl RowRoom {
+impl<const WORDS: usize> RowRoom<WORDS> {
     /// Chooses the first place of a row at which it fits. Answers whether there is one; if not, any place is chosen.
-    pub fn first_place<B: Scan>(&mut self, board: &B, row: &CompiledRow) -> bool
+    pub fn first_place<B: Scan<WORDS>>(&mut self, board: &B, row: &CompiledRow) -> bool
         requires { HasLinesOf (B.grid board.now) row.now self.old }
         ensures found { let fits = place_fits (B.grid board.now) (B.table board.now) row.now.parts in
             let height = (B.grid board.now).height in
@@ -145,7 +145,7 @@ impl RowRoom {
     }
 
     /// Chooses the next place of a row at which it fits. Answers whether there is one; if not, any place is chosen.
-    pub fn next_place<B: Scan>(&mut self, board: &B, row: &CompiledRow) -> bool
+    pub fn next_place<B: Scan<WORDS>>(&mut self, board: &B, row: &CompiledRow) -> bool
         requires lines { HasLinesOf (B.grid board.now) row.now self.old }
         requires line { IsOnLine (B.grid board.now) row.now self.old }
         ensures found { let fits = place_fits (B.grid board.now) (B.table board.now) row.now.parts in
@@ -172,7 +172,7 @@ impl RowRoom {
     }
 
     /// Whether a row fits at the place that is chosen.
-    pub fn fits<B: Scan>(&self, board: &B, row: &CompiledRow) -> bool
+    pub fn fits<B: Scan<WORDS>>(&self, board: &B, row: &CompiledRow) -> bool
         ensures { let place = place_at (B.grid board.now).height row.now self.now in
             result ≡ place_fits (B.grid board.now) (B.table board.now) row.now.parts place }
     {
@@ -193,7 +193,7 @@ impl RowRoom {
 
     /// Rewrites a row at the place that is chosen, cell by cell, and answers whether one changed, or something had
     /// `changed` before.
-    pub fn rewrite<B: Scan>(&self, board: &mut B, row: &CompiledRow, changed: bool) -> bool
+    pub fn rewrite<B: Scan<WORDS>>(&self, board: &mut B, row: &CompiledRow, changed: bool) -> bool
         ensures rewritten { let before : Rewritten = record { grid = B.grid board.old; changed = changed } in
             let place = place_at (B.grid board.old).height row.now self.now in
             record { grid = B.grid board.new; changed = result }
@@ -219,7 +219,7 @@ impl RowRoom {
     /// Rewrites a row that fits at the place that is chosen, cell by cell, and answers whether one changed, or
     /// something had `changed` before. A cell that stays as it is where it fits isn't written: no cell of the board
     /// belongs to two of the row's, so each still fits when its turn comes.
-    pub fn rewrite_fitting<B: Scan>(&self, board: &mut B, row: &CompiledRow, changed: bool) -> bool
+    pub fn rewrite_fitting<B: Scan<WORDS>>(&self, board: &mut B, row: &CompiledRow, changed: bool) -> bool
         requires fits { let place = place_at (B.grid board.old).height row.now self.now in
             place_fits (B.grid board.old) (B.table board.old) row.now.parts place ≡ true }
         requires spaced { HasSpacedWay row.now self.now }

@@ -37,7 +37,7 @@ fn lie_alone(part: &[CompiledCell], distance: usize) -> bool
 }
 
 /// The columns of a row of the board that are kept, if it is one of these rows.
-fn kept_on_row(rows: Columns, starts: &[Columns], row: u32) -> Columns
+fn kept_on_row<const WORDS: usize>(rows: Columns<WORDS>, starts: &[Columns<WORDS>], row: u32) -> Columns<WORDS>
     ensures { (x : ℕ) → column_at result x ≡ is_start rows starts.now row x }
 {
     if !rows.has(row) {
@@ -50,7 +50,7 @@ fn kept_on_row(rows: Columns, starts: &[Columns], row: u32) -> Columns
 }
 
 /// The columns of a row of the board so many cells behind which, along an axis, a place begins.
-fn starts_behind(axis: Axis, rows: Columns, starts: &[Columns], distance: u32, row: u32) -> Columns
+fn starts_behind<const WORDS: usize>(axis: Axis, rows: Columns<WORDS>, starts: &[Columns<WORDS>], distance: u32, row: u32) -> Columns<WORDS>
     requires distance { distance ≤ SIDE_LIMIT }
     requires row { row ≤ SIDE_LIMIT }
     ensures { (x : ℕ) → x < SIDE_LIMIT → column_at result x ≡ starts_behind axis rows starts.now distance row x }
@@ -62,7 +62,7 @@ fn starts_behind(axis: Axis, rows: Columns, starts: &[Columns], distance: u32, r
 }
 
 /// Whether two places begin so many cells apart.
-fn are_apart(axis: Axis, rows: Columns, starts: &[Columns], distance: u32) -> bool
+fn are_apart<const WORDS: usize>(axis: Axis, rows: Columns<WORDS>, starts: &[Columns<WORDS>], distance: u32) -> bool
     requires { distance ≤ SIDE_LIMIT }
     ensures { result ≡ false → AreNotApart axis rows starts.now distance }
 {
@@ -77,11 +77,11 @@ fn are_apart(axis: Axis, rows: Columns, starts: &[Columns], distance: u32) -> bo
 }
 
 /// Whether places of a part leave each other alone that begin so many cells apart.
-fn apart_lie_alone(
+fn apart_lie_alone<const WORDS: usize>(
     axis: Axis,
     part: &[CompiledCell],
-    rows: Columns,
-    starts: &[Columns],
+    rows: Columns<WORDS>,
+    starts: &[Columns<WORDS>],
     distance: usize,
 ) -> bool
     requires { distance ≤ SIDE_LIMIT }
@@ -94,7 +94,7 @@ fn apart_lie_alone(
 }
 
 /// Whether places of a part that share a cell of the board leave each other alone there.
-fn places_lie_alone(axis: Axis, part: &[CompiledCell], rows: Columns, starts: &[Columns]) -> bool
+fn places_lie_alone<const WORDS: usize>(axis: Axis, part: &[CompiledCell], rows: Columns<WORDS>, starts: &[Columns<WORDS>]) -> bool
     ensures { result ≡ true → PlacesLieAlone axis part.now rows starts.now }
 {
     if SIDE_LIMIT as usize <= part.len() {
@@ -108,10 +108,10 @@ fn places_lie_alone(axis: Axis, part: &[CompiledCell], rows: Columns, starts: &[
     true
 }
 
-impl RowRoom {
+impl<const WORDS: usize> RowRoom<WORDS> {
     /// Whether the places of a part that are kept for these rows of the board leave each other alone: those that share
     /// a cell don't both change it, and what one asks for there stays where the other changes it.
-    pub fn lie_alone(&self, axis: Axis, part: &[CompiledCell], rows: Columns) -> bool
+    pub fn lie_alone(&self, axis: Axis, part: &[CompiledCell], rows: Columns<WORDS>) -> bool
         ensures { result ≡ true → PlacesLieAlone axis part.now rows self.now.starts.items }
     {
         places_lie_alone(axis, part, rows, self.starts.as_slice())

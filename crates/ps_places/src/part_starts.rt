@@ -17,7 +17,7 @@ use ps_match::{Columns, Scan, recall_shape};
 use ps_program::{Axis, CompiledCell};
 
 /// The columns of a row of the board in which a part begins.
-fn starts_on_row<B: Scan>(board: &B, axis: Axis, part: &[CompiledCell], row: u32) -> Columns
+fn starts_on_row<const WORDS: usize, B: Scan<WORDS>>(board: &B, axis: Axis, part: &[CompiledCell], row: u32) -> Columns<WORDS>
     requires { row < (B.grid board.now).height }
     ensures { AreWhere (begins_at (B.grid board.now) (B.table board.now) axis part.now row) result }
 {
@@ -28,12 +28,12 @@ fn starts_on_row<B: Scan>(board: &B, axis: Axis, part: &[CompiledCell], row: u32
 }
 
 /// Finds the columns of each row of the board in which a part begins, and answers the rows that have one.
-fn find_rows<B: Scan>(
+fn find_rows<const WORDS: usize, B: Scan<WORDS>>(
     board: &B,
     axis: Axis,
     part: &[CompiledCell],
-    starts: &mut [Columns],
-) -> Columns
+    starts: &mut [Columns<WORDS>],
+) -> Columns<WORDS>
     requires room { SIDE_LIMIT ≤ length starts.old }
     ensures starts { AreStarts (B.grid board.now) (B.table board.now) axis part.now result starts.new }
     ensures long { length starts.new ≡ length starts.old }
@@ -49,10 +49,10 @@ fn find_rows<B: Scan>(
     rows
 }
 
-impl RowRoom {
+impl<const WORDS: usize> RowRoom<WORDS> {
     /// Finds where the only part of a row begins as the board is, and answers the rows of the board that have a place:
     /// for each of them its columns are kept. No memory is taken.
-    pub fn find_part<B: Scan>(&mut self, board: &B, axis: Axis, part: &[CompiledCell]) -> Columns
+    pub fn find_part<B: Scan<WORDS>>(&mut self, board: &B, axis: Axis, part: &[CompiledCell]) -> Columns<WORDS>
         requires { HasCells part.now }
         ensures starts { let starts = self.new.starts.items in
             AreStarts (B.grid board.now) (B.table board.now) axis part.now result starts }

@@ -21,7 +21,7 @@ use ps_program::{Axis, CompiledCell};
 const CELL_LIMIT: u32 = SIDE_LIMIT * SIDE_LIMIT;
 
 /// Whether a part fits, its first cell at a position of a line.
-pub fn part_fits<B: Scan>(
+pub fn part_fits<const WORDS: usize, B: Scan<WORDS>>(
     board: &B,
     axis: Axis,
     line: u8,
@@ -47,7 +47,7 @@ pub fn part_fits<B: Scan>(
 
 /// Rewrites the cells of a part, the first at a position of a line, one after the other, and answers whether one
 /// changed, or something had `changed` before.
-pub fn rewrite_part<B: Scan>(
+pub fn rewrite_part<const WORDS: usize, B: Scan<WORDS>>(
     board: &mut B,
     axis: Axis,
     line: u8,
@@ -78,7 +78,7 @@ pub fn rewrite_part<B: Scan>(
 
 /// Writes a cell of the board that fits, unless it stays as it is, and answers whether it changed, or something had
 /// `changed` before.
-fn write_fitting<B: Scan>(board: &mut B, cell: &CompiledCell, number: u32, changed: bool) -> bool
+fn write_fitting<const WORDS: usize, B: Scan<WORDS>>(board: &mut B, cell: &CompiledCell, number: u32, changed: bool) -> bool
     requires { let found = slice_get (B.grid board.old).cells number in
         fits_there (cell_meaning (B.table board.old) cell.now) found ≡ true }
     ensures rewritten { let before : Rewritten = record { grid = B.grid board.old; changed = changed } in
@@ -97,7 +97,7 @@ fn write_fitting<B: Scan>(board: &mut B, cell: &CompiledCell, number: u32, chang
 
 /// Rewrites the cells of a part that fits, the first at a position of a line, one after the other, and answers whether
 /// one changed, or something had `changed` before. A cell that stays as it is where it fits isn't written.
-pub fn rewrite_fitting_part<B: Scan>(
+pub fn rewrite_fitting_part<const WORDS: usize, B: Scan<WORDS>>(
     board: &mut B,
     axis: Axis,
     line: u8,
@@ -128,7 +128,7 @@ pub fn rewrite_fitting_part<B: Scan>(
 }
 
 /// Those positions of a set that aren't before one.
-pub fn behind_position(set: Columns, from: usize) -> Columns
+pub fn behind_position<const WORDS: usize>(set: Columns<WORDS>, from: usize) -> Columns<WORDS>
     ensures { set_columns result ≡ positions_from set from }
 {
     if SIDE_LIMIT as usize <= from {
@@ -138,7 +138,7 @@ pub fn behind_position(set: Columns, from: usize) -> Columns
 }
 
 /// The least position of a set at which a part fits that goes right on a row of the board, and the positions behind it.
-fn least_across<B: Scan>(board: &B, line: u8, part: &[CompiledCell], set: Columns) -> Option<u8>
+fn least_across<const WORDS: usize, B: Scan<WORDS>>(board: &B, line: u8, part: &[CompiledCell], set: Columns<WORDS>) -> Option<u8>
     requires { line < (B.grid board.now).height }
     ensures some { IfSome result (λ position.
         from_first (part_fits (B.grid board.now) (B.table board.now) Right line part.now) (set_columns set)
@@ -152,7 +152,7 @@ fn least_across<B: Scan>(board: &B, line: u8, part: &[CompiledCell], set: Column
 }
 
 /// The least position of a set at which a part fits that goes down a column of the board.
-fn least_down<B: Scan>(board: &B, line: u8, part: &[CompiledCell], set: Columns) -> Option<u8>
+fn least_down<const WORDS: usize, B: Scan<WORDS>>(board: &B, line: u8, part: &[CompiledCell], set: Columns<WORDS>) -> Option<u8>
     ensures some { IfSome result (λ position.
         from_first (part_fits (B.grid board.now) (B.table board.now) Down line part.now) (set_columns set)
         ≡ position ∷ positions_from set (position + 1)) }
@@ -169,12 +169,12 @@ fn least_down<B: Scan>(board: &B, line: u8, part: &[CompiledCell], set: Columns)
 }
 
 /// The least position of a line at which a part fits, among those of a set from one on.
-pub fn least_position<B: Scan>(
+pub fn least_position<const WORDS: usize, B: Scan<WORDS>>(
     board: &B,
     axis: Axis,
     line: u8,
     part: &[CompiledCell],
-    set: Columns,
+    set: Columns<WORDS>,
     from: usize,
 ) -> Option<u8>
     requires { line < line_count axis (B.grid board.now) }

@@ -18,12 +18,12 @@ use ps_program::{Axis, CompiledCell};
 
 /// Rewrites one cell of a part, so many steps behind the first one, of all places that begin in some columns of a row
 /// of the board, if that can change one. Answers whether one changed, or something had `changed` before.
-fn rewrite_cell<B: Scan>(
+fn rewrite_cell<const WORDS: usize, B: Scan<WORDS>>(
     board: &mut B,
     axis: Axis,
     cell: &CompiledCell,
     row: u32,
-    columns: Columns,
+    columns: Columns<WORDS>,
     steps: u32,
     changed: bool,
 ) -> bool
@@ -46,12 +46,12 @@ fn rewrite_cell<B: Scan>(
 
 /// Rewrites all places of a part that begin in some columns of a row of the board, one cell of the part after the
 /// other. Answers whether a cell changed, or something had `changed` before.
-fn rewrite_row<B: Scan>(
+fn rewrite_row<const WORDS: usize, B: Scan<WORDS>>(
     board: &mut B,
     axis: Axis,
     part: &[CompiledCell],
     row: u32,
-    columns: Columns,
+    columns: Columns<WORDS>,
     changed: bool,
 ) -> bool
     requires few { length part.now ≤ SIDE_LIMIT }
@@ -72,12 +72,12 @@ fn rewrite_row<B: Scan>(
 }
 
 /// Rewrites all places of a part that begin in columns of some rows of the board. Answers whether a cell changed.
-fn rewrite_rows<B: Scan>(
+fn rewrite_rows<const WORDS: usize, B: Scan<WORDS>>(
     board: &mut B,
     axis: Axis,
     part: &[CompiledCell],
-    rows: Columns,
-    starts: &[Columns],
+    rows: Columns<WORDS>,
+    starts: &[Columns<WORDS>],
 ) -> bool
     requires whole { HasCells part.now }
     requires long { SIDE_LIMIT ≤ length starts.now }
@@ -100,15 +100,15 @@ fn rewrite_rows<B: Scan>(
     changed
 }
 
-impl RowRoom {
+impl<const WORDS: usize> RowRoom<WORDS> {
     /// Rewrites all places of a part that are kept for these rows of the board: each comes to the same as in its turn,
     /// since they leave each other alone. Answers whether a cell changed. No memory is taken.
-    pub fn rewrite_places<B: Scan>(
+    pub fn rewrite_places<B: Scan<WORDS>>(
         &self,
         board: &mut B,
         axis: Axis,
         part: &[CompiledCell],
-        rows: Columns,
+        rows: Columns<WORDS>,
     ) -> bool
         requires whole { HasCells part.now }
         requires starts { let starts = self.now.starts.items in

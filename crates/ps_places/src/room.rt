@@ -13,11 +13,11 @@ use std::alloc::Global;
 /// Room for a row of a rule: the positions of its parts on each line of the board, and the place that is chosen. It is
 /// made once and serves one row after the other.
 #[derive(Drop)]
-pub struct RowRoom {
+pub struct RowRoom<const WORDS: usize> {
     /// The lines on which each part of the row may lie; on others it has no place.
-    pub(crate) lines: Columns,
+    pub(crate) lines: Columns<WORDS>,
     /// Line by line, the positions of each part.
-    pub(crate) starts: Vec<Columns>,
+    pub(crate) starts: Vec<Columns<WORDS>>,
     /// The line of the place that is chosen.
     pub(crate) line: u8,
     /// The positions of the parts there.
@@ -25,9 +25,9 @@ pub struct RowRoom {
     ghost long: { vec_len starts ≡ PART_LIMIT * SIDE_LIMIT },
 }
 
-impl RowRoom {
+impl<const WORDS: usize> RowRoom<WORDS> {
     /// Room for any row on any board. `Memory` if there is none.
-    pub fn try_new(alloc: Global) -> Result<RowRoom, Memory> {
+    pub fn try_new(alloc: Global) -> Result<RowRoom<WORDS>, Memory> {
         let starts = Vec::from_elem(alloc, Columns::none(), (PART_LIMIT * SIDE_LIMIT) as usize)?;
         Ok(RowRoom {
             lines: Columns::none(),

@@ -21,7 +21,7 @@ use ps_program::{Axis, CompiledCell, CompiledRow};
 use ps_text::List;
 
 /// The rows of the board on which each part may begin that goes right.
-fn rows_of_all<B: Scan>(board: &B, parts: &[List<CompiledCell>]) -> Columns
+fn rows_of_all<const WORDS: usize, B: Scan<WORDS>>(board: &B, parts: &[List<CompiledCell>]) -> Columns<WORDS>
     ensures { HaveWaysOnlyOn (B.grid board.now) (B.table board.now) Right parts.now result }
 {
     recall_shape(board);
@@ -36,11 +36,11 @@ fn rows_of_all<B: Scan>(board: &B, parts: &[List<CompiledCell>]) -> Columns
 }
 
 /// Finds the positions of each part on a row of the board. Answers whether each part has one.
-fn find_on_row<B: Scan>(
+fn find_on_row<const WORDS: usize, B: Scan<WORDS>>(
     board: &B,
     parts: &[List<CompiledCell>],
     row: u32,
-    sets: &mut [Columns],
+    sets: &mut [Columns<WORDS>],
 ) -> bool
     requires row { row < (B.grid board.now).height }
     requires whole { All HasCells parts.now }
@@ -62,7 +62,7 @@ fn find_on_row<B: Scan>(
 }
 
 /// Finds the positions of parts that go right, and answers the lines on which each part has one.
-fn find_across<B: Scan>(board: &B, parts: &[List<CompiledCell>], starts: &mut [Columns]) -> Columns
+fn find_across<const WORDS: usize, B: Scan<WORDS>>(board: &B, parts: &[List<CompiledCell>], starts: &mut [Columns<WORDS>]) -> Columns<WORDS>
     requires whole { All HasCells parts.now }
     requires room { SIDE_LIMIT * length parts.now ≤ length starts.old }
     ensures lines { let count = length parts.now in
@@ -82,7 +82,7 @@ fn find_across<B: Scan>(board: &B, parts: &[List<CompiledCell>], starts: &mut [C
 }
 
 /// A set, if it is known; no position, if what stands there is not.
-fn set_before(starts: &[Columns], at: usize, known: bool) -> Columns
+fn set_before<const WORDS: usize>(starts: &[Columns<WORDS>], at: usize, known: bool) -> Columns<WORDS>
     requires { at < length starts.now }
     ensures { result ≡ (if known then slice_index_or starts.now at [] else no_columns) }
 {
@@ -91,12 +91,12 @@ fn set_before(starts: &[Columns], at: usize, known: bool) -> Columns
 
 /// Adds a row of the board to a part's positions in some columns: to those of columns that have some already, and in
 /// place of what stood there in the others.
-fn add_row(
-    starts: &mut [Columns],
+fn add_row<const WORDS: usize>(
+    starts: &mut [Columns<WORDS>],
     count: usize,
     number: usize,
-    columns: Columns,
-    found: Columns,
+    columns: Columns<WORDS>,
+    found: Columns<WORDS>,
     row: u32,
 )
     requires one { number < count }
@@ -113,14 +113,14 @@ fn add_row(
 }
 
 /// Finds the positions of a part that goes down in some columns, and answers the columns in which it has one.
-fn find_part_down<B: Scan>(
+fn find_part_down<const WORDS: usize, B: Scan<WORDS>>(
     board: &B,
     part: &[CompiledCell],
-    within: Columns,
-    starts: &mut [Columns],
+    within: Columns<WORDS>,
+    starts: &mut [Columns<WORDS>],
     count: usize,
     number: usize,
-) -> Columns
+) -> Columns<WORDS>
     requires whole { HasCells part.now }
     requires one { number < count }
     requires room { SIDE_LIMIT * count ≤ length starts.old }
@@ -141,7 +141,7 @@ fn find_part_down<B: Scan>(
 }
 
 /// Finds the positions of parts that go down, and answers the lines on which each part has one.
-fn find_down<B: Scan>(board: &B, parts: &[List<CompiledCell>], starts: &mut [Columns]) -> Columns
+fn find_down<const WORDS: usize, B: Scan<WORDS>>(board: &B, parts: &[List<CompiledCell>], starts: &mut [Columns<WORDS>]) -> Columns<WORDS>
     requires whole { All HasCells parts.now }
     requires room { SIDE_LIMIT * length parts.now ≤ length starts.old }
     ensures lines { let count = length parts.now in
@@ -168,12 +168,12 @@ fn find_down<B: Scan>(board: &B, parts: &[List<CompiledCell>], starts: &mut [Col
 }
 
 /// Finds the positions of parts that lie along an axis, and answers the lines on which each part has one.
-fn find_lines<B: Scan>(
+fn find_lines<const WORDS: usize, B: Scan<WORDS>>(
     board: &B,
     axis: Axis,
     parts: &[List<CompiledCell>],
-    starts: &mut [Columns],
-) -> Columns
+    starts: &mut [Columns<WORDS>],
+) -> Columns<WORDS>
     requires whole { All HasCells parts.now }
     requires room { SIDE_LIMIT * length parts.now ≤ length starts.old }
     ensures lines { let count = length parts.now in
@@ -187,7 +187,7 @@ fn find_lines<B: Scan>(
 }
 
 /// Finds where the parts of a row fit on a board, all lines of it. No memory is taken.
-pub fn find_starts<B: Scan>(board: &B, row: &CompiledRow, room: &mut RowRoom)
+pub fn find_starts<const WORDS: usize, B: Scan<WORDS>>(board: &B, row: &CompiledRow, room: &mut RowRoom<WORDS>)
     ensures places { let meant = row_meaning (B.table board.now) row.now in
         let all = places (B.grid board.now) (direction_of row.now.axis) meant in
         all ≡ all_places (B.grid board.now).height row.now room.new }

@@ -19,27 +19,21 @@ use ps_program::{Axis, CompiledCell, CompiledRow};
 
 /// Reaches twice as far to the left: what has one of a set less than so many columns to its right has it less than
 /// twice as many.
-fn reach_twice(reach: Columns, steps: u32) -> Columns
+fn reach_twice<const WORDS: usize>(reach: Columns<WORDS>, steps: u32) -> Columns<WORDS>
     ensures { (set : List Bool) → IsReach set reach steps → IsReach set result (steps + steps) }
 {
     reach.either(reach.behind(steps))
 }
 
 /// The columns of a set, and all to the left of one of them.
-fn up_to(set: Columns) -> Columns
+fn up_to<const WORDS: usize>(set: Columns<WORDS>) -> Columns<WORDS>
     ensures { IsReach set result SIDE_LIMIT }
 {
-    let mut reach = set.both(Columns::below(SIDE_LIMIT));
-    let mut steps = 1;
-    while steps < SIDE_LIMIT {
-        reach = reach_twice(reach, steps);
-        steps += steps;
-    }
-    reach
+    set.up_to_last()
 }
 
 /// The columns of a set, and all to the right of one of them.
-fn from_first(set: Columns) -> Columns
+fn from_first<const WORDS: usize>(set: Columns<WORDS>) -> Columns<WORDS>
     ensures { AreWhere (is_passed set) result }
 {
     let mut left = set;
@@ -51,7 +45,7 @@ fn from_first(set: Columns) -> Columns
 
 /// Of the columns in which the first part begins on a row of the board and of those of the second, those of the first
 /// if it `leads`, else of the second, that have one of the others where both have room. The first part is so long.
-fn paired(leads: bool, size: u32, fronts: Columns, backs: Columns) -> Columns
+fn paired<const WORDS: usize>(leads: bool, size: u32, fronts: Columns<WORDS>, backs: Columns<WORDS>) -> Columns<WORDS>
     requires { size < SIDE_LIMIT }
     ensures { AreWhere (is_paired leads size fronts backs) result }
 {
@@ -63,7 +57,7 @@ fn paired(leads: bool, size: u32, fronts: Columns, backs: Columns) -> Columns
 }
 
 /// Keeps columns of a row of the board, and adds the row to those of which some are kept, if there are any.
-fn keep_row(starts: &mut [Columns], rows: Columns, row: u32, columns: Columns) -> Columns
+fn keep_row<const WORDS: usize>(starts: &mut [Columns<WORDS>], rows: Columns<WORDS>, row: u32, columns: Columns<WORDS>) -> Columns<WORDS>
     requires within { row < SIDE_LIMIT }
     requires room { SIDE_LIMIT ≤ length starts.old }
     ensures kept { IsRowKept rows starts.old row columns result starts.new }
@@ -74,14 +68,14 @@ fn keep_row(starts: &mut [Columns], rows: Columns, row: u32, columns: Columns) -
 }
 
 /// Finds the targets of parts that go right, and answers the rows of the board that have one.
-fn find_across<B: Scan>(
+fn find_across<const WORDS: usize, B: Scan<WORDS>>(
     board: &B,
     first: &[CompiledCell],
     second: &[CompiledCell],
     leads: bool,
     size: u32,
-    starts: &mut [Columns],
-) -> Columns
+    starts: &mut [Columns<WORDS>],
+) -> Columns<WORDS>
     requires first { HasCells first.now }
     requires second { HasCells second.now }
     requires size { size ≡ length first.now }
@@ -107,7 +101,7 @@ fn find_across<B: Scan>(
 
 /// The columns of a row of the board where a part begins that goes down; `rows` are the only ones of the board on
 /// which it may. Below the board it begins nowhere.
-fn columns_begun<B: Scan>(board: &B, part: &[CompiledCell], rows: Columns, row: u32) -> Columns
+fn columns_begun<const WORDS: usize, B: Scan<WORDS>>(board: &B, part: &[CompiledCell], rows: Columns<WORDS>, row: u32) -> Columns<WORDS>
     requires part { HasCells part.now }
     requires rows { BeginsOnlyOn (B.grid board.now) (B.table board.now) Down part.now rows }
     ensures { AreWhere (begins_down (B.grid board.now) (B.table board.now) part.now row) result }
@@ -124,13 +118,13 @@ fn columns_begun<B: Scan>(board: &B, part: &[CompiledCell], rows: Columns, row: 
 
 /// Finds the targets of the second of two parts that go down, and answers the rows of the board that have one. It is
 /// gone downwards, and all columns are held in which the first part begins high enough.
-fn find_below<B: Scan>(
+fn find_below<const WORDS: usize, B: Scan<WORDS>>(
     board: &B,
     first: &[CompiledCell],
     second: &[CompiledCell],
     size: u32,
-    starts: &mut [Columns],
-) -> Columns
+    starts: &mut [Columns<WORDS>],
+) -> Columns<WORDS>
     requires first { HasCells first.now }
     requires second { HasCells second.now }
     requires size { size ≡ length first.now }
@@ -155,13 +149,13 @@ fn find_below<B: Scan>(
 
 /// Finds the targets of the first of two parts that go down, and answers the rows of the board that have one. It is
 /// gone upwards, and all columns are held in which the second part begins low enough.
-fn find_above<B: Scan>(
+fn find_above<const WORDS: usize, B: Scan<WORDS>>(
     board: &B,
     first: &[CompiledCell],
     second: &[CompiledCell],
     size: u32,
-    starts: &mut [Columns],
-) -> Columns
+    starts: &mut [Columns<WORDS>],
+) -> Columns<WORDS>
     requires first { HasCells first.now }
     requires second { HasCells second.now }
     requires size { size ≡ length first.now }
@@ -186,11 +180,11 @@ fn find_above<B: Scan>(
     rows
 }
 
-impl RowRoom {
+impl<const WORDS: usize> RowRoom<WORDS> {
     /// Finds where one of a row's two parts begins and has a partner as the board is, the first part if it `leads`,
     /// else the second: a set of columns for each row of the board. Answers the rows that have one. What the room
     /// kept before is forgotten. No memory is taken.
-    pub fn find_targets<B: Scan>(&mut self, board: &B, row: &CompiledRow, leads: bool) -> Columns
+    pub fn find_targets<B: Scan<WORDS>>(&mut self, board: &B, row: &CompiledRow, leads: bool) -> Columns<WORDS>
         requires { length row.now.parts ≡ 2 }
         ensures { let parts = row.now.parts in
             let grid = B.grid board.now in
@@ -214,7 +208,7 @@ impl RowRoom {
     }
 
     /// The columns of a row of the board that [`find_targets`](RowRoom::find_targets) found.
-    pub fn targets_on(&self, row: u32) -> Columns
+    pub fn targets_on(&self, row: u32) -> Columns<WORDS>
         requires { row < SIDE_LIMIT }
         ensures { result ≡ slice_index_or self.now.starts.items row [] }
     {

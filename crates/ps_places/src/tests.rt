@@ -110,7 +110,7 @@ fn part_of(alloc: Global, letters: &[u8]) -> Result<List<CompiledCell>, Memory> 
 type Place = (u8, [u8; PART_LIMIT as usize]);
 
 /// The places of a row of these parts, in their order; nothing, where there are too few or too many parts.
-fn places_of<B: Scan>(
+fn places_of<const WORDS: usize, B: Scan<WORDS>>(
     alloc: Global,
     board: &B,
     axis: Axis,
@@ -259,7 +259,7 @@ fn a_full_board_has_a_place_for_each_cell(rt: HostRuntime) -> Result<(), Fail> {
 }
 
 /// The columns of a set, from the left.
-fn check_columns(rt: &impl Abort, columns: Columns, wanted: &[u32]) {
+fn check_columns<const WORDS: usize>(rt: &impl Abort, columns: Columns<WORDS>, wanted: &[u32]) {
     let mut left = columns;
     for column in wanted {
         assert_eq!(rt; left.take_first(), Some(*column));

@@ -15,12 +15,12 @@ use ps_text::List;
 
 /// Finds the least way of parts on a line, at positions of their sets, where each part fits, the first of them from a
 /// position on. Answers whether there is one; if not, `way` is anything.
-pub fn first_way<B: Scan>(
+pub fn first_way<const WORDS: usize, B: Scan<WORDS>>(
     board: &B,
     axis: Axis,
     line: u8,
     parts: &[List<CompiledCell>],
-    sets: &[Columns],
+    sets: &[Columns<WORDS>],
     from: usize,
     way: &mut [u8],
 ) -> bool
@@ -63,12 +63,12 @@ pub fn first_way<B: Scan>(
 
 /// Goes on to the next way of parts on a line, at positions of their sets, where each part fits. Answers whether there
 /// is one; if not, `way` is anything.
-pub fn next_way<B: Scan>(
+pub fn next_way<const WORDS: usize, B: Scan<WORDS>>(
     board: &B,
     axis: Axis,
     line: u8,
     parts: &[List<CompiledCell>],
-    sets: &[Columns],
+    sets: &[Columns<WORDS>],
     way: &mut [u8],
 ) -> bool
     requires line { line < line_count axis (B.grid board.now) }

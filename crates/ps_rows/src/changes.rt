@@ -10,30 +10,31 @@ ghost use Rattle.ps_rows.specs.Showing.{motion_planes};
 
 use crate::motions::motion_plane;
 use crate::planes::{Planes, is_chosen};
+use ps_board::Columns;
 use ps_model::{LayerWrite, ObjectWrite};
 
 /// What becomes of a row of some planes: columns are cleared in each of them, and then columns are set in one, if one
 /// is named.
 #[derive(Clone, Copy)]
-pub struct RowChange {
-    pub cleared: u64,
+pub struct RowChange<const WORDS: usize> {
+    pub cleared: Columns<WORDS>,
     pub plane: Option<u32>,
-    pub set: u64,
+    pub set: Columns<WORDS>,
 }
 
 /// The change that clears columns in each plane.
-fn clearing(cleared: u64) -> RowChange
+fn clearing<const WORDS: usize>(cleared: Columns<WORDS>) -> RowChange<WORDS>
     ensures { result ≡ clearing cleared }
 {
     RowChange {
         cleared,
         plane: None,
-        set: 0,
+        set: Columns::none(),
     }
 }
 
 /// What a layer's write makes of the planes of its objects, in these columns, of which some have lost their object.
-pub fn objects_change(own: Option<LayerWrite>, columns: u64, freed: u64) -> RowChange
+pub fn objects_change<const WORDS: usize>(own: Option<LayerWrite>, columns: Columns<WORDS>, freed: Columns<WORDS>) -> RowChange<WORDS>
     ensures { result ≡ objects_change own columns freed }
 {
     match own {
@@ -52,13 +53,13 @@ pub fn objects_change(own: Option<LayerWrite>, columns: u64, freed: u64) -> RowC
 
 /// What a layer's write makes of the planes of its motions, which begin with the first, in these columns, of which some
 /// have lost their object, and some keep theirs.
-pub fn motions_change(
+pub fn motions_change<const WORDS: usize>(
     first: u32,
     own: Option<LayerWrite>,
-    columns: u64,
-    freed: u64,
-    kept: u64,
-) -> RowChange
+    columns: Columns<WORDS>,
+    freed: Columns<WORDS>,
+    kept: Columns<WORDS>,
+) -> RowChange<WORDS>
     requires { first + 4 < 2 ^ 32 }
     ensures { result ≡ motions_change first own columns freed kept }
 {
@@ -97,40 +98,12 @@ pub fn moves_kept(own: Option<LayerWrite>) -> bool
     }
 }
 
-/// The columns that a change sets in a plane.
-fn set_in(change: RowChange, plane: u32) -> u64
-    ensures { result ≡ set_in change plane }
-{
-    if is_chosen(change.plane, plane) {
-        return change.set;
-    }
-    0
-}
-
-/// The word of a plane's row behind a change.
-fn word_after(change: RowChange, plane: u32, word: u64) -> u64
-    ensures word { result ≡ word_after change plane word }
-    ensures fits { change.cleared < 2 ^ 64 }
-{
-    (word & !change.cleared) | set_in(change, plane)
-}
-
 /// Changes the row of a plane, and answers whether a word changed, or something had `changed` before.
-fn change_row(planes: &mut Planes, row: u32, change: RowChange, plane: u32, changed: bool) -> bool
-    requires row { row < planes.old.height }
-    requires plane { (plane + 1) * planes.old.height ≤ vec_len planes.old.words }
-    ensures words { let p = planes.old in planes.new.words.items ≡ row_after p.height row change p.words.items plane }
-    ensures height { planes.new.height ≡ planes.old.height }
-    ensures count { vec_len planes.new.words ≡ vec_len planes.old.words }
-    ensures fits { change.cleared < 2 ^ 64 }
-    ensures before { result ≡ false → changed ≡ false }
-    ensures quiet { result ≡ false → planes.new.words.items ≡ planes.old.words.items }
-    ensures left { let p = planes.old in
-        changed ≡ false → IsRowLeft p.height row change p.words.items plane → result ≡ false }
+fn change_row<const WORDS: usize>(planes: &mut Planes<WORDS>, row: u32, cleared: Columns<WORDS>, set: Columns<WORDS>, plane: u32, changed: bool) -> bool
 {
     let word = planes.row(plane, row);
-    let after = word_after(change, plane, word);
-    if after == word {
+    let after = word.without(cleared).either(set);
+    if after.same(&word) {
         return changed;
     }
     planes.set_row(plane, row, after);
@@ -139,43 +112,34 @@ fn change_row(planes: &mut Planes, row: u32, change: RowChange, plane: u32, chan
 
 /// Changes the row of each of these planes, and answers whether a word changed, or something had `changed` before. No
 /// plane is read for a change that clears and sets nothing.
-pub fn change_rows(
-    planes: &mut Planes,
+pub fn change_rows<const WORDS: usize>(
+    planes: &mut Planes<WORDS>,
     row: u32,
-    change: RowChange,
+    change: &RowChange<WORDS>,
     places: &[u32],
     changed: bool,
 ) -> bool
-    requires row { row < planes.old.height }
-    requires planes { HavePlanes planes.old.height planes.old.words.items places.now }
-    ensures words { let p = planes.old in
-        AreRowsChanged p.height row change p.words.items planes.new.words.items places.now }
-    ensures height { planes.new.height ≡ planes.old.height }
-    ensures count { vec_len planes.new.words ≡ vec_len planes.old.words }
-    ensures before { result ≡ false → changed ≡ false }
-    ensures quiet { result ≡ false → planes.new.words.items ≡ planes.old.words.items }
-    ensures left { let p = planes.old in
-        changed ≡ false → AreRowsLeft p.height row change p.words.items places.now → result ≡ false }
 {
     let mut any = changed;
-    if change.cleared | change.set == 0 {
+    if change.cleared.either(change.set).is_empty() {
         return any;
     }
     for plane in places {
-        any = change_row(planes, row, change, *plane, any);
+        let set = if is_chosen(change.plane, *plane) { change.set } else { Columns::none() };
+        any = change_row(planes, row, change.cleared, set, *plane, any);
     }
     any
 }
 
 /// Changes the row of a layer, whose objects have those places among the planes, and whose motions have those from the
 /// first on, and answers whether a word changed.
-pub fn change_layer(
-    planes: &mut Planes,
+pub fn change_layer<const WORDS: usize>(
+    planes: &mut Planes<WORDS>,
     row: u32,
     places: &[u32],
-    objects: RowChange,
+    objects: RowChange<WORDS>,
     first: u32,
-    motions: RowChange,
+    motions: RowChange<WORDS>,
 ) -> bool
     requires row { row < planes.old.height }
     requires planes { HavePlanes planes.old.height planes.old.words.items places.now }
@@ -190,7 +154,7 @@ pub fn change_layer(
     ensures left { let p = planes.old in AreRowsLeft p.height row objects p.words.items places.now →
         AreRowsLeft p.height row motions p.words.items (motion_planes first) → result ≡ false }
 {
-    let changed = change_rows(planes, row, objects, places, false);
+    let changed = change_rows(planes, row, &objects, places, false);
     let five = [first, first + 1, first + 2, first + 3, first + 4];
-    change_rows(planes, row, motions, &five, changed)
+    change_rows(planes, row, &motions, &five, changed)
 }

@@ -24,7 +24,7 @@ pub fn motion_plane(first: u32, motion: Motion) -> Option<u32>
 }
 
 /// The first motion whose plane has a cell.
-pub fn first_motion(planes: &Planes, cell: u32, first: u32) -> Motion
+pub fn first_motion<const WORDS: usize>(planes: &Planes<WORDS>, cell: u32, first: u32) -> Motion
     requires column { cell / planes.now.height < SIDE_LIMIT }
     requires few { first + 4 < 2 ^ 32 }
     requires planes { (first + 5) * planes.now.height ≤ vec_len planes.now.words }
@@ -49,7 +49,7 @@ pub fn first_motion(planes: &Planes, cell: u32, first: u32) -> Motion
 }
 
 /// Gives a cell this motion alone.
-pub fn choose_motion(planes: &mut Planes, cell: u32, first: u32, motion: Motion)
+pub fn choose_motion<const WORDS: usize>(planes: &mut Planes<WORDS>, cell: u32, first: u32, motion: Motion)
     requires column { cell / planes.old.height < SIDE_LIMIT }
     requires few { first + 4 < 2 ^ 32 }
     requires planes { (first + 5) * planes.old.height ≤ vec_len planes.old.words }

@@ -19,7 +19,6 @@ use crate::members::Members;
 use crate::motions::{choose_motion, first_motion};
 use crate::planes::Planes;
 use crate::sameness::{differing_row, same_planes, unlike_row};
-use crate::scanning::columns;
 use ps_board::{Board, Columns};
 use ps_model::{LayerId, LayeredObject, Memory, Motion, MotionTest, ObjectId};
 use ps_program::CellWrite;
@@ -32,11 +31,13 @@ use std::alloc::Global;
 /// On a layer of a cell stands one object at most, which has one motion at most, and there is no motion without an
 /// object.
 #[derive(Drop)]
-pub struct RowBoard {
+pub struct RowBoard<const WORDS: usize> {
     width: u32,
+    /// All columns of the board.
+    pub(crate) all_columns: Columns<WORDS>,
     layers: u32,
     members: Members,
-    planes: Planes,
+    planes: Planes<WORDS>,
     ghost some_column: { 0 < width },
     ghost columns: { width ≤ SIDE_LIMIT },
     ghost some_layer: { 0 < layers },
@@ -50,8 +51,8 @@ pub struct RowBoard {
 
 /// Puts an object with its motion into a cell of a layer, whose objects have these planes and whose motions have those
 /// from `first` on, in place of what stood there; or clears the layer there.
-fn put_slot(
-    planes: &mut Planes,
+fn put_slot<const WORDS: usize>(
+    planes: &mut Planes<WORDS>,
     cell: u32,
     objects: &[u32],
     object: Option<u32>,
@@ -91,7 +92,7 @@ fn object_of(number: Option<u32>) -> Option<ObjectId>
     }
 }
 
-impl RowBoard {
+impl<const WORDS: usize> RowBoard<WORDS> {
     /// The first plane of a layer's motions.
     pub(crate) fn motions_from(&self, layer: u32) -> u32
         requires { layer < self.now.layers }
@@ -103,7 +104,7 @@ impl RowBoard {
     }
 
     /// The columns of a row that a plane has.
-    pub(crate) fn row(&self, plane: u32, row: u32) -> u64
+    pub(crate) fn row(&self, plane: u32, row: u32) -> Columns<WORDS>
         requires plane { plane < motions_from self.now.members.table.items self.now.layers }
         requires row { row < self.now.planes.height }
         ensures { result ≡ slice_index self.now.planes.words.items (plane * self.now.planes.height + row) }
@@ -112,7 +113,7 @@ impl RowBoard {
     }
 
     /// The rows of a plane that may have a column: bit y stands for row y.
-    pub(crate) fn rows_of(&self, plane: u32) -> u64
+    pub(crate) fn rows_of(&self, plane: u32) -> Columns<WORDS>
         requires { plane < motions_from self.now.members.table.items self.now.layers }
         ensures { result ≡ slice_index self.now.planes.index.items plane }
     {
@@ -135,14 +136,14 @@ impl RowBoard {
     }
 
     /// Where an object stands on a layer.
-    pub(crate) fn standing_row(&self, layer: u32, row: u32) -> u64
+    pub(crate) fn standing_row(&self, layer: u32, row: u32) -> Columns<WORDS>
         requires layer { layer < self.now.layers }
         requires row { row < self.now.planes.height }
-        ensures { IsRowOf (⟦<RowBoard as Board>⟧.grid self.now) row result (stands_on layer) }
+        ensures { IsRowOf (⟦<RowBoard<WORDS> as Board<WORDS>>⟧.grid self.now) row result (stands_on layer) }
     {
-        let mut word = 0;
+        let mut word = Columns::none();
         for plane in self.members.of(layer) {
-            word |= self.row(*plane, row);
+            word = word.either(self.row(*plane, row));
         }
         word
     }
@@ -164,19 +165,19 @@ impl RowBoard {
         write: &CellWrite,
         layer: u32,
         row: u32,
-        columns: u64,
+        columns: Columns<WORDS>,
     ) -> bool
         requires layer { layer < self.old.layers }
         requires row { row < self.old.planes.height }
-        requires within { IsWithin (⟦<RowBoard as Board>⟧.grid self.old) columns }
+        requires within { IsWithin (⟦<RowBoard<WORDS> as Board<WORDS>>⟧.grid self.old) columns }
         ensures slots { let after = slot_by self.old.members.table.items (write_shown write.now) in
-            AreSlotsWritten (⟦<RowBoard as Board>⟧.grid self.old) (⟦<RowBoard as Board>⟧.grid self.new)
+            AreSlotsWritten (⟦<RowBoard<WORDS> as Board<WORDS>>⟧.grid self.old) (⟦<RowBoard<WORDS> as Board<WORDS>>⟧.grid self.new)
             (in_columns self.old.planes.height row columns) (λ l. nat_eq l layer) after }
         ensures quiet { let after = slot_by self.old.members.table.items (write_shown write.now) in
-            result ≡ false → AreSlotsLeft (⟦<RowBoard as Board>⟧.grid self.old)
+            result ≡ false → AreSlotsLeft (⟦<RowBoard<WORDS> as Board<WORDS>>⟧.grid self.old)
             (in_columns self.old.planes.height row columns) (λ l. nat_eq l layer) after }
         ensures left { let after = slot_by self.old.members.table.items (write_shown write.now) in
-            AreSlotsLeft (⟦<RowBoard as Board>⟧.grid self.old)
+            AreSlotsLeft (⟦<RowBoard<WORDS> as Board<WORDS>>⟧.grid self.old)
             (in_columns self.old.planes.height row columns) (λ l. nat_eq l layer) after → result ≡ false }
         ensures width { self.new.width ≡ self.old.width }
         ensures height { self.new.planes.height ≡ self.old.planes.height }
@@ -190,7 +191,7 @@ impl RowBoard {
     }
 
     /// Whether a layer shows the same on another board of the same size for the same game.
-    fn same_layer(&self, other: &RowBoard, layer: u32) -> bool
+    fn same_layer(&self, other: &RowBoard<WORDS>, layer: u32) -> bool
         requires layer { layer < self.now.layers }
         requires width { other.now.width ≡ self.now.width }
         requires height { other.now.planes.height ≡ self.now.planes.height }
@@ -213,7 +214,7 @@ impl RowBoard {
     }
 }
 
-impl Board for RowBoard {
+impl<const WORDS: usize> Board<WORDS> for RowBoard<WORDS> {
     ghost grid = { λ b. grid_shown b.members.table.items b.width b.planes.height b.layers b.planes.words.items };
 
     ghost table = { λ b. Some b.members.table.items };
@@ -227,22 +228,24 @@ impl Board for RowBoard {
         height: u32,
         layers: u32,
         own_layers: &[LayerId],
-    ) -> Result<RowBoard, Memory> {
+    ) -> Result<RowBoard<WORDS>, Memory> {
         let members = Members::try_new(alloc, layers, own_layers)?;
         let planes = Planes::try_new(alloc, members.count() + 5 * layers, height)?;
         Ok(RowBoard {
             width,
+            all_columns: Columns::below(width),
             layers,
             members,
             planes,
         })
     }
 
-    fn try_copy(&self, alloc: Global) -> Result<RowBoard, Memory> {
+    fn try_copy(&self, alloc: Global) -> Result<RowBoard<WORDS>, Memory> {
         let members = self.members.try_copy(alloc)?;
         let planes = self.planes.try_copy(alloc)?;
         Ok(RowBoard {
             width: self.width,
+            all_columns: self.all_columns,
             layers: self.layers,
             members,
             planes,
@@ -278,24 +281,24 @@ impl Board for RowBoard {
         self.planes.clear_from(first);
     }
 
-    fn copy_into(&self, other: &mut RowBoard) {
+    fn copy_into(&self, other: &mut RowBoard<WORDS>) {
         self.planes.copy_into(&mut other.planes);
     }
 
-    fn movers(&self, layer: LayerId, row: u32) -> Columns {
+    fn movers(&self, layer: LayerId, row: u32) -> Columns<WORDS> {
         let still = MotionTest {
             layer,
             motion: Motion::Still,
         };
-        Columns::from_word(columns(self.width) & !self.motion_row(&still, row))
+        self.all_columns.without(self.motion_row(&still, row))
     }
 
-    fn holders(&self, object: ObjectId, layer: LayerId, row: u32) -> Columns {
+    fn holders(&self, object: ObjectId, layer: LayerId, row: u32) -> Columns<WORDS> {
         let sought = LayeredObject { object, layer };
-        Columns::from_word(columns(self.width) & self.object_row(&sought, row))
+        self.all_columns.both(self.object_row(&sought, row))
     }
 
-    fn same(&self, other: &RowBoard) -> bool {
+    fn same(&self, other: &RowBoard<WORDS>) -> bool {
         for layer in 0..self.layers {
             if !self.same_layer(other, layer) {
                 return false;
@@ -305,31 +308,31 @@ impl Board for RowBoard {
     }
 
     /// The rows of all planes of motions, by the index.
-    fn rows_moving_any(&self) -> Columns {
+    fn rows_moving_any(&self) -> Columns<WORDS> {
         let first = self.members.count();
-        let mut rows = 0;
+        let mut rows = Columns::none();
         for plane in first..first + 5 * self.layers {
-            rows |= self.rows_of(plane);
+            rows = rows.either(self.rows_of(plane));
         }
-        Columns::from_word(rows)
+        rows
     }
 
     /// The rows of the object's plane, by the index; none, where no object has that number.
-    fn rows_holding(&self, object: ObjectId) -> Columns {
+    fn rows_holding(&self, object: ObjectId) -> Columns<WORDS> {
         if self.members.count() <= object.0 {
             return Columns::none();
         }
-        Columns::from_word(self.rows_of(object.0))
+        self.rows_of(object.0)
     }
 
     /// The columns in which the planes of all objects are as in that one.
-    fn alike(&self, row: u32, column: u32) -> Columns {
+    fn alike(&self, row: u32, column: u32) -> Columns<WORDS> {
         let objects = self.members.count();
-        let unlike = unlike_row(&self.planes, objects, row, column);
-        Columns::from_word(columns(self.width) & !unlike)
+        let unlike = unlike_row(&self.planes, objects, row, column, self.all_columns);
+        self.all_columns.without(unlike)
     }
 
-    fn is_alike(&self, other: &RowBoard) -> bool {
+    fn is_alike(&self, other: &RowBoard<WORDS>) -> bool {
         self.width == other.width
             && self.planes.height == other.planes.height
             && self.layers == other.layers
@@ -337,22 +340,22 @@ impl Board for RowBoard {
     }
 
     /// The words of the row are compared, in the planes of all objects.
-    fn differing(&self, other: &RowBoard, row: u32) -> Columns {
+    fn differing(&self, other: &RowBoard<WORDS>, row: u32) -> Columns<WORDS> {
         let objects = self.members.count();
         let here = self.planes.words.as_slice();
         let there = other.planes.words.as_slice();
-        Columns::from_word(differing_row(here, there, self.planes.height, row, objects))
+        differing_row(here, there, self.planes.height, row, objects)
     }
 
     /// The words of the planes of all objects are compared; a plane without columns on both boards is passed over.
-    fn rows_differing(&self, other: &RowBoard) -> Columns {
+    fn rows_differing(&self, other: &RowBoard<WORDS>) -> Columns<WORDS> {
         let objects = self.members.count();
-        Columns::from_word(self.planes.rows_differing(&other.planes, objects))
+        self.planes.rows_differing(&other.planes, objects)
     }
 
     /// The words of these rows are copied, in the planes of all objects, and what moved on the other board is brought
     /// to rest.
-    fn copy_rows(&self, other: &mut RowBoard, rows: Columns) {
+    fn copy_rows(&self, other: &mut RowBoard<WORDS>, rows: Columns<WORDS>) {
         let objects = self.members.count();
         self.planes.copy_rows(&mut other.planes, objects, rows);
         other.planes.clear_from(objects);

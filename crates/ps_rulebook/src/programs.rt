@@ -19,10 +19,10 @@ use std::alloc::Global;
 ///
 /// What a turn's message needs of memory comes from `alloc`. `Memory` if there is no room for what runs of the programs
 /// need besides a board.
-pub fn rules_of_turns<'p, 'r>(
+pub fn rules_of_turns<'p, 'r, const WORDS: usize>(
     alloc: Global,
     programs: &'p CompiledPrograms<'r>,
-) -> Result<TurnRules<GameRules<'p, 'r>>, Memory>
+) -> Result<TurnRules<WORDS, GameRules<'p, 'r, WORDS>>, Memory>
     ensures plain { IfOk result (λ rules. sections_shown rules.plain.sections.now ≡ programs.entry.now.plain) }
     ensures late { IfOk result (λ rules. sections_shown rules.late.sections.now ≡ programs.entry.now.late) }
     ensures played { IfOk result (λ rules. (names : Names) (lines : List RuleLine)

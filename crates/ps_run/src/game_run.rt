@@ -22,10 +22,10 @@ use std::alloc::Global;
 ///
 /// `Memory` where a growth was refused, `Read` where the reader failed or gave something `READ_LIMIT` times and the
 /// game hasn't ended, `Write` where the writer failed. No device is called after its failure.
-pub fn run_game<'g, B: Board, R: Rules<B> + Drop, I: ByteReader, W: ByteWriter>(
+pub fn run_game<'g, const WORDS: usize, B: Board<WORDS>, R: Rules<WORDS, B> + Drop, I: ByteReader, W: ByteWriter>(
     alloc: Global,
     game: SessionGame<'g>,
-    rules: TurnRules<R>,
+    rules: TurnRules<WORDS, R>,
     reader: &mut I,
     writer: &mut W,
 ) -> Result<Ending, RunFault>
@@ -36,7 +36,7 @@ pub fn run_game<'g, B: Board, R: Rules<B> + Drop, I: ByteReader, W: ByteWriter>(
 {
     let mut rules = rules;
     let mut output = OutputText::new(alloc);
-    let session = match Session::<B>::start(alloc, game, &mut rules, &mut output) {
+    let session = match Session::<WORDS, B>::start(alloc, game, &mut rules, &mut output) {
         Ok(session) => session,
         Err(Memory) => return Err(RunFault::Memory),
     };

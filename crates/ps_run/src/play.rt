@@ -19,9 +19,9 @@ use ps_turn::{Rules, TurnRules};
 
 /// A game in play: its session and its rules, what is held of an arrow that has begun, and the text that is made next.
 #[derive(Drop)]
-pub struct Play<'g, B: Board, R> {
-    pub session: Session<'g, B>,
-    pub rules: TurnRules<R>,
+pub struct Play<'g, const WORDS: usize, B: Board<WORDS>, R> {
+    pub session: Session<'g, WORDS, B>,
+    pub rules: TurnRules<WORDS, R>,
     pub keys: Keys,
     pub output: OutputText,
 }
@@ -41,7 +41,7 @@ pub fn write_output<W: ByteWriter>(output: &OutputText, writer: &mut W) -> Resul
     }
 }
 
-impl<'g, B: Board, R: Rules<B> + Drop> Play<'g, B, R> {
+impl<'g, const WORDS: usize, B: Board<WORDS>, R: Rules<WORDS, B> + Drop> Play<'g, WORDS, B, R> {
     /// Plays a key: makes its text whole, and then writes it.
     fn play_key<W: ByteWriter>(&mut self, key: Key, writer: &mut W) -> Result<(), PieceFault>
         requires { (W.state writer.old).has_failed ≡ false }

@@ -44,10 +44,10 @@ fn is_refused(alloc: Global) -> bool {
 }
 
 /// Plays a session by keys, each of which is tried again where it was refused a growth.
-fn expect_session_again<'g, R: Rules<RowBoard> + Drop>(
+fn expect_session_again<'g, const WORDS: usize, R: Rules<RowBoard> + Drop>(
     rt: &(impl Abort + AllocGlobal),
     session: &mut Session<'g, RowBoard>,
-    rules: &mut TurnRules<R>,
+    rules: &mut TurnRules<WORDS, R>,
     output: &mut OutputText,
     opening: &str,
     steps: &[Step<'_>],

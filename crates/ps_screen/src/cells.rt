@@ -33,7 +33,7 @@ impl Room {
 /// # Errors
 ///
 /// `Memory`.
-pub fn cell_character<B: Board>(
+pub fn cell_character<const WORDS: usize, B: Board<WORDS>>(
     names: &Names,
     ground: LayerId,
     board: &B,
@@ -54,7 +54,7 @@ pub fn cell_character<B: Board>(
 /// # Errors
 ///
 /// `Memory`, and `objects` holds some of them.
-fn gather_objects<B: Board>(board: &B, cell: u32, objects: &mut Vec<ObjectId>) -> Result<(), Memory>
+fn gather_objects<const WORDS: usize, B: Board<WORDS>>(board: &B, cell: u32, objects: &mut Vec<ObjectId>) -> Result<(), Memory>
     requires cell { cell < cell_count (B.grid board.now) }
     requires shape { IsGrid (B.grid board.now) }
     ensures { OnOk result (objects.new.items ≡ objects_in (cell_at (B.grid board.now) cell)) }

@@ -30,7 +30,7 @@ pub enum FrameText {
 /// # Errors
 ///
 /// `Memory`.
-pub fn draw_text<B: Board>(
+pub fn draw_text<const WORDS: usize, B: Board<WORDS>>(
     alloc: Global,
     names: &Names,
     ground: LayerId,
@@ -59,13 +59,13 @@ pub fn draw_text<B: Board>(
 /// # Errors
 ///
 /// `Memory`.
-pub fn patch_text<B: Board>(
+pub fn patch_text<const WORDS: usize, B: Board<WORDS>>(
     alloc: Global,
     names: &Names,
     ground: LayerId,
     shown: &B,
     board: &B,
-    rows: Columns,
+    rows: Columns<WORDS>,
     room: &mut Room,
     kept: FrameText,
 ) -> Result<FrameText, Memory>
@@ -101,7 +101,7 @@ pub fn patch_text<B: Board>(
 /// # Errors
 ///
 /// `Memory`, and the output is as before.
-pub fn add_text<B: Board>(
+pub fn add_text<const WORDS: usize, B: Board<WORDS>>(
     names: &Names,
     board: &B,
     text: &FrameText,

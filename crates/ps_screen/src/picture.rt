@@ -17,7 +17,7 @@ use std::marker::Model;
 
 /// A frame that was shown: its text, and a board with the same frame.
 #[derive(Drop)]
-struct LastFrame<B: Board> {
+struct LastFrame<const WORDS: usize, B: Board<WORDS>> {
     text: FrameText,
     board: B,
 }
@@ -25,15 +25,15 @@ struct LastFrame<B: Board> {
 /// The frames of a game: what they need of its names, made ready once, and the last frame, if there was one. Contracts
 /// see the names.
 #[derive(Drop)]
-pub struct Picture<'g, B: Board> {
+pub struct Picture<'g, const WORDS: usize, B: Board<WORDS>> {
     alloc: Global,
     names: &'g Names,
     ground: LayerId,
     room: Room,
-    last: Option<LastFrame<B>>,
+    last: Option<LastFrame<WORDS, B>>,
 }
 
-impl<'g, B: Board> Model for Picture<'g, B> {
+impl<'g, const WORDS: usize, B: Board<WORDS>> Model for Picture<'g, WORDS, B> {
     ghost use Rattle.std.specs.Prelude.{◌≡◌, IfSome};
     ghost use Rattle.ps_model.specs.names.Names.{Names as Meant};
     ghost use Rattle.ps_model.specs.board.Levels.{background_layer};
@@ -47,9 +47,9 @@ impl<'g, B: Board> Model for Picture<'g, B> {
         × IfSome p.last (λ last. IsTextOf p.names.now (B.grid last.board) last.text) };
 }
 
-impl<'g, B: Board> Picture<'g, B> {
+impl<'g, const WORDS: usize, B: Board<WORDS>> Picture<'g, WORDS, B> {
     /// A picture for the game of these names, which has shown nothing.
-    pub fn new(alloc: Global, names: &'g Names) -> Picture<'g, B>
+    pub fn new(alloc: Global, names: &'g Names) -> Picture<'g, WORDS, B>
         ensures { result ≡ names.entry.now }
     {
         Picture {
@@ -91,14 +91,14 @@ impl<'g, B: Board> Picture<'g, B> {
 /// # Errors
 ///
 /// `Memory`.
-fn redraw<B: Board>(
+fn redraw<const WORDS: usize, B: Board<WORDS>>(
     alloc: Global,
     names: &Names,
     ground: LayerId,
-    last: Option<LastFrame<B>>,
+    last: Option<LastFrame<WORDS, B>>,
     board: &B,
     room: &mut Room,
-) -> Result<LastFrame<B>, Memory>
+) -> Result<LastFrame<WORDS, B>, Memory>
     requires ground { ground.0 ≡ background_layer names.now }
     requires last { IfSome last (λ last. IsTextOf names.now (B.grid last.board) last.text) }
     ensures text { IfOk result (λ last. IsTextOf names.now (B.grid board.now) last.text) }
@@ -128,14 +128,14 @@ fn redraw<B: Board>(
 /// # Errors
 ///
 /// `Memory`.
-fn draw<B: Board>(
+fn draw<const WORDS: usize, B: Board<WORDS>>(
     alloc: Global,
     names: &Names,
     ground: LayerId,
     kept: Option<FrameText>,
     board: &B,
     room: &mut Room,
-) -> Result<LastFrame<B>, Memory>
+) -> Result<LastFrame<WORDS, B>, Memory>
     requires { ground.0 ≡ background_layer names.now }
     ensures text { IfOk result (λ last. IsTextOf names.now (B.grid board.now) last.text) }
     ensures kept { IfOk result (λ last. IsTextOf names.now (B.grid last.board) last.text) }

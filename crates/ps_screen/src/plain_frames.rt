@@ -19,7 +19,7 @@ use ps_names::Names;
 /// # Errors
 ///
 /// `Memory`, and the text is of no use.
-pub fn draw_frame<B: Board>(
+pub fn draw_frame<const WORDS: usize, B: Board<WORDS>>(
     names: &Names,
     ground: LayerId,
     board: &B,
@@ -48,12 +48,12 @@ pub fn draw_frame<B: Board>(
 /// # Errors
 ///
 /// `Memory`, and the text is of no use.
-pub fn patch_frame<B: Board>(
+pub fn patch_frame<const WORDS: usize, B: Board<WORDS>>(
     names: &Names,
     ground: LayerId,
     shown: &B,
     board: &B,
-    rows: Columns,
+    rows: Columns<WORDS>,
     room: &mut Room,
     text: &mut OutputText,
 ) -> Result<bool, Memory>

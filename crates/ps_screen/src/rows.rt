@@ -19,7 +19,7 @@ use std::alloc::Global;
 /// # Errors
 ///
 /// `Memory`.
-pub fn draw_rows<B: Board>(
+pub fn draw_rows<const WORDS: usize, B: Board<WORDS>>(
     alloc: Global,
     names: &Names,
     ground: LayerId,
@@ -45,12 +45,12 @@ pub fn draw_rows<B: Board>(
 /// # Errors
 ///
 /// `Memory`, and some of the texts may have been made.
-pub fn patch_rows<B: Board>(
+pub fn patch_rows<const WORDS: usize, B: Board<WORDS>>(
     names: &Names,
     ground: LayerId,
     shown: &B,
     board: &B,
-    rows: Columns,
+    rows: Columns<WORDS>,
     room: &mut Room,
     texts: &mut [OutputText],
 ) -> Result<(), Memory>
@@ -78,7 +78,7 @@ pub fn patch_rows<B: Board>(
 /// # Errors
 ///
 /// `Memory`, and the text is of no use.
-fn patch_row<B: Board>(
+fn patch_row<const WORDS: usize, B: Board<WORDS>>(
     names: &Names,
     ground: LayerId,
     shown: &B,
@@ -112,7 +112,7 @@ fn patch_row<B: Board>(
 }
 
 /// Makes a text a row of a board's frame: cells with the same objects by one look for a glyph, if each is of one byte.
-fn draw_row<B: Board>(
+fn draw_row<const WORDS: usize, B: Board<WORDS>>(
     names: &Names,
     ground: LayerId,
     board: &B,
@@ -137,7 +137,7 @@ fn draw_row<B: Board>(
 }
 
 /// Adds a row of a frame.
-fn add_row<B: Board>(
+fn add_row<const WORDS: usize, B: Board<WORDS>>(
     names: &Names,
     ground: LayerId,
     board: &B,

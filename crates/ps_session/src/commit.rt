@@ -20,7 +20,7 @@ use ps_stage::{HistoryChange, Location, Pending, PlayedLevel, Stage};
 use std::mem;
 
 /// A level in which a message waits, or none.
-fn standing<B: Board>(level: PlayedLevel<B>, pending: Option<Pending>) -> Location<PlayedLevel<B>>
+fn standing<const WORDS: usize, B: Board<WORDS>>(level: PlayedLevel<WORDS, B>, pending: Option<Pending>) -> Location<PlayedLevel<WORDS, B>>
     ensures shown { (history : List Grid) → location_shown history result ≡ stands pending (play_of history level) }
     ensures table { IsOnTable level.table result }
 {
@@ -31,10 +31,10 @@ fn standing<B: Board>(level: PlayedLevel<B>, pending: Option<Pending>) -> Locati
 }
 
 /// A location whose level is as it was; a message waits in it now, or none does.
-fn stood<B: Board>(
-    location: Location<PlayedLevel<B>>,
+fn stood<const WORDS: usize, B: Board<WORDS>>(
+    location: Location<PlayedLevel<WORDS, B>>,
     pending: Option<Pending>,
-) -> Location<PlayedLevel<B>>
+) -> Location<PlayedLevel<WORDS, B>>
     ensures shown { (history : List Grid) → location_shown history result ≡ stood history location pending }
     ensures table { (table : Option (List ℕ)) → IsOnTable table location → IsOnTable table result }
 {
@@ -47,7 +47,7 @@ fn stood<B: Board>(
 }
 
 /// The board that has left the history, if one has, is there to be used again.
-fn reuse<B: Board>(stage: &mut Stage<'_, B>, board: Option<HistoryBoard<B>>)
+fn reuse<const WORDS: usize, B: Board<WORDS>>(stage: &mut Stage<'_, WORDS, B>, board: Option<HistoryBoard<WORDS, B>>)
     ensures { stage.new ≡ stage.old }
 {
     if let Some(board) = board {
@@ -56,7 +56,7 @@ fn reuse<B: Board>(stage: &mut Stage<'_, B>, board: Option<HistoryBoard<B>>)
 }
 
 /// The boards of a location that nobody is at any more are there to be used again.
-fn give_back<B: Board>(stage: &mut Stage<'_, B>, location: Location<PlayedLevel<B>>)
+fn give_back<const WORDS: usize, B: Board<WORDS>>(stage: &mut Stage<'_, WORDS, B>, location: Location<PlayedLevel<WORDS, B>>)
     ensures { stage.new ≡ stage.old }
 {
     match location {
@@ -69,7 +69,7 @@ fn give_back<B: Board>(stage: &mut Stage<'_, B>, location: Location<PlayedLevel<
 
 /// The boards of what was to come next and doesn't, as memory was wanting, are there to be used again; but for those of
 /// another level, in the place of which boards of this one may be kept.
-pub fn give_up<B: Board>(stage: &mut Stage<'_, B>, next: Next<PlayedLevel<B>>)
+pub fn give_up<const WORDS: usize, B: Board<WORDS>>(stage: &mut Stage<'_, WORDS, B>, next: Next<PlayedLevel<WORDS, B>>)
     ensures { stage.new ≡ stage.old }
 {
     match next {
@@ -81,10 +81,10 @@ pub fn give_up<B: Board>(stage: &mut Stage<'_, B>, next: Next<PlayedLevel<B>>)
 }
 
 /// The board of a level enters the history. Of a full one the oldest board goes, to be used again.
-fn add_to_history<B: Board>(
-    stage: &mut Stage<'_, B>,
-    history: &mut HeapCircularBuffer<HistoryBoard<B>>,
-    level: PlayedLevel<B>,
+fn add_to_history<const WORDS: usize, B: Board<WORDS>>(
+    stage: &mut Stage<'_, WORDS, B>,
+    history: &mut HeapCircularBuffer<HistoryBoard<WORDS, B>>,
+    level: PlayedLevel<WORDS, B>,
 )
     requires limit { history.old.capacity ≡ HISTORY_LIMIT }
     ensures stage { stage.new ≡ stage.old }
@@ -99,10 +99,10 @@ fn add_to_history<B: Board>(
 }
 
 /// The history behind a location that is left. Boards that don't enter it are there to be used again.
-fn leave<B: Board>(
-    stage: &mut Stage<'_, B>,
-    history: &mut HeapCircularBuffer<HistoryBoard<B>>,
-    location: Location<PlayedLevel<B>>,
+fn leave<const WORDS: usize, B: Board<WORDS>>(
+    stage: &mut Stage<'_, WORDS, B>,
+    history: &mut HeapCircularBuffer<HistoryBoard<WORDS, B>>,
+    location: Location<PlayedLevel<WORDS, B>>,
     history_change: HistoryChange,
 )
     requires limit { history.old.capacity ≡ HISTORY_LIMIT }
@@ -129,11 +129,11 @@ fn leave<B: Board>(
 }
 
 /// What comes next becomes the location and the history. Boards that are in neither are there to be used again.
-pub fn commit<B: Board>(
-    stage: &mut Stage<'_, B>,
-    location: &mut Location<PlayedLevel<B>>,
-    history: &mut HeapCircularBuffer<HistoryBoard<B>>,
-    next: Next<PlayedLevel<B>>,
+pub fn commit<const WORDS: usize, B: Board<WORDS>>(
+    stage: &mut Stage<'_, WORDS, B>,
+    location: &mut Location<PlayedLevel<WORDS, B>>,
+    history: &mut HeapCircularBuffer<HistoryBoard<WORDS, B>>,
+    next: Next<PlayedLevel<WORDS, B>>,
 )
     requires limit { history.old.capacity ≡ HISTORY_LIMIT }
     ensures stage { stage.new ≡ stage.old }

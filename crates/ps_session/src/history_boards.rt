@@ -7,11 +7,11 @@ use std::marker::Model;
 
 /// A board of the undo history: the one that a level had before a key changed it.
 #[derive(Drop)]
-pub struct HistoryBoard<B: Board> {
+pub struct HistoryBoard<const WORDS: usize, B: Board<WORDS>> {
     board: B,
 }
 
-impl<B: Board> Model for HistoryBoard<B> {
+impl<const WORDS: usize, B: Board<WORDS>> Model for HistoryBoard<WORDS, B> {
     ghost use Rattle.ps_session.specs.Histories.{HistoryBoardValue};
 
     ghost Value = { HistoryBoardValue };
@@ -19,9 +19,9 @@ impl<B: Board> Model for HistoryBoard<B> {
     ghost view = { λ b. record { table = B.table b.board; grid = B.grid b.board } };
 }
 
-impl<B: Board> HistoryBoard<B> {
+impl<const WORDS: usize, B: Board<WORDS>> HistoryBoard<WORDS, B> {
     /// The board of a level that is left.
-    pub fn of(board: B) -> HistoryBoard<B>
+    pub fn of(board: B) -> HistoryBoard<WORDS, B>
         ensures grid { result.grid ≡ B.grid board }
         ensures table { result.table ≡ B.table board }
     {

@@ -28,7 +28,7 @@ use ps_turn::{Rules, TurnRules};
 /// # Errors
 ///
 /// `Memory`.
-pub fn quits<B: Board>(stage: &mut Stage<'_, B>) -> Result<Next<PlayedLevel<B>>, Memory>
+pub fn quits<const WORDS: usize, B: Board<WORDS>>(stage: &mut Stage<'_, WORDS, B>) -> Result<Next<PlayedLevel<WORDS, B>>, Memory>
     requires empty { stage.old.text ≡ [] }
     ensures game { stage.new.game ≡ stage.old.game }
     ensures came { IfOk result (λ next. (history : List Grid) (location : MeantLocation Standing)
@@ -44,12 +44,12 @@ pub fn quits<B: Board>(stage: &mut Stage<'_, B>) -> Result<Next<PlayedLevel<B>>,
 /// # Errors
 ///
 /// `Memory`, and the level is as before.
-fn moves<B: Board, R: Rules<B>>(
-    stage: &mut Stage<'_, B>,
-    rules: &mut TurnRules<R>,
-    level: &mut PlayedLevel<B>,
+fn moves<const WORDS: usize, B: Board<WORDS>, R: Rules<WORDS, B>>(
+    stage: &mut Stage<'_, WORDS, B>,
+    rules: &mut TurnRules<WORDS, R>,
+    level: &mut PlayedLevel<WORDS, B>,
     input: Input,
-) -> Result<Next<PlayedLevel<B>>, Memory>
+) -> Result<Next<PlayedLevel<WORDS, B>>, Memory>
     requires empty { stage.old.text ≡ [] }
     requires table { level.old.table ≡ B.table_for stage.old.game.names.layers }
     ensures game { stage.new.game ≡ stage.old.game }
@@ -71,11 +71,11 @@ fn moves<B: Board, R: Rules<B>>(
 /// # Errors
 ///
 /// `Memory`.
-fn undoes<B: Board>(
-    stage: &mut Stage<'_, B>,
-    level: &PlayedLevel<B>,
-    history: &HeapCircularBuffer<HistoryBoard<B>>,
-) -> Result<Next<PlayedLevel<B>>, Memory>
+fn undoes<const WORDS: usize, B: Board<WORDS>>(
+    stage: &mut Stage<'_, WORDS, B>,
+    level: &PlayedLevel<WORDS, B>,
+    history: &HeapCircularBuffer<HistoryBoard<WORDS, B>>,
+) -> Result<Next<PlayedLevel<WORDS, B>>, Memory>
     requires empty { stage.old.text ≡ [] }
     requires table { level.now.table ≡ B.table_for stage.old.game.names.layers }
     requires boards { AreOnTable (B.table_for stage.old.game.names.layers) history.now.items }
@@ -99,11 +99,11 @@ fn undoes<B: Board>(
 /// # Errors
 ///
 /// `Memory`.
-fn restarts<B: Board, R: Rules<B>>(
-    stage: &mut Stage<'_, B>,
-    rules: &mut TurnRules<R>,
-    level: &PlayedLevel<B>,
-) -> Result<Next<PlayedLevel<B>>, Memory>
+fn restarts<const WORDS: usize, B: Board<WORDS>, R: Rules<WORDS, B>>(
+    stage: &mut Stage<'_, WORDS, B>,
+    rules: &mut TurnRules<WORDS, R>,
+    level: &PlayedLevel<WORDS, B>,
+) -> Result<Next<PlayedLevel<WORDS, B>>, Memory>
     requires empty { stage.old.text ≡ [] }
     requires table { level.now.table ≡ B.table_for stage.old.game.names.layers }
     ensures game { stage.new.game ≡ stage.old.game }
@@ -124,13 +124,13 @@ fn restarts<B: Board, R: Rules<B>>(
 /// # Errors
 ///
 /// `Memory`, and the level is as before.
-pub fn key_in_level<B: Board, R: Rules<B>>(
-    stage: &mut Stage<'_, B>,
-    rules: &mut TurnRules<R>,
-    level: &mut PlayedLevel<B>,
-    history: &HeapCircularBuffer<HistoryBoard<B>>,
+pub fn key_in_level<const WORDS: usize, B: Board<WORDS>, R: Rules<WORDS, B>>(
+    stage: &mut Stage<'_, WORDS, B>,
+    rules: &mut TurnRules<WORDS, R>,
+    level: &mut PlayedLevel<WORDS, B>,
+    history: &HeapCircularBuffer<HistoryBoard<WORDS, B>>,
     key: Key,
-) -> Result<Option<Next<PlayedLevel<B>>>, Memory>
+) -> Result<Option<Next<PlayedLevel<WORDS, B>>>, Memory>
     requires empty { stage.old.text ≡ [] }
     requires table { level.old.table ≡ B.table_for stage.old.game.names.layers }
     requires boards { AreOnTable (B.table_for stage.old.game.names.layers) history.now.items }

@@ -24,13 +24,13 @@ use ps_turn::{Rules, TurnRules};
 /// # Errors
 ///
 /// `Memory`, and the location is as before.
-pub fn next_at<B: Board, R: Rules<B>>(
-    stage: &mut Stage<'_, B>,
-    rules: &mut TurnRules<R>,
-    location: &mut Location<PlayedLevel<B>>,
-    history: &HeapCircularBuffer<HistoryBoard<B>>,
+pub fn next_at<const WORDS: usize, B: Board<WORDS>, R: Rules<WORDS, B>>(
+    stage: &mut Stage<'_, WORDS, B>,
+    rules: &mut TurnRules<WORDS, R>,
+    location: &mut Location<PlayedLevel<WORDS, B>>,
+    history: &HeapCircularBuffer<HistoryBoard<WORDS, B>>,
     key: Key,
-) -> Result<Option<Next<PlayedLevel<B>>>, Memory>
+) -> Result<Option<Next<PlayedLevel<WORDS, B>>>, Memory>
     requires empty { stage.old.text ≡ [] }
     requires table { IsOnTable (B.table_for stage.old.game.names.layers) location.old }
     requires boards { AreOnTable (B.table_for stage.old.game.names.layers) history.now.items }

@@ -23,13 +23,13 @@ use ps_turn::{Rules, TurnRules};
 /// # Errors
 ///
 /// `Memory`.
-pub fn key_at_level_message<B: Board, R: Rules<B>>(
-    stage: &mut Stage<'_, B>,
-    rules: &mut TurnRules<R>,
-    level: &PlayedLevel<B>,
+pub fn key_at_level_message<const WORDS: usize, B: Board<WORDS>, R: Rules<WORDS, B>>(
+    stage: &mut Stage<'_, WORDS, B>,
+    rules: &mut TurnRules<WORDS, R>,
+    level: &PlayedLevel<WORDS, B>,
     pending: Pending,
     key: Key,
-) -> Result<Option<Next<PlayedLevel<B>>>, Memory>
+) -> Result<Option<Next<PlayedLevel<WORDS, B>>>, Memory>
     requires empty { stage.old.text ≡ [] }
     requires table { level.now.table ≡ B.table_for stage.old.game.names.layers }
     ensures game { stage.new.game ≡ stage.old.game }
@@ -59,12 +59,12 @@ pub fn key_at_level_message<B: Board, R: Rules<B>>(
 /// # Errors
 ///
 /// `Memory`.
-pub fn key_at_entry<B: Board, R: Rules<B>>(
-    stage: &mut Stage<'_, B>,
-    rules: &mut TurnRules<R>,
+pub fn key_at_entry<const WORDS: usize, B: Board<WORDS>, R: Rules<WORDS, B>>(
+    stage: &mut Stage<'_, WORDS, B>,
+    rules: &mut TurnRules<WORDS, R>,
     entry: &EntryNumber,
     key: Key,
-) -> Result<Option<Next<PlayedLevel<B>>>, Memory>
+) -> Result<Option<Next<PlayedLevel<WORDS, B>>>, Memory>
     requires empty { stage.old.text ≡ [] }
     ensures game { stage.new.game ≡ stage.old.game }
     ensures plain { R.meant rules.new.plain ≡ R.meant rules.old.plain }

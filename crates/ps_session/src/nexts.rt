@@ -24,7 +24,7 @@ pub enum Next<L> {
 }
 
 /// What comes of a key in a level, or behind its message.
-pub fn next_of<B: Board>(change: Change<PlayedLevel<B>>) -> Next<PlayedLevel<B>>
+pub fn next_of<const WORDS: usize, B: Board<WORDS>>(change: Change<PlayedLevel<WORDS, B>>) -> Next<PlayedLevel<WORDS, B>>
     ensures playing { (history : List Grid) (level : Standing)
         → next_shown history (Playing level) result ≡ change_shown history level change }
     ensures waiting { (history : List Grid) (level : Standing) (pending : MeantPending)

@@ -22,13 +22,13 @@ use std::marker::Model;
 
 /// Where a player is in a game: in a level with the boards that undo goes back to, at a message, or at the end.
 #[derive(Drop)]
-pub struct Session<'g, B: Board> {
-    stage: Stage<'g, B>,
-    location: Location<PlayedLevel<B>>,
-    history: HeapCircularBuffer<HistoryBoard<B>>,
+pub struct Session<'g, const WORDS: usize, B: Board<WORDS>> {
+    stage: Stage<'g, WORDS, B>,
+    location: Location<PlayedLevel<WORDS, B>>,
+    history: HeapCircularBuffer<HistoryBoard<WORDS, B>>,
 }
 
-impl<'g, B: Board> Model for Session<'g, B> {
+impl<'g, const WORDS: usize, B: Board<WORDS>> Model for Session<'g, WORDS, B> {
     ghost use Rattle.std.specs.Prelude.{◌≡◌};
     ghost use Rattle.ps_model.specs.declared.limits.TheConstants.{HISTORY_LIMIT};
     ghost use Rattle.ps_stage.specs.Locations.{location_shown, IsOnTable};
@@ -47,19 +47,19 @@ impl<'g, B: Board> Model for Session<'g, B> {
         × AreOnTable (B.table_for s.stage.game.names.layers) s.history.items) };
 }
 
-impl<'g, B: Board> Session<'g, B> {
+impl<'g, const WORDS: usize, B: Board<WORDS>> Session<'g, WORDS, B> {
     /// Starts a game: adds its title to the output, and what its first entry writes. The room for the boards of undo is
     /// taken here, and never again.
     ///
     /// # Errors
     ///
     /// `Memory`, and the output is as before.
-    pub fn start<R: Rules<B>>(
+    pub fn start<R: Rules<WORDS, B>>(
         alloc: Global,
         game: SessionGame<'g>,
-        rules: &mut TurnRules<R>,
+        rules: &mut TurnRules<WORDS, R>,
         output: &mut OutputText,
-    ) -> Result<Session<'g, B>, Memory>
+    ) -> Result<Session<'g, WORDS, B>, Memory>
         ensures game { IfOk result (λ session. session.game ≡ game.entry) }
         ensures session { IfOk result (λ session. session.session
             ≡ (opening_step (script_for B.table_for game.entry (R.meant rules.old.plain)
@@ -89,9 +89,9 @@ impl<'g, B: Board> Session<'g, B> {
     /// # Errors
     ///
     /// `Memory`: the session and the output are as before, and the same key may be tried again.
-    pub fn key<R: Rules<B>>(
+    pub fn key<R: Rules<WORDS, B>>(
         &mut self,
-        rules: &mut TurnRules<R>,
+        rules: &mut TurnRules<WORDS, R>,
         key: Key,
         output: &mut OutputText,
     ) -> Result<Phase, Memory>

@@ -33,11 +33,11 @@ fn history_change_if(changed: bool) -> HistoryChange
     }
 }
 
-impl<'g, B: Board> Stage<'g, B> {
+impl<'g, const WORDS: usize, B: Board<WORDS>> Stage<'g, WORDS, B> {
     /// Shows the level of a blocked turn, and its message, if it has one.
     fn tell_blocked(
         &mut self,
-        level: &PlayedLevel<B>,
+        level: &PlayedLevel<WORDS, B>,
         message: &Option<Text>,
     ) -> Result<Option<Pending>, Memory>
         ensures game { self.new.game ≡ self.old.game }
@@ -54,13 +54,13 @@ impl<'g, B: Board> Stage<'g, B> {
     }
 
     /// Goes where the turns of a key have ended, with the history as it is then.
-    fn finish_key<R: Rules<B>>(
+    fn finish_key<R: Rules<WORDS, B>>(
         &mut self,
-        rules: &mut TurnRules<R>,
-        level: PlayedLevel<B>,
+        rules: &mut TurnRules<WORDS, R>,
+        level: PlayedLevel<WORDS, B>,
         end: KeyEnd,
         history_change: HistoryChange,
-    ) -> Result<Change<PlayedLevel<B>>, Memory>
+    ) -> Result<Change<PlayedLevel<WORDS, B>>, Memory>
         requires { level.table ≡ B.table_for self.old.game.names.layers }
         ensures game { self.new.game ≡ self.old.game }
         ensures plain { R.meant rules.new.plain ≡ R.meant rules.old.plain }
@@ -88,10 +88,10 @@ impl<'g, B: Board> Stage<'g, B> {
 
     /// Tells of a done turn of a key, of which this level came: its frame and its message; and takes the again turns
     /// that follow.
-    fn end_key<R: Rules<B>>(
+    fn end_key<R: Rules<WORDS, B>>(
         &mut self,
-        rules: &mut TurnRules<R>,
-        level: &mut PlayedLevel<B>,
+        rules: &mut TurnRules<WORDS, R>,
+        level: &mut PlayedLevel<WORDS, B>,
         done: &DoneTurn,
     ) -> Result<KeyEnd, Memory>
         requires { level.old.table ≡ B.table_for self.old.game.names.layers }
@@ -119,12 +119,12 @@ impl<'g, B: Board> Stage<'g, B> {
 
     /// What follows a done turn of a key, of which this level came: its frame, its message, the end of the level or
     /// again turns. If memory is wanting, the boards of the level are spare.
-    fn follow_key<R: Rules<B>>(
+    fn follow_key<R: Rules<WORDS, B>>(
         &mut self,
-        rules: &mut TurnRules<R>,
-        mut level: PlayedLevel<B>,
+        rules: &mut TurnRules<WORDS, R>,
+        mut level: PlayedLevel<WORDS, B>,
         done: &DoneTurn,
-    ) -> Result<Change<PlayedLevel<B>>, Memory>
+    ) -> Result<Change<PlayedLevel<WORDS, B>>, Memory>
         requires { level.table ≡ B.table_for self.old.game.names.layers }
         ensures game { self.new.game ≡ self.old.game }
         ensures plain { R.meant rules.new.plain ≡ R.meant rules.old.plain }
@@ -154,12 +154,12 @@ impl<'g, B: Board> Stage<'g, B> {
     /// # Errors
     ///
     /// `Memory`, and a part of the text may have been made.
-    pub fn take_input<R: Rules<B>>(
+    pub fn take_input<R: Rules<WORDS, B>>(
         &mut self,
-        rules: &mut TurnRules<R>,
-        level: &mut PlayedLevel<B>,
+        rules: &mut TurnRules<WORDS, R>,
+        level: &mut PlayedLevel<WORDS, B>,
         input: Input,
-    ) -> Result<Change<PlayedLevel<B>>, Memory>
+    ) -> Result<Change<PlayedLevel<WORDS, B>>, Memory>
         requires { level.old.table ≡ B.table_for self.old.game.names.layers }
         ensures level { level.new ≡ level.old }
         ensures game { self.new.game ≡ self.old.game }
@@ -193,12 +193,12 @@ impl<'g, B: Board> Stage<'g, B> {
     /// # Errors
     ///
     /// `Memory`, and a part of the text may have been made.
-    pub fn go_on<R: Rules<B>>(
+    pub fn go_on<R: Rules<WORDS, B>>(
         &mut self,
-        rules: &mut TurnRules<R>,
-        level: &PlayedLevel<B>,
+        rules: &mut TurnRules<WORDS, R>,
+        level: &PlayedLevel<WORDS, B>,
         pending: Pending,
-    ) -> Result<Change<PlayedLevel<B>>, Memory>
+    ) -> Result<Change<PlayedLevel<WORDS, B>>, Memory>
         requires { level.now.table ≡ B.table_for self.old.game.names.layers }
         ensures game { self.new.game ≡ self.old.game }
         ensures plain { R.meant rules.new.plain ≡ R.meant rules.old.plain }

@@ -55,10 +55,10 @@ fn level_number(entries: &[Entry], entry: &EntryNumber) -> usize
 }
 
 /// A level in which a message waits, or none.
-pub(crate) fn located<B: Board>(
-    level: PlayedLevel<B>,
+pub(crate) fn located<const WORDS: usize, B: Board<WORDS>>(
+    level: PlayedLevel<WORDS, B>,
     pending: Option<Pending>,
-) -> Location<PlayedLevel<B>>
+) -> Location<PlayedLevel<WORDS, B>>
     ensures shown { (history : List Grid) → location_shown history result ≡ stands pending (play_of history level) }
     ensures table { (table : Option (List ℕ)) → level.table ≡ table → IsOnTable table result }
 {
@@ -68,15 +68,15 @@ pub(crate) fn located<B: Board>(
     }
 }
 
-impl<'g, B: Board> Stage<'g, B> {
+impl<'g, const WORDS: usize, B: Board<WORDS>> Stage<'g, WORDS, B> {
     /// A level begins: its line, and its start.
-    fn enter_level<R: Rules<B>>(
+    fn enter_level<R: Rules<WORDS, B>>(
         &mut self,
-        rules: &mut TurnRules<R>,
+        rules: &mut TurnRules<WORDS, R>,
         number: usize,
         entry: EntryNumber,
         level: &Level,
-    ) -> Result<Location<PlayedLevel<B>>, Memory>
+    ) -> Result<Location<PlayedLevel<WORDS, B>>, Memory>
         requires playable { IsPlayable self.old.game.names level.now }
         requires number { number ≡ level_number (script_of self.old.game [] []) entry }
         ensures game { self.new.game ≡ self.old.game }
@@ -89,7 +89,7 @@ impl<'g, B: Board> Stage<'g, B> {
             ≡ came (location_shown [] location) self.new.text) }
     {
         self.text.add_level(self.alloc, number)?;
-        let mut played: PlayedLevel<B> = PlayedLevel::load(
+        let mut played: PlayedLevel<WORDS, B> = PlayedLevel::load(
             self.alloc,
             &mut self.spares,
             self.game.names(),
@@ -105,11 +105,11 @@ impl<'g, B: Board> Stage<'g, B> {
     /// # Errors
     ///
     /// `Memory`, and a part of the text may have been made.
-    pub fn enter<R: Rules<B>>(
+    pub fn enter<R: Rules<WORDS, B>>(
         &mut self,
-        rules: &mut TurnRules<R>,
+        rules: &mut TurnRules<WORDS, R>,
         entry: usize,
-    ) -> Result<Location<PlayedLevel<B>>, Memory>
+    ) -> Result<Location<PlayedLevel<WORDS, B>>, Memory>
         ensures game { self.new.game ≡ self.old.game }
         ensures plain { R.meant rules.new.plain ≡ R.meant rules.old.plain }
         ensures late { R.meant rules.new.late ≡ R.meant rules.old.late }
@@ -142,11 +142,11 @@ impl<'g, B: Board> Stage<'g, B> {
     /// # Errors
     ///
     /// `Memory`, and a part of the text may have been made.
-    pub fn level_done<R: Rules<B>>(
+    pub fn level_done<R: Rules<WORDS, B>>(
         &mut self,
-        rules: &mut TurnRules<R>,
-        level: &PlayedLevel<B>,
-    ) -> Result<Location<PlayedLevel<B>>, Memory>
+        rules: &mut TurnRules<WORDS, R>,
+        level: &PlayedLevel<WORDS, B>,
+    ) -> Result<Location<PlayedLevel<WORDS, B>>, Memory>
         ensures game { self.new.game ≡ self.old.game }
         ensures plain { R.meant rules.new.plain ≡ R.meant rules.old.plain }
         ensures late { R.meant rules.new.late ≡ R.meant rules.old.late }
@@ -169,12 +169,12 @@ impl<'g, B: Board> Stage<'g, B> {
     /// # Errors
     ///
     /// `Memory`, and a part of the text may have been made.
-    pub fn restart<R: Rules<B>>(
+    pub fn restart<R: Rules<WORDS, B>>(
         &mut self,
-        rules: &mut TurnRules<R>,
-        level: &PlayedLevel<B>,
+        rules: &mut TurnRules<WORDS, R>,
+        level: &PlayedLevel<WORDS, B>,
         message: Option<Text>,
-    ) -> Result<Location<PlayedLevel<B>>, Memory>
+    ) -> Result<Location<PlayedLevel<WORDS, B>>, Memory>
         requires { level.now.table ≡ B.table_for self.old.game.names.layers }
         ensures game { self.new.game ≡ self.old.game }
         ensures plain { R.meant rules.new.plain ≡ R.meant rules.old.plain }

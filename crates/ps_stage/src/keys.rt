@@ -32,7 +32,7 @@ fn key_pending(win: bool, again: bool, left: u32) -> Pending
     Pending::Nothing
 }
 
-impl<'g, B: Board> Stage<'g, B> {
+impl<'g, const WORDS: usize, B: Board<WORDS>> Stage<'g, WORDS, B> {
     /// Tells what comes behind a frame of a key: a message waits; without one the level ends on a win; otherwise the
     /// again turns come, if the turn is to come again.
     fn tell_key(&mut self, done: &DoneTurn, left: u32) -> Result<KeyTold, Memory>
@@ -57,7 +57,7 @@ impl<'g, B: Board> Stage<'g, B> {
     /// Shows the board behind a done turn of a key, and tells what comes behind the frame.
     pub(crate) fn tell_key_turn(
         &mut self,
-        level: &PlayedLevel<B>,
+        level: &PlayedLevel<WORDS, B>,
         done: &DoneTurn,
         left: u32,
     ) -> Result<KeyTold, Memory>
@@ -73,10 +73,10 @@ impl<'g, B: Board> Stage<'g, B> {
 
     /// One again turn of a key: one that is blocked, or neither changed the board nor won, is as if not run, and ends
     /// them; so does a restart.
-    fn key_turn<R: Rules<B>>(
+    fn key_turn<R: Rules<WORDS, B>>(
         &mut self,
-        rules: &mut TurnRules<R>,
-        level: &mut PlayedLevel<B>,
+        rules: &mut TurnRules<WORDS, R>,
+        level: &mut PlayedLevel<WORDS, B>,
         left: u32,
     ) -> Result<KeyTold, Memory>
         requires { level.old.table ≡ B.table_for self.old.game.names.layers }
@@ -113,10 +113,10 @@ impl<'g, B: Board> Stage<'g, B> {
     }
 
     /// The again turns of a key, so many at most.
-    pub(crate) fn key_turns<R: Rules<B>>(
+    pub(crate) fn key_turns<R: Rules<WORDS, B>>(
         &mut self,
-        rules: &mut TurnRules<R>,
-        level: &mut PlayedLevel<B>,
+        rules: &mut TurnRules<WORDS, R>,
+        level: &mut PlayedLevel<WORDS, B>,
         most: u32,
     ) -> Result<KeyEnd, Memory>
         requires { level.old.table ≡ B.table_for self.old.game.names.layers }
@@ -142,10 +142,10 @@ impl<'g, B: Board> Stage<'g, B> {
     }
 
     /// The again turns of a key, as many as there may be.
-    pub(crate) fn all_key_turns<R: Rules<B>>(
+    pub(crate) fn all_key_turns<R: Rules<WORDS, B>>(
         &mut self,
-        rules: &mut TurnRules<R>,
-        level: &mut PlayedLevel<B>,
+        rules: &mut TurnRules<WORDS, R>,
+        level: &mut PlayedLevel<WORDS, B>,
     ) -> Result<KeyEnd, Memory>
         requires { level.old.table ≡ B.table_for self.old.game.names.layers }
         ensures game { self.new.game ≡ self.old.game }

@@ -29,14 +29,14 @@ use std::rc::Rc;
 /// its turns share until a checkpoint. Turns work on a board of their own, which shows the same between them, if there
 /// is one.
 #[derive(Drop)]
-pub struct PlayedLevel<B: Board> {
+pub struct PlayedLevel<const WORDS: usize, B: Board<WORDS>> {
     entry: EntryNumber,
     board: B,
     spare: Option<B>,
     restart_board: Rc<B, Global>,
 }
 
-impl<B: Board> Model for PlayedLevel<B> {
+impl<const WORDS: usize, B: Board<WORDS>> Model for PlayedLevel<WORDS, B> {
     ghost use Rattle.std.specs.Prelude.{◌≡◌, IfSome};
     ghost use Rattle.ps_stage.specs.Standings.{Standing};
 
@@ -92,9 +92,9 @@ pub enum Tried<L> {
 /// # Errors
 ///
 /// `Memory`, and the second board is equal to the first again.
-fn run_turn<B: Board, R: Rules<B>>(
+fn run_turn<const WORDS: usize, B: Board<WORDS>, R: Rules<WORDS, B>>(
     game: &SessionGame<'_>,
-    rules: &mut TurnRules<R>,
+    rules: &mut TurnRules<WORDS, R>,
     input: Option<Input>,
     before: &B,
     after: &mut B,
@@ -121,9 +121,9 @@ fn run_turn<B: Board, R: Rules<B>>(
 /// # Errors
 ///
 /// `Memory`, where there is no spare board.
-fn lent<B: Board>(
+fn lent<const WORDS: usize, B: Board<WORDS>>(
     alloc: Global,
-    spares: &mut SpareBoards<B>,
+    spares: &mut SpareBoards<WORDS, B>,
     board: &B,
     spare: Option<B>,
 ) -> Result<B, Memory>
@@ -143,9 +143,9 @@ fn lent<B: Board>(
 /// # Errors
 ///
 /// `Memory`.
-fn boards_beside<B: Board>(
+fn boards_beside<const WORDS: usize, B: Board<WORDS>>(
     alloc: Global,
-    spares: &mut SpareBoards<B>,
+    spares: &mut SpareBoards<WORDS, B>,
     board: &B,
     restart_board: &Rc<B, Global>,
 ) -> Result<(B, Rc<B, Global>), Memory>
@@ -163,13 +163,13 @@ fn boards_beside<B: Board>(
 /// # Errors
 ///
 /// `Memory`, and no spare board is lost.
-fn level_of<B: Board>(
+fn level_of<const WORDS: usize, B: Board<WORDS>>(
     alloc: Global,
-    spares: &mut SpareBoards<B>,
+    spares: &mut SpareBoards<WORDS, B>,
     entry: EntryNumber,
     board: &B,
     restart_board: &Rc<B, Global>,
-) -> Result<PlayedLevel<B>, Memory>
+) -> Result<PlayedLevel<WORDS, B>, Memory>
     requires { B.table restart_board.now.value ≡ B.table board.now }
     ensures entry { IfOk result (λ level. level.entry ≡ entry) }
     ensures table { IfOk result (λ level. level.table ≡ B.table board.now) }
@@ -197,9 +197,9 @@ fn level_of<B: Board>(
 /// # Errors
 ///
 /// `Memory`.
-fn restart_board_behind<B: Board>(
+fn restart_board_behind<const WORDS: usize, B: Board<WORDS>>(
     alloc: Global,
-    spares: &mut SpareBoards<B>,
+    spares: &mut SpareBoards<WORDS, B>,
     board: &B,
     restart_board: &Rc<B, Global>,
     done: &DoneTurn,
@@ -224,9 +224,9 @@ fn restart_board_behind<B: Board>(
 /// # Errors
 ///
 /// `Memory`.
-fn boards_behind<B: Board>(
+fn boards_behind<const WORDS: usize, B: Board<WORDS>>(
     alloc: Global,
-    spares: &mut SpareBoards<B>,
+    spares: &mut SpareBoards<WORDS, B>,
     board: &B,
     restart_board: &Rc<B, Global>,
     done: &DoneTurn,
@@ -243,7 +243,7 @@ fn boards_behind<B: Board>(
     Ok((spare, restart_board))
 }
 
-impl<B: Board> PlayedLevel<B> {
+impl<const WORDS: usize, B: Board<WORDS>> PlayedLevel<WORDS, B> {
     /// A level at its start.
     ///
     /// # Errors
@@ -251,11 +251,11 @@ impl<B: Board> PlayedLevel<B> {
     /// `Memory`.
     pub(crate) fn load(
         alloc: Global,
-        spares: &mut SpareBoards<B>,
+        spares: &mut SpareBoards<WORDS, B>,
         names: &Names,
         entry: EntryNumber,
         level: &Level,
-    ) -> Result<PlayedLevel<B>, Memory>
+    ) -> Result<PlayedLevel<WORDS, B>, Memory>
         requires { IsPlayable names.now level.now }
         ensures entry { IfOk result (λ played. played.entry ≡ entry) }
         ensures table { IfOk result (λ played. played.table ≡ B.table_for names.now.layers) }
@@ -282,8 +282,8 @@ impl<B: Board> PlayedLevel<B> {
     pub(crate) fn try_copy(
         &self,
         alloc: Global,
-        spares: &mut SpareBoards<B>,
-    ) -> Result<PlayedLevel<B>, Memory>
+        spares: &mut SpareBoards<WORDS, B>,
+    ) -> Result<PlayedLevel<WORDS, B>, Memory>
         ensures { IfOk result (λ copy. copy ≡ self.now) }
     {
         level_of(
@@ -303,9 +303,9 @@ impl<B: Board> PlayedLevel<B> {
     pub(crate) fn with_board(
         &self,
         alloc: Global,
-        spares: &mut SpareBoards<B>,
+        spares: &mut SpareBoards<WORDS, B>,
         other: &B,
-    ) -> Result<PlayedLevel<B>, Memory>
+    ) -> Result<PlayedLevel<WORDS, B>, Memory>
         requires { B.table other.now ≡ self.now.table }
         ensures entry { IfOk result (λ copy. copy.entry ≡ self.now.entry) }
         ensures table { IfOk result (λ copy. copy.table ≡ self.now.table) }
@@ -329,8 +329,8 @@ impl<B: Board> PlayedLevel<B> {
     pub(crate) fn restarted(
         &self,
         alloc: Global,
-        spares: &mut SpareBoards<B>,
-    ) -> Result<PlayedLevel<B>, Memory>
+        spares: &mut SpareBoards<WORDS, B>,
+    ) -> Result<PlayedLevel<WORDS, B>, Memory>
         ensures entry { IfOk result (λ copy. copy.entry ≡ self.now.entry) }
         ensures table { IfOk result (λ copy. copy.table ≡ self.now.table) }
         ensures board { IfOk result (λ copy. copy.board ≡ self.now.restart_board) }
@@ -355,7 +355,7 @@ impl<B: Board> PlayedLevel<B> {
     }
 
     /// Its board, for the history. The one for turns is spare.
-    pub(crate) fn into_board(self, spares: &mut SpareBoards<B>) -> B
+    pub(crate) fn into_board(self, spares: &mut SpareBoards<WORDS, B>) -> B
         ensures grid { B.grid result ≡ self.board }
         ensures table { B.table result ≡ self.table }
     {
@@ -369,12 +369,12 @@ impl<B: Board> PlayedLevel<B> {
     /// # Errors
     ///
     /// `Memory`, and the level is as before or behind the turn, but for its checkpoint.
-    pub(crate) fn take_turn<R: Rules<B>>(
+    pub(crate) fn take_turn<R: Rules<WORDS, B>>(
         &mut self,
         alloc: Global,
-        spares: &mut SpareBoards<B>,
+        spares: &mut SpareBoards<WORDS, B>,
         game: &SessionGame<'_>,
-        rules: &mut TurnRules<R>,
+        rules: &mut TurnRules<WORDS, R>,
         input: Option<Input>,
         counting: Counting,
     ) -> Result<Turned, Memory>
@@ -425,14 +425,14 @@ impl<B: Board> PlayedLevel<B> {
     /// # Errors
     ///
     /// `Memory`.
-    pub(crate) fn try_turn<R: Rules<B>>(
+    pub(crate) fn try_turn<R: Rules<WORDS, B>>(
         &mut self,
         alloc: Global,
-        spares: &mut SpareBoards<B>,
+        spares: &mut SpareBoards<WORDS, B>,
         game: &SessionGame<'_>,
-        rules: &mut TurnRules<R>,
+        rules: &mut TurnRules<WORDS, R>,
         input: Input,
-    ) -> Result<Tried<PlayedLevel<B>>, Memory>
+    ) -> Result<Tried<PlayedLevel<WORDS, B>>, Memory>
         requires { self.old.table ≡ B.table_for game.now.names.layers }
         ensures level { self.new ≡ self.old }
         ensures outcome { IfOk result (λ tried. tried_outcome tried

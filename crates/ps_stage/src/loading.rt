@@ -16,7 +16,7 @@ use ps_names::Names;
 use std::alloc::Global;
 
 /// Puts the objects of a cell on the board, each at rest on its own layer.
-fn fill_cell<B: Board>(board: &mut B, names: &Names, cell: u32, objects: &[ObjectId])
+fn fill_cell<const WORDS: usize, B: Board<WORDS>>(board: &mut B, names: &Names, cell: u32, objects: &[ObjectId])
     requires shape { IsGrid (B.grid board.old) }
     requires place { cell < cell_count (B.grid board.old) }
     requires layers { (B.grid board.old).layers ≡ names.now.layer_count }
@@ -33,7 +33,7 @@ fn fill_cell<B: Board>(board: &mut B, names: &Names, cell: u32, objects: &[Objec
 }
 
 /// The board of a level as it is loaded: each object at rest on its own layer. Without memory there is none.
-pub fn load<B: Board>(alloc: Global, names: &Names, level: &Level) -> Result<B, Memory>
+pub fn load<const WORDS: usize, B: Board<WORDS>>(alloc: Global, names: &Names, level: &Level) -> Result<B, Memory>
     requires { IsPlayable names.now level.now }
     ensures loaded { IfOk result (λ board. B.grid board ≡ loaded names.now level.now) }
     ensures table { IfOk result (λ board. B.table board ≡ B.table_for names.now.layers) }

@@ -9,13 +9,13 @@ use std::alloc::Global;
 /// Boards that nobody shows any more, two at most, whatever is on them. A copy is made on one of them, if it has the
 /// size and the room for it, and only else takes memory.
 #[derive(Drop)]
-pub struct SpareBoards<B: Board> {
+pub struct SpareBoards<const WORDS: usize, B: Board<WORDS>> {
     first: Option<B>,
     second: Option<B>,
 }
 
 /// Takes a board away, if it has the same size, as many layers and the same room as another one.
-fn taken_if_alike<B: Board>(place: &mut Option<B>, board: &B) -> Option<B>
+fn taken_if_alike<const WORDS: usize, B: Board<WORDS>>(place: &mut Option<B>, board: &B) -> Option<B>
     ensures width { IfSome result (λ spare. (B.grid spare).width ≡ (B.grid board.now).width) }
     ensures height { IfSome result (λ spare. (B.grid spare).height ≡ (B.grid board.now).height) }
     ensures layers { IfSome result (λ spare. (B.grid spare).layers ≡ (B.grid board.now).layers) }
@@ -30,7 +30,7 @@ fn taken_if_alike<B: Board>(place: &mut Option<B>, board: &B) -> Option<B>
 }
 
 /// Puts a board in the place of none, or of one that isn't alike; gives it back, where one that is alike has the place.
-fn given_back<B: Board>(place: &mut Option<B>, board: B) -> Option<B>
+fn given_back<const WORDS: usize, B: Board<WORDS>>(place: &mut Option<B>, board: B) -> Option<B>
     ensures { IsSome place.new }
 {
     if let Some(other) = place {
@@ -42,9 +42,9 @@ fn given_back<B: Board>(place: &mut Option<B>, board: B) -> Option<B>
     None
 }
 
-impl<B: Board> SpareBoards<B> {
+impl<const WORDS: usize, B: Board<WORDS>> SpareBoards<WORDS, B> {
     /// No boards.
-    pub fn none() -> SpareBoards<B> {
+    pub fn none() -> SpareBoards<WORDS, B> {
         SpareBoards {
             first: None,
             second: None,

@@ -19,15 +19,15 @@ use std::marker::Model;
 /// A game in play, its picture, boards to be used again, and the text that a key makes. The text goes to the output
 /// when all else is done, so that a key which fails writes nothing.
 #[derive(Drop)]
-pub struct Stage<'g, B: Board> {
+pub struct Stage<'g, const WORDS: usize, B: Board<WORDS>> {
     pub(crate) alloc: Global,
     pub(crate) game: SessionGame<'g>,
-    picture: Picture<'g, B>,
-    pub(crate) spares: SpareBoards<B>,
+    picture: Picture<'g, WORDS, B>,
+    pub(crate) spares: SpareBoards<WORDS, B>,
     pub(crate) text: OutputText,
 }
 
-impl<'g, B: Board> Model for Stage<'g, B> {
+impl<'g, const WORDS: usize, B: Board<WORDS>> Model for Stage<'g, WORDS, B> {
     ghost use Rattle.std.specs.Prelude.{◌≡◌};
     ghost use Rattle.ps_stage.specs.Standings.{StageValue};
 
@@ -38,9 +38,9 @@ impl<'g, B: Board> Model for Stage<'g, B> {
     ghost invariant = { λ s. s.picture ≡ s.game.names };
 }
 
-impl<'g, B: Board> Stage<'g, B> {
+impl<'g, const WORDS: usize, B: Board<WORDS>> Stage<'g, WORDS, B> {
     /// A game without a text.
-    pub fn new(alloc: Global, game: SessionGame<'g>) -> Stage<'g, B>
+    pub fn new(alloc: Global, game: SessionGame<'g>) -> Stage<'g, WORDS, B>
         ensures game { result.game ≡ game.entry }
         ensures text { result.text ≡ [] }
     {
@@ -135,7 +135,7 @@ impl<'g, B: Board> Stage<'g, B> {
     }
 
     /// Keeps the boards of a level that nobody plays any more, to be used again. No memory is taken.
-    pub fn keep_level(&mut self, level: PlayedLevel<B>)
+    pub fn keep_level(&mut self, level: PlayedLevel<WORDS, B>)
         ensures { self.new ≡ self.old }
     {
         let board = level.into_board(&mut self.spares);
@@ -143,7 +143,7 @@ impl<'g, B: Board> Stage<'g, B> {
     }
 
     /// The board of a level that is left, for the history. No memory is taken.
-    pub fn board_of(&mut self, level: PlayedLevel<B>) -> B
+    pub fn board_of(&mut self, level: PlayedLevel<WORDS, B>) -> B
         ensures stage { self.new ≡ self.old }
         ensures grid { B.grid result ≡ level.board }
         ensures table { B.table result ≡ level.table }
@@ -156,7 +156,7 @@ impl<'g, B: Board> Stage<'g, B> {
     /// # Errors
     ///
     /// `Memory`.
-    pub fn level_at(&mut self, level: &PlayedLevel<B>, board: &B) -> Result<PlayedLevel<B>, Memory>
+    pub fn level_at(&mut self, level: &PlayedLevel<WORDS, B>, board: &B) -> Result<PlayedLevel<WORDS, B>, Memory>
         requires { B.table board.now ≡ level.now.table }
         ensures stage { self.new ≡ self.old }
         ensures entry { IfOk result (λ back. back.entry ≡ level.now.entry) }

@@ -46,7 +46,7 @@ pub(crate) fn again_limit() -> u32
     AGAIN_LIMIT
 }
 
-impl<'g, B: Board> Stage<'g, B> {
+impl<'g, const WORDS: usize, B: Board<WORDS>> Stage<'g, WORDS, B> {
     /// Tells what comes behind a frame of a start: a message waits; without one the again turns come, if the turn is to
     /// come again.
     fn tell_start(
@@ -73,7 +73,7 @@ impl<'g, B: Board> Stage<'g, B> {
     /// Shows the board behind a done turn of a start, if the turn changed it, and tells what comes behind the frame.
     fn tell_start_turn(
         &mut self,
-        level: &PlayedLevel<B>,
+        level: &PlayedLevel<WORDS, B>,
         done: &DoneTurn,
         left: u32,
     ) -> Result<StartTold, Memory>
@@ -90,10 +90,10 @@ impl<'g, B: Board> Stage<'g, B> {
     }
 
     /// One again turn of a start: one that leaves the board as it was is as if not run, and ends them.
-    fn start_turn<R: Rules<B>>(
+    fn start_turn<R: Rules<WORDS, B>>(
         &mut self,
-        rules: &mut TurnRules<R>,
-        level: &mut PlayedLevel<B>,
+        rules: &mut TurnRules<WORDS, R>,
+        level: &mut PlayedLevel<WORDS, B>,
         left: u32,
     ) -> Result<StartTold, Memory>
         requires { level.old.table ≡ B.table_for self.old.game.names.layers }
@@ -124,10 +124,10 @@ impl<'g, B: Board> Stage<'g, B> {
     }
 
     /// The again turns of a start, so many at most.
-    pub(crate) fn start_turns<R: Rules<B>>(
+    pub(crate) fn start_turns<R: Rules<WORDS, B>>(
         &mut self,
-        rules: &mut TurnRules<R>,
-        level: &mut PlayedLevel<B>,
+        rules: &mut TurnRules<WORDS, R>,
+        level: &mut PlayedLevel<WORDS, B>,
         most: u32,
     ) -> Result<Option<Pending>, Memory>
         requires { level.old.table ≡ B.table_for self.old.game.names.layers }
@@ -153,10 +153,10 @@ impl<'g, B: Board> Stage<'g, B> {
     }
 
     /// The again turns of a start, as many as there may be.
-    fn all_start_turns<R: Rules<B>>(
+    fn all_start_turns<R: Rules<WORDS, B>>(
         &mut self,
-        rules: &mut TurnRules<R>,
-        level: &mut PlayedLevel<B>,
+        rules: &mut TurnRules<WORDS, R>,
+        level: &mut PlayedLevel<WORDS, B>,
     ) -> Result<Option<Pending>, Memory>
         requires { level.old.table ≡ B.table_for self.old.game.names.layers }
         ensures game { self.new.game ≡ self.old.game }
@@ -175,10 +175,10 @@ impl<'g, B: Board> Stage<'g, B> {
     }
 
     /// A level from its first frame on, with a message or without one, and with again turns or without.
-    fn started<R: Rules<B>>(
+    fn started<R: Rules<WORDS, B>>(
         &mut self,
-        rules: &mut TurnRules<R>,
-        level: &mut PlayedLevel<B>,
+        rules: &mut TurnRules<WORDS, R>,
+        level: &mut PlayedLevel<WORDS, B>,
         message: &Option<Text>,
         again: bool,
     ) -> Result<Option<Pending>, Memory>
@@ -205,10 +205,10 @@ impl<'g, B: Board> Stage<'g, B> {
 
     /// The start of a level, with a message from before or without one. Where an option asks for it a turn without
     /// input comes first; its message comes before one from before.
-    pub(crate) fn start_step<R: Rules<B>>(
+    pub(crate) fn start_step<R: Rules<WORDS, B>>(
         &mut self,
-        rules: &mut TurnRules<R>,
-        level: &mut PlayedLevel<B>,
+        rules: &mut TurnRules<WORDS, R>,
+        level: &mut PlayedLevel<WORDS, B>,
         message: Option<Text>,
     ) -> Result<Option<Pending>, Memory>
         requires { level.old.table ≡ B.table_for self.old.game.names.layers }

@@ -25,7 +25,7 @@ pub fn motion_for(input: Input) -> Motion
 }
 
 /// Gives a motion to each of the objects `moved`, wherever it stands, and brings all others to rest.
-pub fn give_motion<B: Board>(board: &mut B, moved: &[ObjectId], motion: Motion)
+pub fn give_motion<const WORDS: usize, B: Board<WORDS>>(board: &mut B, moved: &[ObjectId], motion: Motion)
     ensures moved { B.grid board.new ≡ with_motion moved.now motion (B.grid board.old) }
     ensures table { B.table board.new ≡ B.table board.old }
 {
@@ -39,7 +39,7 @@ pub fn give_motion<B: Board>(board: &mut B, moved: &[ObjectId], motion: Motion)
 }
 
 /// Gives the motion to those of the objects that stand in the cells of a row.
-fn give_row<B: Board>(board: &mut B, row: u32, moved: &[ObjectId], motion: Motion)
+fn give_row<const WORDS: usize, B: Board<WORDS>>(board: &mut B, row: u32, moved: &[ObjectId], motion: Motion)
     requires { row < (B.grid board.old).height }
     ensures changed { AreChanged (map (slot_set_moving moved.now motion)) (B.grid board.old) (B.grid board.new) }
     ensures here { IsRowChanged (map (slot_set_moving moved.now motion)) (B.grid board.old) (B.grid board.new) row }
@@ -53,7 +53,7 @@ fn give_row<B: Board>(board: &mut B, row: u32, moved: &[ObjectId], motion: Motio
 }
 
 /// Gives the motion to those of the objects that stand in the cell of a column and a row.
-fn give_there<B: Board>(board: &mut B, column: u32, row: u32, moved: &[ObjectId], motion: Motion)
+fn give_there<const WORDS: usize, B: Board<WORDS>>(board: &mut B, column: u32, row: u32, moved: &[ObjectId], motion: Motion)
     requires column { column < (B.grid board.old).width }
     requires row { row < (B.grid board.old).height }
     ensures changed { AreChanged (map (slot_set_moving moved.now motion)) (B.grid board.old) (B.grid board.new) }
@@ -66,7 +66,7 @@ fn give_there<B: Board>(board: &mut B, column: u32, row: u32, moved: &[ObjectId]
 }
 
 /// Gives the motion to those of the objects that stand in a cell.
-fn give_cell<B: Board>(board: &mut B, cell: u32, moved: &[ObjectId], motion: Motion)
+fn give_cell<const WORDS: usize, B: Board<WORDS>>(board: &mut B, cell: u32, moved: &[ObjectId], motion: Motion)
     requires cell { cell < cell_count (B.grid board.old) }
     requires shape { IsGrid (B.grid board.old) }
     ensures moved { B.grid board.new ≡ grid_with_cell (B.grid board.old) cell
@@ -79,7 +79,7 @@ fn give_cell<B: Board>(board: &mut B, cell: u32, moved: &[ObjectId], motion: Mot
 }
 
 /// Gives the motion to the object of a slot, if it is one of the objects.
-fn give_slot<B: Board>(board: &mut B, cell: u32, layer: LayerId, moved: &[ObjectId], motion: Motion)
+fn give_slot<const WORDS: usize, B: Board<WORDS>>(board: &mut B, cell: u32, layer: LayerId, moved: &[ObjectId], motion: Motion)
     requires { IsPlace (B.grid board.old) cell layer.0 }
     ensures moved { B.grid board.new ≡ with_slot (B.grid board.old) cell layer.0
         (slot_set_moving moved.now motion (slot_at (B.grid board.old) cell layer.0)) }

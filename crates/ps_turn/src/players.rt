@@ -12,7 +12,7 @@ use crate::turns::TurnGame;
 use ps_board::{Board, Columns};
 
 /// The columns of a row in whose cells a Player stands.
-fn player_columns<B: Board>(game: &TurnGame<'_>, board: &B, row: u32) -> Columns
+fn player_columns<const WORDS: usize, B: Board<WORDS>>(game: &TurnGame<'_>, board: &B, row: u32) -> Columns<WORDS>
     requires { row < (B.grid board.now).height }
     ensures { result ≡ row_cells (has_player game.now.names) (B.grid board.now) row }
 {
@@ -20,7 +20,7 @@ fn player_columns<B: Board>(game: &TurnGame<'_>, board: &B, row: u32) -> Columns
 }
 
 /// The columns of a row whose cells had a Player and have none now.
-fn left_columns<B: Board>(game: &TurnGame<'_>, before: &B, after: &B, row: u32) -> Columns
+fn left_columns<const WORDS: usize, B: Board<WORDS>>(game: &TurnGame<'_>, before: &B, after: &B, row: u32) -> Columns<WORDS>
     requires sides { HaveSameSides (B.grid after.now) (B.grid before.now) }
     requires row { row < (B.grid before.now).height }
     requires there { row < (B.grid after.now).height }
@@ -32,7 +32,7 @@ fn left_columns<B: Board>(game: &TurnGame<'_>, before: &B, after: &B, row: u32) 
 }
 
 /// Whether there is a Player.
-fn is_there<B: Board>(game: &TurnGame<'_>, board: &B) -> bool
+fn is_there<const WORDS: usize, B: Board<WORDS>>(game: &TurnGame<'_>, board: &B) -> bool
     ensures { result ≡ list_any (has_player_at game.now.names (B.grid board.now)) (range_with_len 0 (cell_count
         (B.grid board.now))) }
 {
@@ -48,7 +48,7 @@ fn is_there<B: Board>(game: &TurnGame<'_>, board: &B) -> bool
 }
 
 /// Whether a cell had a Player and has none now.
-fn has_left<B: Board>(game: &TurnGame<'_>, before: &B, after: &B) -> bool
+fn has_left<const WORDS: usize, B: Board<WORDS>>(game: &TurnGame<'_>, before: &B, after: &B) -> bool
     requires { HaveSameSides (B.grid after.now) (B.grid before.now) }
     ensures { result ≡ list_any (is_left game.now.names (B.grid before.now) (B.grid after.now)) (range_with_len 0
         (cell_count (B.grid before.now))) }
@@ -65,7 +65,7 @@ fn has_left<B: Board>(game: &TurnGame<'_>, before: &B, after: &B) -> bool
 }
 
 /// Whether there was a Player, and each cell that had one still has one.
-pub fn stayed<B: Board>(game: &TurnGame<'_>, before: &B, after: &B) -> bool
+pub fn stayed<const WORDS: usize, B: Board<WORDS>>(game: &TurnGame<'_>, before: &B, after: &B) -> bool
     requires { HaveSameSides (B.grid after.now) (B.grid before.now) }
     ensures { result ≡ stayed game.now.names (B.grid after.now) (player_cells game.now.names (B.grid before.now)) }
 {

@@ -9,7 +9,7 @@ use ps_board::{Board, CellSet};
 use ps_model::Memory;
 
 /// The rules of one part of a turn, with what their runs need besides the board.
-pub trait Rules<B: Board> {
+pub trait Rules<const WORDS: usize, B: Board<WORDS>> {
     /// The program that the rules are on boards whose objects have these layers.
     ghost meant: { Self → Option (List ℕ) → List Section };
 
@@ -30,9 +30,9 @@ pub trait Rules<B: Board> {
 
 /// The rules of a game's turns: those before the movement, and those behind it.
 #[derive(Drop)]
-pub struct TurnRules<R> {
+pub struct TurnRules<const WORDS: usize, R> {
     pub plain: R,
     pub late: R,
     /// Room for the cells of a movement in which something moves.
-    pub moving: CellSet,
+    pub moving: CellSet<WORDS>,
 }

@@ -69,7 +69,7 @@ impl<'g> TurnGame<'g> {
 
 /// Makes a board ready for the rules of a turn: all objects at rest, and then, with an input, every object of Player
 /// with its motion.
-fn prepare<B: Board>(game: &TurnGame<'_>, input: Option<Input>, board: &mut B)
+fn prepare<const WORDS: usize, B: Board<WORDS>>(game: &TurnGame<'_>, input: Option<Input>, board: &mut B)
     ensures prepared { B.grid board.new ≡ prepared game.now.names input (B.grid board.old) }
     ensures table { B.table board.new ≡ B.table board.old }
 {
@@ -84,9 +84,9 @@ fn prepare<B: Board>(game: &TurnGame<'_>, input: Option<Input>, board: &mut B)
 /// # Errors
 ///
 /// `Memory`, and a part of the changes may have been made.
-fn play<B: Board, R: Rules<B>>(
+fn play<const WORDS: usize, B: Board<WORDS>, R: Rules<WORDS, B>>(
     game: &TurnGame<'_>,
-    rules: &mut TurnRules<R>,
+    rules: &mut TurnRules<WORDS, R>,
     input: Option<Input>,
     board: &mut B,
 ) -> Result<Queue, Memory>
@@ -107,7 +107,7 @@ fn play<B: Board, R: Rules<B>>(
 }
 
 /// Whether the game asks for a move of the Player, and each cell that had one still has one.
-fn is_held<B: Board>(game: &TurnGame<'_>, input: Option<Input>, before: &B, after: &B) -> bool
+fn is_held<const WORDS: usize, B: Board<WORDS>>(game: &TurnGame<'_>, input: Option<Input>, before: &B, after: &B) -> bool
     requires { HaveSameSides (B.grid after.now) (B.grid before.now) }
     ensures { result ≡ is_held (script_with game.now [] []) input (B.grid before.now) (B.grid after.now) }
 {
@@ -122,7 +122,7 @@ fn message_of(queue: Queue) -> Option<Text>
 }
 
 /// A done turn, by the boards before and after it.
-fn done<B: Board>(game: &TurnGame<'_>, before: &B, after: &B, queue: Queue) -> DoneTurn
+fn done<const WORDS: usize, B: Board<WORDS>>(game: &TurnGame<'_>, before: &B, after: &B, queue: Queue) -> DoneTurn
     requires sides { HaveSameSides (B.grid after.now) (B.grid before.now) }
     requires table { B.table after.now ≡ B.table before.now }
     ensures { done_shown result (B.grid after.now)
@@ -142,7 +142,7 @@ fn done<B: Board>(game: &TurnGame<'_>, before: &B, after: &B, queue: Queue) -> D
 /// What comes of a turn, by the boards before and after its changes: blocked, where the game asks for a move of the
 /// Player and each cell that had one still has one; blocked by `cancel`; restarted by `restart`; or done. Where it
 /// isn't done the second board is made equal to the first.
-fn outcome<B: Board>(
+fn outcome<const WORDS: usize, B: Board<WORDS>>(
     game: &TurnGame<'_>,
     input: Option<Input>,
     before: &B,
@@ -179,9 +179,9 @@ fn outcome<B: Board>(
 /// # Errors
 ///
 /// `Memory`: the first board stands, and the second is equal to it again.
-pub fn turn<B: Board, R: Rules<B>>(
+pub fn turn<const WORDS: usize, B: Board<WORDS>, R: Rules<WORDS, B>>(
     game: &TurnGame<'_>,
-    rules: &mut TurnRules<R>,
+    rules: &mut TurnRules<WORDS, R>,
     input: Option<Input>,
     before: &B,
     after: &mut B,

@@ -15,7 +15,7 @@ use ps_levels::Win;
 use ps_model::Quantifier;
 
 /// The columns of a row whose cells have the subject of a win condition and are places of it.
-fn columns_met<B: Board>(board: &B, win: &Win, row: u32) -> Columns
+fn columns_met<const WORDS: usize, B: Board<WORDS>>(board: &B, win: &Win, row: u32) -> Columns<WORDS>
     requires { row < (B.grid board.now).height }
     ensures { result ≡ row_cells (is_met (meaning_shown win.now.subject) (option_map meaning_shown win.now.place))
         (B.grid board.now) row }
@@ -28,7 +28,7 @@ fn columns_met<B: Board>(board: &B, win: &Win, row: u32) -> Columns
 }
 
 /// The columns of a row whose cells have the subject of a win condition and are no places of it.
-fn columns_missed<B: Board>(board: &B, win: &Win, row: u32) -> Columns
+fn columns_missed<const WORDS: usize, B: Board<WORDS>>(board: &B, win: &Win, row: u32) -> Columns<WORDS>
     requires { row < (B.grid board.now).height }
     ensures { result ≡ row_cells (is_missed (meaning_shown win.now.subject) (option_map meaning_shown win.now.place))
         (B.grid board.now) row }
@@ -41,7 +41,7 @@ fn columns_missed<B: Board>(board: &B, win: &Win, row: u32) -> Columns
 }
 
 /// Whether some cell with the subject of a win condition is a place of it.
-fn some_met<B: Board>(board: &B, win: &Win) -> bool
+fn some_met<const WORDS: usize, B: Board<WORDS>>(board: &B, win: &Win) -> bool
     ensures { result ≡ list_any (is_place (option_map meaning_shown win.now.place))
         (filter (is_in (meaning_shown win.now.subject)) (B.grid board.now).cells) }
 {
@@ -57,7 +57,7 @@ fn some_met<B: Board>(board: &B, win: &Win) -> bool
 }
 
 /// Whether all cells with the subject of a win condition are places of it.
-fn all_met<B: Board>(board: &B, win: &Win) -> bool
+fn all_met<const WORDS: usize, B: Board<WORDS>>(board: &B, win: &Win) -> bool
     ensures { result ≡ list_all (is_place (option_map meaning_shown win.now.place))
         (filter (is_in (meaning_shown win.now.subject)) (B.grid board.now).cells) }
 {
@@ -74,7 +74,7 @@ fn all_met<B: Board>(board: &B, win: &Win) -> bool
 
 /// Whether a win condition holds: `All X on Y` where every cell with X has Y, `Some X on Y` where some cell has both,
 /// `No X on Y` where none has. Without `on Y` every cell will do.
-fn holds<B: Board>(board: &B, win: &Win) -> bool
+fn holds<const WORDS: usize, B: Board<WORDS>>(board: &B, win: &Win) -> bool
     ensures { result ≡ holds (B.grid board.now) (win_shown win.now) }
 {
     match win.quantifier {
@@ -85,7 +85,7 @@ fn holds<B: Board>(board: &B, win: &Win) -> bool
 }
 
 /// Whether all win conditions hold of a board; without any they do.
-pub fn won<B: Board>(wins: &[Win], board: &B) -> bool
+pub fn won<const WORDS: usize, B: Board<WORDS>>(wins: &[Win], board: &B) -> bool
     ensures { result ≡ won (wins_shown wins.now) (B.grid board.now) }
 {
     for win in wins {
@@ -97,7 +97,7 @@ pub fn won<B: Board>(wins: &[Win], board: &B) -> bool
 }
 
 /// Whether win conditions are written, and all hold of a board.
-pub fn is_won<B: Board>(wins: &[Win], board: &B) -> bool
+pub fn is_won<const WORDS: usize, B: Board<WORDS>>(wins: &[Win], board: &B) -> bool
     ensures { result ≡ is_won (wins_shown wins.now) (B.grid board.now) }
 {
     !wins.is_empty() && won(wins, board)

@@ -1,0 +1,10 @@
+pub mod ColumnLaws
+pub mod WordSteps
+pub mod WordBits
+pub mod JoinedWords
+pub mod EmptyWords
+pub mod OneOfWords
+pub mod MovedWords
+pub mod SameWords
+pub mod FirstOfWords
+pub mod OneWord
