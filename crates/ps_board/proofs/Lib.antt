@@ -5,7 +5,7 @@ mod SameRows
 pub mod ColumnLaws
 pub mod Taken
 pub mod RowByRow
-pub mod ColumnWords
+pub mod WordBits
 pub mod PassedColumns
 mod Differing
 pub mod OneColumn

@@ -1,5 +1,5 @@
 -- A word is known by the columns of its bits.
-use Rattle.std.proofs.Common.{◌≡◌, ◌∙◌, ℕ, ◌+◌, ◌*◌, ◌/◌, ◌%◌, ◌^◌, ◌<◌, suc, zero, map, refl, sym, ap, ap₂, mod-lt}
+use Rattle.std.proofs.Common.{◌≡◌, ◌∙◌, ℕ, ◌+◌, ◌*◌, ◌/◌, ◌%◌, ◌^◌, ◌<◌, suc, zero, map, refl, sym, ap, ap₂, mod-lt, arith}
 use Rattle.std.proofs.Common.{zero-lt-suc, le_of_suc-le-suc, not-suc-le-zero, add-one}
 use Rattle.std.specs.Prelude.{nat_eq, if◌then◌else◌}
 use Rattle.std.specs.List.{range_with_len}
@@ -30,5 +30,5 @@ bits_from word from (suc count) =
 
 pub columns_word-of : (word : ℕ) → word < 2 ^ 64 → columns_word (word_columns word) ≡ word
 unfolding columns_where
-columns_word-of word within = bits_from word 0 SIDE_LIMIT ∙ ap (λ (n : ℕ). n % 2 ^ 64) (div-one word)
-    ∙ mod-eq_of_lt within
+columns_word-of word within = bits_from word 0 SIDE_LIMIT ∙ ap (λ (n : ℕ). n % 2 ^ SIDE_LIMIT) (div-one word)
+    ∙ mod-eq_of_lt (omega (arith, within))

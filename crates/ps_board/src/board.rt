@@ -13,6 +13,7 @@ ghost use Rattle.ps_board.specs.RowsOfGrids.{PassOnlyOn, is_moving, row_holders,
 ghost use Rattle.ps_board.specs.Rows.{AreAlike, DifferOnlyIn, DifferOnlyOn};
 
 use crate::columns::Columns;
+use crate::words::ColumnWords;
 use ps_model::{LayerId, Memory, Motion, ObjectId};
 use std::alloc::Global;
 
@@ -36,6 +37,9 @@ pub trait Board: Drop {
     /// The table of a board for a game whose objects stand on these layers.
     ghost table_for: { List ℕ → Option (List ℕ) };
 
+    /// The words of a set of its columns, or of its rows.
+    type Words: ColumnWords;
+
     /// A board without objects, of so many columns, rows and layers, for a game whose objects stand on the layers
     /// `own_layers`, in the order of their numbers. Without memory there is no board.
     fn try_empty(
@@ -46,7 +50,9 @@ pub trait Board: Drop {
         own_layers: &[LayerId],
     ) -> Result<Self, Memory>
         requires width { (0 < width) × (width ≤ SIDE_LIMIT) }
+        requires narrow { width ≤ Self.Words.limit }
         requires height { (0 < height) × (height ≤ SIDE_LIMIT) }
+        requires low { height ≤ Self.Words.limit }
         requires layers { (0 < layers) × (layers ≤ LAYER_LIMIT) }
         ensures grid { IfOk result (λ board. grid board ≡ empty_grid width height layers) }
         ensures table { IfOk result (λ board. table board ≡ table_for (layer_numbers own_layers.now)) }
@@ -61,7 +67,9 @@ pub trait Board: Drop {
     fn size(&self) -> (u32, u32)
         ensures width { result.0 ≡ (grid self.now).width }
         ensures height { result.1 ≡ (grid self.now).height }
-        ensures shape { IsGrid (grid self.now) };
+        ensures shape { IsGrid (grid self.now) }
+        ensures narrow { result.0 ≤ Self.Words.limit }
+        ensures low { result.1 ≤ Self.Words.limit };
 
     /// The number of collision layers.
     fn layers(&self) -> u32
@@ -109,30 +117,30 @@ pub trait Board: Drop {
         ensures { result ≡ same_cells (grid self.now).cells (grid other.now).cells };
 
     /// The columns of a row in which the object on a layer is about to do something.
-    fn movers(&self, layer: LayerId, row: u32) -> Columns
+    fn movers(&self, layer: LayerId, row: u32) -> Columns<Self::Words>
         requires layer { layer.0 < (grid self.now).layers }
         requires row { row < (grid self.now).height }
         ensures { result ≡ row_movers (grid self.now) layer.0 row };
 
     /// The columns of a row in which an object stands on a layer.
-    fn holders(&self, object: ObjectId, layer: LayerId, row: u32) -> Columns
+    fn holders(&self, object: ObjectId, layer: LayerId, row: u32) -> Columns<Self::Words>
         requires layer { layer.0 < (grid self.now).layers }
         requires row { row < (grid self.now).height }
         ensures { result ≡ row_holders (grid self.now) object layer.0 row };
 
     /// Rows, as a set of their numbers, without which nothing on the board is about to move or to act. There may be
     /// more of them, and all of them, as a board needn't look for it.
-    fn rows_moving_any(&self) -> Columns
+    fn rows_moving_any(&self) -> Columns<Self::Words>
         ensures { PassOnlyOn is_moving (grid self.now) result };
 
     /// Rows, as a set of their numbers, without which an object stands nowhere, on whatever layer. There may be more of
     /// them, and all of them, as a board needn't look for it.
-    fn rows_holding(&self, object: ObjectId) -> Columns
+    fn rows_holding(&self, object: ObjectId) -> Columns<Self::Words>
         ensures { PassOnlyOn (slot_holds object) (grid self.now) result };
 
     /// Columns of a row whose cells show the same objects, at rest or not, as one of them does, itself among them.
     /// There may be others, as a board needn't look for them.
-    fn alike(&self, row: u32, column: u32) -> Columns
+    fn alike(&self, row: u32, column: u32) -> Columns<Self::Words>
         requires row { row < (grid self.now).height }
         requires column { column < (grid self.now).width }
         ensures own { column_at result column ≡ true }
@@ -148,7 +156,7 @@ pub trait Board: Drop {
     /// The columns of a row whose cells may show other objects, at rest or not, than on another board of the same size,
     /// with as many layers and the same room. The cells of all other columns show the same; a board may name columns
     /// that do.
-    fn differing(&self, other: &Self, row: u32) -> Columns
+    fn differing(&self, other: &Self, row: u32) -> Columns<Self::Words>
         requires row { row < (grid self.now).height }
         requires width { (grid other.now).width ≡ (grid self.now).width }
         requires height { (grid other.now).height ≡ (grid self.now).height }
@@ -159,7 +167,7 @@ pub trait Board: Drop {
     /// Rows, as a set of their numbers, outside of which another board of the same size, with as many layers and the
     /// same room, shows the same objects, at rest or not. There may be more of them, and all of them, as a board
     /// needn't look for it.
-    fn rows_differing(&self, other: &Self) -> Columns
+    fn rows_differing(&self, other: &Self) -> Columns<Self::Words>
         requires width { (grid other.now).width ≡ (grid self.now).width }
         requires height { (grid other.now).height ≡ (grid self.now).height }
         requires layers { (grid other.now).layers ≡ (grid self.now).layers }
@@ -168,12 +176,12 @@ pub trait Board: Drop {
 
     /// Makes another board of the same size, with as many layers and the same room, show what this one does, at rest.
     /// Outside of these rows the other board shows the same objects already.
-    fn copy_rows(&self, other: &mut Self, rows: Columns)
+    fn copy_rows(&self, other: &mut Self, rows: &Columns<Self::Words>)
         requires width { (grid other.old).width ≡ (grid self.now).width }
         requires height { (grid other.old).height ≡ (grid self.now).height }
         requires layers { (grid other.old).layers ≡ (grid self.now).layers }
         requires table { table other.old ≡ table self.now }
-        requires same { DifferOnlyOn rows (grid self.now) (grid other.old) }
+        requires same { DifferOnlyOn rows.now (grid self.now) (grid other.old) }
         ensures grid { grid other.new ≡ at_rest (grid self.now) }
         ensures table { table other.new ≡ table self.now };
 }
@@ -182,7 +190,9 @@ pub trait Board: Drop {
 /// slots as these say. A proof about the cells of a board that was passed in needs it, and learns it from a call alone.
 /// Nothing is done when it runs.
 pub fn recall_shape<B: Board>(board: &B)
-    ensures { IsGrid (B.grid board.now) }
+    ensures shape { IsGrid (B.grid board.now) }
+    ensures narrow { (B.grid board.now).width ≤ B.Words.limit }
+    ensures low { (B.grid board.now).height ≤ B.Words.limit }
 {
     let (_width, _height) = board.size();
 }

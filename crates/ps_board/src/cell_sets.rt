@@ -10,6 +10,7 @@ ghost use Rattle.ps_board.specs.RowsOfGrids.{is_moving};
 
 use crate::board::Board;
 use crate::columns::Columns;
+use crate::words::ColumnWords;
 use ps_model::{LayerId, Memory, SIDE_LIMIT};
 use std::alloc::Global;
 use std::marker::Model;
@@ -17,17 +18,17 @@ use std::marker::Model;
 /// A set of cells of a board, row by row, in room that is made once and serves one board after the other. Contracts see
 /// a list of sets of columns, as many as the board has rows, set `y` for row `y`.
 #[derive(Drop)]
-pub struct CellSet {
+pub struct CellSet<B: Board> {
     /// Room for the rows of the highest board. Those of this one come first.
-    rows: Vec<Columns>,
+    rows: Vec<Columns<B::Words>>,
     height: u32,
-    columns: Columns,
+    columns: Columns<B::Words>,
     ghost room: { vec_len rows ≡ SIDE_LIMIT },
     ghost low: { height ≤ SIDE_LIMIT },
     ghost each: { columns ≡ columns_in (take height rows.items) },
 }
 
-impl Model for CellSet {
+impl<B: Board> Model for CellSet<B> {
     ghost use Rattle.std.specs.Prelude.{Bool, List, take};
 
     ghost Value = { List (List Bool) };
@@ -36,7 +37,7 @@ impl Model for CellSet {
 }
 
 /// The columns of a row in which an object is about to do something, on whatever layer.
-fn moving_columns<B: Board>(board: &B, row: u32) -> Columns
+fn moving_columns<B: Board>(board: &B, row: u32) -> Columns<B::Words>
     requires shape { IsGrid (B.grid board.now) }
     requires row { row < (B.grid board.now).height }
     ensures { let g = B.grid board.now in
@@ -50,7 +51,7 @@ fn moving_columns<B: Board>(board: &B, row: u32) -> Columns
 }
 
 /// Makes rows, as many as a board has, those of its cells in which an object is about to do something.
-fn fill_moving<B: Board>(board: &B, rows: &mut [Columns])
+fn fill_moving<B: Board>(board: &B, rows: &mut [Columns<B::Words>])
     requires { length rows.old ≡ (B.grid board.now).height }
     ensures set { IsSetOf (list_any is_moving) (B.grid board.now) rows.new }
     ensures long { length rows.new ≡ length rows.old }
@@ -65,7 +66,7 @@ fn fill_moving<B: Board>(board: &B, rows: &mut [Columns])
 }
 
 /// The columns that have a cell in one of the rows.
-fn columns_of(rows: &[Columns]) -> Columns
+fn columns_of<W: ColumnWords>(rows: &[Columns<W>]) -> Columns<W>
     ensures { result ≡ columns_in rows.now }
 {
     let mut all = Columns::none();
@@ -76,7 +77,7 @@ fn columns_of(rows: &[Columns]) -> Columns
 }
 
 /// Fills as many rows as a board has, from the first on, and answers the columns that have a cell in one of them.
-fn fill_front<B: Board>(board: &B, rows: &mut [Columns]) -> Columns
+fn fill_front<B: Board>(board: &B, rows: &mut [Columns<B::Words>]) -> Columns<B::Words>
     requires { (B.grid board.now).height ≤ length rows.old }
     ensures set { let grid = B.grid board.now in IsSetOf (list_any is_moving) grid (take grid.height rows.new) }
     ensures columns { result ≡ columns_in (take (B.grid board.now).height rows.new) }
@@ -87,9 +88,9 @@ fn fill_front<B: Board>(board: &B, rows: &mut [Columns]) -> Columns
     columns_of(&rows[..height as usize])
 }
 
-impl CellSet {
+impl<B: Board> CellSet<B> {
     /// No cells, with room for those of any board. `Memory` if there is none.
-    pub fn try_new(alloc: Global) -> Result<CellSet, Memory>
+    pub fn try_new(alloc: Global) -> Result<CellSet<B>, Memory>
         ensures { IfOk result (λ cells. cells ≡ []) }
     {
         let rows = Vec::from_elem(alloc, Columns::none(), SIDE_LIMIT as usize)?;
@@ -101,7 +102,7 @@ impl CellSet {
     }
 
     /// Makes this the set of the cells of a board in which an object is about to do something. No memory is taken.
-    pub fn set_moving<B: Board>(&mut self, board: &B)
+    pub fn set_moving(&mut self, board: &B)
         ensures { IsSetOf (list_any is_moving) (B.grid board.now) self.new }
     {
         let (_, height) = board.size();

@@ -7,10 +7,14 @@ mod board;
 mod cell_sets;
 mod columns;
 mod list_board;
+mod one_word;
 mod slots;
+mod words;
 
 pub use board::{Board, recall_shape};
 pub use cell_sets::CellSet;
-pub use columns::{Columns, WORD_BITS};
+pub use columns::Columns;
 pub use list_board::ListBoard;
+pub use one_word::{OneWord, WORD_BITS};
 pub use ps_model::{Direction, LayerId, Memory, Motion, ObjectId, Slot};
+pub use words::ColumnWords;

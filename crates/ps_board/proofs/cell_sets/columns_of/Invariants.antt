@@ -4,4 +4,4 @@ use Rattle.ps_board.proofs.cell_sets.columns_of.Given as goal
 
 -- the columns of the rows passed by
 abbrev pub invariant-loop-columns : goal.invariant-loop-columns
-invariant-loop-columns l = l.all ≡ columns_above l.rows l.columns-index
+invariant-loop-columns g l = l.all ≡ columns_above l.rows l.columns-index

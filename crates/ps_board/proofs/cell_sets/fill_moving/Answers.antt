@@ -1,4 +1,4 @@
-use Rattle.std.proofs.Common.{◌≡◌, ◌∙◌, ◌-◌, ◌<◌, ℕ, inl, inr, List, [], Bool, length, get_or, refl, ap, arith}
+use Rattle.std.proofs.Common.{rules, ◌≡◌, ◌∙◌, ◌-◌, ◌<◌, ℕ, inl, inr, List, [], Bool, length, get_or, refl, ap, arith}
 use Rattle.std.specs.List.{list_any}
 use Rattle.std.proofs.lemmas.Bool.{cases_lt}
 use Rattle.std.proofs.lemmas.List.{length-set}
@@ -66,3 +66,10 @@ returns-clause-set g c = λ column row across down.
     passed-all (IsRowOf (list_any is_moving) (g.B.Board.grid c.args.board.now) c.loop-row.rows) c.loop-row.left
     (g.B.Board.grid c.args.board.now).height row c.size-height.ensures.shape.rows
     (c.in_default.ensures.none refl) c.loop-row.invariant.passed down column across
+
+pub offset_bounds-rows-row : goal.offset_bounds-rows-row
+offset_bounds-rows-row g c =
+    let low : c.in-Some.row < length c.loop-row.rows =
+        rw c.loop-row.invariant.long
+        (taken_below c.loop-row.left c.take_first.new.self _ c.in-Some.row c.in-Some.ensures.some c.loop-row.invariant.low)
+    in search rules

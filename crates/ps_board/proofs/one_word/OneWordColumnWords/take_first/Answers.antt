@@ -1,7 +1,7 @@
 use Rattle.std.proofs.Common.{◌∙◌, ap, sym, arith}
 use Rattle.ps_board.specs.ColumnSets.{set_columns}
-use Rattle.ps_board.proofs.ColumnWords.{none_set, first_taken}
-use Rattle.ps_board.proofs.columns.Columns.take_first.Goals as goal
+use Rattle.ps_board.proofs.WordBits.{none_set, first_taken}
+use Rattle.ps_board.proofs.one_word.OneWordColumnWords.take_first.Goals as goal
 
 pub returns-then-self-eq0-clause-none : goal.returns-then-self-eq0-clause-none
 returns-then-self-eq0-clause-none c = λ e. ap set_columns (sym c.self.view_is)

@@ -1,7 +1,7 @@
 use Rattle.std.proofs.Common.{◌∙◌, ◌<◌, ap, sym, List, Bool, length, subst}
 use Rattle.ps_board.specs.ColumnSets.{set_columns}
-use Rattle.ps_board.proofs.ColumnWords.{none_tested, some_tested}
-use Rattle.ps_board.proofs.columns.Columns.is_empty.Goals as goal
+use Rattle.ps_board.proofs.WordBits.{none_tested, some_tested}
+use Rattle.ps_board.proofs.one_word.OneWordColumnWords.is_empty.Goals as goal
 
 pub returns-clause-none : goal.returns-clause-none
 returns-clause-none c = λ e. ap set_columns (sym c.self.view_is) ∙ none_tested c.self.inside.bits e
