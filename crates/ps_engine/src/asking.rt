@@ -11,7 +11,7 @@ use ps_places::{RowRoom, find_starts};
 use ps_program::{CompiledRow, CompiledRule};
 
 /// Whether a row has a place on the board as it is. What its room keeps is anything afterwards.
-fn row_has_place<B: Scan>(board: &B, row: &CompiledRow, room: &mut RowRoom) -> bool
+fn row_has_place<B: Scan>(board: &B, row: &CompiledRow, room: &mut RowRoom<B>) -> bool
     ensures some { result ≡ true → row_places (B.grid board.now) (B.table board.now) row.now ≢ [] }
     ensures none { result ≡ false → row_places (B.grid board.now) (B.table board.now) row.now ≡ [] }
 {
@@ -27,7 +27,7 @@ fn row_has_place<B: Scan>(board: &B, row: &CompiledRow, room: &mut RowRoom) -> b
 }
 
 /// Whether each row of a rule has a place on the board as it is: whether the rule has a combination.
-fn rows_have_places<'r, B: Scan>(board: &B, rule: &CompiledRule<'r>, rooms: &mut [RowRoom]) -> bool
+fn rows_have_places<'r, B: Scan>(board: &B, rule: &CompiledRule<'r>, rooms: &mut [RowRoom<B>]) -> bool
     requires { length rule.now.rows ≤ length rooms.old }
     ensures some { result ≡ true →
         combinations_on (B.grid board.now) (rule_meaning (B.table board.now) rule.now) ≢ [] }
@@ -51,7 +51,7 @@ pub fn attempt_commands<'r, B: Scan>(
     rule: &CompiledRule<'r>,
     board: &B,
     queue: &mut LentQueue<'r>,
-    rooms: &mut [RowRoom],
+    rooms: &mut [RowRoom<B>],
 )
     requires long { length rule.now.rows ≤ length rooms.old }
     requires commands { rule.now.rewrites ≡ false }

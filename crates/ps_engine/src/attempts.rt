@@ -60,7 +60,7 @@ fn lacks_needed<B: Scan>(board: &B, rule: &CompiledRule) -> bool
 
 /// Finds where each row of a rule fits on the board as it is, and chooses the first place of each. Answers whether
 /// each row has one: whether the rule has a combination.
-fn choose_first<'r, B: Scan>(board: &B, rule: &CompiledRule<'r>, rooms: &mut [RowRoom]) -> bool
+fn choose_first<'r, B: Scan>(board: &B, rule: &CompiledRule<'r>, rooms: &mut [RowRoom<B>]) -> bool
     requires { length rule.now.rows ≤ length rooms.old }
     ensures found { let choices = choices_of (B.grid board.now).height rule.now.rows rooms.new in
         result ≡ true →
@@ -93,7 +93,7 @@ pub fn attempt_rows<'r, B: Scan>(
     rule: &CompiledRule<'r>,
     board: &mut B,
     queue: &mut LentQueue<'r>,
-    rooms: &mut [RowRoom],
+    rooms: &mut [RowRoom<B>],
 ) -> bool
     requires long { length rule.now.rows ≤ length rooms.old }
     requires rewrites { rule.now.rewrites ≡ true }
@@ -119,7 +119,7 @@ pub fn attempt<'r, B: Scan>(
     rule: &CompiledRule<'r>,
     board: &mut B,
     queue: &mut LentQueue<'r>,
-    rooms: &mut [RowRoom],
+    rooms: &mut [RowRoom<B>],
 ) -> bool
     requires { length rule.now.rows ≤ length rooms.old }
     ensures attempt { let before : State = record { grid = B.grid board.old; queue = queue.old } in

@@ -61,7 +61,7 @@ fn write_all<B: Scan>(board: &mut B, cell: &CompiledCell) -> Written
         if !columns.is_empty() {
             found = true;
             if cell.changes {
-                changed |= board.rewrite(&cell.write, row, columns);
+                changed |= board.rewrite(&cell.write, row, &columns);
             }
         }
     }

@@ -36,7 +36,7 @@ pub fn attempt_part<'r, B: Scan>(
     part: &[CompiledCell],
     board: &mut B,
     queue: &mut LentQueue<'r>,
-    rooms: &mut [RowRoom],
+    rooms: &mut [RowRoom<B>],
 ) -> bool
     requires only { rows_parts rule.now.rows ≡ one_part part.now }
     requires whole { HasCells part.now }

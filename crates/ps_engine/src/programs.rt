@@ -31,7 +31,7 @@ fn play_loop<'r, B: Scan>(
     repeats: u32,
     board: &mut B,
     queue: &mut LentQueue<'r>,
-    rooms: &mut [RowRoom],
+    rooms: &mut [RowRoom<B>],
 ) -> Left
     requires { GroupsHaveRooms (length rooms.old) groups.now }
     ensures looped { let before : State = record { grid = B.grid board.old; queue = queue.old } in
@@ -67,7 +67,7 @@ fn play_section<'r, B: Scan>(
     repeats: u32,
     board: &mut B,
     queue: &mut LentQueue<'r>,
-    rooms: &mut [RowRoom],
+    rooms: &mut [RowRoom<B>],
 ) -> Left
     requires { SectionHasRooms (length rooms.old) section.now }
     ensures section { let before : State = record { grid = B.grid board.old; queue = queue.old } in
@@ -96,7 +96,7 @@ fn play_sections<'r, B: Scan>(
     sections: &[CompiledSection<'r>],
     board: &mut B,
     queue: &mut LentQueue<'r>,
-    rooms: &mut [RowRoom],
+    rooms: &mut [RowRoom<B>],
 )
     requires { SectionsHaveRooms (length rooms.old) sections.now }
     ensures run { let before : State = record { grid = B.grid board.old; queue = queue.old } in
@@ -125,7 +125,7 @@ pub fn run_program<'r, B: Scan>(
     sections: &[CompiledSection<'r>],
     board: &mut B,
     queue: &mut LentQueue<'r>,
-    rooms: &mut [RowRoom],
+    rooms: &mut [RowRoom<B>],
 )
     requires { SectionsHaveRooms (length rooms.old) sections.now }
     ensures run { let before : State = record { grid = B.grid board.old; queue = queue.old } in

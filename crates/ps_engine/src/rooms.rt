@@ -4,6 +4,7 @@ ghost use Rattle.std.specs.Prelude.{◌≡◌, ◌≤◌, IfOk, length};
 ghost use Rattle.ps_engine.specs.Rooms.{GroupsHaveRooms, HaveRooms, SectionHasRooms, SectionsHaveRooms};
 
 use ps_model::Memory;
+use ps_match::Board;
 use ps_places::RowRoom;
 use ps_program::{CompiledRule, CompiledSection};
 use ps_text::List;
@@ -56,7 +57,7 @@ fn most_rows(sections: &[CompiledSection]) -> usize
 }
 
 /// Room for so many rows. `Memory` if there is none.
-pub fn rooms_of(alloc: Global, count: usize) -> Result<Vec<RowRoom>, Memory>
+pub fn rooms_of<B: Board>(alloc: Global, count: usize) -> Result<Vec<RowRoom<B>>, Memory>
     ensures { IfOk result (λ rooms. length rooms.items ≡ count) }
 {
     let mut rooms = Vec::new(alloc);
@@ -67,7 +68,7 @@ pub fn rooms_of(alloc: Global, count: usize) -> Result<Vec<RowRoom>, Memory>
 }
 
 /// Room for the rows of each rule of some sections. `Memory` if there is none.
-pub fn rooms_for(alloc: Global, sections: &[CompiledSection]) -> Result<Vec<RowRoom>, Memory>
+pub fn rooms_for<B: Board>(alloc: Global, sections: &[CompiledSection]) -> Result<Vec<RowRoom<B>>, Memory>
     ensures { IfOk result (λ rooms. SectionsHaveRooms (length rooms.items) sections.now) }
 {
     rooms_of(alloc, most_rows(sections))

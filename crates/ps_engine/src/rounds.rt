@@ -20,7 +20,7 @@ fn round<'r, B: Scan>(
     rules: &[CompiledRule<'r>],
     board: &mut B,
     queue: &mut LentQueue<'r>,
-    rooms: &mut [RowRoom],
+    rooms: &mut [RowRoom<B>],
 ) -> bool
     requires { HaveRooms (length rooms.old) rules.now }
     ensures round { let before : State = record { grid = B.grid board.old; queue = queue.old } in
@@ -43,7 +43,7 @@ pub fn play_group<'r, B: Scan>(
     rules: &[CompiledRule<'r>],
     board: &mut B,
     queue: &mut LentQueue<'r>,
-    rooms: &mut [RowRoom],
+    rooms: &mut [RowRoom<B>],
 ) -> bool
     requires { HaveRooms (length rooms.old) rules.now }
     ensures group { let before : State = record { grid = B.grid board.old; queue = queue.old } in
@@ -70,7 +70,7 @@ pub fn pass<'r, B: Scan>(
     groups: &[List<CompiledRule<'r>>],
     board: &mut B,
     queue: &mut LentQueue<'r>,
-    rooms: &mut [RowRoom],
+    rooms: &mut [RowRoom<B>],
 ) -> bool
     requires { GroupsHaveRooms (length rooms.old) groups.now }
     ensures pass { let before : State = record { grid = B.grid board.old; queue = queue.old } in

@@ -21,7 +21,7 @@ use ps_program::CompiledRow;
 fn rewrite_rows<B: Scan>(
     board: &mut B,
     rows: &[CompiledRow],
-    rooms: &[RowRoom],
+    rooms: &[RowRoom<B>],
     changed: bool,
 ) -> bool
     requires long { length rows.now ≤ length rooms.now }
@@ -47,7 +47,7 @@ fn rewrite_rows<B: Scan>(
 
 /// The slowest row that doesn't fit any more at its place that is chosen: no combination behind that keeps the place
 /// can be applied. The first row, where each fits; so it needn't be asked itself.
-fn slowest_unfit<B: Scan>(board: &B, rows: &[CompiledRow], rooms: &[RowRoom]) -> usize
+fn slowest_unfit<B: Scan>(board: &B, rows: &[CompiledRow], rooms: &[RowRoom<B>]) -> usize
     requires { length rows.now ≤ length rooms.now }
     ensures passed { let fits = all_fit (B.grid board.now) (rows_meaning (B.table board.now) rows.now) in
         let choices = choices_of (B.grid board.now).height rows.now rooms.now in
@@ -68,7 +68,7 @@ fn slowest_unfit<B: Scan>(board: &B, rows: &[CompiledRow], rooms: &[RowRoom]) ->
 fn start_again<B: Scan>(
     board: &B,
     rows: &[CompiledRow],
-    rooms: &mut [RowRoom],
+    rooms: &mut [RowRoom<B>],
     count: usize,
 ) -> bool
     requires long { length rows.now ≤ length rooms.old }
@@ -93,7 +93,7 @@ fn start_again<B: Scan>(
 fn advance<B: Scan>(
     board: &B,
     rows: &[CompiledRow],
-    rooms: &mut [RowRoom],
+    rooms: &mut [RowRoom<B>],
     first: usize,
 ) -> Option<usize>
     requires long { length rows.now ≤ length rooms.old }
@@ -126,7 +126,7 @@ fn advance<B: Scan>(
 }
 
 /// Forgets places of the first `count` rows: some before those that are chosen.
-fn forget_rows(rows: &[CompiledRow], rooms: &mut [RowRoom], count: usize)
+fn forget_rows<B: Scan>(rows: &[CompiledRow], rooms: &mut [RowRoom<B>], count: usize)
     requires long { length rows.now ≤ length rooms.old }
     requires count { count ≤ length rows.now }
     requires among { AreAmong rows.now rooms.old count }
@@ -144,7 +144,7 @@ fn forget_rows(rows: &[CompiledRow], rooms: &mut [RowRoom], count: usize)
 fn go_on<B: Scan>(
     board: &B,
     rows: &[CompiledRow],
-    rooms: &mut [RowRoom],
+    rooms: &mut [RowRoom<B>],
     first: usize,
     sleeps: bool,
 ) -> bool
@@ -190,7 +190,7 @@ fn go_on<B: Scan>(
 pub fn walk<B: Scan>(
     board: &mut B,
     rows: &[CompiledRow],
-    rooms: &mut [RowRoom],
+    rooms: &mut [RowRoom<B>],
     sleeps: bool,
 ) -> bool
     requires asleep { sleeps ≡ true → rows_sleep rows.now ≡ true }

@@ -42,7 +42,7 @@ fn write_behind<B: Scan>(
     axis: Axis,
     steps: u32,
     row: u32,
-    columns: Columns,
+    columns: Columns<B::Words>,
 ) -> bool
     requires { row_behind axis row steps < (B.grid board.old).height }
     ensures rewritten { let before = B.grid board.old in
@@ -54,8 +54,8 @@ fn write_behind<B: Scan>(
 {
     recall_shape(board);
     match axis {
-        Axis::Down => board.rewrite(write, row + steps, columns),
-        Axis::Right => board.rewrite(write, row, columns.ahead(steps)),
+        Axis::Down => board.rewrite(write, row + steps, &columns),
+        Axis::Right => board.rewrite(write, row, &columns.ahead(steps)),
     }
 }
 
@@ -66,8 +66,8 @@ fn write_targets<B: Scan>(
     write: &CellWrite,
     axis: Axis,
     steps: u32,
-    rows: Columns,
-    room: &RowRoom,
+    rows: Columns<B::Words>,
+    room: &RowRoom<B>,
 ) -> bool
     requires { AreWithin axis (B.grid board.old).height steps rows }
     ensures rewritten { let before = B.grid board.old in
@@ -95,7 +95,7 @@ pub fn attempt_writer<'r, B: Scan>(
     writer: Writer,
     board: &mut B,
     queue: &mut LentQueue<'r>,
-    room: &mut RowRoom,
+    room: &mut RowRoom<B>,
 ) -> bool
     requires writer { rule.now.writer ≡ Some writer }
     requires rewrites { rule.now.rewrites ≡ true }

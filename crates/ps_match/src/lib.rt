@@ -13,7 +13,7 @@ mod scanning;
 mod slots;
 mod writing;
 
-pub use ps_board::{Board, Columns, ListBoard, recall_shape};
+pub use ps_board::{Board, ColumnWords, Columns, ListBoard, recall_shape};
 pub use rewriting::rewrite_row;
 pub use rooms::Rooms;
 pub use scan::Scan;

@@ -36,7 +36,7 @@ fn write_if<B: Rooms>(
 
 /// Writes the cells of a row of a board whose columns are in a set, and answers whether one of them changed. What has
 /// no room on a layer isn't put there.
-pub fn rewrite_row<B: Rooms>(board: &mut B, write: &CellWrite, row: u32, columns: Columns) -> bool
+pub fn rewrite_row<B: Rooms>(board: &mut B, write: &CellWrite, row: u32, columns: Columns<B::Words>) -> bool
     requires { row < (B.grid board.old).height }
     ensures rewritten { let before = B.grid board.old in
         let becomes = cell_written (write_in_room (B.table board.old) (write_shown write.now)) in

@@ -23,7 +23,7 @@ pub trait Scan: Board {
             (slice_get (Self.grid self.now).cells cell) };
 
     /// The columns of a row of the board whose cells fit a mask; no column beyond the board's width does.
-    fn scan(&self, mask: &CellMask, row: u32) -> Columns
+    fn scan(&self, mask: &CellMask, row: u32) -> Columns<Self::Words>
         requires { row < (Self.grid self.now).height }
         ensures { result ≡ row_fits (Self.grid self.now) (meaning_of_mask (mask_shown mask.now)) row };
 
@@ -34,12 +34,12 @@ pub trait Scan: Board {
 
     /// Rows of the board, as a set of their numbers, without which no cell has an object on its layer. There may be
     /// more of them than have it, and all of them, as a board needn't look for it.
-    fn rows_with(&self, object: &LayeredObject) -> Columns
+    fn rows_with(&self, object: &LayeredObject) -> Columns<Self::Words>
         ensures { HasRowsIn (Self.grid self.now) object.now result };
 
     /// Rows of the board, as a set of their numbers, without which no cell has the motion that is asked for. There may
     /// be more of them than have it, and all of them, as a board needn't look for it.
-    fn rows_moving(&self, test: &MotionTest) -> Columns
+    fn rows_moving(&self, test: &MotionTest) -> Columns<Self::Words>
         ensures { HasMovesIn (Self.grid self.now) test.now result };
 
     /// Writes a cell, and answers whether it changed, or something had `changed` before. Beyond the board nothing is
@@ -55,12 +55,12 @@ pub trait Scan: Board {
     /// Writes the cells of a row of the board whose columns are in a set, and no other cell, and answers whether one of
     /// them changed. Beyond the board's width nothing is written, and an object that has no room on a layer isn't put
     /// there.
-    fn rewrite(&mut self, write: &CellWrite, row: u32, columns: Columns) -> bool
+    fn rewrite(&mut self, write: &CellWrite, row: u32, columns: &Columns<Self::Words>) -> bool
         requires { row < (Self.grid self.old).height }
         ensures rewritten { let before = Self.grid self.old in
             let becomes = cell_written (write_in_room (Self.table self.old) (write_shown write.now)) in
             record { grid = Self.grid self.new; changed = result }
-            ≡ rewritten_where before becomes (is_on_row before.height row columns) }
+            ≡ rewritten_where before becomes (is_on_row before.height row columns.now) }
         ensures table { Self.table self.new ≡ Self.table self.old }
         ensures sides { sides_of (Self.grid self.new) ≡ sides_of (Self.grid self.old) };
 }

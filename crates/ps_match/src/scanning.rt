@@ -10,7 +10,7 @@ use ps_board::{Board, Columns};
 use ps_program::CellMask;
 
 /// The columns of a row of a board whose cells fit a mask.
-pub fn scan_row<B: Board>(board: &B, mask: &CellMask, row: u32) -> Columns
+pub fn scan_row<B: Board>(board: &B, mask: &CellMask, row: u32) -> Columns<B::Words>
     requires { row < (B.grid board.now).height }
     ensures { result ≡ row_fits (B.grid board.now) (meaning_of_mask (mask_shown mask.now)) row }
 {

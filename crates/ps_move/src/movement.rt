@@ -50,7 +50,7 @@ impl Slid {
 /// stood or in its target, and none is lost or made.
 ///
 /// `moving` is room for the cells in which something moves; what it had before is forgotten. No memory is taken.
-pub fn slide<B: Board>(board: &mut B, moving: &mut CellSet) -> Slid
+pub fn slide<B: Board>(board: &mut B, moving: &mut CellSet<B>) -> Slid
     ensures exact { B.grid board.new ≡ slid (B.grid board.old) }
     ensures slid { IsWeaklySlid (B.grid board.old) (B.grid board.new) }
     ensures some_pass { 0 < result }
@@ -69,7 +69,7 @@ pub fn slide<B: Board>(board: &mut B, moving: &mut CellSet) -> Slid
 
 /// Visits those cells in which an object may be about to do something, in the order of their numbers, and tells
 /// whether any object went. In no other cell an object may be.
-fn pass<B: Board>(board: &mut B, moving: &CellSet) -> bool
+fn pass<B: Board>(board: &mut B, moving: &CellSet<B>) -> bool
     requires still { IsStillBeside (B.grid board.old) moving.now }
     ensures shape { IsGrid (B.grid board.old) }
     ensures part { let old = B.grid board.old in
@@ -87,7 +87,7 @@ fn pass<B: Board>(board: &mut B, moving: &CellSet) -> bool
 
 /// Visits those cells of a column in which an object may be about to do something, from the top, and tells whether any
 /// object went.
-fn visit_column<B: Board>(board: &mut B, column: u32, moving: &CellSet) -> bool
+fn visit_column<B: Board>(board: &mut B, column: u32, moving: &CellSet<B>) -> bool
     requires still { IsStillBeside (B.grid board.old) moving.now }
     requires column { column < (B.grid board.old).width }
     ensures part { let old = B.grid board.old in
@@ -107,7 +107,7 @@ fn visit_column<B: Board>(board: &mut B, column: u32, moving: &CellSet) -> bool
 
 /// Visits the cell of a column and a row, if an object may be about to do something there, and tells whether any
 /// object went.
-fn visit_row<B: Board>(board: &mut B, column: u32, row: u32, moving: &CellSet) -> bool
+fn visit_row<B: Board>(board: &mut B, column: u32, row: u32, moving: &CellSet<B>) -> bool
     requires still { IsStillBeside (B.grid board.old) moving.now }
     requires shape { IsGrid (B.grid board.old) }
     requires column { column < (B.grid board.old).width }

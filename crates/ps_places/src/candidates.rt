@@ -10,7 +10,7 @@ use ps_program::{Axis, CellMask, CompiledCell};
 
 /// The rows of the board, as a set of their numbers, whose cells may fit a mask: those that may have each object that
 /// it needs, and each motion that it asks for.
-pub fn rows_of_mask<B: Scan>(board: &B, mask: &CellMask) -> Columns
+pub fn rows_of_mask<B: Scan>(board: &B, mask: &CellMask) -> Columns<B::Words>
     ensures { FitsOnlyOn (B.grid board.now) mask.now result }
 {
     recall_shape(board);
@@ -31,7 +31,7 @@ pub fn rows_of_mask<B: Scan>(board: &B, mask: &CellMask) -> Columns
 
 /// The rows of the board on which a part may have its first cell, as far as the cell tells that lies so many steps
 /// behind it.
-fn rows_of_cell<B: Scan>(board: &B, axis: Axis, mask: &CellMask, steps: u32) -> Columns
+fn rows_of_cell<B: Scan>(board: &B, axis: Axis, mask: &CellMask, steps: u32) -> Columns<B::Words>
     ensures { HasCellOnlyOn (B.grid board.now) mask.now axis steps result }
 {
     recall_shape(board);
@@ -43,7 +43,7 @@ fn rows_of_cell<B: Scan>(board: &B, axis: Axis, mask: &CellMask, steps: u32) -> 
 }
 
 /// The rows of the board on which a part may have its first cell.
-pub fn rows_of_part<B: Scan>(board: &B, axis: Axis, part: &[CompiledCell]) -> Columns
+pub fn rows_of_part<B: Scan>(board: &B, axis: Axis, part: &[CompiledCell]) -> Columns<B::Words>
     ensures { BeginsOnlyOn (B.grid board.now) (B.table board.now) axis part.now result }
 {
     recall_shape(board);

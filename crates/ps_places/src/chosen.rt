@@ -26,8 +26,8 @@ use ps_program::CompiledRow;
 fn seek<B: Scan>(
     board: &B,
     row: &CompiledRow,
-    lines: Columns,
-    starts: &[Columns],
+    lines: Columns<B::Words>,
+    starts: &[Columns<B::Words>],
     from: usize,
     way: &mut [u8],
 ) -> Option<u8>
@@ -68,8 +68,8 @@ fn seek<B: Scan>(
 fn seek_on<B: Scan>(
     board: &B,
     row: &CompiledRow,
-    lines: Columns,
-    starts: &[Columns],
+    lines: Columns<B::Words>,
+    starts: &[Columns<B::Words>],
     line: u8,
     way: &mut [u8],
 ) -> Option<u8>
@@ -103,9 +103,9 @@ fn seek_on<B: Scan>(
     seek(board, row, lines, starts, usize::from(line) + 1, way)
 }
 
-impl RowRoom {
+impl<B: Scan> RowRoom<B> {
     /// Chooses the first place of a row at which it fits. Answers whether there is one; if not, any place is chosen.
-    pub fn first_place<B: Scan>(&mut self, board: &B, row: &CompiledRow) -> bool
+    pub fn first_place(&mut self, board: &B, row: &CompiledRow) -> bool
         requires { HasLinesOf (B.grid board.now) row.now self.old }
         ensures found { let fits = place_fits (B.grid board.now) (B.table board.now) row.now.parts in
             let height = (B.grid board.now).height in
@@ -145,7 +145,7 @@ impl RowRoom {
     }
 
     /// Chooses the next place of a row at which it fits. Answers whether there is one; if not, any place is chosen.
-    pub fn next_place<B: Scan>(&mut self, board: &B, row: &CompiledRow) -> bool
+    pub fn next_place(&mut self, board: &B, row: &CompiledRow) -> bool
         requires lines { HasLinesOf (B.grid board.now) row.now self.old }
         requires line { IsOnLine (B.grid board.now) row.now self.old }
         ensures found { let fits = place_fits (B.grid board.now) (B.table board.now) row.now.parts in
@@ -172,7 +172,7 @@ impl RowRoom {
     }
 
     /// Whether a row fits at the place that is chosen.
-    pub fn fits<B: Scan>(&self, board: &B, row: &CompiledRow) -> bool
+    pub fn fits(&self, board: &B, row: &CompiledRow) -> bool
         ensures { let place = place_at (B.grid board.now).height row.now self.now in
             result ≡ place_fits (B.grid board.now) (B.table board.now) row.now.parts place }
     {
@@ -193,7 +193,7 @@ impl RowRoom {
 
     /// Rewrites a row at the place that is chosen, cell by cell, and answers whether one changed, or something had
     /// `changed` before.
-    pub fn rewrite<B: Scan>(&self, board: &mut B, row: &CompiledRow, changed: bool) -> bool
+    pub fn rewrite(&self, board: &mut B, row: &CompiledRow, changed: bool) -> bool
         ensures rewritten { let before : Rewritten = record { grid = B.grid board.old; changed = changed } in
             let place = place_at (B.grid board.old).height row.now self.now in
             record { grid = B.grid board.new; changed = result }
@@ -219,7 +219,7 @@ impl RowRoom {
     /// Rewrites a row that fits at the place that is chosen, cell by cell, and answers whether one changed, or
     /// something had `changed` before. A cell that stays as it is where it fits isn't written: no cell of the board
     /// belongs to two of the row's, so each still fits when its turn comes.
-    pub fn rewrite_fitting<B: Scan>(&self, board: &mut B, row: &CompiledRow, changed: bool) -> bool
+    pub fn rewrite_fitting(&self, board: &mut B, row: &CompiledRow, changed: bool) -> bool
         requires fits { let place = place_at (B.grid board.old).height row.now self.now in
             place_fits (B.grid board.old) (B.table board.old) row.now.parts place ≡ true }
         requires spaced { HasSpacedWay row.now self.now }

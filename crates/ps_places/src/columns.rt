@@ -10,7 +10,7 @@ use ps_model::SIDE_LIMIT;
 use ps_program::CompiledCell;
 
 /// The columns of a row of the board where a part fits that goes right, its first cell there.
-pub fn columns_across<B: Scan>(board: &B, part: &[CompiledCell], row: u32) -> Columns
+pub fn columns_across<B: Scan>(board: &B, part: &[CompiledCell], row: u32) -> Columns<B::Words>
     requires { row < (B.grid board.now).height }
     ensures { AreWhere (part_fits (B.grid board.now) (B.table board.now) Right row part.now) result }
 {
@@ -32,7 +32,7 @@ pub fn columns_across<B: Scan>(board: &B, part: &[CompiledCell], row: u32) -> Co
 
 /// The columns of a row of the board where a part fits that goes down, its first cell there, and doesn't reach beyond
 /// the lower edge.
-pub fn columns_down<B: Scan>(board: &B, part: &[CompiledCell], row: u32) -> Columns
+pub fn columns_down<B: Scan>(board: &B, part: &[CompiledCell], row: u32) -> Columns<B::Words>
     requires { row < (B.grid board.now).height }
     ensures { AreWhere (begins_down (B.grid board.now) (B.table board.now) part.now row) result }
 {

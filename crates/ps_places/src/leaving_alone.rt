@@ -9,7 +9,7 @@ ghost use Rattle.ps_places.specs.LeavingAlone.{starts_behind};
 ghost use Rattle.ps_places.specs.PartStarts.{is_start};
 
 use crate::room::RowRoom;
-use ps_match::Columns;
+use ps_match::{ColumnWords, Columns, Scan};
 use ps_model::SIDE_LIMIT;
 use ps_program::{Axis, CompiledCell, write_keeps};
 
@@ -37,7 +37,7 @@ fn lie_alone(part: &[CompiledCell], distance: usize) -> bool
 }
 
 /// The columns of a row of the board that are kept, if it is one of these rows.
-fn kept_on_row(rows: Columns, starts: &[Columns], row: u32) -> Columns
+fn kept_on_row<W: ColumnWords>(rows: Columns<W>, starts: &[Columns<W>], row: u32) -> Columns<W>
     ensures { (x : ℕ) → column_at result x ≡ is_start rows starts.now row x }
 {
     if !rows.has(row) {
@@ -50,7 +50,7 @@ fn kept_on_row(rows: Columns, starts: &[Columns], row: u32) -> Columns
 }
 
 /// The columns of a row of the board so many cells behind which, along an axis, a place begins.
-fn starts_behind(axis: Axis, rows: Columns, starts: &[Columns], distance: u32, row: u32) -> Columns
+fn starts_behind<W: ColumnWords>(axis: Axis, rows: Columns<W>, starts: &[Columns<W>], distance: u32, row: u32) -> Columns<W>
     requires distance { distance ≤ SIDE_LIMIT }
     requires row { row ≤ SIDE_LIMIT }
     ensures { (x : ℕ) → x < SIDE_LIMIT → column_at result x ≡ starts_behind axis rows starts.now distance row x }
@@ -62,7 +62,7 @@ fn starts_behind(axis: Axis, rows: Columns, starts: &[Columns], distance: u32, r
 }
 
 /// Whether two places begin so many cells apart.
-fn are_apart(axis: Axis, rows: Columns, starts: &[Columns], distance: u32) -> bool
+fn are_apart<W: ColumnWords>(axis: Axis, rows: Columns<W>, starts: &[Columns<W>], distance: u32) -> bool
     requires { distance ≤ SIDE_LIMIT }
     ensures { result ≡ false → AreNotApart axis rows starts.now distance }
 {
@@ -77,11 +77,11 @@ fn are_apart(axis: Axis, rows: Columns, starts: &[Columns], distance: u32) -> bo
 }
 
 /// Whether places of a part leave each other alone that begin so many cells apart.
-fn apart_lie_alone(
+fn apart_lie_alone<W: ColumnWords>(
     axis: Axis,
     part: &[CompiledCell],
-    rows: Columns,
-    starts: &[Columns],
+    rows: Columns<W>,
+    starts: &[Columns<W>],
     distance: usize,
 ) -> bool
     requires { distance ≤ SIDE_LIMIT }
@@ -94,7 +94,7 @@ fn apart_lie_alone(
 }
 
 /// Whether places of a part that share a cell of the board leave each other alone there.
-fn places_lie_alone(axis: Axis, part: &[CompiledCell], rows: Columns, starts: &[Columns]) -> bool
+fn places_lie_alone<W: ColumnWords>(axis: Axis, part: &[CompiledCell], rows: Columns<W>, starts: &[Columns<W>]) -> bool
     ensures { result ≡ true → PlacesLieAlone axis part.now rows starts.now }
 {
     if SIDE_LIMIT as usize <= part.len() {
@@ -108,10 +108,10 @@ fn places_lie_alone(axis: Axis, part: &[CompiledCell], rows: Columns, starts: &[
     true
 }
 
-impl RowRoom {
+impl<B: Scan> RowRoom<B> {
     /// Whether the places of a part that are kept for these rows of the board leave each other alone: those that share
     /// a cell don't both change it, and what one asks for there stays where the other changes it.
-    pub fn lie_alone(&self, axis: Axis, part: &[CompiledCell], rows: Columns) -> bool
+    pub fn lie_alone(&self, axis: Axis, part: &[CompiledCell], rows: Columns<B::Words>) -> bool
         ensures { result ≡ true → PlacesLieAlone axis part.now rows self.now.starts.items }
     {
         places_lie_alone(axis, part, rows, self.starts.as_slice())

@@ -17,7 +17,7 @@ use ps_match::{Columns, Scan, recall_shape};
 use ps_program::{Axis, CompiledCell};
 
 /// The columns of a row of the board in which a part begins.
-fn starts_on_row<B: Scan>(board: &B, axis: Axis, part: &[CompiledCell], row: u32) -> Columns
+fn starts_on_row<B: Scan>(board: &B, axis: Axis, part: &[CompiledCell], row: u32) -> Columns<B::Words>
     requires { row < (B.grid board.now).height }
     ensures { AreWhere (begins_at (B.grid board.now) (B.table board.now) axis part.now row) result }
 {
@@ -32,8 +32,8 @@ fn find_rows<B: Scan>(
     board: &B,
     axis: Axis,
     part: &[CompiledCell],
-    starts: &mut [Columns],
-) -> Columns
+    starts: &mut [Columns<B::Words>],
+) -> Columns<B::Words>
     requires room { SIDE_LIMIT ≤ length starts.old }
     ensures starts { AreStarts (B.grid board.now) (B.table board.now) axis part.now result starts.new }
     ensures long { length starts.new ≡ length starts.old }
@@ -49,10 +49,10 @@ fn find_rows<B: Scan>(
     rows
 }
 
-impl RowRoom {
+impl<B: Scan> RowRoom<B> {
     /// Finds where the only part of a row begins as the board is, and answers the rows of the board that have a place:
     /// for each of them its columns are kept. No memory is taken.
-    pub fn find_part<B: Scan>(&mut self, board: &B, axis: Axis, part: &[CompiledCell]) -> Columns
+    pub fn find_part(&mut self, board: &B, axis: Axis, part: &[CompiledCell]) -> Columns<B::Words>
         requires { HasCells part.now }
         ensures starts { let starts = self.new.starts.items in
             AreStarts (B.grid board.now) (B.table board.now) axis part.now result starts }

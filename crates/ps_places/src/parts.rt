@@ -13,7 +13,7 @@ ghost use Rattle.ps_places.specs.Ways.{from_first, positions_from};
 
 use crate::columns::columns_across;
 use crate::lines::{cell_on, step_along};
-use ps_match::{Columns, Scan};
+use ps_match::{ColumnWords, Columns, Scan};
 use ps_model::SIDE_LIMIT;
 use ps_program::{Axis, CompiledCell};
 
@@ -128,7 +128,7 @@ pub fn rewrite_fitting_part<B: Scan>(
 }
 
 /// Those positions of a set that aren't before one.
-pub fn behind_position(set: Columns, from: usize) -> Columns
+pub fn behind_position<W: ColumnWords>(set: Columns<W>, from: usize) -> Columns<W>
     ensures { set_columns result ≡ positions_from set from }
 {
     if SIDE_LIMIT as usize <= from {
@@ -138,7 +138,7 @@ pub fn behind_position(set: Columns, from: usize) -> Columns
 }
 
 /// The least position of a set at which a part fits that goes right on a row of the board, and the positions behind it.
-fn least_across<B: Scan>(board: &B, line: u8, part: &[CompiledCell], set: Columns) -> Option<u8>
+fn least_across<B: Scan>(board: &B, line: u8, part: &[CompiledCell], set: Columns<B::Words>) -> Option<u8>
     requires { line < (B.grid board.now).height }
     ensures some { IfSome result (λ position.
         from_first (part_fits (B.grid board.now) (B.table board.now) Right line part.now) (set_columns set)
@@ -152,7 +152,7 @@ fn least_across<B: Scan>(board: &B, line: u8, part: &[CompiledCell], set: Column
 }
 
 /// The least position of a set at which a part fits that goes down a column of the board.
-fn least_down<B: Scan>(board: &B, line: u8, part: &[CompiledCell], set: Columns) -> Option<u8>
+fn least_down<B: Scan>(board: &B, line: u8, part: &[CompiledCell], set: Columns<B::Words>) -> Option<u8>
     ensures some { IfSome result (λ position.
         from_first (part_fits (B.grid board.now) (B.table board.now) Down line part.now) (set_columns set)
         ≡ position ∷ positions_from set (position + 1)) }
@@ -174,7 +174,7 @@ pub fn least_position<B: Scan>(
     axis: Axis,
     line: u8,
     part: &[CompiledCell],
-    set: Columns,
+    set: Columns<B::Words>,
     from: usize,
 ) -> Option<u8>
     requires { line < line_count axis (B.grid board.now) }

@@ -23,7 +23,7 @@ fn rewrite_cell<B: Scan>(
     axis: Axis,
     cell: &CompiledCell,
     row: u32,
-    columns: Columns,
+    columns: Columns<B::Words>,
     steps: u32,
     changed: bool,
 ) -> bool
@@ -39,8 +39,8 @@ fn rewrite_cell<B: Scan>(
         return changed;
     }
     match axis {
-        Axis::Down => changed | board.rewrite(&cell.write, row + steps, columns),
-        Axis::Right => changed | board.rewrite(&cell.write, row, columns.ahead(steps)),
+        Axis::Down => changed | board.rewrite(&cell.write, row + steps, &columns),
+        Axis::Right => changed | board.rewrite(&cell.write, row, &columns.ahead(steps)),
     }
 }
 
@@ -51,7 +51,7 @@ fn rewrite_row<B: Scan>(
     axis: Axis,
     part: &[CompiledCell],
     row: u32,
-    columns: Columns,
+    columns: Columns<B::Words>,
     changed: bool,
 ) -> bool
     requires few { length part.now ≤ SIDE_LIMIT }
@@ -76,8 +76,8 @@ fn rewrite_rows<B: Scan>(
     board: &mut B,
     axis: Axis,
     part: &[CompiledCell],
-    rows: Columns,
-    starts: &[Columns],
+    rows: Columns<B::Words>,
+    starts: &[Columns<B::Words>],
 ) -> bool
     requires whole { HasCells part.now }
     requires long { SIDE_LIMIT ≤ length starts.now }
@@ -100,15 +100,15 @@ fn rewrite_rows<B: Scan>(
     changed
 }
 
-impl RowRoom {
+impl<B: Scan> RowRoom<B> {
     /// Rewrites all places of a part that are kept for these rows of the board: each comes to the same as in its turn,
     /// since they leave each other alone. Answers whether a cell changed. No memory is taken.
-    pub fn rewrite_places<B: Scan>(
+    pub fn rewrite_places(
         &self,
         board: &mut B,
         axis: Axis,
         part: &[CompiledCell],
-        rows: Columns,
+        rows: Columns<B::Words>,
     ) -> bool
         requires whole { HasCells part.now }
         requires starts { let starts = self.now.starts.items in

@@ -15,13 +15,13 @@ ghost use Rattle.ps_places.specs.Starts.{HasLinesOf};
 use crate::candidates::rows_of_part;
 use crate::columns::{columns_across, columns_down};
 use crate::room::RowRoom;
-use ps_match::{Columns, Scan, recall_shape};
+use ps_match::{ColumnWords, Columns, Scan, recall_shape};
 use ps_model::SIDE_LIMIT;
 use ps_program::{Axis, CompiledCell, CompiledRow};
 use ps_text::List;
 
 /// The rows of the board on which each part may begin that goes right.
-fn rows_of_all<B: Scan>(board: &B, parts: &[List<CompiledCell>]) -> Columns
+fn rows_of_all<B: Scan>(board: &B, parts: &[List<CompiledCell>]) -> Columns<B::Words>
     ensures { HaveWaysOnlyOn (B.grid board.now) (B.table board.now) Right parts.now result }
 {
     recall_shape(board);
@@ -40,7 +40,7 @@ fn find_on_row<B: Scan>(
     board: &B,
     parts: &[List<CompiledCell>],
     row: u32,
-    sets: &mut [Columns],
+    sets: &mut [Columns<B::Words>],
 ) -> bool
     requires row { row < (B.grid board.now).height }
     requires whole { All HasCells parts.now }
@@ -62,7 +62,7 @@ fn find_on_row<B: Scan>(
 }
 
 /// Finds the positions of parts that go right, and answers the lines on which each part has one.
-fn find_across<B: Scan>(board: &B, parts: &[List<CompiledCell>], starts: &mut [Columns]) -> Columns
+fn find_across<B: Scan>(board: &B, parts: &[List<CompiledCell>], starts: &mut [Columns<B::Words>]) -> Columns<B::Words>
     requires whole { All HasCells parts.now }
     requires room { SIDE_LIMIT * length parts.now ≤ length starts.old }
     ensures lines { let count = length parts.now in
@@ -82,7 +82,7 @@ fn find_across<B: Scan>(board: &B, parts: &[List<CompiledCell>], starts: &mut [C
 }
 
 /// A set, if it is known; no position, if what stands there is not.
-fn set_before(starts: &[Columns], at: usize, known: bool) -> Columns
+fn set_before<W: ColumnWords>(starts: &[Columns<W>], at: usize, known: bool) -> Columns<W>
     requires { at < length starts.now }
     ensures { result ≡ (if known then slice_index_or starts.now at [] else no_columns) }
 {
@@ -91,12 +91,12 @@ fn set_before(starts: &[Columns], at: usize, known: bool) -> Columns
 
 /// Adds a row of the board to a part's positions in some columns: to those of columns that have some already, and in
 /// place of what stood there in the others.
-fn add_row(
-    starts: &mut [Columns],
+fn add_row<W: ColumnWords>(
+    starts: &mut [Columns<W>],
     count: usize,
     number: usize,
-    columns: Columns,
-    found: Columns,
+    columns: Columns<W>,
+    found: Columns<W>,
     row: u32,
 )
     requires one { number < count }
@@ -116,11 +116,11 @@ fn add_row(
 fn find_part_down<B: Scan>(
     board: &B,
     part: &[CompiledCell],
-    within: Columns,
-    starts: &mut [Columns],
+    within: Columns<B::Words>,
+    starts: &mut [Columns<B::Words>],
     count: usize,
     number: usize,
-) -> Columns
+) -> Columns<B::Words>
     requires whole { HasCells part.now }
     requires one { number < count }
     requires room { SIDE_LIMIT * count ≤ length starts.old }
@@ -141,7 +141,7 @@ fn find_part_down<B: Scan>(
 }
 
 /// Finds the positions of parts that go down, and answers the lines on which each part has one.
-fn find_down<B: Scan>(board: &B, parts: &[List<CompiledCell>], starts: &mut [Columns]) -> Columns
+fn find_down<B: Scan>(board: &B, parts: &[List<CompiledCell>], starts: &mut [Columns<B::Words>]) -> Columns<B::Words>
     requires whole { All HasCells parts.now }
     requires room { SIDE_LIMIT * length parts.now ≤ length starts.old }
     ensures lines { let count = length parts.now in
@@ -172,8 +172,8 @@ fn find_lines<B: Scan>(
     board: &B,
     axis: Axis,
     parts: &[List<CompiledCell>],
-    starts: &mut [Columns],
-) -> Columns
+    starts: &mut [Columns<B::Words>],
+) -> Columns<B::Words>
     requires whole { All HasCells parts.now }
     requires room { SIDE_LIMIT * length parts.now ≤ length starts.old }
     ensures lines { let count = length parts.now in
@@ -187,7 +187,7 @@ fn find_lines<B: Scan>(
 }
 
 /// Finds where the parts of a row fit on a board, all lines of it. No memory is taken.
-pub fn find_starts<B: Scan>(board: &B, row: &CompiledRow, room: &mut RowRoom)
+pub fn find_starts<B: Scan>(board: &B, row: &CompiledRow, room: &mut RowRoom<B>)
     ensures places { let meant = row_meaning (B.table board.now) row.now in
         let all = places (B.grid board.now) (direction_of row.now.axis) meant in
         all ≡ all_places (B.grid board.now).height row.now room.new }

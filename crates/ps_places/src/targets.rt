@@ -13,20 +13,20 @@ ghost use Rattle.ps_places.specs.Starts.{AreWhere, begins_down};
 use crate::candidates::rows_of_part;
 use crate::columns::{columns_across, columns_down};
 use crate::room::RowRoom;
-use ps_match::{Columns, Scan, recall_shape};
+use ps_match::{ColumnWords, Columns, Scan, recall_shape};
 use ps_model::SIDE_LIMIT;
 use ps_program::{Axis, CompiledCell, CompiledRow};
 
 /// Reaches twice as far to the left: what has one of a set less than so many columns to its right has it less than
 /// twice as many.
-fn reach_twice(reach: Columns, steps: u32) -> Columns
+fn reach_twice<W: ColumnWords>(reach: Columns<W>, steps: u32) -> Columns<W>
     ensures { (set : List Bool) → IsReach set reach steps → IsReach set result (steps + steps) }
 {
     reach.either(reach.behind(steps))
 }
 
 /// The columns of a set, and all to the left of one of them.
-fn up_to(set: Columns) -> Columns
+fn up_to<W: ColumnWords>(set: Columns<W>) -> Columns<W>
     ensures { IsReach set result SIDE_LIMIT }
 {
     let mut reach = set.both(Columns::below(SIDE_LIMIT));
@@ -39,7 +39,7 @@ fn up_to(set: Columns) -> Columns
 }
 
 /// The columns of a set, and all to the right of one of them.
-fn from_first(set: Columns) -> Columns
+fn from_first<W: ColumnWords>(set: Columns<W>) -> Columns<W>
     ensures { AreWhere (is_passed set) result }
 {
     let mut left = set;
@@ -51,7 +51,7 @@ fn from_first(set: Columns) -> Columns
 
 /// Of the columns in which the first part begins on a row of the board and of those of the second, those of the first
 /// if it `leads`, else of the second, that have one of the others where both have room. The first part is so long.
-fn paired(leads: bool, size: u32, fronts: Columns, backs: Columns) -> Columns
+fn paired<W: ColumnWords>(leads: bool, size: u32, fronts: Columns<W>, backs: Columns<W>) -> Columns<W>
     requires { size < SIDE_LIMIT }
     ensures { AreWhere (is_paired leads size fronts backs) result }
 {
@@ -63,7 +63,7 @@ fn paired(leads: bool, size: u32, fronts: Columns, backs: Columns) -> Columns
 }
 
 /// Keeps columns of a row of the board, and adds the row to those of which some are kept, if there are any.
-fn keep_row(starts: &mut [Columns], rows: Columns, row: u32, columns: Columns) -> Columns
+fn keep_row<W: ColumnWords>(starts: &mut [Columns<W>], rows: Columns<W>, row: u32, columns: Columns<W>) -> Columns<W>
     requires within { row < SIDE_LIMIT }
     requires room { SIDE_LIMIT ≤ length starts.old }
     ensures kept { IsRowKept rows starts.old row columns result starts.new }
@@ -80,8 +80,8 @@ fn find_across<B: Scan>(
     second: &[CompiledCell],
     leads: bool,
     size: u32,
-    starts: &mut [Columns],
-) -> Columns
+    starts: &mut [Columns<B::Words>],
+) -> Columns<B::Words>
     requires first { HasCells first.now }
     requires second { HasCells second.now }
     requires size { size ≡ length first.now }
@@ -107,7 +107,7 @@ fn find_across<B: Scan>(
 
 /// The columns of a row of the board where a part begins that goes down; `rows` are the only ones of the board on
 /// which it may. Below the board it begins nowhere.
-fn columns_begun<B: Scan>(board: &B, part: &[CompiledCell], rows: Columns, row: u32) -> Columns
+fn columns_begun<B: Scan>(board: &B, part: &[CompiledCell], rows: Columns<B::Words>, row: u32) -> Columns<B::Words>
     requires part { HasCells part.now }
     requires rows { BeginsOnlyOn (B.grid board.now) (B.table board.now) Down part.now rows }
     ensures { AreWhere (begins_down (B.grid board.now) (B.table board.now) part.now row) result }
@@ -129,8 +129,8 @@ fn find_below<B: Scan>(
     first: &[CompiledCell],
     second: &[CompiledCell],
     size: u32,
-    starts: &mut [Columns],
-) -> Columns
+    starts: &mut [Columns<B::Words>],
+) -> Columns<B::Words>
     requires first { HasCells first.now }
     requires second { HasCells second.now }
     requires size { size ≡ length first.now }
@@ -160,8 +160,8 @@ fn find_above<B: Scan>(
     first: &[CompiledCell],
     second: &[CompiledCell],
     size: u32,
-    starts: &mut [Columns],
-) -> Columns
+    starts: &mut [Columns<B::Words>],
+) -> Columns<B::Words>
     requires first { HasCells first.now }
     requires second { HasCells second.now }
     requires size { size ≡ length first.now }
@@ -186,11 +186,11 @@ fn find_above<B: Scan>(
     rows
 }
 
-impl RowRoom {
+impl<B: Scan> RowRoom<B> {
     /// Finds where one of a row's two parts begins and has a partner as the board is, the first part if it `leads`,
     /// else the second: a set of columns for each row of the board. Answers the rows that have one. What the room
     /// kept before is forgotten. No memory is taken.
-    pub fn find_targets<B: Scan>(&mut self, board: &B, row: &CompiledRow, leads: bool) -> Columns
+    pub fn find_targets(&mut self, board: &B, row: &CompiledRow, leads: bool) -> Columns<B::Words>
         requires { length row.now.parts ≡ 2 }
         ensures { let parts = row.now.parts in
             let grid = B.grid board.now in
@@ -214,7 +214,7 @@ impl RowRoom {
     }
 
     /// The columns of a row of the board that [`find_targets`](RowRoom::find_targets) found.
-    pub fn targets_on(&self, row: u32) -> Columns
+    pub fn targets_on(&self, row: u32) -> Columns<B::Words>
         requires { row < SIDE_LIMIT }
         ensures { result ≡ slice_index_or self.now.starts.items row [] }
     {

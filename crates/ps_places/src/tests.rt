@@ -4,7 +4,7 @@ ghost use Rattle.std.specs.Prelude.{All, IfOk};
 ghost use Rattle.ps_laws.specs.WholeRows.{HasCells};
 
 use crate::{RowRoom, find_starts};
-use ps_match::{Board, Columns, ListBoard, Scan};
+use ps_match::{Board, ColumnWords, Columns, ListBoard, Scan};
 use ps_model::{LayerId, LayeredObject, Memory, Motion, ObjectId, SIDE_LIMIT};
 use ps_program::{Axis, CellMask, CellWrite, CompiledCell, CompiledRow, PART_LIMIT};
 use ps_text::List;
@@ -259,7 +259,7 @@ fn a_full_board_has_a_place_for_each_cell(rt: HostRuntime) -> Result<(), Fail> {
 }
 
 /// The columns of a set, from the left.
-fn check_columns(rt: &impl Abort, columns: Columns, wanted: &[u32]) {
+fn check_columns<W: ColumnWords>(rt: &impl Abort, columns: Columns<W>, wanted: &[u32]) {
     let mut left = columns;
     for column in wanted {
         assert_eq!(rt; left.take_first(), Some(*column));

@@ -20,7 +20,7 @@ pub fn first_way<B: Scan>(
     axis: Axis,
     line: u8,
     parts: &[List<CompiledCell>],
-    sets: &[Columns],
+    sets: &[Columns<B::Words>],
     from: usize,
     way: &mut [u8],
 ) -> bool
@@ -68,7 +68,7 @@ pub fn next_way<B: Scan>(
     axis: Axis,
     line: u8,
     parts: &[List<CompiledCell>],
-    sets: &[Columns],
+    sets: &[Columns<B::Words>],
     way: &mut [u8],
 ) -> bool
     requires line { line < line_count axis (B.grid board.now) }

@@ -18,7 +18,7 @@ ghost use Rattle.ps_rows.specs.RowIndex.{AreRowsMarked};
 ghost use Rattle.ps_rows.specs.Sameness.{DifferOnlyOnRows};
 ghost use Rattle.ps_rows.specs.Showing.{cleared_from};
 
-use ps_board::Columns;
+use ps_board::{Columns, OneWord};
 use ps_model::Memory;
 use std::alloc::Global;
 
@@ -281,7 +281,7 @@ impl Planes {
     }
 
     /// Makes rows of a plane of others the same, those in a set that are marked on either side.
-    fn copy_rows_of(&self, other: &mut Planes, plane: u32, rows: Columns)
+    fn copy_rows_of(&self, other: &mut Planes, plane: u32, rows: Columns<OneWord>)
         requires height { other.old.height ≡ self.now.height }
         requires here { (plane + 1) * self.now.height ≤ vec_len self.now.words }
         requires there { (plane + 1) * self.now.height ≤ vec_len other.old.words }
@@ -301,7 +301,7 @@ impl Planes {
 
     /// Makes rows of so many planes of others, the first ones, the same, those in a set. What neither side has marked
     /// is passed over.
-    pub fn copy_rows(&self, other: &mut Planes, planes: u32, rows: Columns)
+    pub fn copy_rows(&self, other: &mut Planes, planes: u32, rows: Columns<OneWord>)
         requires height { other.old.height ≡ self.now.height }
         requires here { planes * self.now.height ≤ vec_len self.now.words }
         requires there { planes * self.now.height ≤ vec_len other.old.words }

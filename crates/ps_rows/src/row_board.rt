@@ -20,7 +20,7 @@ use crate::motions::{choose_motion, first_motion};
 use crate::planes::Planes;
 use crate::sameness::{differing_row, same_planes, unlike_row};
 use crate::scanning::columns;
-use ps_board::{Board, Columns};
+use ps_board::{Board, Columns, OneWord};
 use ps_model::{LayerId, LayeredObject, Memory, Motion, MotionTest, ObjectId};
 use ps_program::CellWrite;
 use std::alloc::Global;
@@ -220,6 +220,8 @@ impl Board for RowBoard {
 
     ghost table_for = { λ layers. Some layers };
 
+    type Words = OneWord;
+
     /// Nothing too, if the game has more objects than 2147483648.
     fn try_empty(
         alloc: Global,
@@ -282,7 +284,7 @@ impl Board for RowBoard {
         self.planes.copy_into(&mut other.planes);
     }
 
-    fn movers(&self, layer: LayerId, row: u32) -> Columns {
+    fn movers(&self, layer: LayerId, row: u32) -> Columns<OneWord> {
         let still = MotionTest {
             layer,
             motion: Motion::Still,
@@ -290,7 +292,7 @@ impl Board for RowBoard {
         Columns::from_word(columns(self.width) & !self.motion_row(&still, row))
     }
 
-    fn holders(&self, object: ObjectId, layer: LayerId, row: u32) -> Columns {
+    fn holders(&self, object: ObjectId, layer: LayerId, row: u32) -> Columns<OneWord> {
         let sought = LayeredObject { object, layer };
         Columns::from_word(columns(self.width) & self.object_row(&sought, row))
     }
@@ -305,7 +307,7 @@ impl Board for RowBoard {
     }
 
     /// The rows of all planes of motions, by the index.
-    fn rows_moving_any(&self) -> Columns {
+    fn rows_moving_any(&self) -> Columns<OneWord> {
         let first = self.members.count();
         let mut rows = 0;
         for plane in first..first + 5 * self.layers {
@@ -315,7 +317,7 @@ impl Board for RowBoard {
     }
 
     /// The rows of the object's plane, by the index; none, where no object has that number.
-    fn rows_holding(&self, object: ObjectId) -> Columns {
+    fn rows_holding(&self, object: ObjectId) -> Columns<OneWord> {
         if self.members.count() <= object.0 {
             return Columns::none();
         }
@@ -323,7 +325,7 @@ impl Board for RowBoard {
     }
 
     /// The columns in which the planes of all objects are as in that one.
-    fn alike(&self, row: u32, column: u32) -> Columns {
+    fn alike(&self, row: u32, column: u32) -> Columns<OneWord> {
         let objects = self.members.count();
         let unlike = unlike_row(&self.planes, objects, row, column);
         Columns::from_word(columns(self.width) & !unlike)
@@ -337,7 +339,7 @@ impl Board for RowBoard {
     }
 
     /// The words of the row are compared, in the planes of all objects.
-    fn differing(&self, other: &RowBoard, row: u32) -> Columns {
+    fn differing(&self, other: &RowBoard, row: u32) -> Columns<OneWord> {
         let objects = self.members.count();
         let here = self.planes.words.as_slice();
         let there = other.planes.words.as_slice();
@@ -345,16 +347,16 @@ impl Board for RowBoard {
     }
 
     /// The words of the planes of all objects are compared; a plane without columns on both boards is passed over.
-    fn rows_differing(&self, other: &RowBoard) -> Columns {
+    fn rows_differing(&self, other: &RowBoard) -> Columns<OneWord> {
         let objects = self.members.count();
         Columns::from_word(self.planes.rows_differing(&other.planes, objects))
     }
 
     /// The words of these rows are copied, in the planes of all objects, and what moved on the other board is brought
     /// to rest.
-    fn copy_rows(&self, other: &mut RowBoard, rows: Columns) {
+    fn copy_rows(&self, other: &mut RowBoard, rows: &Columns<OneWord>) {
         let objects = self.members.count();
-        self.planes.copy_rows(&mut other.planes, objects, rows);
+        self.planes.copy_rows(&mut other.planes, objects, *rows);
         other.planes.clear_from(objects);
     }
 }
@@ -451,7 +453,7 @@ mod tests {
         for row in 0..3u32 {
             assert_eq!(rt; rows.has(row), row == 1);
         }
-        board.copy_rows(&mut other, rows);
+        board.copy_rows(&mut other, &rows);
         assert!(rt; other.rows_moving_any().is_empty());
         assert_eq!(rt; other.object(0, LayerId(0)), Some(ObjectId(1)));
         assert_eq!(rt; other.object(1, LayerId(1)), Some(ObjectId(0)));

@@ -4,7 +4,7 @@ use crate::motions::motion_plane;
 use crate::planes::has_column;
 use crate::row_board::RowBoard;
 use crate::scanning::columns as all_columns;
-use ps_board::Board;
+use ps_board::{Board, OneWord};
 use ps_match::{Columns, Rooms, Scan};
 use ps_model::{LayerId, LayeredObject, MotionTest, ObjectId};
 use ps_program::{CellMask, CellWrite};
@@ -24,7 +24,7 @@ impl Scan for RowBoard {
         has_column(self.mask_row(mask, cell % height), cell / height)
     }
 
-    fn scan(&self, mask: &CellMask, row: u32) -> Columns {
+    fn scan(&self, mask: &CellMask, row: u32) -> Columns<OneWord> {
         Columns::from_word(self.mask_row(mask, row))
     }
 
@@ -36,7 +36,7 @@ impl Scan for RowBoard {
     }
 
     /// The rows that have it, by the index.
-    fn rows_with(&self, object: &LayeredObject) -> Columns {
+    fn rows_with(&self, object: &LayeredObject) -> Columns<OneWord> {
         if !self.is_on(object.object.0, object.layer.0) {
             return Columns::none();
         }
@@ -44,7 +44,7 @@ impl Scan for RowBoard {
     }
 
     /// The rows of the motion's plane, by the index; all rows, for rest, and for a layer that the board doesn't have.
-    fn rows_moving(&self, test: &MotionTest) -> Columns {
+    fn rows_moving(&self, test: &MotionTest) -> Columns<OneWord> {
         let (_width, height) = self.size();
         if self.layers() <= test.layer.0 {
             return Columns::below(height);
@@ -67,7 +67,7 @@ impl Scan for RowBoard {
         changed | here
     }
 
-    fn rewrite(&mut self, write: &CellWrite, row: u32, columns: Columns) -> bool {
+    fn rewrite(&mut self, write: &CellWrite, row: u32, columns: &Columns<OneWord>) -> bool {
         let (width, _height) = self.size();
         let word = columns.word() & all_columns(width);
         if word == 0 {

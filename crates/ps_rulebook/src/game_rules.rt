@@ -14,18 +14,18 @@ use std::alloc::Global;
 /// The rules of one part of a turn: the sections of a compiled program, lent, and what their runs need besides the
 /// board. It is made once, so that a run takes no memory but for a message.
 #[derive(Drop)]
-pub struct GameRules<'p, 'r> {
+pub struct GameRules<'p, 'r, B: Scan> {
     /// Where the message of a run takes memory from.
     alloc: Global,
     sections: &'p [CompiledSection<'r>],
     /// Room for the rows of a rule.
-    rooms: Vec<RowRoom>,
+    rooms: Vec<RowRoom<B>>,
     ghost enough: { SectionsHaveRooms (vec_len rooms) sections.now },
 }
 
-impl<'p, 'r> GameRules<'p, 'r> {
+impl<'p, 'r, B: Scan> GameRules<'p, 'r, B> {
     /// The rules of a program. `Memory` if there is no room for what their runs need.
-    pub fn try_new(alloc: Global, program: &'p Program<'r>) -> Result<GameRules<'p, 'r>, Memory>
+    pub fn try_new(alloc: Global, program: &'p Program<'r>) -> Result<GameRules<'p, 'r, B>, Memory>
         ensures { IfOk result (λ rules. sections_shown rules.sections.now ≡ program.entry.now) }
     {
         let sections = program.sections();
@@ -38,7 +38,7 @@ impl<'p, 'r> GameRules<'p, 'r> {
     }
 }
 
-impl<'p, 'r, B: Scan> Rules<B> for GameRules<'p, 'r> {
+impl<'p, 'r, B: Scan> Rules<B> for GameRules<'p, 'r, B> {
     ghost use Rattle.ps_engine.specs.RulesInRoom.{sections_meaning};
 
     ghost meant = { λ rules table. sections_meaning table rules.sections.now };

@@ -9,6 +9,7 @@ ghost use Rattle.ps_rulebook.specs.PlayedGames.{AreCompiled, PlayAsWritten};
 use crate::game_rules::GameRules;
 use ps_board::CellSet;
 use ps_compile::CompiledPrograms;
+use ps_engine::Scan;
 use ps_model::Memory;
 use ps_turn::TurnRules;
 use std::alloc::Global;
@@ -19,10 +20,10 @@ use std::alloc::Global;
 ///
 /// What a turn's message needs of memory comes from `alloc`. `Memory` if there is no room for what runs of the programs
 /// need besides a board.
-pub fn rules_of_turns<'p, 'r>(
+pub fn rules_of_turns<'p, 'r, B: Scan>(
     alloc: Global,
     programs: &'p CompiledPrograms<'r>,
-) -> Result<TurnRules<GameRules<'p, 'r>>, Memory>
+) -> Result<TurnRules<B, GameRules<'p, 'r, B>>, Memory>
     ensures plain { IfOk result (λ rules. sections_shown rules.plain.sections.now ≡ programs.entry.now.plain) }
     ensures late { IfOk result (λ rules. sections_shown rules.late.sections.now ≡ programs.entry.now.late) }
     ensures played { IfOk result (λ rules. (names : Names) (lines : List RuleLine)

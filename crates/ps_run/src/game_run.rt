@@ -25,7 +25,7 @@ use std::alloc::Global;
 pub fn run_game<'g, B: Board, R: Rules<B> + Drop, I: ByteReader, W: ByteWriter>(
     alloc: Global,
     game: SessionGame<'g>,
-    rules: TurnRules<R>,
+    rules: TurnRules<B, R>,
     reader: &mut I,
     writer: &mut W,
 ) -> Result<Ending, RunFault>

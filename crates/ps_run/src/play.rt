@@ -21,7 +21,7 @@ use ps_turn::{Rules, TurnRules};
 #[derive(Drop)]
 pub struct Play<'g, B: Board, R> {
     pub session: Session<'g, B>,
-    pub rules: TurnRules<R>,
+    pub rules: TurnRules<B, R>,
     pub keys: Keys,
     pub output: OutputText,
 }

@@ -79,5 +79,5 @@ fn run_compiled<I: ByteReader, W: ByteWriter>(
         Ok(rules) => rules,
         Err(_) => return Err(RunFault::Memory),
     };
-    run_game::<RowBoard, GameRules<'_, '_>, I, W>(alloc, parts, rules, reader, writer)
+    run_game::<RowBoard, GameRules<'_, '_, RowBoard>, I, W>(alloc, parts, rules, reader, writer)
 }

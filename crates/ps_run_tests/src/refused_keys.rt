@@ -47,7 +47,7 @@ fn is_refused(alloc: Global) -> bool {
 fn expect_session_again<'g, R: Rules<RowBoard> + Drop>(
     rt: &(impl Abort + AllocGlobal),
     session: &mut Session<'g, RowBoard>,
-    rules: &mut TurnRules<R>,
+    rules: &mut TurnRules<RowBoard, R>,
     output: &mut OutputText,
     opening: &str,
     steps: &[Step<'_>],

@@ -65,7 +65,7 @@ pub fn patch_text<B: Board>(
     ground: LayerId,
     shown: &B,
     board: &B,
-    rows: Columns,
+    rows: Columns<B::Words>,
     room: &mut Room,
     kept: FrameText,
 ) -> Result<FrameText, Memory>

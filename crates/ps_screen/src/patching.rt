@@ -11,7 +11,7 @@ ghost use Rattle.ps_screen.specs.PlainRows.{AreDrawn, IsOutside, IsPlainRow};
 
 use crate::cells::{Room, cell_character};
 use crate::output_text::OutputText;
-use ps_board::{Board, Columns};
+use ps_board::{Board, ColumnWords, Columns};
 use ps_model::{LayerId, Memory};
 use ps_names::Names;
 
@@ -41,7 +41,7 @@ fn one_byte(character: char) -> Option<u8>
 }
 
 /// Writes a byte at each of these columns of the row that begins at byte `start`.
-fn put_columns(text: &mut OutputText, start: u32, columns: Columns, byte: u8)
+fn put_columns<W: ColumnWords>(text: &mut OutputText, start: u32, columns: Columns<W>, byte: u8)
     requires { (x : ℕ) → x < SIDE_LIMIT → column_at columns x ≡ true → start + x < length text.old }
     ensures long { length text.new ≡ length text.old }
     ensures there { (x : ℕ) → x < SIDE_LIMIT → column_at columns x ≡ true
@@ -56,7 +56,7 @@ fn put_columns(text: &mut OutputText, start: u32, columns: Columns, byte: u8)
 }
 
 /// Columns of a row that show the same as one of them, where others are left; none, where there is no other.
-fn others_alike<B: Board>(board: &B, row: u32, column: u32, left: Columns) -> Columns
+fn others_alike<B: Board>(board: &B, row: u32, column: u32, left: Columns<B::Words>) -> Columns<B::Words>
     requires row { row < (B.grid board.now).height }
     requires column { column < (B.grid board.now).width }
     ensures { AreAlike result (B.grid board.now) row column }
@@ -79,7 +79,7 @@ pub fn patch_columns<B: Board>(
     board: &B,
     row: u32,
     room: &mut Room,
-    columns: Columns,
+    columns: Columns<B::Words>,
     start: u32,
     text: &mut OutputText,
 ) -> Result<bool, Memory>

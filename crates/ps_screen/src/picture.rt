@@ -116,7 +116,7 @@ fn redraw<B: Board>(
     }
     let rows = board.rows_differing(&before);
     let text = patch_text(alloc, names, ground, &before, board, rows, room, text)?;
-    board.copy_rows(&mut before, rows);
+    board.copy_rows(&mut before, &rows);
     Ok(LastFrame {
         text,
         board: before,

@@ -53,7 +53,7 @@ pub fn patch_frame<B: Board>(
     ground: LayerId,
     shown: &B,
     board: &B,
-    rows: Columns,
+    rows: Columns<B::Words>,
     room: &mut Room,
     text: &mut OutputText,
 ) -> Result<bool, Memory>

@@ -50,7 +50,7 @@ pub fn patch_rows<B: Board>(
     ground: LayerId,
     shown: &B,
     board: &B,
-    rows: Columns,
+    rows: Columns<B::Words>,
     room: &mut Room,
     texts: &mut [OutputText],
 ) -> Result<(), Memory>

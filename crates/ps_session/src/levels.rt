@@ -46,7 +46,7 @@ pub fn quits<B: Board>(stage: &mut Stage<'_, B>) -> Result<Next<PlayedLevel<B>>,
 /// `Memory`, and the level is as before.
 fn moves<B: Board, R: Rules<B>>(
     stage: &mut Stage<'_, B>,
-    rules: &mut TurnRules<R>,
+    rules: &mut TurnRules<B, R>,
     level: &mut PlayedLevel<B>,
     input: Input,
 ) -> Result<Next<PlayedLevel<B>>, Memory>
@@ -101,7 +101,7 @@ fn undoes<B: Board>(
 /// `Memory`.
 fn restarts<B: Board, R: Rules<B>>(
     stage: &mut Stage<'_, B>,
-    rules: &mut TurnRules<R>,
+    rules: &mut TurnRules<B, R>,
     level: &PlayedLevel<B>,
 ) -> Result<Next<PlayedLevel<B>>, Memory>
     requires empty { stage.old.text ≡ [] }
@@ -126,7 +126,7 @@ fn restarts<B: Board, R: Rules<B>>(
 /// `Memory`, and the level is as before.
 pub fn key_in_level<B: Board, R: Rules<B>>(
     stage: &mut Stage<'_, B>,
-    rules: &mut TurnRules<R>,
+    rules: &mut TurnRules<B, R>,
     level: &mut PlayedLevel<B>,
     history: &HeapCircularBuffer<HistoryBoard<B>>,
     key: Key,

@@ -26,7 +26,7 @@ use ps_turn::{Rules, TurnRules};
 /// `Memory`, and the location is as before.
 pub fn next_at<B: Board, R: Rules<B>>(
     stage: &mut Stage<'_, B>,
-    rules: &mut TurnRules<R>,
+    rules: &mut TurnRules<B, R>,
     location: &mut Location<PlayedLevel<B>>,
     history: &HeapCircularBuffer<HistoryBoard<B>>,
     key: Key,

@@ -25,7 +25,7 @@ use ps_turn::{Rules, TurnRules};
 /// `Memory`.
 pub fn key_at_level_message<B: Board, R: Rules<B>>(
     stage: &mut Stage<'_, B>,
-    rules: &mut TurnRules<R>,
+    rules: &mut TurnRules<B, R>,
     level: &PlayedLevel<B>,
     pending: Pending,
     key: Key,
@@ -61,7 +61,7 @@ pub fn key_at_level_message<B: Board, R: Rules<B>>(
 /// `Memory`.
 pub fn key_at_entry<B: Board, R: Rules<B>>(
     stage: &mut Stage<'_, B>,
-    rules: &mut TurnRules<R>,
+    rules: &mut TurnRules<B, R>,
     entry: &EntryNumber,
     key: Key,
 ) -> Result<Option<Next<PlayedLevel<B>>>, Memory>

@@ -57,7 +57,7 @@ impl<'g, B: Board> Session<'g, B> {
     pub fn start<R: Rules<B>>(
         alloc: Global,
         game: SessionGame<'g>,
-        rules: &mut TurnRules<R>,
+        rules: &mut TurnRules<B, R>,
         output: &mut OutputText,
     ) -> Result<Session<'g, B>, Memory>
         ensures game { IfOk result (λ session. session.game ≡ game.entry) }
@@ -91,7 +91,7 @@ impl<'g, B: Board> Session<'g, B> {
     /// `Memory`: the session and the output are as before, and the same key may be tried again.
     pub fn key<R: Rules<B>>(
         &mut self,
-        rules: &mut TurnRules<R>,
+        rules: &mut TurnRules<B, R>,
         key: Key,
         output: &mut OutputText,
     ) -> Result<Phase, Memory>

@@ -56,7 +56,7 @@ impl<'g, B: Board> Stage<'g, B> {
     /// Goes where the turns of a key have ended, with the history as it is then.
     fn finish_key<R: Rules<B>>(
         &mut self,
-        rules: &mut TurnRules<R>,
+        rules: &mut TurnRules<B, R>,
         level: PlayedLevel<B>,
         end: KeyEnd,
         history_change: HistoryChange,
@@ -90,7 +90,7 @@ impl<'g, B: Board> Stage<'g, B> {
     /// that follow.
     fn end_key<R: Rules<B>>(
         &mut self,
-        rules: &mut TurnRules<R>,
+        rules: &mut TurnRules<B, R>,
         level: &mut PlayedLevel<B>,
         done: &DoneTurn,
     ) -> Result<KeyEnd, Memory>
@@ -121,7 +121,7 @@ impl<'g, B: Board> Stage<'g, B> {
     /// again turns. If memory is wanting, the boards of the level are spare.
     fn follow_key<R: Rules<B>>(
         &mut self,
-        rules: &mut TurnRules<R>,
+        rules: &mut TurnRules<B, R>,
         mut level: PlayedLevel<B>,
         done: &DoneTurn,
     ) -> Result<Change<PlayedLevel<B>>, Memory>
@@ -156,7 +156,7 @@ impl<'g, B: Board> Stage<'g, B> {
     /// `Memory`, and a part of the text may have been made.
     pub fn take_input<R: Rules<B>>(
         &mut self,
-        rules: &mut TurnRules<R>,
+        rules: &mut TurnRules<B, R>,
         level: &mut PlayedLevel<B>,
         input: Input,
     ) -> Result<Change<PlayedLevel<B>>, Memory>
@@ -195,7 +195,7 @@ impl<'g, B: Board> Stage<'g, B> {
     /// `Memory`, and a part of the text may have been made.
     pub fn go_on<R: Rules<B>>(
         &mut self,
-        rules: &mut TurnRules<R>,
+        rules: &mut TurnRules<B, R>,
         level: &PlayedLevel<B>,
         pending: Pending,
     ) -> Result<Change<PlayedLevel<B>>, Memory>

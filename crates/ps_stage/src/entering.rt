@@ -72,7 +72,7 @@ impl<'g, B: Board> Stage<'g, B> {
     /// A level begins: its line, and its start.
     fn enter_level<R: Rules<B>>(
         &mut self,
-        rules: &mut TurnRules<R>,
+        rules: &mut TurnRules<B, R>,
         number: usize,
         entry: EntryNumber,
         level: &Level,
@@ -107,7 +107,7 @@ impl<'g, B: Board> Stage<'g, B> {
     /// `Memory`, and a part of the text may have been made.
     pub fn enter<R: Rules<B>>(
         &mut self,
-        rules: &mut TurnRules<R>,
+        rules: &mut TurnRules<B, R>,
         entry: usize,
     ) -> Result<Location<PlayedLevel<B>>, Memory>
         ensures game { self.new.game ≡ self.old.game }
@@ -144,7 +144,7 @@ impl<'g, B: Board> Stage<'g, B> {
     /// `Memory`, and a part of the text may have been made.
     pub fn level_done<R: Rules<B>>(
         &mut self,
-        rules: &mut TurnRules<R>,
+        rules: &mut TurnRules<B, R>,
         level: &PlayedLevel<B>,
     ) -> Result<Location<PlayedLevel<B>>, Memory>
         ensures game { self.new.game ≡ self.old.game }
@@ -171,7 +171,7 @@ impl<'g, B: Board> Stage<'g, B> {
     /// `Memory`, and a part of the text may have been made.
     pub fn restart<R: Rules<B>>(
         &mut self,
-        rules: &mut TurnRules<R>,
+        rules: &mut TurnRules<B, R>,
         level: &PlayedLevel<B>,
         message: Option<Text>,
     ) -> Result<Location<PlayedLevel<B>>, Memory>

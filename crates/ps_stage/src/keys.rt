@@ -75,7 +75,7 @@ impl<'g, B: Board> Stage<'g, B> {
     /// them; so does a restart.
     fn key_turn<R: Rules<B>>(
         &mut self,
-        rules: &mut TurnRules<R>,
+        rules: &mut TurnRules<B, R>,
         level: &mut PlayedLevel<B>,
         left: u32,
     ) -> Result<KeyTold, Memory>
@@ -115,7 +115,7 @@ impl<'g, B: Board> Stage<'g, B> {
     /// The again turns of a key, so many at most.
     pub(crate) fn key_turns<R: Rules<B>>(
         &mut self,
-        rules: &mut TurnRules<R>,
+        rules: &mut TurnRules<B, R>,
         level: &mut PlayedLevel<B>,
         most: u32,
     ) -> Result<KeyEnd, Memory>
@@ -144,7 +144,7 @@ impl<'g, B: Board> Stage<'g, B> {
     /// The again turns of a key, as many as there may be.
     pub(crate) fn all_key_turns<R: Rules<B>>(
         &mut self,
-        rules: &mut TurnRules<R>,
+        rules: &mut TurnRules<B, R>,
         level: &mut PlayedLevel<B>,
     ) -> Result<KeyEnd, Memory>
         requires { level.old.table ≡ B.table_for self.old.game.names.layers }

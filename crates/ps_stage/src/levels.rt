@@ -94,7 +94,7 @@ pub enum Tried<L> {
 /// `Memory`, and the second board is equal to the first again.
 fn run_turn<B: Board, R: Rules<B>>(
     game: &SessionGame<'_>,
-    rules: &mut TurnRules<R>,
+    rules: &mut TurnRules<B, R>,
     input: Option<Input>,
     before: &B,
     after: &mut B,
@@ -374,7 +374,7 @@ impl<B: Board> PlayedLevel<B> {
         alloc: Global,
         spares: &mut SpareBoards<B>,
         game: &SessionGame<'_>,
-        rules: &mut TurnRules<R>,
+        rules: &mut TurnRules<B, R>,
         input: Option<Input>,
         counting: Counting,
     ) -> Result<Turned, Memory>
@@ -430,7 +430,7 @@ impl<B: Board> PlayedLevel<B> {
         alloc: Global,
         spares: &mut SpareBoards<B>,
         game: &SessionGame<'_>,
-        rules: &mut TurnRules<R>,
+        rules: &mut TurnRules<B, R>,
         input: Input,
     ) -> Result<Tried<PlayedLevel<B>>, Memory>
         requires { self.old.table ≡ B.table_for game.now.names.layers }

@@ -92,7 +92,7 @@ impl<'g, B: Board> Stage<'g, B> {
     /// One again turn of a start: one that leaves the board as it was is as if not run, and ends them.
     fn start_turn<R: Rules<B>>(
         &mut self,
-        rules: &mut TurnRules<R>,
+        rules: &mut TurnRules<B, R>,
         level: &mut PlayedLevel<B>,
         left: u32,
     ) -> Result<StartTold, Memory>
@@ -126,7 +126,7 @@ impl<'g, B: Board> Stage<'g, B> {
     /// The again turns of a start, so many at most.
     pub(crate) fn start_turns<R: Rules<B>>(
         &mut self,
-        rules: &mut TurnRules<R>,
+        rules: &mut TurnRules<B, R>,
         level: &mut PlayedLevel<B>,
         most: u32,
     ) -> Result<Option<Pending>, Memory>
@@ -155,7 +155,7 @@ impl<'g, B: Board> Stage<'g, B> {
     /// The again turns of a start, as many as there may be.
     fn all_start_turns<R: Rules<B>>(
         &mut self,
-        rules: &mut TurnRules<R>,
+        rules: &mut TurnRules<B, R>,
         level: &mut PlayedLevel<B>,
     ) -> Result<Option<Pending>, Memory>
         requires { level.old.table ≡ B.table_for self.old.game.names.layers }
@@ -177,7 +177,7 @@ impl<'g, B: Board> Stage<'g, B> {
     /// A level from its first frame on, with a message or without one, and with again turns or without.
     fn started<R: Rules<B>>(
         &mut self,
-        rules: &mut TurnRules<R>,
+        rules: &mut TurnRules<B, R>,
         level: &mut PlayedLevel<B>,
         message: &Option<Text>,
         again: bool,
@@ -207,7 +207,7 @@ impl<'g, B: Board> Stage<'g, B> {
     /// input comes first; its message comes before one from before.
     pub(crate) fn start_step<R: Rules<B>>(
         &mut self,
-        rules: &mut TurnRules<R>,
+        rules: &mut TurnRules<B, R>,
         level: &mut PlayedLevel<B>,
         message: Option<Text>,
     ) -> Result<Option<Pending>, Memory>

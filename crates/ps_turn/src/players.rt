@@ -12,7 +12,7 @@ use crate::turns::TurnGame;
 use ps_board::{Board, Columns};
 
 /// The columns of a row in whose cells a Player stands.
-fn player_columns<B: Board>(game: &TurnGame<'_>, board: &B, row: u32) -> Columns
+fn player_columns<B: Board>(game: &TurnGame<'_>, board: &B, row: u32) -> Columns<B::Words>
     requires { row < (B.grid board.now).height }
     ensures { result ≡ row_cells (has_player game.now.names) (B.grid board.now) row }
 {
@@ -20,7 +20,7 @@ fn player_columns<B: Board>(game: &TurnGame<'_>, board: &B, row: u32) -> Columns
 }
 
 /// The columns of a row whose cells had a Player and have none now.
-fn left_columns<B: Board>(game: &TurnGame<'_>, before: &B, after: &B, row: u32) -> Columns
+fn left_columns<B: Board>(game: &TurnGame<'_>, before: &B, after: &B, row: u32) -> Columns<B::Words>
     requires sides { HaveSameSides (B.grid after.now) (B.grid before.now) }
     requires row { row < (B.grid before.now).height }
     requires there { row < (B.grid after.now).height }

@@ -13,7 +13,7 @@ use ps_names::Meaning;
 use std::slice;
 
 /// The columns of a row in whose cells each of the objects stands.
-fn columns_with_each<B: Board>(board: &B, objects: &[ObjectId], row: u32) -> Columns
+fn columns_with_each<B: Board>(board: &B, objects: &[ObjectId], row: u32) -> Columns<B::Words>
     requires { row < (B.grid board.now).height }
     ensures { result ≡ row_cells (has_each objects.now) (B.grid board.now) row }
 {
@@ -27,7 +27,7 @@ fn columns_with_each<B: Board>(board: &B, objects: &[ObjectId], row: u32) -> Col
 
 /// The columns of a row in whose cells stands what a name stands for: its object, all objects of an aggregate, some
 /// object of a property.
-pub fn columns_meant<B: Board>(board: &B, meaning: &Meaning, row: u32) -> Columns
+pub fn columns_meant<B: Board>(board: &B, meaning: &Meaning, row: u32) -> Columns<B::Words>
     requires { row < (B.grid board.now).height }
     ensures { result ≡ row_cells (is_in (meaning_shown meaning.now)) (B.grid board.now) row }
 {
@@ -39,7 +39,7 @@ pub fn columns_meant<B: Board>(board: &B, meaning: &Meaning, row: u32) -> Column
 }
 
 /// Rows of the board, as a set of their numbers, outside of which not all of the objects stand.
-fn rows_with_each<B: Board>(board: &B, objects: &[ObjectId]) -> Columns
+fn rows_with_each<B: Board>(board: &B, objects: &[ObjectId]) -> Columns<B::Words>
     ensures { NonePassOutside (has_each objects.now) (B.grid board.now) result }
 {
     let (_, _) = board.size();
@@ -51,7 +51,7 @@ fn rows_with_each<B: Board>(board: &B, objects: &[ObjectId]) -> Columns
 }
 
 /// Rows of the board, as a set of their numbers, outside of which nothing stands that a name stands for.
-pub fn rows_meant<B: Board>(board: &B, meaning: &Meaning) -> Columns
+pub fn rows_meant<B: Board>(board: &B, meaning: &Meaning) -> Columns<B::Words>
     ensures { NonePassOutside (is_in (meaning_shown meaning.now)) (B.grid board.now) result }
 {
     match meaning {
@@ -62,7 +62,7 @@ pub fn rows_meant<B: Board>(board: &B, meaning: &Meaning) -> Columns
 }
 
 /// The columns of a row whose cells have what the name behind `on` stands for; without such a name every column.
-pub fn columns_of_place<B: Board>(board: &B, place: &Option<Meaning>, row: u32) -> Columns
+pub fn columns_of_place<B: Board>(board: &B, place: &Option<Meaning>, row: u32) -> Columns<B::Words>
     requires { row < (B.grid board.now).height }
     ensures { result ≡ row_cells (is_place (option_map meaning_shown place.now)) (B.grid board.now) row }
 {

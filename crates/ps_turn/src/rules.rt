@@ -30,9 +30,9 @@ pub trait Rules<B: Board> {
 
 /// The rules of a game's turns: those before the movement, and those behind it.
 #[derive(Drop)]
-pub struct TurnRules<R> {
+pub struct TurnRules<B: Board, R> {
     pub plain: R,
     pub late: R,
     /// Room for the cells of a movement in which something moves.
-    pub moving: CellSet,
+    pub moving: CellSet<B>,
 }

@@ -12,7 +12,7 @@ use ps_board::{Board, Columns};
 use ps_model::{LayerId, ObjectId};
 
 /// The columns of a row in which one of the objects stands on a layer.
-fn layer_columns<B: Board>(board: &B, objects: &[ObjectId], layer: LayerId, row: u32) -> Columns
+fn layer_columns<B: Board>(board: &B, objects: &[ObjectId], layer: LayerId, row: u32) -> Columns<B::Words>
     requires layer { layer.0 < (B.grid board.now).layers }
     requires row { row < (B.grid board.now).height }
     ensures { result ≡ row_slots (holds_any objects.now) (B.grid board.now) layer.0 row }
@@ -25,7 +25,7 @@ fn layer_columns<B: Board>(board: &B, objects: &[ObjectId], layer: LayerId, row:
 }
 
 /// The columns of a row in which one of the objects stands.
-fn row_columns<B: Board>(board: &B, objects: &[ObjectId], row: u32) -> Columns
+fn row_columns<B: Board>(board: &B, objects: &[ObjectId], row: u32) -> Columns<B::Words>
     requires shape { IsGrid (B.grid board.now) }
     requires row { row < (B.grid board.now).height }
     ensures { let g = B.grid board.now in (x : ℕ) → x < g.width →
@@ -39,7 +39,7 @@ fn row_columns<B: Board>(board: &B, objects: &[ObjectId], row: u32) -> Columns
 }
 
 /// The columns of a row in whose cells one of the objects stands, and no column beyond the board's last one.
-pub fn columns_with<B: Board>(board: &B, objects: &[ObjectId], row: u32) -> Columns
+pub fn columns_with<B: Board>(board: &B, objects: &[ObjectId], row: u32) -> Columns<B::Words>
     requires { row < (B.grid board.now).height }
     ensures { result ≡ row_cells (list_any (holds_any objects.now)) (B.grid board.now) row }
 {
@@ -48,7 +48,7 @@ pub fn columns_with<B: Board>(board: &B, objects: &[ObjectId], row: u32) -> Colu
 }
 
 /// Rows of the board, as a set of their numbers, outside of which none of the objects stands.
-pub fn rows_with<B: Board>(board: &B, objects: &[ObjectId]) -> Columns
+pub fn rows_with<B: Board>(board: &B, objects: &[ObjectId]) -> Columns<B::Words>
     ensures { NonePassOutside (list_any (holds_any objects.now)) (B.grid board.now) result }
 {
     let (_, _) = board.size();

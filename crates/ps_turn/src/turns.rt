@@ -86,7 +86,7 @@ fn prepare<B: Board>(game: &TurnGame<'_>, input: Option<Input>, board: &mut B)
 /// `Memory`, and a part of the changes may have been made.
 fn play<B: Board, R: Rules<B>>(
     game: &TurnGame<'_>,
-    rules: &mut TurnRules<R>,
+    rules: &mut TurnRules<B, R>,
     input: Option<Input>,
     board: &mut B,
 ) -> Result<Queue, Memory>
@@ -181,7 +181,7 @@ fn outcome<B: Board>(
 /// `Memory`: the first board stands, and the second is equal to it again.
 pub fn turn<B: Board, R: Rules<B>>(
     game: &TurnGame<'_>,
-    rules: &mut TurnRules<R>,
+    rules: &mut TurnRules<B, R>,
     input: Option<Input>,
     before: &B,
     after: &mut B,

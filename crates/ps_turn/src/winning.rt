@@ -15,7 +15,7 @@ use ps_levels::Win;
 use ps_model::Quantifier;
 
 /// The columns of a row whose cells have the subject of a win condition and are places of it.
-fn columns_met<B: Board>(board: &B, win: &Win, row: u32) -> Columns
+fn columns_met<B: Board>(board: &B, win: &Win, row: u32) -> Columns<B::Words>
     requires { row < (B.grid board.now).height }
     ensures { result ≡ row_cells (is_met (meaning_shown win.now.subject) (option_map meaning_shown win.now.place))
         (B.grid board.now) row }
@@ -28,7 +28,7 @@ fn columns_met<B: Board>(board: &B, win: &Win, row: u32) -> Columns
 }
 
 /// The columns of a row whose cells have the subject of a win condition and are no places of it.
-fn columns_missed<B: Board>(board: &B, win: &Win, row: u32) -> Columns
+fn columns_missed<B: Board>(board: &B, win: &Win, row: u32) -> Columns<B::Words>
     requires { row < (B.grid board.now).height }
     ensures { result ≡ row_cells (is_missed (meaning_shown win.now.subject) (option_map meaning_shown win.now.place))
         (B.grid board.now) row }

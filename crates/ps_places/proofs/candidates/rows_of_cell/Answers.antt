@@ -5,7 +5,7 @@ pub returns-in-Down : goal.returns-in-Down
 returns-in-Down g c =
     rw c.in-Down.is
     (cell-down (g.B.Board.grid c.args.board.now) c.args.mask.now c.args.steps c.rows_of_mask-rows.result c.behind.result
-    c.recall_shape.ensures c.behind.ensures
+    c.recall_shape.ensures.shape c.behind.ensures
     c.rows_of_mask-rows.ensures)
 
 pub returns-in-Right : goal.returns-in-Right

@@ -12,7 +12,7 @@ pub returns-then-next_way-clause-some : goal.returns-then-next_way-clause-some
 returns-then-next_way-clause-some g c =
     let grid : Grid = g.B.Board.grid c.args.board.now in
     let most : line_count c.args.row.now.axis grid ≤ SIDE_LIMIT =
-    lines-few c.args.row.now.axis grid c.recall_shape.ensures in
+    lines-few c.args.row.now.axis grid c.recall_shape.ensures.shape in
     let low : c.args.line < SIDE_LIMIT = omega (arith, most, c.requires.line) in
     let found = rw c.as_slice-parts.ensures at (c.next_way.ensures.found c.if-next_way.true) in
     next-found grid (g.B.Board.table c.args.board.now) c.args.row.now.axis c.args.row.now.parts c.args.starts.now
@@ -25,7 +25,7 @@ returns-clause-some g c =
     let table : Option (List ℕ) = g.B.Board.table c.args.board.now in
     let fits : List ℕ → Bool = place_fits grid table c.args.row.now.parts in
     let most : line_count c.args.row.now.axis grid ≤ SIDE_LIMIT =
-    lines-few c.args.row.now.axis grid c.recall_shape.ensures in
+    lines-few c.args.row.now.axis grid c.recall_shape.ensures.shape in
     let low : c.args.line < SIDE_LIMIT = omega (arith, most, c.requires.line) in
     let none = rw c.as_slice-parts.ensures at (c.next_way.ensures.none c.if-next_way.false) in
     IfSome_then c.seek.result c.seek.ensures.some (λ next found.
@@ -43,7 +43,7 @@ returns-clause-none g c = λ nowhere.
     let table : Option (List ℕ) = g.B.Board.table c.args.board.now in
     let fits : List ℕ → Bool = place_fits grid table c.args.row.now.parts in
     let most : line_count c.args.row.now.axis grid ≤ SIDE_LIMIT =
-    lines-few c.args.row.now.axis grid c.recall_shape.ensures in
+    lines-few c.args.row.now.axis grid c.recall_shape.ensures.shape in
     let low : c.args.line < SIDE_LIMIT = omega (arith, most, c.requires.line) in
     let none = rw c.as_slice-parts.ensures at (c.next_way.ensures.none c.if-next_way.false) in
     next-none grid table c.args.row.now.axis c.args.row.now.parts c.args.starts.now c.args.lines c.args.line
