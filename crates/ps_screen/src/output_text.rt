@@ -77,8 +77,8 @@ impl OutputText {
         Ok(())
     }
 
-    /// Moves the bytes of another text to the end of this one, and leaves that one without any. Where this one has none,
-    /// the two change places, and no byte is copied.
+    /// Moves the bytes of another text to the end of this one, and leaves that one without any. Where this one has
+    /// none, the two change places, and no byte is copied.
     ///
     /// # Errors
     ///
