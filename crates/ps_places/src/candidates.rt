@@ -14,7 +14,7 @@ pub fn rows_of_mask<B: Scan>(board: &B, mask: &CellMask) -> Columns<B::Words>
     ensures { FitsOnlyOn (B.grid board.now) mask.now result }
 {
     recall_shape(board);
-    let mut rows = Columns::below(SIDE_LIMIT);
+    let mut rows = Columns::all();
     for object in mask.needed.as_slice() {
         let having = board.rows_with(object);
         rows = rows.both(having);
@@ -47,7 +47,7 @@ pub fn rows_of_part<B: Scan>(board: &B, axis: Axis, part: &[CompiledCell]) -> Co
     ensures { BeginsOnlyOn (B.grid board.now) (B.table board.now) axis part.now result }
 {
     recall_shape(board);
-    let mut rows = Columns::below(SIDE_LIMIT);
+    let mut rows = Columns::all();
     let mut steps = 0;
     for cell in part {
         if rows.is_empty() {

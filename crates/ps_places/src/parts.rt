@@ -5,6 +5,7 @@ ghost use Rattle.std.specs.Prelude.{◌≡◌, ◌+◌, ◌<◌, ◌∷◌, [], 
 ghost use Rattle.ps_model.specs.board.Attempts.{Rewritten, rewritten_along, rewritten_cell};
 ghost use Rattle.ps_model.specs.board.Places.{fits_there};
 ghost use Rattle.ps_model.specs.declared.limits.TheConstants.{SIDE_LIMIT};
+ghost use Rattle.ps_laws.specs.WholeRows.{HasCells};
 ghost use Rattle.ps_program.specs.declared.rows.Axis.TheVariants.{Down, Right};
 ghost use Rattle.ps_match.specs.InRoom.{sides_of};
 ghost use Rattle.ps_board.specs.ColumnSets.{set_columns};
@@ -134,7 +135,7 @@ pub fn behind_position<W: ColumnWords>(set: Columns<W>, from: usize) -> Columns<
     if SIDE_LIMIT as usize <= from {
         return Columns::none();
     }
-    set.without(Columns::below(from as u32))
+    set.not_below(from as u32)
 }
 
 /// The least position of a set at which a part fits that goes right on a row of the board, and the positions behind it.
@@ -144,7 +145,8 @@ fn least_across<B: Scan>(
     part: &[CompiledCell],
     set: Columns<B::Words>,
 ) -> Option<u8>
-    requires { line < (B.grid board.now).height }
+    requires line { line < (B.grid board.now).height }
+    requires whole { HasCells part.now }
     ensures some { IfSome result (λ position.
         from_first (part_fits (B.grid board.now) (B.table board.now) Right line part.now) (set_columns set)
         ≡ position ∷ positions_from set (position + 1)) }
@@ -187,7 +189,8 @@ pub fn least_position<B: Scan>(
     set: Columns<B::Words>,
     from: usize,
 ) -> Option<u8>
-    requires { line < line_count axis (B.grid board.now) }
+    requires line { line < line_count axis (B.grid board.now) }
+    requires whole { HasCells part.now }
     ensures some { IfSome result (λ position.
         from_first (part_fits (B.grid board.now) (B.table board.now) axis line part.now) (positions_from set from)
         ≡ position ∷ positions_from set (position + 1)) }
