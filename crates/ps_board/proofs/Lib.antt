@@ -6,6 +6,14 @@ pub mod ColumnLaws
 pub mod Taken
 pub mod RowByRow
 pub mod WordBits
+pub mod Bits
+pub mod WordSteps
+pub mod JoinedWords
+pub mod EmptyWords
+pub mod OneOfWords
+pub mod MovedWords
+pub mod HighWords
+pub mod FirstOfWords
 pub mod PassedColumns
 mod Differing
 pub mod OneColumn

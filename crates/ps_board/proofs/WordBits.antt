@@ -1,54 +1,46 @@
--- Sets of columns as the bits of words.
-use Rattle.std.proofs.Common.{◌≡◌, ◌≢◌, ◌∙◌, ℕ, ◌+◌, ◌-◌, ◌*◌, ◌/◌, ◌%◌, ◌^◌, ◌<◌, ◌≤◌, ◌&&◌, ◌||◌, ◌⊎◌, inl, inr, not}
-use Rattle.std.proofs.Common.{suc, zero, Bool, true, false, [], ◌∷◌, length, min, max, refl, sym, ap, ap₂, arith}
-use Rattle.std.proofs.Common.{bit_or, w64}
+-- Sets of columns as the bits of one word.
+use Rattle.std.proofs.Common.{◌≡◌, ◌≢◌, ◌∙◌, ℕ, ◌+◌, ◌-◌, ◌*◌, ◌/◌, ◌%◌, ◌^◌, ◌<◌, ◌≤◌, ◌&&◌, ◌||◌, not, Bool, true, false}
+use Rattle.std.proofs.Common.{List, [], ◌∷◌, length, refl, sym, ap, ap₂, arith, bit_or, w64}
 use Rattle.std.specs.Prelude.{nat_eq, nat_le, nat_lt, if◌then◌else◌, bit_and}
 use Rattle.std.specs.Int.{bit_at, bit_not, trailing_zeros}
+use Rattle.std.proofs.Math.Bool.{and-false, and-true}
+use Rattle.std.proofs.Math.Nat.{mod-lt}
 use Rattle.std.proofs.lemmas.Bool.Decides.{nat_tests}
-use Rattle.std.proofs.lemmas.Nat.{or_lt, pow-add, pow_pos, shr_split}
-use Rattle.std.proofs.lemmas.Nat.Bits.{bit_at-zero, bit_at-lt, bit_at_cat_low, bit_at_cat_high, bit_at_and, bit_at_or}
-use Rattle.std.proofs.lemmas.Nat.Bits.{bit_at_not, bit_at_above, bit_at_ones, bit_at_ones_above, ones_shr}
-use Rattle.std.proofs.lemmas.Nat.Bits.{bit_at_set_same, bit_at_set_other, bit_at_clear_same, bit_at_clear_other}
-use Rattle.std.proofs.lemmas.Nat.Bits.{bit_at-trailing_zeros, shr_and_one}
-use Rattle.std.proofs.Math.Nat.{div-div-eq-div-mul, mod-lt}
+use Rattle.std.proofs.lemmas.Nat.{and_le_l, or_lt}
+use Rattle.std.proofs.lemmas.Nat.Bits.{bit_at-zero, bit_at-trailing_zeros, bit_at_clear_same, bit_at_clear_other}
+use Rattle.std.proofs.lemmas.Nat.Bits.{shr_and_one}
 use Rattle.ps_model.specs.declared.limits.TheConstants.{SIDE_LIMIT}
 use Rattle.ps_board.specs.ColumnSets.{column_at, set_columns, bit_is_set, word_columns, with_column, both_columns}
 use Rattle.ps_board.specs.ColumnSets.{either_columns, columns_ahead, columns_behind, columns_below, columns_without}
 use Rattle.ps_board.specs.ColumnSets.{no_columns}
-use Rattle.ps_board.proofs.ColumnLaws.{column_at-where, column_at-beyond, column_at-all, columns-agree}
+use Rattle.ps_board.proofs.Bits.{and_bit, clear_bit, low_bit, minus_bit, moved_bit, no_bit_above, or_bit}
+use Rattle.ps_board.proofs.Bits.{raised_high, raised_low, set_bit}
+use Rattle.ps_board.proofs.ColumnLaws.{column_at-where, column_at-all, columns-agree}
 use Rattle.ps_board.proofs.ColumnLaws.{set_columns-first, set_columns-none}
 
+-- any column of a word
+word_column : (word x : ℕ) → word < 2 ^ 64 → column_at (word_columns word) x ≡ bit_is_set word x
+word_column word x within =
+    column_at-all (bit_is_set word) x (λ high. no_bit_above word x within (omega (arith, high)))
+
+word_beyond : (word x : ℕ) → word < 2 ^ 64 → 64 ≤ x → column_at (word_columns word) x ≡ false
+word_beyond word x within high = word_column word x within ∙ no_bit_above word x within high
+
+-- a column below a number
+is_below : (count x : ℕ) → x < SIDE_LIMIT → column_at (columns_below count) x ≡ nat_lt x count
+is_below count x low = column_at-where (λ y. nat_lt y count) x low
+
 -- the bits of two words, taken together
-min_bits : (p q : ℕ) → p < 2 → q < 2 → nat_eq (min p q) 1 ≡ (nat_eq p 1 && nat_eq q 1)
-min_bits zero zero hp hq = refl
-min_bits zero (suc zero) hp hq = refl
-min_bits zero (suc (suc q)) hp hq = absurd (omega arith)
-min_bits (suc zero) zero hp hq = refl
-min_bits (suc zero) (suc zero) hp hq = refl
-min_bits (suc zero) (suc (suc q)) hp hq = absurd (omega arith)
-min_bits (suc (suc p)) q hp hq = absurd (omega arith)
-
-max_bits : (p q : ℕ) → p < 2 → q < 2 → nat_eq (max p q) 1 ≡ (nat_eq p 1 || nat_eq q 1)
-max_bits zero zero hp hq = refl
-max_bits zero (suc zero) hp hq = refl
-max_bits zero (suc (suc q)) hp hq = absurd (omega arith)
-max_bits (suc zero) zero hp hq = refl
-max_bits (suc zero) (suc zero) hp hq = refl
-max_bits (suc zero) (suc (suc q)) hp hq = absurd (omega arith)
-max_bits (suc (suc p)) q hp hq = absurd (omega arith)
-
 pub and_word : (a b : ℕ) → word_columns (bit_and a b) ≡ both_columns (word_columns a) (word_columns b)
 and_word a b =
     columns-agree (bit_is_set (bit_and a b)) (λ x. column_at (word_columns a) x && column_at (word_columns b) x)
-    (λ x low. ap (λ (bit : ℕ). nat_eq bit 1) (bit_at_and a b x)
-    ∙ min_bits (bit_at a x) (bit_at b x) (bit_at-lt a x) (bit_at-lt b x)
+    (λ x low. and_bit a b x
     ∙ sym (ap₂ (λ (p q : Bool). p && q) (column_at-where (bit_is_set a) x low) (column_at-where (bit_is_set b) x low)))
 
 pub or_word : (a b : ℕ) → word_columns (bit_or a b) ≡ either_columns (word_columns a) (word_columns b)
 or_word a b =
     columns-agree (bit_is_set (bit_or a b)) (λ x. column_at (word_columns a) x || column_at (word_columns b) x)
-    (λ x low. ap (λ (bit : ℕ). nat_eq bit 1) (bit_at_or a b x)
-    ∙ max_bits (bit_at a x) (bit_at b x) (bit_at-lt a x) (bit_at-lt b x)
+    (λ x low. or_bit a b x
     ∙ sym (ap₂ (λ (p q : Bool). p || q) (column_at-where (bit_is_set a) x low) (column_at-where (bit_is_set b) x low)))
 
 -- no bit
@@ -56,88 +48,136 @@ pub zero_word : word_columns 0 ≡ no_columns
 zero_word = columns-agree (bit_is_set 0) (λ x. false) (λ x low. ap (λ (bit : ℕ). nat_eq bit 1) (bit_at-zero x))
 
 -- the bits of a word moved down
-moved_bit : (word count x : ℕ) → bit_at (word / 2 ^ count) x ≡ bit_at word (x + count)
-moved_bit word count x =
-    let turned : count + x ≡ x + count = omega arith in
-    ap (λ (n : ℕ). n % 2)
-    (div-div-eq-div-mul word (2 ^ count) (2 ^ x)
-    ∙ ap (λ (n : ℕ). word / n) (sym (pow-add 2 count x) ∙ ap (λ (n : ℕ). 2 ^ n) turned))
-
 pub moved_word : (word count : ℕ) → word < 2 ^ 64 →
     word_columns (word / 2 ^ count) ≡ columns_behind (word_columns word) count
 moved_word word count within =
     columns-agree (bit_is_set (word / 2 ^ count)) (λ x. column_at (word_columns word) (x + count))
-    (λ x low. ap (λ (bit : ℕ). nat_eq bit 1) (moved_bit word count x)
-    ∙ sym (column_at-all (bit_is_set word) (x + count)
-    (λ high. ap (λ (bit : ℕ). nat_eq bit 1) (bit_at_above word 64 (x + count) within high))))
+    (λ x low. moved_bit word count x ∙ sym (word_column word (x + count) within))
 
-pub moved_out : (word count : ℕ) → SIDE_LIMIT ≤ count → word_columns 0 ≡ columns_behind (word_columns word) count
-moved_out word count far =
+pub moved_out : (word count : ℕ) → word < 2 ^ 64 → 64 ≤ count →
+    word_columns 0 ≡ columns_behind (word_columns word) count
+moved_out word count within far =
     zero_word
     ∙ columns-agree (λ x. false) (λ x. column_at (word_columns word) (x + count))
-    (λ x low. sym (column_at-beyond (bit_is_set word) (x + count) (omega (arith, far))))
+    (λ x low. sym (word_beyond word (x + count) within (omega (arith, far))))
 
 -- the bits of a word moved up, and what leaves the word
-kept_bit : (word x : ℕ) → x < 64 → bit_at (word % 2 ^ 64) x ≡ bit_at word x
-kept_bit word x low = sym (bit_at_cat_low (word / 2 ^ 64) 64 (word % 2 ^ 64) x low)
-    ∙ ap (λ (n : ℕ). bit_at n x) (shr_split word 64)
-
-raised_bit : (word count x : ℕ) (behind : Bool) → nat_le count x ≡ behind → x < SIDE_LIMIT →
-    nat_eq (bit_at (word * 2 ^ count) x) 1 ≡ (behind && column_at (word_columns word) (x - count))
+raised_bit : (word count x : ℕ) (behind : Bool) → nat_le count x ≡ behind → x < 64 →
+    bit_is_set (word * 2 ^ count % 2 ^ 64) x ≡ (behind && column_at (word_columns word) (x - count))
 raised_bit word count x true t low =
-    let far : count ≤ x = grind (arith, nat_tests) in
-    let plain : word * 2 ^ count + 0 ≡ word * 2 ^ count = omega arith in
-    ap (λ (bit : ℕ). nat_eq bit 1)
-    (ap (λ (n : ℕ). bit_at n x) (sym plain) ∙ bit_at_cat_high word count 0 x (pow_pos count) far)
+    raised_high word count x (grind (arith, nat_tests)) low
     ∙ sym (column_at-where (bit_is_set word) (x - count) (omega (arith, low)))
-raised_bit word count x false t low =
-    let near : x < count = grind (arith, nat_tests) in
-    let plain : word * 2 ^ count + 0 ≡ word * 2 ^ count = omega arith in
-    ap (λ (bit : ℕ). nat_eq bit 1) (ap (λ (n : ℕ). bit_at n x) (sym plain) ∙ bit_at_cat_low word count 0 x near
-    ∙ bit_at-zero x)
+raised_bit word count x false t low = raised_low word count x (grind (arith, nat_tests)) low
 
-pub raised_word : (word count : ℕ) → word_columns (word * 2 ^ count % 2 ^ 64) ≡ columns_ahead (word_columns word) count
-raised_word word count =
-    columns-agree (bit_is_set (word * 2 ^ count % 2 ^ 64))
-    (λ x. nat_le count x && column_at (word_columns word) (x - count))
-    (λ x low. ap (λ (bit : ℕ). nat_eq bit 1) (kept_bit (word * 2 ^ count) x low)
-    ∙ raised_bit word count x (nat_le count x) refl low)
+is_ahead : (columns : List Bool) (count x : ℕ) → x < SIDE_LIMIT →
+    column_at (columns_ahead columns count) x ≡ (nat_le count x && column_at columns (x - count))
+is_ahead columns count x low = column_at-where (λ y. nat_le count y && column_at columns (y - count)) x low
 
-pub raised_out : (word count : ℕ) → SIDE_LIMIT ≤ count → word_columns 0 ≡ columns_ahead (word_columns word) count
-raised_out word count far =
-    zero_word
-    ∙ columns-agree (λ x. false) (λ x. nat_le count x && column_at (word_columns word) (x - count))
-    (λ x low. let short : nat_le count x ≡ false = grind (arith, nat_tests, far, low) in
-    sym (ap (λ (b : Bool). b && column_at (word_columns word) (x - count)) short))
+raised_there : (word count x : ℕ) (here : Bool) → nat_lt x 64 ≡ here → x < SIDE_LIMIT →
+    bit_is_set (word * 2 ^ count % 2 ^ 64) x
+    ≡ (column_at (columns_below 64) x && column_at (columns_ahead (word_columns word) count) x)
+raised_there word count x true t low =
+    raised_bit word count x (nat_le count x) refl (grind (arith, nat_tests))
+    ∙ sym (is_ahead (word_columns word) count x low)
+    ∙ ap (λ (b : Bool). b && column_at (columns_ahead (word_columns word) count) x) (sym (is_below 64 x low ∙ t))
+raised_there word count x false t low =
+    no_bit_above (word * 2 ^ count % 2 ^ 64) x (mod-lt (word * 2 ^ count) (omega arith)) (grind (arith, nat_tests))
+    ∙ ap (λ (b : Bool). b && column_at (columns_ahead (word_columns word) count) x) (sym (is_below 64 x low ∙ t))
+
+pub raised_word : (word count : ℕ) → word_columns (word * 2 ^ count % 2 ^ 64)
+    ≡ both_columns (columns_below 64) (columns_ahead (word_columns word) count)
+raised_word word count = columns-agree (bit_is_set (word * 2 ^ count % 2 ^ 64))
+    (λ x. column_at (columns_below 64) x && column_at (columns_ahead (word_columns word) count) x)
+    (λ x low. raised_there word count x (nat_lt x 64) refl low)
+
+raised_off : (columns : List Bool) (count x : ℕ) (here : Bool) → nat_lt x 64 ≡ here → 64 ≤ count → x < SIDE_LIMIT →
+    false ≡ (column_at (columns_below 64) x && column_at (columns_ahead columns count) x)
+raised_off columns count x true t far low =
+    let short : nat_le count x ≡ false = grind (arith, nat_tests, far) in
+    ap (λ (b : Bool). b && column_at columns (x - count)) (sym short)
+    ∙ sym (is_ahead columns count x low)
+    ∙ ap (λ (b : Bool). b && column_at (columns_ahead columns count) x) (sym (is_below 64 x low ∙ t))
+raised_off columns count x false t far low =
+    ap (λ (b : Bool). b && column_at (columns_ahead columns count) x) (sym (is_below 64 x low ∙ t))
+
+pub raised_out : (word count : ℕ) → 64 ≤ count →
+    word_columns 0 ≡ both_columns (columns_below 64) (columns_ahead (word_columns word) count)
+raised_out word count far = zero_word ∙ columns-agree (λ x. false)
+    (λ x. column_at (columns_below 64) x && column_at (columns_ahead (word_columns word) count) x)
+    (λ x low. raised_off (word_columns word) count x (nat_lt x 64) refl far low)
+
+-- the bits of a word that aren't below a number
+kept_bit : (word count x : ℕ) (behind : Bool) → nat_le count x ≡ behind → x < 64 →
+    bit_is_set (word / 2 ^ count * 2 ^ count % 2 ^ 64) x ≡ (bit_is_set word x && not (nat_lt x count))
+kept_bit word count x true t low =
+    let above : nat_lt x count ≡ false = grind (arith, nat_tests) in
+    let far : count ≤ x = grind (arith, nat_tests) in
+    let same : x - count + count ≡ x = omega (arith, far) in
+    raised_high (word / 2 ^ count) count x far low
+    ∙ moved_bit word count (x - count)
+    ∙ ap (bit_is_set word) same
+    ∙ sym (ap (λ (b : Bool). bit_is_set word x && not b) above ∙ and-true (bit_is_set word x))
+kept_bit word count x false t low =
+    let under : nat_lt x count ≡ true = grind (arith, nat_tests) in
+    raised_low (word / 2 ^ count) count x (grind (arith, nat_tests)) low
+    ∙ sym (ap (λ (b : Bool). bit_is_set word x && not b) under ∙ and-false (bit_is_set word x))
+
+-- a column beyond the word is in no set
+off_word : (word count x : ℕ) → word < 2 ^ 64 → 64 ≤ x →
+    false ≡ (column_at (word_columns word) x && not (column_at (columns_below count) x))
+off_word word count x within high =
+    sym (ap (λ (b : Bool). b && not (column_at (columns_below count) x)) (word_beyond word x within high))
+
+kept_there : (word count x : ℕ) (here : Bool) → nat_lt x 64 ≡ here → word < 2 ^ 64 → x < SIDE_LIMIT →
+    bit_is_set (word / 2 ^ count * 2 ^ count % 2 ^ 64) x
+    ≡ (column_at (word_columns word) x && not (column_at (columns_below count) x))
+kept_there word count x true t within low =
+    kept_bit word count x (nat_le count x) refl (grind (arith, nat_tests))
+    ∙ sym (ap₂ (λ (p q : Bool). p && not q) (column_at-where (bit_is_set word) x low) (is_below count x low))
+kept_there word count x false t within low =
+    let high : 64 ≤ x = grind (arith, nat_tests) in
+    no_bit_above (word / 2 ^ count * 2 ^ count % 2 ^ 64) x (mod-lt (word / 2 ^ count * 2 ^ count) (omega arith)) high
+    ∙ off_word word count x within high
+
+pub kept_word : (word count : ℕ) → word < 2 ^ 64 →
+    word_columns (word / 2 ^ count * 2 ^ count % 2 ^ 64) ≡ columns_without (word_columns word) (columns_below count)
+kept_word word count within =
+    columns-agree (bit_is_set (word / 2 ^ count * 2 ^ count % 2 ^ 64))
+    (λ x. column_at (word_columns word) x && not (column_at (columns_below count) x))
+    (λ x low. kept_there word count x (nat_lt x 64) refl within low)
+
+kept_off : (word count x : ℕ) (here : Bool) → nat_lt x 64 ≡ here → word < 2 ^ 64 → 64 ≤ count → x < SIDE_LIMIT →
+    false ≡ (column_at (word_columns word) x && not (column_at (columns_below count) x))
+kept_off word count x true t within far low =
+    let below : nat_lt x count ≡ true = grind (arith, nat_tests, far) in
+    sym (ap (λ (b : Bool). column_at (word_columns word) x && not b) (is_below count x low ∙ below)
+    ∙ and-false (column_at (word_columns word) x))
+kept_off word count x false t within far low = off_word word count x within (grind (arith, nat_tests))
+
+pub kept_out : (word count : ℕ) → word < 2 ^ 64 → 64 ≤ count →
+    word_columns 0 ≡ columns_without (word_columns word) (columns_below count)
+kept_out word count within far = zero_word ∙ columns-agree (λ x. false)
+    (λ x. column_at (word_columns word) x && not (column_at (columns_below count) x))
+    (λ x low. kept_off word count x (nat_lt x 64) refl within far low)
 
 -- the lowest bits
 pub below_none : (count : ℕ) → count ≡ 0 → word_columns 0 ≡ columns_below count
 below_none count e = zero_word ∙ columns-agree (λ x. false) (λ x. nat_lt x count) (λ x low. grind (arith, nat_tests))
 
-pub below_all : (count : ℕ) → SIDE_LIMIT ≤ count → word_columns (2 ^ 64 - 1) ≡ columns_below count
-below_all count many =
-    columns-agree (bit_is_set (2 ^ 64 - 1)) (λ x. nat_lt x count)
-    (λ x low. let within : nat_lt x count ≡ true = grind (arith, nat_tests, low, many) in
-    ap (λ (bit : ℕ). nat_eq bit 1) (bit_at_ones 64 x low) ∙ sym within)
-
-low_ones : (count x : ℕ) (low : Bool) → nat_lt x count ≡ low → nat_eq (bit_at (2 ^ count - 1) x) 1 ≡ low
-low_ones count x true t = ap (λ (bit : ℕ). nat_eq bit 1) (bit_at_ones count x (grind (arith, nat_tests)))
-low_ones count x false t = ap (λ (bit : ℕ). nat_eq bit 1) (bit_at_ones_above count x (grind (arith, nat_tests)))
-
-pub below_some : (count : ℕ) → count < SIDE_LIMIT → word_columns ((2 ^ 64 - 1) / 2 ^ (64 - count)) ≡ columns_below count
+pub below_some : (count : ℕ) → count ≤ 64 → word_columns ((2 ^ 64 - 1) / 2 ^ (64 - count)) ≡ columns_below count
 below_some count few =
-    let same : 64 - (64 - count) ≡ count = omega arith in
-    ap word_columns (ones_shr 64 (64 - count) (omega arith) ∙ ap (λ (n : ℕ). 2 ^ n - 1) same)
-    ∙ columns-agree (bit_is_set (2 ^ count - 1)) (λ x. nat_lt x count) (λ x low. low_ones count x (nat_lt x count) refl)
+    let same : 64 - (64 - count) ≡ count = omega (arith, few) in
+    columns-agree (bit_is_set ((2 ^ 64 - 1) / 2 ^ (64 - count))) (λ x. nat_lt x count)
+    (λ x low. low_bit (64 - count) x (omega arith) ∙ ap (nat_lt x) same)
 
 -- a bit tested
-pub tested_word : (word column : ℕ) → column < SIDE_LIMIT →
+pub tested_word : (word column : ℕ) → word < 2 ^ 64 →
     nat_eq (bit_and (word / 2 ^ column) 1) 1 ≡ column_at (word_columns word) column
-tested_word word column low = ap (λ (bit : ℕ). nat_eq bit 1) (shr_and_one word column)
-    ∙ sym (column_at-where (bit_is_set word) column low)
+tested_word word column within = ap (λ (bit : ℕ). nat_eq bit 1) (shr_and_one word column)
+    ∙ sym (word_column word column within)
 
-pub tested_beyond : (word column : ℕ) → SIDE_LIMIT ≤ column → false ≡ column_at (word_columns word) column
-tested_beyond word column high = sym (column_at-beyond (bit_is_set word) column high)
+pub tested_beyond : (word column : ℕ) → word < 2 ^ 64 → 64 ≤ column → false ≡ column_at (word_columns word) column
+tested_beyond word column within high = sym (word_beyond word column within high)
 
 -- one more bit, and one less
 abbrev pub with_bit : ℕ → ℕ → ℕ
@@ -146,51 +186,43 @@ with_bit word column = bit_or word (1 * 2 ^ column % 2 ^ 64)
 abbrev pub without_bit : ℕ → ℕ → ℕ
 without_bit word column = bit_and word (bit_not w64 (1 * 2 ^ column % 2 ^ 64))
 
-set_bit : (word column x : ℕ) (same : Bool) → nat_eq x column ≡ same → column < SIDE_LIMIT → x < SIDE_LIMIT →
-    nat_eq (bit_at (with_bit word column) x) 1 ≡ (if same then true else column_at (word_columns word) x)
-set_bit word column x true t low within =
-    let is : x ≡ column = grind (arith, nat_tests) in
-    rw is (ap (λ (bit : ℕ). nat_eq bit 1) (bit_at_set_same w64 word column low))
-set_bit word column x false t low within =
-    let other : x ≢ column = grind (arith, nat_tests) in
-    ap (λ (bit : ℕ). nat_eq bit 1) (bit_at_set_other w64 word column low x other)
-    ∙ sym (column_at-where (bit_is_set word) x within)
+without_below : (word column : ℕ) → word < 2 ^ 64 → without_bit word column < 2 ^ 64
+without_below word column fits =
+    omega (arith, fits, and_le_l word (bit_not w64 (1 * 2 ^ column % 2 ^ 64)))
 
-cleared_bit : (word column x : ℕ) (same : Bool) → nat_eq x column ≡ same → column < SIDE_LIMIT → x < SIDE_LIMIT →
-    nat_eq (bit_at (without_bit word column) x) 1 ≡ (if same then false else column_at (word_columns word) x)
-cleared_bit word column x true t low within =
-    let is : x ≡ column = grind (arith, nat_tests) in
-    rw is (ap (λ (bit : ℕ). nat_eq bit 1) (bit_at_clear_same w64 word column low))
-cleared_bit word column x false t low within =
-    let other : x ≢ column = grind (arith, nat_tests) in
-    ap (λ (bit : ℕ). nat_eq bit 1) (bit_at_clear_other w64 word column low x within other)
-    ∙ sym (column_at-where (bit_is_set word) x within)
+-- another bit than the one that is cleared
+other_bit : (word column x : ℕ) (here : Bool) → nat_lt x 64 ≡ here → word < 2 ^ 64 → column < 64 → x ≢ column →
+    bit_is_set (without_bit word column) x ≡ bit_is_set word x
+other_bit word column x true t fits low other =
+    ap (λ (bit : ℕ). nat_eq bit 1) (bit_at_clear_other w64 word column low x (grind (arith, nat_tests)) other)
+other_bit word column x false t fits low other =
+    let high : 64 ≤ x = grind (arith, nat_tests) in
+    no_bit_above (without_bit word column) x (without_below word column fits) high ∙ sym (no_bit_above word x fits high)
 
-pub set_word : (word column : ℕ) → column < SIDE_LIMIT →
+cleared_there : (word column x : ℕ) (here : Bool) → nat_lt x 64 ≡ here → word < 2 ^ 64 → column < 64 →
+    bit_is_set (without_bit word column) x ≡ (if nat_eq x column then false else bit_is_set word x)
+cleared_there word column x true t fits low = clear_bit word column x low (grind (arith, nat_tests))
+cleared_there word column x false t fits low =
+    let other : x ≢ column = grind (arith, nat_tests, low) in
+    let apart : nat_eq x column ≡ false = grind (arith, nat_tests, other) in
+    other_bit word column x false t fits low other
+    ∙ sym (ap (λ (same : Bool). if same then false else bit_is_set word x) apart)
+
+pub set_word : (word column : ℕ) → column < 64 →
     word_columns (with_bit word column) ≡ with_column (word_columns word) column true
 set_word word column low =
     columns-agree (bit_is_set (with_bit word column))
     (λ x. if nat_eq x column then true else column_at (word_columns word) x)
-    (λ x within. set_bit word column x (nat_eq x column) refl low within)
+    (λ x within. set_bit word column x low
+    ∙ ap (λ (set : Bool). if nat_eq x column then true else set) (sym (column_at-where (bit_is_set word) x within)))
 
-pub cleared_word : (word column : ℕ) → column < SIDE_LIMIT →
+pub cleared_word : (word column : ℕ) → word < 2 ^ 64 → column < 64 →
     word_columns (without_bit word column) ≡ with_column (word_columns word) column false
-cleared_word word column low =
+cleared_word word column fits low =
     columns-agree (bit_is_set (without_bit word column))
     (λ x. if nat_eq x column then false else column_at (word_columns word) x)
-    (λ x within. cleared_bit word column x (nat_eq x column) refl low within)
-
-past_column : (word column x : ℕ) (set : Bool) → SIDE_LIMIT ≤ column → x < SIDE_LIMIT →
-    bit_is_set word x ≡ (if nat_eq x column then set else column_at (word_columns word) x)
-past_column word column x set high within =
-    let other : nat_eq x column ≡ false = grind (arith, nat_tests, high, within) in
-    rw other (sym (column_at-where (bit_is_set word) x within))
-
-pub kept_word : (word column : ℕ) (set : Bool) → SIDE_LIMIT ≤ column →
-    word_columns word ≡ with_column (word_columns word) column set
-kept_word word column set high =
-    columns-agree (bit_is_set word) (λ x. if nat_eq x column then set else column_at (word_columns word) x)
-    (λ x within. past_column word column x set high within)
+    (λ x within. cleared_there word column x (nat_lt x 64) refl fits low
+    ∙ ap (λ (set : Bool). if nat_eq x column then false else set) (sym (column_at-where (bit_is_set word) x within)))
 
 -- the lowest bit taken out
 pub first_taken : (word : ℕ) → 0 < word → word < 2 ^ 64 →
@@ -199,16 +231,16 @@ pub first_taken : (word : ℕ) → 0 < word → word < 2 ^ 64 →
 first_taken word some within =
     let first : ℕ = trailing_zeros w64 word in
     let says = bit_at-trailing_zeros w64 word some within in
+    let small : first < 64 = says.0 in
     let least : (x : ℕ) → x < first → bit_at word x ≡ 0 = says.2 in
-    set_columns-first (bit_is_set word) (bit_is_set (without_bit word first)) first says.0
+    set_columns-first (bit_is_set word) (bit_is_set (without_bit word first)) first (omega (arith, small))
     (ap (λ (bit : ℕ). nat_eq bit 1) says.1)
-    (ap (λ (bit : ℕ). nat_eq bit 1) (bit_at_clear_same w64 word first says.0))
+    (ap (λ (bit : ℕ). nat_eq bit 1) (bit_at_clear_same w64 word first small))
     (λ x before. ap (λ (bit : ℕ). nat_eq bit 1) (least x before))
-    (λ x low after.
-    sym (ap (λ (bit : ℕ). nat_eq bit 1) (bit_at_clear_other w64 word first says.0 x low (λ e. omega arith))))
+    (λ x low after. sym (other_bit word first x (nat_lt x 64) refl within small (λ e. omega arith)))
     (λ x before.
     ap (λ (bit : ℕ). nat_eq bit 1)
-    (bit_at_clear_other w64 word first says.0 x (omega (arith, before, says.0)) (λ e. omega arith) ∙ least x before))
+    (bit_at_clear_other w64 word first small x (omega (arith, before, small)) (λ e. omega arith) ∙ least x before))
 
 pub none_set : (word : ℕ) → word ≡ 0 → set_columns (word_columns word) ≡ []
 none_set word e = rw e (ap set_columns zero_word ∙ set_columns-none)
@@ -223,26 +255,23 @@ pub some_tested : (word : ℕ) → nat_eq word 0 ≡ false → word < 2 ^ 64 →
 some_tested word e within = some_set word (grind (arith, nat_tests)) within
 
 -- the bits of a word turned round
-bit_value : (bit : ℕ) → bit < 2 → (bit ≡ 0) ⊎ (bit ≡ 1)
-bit_value zero low = inl refl
-bit_value (suc zero) low = inr refl
-bit_value (suc (suc bit)) low = absurd (omega arith)
+minus_there : (a b x : ℕ) (here : Bool) → nat_lt x 64 ≡ here → a < 2 ^ 64 → b < 2 ^ 64 →
+    bit_is_set (bit_and a (18446744073709551615 - b)) x ≡ (bit_is_set a x && not (bit_is_set b x))
+minus_there a b x true t fits other = minus_bit a b x other (grind (arith, nat_tests))
+minus_there a b x false t fits other =
+    let none : bit_is_set a x ≡ false = no_bit_above a x fits (grind (arith, nat_tests)) in
+    and_bit a (18446744073709551615 - b) x
+    ∙ ap (λ (set : Bool). set && bit_is_set (18446744073709551615 - b) x) none
+    ∙ sym (ap (λ (set : Bool). set && not (bit_is_set b x)) none)
 
-flipped : (word x : ℕ) → word < 2 ^ 64 → x < 64 → bit_is_set (18446744073709551615 - word) x ≡ not (bit_is_set word x)
-flipped word x fits low = elim (bit_value (bit_at word x) (bit_at-lt word x)) [
-  | inl e ↦ rw (bit_at_not w64 word x fits low, e) refl
-  | inr e ↦ rw (bit_at_not w64 word x fits low, e) refl
-]
-
-pub minus_word : (a b : ℕ) → b < 2 ^ 64 → word_columns (bit_and a (18446744073709551615 - b))
+pub minus_word : (a b : ℕ) → a < 2 ^ 64 → b < 2 ^ 64 → word_columns (bit_and a (18446744073709551615 - b))
     ≡ columns_without (word_columns a) (word_columns b)
-minus_word a b fits =
-    and_word a (18446744073709551615 - b)
-    ∙ columns-agree (λ x. column_at (word_columns a) x && column_at (word_columns (18446744073709551615 - b)) x)
+minus_word a b fits other =
+    columns-agree (bit_is_set (bit_and a (18446744073709551615 - b)))
     (λ x. column_at (word_columns a) x && not (column_at (word_columns b) x))
-    (λ x low. ap (λ (set : Bool). column_at (word_columns a) x && set)
-    (column_at-where (bit_is_set (18446744073709551615 - b)) x low ∙ flipped b x fits low
-    ∙ ap not (sym (column_at-where (bit_is_set b) x low))))
+    (λ x low. minus_there a b x (nat_lt x 64) refl fits other
+    ∙ sym (ap₂ (λ (p q : Bool). p && not q) (column_at-where (bit_is_set a) x low)
+    (column_at-where (bit_is_set b) x low)))
 
 -- a word with more bits is still a word
 pub or_below : (a b : ℕ) → a < 2 ^ 64 → b < 2 ^ 64 → bit_or a b < 2 ^ 64

@@ -3,5 +3,9 @@ pub mod Runnable
 pub mod ColumnSets
 pub mod CellSets
 pub mod WordsOfColumns
+pub mod WordLists
+pub mod WordsOfLists
+pub mod WordSteps
+pub mod Joinings
 pub mod RowsOfGrids
 pub mod Rows

@@ -1,5 +1,6 @@
 -- A word is known by the columns of its bits.
-use Rattle.std.proofs.Common.{◌≡◌, ◌∙◌, ℕ, ◌+◌, ◌*◌, ◌/◌, ◌%◌, ◌^◌, ◌<◌, suc, zero, map, refl, sym, ap, ap₂, mod-lt, zero-lt-suc, le_of_suc-le-suc, not-suc-le-zero, add-one}
+use Rattle.std.proofs.Common.{◌≡◌, ◌∙◌, ℕ, ◌+◌, ◌*◌, ◌/◌, ◌%◌, ◌^◌, ◌<◌, suc, zero, map, refl, sym, ap, ap₂, mod-lt, arith}
+use Rattle.std.proofs.Common.{zero-lt-suc, le_of_suc-le-suc, not-suc-le-zero, add-one}
 use Rattle.std.specs.Prelude.{nat_eq, if◌then◌else◌}
 use Rattle.std.specs.List.{range_with_len}
 use Rattle.std.specs.Int.{bit_at}
@@ -15,7 +16,8 @@ bit_again (suc zero) small = refl
 bit_again (suc (suc bit)) small = absurd (not-suc-le-zero (le_of_suc-le-suc (le_of_suc-le-suc small)))
 
 -- the bits of a word from one on
-bits_from : (word from count : ℕ) → columns_word (map (bit_is_set word) (range_with_len from count)) ≡ word / 2 ^ from % 2 ^ count
+pub bits_from : (word from count : ℕ) → columns_word (map (bit_is_set word) (range_with_len from count))
+    ≡ word / 2 ^ from % 2 ^ count
 bits_from word from zero = sym (mod-one (word / 2 ^ from))
 bits_from word from (suc count) =
     ap₂ (λ (others bit : ℕ). others * 2 ^ 1 + bit)
@@ -28,4 +30,5 @@ bits_from word from (suc count) =
 
 pub columns_word-of : (word : ℕ) → word < 2 ^ 64 → columns_word (word_columns word) ≡ word
 unfolding columns_where
-columns_word-of word within = bits_from word 0 SIDE_LIMIT ∙ ap (λ (n : ℕ). n % 2 ^ 64) (div-one word) ∙ mod-eq_of_lt within
+columns_word-of word within = bits_from word 0 SIDE_LIMIT ∙ ap (λ (n : ℕ). n % 2 ^ SIDE_LIMIT) (div-one word)
+    ∙ mod-eq_of_lt (omega (arith, within))

@@ -50,7 +50,9 @@ pub trait Board: Drop {
         own_layers: &[LayerId],
     ) -> Result<Self, Memory>
         requires width { (0 < width) × (width ≤ SIDE_LIMIT) }
+        requires narrow { width ≤ Self.Words.limit }
         requires height { (0 < height) × (height ≤ SIDE_LIMIT) }
+        requires low { height ≤ Self.Words.limit }
         requires layers { (0 < layers) × (layers ≤ LAYER_LIMIT) }
         ensures grid { IfOk result (λ board. grid board ≡ empty_grid width height layers) }
         ensures table { IfOk result (λ board. table board ≡ table_for (layer_numbers own_layers.now)) }
@@ -65,7 +67,9 @@ pub trait Board: Drop {
     fn size(&self) -> (u32, u32)
         ensures width { result.0 ≡ (grid self.now).width }
         ensures height { result.1 ≡ (grid self.now).height }
-        ensures shape { IsGrid (grid self.now) };
+        ensures shape { IsGrid (grid self.now) }
+        ensures narrow { result.0 ≤ Self.Words.limit }
+        ensures low { result.1 ≤ Self.Words.limit };
 
     /// The number of collision layers.
     fn layers(&self) -> u32
@@ -182,11 +186,14 @@ pub trait Board: Drop {
         ensures table { table other.new ≡ table self.now };
 }
 
-/// Recalls that a board has the shape of one: from 1 to 64 columns and rows, from 1 to 32 layers, and as many cells and
-/// slots as these say. A proof about the cells of a board that was passed in needs it, and learns it from a call alone.
-/// Nothing is done when it runs.
+/// Recalls that a board has the shape of one: from 1 to `SIDE_LIMIT` columns and rows, from 1 to `LAYER_LIMIT` layers,
+/// and as many cells and slots as these say; and that the words of its sets have room for its columns and rows. A proof
+/// about the cells of a board that was passed in needs it, and learns it from a call alone. Nothing is done when it
+/// runs.
 pub fn recall_shape<B: Board>(board: &B)
-    ensures { IsGrid (B.grid board.now) }
+    ensures shape { IsGrid (B.grid board.now) }
+    ensures narrow { (B.grid board.now).width ≤ B.Words.limit }
+    ensures low { (B.grid board.now).height ≤ B.Words.limit }
 {
     let (_width, _height) = board.size();
 }

@@ -1,6 +1,6 @@
 //! Sets of columns of one row of a board.
 
-ghost use Rattle.std.specs.Prelude.{◌≡◌, ◌<◌, [], ◌∷◌, None, IfSome, false, length, true};
+ghost use Rattle.std.specs.Prelude.{◌≡◌, ◌<◌, ◌≤◌, [], ◌∷◌, None, IfSome, false, length, true};
 ghost use Rattle.ps_model.specs.declared.limits.TheConstants.{SIDE_LIMIT};
 ghost use Rattle.ps_board.specs.ColumnSets.{both_columns, column_at, columns_ahead, columns_behind};
 ghost use Rattle.ps_board.specs.ColumnSets.{columns_below, columns_without, either_columns};
@@ -12,7 +12,7 @@ use std::alloc::AllocError;
 use std::marker::Model;
 
 /// A set of columns of one row of a board, or of rows of one. Contracts see a list of `SIDE_LIMIT` truth values, value
-/// `x` for column `x`; columns beyond those are in no set.
+/// `x` for column `x`; columns beyond those are in no set, nor are those for which its words have no room.
 #[derive(Copy)]
 pub struct Columns<W: ColumnWords> {
     words: W,
@@ -52,8 +52,9 @@ impl<W: ColumnWords> Columns<W> {
         Columns { words: W::none() }
     }
 
-    /// The columns below a number, all of them from `SIDE_LIMIT` on.
+    /// The columns below a number.
     pub fn below(count: u32) -> Columns<W>
+        requires { count ≤ W.limit }
         ensures { result ≡ columns_below count }
     {
         Columns {
@@ -76,8 +77,9 @@ impl<W: ColumnWords> Columns<W> {
         self.words.is_empty()
     }
 
-    /// The set with a column in it, or without it; no column beyond the last one is in a set.
+    /// The set with a column in it, or without it.
     pub fn with(self, column: u32, set: bool) -> Columns<W>
+        requires { column < W.limit }
         ensures { result ≡ with_column self column set }
     {
         Columns {
@@ -112,6 +114,15 @@ impl<W: ColumnWords> Columns<W> {
         }
     }
 
+    /// The columns of the set that aren't below a number.
+    pub fn not_below(self, count: u32) -> Columns<W>
+        ensures { result ≡ columns_without self (columns_below count) }
+    {
+        Columns {
+            words: self.words.not_below(count),
+        }
+    }
+
     /// The columns so many of whose neighbours to the right on is in the set: each one moves left by `count`.
     pub fn behind(self, count: u32) -> Columns<W>
         ensures { result ≡ columns_behind self count }
@@ -122,9 +133,9 @@ impl<W: ColumnWords> Columns<W> {
     }
 
     /// The columns so many of whose neighbours to the left on is in the set: each one moves right by `count`, and none
-    /// stays that would move beyond the last one.
+    /// stays for which the words have no room.
     pub fn ahead(self, count: u32) -> Columns<W>
-        ensures { result ≡ columns_ahead self count }
+        ensures { result ≡ both_columns (columns_below W.limit) (columns_ahead self count) }
     {
         Columns {
             words: self.words.ahead(count),
@@ -135,6 +146,7 @@ impl<W: ColumnWords> Columns<W> {
     pub fn take_first(&mut self) -> Option<u32>
         ensures some { IfSome result (λ first. set_columns self.old ≡ first ∷ set_columns self.new) }
         ensures within { IfSome result (λ first. first < SIDE_LIMIT) }
+        ensures room { IfSome result (λ first. first < W.limit) }
         ensures none { result ≡ None → set_columns self.old ≡ [] }
     {
         self.words.take_first()

@@ -9,7 +9,7 @@ ghost use Rattle.ps_model.specs.session.Frames.{objects_in};
 
 use crate::board::Board;
 use crate::columns::Columns;
-use crate::one_word::OneWord;
+use crate::many_words::{ManyWords, WORDS_LIMIT};
 use crate::slots::{is_moving, same_slots, slot_holds};
 use ps_model::{LayerId, Memory, Motion, ObjectId, Slot};
 use std::alloc::Global;
@@ -118,7 +118,7 @@ impl Board for ListBoard {
 
     ghost table_for = { λ _. None };
 
-    type Words = OneWord;
+    type Words = ManyWords<WORDS_LIMIT>;
 
     /// Any object may stand on any layer, so the objects' own layers aren't kept.
     fn try_empty(
@@ -189,7 +189,7 @@ impl Board for ListBoard {
         same_slots(self.slots.as_slice(), other.slots.as_slice())
     }
 
-    fn movers(&self, layer: LayerId, row: u32) -> Columns<OneWord> {
+    fn movers(&self, layer: LayerId, row: u32) -> Columns<ManyWords<WORDS_LIMIT>> {
         let mut moving = Columns::none();
         for column in 0..self.width {
             let slot = self.slot(column * self.height + row, layer);
@@ -198,7 +198,7 @@ impl Board for ListBoard {
         moving
     }
 
-    fn holders(&self, object: ObjectId, layer: LayerId, row: u32) -> Columns<OneWord> {
+    fn holders(&self, object: ObjectId, layer: LayerId, row: u32) -> Columns<ManyWords<WORDS_LIMIT>> {
         let mut holding = Columns::none();
         for column in 0..self.width {
             let slot = self.slot(column * self.height + row, layer);
@@ -208,17 +208,17 @@ impl Board for ListBoard {
     }
 
     /// All rows: to know which, this board would have to look at each cell.
-    fn rows_moving_any(&self) -> Columns<OneWord> {
+    fn rows_moving_any(&self) -> Columns<ManyWords<WORDS_LIMIT>> {
         Columns::below(self.height)
     }
 
     /// All rows, likewise.
-    fn rows_holding(&self, _object: ObjectId) -> Columns<OneWord> {
+    fn rows_holding(&self, _object: ObjectId) -> Columns<ManyWords<WORDS_LIMIT>> {
         Columns::below(self.height)
     }
 
     /// That column alone.
-    fn alike(&self, _row: u32, column: u32) -> Columns<OneWord> {
+    fn alike(&self, _row: u32, column: u32) -> Columns<ManyWords<WORDS_LIMIT>> {
         Columns::none().with(column, true)
     }
 
@@ -226,7 +226,7 @@ impl Board for ListBoard {
         self.width == other.width && self.height == other.height && self.layers == other.layers
     }
 
-    fn differing(&self, other: &ListBoard, row: u32) -> Columns<OneWord> {
+    fn differing(&self, other: &ListBoard, row: u32) -> Columns<ManyWords<WORDS_LIMIT>> {
         let mut differing = Columns::none();
         for column in 0..self.width {
             let same = self.same_cell(other, column * self.height + row);
@@ -236,12 +236,12 @@ impl Board for ListBoard {
     }
 
     /// All rows, likewise.
-    fn rows_differing(&self, _other: &ListBoard) -> Columns<OneWord> {
+    fn rows_differing(&self, _other: &ListBoard) -> Columns<ManyWords<WORDS_LIMIT>> {
         Columns::below(self.height)
     }
 
     /// The whole board is copied.
-    fn copy_rows(&self, other: &mut ListBoard, _rows: &Columns<OneWord>) {
+    fn copy_rows(&self, other: &mut ListBoard, _rows: &Columns<ManyWords<WORDS_LIMIT>>) {
         self.copy_into(other);
         other.clear_moves();
     }

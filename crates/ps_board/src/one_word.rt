@@ -4,13 +4,12 @@ ghost use Rattle.std.specs.Prelude.{◌≡◌};
 ghost use Rattle.ps_board.specs.ColumnSets.{word_columns};
 
 use crate::words::ColumnWords;
-use ps_model::SIDE_LIMIT;
 use std::marker::Model;
 
 /// How many truth values a word holds.
 pub const WORD_BITS: u32 = 64;
 
-/// A set of columns below the sixty-fourth, as one word: bit x stands for column x.
+/// A set of columns below `WORD_BITS`, as one word: bit x stands for column x.
 #[derive(Clone, Copy, Debug)]
 pub struct OneWord {
     bits: u64,
@@ -53,12 +52,15 @@ impl OneWord {
 
 impl ColumnWords for OneWord {
     ghost use Rattle.std.specs.Prelude.{refl};
+    ghost use Rattle.ps_board.specs.declared.one_word.TheConstants.{WORD_BITS};
 
     ghost columns = { λ columns. columns };
 
     ghost words_of = { λ columns. columns };
 
     ghost same_words = { λ columns. refl };
+
+    ghost limit = { WORD_BITS };
 
     fn none() -> OneWord {
         OneWord { bits: 0 }
@@ -68,9 +70,6 @@ impl ColumnWords for OneWord {
         if count == 0 {
             return OneWord { bits: 0 };
         }
-        if SIDE_LIMIT <= count {
-            return OneWord { bits: u64::MAX };
-        }
         OneWord {
             bits: u64::MAX >> (WORD_BITS - count),
         }
@@ -78,7 +77,7 @@ impl ColumnWords for OneWord {
 
     fn has(self, column: u32) -> bool {
         let bits = self.bits;
-        if SIDE_LIMIT <= column {
+        if WORD_BITS <= column {
             return false;
         }
         (bits >> column) & 1 == 1
@@ -89,16 +88,14 @@ impl ColumnWords for OneWord {
     }
 
     fn with(self, column: u32, set: bool) -> OneWord {
-        if SIDE_LIMIT <= column {
-            return self;
-        }
+        let bits = self.bits;
         if set {
             return OneWord {
-                bits: self.bits | (1 << column),
+                bits: bits | (1 << column),
             };
         }
         OneWord {
-            bits: self.bits & !(1 << column),
+            bits: bits & !(1 << column),
         }
     }
 
@@ -120,9 +117,19 @@ impl ColumnWords for OneWord {
         }
     }
 
+    fn not_below(self, count: u32) -> OneWord {
+        let bits = self.bits;
+        if WORD_BITS <= count {
+            return OneWord { bits: 0 };
+        }
+        OneWord {
+            bits: bits >> count << count,
+        }
+    }
+
     fn behind(self, count: u32) -> OneWord {
         let bits = self.bits;
-        if SIDE_LIMIT <= count {
+        if WORD_BITS <= count {
             return OneWord { bits: 0 };
         }
         OneWord {
@@ -132,7 +139,7 @@ impl ColumnWords for OneWord {
 
     fn ahead(self, count: u32) -> OneWord {
         let bits = self.bits;
-        if SIDE_LIMIT <= count {
+        if WORD_BITS <= count {
             return OneWord { bits: 0 };
         }
         OneWord {

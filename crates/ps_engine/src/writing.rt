@@ -15,7 +15,7 @@ ghost use Rattle.ps_engine.specs.RulesInRoom.{rule_meaning};
 ghost use Rattle.ps_engine.specs.Writing.{AreWithin, is_behind, is_written, row_behind};
 
 use crate::lent_queue::LentQueue;
-use ps_match::{Columns, Scan, recall_shape};
+use ps_match::{Columns, Scan, recall_shape, rewrite_ahead};
 use ps_places::RoomFor;
 use ps_program::{Axis, CellWrite, CompiledCell, CompiledRow, CompiledRule, Writer};
 
@@ -55,7 +55,7 @@ fn write_behind<B: Scan>(
     recall_shape(board);
     match axis {
         Axis::Down => board.rewrite(write, row + steps, &columns),
-        Axis::Right => board.rewrite(write, row, &columns.ahead(steps)),
+        Axis::Right => rewrite_ahead(board, write, row, columns, steps),
     }
 }
 

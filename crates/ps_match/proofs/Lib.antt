@@ -5,3 +5,4 @@ pub mod Chosen
 pub mod RowWritten
 pub mod LeftAlone
 pub mod AllRows
+pub mod RowsAhead

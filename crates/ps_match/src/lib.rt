@@ -7,6 +7,7 @@
 mod fitting;
 mod list_scan;
 mod rewriting;
+mod rewriting_ahead;
 mod rooms;
 mod scan;
 mod scanning;
@@ -15,6 +16,7 @@ mod writing;
 
 pub use ps_board::{Board, ColumnWords, Columns, ListBoard, recall_shape};
 pub use rewriting::rewrite_row;
+pub use rewriting_ahead::rewrite_ahead;
 pub use rooms::Rooms;
 pub use scan::Scan;
 pub use slots::own_write;

@@ -5,7 +5,7 @@ use crate::rewriting::rewrite_row;
 use crate::scan::Scan;
 use crate::scanning::scan_row;
 use crate::writing::write_cell;
-use ps_board::{Board, Columns, ListBoard, OneWord};
+use ps_board::{Board, Columns, ListBoard, ManyWords, WORDS_LIMIT};
 use ps_model::{LayeredObject, MotionTest};
 use ps_program::{CellMask, CellWrite};
 
@@ -18,7 +18,7 @@ impl Scan for ListBoard {
         fits_cell(self, mask, cell)
     }
 
-    fn scan(&self, mask: &CellMask, row: u32) -> Columns<OneWord> {
+    fn scan(&self, mask: &CellMask, row: u32) -> Columns<ManyWords<WORDS_LIMIT>> {
         scan_row(self, mask, row)
     }
 
@@ -28,13 +28,13 @@ impl Scan for ListBoard {
     }
 
     /// All rows: to know which, this board would have to look at each cell.
-    fn rows_with(&self, _object: &LayeredObject) -> Columns<OneWord> {
+    fn rows_with(&self, _object: &LayeredObject) -> Columns<ManyWords<WORDS_LIMIT>> {
         let (_width, height) = self.size();
         Columns::below(height)
     }
 
     /// All rows, likewise.
-    fn rows_moving(&self, _test: &MotionTest) -> Columns<OneWord> {
+    fn rows_moving(&self, _test: &MotionTest) -> Columns<ManyWords<WORDS_LIMIT>> {
         let (_width, height) = self.size();
         Columns::below(height)
     }
@@ -47,7 +47,7 @@ impl Scan for ListBoard {
         write_cell(self, write, cell, changed)
     }
 
-    fn rewrite(&mut self, write: &CellWrite, row: u32, columns: &Columns<OneWord>) -> bool {
+    fn rewrite(&mut self, write: &CellWrite, row: u32, columns: &Columns<ManyWords<WORDS_LIMIT>>) -> bool {
         rewrite_row(self, write, row, *columns)
     }
 }

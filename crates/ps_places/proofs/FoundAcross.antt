@@ -30,11 +30,11 @@ use Rattle.ps_places.proofs.OnlyOn.{missing, not_left_out}
 -- rows on which a part begins nowhere ---------------------------------------------------------------------------------------
 
 pub ways-init : (g : Grid) (table : Option (List ℕ)) (parts : List (List CompiledCell)) (rows : List Bool) → IsGrid g →
-    rows ≡ columns_below SIDE_LIMIT → HaveWaysOnlyOn g table Right parts rows
+    rows ≡ columns_below g.height → HaveWaysOnlyOn g table Right parts rows
 ways-init g table parts rows grid is =
     record {
       at = λ row low out. let clash : true ≡ false =
-          not_left_out rows row is (omega (arith, low, grid.rows)) out in absurd (cc);
+          not_left_out g rows row grid is low out in absurd (cc);
     }
 
 pub nowhere_by : (g : Grid) (table : Option (List ℕ)) (part : List CompiledCell) (row : ℕ) (own : List Bool) →

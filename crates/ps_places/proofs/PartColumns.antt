@@ -1,5 +1,5 @@
 -- Where parts begin on a row of the board, column by column.
-use Rattle.std.proofs.Common.{◌≡◌, ◌∙◌, ℕ, ◌+◌, ◌-◌, ◌*◌, ◌<◌, ◌≤◌, ◌&&◌, Bool, true, false, Option, Some, List, []}
+use Rattle.std.proofs.Common.{◌≡◌, ◌∙◌, ℕ, ◌+◌, ◌-◌, ◌*◌, ◌<◌, ◌≤◌, ◌&&◌, Bool, true, false, Option, Some, List, [], ◌∷◌}
 use Rattle.std.proofs.Common.{length, map, refl, sym, ap, ap₂, arith}
 use Rattle.std.specs.Prelude.{nat_le, nat_lt, slice_get}
 use Rattle.std.specs.List.{range_with_len}
@@ -48,23 +48,46 @@ pub record AreLeftAcross (g : Grid) (table : Option (List ℕ)) (part : List Com
   pub at : (x : ℕ) → x < SIDE_LIMIT → (column_at columns x && rest_across g table part row index x)
       ≡ part_fits g table Right row part x
 
-pub across-init : (g : Grid) (table : Option (List ℕ)) (part : List CompiledCell) (row : ℕ) (columns : List Bool) →
-    columns ≡ columns_below SIDE_LIMIT → AreLeftAcross g table part row columns 0
-across-init g table part row columns is =
-    record {
-      at = λ x low.
-          let within : nat_lt x SIDE_LIMIT ≡ true = grind (arith, nat_tests, low) in
-          let all : length part - 0 ≡ length part = omega arith in
-          ap (λ (b : Bool). b && rest_across g table part row 0 x)
-          (ap (λ (cs : List Bool). column_at cs x) is ∙ column_at-where (λ y. nat_lt y SIDE_LIMIT) x low ∙ within)
-          ∙ ap (λ (n : ℕ). fits_along g (part_meaning table part)
-          (map (λ k. x * g.height + row + k * g.height) (range_with_len 0 n))) all;
-    }
-
 -- the cell at an index, so many columns on
 abbrev pub cell_across : Grid → CellMask → ℕ → ℕ → ℕ → Bool
 cell_across g mask row index x = fits_there (meaning_of_mask (mask_shown mask))
     (slice_get g.cells (x * g.height + row + index * g.height))
+
+-- it doesn't fit beyond the width
+cell_off : (g : Grid) (mask : CellMask) (row index x : ℕ) → IsGrid g → g.width ≤ x + index →
+    cell_across g mask row index x ≡ false
+cell_off g mask row index x grid far =
+    ap (λ (n : ℕ). fits_there (meaning_of_mask (mask_shown mask)) (slice_get g.cells n))
+    (sym (moved_on x g.height row index))
+    ∙ ap (fits_there (meaning_of_mask (mask_shown mask))) (no_cell g row (x + index) grid.cells far)
+
+none_across : (g : Grid) (table : Option (List ℕ)) (part : List CompiledCell) (row x : ℕ) → IsGrid g →
+    0 < length part → g.width ≤ x → rest_across g table part row 0 x ≡ false
+none_across g table [] row x grid some far = absurd (omega (arith, some))
+none_across g table (c ∷ cells) row x grid some far =
+    fits_from-off g table (c ∷ cells) (λ k. x * g.height + row + k * g.height) (length (c ∷ cells)) 0 c refl some
+    (cell_off g c.mask row 0 x grid (omega (arith, far)))
+
+-- a part that has a cell begins on no column beyond the width
+begun_across : (g : Grid) (table : Option (List ℕ)) (part : List CompiledCell) (row x : ℕ) (here : Bool) →
+    nat_lt x g.width ≡ here → IsGrid g → 0 < length part →
+    (here && rest_across g table part row 0 x) ≡ rest_across g table part row 0 x
+begun_across g table part row x true t grid some = refl
+begun_across g table part row x false t grid some =
+    sym (none_across g table part row x grid some (grind (arith, nat_tests)))
+
+pub across-init : (g : Grid) (table : Option (List ℕ)) (part : List CompiledCell) (row : ℕ) (columns : List Bool) →
+    IsGrid g → 0 < length part → columns ≡ columns_below g.width → AreLeftAcross g table part row columns 0
+across-init g table part row columns grid some is =
+    record {
+      at = λ x low.
+          let all : length part - 0 ≡ length part = omega arith in
+          ap (λ (b : Bool). b && rest_across g table part row 0 x)
+          (ap (λ (cs : List Bool). column_at cs x) is ∙ column_at-where (λ y. nat_lt y g.width) x low)
+          ∙ begun_across g table part row x (nat_lt x g.width) refl grid some
+          ∙ ap (λ (n : ℕ). fits_along g (part_meaning table part)
+          (map (λ k. x * g.height + row + k * g.height) (range_with_len 0 n))) all;
+    }
 
 scanned_across : (g : Grid) (mask : CellMask) (row index x : ℕ) (scan moved : List Bool) → IsGrid g →
     scan ≡ row_fits g (meaning_of_mask (mask_shown mask)) row →
@@ -115,10 +138,7 @@ across-past g table part row index c columns none grid e h far is left =
     record {
       at = λ x low.
           let off : cell_across g c.mask row index x ≡ false =
-          ap (λ (n : ℕ). fits_there (meaning_of_mask (mask_shown c.mask)) (slice_get g.cells n))
-          (sym (moved_on x g.height row index))
-          ∙ ap (fits_there (meaning_of_mask (mask_shown c.mask)))
-          (no_cell g row (x + index) grid.cells (omega (arith, far, grid.columns))) in
+          cell_off g c.mask row index x grid (omega (arith, far, grid.columns)) in
           ap (λ (cs : List Bool). column_at cs x) is ∙ column_at-where (λ y. false) x low
           ∙ sym (ap (λ (b : Bool). column_at columns x && b)
           (fits_from-off g table part (λ k. x * g.height + row + k * g.height) (length part) index c e h off)

@@ -10,14 +10,14 @@ use Rattle.std.proofs.lemmas.List.{get_or-set_same, get_or-set_other}
 use Rattle.ps_model.specs.declared.limits.TheConstants.{SIDE_LIMIT}
 use Rattle.ps_model.specs.board.Grid.{Grid}
 use Rattle.ps_laws.proofs.common.Truths.{same_tests}
-use Rattle.ps_board.specs.ColumnSets.{both_columns, column_at, columns_ahead, columns_behind, columns_below}
+use Rattle.ps_board.specs.ColumnSets.{both_columns, column_at, columns_behind, columns_below}
 use Rattle.ps_board.specs.ColumnSets.{columns_without, either_columns, no_columns, set_columns, with_column}
 use Rattle.ps_board.proofs.ColumnLaws.{column_at-beyond, column_at-where, first_in, none_in}
 use Rattle.ps_match.proofs.Chosen.{any_none}
 use Rattle.ps_program.specs.declared.cells.CompiledCell.{CompiledCell}
 use Rattle.ps_program.specs.declared.rows.Axis.TheVariants.{Down}
 use Rattle.ps_places.specs.Candidates.{BeginsOnlyOn}
-use Rattle.ps_places.specs.PartTargets.{IsReach, IsRowKept, is_kept, is_paired, is_passed, is_within}
+use Rattle.ps_places.specs.PartTargets.{IsReach, IsRowKept, is_kept, is_paired, is_within}
 use Rattle.ps_places.specs.Starts.{AreWhere, begins_down}
 use Rattle.ps_places.proofs.AnyOf.{any-found, any-here, all}
 use Rattle.ps_places.proofs.FoundDown.{below_edge, room_by}
@@ -77,26 +77,22 @@ reach-far set reach steps far is =
           ∙ or-false (list_any (is_within set) (range_with_len x SIDE_LIMIT));
     }
 
-once : (a b : Bool) → (a && b) ≡ ((b && a) || false)
-once true true = refl
-once true false = refl
-once false true = refl
-once false false = refl
+once : (a : Bool) → (a && a) ≡ ((true && a) || false)
+once true = refl
+once false = refl
 
-pub reach-init : (set below one : List Bool) → below ≡ columns_below SIDE_LIMIT → one ≡ both_columns set below →
-    IsReach set one 1
-reach-init set below one b e =
+pub reach-init : (set one : List Bool) → one ≡ both_columns set set → IsReach set one 1
+reach-init set one e =
     record {
       at = λ x. elim (cases_lt x SIDE_LIMIT) [
         | inl low ↦
             ap (λ (cs : List Bool). column_at cs x) e
-            ∙ column_at-where (λ y. column_at set y && column_at below y) x low
-            ∙ ap (λ (t : Bool). column_at set x && t) (ap (λ (cs : List Bool). column_at cs x) b ∙ column_at-where
-            (λ y. nat_lt y SIDE_LIMIT) x low)
-            ∙ once (column_at set x) (nat_lt x SIDE_LIMIT)
+            ∙ column_at-where (λ y. column_at set y && column_at set y) x low
+            ∙ once (column_at set x)
+            ∙ ap (λ (t : Bool). (t && column_at set x) || false) (sym (lt-ltb x SIDE_LIMIT low))
         | inr far ↦
             ap (λ (cs : List Bool). column_at cs x) e
-            ∙ column_at-beyond (λ y. column_at set y && column_at below y) x far
+            ∙ column_at-beyond (λ y. column_at set y && column_at set y) x far
             ∙ sym (none_within set x 1 far)
       ];
     }
@@ -125,49 +121,6 @@ before_first : (set : List Bool) (first o : ℕ) (others : List ℕ) → set_col
 unfolding set_columns
 before_first set first o others is low = least_by (column_at set) 0 SIDE_LIMIT first o others
     (column_at set 0) refl is (omega arith) low
-
-pub passed-none : (set none : List Bool) → set_columns set ≡ [] → none ≡ no_columns → AreWhere (is_passed set) none
-passed-none set none is e =
-    record {
-      at = λ x low.
-          none_has none x e
-          ∙ sym (any_none (λ o. nat_le o x && column_at set o) 0 SIDE_LIMIT
-          (λ o near far. ap (λ (b : Bool). nat_le o x && b) (none_in set o is (omega (arith, far))) ∙ and-false
-          (nat_le o x)));
-    }
-
-pub passed-some : (set below before reach : List Bool) (first : ℕ) (others : List ℕ) →
-    set_columns set ≡ first ∷ others →
-    below ≡ columns_below SIDE_LIMIT → before ≡ columns_below first → reach ≡ columns_without below before →
-    AreWhere (is_passed set) reach
-passed-some set below before reach first others is b d e =
-    record {
-      at = λ x low.
-          let least = first_in set first others is in
-          let inside : nat_lt x SIDE_LIMIT ≡ true = lt-ltb x SIDE_LIMIT low in
-          ap (λ (cs : List Bool). column_at cs x) e
-          ∙ column_at-where (λ y. column_at below y && not (column_at before y)) x low
-          ∙ ap₂ (λ (s t : Bool). s && not t)
-          (ap (λ (cs : List Bool). column_at cs x) b ∙ column_at-where (λ y. nat_lt y SIDE_LIMIT) x low ∙ inside)
-          (ap (λ (cs : List Bool). column_at cs x) d ∙ column_at-where (λ y. nat_lt y first) x low)
-          ∙ elim (cases_lt x first) [
-            | inl short ↦
-                ap not (lt-ltb x first short)
-                ∙ sym (any_none (λ o. nat_le o x && column_at set o) 0 SIDE_LIMIT
-                (λ o near far. not_yet x o (nat_le o x) refl (λ within. before_first set first o others is (omega
-                (arith, within, short)))))
-            | inr far ↦
-                let yes : nat_le first x ≡ true = grind (arith, nat_tests, far) in
-                ap not (le-ltb x first far)
-                ∙ sym (any-here (λ o. nat_le o x && column_at set o) 0 SIDE_LIMIT first (omega arith) (omega
-                (arith, least.1))
-                (ap₂ (λ (s t : Bool). s && t) yes least.0))
-          ];
-    } where
-      not_yet : (x o : ℕ) (b : Bool) → nat_le o x ≡ b → (o ≤ x → column_at set o ≡ false) →
-          (b && column_at set o) ≡ false
-      not_yet x o true t none = let within : o ≤ x = grind (arith, nat_tests, t) in none within
-      not_yet x o false t none = refl
 
 -- pairs ---------------------------------------------------------------------------------------------------------------
 
@@ -206,45 +159,56 @@ paired-leading size fronts backs reach behind pairs is b e =
           ∙ is.at (x + size) ∙ reached backs (x + size));
     }
 
-passed_on : (set : List Bool) (size x : ℕ) →
-    (nat_le size x && is_passed set (x - size)) ≡ list_any (λ o. nat_le (o + size) x && column_at set o) all
-passed_on set size x =
-    same_tests _ _
-    (λ e.
-    let both = and_parts (nat_le size x) (is_passed set (x - size)) e in
-    let far : size ≤ x = true_le size x both.0 in
-    let found = any-found (λ o. nat_le o (x - size) && column_at set o) 0 SIDE_LIMIT both.1 in
-    let one = and_parts (nat_le found.number (x - size)) (column_at set found.number) found.is in
-    let near : found.number ≤ x - size = true_le found.number (x - size) one.0 in
-    let reach : found.number + size ≤ x = omega (arith, far, near) in
-    let yes : nat_le (found.number + size) x ≡ true = le_true (found.number + size) x reach in
-    any-here (λ o. nat_le (o + size) x && column_at set o) 0 SIDE_LIMIT found.number found.near found.far (ap₂ (λ
-    (s t : Bool). s && t) yes one.1))
-    (λ e.
-    let found = any-found (λ o. nat_le (o + size) x && column_at set o) 0 SIDE_LIMIT e in
-    let one = and_parts (nat_le (found.number + size) x) (column_at set found.number) found.is in
-    let reach : found.number + size ≤ x = true_le (found.number + size) x one.0 in
-    let far : size ≤ x = omega (arith, reach) in
-    let near : found.number ≤ x - size = omega (arith, reach) in
-    let first : nat_le size x ≡ true = le_true size x far in
-    let second : nat_le found.number (x - size) ≡ true = le_true found.number (x - size) near in
-    ap₂ (λ (s t : Bool). s && t) first
-    (any-here (λ o. nat_le o (x - size) && column_at set o) 0 SIDE_LIMIT found.number found.near found.far (ap₂ (λ
-    (s t : Bool). s && t) second one.1)))
+-- none of a set lies so far to the left, where its first column doesn't
+none_behind : (set : List Bool) (size x first : ℕ) (others : List ℕ) → set_columns set ≡ first ∷ others →
+    x < first + size → list_any (λ o. nat_le (o + size) x && column_at set o) all ≡ false
+none_behind set size x first others is short =
+    any_none (λ o. nat_le (o + size) x && column_at set o) 0 SIDE_LIMIT
+    (λ o near far. not_yet o (nat_le (o + size) x) refl) where
+      not_yet : (o : ℕ) (b : Bool) → nat_le (o + size) x ≡ b → (b && column_at set o) ≡ false
+      not_yet o true t =
+          let within : o + size ≤ x = grind (arith, nat_tests, t) in
+          before_first set first o others is (omega (arith, within, short))
+      not_yet o false t = refl
 
-pub paired-following : (size : ℕ) (fronts backs reach ahead pairs : List Bool) → AreWhere (is_passed fronts) reach →
-    ahead ≡ columns_ahead reach size → pairs ≡ both_columns backs ahead →
+some_behind : (set : List Bool) (size x first : ℕ) (others : List ℕ) → set_columns set ≡ first ∷ others →
+    first + size ≤ x → list_any (λ o. nat_le (o + size) x && column_at set o) all ≡ true
+some_behind set size x first others is far =
+    let least = first_in set first others is in
+    any-here (λ o. nat_le (o + size) x && column_at set o) 0 SIDE_LIMIT first (omega arith) (omega (arith, least.1))
+    (ap₂ (λ (s t : Bool). s && t) (le_true (first + size) x far) least.0)
+
+behind_by : (set : List Bool) (size x first : ℕ) (others : List ℕ) → set_columns set ≡ first ∷ others →
+    not (nat_lt x (first + size)) ≡ list_any (λ o. nat_le (o + size) x && column_at set o) all
+behind_by set size x first others is = elim (cases_lt x (first + size)) [
+  | inl short ↦
+      ap not (lt-ltb x (first + size) short) ∙ sym (none_behind set size x first others is short)
+  | inr far ↦ ap not (le-ltb x (first + size) far) ∙ sym (some_behind set size x first others is far)
+]
+
+pub paired-none : (size : ℕ) (fronts backs pairs : List Bool) → set_columns fronts ≡ [] → pairs ≡ no_columns →
     AreWhere (is_paired false size fronts backs) pairs
-paired-following size fronts backs reach ahead pairs is b e =
+paired-none size fronts backs pairs none e =
+    record {
+      at = λ x low.
+          none_has pairs x e
+          ∙ sym (ap (λ (t : Bool). column_at backs x && t)
+          (any_none (λ o. nat_le (o + size) x && column_at fronts o) 0 SIDE_LIMIT
+          (λ o near far. ap (λ (b : Bool). nat_le (o + size) x && b) (none_in fronts o none (omega (arith, far)))
+          ∙ and-false (nat_le (o + size) x)))
+          ∙ and-false (column_at backs x));
+    }
+
+pub paired-following : (size : ℕ) (fronts backs pairs : List Bool) (first : ℕ) (others : List ℕ) →
+    set_columns fronts ≡ first ∷ others → pairs ≡ columns_without backs (columns_below (first + size)) →
+    AreWhere (is_paired false size fronts backs) pairs
+paired-following size fronts backs pairs first others is e =
     record {
       at = λ x low.
           ap (λ (cs : List Bool). column_at cs x) e
-          ∙ column_at-where (λ y. column_at backs y && column_at ahead y) x low
-          ∙ ap (λ (t : Bool). column_at backs x && t)
-          (ap (λ (cs : List Bool). column_at cs x) b
-          ∙ column_at-where (λ y. nat_le size y && column_at reach (y - size)) x low
-          ∙ ap (λ (t : Bool). nat_le size x && t) (is.at (x - size) (omega (arith, low)))
-          ∙ passed_on fronts size x);
+          ∙ column_at-where (λ y. column_at backs y && not (column_at (columns_below (first + size)) y)) x low
+          ∙ ap (λ (t : Bool). column_at backs x && not t) (column_at-where (λ y. nat_lt y (first + size)) x low)
+          ∙ ap (λ (t : Bool). column_at backs x && t) (behind_by fronts size x first others is);
     }
 
 -- columns of a row that are kept --------------------------------------------------------------------------------------

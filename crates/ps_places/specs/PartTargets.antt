@@ -118,7 +118,3 @@ is_within set x = nat_lt x SIDE_LIMIT && column_at set x
 
 pub record IsReach (set reach : List Bool) (steps : ℕ) : Type 0 where
   pub at : (x : ℕ) → column_at reach x ≡ list_any (is_within set) (range_with_len x steps)
-
--- or at the column or anywhere to its left
-abbrev pub is_passed : List Bool → ℕ → Bool
-is_passed set x = list_any (λ other. nat_le other x && column_at set other) (range_with_len 0 SIDE_LIMIT)

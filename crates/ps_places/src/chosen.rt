@@ -138,7 +138,7 @@ impl<W: ColumnWords> RowRoom<Columns<W>> {
         ensures { (height : ℕ) → HaveForgotten height row.now self.old self.new }
     {
         let at = usize::from(self.line) * row.parts.as_slice().len();
-        self.lines = self.lines.without(Columns::below(u32::from(self.line)));
+        self.lines = self.lines.not_below(u32::from(self.line));
         let position = usize::from(self.way[0]);
         let starts = self.starts.as_mut_slice();
         starts[at] = behind_position(starts[at], position);

@@ -1,21 +1,23 @@
 //! The columns of a row of the board where a part of a row of a rule begins, all at once.
 
 ghost use Rattle.std.specs.Prelude.{◌≡◌, ◌<◌};
+ghost use Rattle.ps_laws.specs.WholeRows.{HasCells};
 ghost use Rattle.ps_program.specs.declared.rows.Axis.TheVariants.{Right};
 ghost use Rattle.ps_places.specs.Lines.{part_fits};
 ghost use Rattle.ps_places.specs.Starts.{AreWhere, begins_down};
 
-use ps_match::{Columns, Scan, recall_shape};
+use ps_match::{Columns, Scan};
 use ps_model::SIDE_LIMIT;
 use ps_program::CompiledCell;
 
 /// The columns of a row of the board where a part fits that goes right, its first cell there.
 pub fn columns_across<B: Scan>(board: &B, part: &[CompiledCell], row: u32) -> Columns<B::Words>
-    requires { row < (B.grid board.now).height }
+    requires row { row < (B.grid board.now).height }
+    requires whole { HasCells part.now }
     ensures { AreWhere (part_fits (B.grid board.now) (B.table board.now) Right row part.now) result }
 {
-    recall_shape(board);
-    let mut columns = Columns::below(SIDE_LIMIT);
+    let (width, _height) = board.size();
+    let mut columns = Columns::below(width);
     let mut steps = 0;
     for cell in part {
         if columns.is_empty() {

@@ -23,7 +23,8 @@ fn starts_on_row<B: Scan>(
     part: &[CompiledCell],
     row: u32,
 ) -> Columns<B::Words>
-    requires { row < (B.grid board.now).height }
+    requires row { row < (B.grid board.now).height }
+    requires whole { HasCells part.now }
     ensures { AreWhere (begins_at (B.grid board.now) (B.table board.now) axis part.now row) result }
 {
     match axis {
@@ -39,6 +40,7 @@ fn find_rows<B: Scan>(
     part: &[CompiledCell],
     starts: &mut [Columns<B::Words>],
 ) -> Columns<B::Words>
+    requires whole { HasCells part.now }
     requires room { SIDE_LIMIT ≤ length starts.old }
     ensures starts { AreStarts (B.grid board.now) (B.table board.now) axis part.now result starts.new }
     ensures long { length starts.new ≡ length starts.old }

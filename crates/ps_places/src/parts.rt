@@ -134,7 +134,7 @@ pub fn behind_position<W: ColumnWords>(set: Columns<W>, from: usize) -> Columns<
     if SIDE_LIMIT as usize <= from {
         return Columns::none();
     }
-    set.without(Columns::below(from as u32))
+    set.not_below(from as u32)
 }
 
 /// The least position of a set at which a part fits that goes right on a row of the board, and the positions behind it.
@@ -144,7 +144,8 @@ fn least_across<B: Scan>(
     part: &[CompiledCell],
     set: Columns<B::Words>,
 ) -> Option<u8>
-    requires { line < (B.grid board.now).height }
+    requires line { line < (B.grid board.now).height }
+    requires whole { HasCells part.now }
     ensures some { IfSome result (λ position.
         from_first (part_fits (B.grid board.now) (B.table board.now) Right line part.now) (set_columns set)
         ≡ position ∷ positions_from set (position + 1)) }
@@ -187,7 +188,8 @@ pub fn least_position<B: Scan>(
     set: Columns<B::Words>,
     from: usize,
 ) -> Option<u8>
-    requires { line < line_count axis (B.grid board.now) }
+    requires line { line < line_count axis (B.grid board.now) }
+    requires whole { HasCells part.now }
     ensures some { IfSome result (λ position.
         from_first (part_fits (B.grid board.now) (B.table board.now) axis line part.now) (positions_from set from)
         ≡ position ∷ positions_from set (position + 1)) }

@@ -13,7 +13,7 @@ ghost use Rattle.ps_places.specs.PartStarts.{AreStarts};
 ghost use Rattle.ps_places.specs.WrittenTogether.{cell_changed, cells_changed, row_at};
 
 use crate::room::RowRoom;
-use ps_match::{ColumnWords, Columns, Scan, recall_shape};
+use ps_match::{ColumnWords, Columns, Scan, recall_shape, rewrite_ahead};
 use ps_program::{Axis, CompiledCell};
 
 /// Rewrites one cell of a part, so many steps behind the first one, of all places that begin in some columns of a row
@@ -40,7 +40,7 @@ fn rewrite_cell<B: Scan>(
     }
     match axis {
         Axis::Down => changed | board.rewrite(&cell.write, row + steps, &columns),
-        Axis::Right => changed | board.rewrite(&cell.write, row, &columns.ahead(steps)),
+        Axis::Right => changed | rewrite_ahead(board, &cell.write, row, columns, steps),
     }
 }
 

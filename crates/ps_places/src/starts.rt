@@ -16,7 +16,6 @@ use crate::candidates::rows_of_part;
 use crate::columns::{columns_across, columns_down};
 use crate::room::RoomFor;
 use ps_match::{ColumnWords, Columns, Scan, recall_shape};
-use ps_model::SIDE_LIMIT;
 use ps_program::{Axis, CompiledCell, CompiledRow};
 use ps_text::List;
 
@@ -24,8 +23,8 @@ use ps_text::List;
 fn rows_of_all<B: Scan>(board: &B, parts: &[List<CompiledCell>]) -> Columns<B::Words>
     ensures { HaveWaysOnlyOn (B.grid board.now) (B.table board.now) Right parts.now result }
 {
-    recall_shape(board);
-    let mut rows = Columns::below(SIDE_LIMIT);
+    let (_width, height) = board.size();
+    let mut rows = Columns::below(height);
     for part in parts {
         if rows.is_empty() {
             return rows;
@@ -104,6 +103,7 @@ fn add_row<W: ColumnWords>(
     row: u32,
 )
     requires one { number < count }
+    requires row { row < W.limit }
     requires room { SIDE_LIMIT * count ≤ length starts.old }
     ensures added { IsRowAdded starts.old count number columns found row starts.new }
     ensures long { length starts.new ≡ length starts.old }

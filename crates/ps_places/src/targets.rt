@@ -7,7 +7,7 @@ ghost use Rattle.ps_laws.specs.WholeRows.{HasCells};
 ghost use Rattle.ps_program.specs.declared.rows.Axis.TheVariants.{Down, Right};
 ghost use Rattle.ps_places.specs.Candidates.{BeginsOnlyOn};
 ghost use Rattle.ps_places.specs.FoundStarts.{part_of};
-ghost use Rattle.ps_places.specs.PartTargets.{AreTargets, IsReach, IsRowKept, is_paired, is_passed, is_target};
+ghost use Rattle.ps_places.specs.PartTargets.{AreTargets, IsReach, IsRowKept, is_paired, is_target};
 ghost use Rattle.ps_places.specs.Starts.{AreWhere, begins_down};
 
 use crate::candidates::rows_of_part;
@@ -29,7 +29,7 @@ fn reach_twice<W: ColumnWords>(reach: Columns<W>, steps: u32) -> Columns<W>
 fn up_to<W: ColumnWords>(set: Columns<W>) -> Columns<W>
     ensures { IsReach set result SIDE_LIMIT }
 {
-    let mut reach = set.both(Columns::below(SIDE_LIMIT));
+    let mut reach = set.both(set);
     let mut steps = 1;
     while steps < SIDE_LIMIT {
         reach = reach_twice(reach, steps);
@@ -38,15 +38,17 @@ fn up_to<W: ColumnWords>(set: Columns<W>) -> Columns<W>
     reach
 }
 
-/// The columns of a set, and all to the right of one of them.
-fn from_first<W: ColumnWords>(set: Columns<W>) -> Columns<W>
-    ensures { AreWhere (is_passed set) result }
+/// Of the columns in which the second part begins on a row of the board, those that lie behind the first part where it
+/// begins first, and is so long.
+fn behind_first<W: ColumnWords>(size: u32, fronts: Columns<W>, backs: Columns<W>) -> Columns<W>
+    requires { size < SIDE_LIMIT }
+    ensures { AreWhere (is_paired false size fronts backs) result }
 {
-    let mut left = set;
+    let mut left = fronts;
     let Some(first) = left.take_first() else {
         return Columns::none();
     };
-    Columns::below(SIDE_LIMIT).without(Columns::below(first))
+    backs.not_below(first + size)
 }
 
 /// Of the columns in which the first part begins on a row of the board and of those of the second, those of the first
@@ -63,7 +65,7 @@ fn paired<W: ColumnWords>(
     if leads {
         fronts.both(up_to(backs).behind(size))
     } else {
-        backs.both(from_first(fronts).ahead(size))
+        behind_first(size, fronts, backs)
     }
 }
 
@@ -75,6 +77,7 @@ fn keep_row<W: ColumnWords>(
     columns: Columns<W>,
 ) -> Columns<W>
     requires within { row < SIDE_LIMIT }
+    requires row { row < W.limit }
     requires room { SIDE_LIMIT ≤ length starts.old }
     ensures kept { IsRowKept rows starts.old row columns result starts.new }
     ensures long { length starts.new ≡ length starts.old }

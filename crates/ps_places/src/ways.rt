@@ -1,7 +1,8 @@
 //! The ways in which the parts of a row of a rule lie on a line of the board: the next one is sought among those where
 //! each part fits now.
 
-ghost use Rattle.std.specs.Prelude.{◌≡◌, ℕ, ◌<◌, ◌∷◌, [], false, length, true};
+ghost use Rattle.std.specs.Prelude.{◌≡◌, ℕ, ◌<◌, ◌∷◌, [], All, false, length, true};
+ghost use Rattle.ps_laws.specs.WholeRows.{HasCells};
 ghost use Rattle.ps_places.specs.Lines.{line_count};
 ghost use Rattle.ps_places.specs.RowPlaces.{part_sizes};
 ghost use Rattle.ps_places.specs.Ways.{from_first, ways_behind, ways_from};
@@ -27,6 +28,7 @@ pub fn first_way<B: Scan>(
     requires line { line < line_count axis (B.grid board.now) }
     requires sets { length sets.now ≡ length parts.now }
     requires way { length way.old ≡ length parts.now }
+    requires whole { All HasCells parts.now }
     ensures found { let fits = way_fits (B.grid board.now) (B.table board.now) axis line parts.now in
         let sizes = part_sizes parts.now in
         result ≡ true →
@@ -74,6 +76,7 @@ pub fn next_way<B: Scan>(
     requires line { line < line_count axis (B.grid board.now) }
     requires sets { length sets.now ≡ length parts.now }
     requires way { length way.old ≡ length parts.now }
+    requires whole { All HasCells parts.now }
     ensures found { let fits = way_fits (B.grid board.now) (B.table board.now) axis line parts.now in
         let sizes = part_sizes parts.now in
         result ≡ true →

@@ -1,6 +1,7 @@
 //! A run of a game by rules.
 
 ghost use Rattle.std.specs.Prelude.{◌≡◌, ◌≢◌, Err, false, true};
+ghost use Rattle.ps_stage.specs.Playable.{EntriesFit};
 ghost use Rattle.ps_stage.specs.Standings.{script_for};
 ghost use Rattle.ps_run.specs.Runs.{ComesOrStops};
 
@@ -16,7 +17,7 @@ use ps_stage::SessionGame;
 use ps_turn::{Rules, TurnRules};
 use std::alloc::Global;
 
-/// Plays a game by these rules: writes its opening, and plays the keys of a reader to an ending.
+/// Plays a game by these rules, on boards that have room for its levels: writes its opening, and plays the keys of a reader to an ending.
 ///
 /// # Errors
 ///
@@ -29,6 +30,7 @@ pub fn run_game<'g, B: Board, R: Rules<B> + Drop, I: ByteReader, W: ByteWriter>(
     reader: &mut I,
     writer: &mut W,
 ) -> Result<Ending, RunFault>
+    requires fit { EntriesFit B.Words.limit game.entries }
     requires heard { (I.state reader.old).has_failed ≡ false }
     requires well { (W.state writer.old).has_failed ≡ false }
     ensures answers { let script = script_for B.table_for game.entry (R.meant rules.plain) (R.meant rules.late) in

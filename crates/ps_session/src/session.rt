@@ -3,6 +3,7 @@
 ghost use Rattle.std.specs.Prelude.{◌≡◌, ◌++◌, true, IfOk, IsOk, OnErr, OnOk};
 ghost use Rattle.ps_model.specs.game.Outputs.{ending_of, opening_step};
 ghost use Rattle.ps_model.specs.session.KeySteps.{key_step};
+ghost use Rattle.ps_stage.specs.Playable.{EntriesFit};
 ghost use Rattle.ps_stage.specs.Standings.{script_for};
 ghost use Rattle.ps_session.specs.IgnoredKeys.{is_ignored};
 ghost use Rattle.ps_session.specs.Phases.{phase_of};
@@ -48,8 +49,8 @@ impl<'g, B: Board> Model for Session<'g, B> {
 }
 
 impl<'g, B: Board> Session<'g, B> {
-    /// Starts a game: adds its title to the output, and what its first entry writes. The room for the boards of undo is
-    /// taken here, and never again.
+    /// Starts a game on boards that have room for its levels: adds its title to the output, and what its first entry
+    /// writes. The room for the boards of undo is taken here, and never again.
     ///
     /// # Errors
     ///
@@ -60,6 +61,7 @@ impl<'g, B: Board> Session<'g, B> {
         rules: &mut TurnRules<B, R>,
         output: &mut OutputText,
     ) -> Result<Session<'g, B>, Memory>
+        requires { EntriesFit B.Words.limit game.entries }
         ensures game { IfOk result (λ session. session.game ≡ game.entry) }
         ensures session { IfOk result (λ session. session.session
             ≡ (opening_step (script_for B.table_for game.entry (R.meant rules.old.plain)

@@ -5,11 +5,12 @@ use Rattle.std.proofs.lemmas.List.{length-map}
 use Rattle.std.proofs.lemmas.Option.{slice_get-map, slice_get-get_or}
 use Rattle.ps_model.specs.names.Names.{Names}
 use Rattle.ps_model.specs.board.Levels.{Level}
-use Rattle.ps_model.specs.session.LevelLines.{Entry as Meant, LevelEntry}
+use Rattle.ps_model.specs.declared.limits.TheConstants.{SIDE_LIMIT}
+use Rattle.ps_model.specs.session.LevelLines.{Entry as Meant, LevelEntry, MessageEntry}
 use Rattle.ps_levels.specs.declared.levels.Entry.{Entry}
 use Rattle.ps_levels.specs.EntriesShown.{entry_shown, entries_shown}
 use Rattle.ps_levels.specs.Sized.{IsSizedEntry}
-use Rattle.ps_stage.specs.Playable.{IsPlayable, ArePlayable}
+use Rattle.ps_stage.specs.Playable.{IsPlayable, ArePlayable, LevelFits, EntryFits, EntriesFit}
 
 pub entry_found : (es : List Entry) (entries : List Meant) (i : ℕ) (x : Entry) → entries_shown es ≡ entries → i < length es → x ≡ get_or es i x →
     slice_get entries i ≡ Some (entry_shown x)
@@ -19,15 +20,41 @@ entry_found es entries i x e within is =
     ∙ ap (option_map entry_shown) (slice_get-get_or es i x within)
     ∙ ap (λ (y : Entry). Some (entry_shown y)) (sym is)
 
-pub playable_at : (names : Names) (es : List Entry) (entries : List Meant) (i : ℕ) (x : Entry) (level : Level) → entries_shown es ≡ entries → i < length es → x ≡ get_or es i x →
+-- the same by its number
+entry_at : (es : List Entry) (entries : List Meant) (i : ℕ) (x : Entry) → entries_shown es ≡ entries → i < length es →
+    x ≡ get_or es i x → i < length entries → get_or entries i (entry_shown x) ≡ entry_shown x
+entry_at es entries i x e within is long =
+    let found : slice_get entries i ≡ Some (entry_shown x) = entry_found es entries i x e within is in
+    let there : slice_get entries i ≡ Some (get_or entries i (entry_shown x)) =
+    slice_get-get_or entries i (entry_shown x) long in
+    cc
+
+pub playable_at : (names : Names) (es : List Entry) (entries : List Meant) (i : ℕ) (x : Entry) (level : Level) →
+    entries_shown es ≡ entries → i < length es → x ≡ get_or es i x →
     entry_shown x ≡ LevelEntry level → ArePlayable names entries → IsPlayable names level
 playable_at names es entries i x level e within is shows playable =
     let long : i < length entries = rw (← e, length-map) within in
-    let found : slice_get entries i ≡ Some (entry_shown x) = entry_found es entries i x e within is in
-    let there : slice_get entries i ≡ Some (get_or entries i (entry_shown x)) = slice_get-get_or entries i (entry_shown x) long in
-    let here : get_or entries i (entry_shown x) ≡ entry_shown x = cc in
     record {
       bounded = playable.bounded;
       some_object = playable.some_object;
-      sized = subst (IsSizedEntry names) (here ∙ shows) (playable.sized i (entry_shown x) long);
+      sized = subst (IsSizedEntry names) (entry_at es entries i x e within is long ∙ shows)
+          (playable.sized i (entry_shown x) long);
     }
+
+pub fits_at : (side : ℕ) (es : List Entry) (entries : List Meant) (i : ℕ) (x : Entry) (level : Level) →
+    entries_shown es ≡ entries → i < length es → x ≡ get_or es i x →
+    entry_shown x ≡ LevelEntry level → EntriesFit side entries → LevelFits side level
+fits_at side es entries i x level e within is shows fit =
+    let long : i < length entries = rw (← e, length-map) within in
+    subst (EntryFits side) (entry_at es entries i x e within is long ∙ shows) (fit i (entry_shown x) long)
+
+-- levels with sides of a board fit where it may have any of these
+fits_any : (names : Names) (entry : Meant) → IsSizedEntry names entry → EntryFits SIDE_LIMIT entry
+fits_any names (MessageEntry text) sized = sized
+fits_any names (LevelEntry level) sized = record {
+  columns = sized.columns;
+  rows = sized.rows;
+}
+
+pub fit_any : (names : Names) (entries : List Meant) → ArePlayable names entries → EntriesFit SIDE_LIMIT entries
+fit_any names entries playable i x long = fits_any names (get_or entries i x) (playable.sized i x long)

@@ -6,7 +6,7 @@ ghost use Rattle.ps_model.specs.session.LevelLines.{LevelEntry};
 ghost use Rattle.ps_model.specs.session.Sessions.{after, is_level, level_number};
 ghost use Rattle.ps_model.specs.session.StartSteps.{entered, enter, level_done, restarted};
 ghost use Rattle.ps_levels.specs.EntriesShown.{entry_shown, entries_shown};
-ghost use Rattle.ps_stage.specs.Playable.{IsPlayable};
+ghost use Rattle.ps_stage.specs.Playable.{IsPlayable, LevelFits};
 ghost use Rattle.ps_stage.specs.Standings.{script_of, script_for, play_of};
 ghost use Rattle.ps_stage.specs.StepsShown.{came, stands};
 ghost use Rattle.ps_stage.specs.Locations.{location_shown, IsOnTable};
@@ -78,6 +78,7 @@ impl<'g, B: Board> Stage<'g, B> {
         level: &Level,
     ) -> Result<Location<PlayedLevel<B>>, Memory>
         requires playable { IsPlayable self.old.game.names level.now }
+        requires fits { LevelFits B.Words.limit level.now }
         requires number { number ≡ level_number (script_of self.old.game [] []) entry }
         ensures game { self.new.game ≡ self.old.game }
         ensures plain { R.meant rules.new.plain ≡ R.meant rules.old.plain }

@@ -3,7 +3,8 @@
 ghost use Rattle.std.specs.Prelude.{◌≡◌};
 ghost use Rattle.ps_levels.specs.EntriesShown.{entries_shown};
 ghost use Rattle.ps_levels.specs.WinsShown.{wins_shown};
-ghost use Rattle.ps_stage.specs.Playable.{ArePlayable};
+ghost use Rattle.ps_model.specs.declared.limits.TheConstants.{SIDE_LIMIT};
+ghost use Rattle.ps_stage.specs.Playable.{ArePlayable, EntriesFit};
 ghost use Rattle.ps_stage.specs.Standings.{turn_parts};
 
 use ps_levels::{Entry, Win};
@@ -43,7 +44,7 @@ impl<'g> Model for SessionGame<'g> {
 }
 
 impl<'g> SessionGame<'g> {
-    /// The game of these parts.
+    /// The game of these parts. The sides of its levels are those of a board.
     pub fn new(
         title: &'g str,
         options: Options,
@@ -57,6 +58,7 @@ impl<'g> SessionGame<'g> {
         ensures names { result.names ≡ names.entry.now }
         ensures entries { result.entries ≡ entries_shown entries.entry.now }
         ensures wins { result.wins ≡ wins_shown wins.entry.now }
+        ensures fit { EntriesFit SIDE_LIMIT result.entries }
     {
         SessionGame {
             title,

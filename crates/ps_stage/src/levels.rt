@@ -6,7 +6,7 @@ ghost use Rattle.ps_model.specs.board.Levels.{loaded};
 ghost use Rattle.ps_model.specs.board.Turns.{turn};
 ghost use Rattle.ps_turn.specs.States.{HaveSameSides, outcome_shown, is_done};
 ghost use Rattle.ps_stage.specs.KeysShown.{IsNext, tried_outcome};
-ghost use Rattle.ps_stage.specs.Playable.{IsPlayable};
+ghost use Rattle.ps_stage.specs.Playable.{IsPlayable, LevelFits};
 ghost use Rattle.ps_stage.specs.Standings.{script_for, with_done};
 ghost use Rattle.ps_stage.specs.StepsShown.{counts, taken};
 
@@ -256,7 +256,8 @@ impl<B: Board> PlayedLevel<B> {
         entry: EntryNumber,
         level: &Level,
     ) -> Result<PlayedLevel<B>, Memory>
-        requires { IsPlayable names.now level.now }
+        requires playable { IsPlayable names.now level.now }
+        requires fits { LevelFits B.Words.limit level.now }
         ensures entry { IfOk result (λ played. played.entry ≡ entry) }
         ensures table { IfOk result (λ played. played.table ≡ B.table_for names.now.layers) }
         ensures board { IfOk result (λ played. played.board ≡ loaded names.now level.now) }

@@ -7,7 +7,7 @@ ghost use Rattle.ps_model.specs.board.Grid.{IsGrid, cell_at, cell_count};
 ghost use Rattle.ps_model.specs.names.Names.{layer_of, object_count};
 ghost use Rattle.ps_model.specs.board.Levels.{loaded};
 ghost use Rattle.ps_turn.specs.Sweeps.{grid_with_cell};
-ghost use Rattle.ps_stage.specs.Playable.{IsPlayable, HaveOwnRoom};
+ghost use Rattle.ps_stage.specs.Playable.{IsPlayable, HaveOwnRoom, LevelFits};
 
 use ps_board::Board;
 use ps_levels::Level;
@@ -34,7 +34,8 @@ fn fill_cell<B: Board>(board: &mut B, names: &Names, cell: u32, objects: &[Objec
 
 /// The board of a level as it is loaded: each object at rest on its own layer. Without memory there is none.
 pub fn load<B: Board>(alloc: Global, names: &Names, level: &Level) -> Result<B, Memory>
-    requires { IsPlayable names.now level.now }
+    requires playable { IsPlayable names.now level.now }
+    requires fits { LevelFits B.Words.limit level.now }
     ensures loaded { IfOk result (λ board. B.grid board ≡ loaded names.now level.now) }
     ensures table { IfOk result (λ board. B.table board ≡ B.table_for names.now.layers) }
 {

@@ -4,7 +4,7 @@ ghost use Rattle.std.specs.Prelude.{◌≡◌, ◌++◌, [], OnErr, OnOk, IfOk, 
 ghost use Rattle.ps_model.specs.game.Outputs.{quit_line};
 ghost use Rattle.ps_model.specs.session.Frames.{frame, written_line};
 ghost use Rattle.ps_levels.specs.EntriesShown.{entries_shown};
-ghost use Rattle.ps_stage.specs.Playable.{ArePlayable};
+ghost use Rattle.ps_stage.specs.Playable.{ArePlayable, EntriesFit};
 
 use crate::game::SessionGame;
 use crate::levels::PlayedLevel;
@@ -29,18 +29,20 @@ pub struct Stage<'g, B: Board> {
 
 impl<'g, B: Board> Model for Stage<'g, B> {
     ghost use Rattle.std.specs.Prelude.{◌≡◌};
+    ghost use Rattle.ps_stage.specs.Playable.{EntriesFit};
     ghost use Rattle.ps_stage.specs.Standings.{StageValue};
 
     ghost Value = { StageValue };
 
     ghost view = { λ s. record { game = s.game; text = s.text } };
 
-    ghost invariant = { λ s. s.picture ≡ s.game.names };
+    ghost invariant = { λ s. (s.picture ≡ s.game.names) × EntriesFit B.Words.limit s.game.entries };
 }
 
 impl<'g, B: Board> Stage<'g, B> {
-    /// A game without a text.
+    /// A game without a text, on boards that have room for its levels.
     pub fn new(alloc: Global, game: SessionGame<'g>) -> Stage<'g, B>
+        requires { EntriesFit B.Words.limit game.entries }
         ensures game { result.game ≡ game.entry }
         ensures text { result.text ≡ [] }
     {
@@ -87,6 +89,7 @@ impl<'g, B: Board> Stage<'g, B> {
     pub(crate) fn entries(&self) -> &'g [Entry]
         ensures entries { entries_shown result.now ≡ self.now.game.entries }
         ensures playable { ArePlayable self.now.game.names self.now.game.entries }
+        ensures fit { EntriesFit B.Words.limit self.now.game.entries }
     {
         self.game.entries()
     }

@@ -50,11 +50,12 @@ held-more g objects count object rows having either shape within is e none only 
     (none row low parts.0 x across) (only row low parts.1 x across)
 
 -- each of the objects passed by, and one more
-pub each-none : (g : Grid) (rows : List Bool) → IsGrid g → rows ≡ columns_below SIDE_LIMIT → NonePassOutside (has_each []) g rows
+pub each-none : (g : Grid) (rows : List Bool) → IsGrid g → rows ≡ columns_below g.height → NonePassOutside (has_each []) g rows
 each-none g rows shape is row low out x across =
     let within : row < SIDE_LIMIT = omega (arith, low, shape.rows) in
-    let there : nat_lt row SIDE_LIMIT ≡ true = grind (arith, nat_tests, within) in
-    sym there ∙ sym (ap (λ (cs : List Bool). column_at cs row) is ∙ column_at-where (λ y. nat_lt y SIDE_LIMIT) row within) ∙ out
+    let there : nat_lt row g.height ≡ true = grind (arith, nat_tests, low) in
+    sym there ∙ sym (ap (λ (cs : List Bool). column_at cs row) is ∙ column_at-where (λ y. nat_lt y g.height) row within)
+    ∙ out
 
 one_off : (b : Bool) (cell : List Slot) (object : ObjectId) → list_any (slot_holds object) cell ≡ false → (b && list_any (holds_any (object ∷ [])) cell) ≡ false
 one_off b cell object off = ap (λ (c : Bool). b && c) (none_of_both (slot_holds object) (holds_any []) (holds_any (object ∷ [])) cell (λ slot. refl) off (holds_none cell)) ∙ and-false b

@@ -8,7 +8,7 @@ ghost use Rattle.ps_turn.specs.RowsOfCells.{NonePassOutside, row_cells, has_each
 
 use crate::standing::{columns_with, rows_with};
 use ps_board::{Board, Columns};
-use ps_model::{ObjectId, SIDE_LIMIT};
+use ps_model::ObjectId;
 use ps_names::Meaning;
 use std::slice;
 
@@ -42,8 +42,8 @@ pub fn columns_meant<B: Board>(board: &B, meaning: &Meaning, row: u32) -> Column
 fn rows_with_each<B: Board>(board: &B, objects: &[ObjectId]) -> Columns<B::Words>
     ensures { NonePassOutside (has_each objects.now) (B.grid board.now) result }
 {
-    let (_, _) = board.size();
-    let mut common = Columns::below(SIDE_LIMIT);
+    let (_width, height) = board.size();
+    let mut common = Columns::below(height);
     for index in 0..objects.len() {
         common = common.both(board.rows_holding(objects[index]));
     }

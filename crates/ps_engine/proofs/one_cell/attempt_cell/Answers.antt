@@ -31,11 +31,11 @@ returns-then-written-clause-attempt g c =
     let after : Rewritten = record { grid = g.B.Board.grid c.write_all-written.new.board; changed = c.write_all-written.result.changed } in
     let made : after ≡ walked meant =
     c.write_all-written.ensures.rewritten
-    ∙ sym (all_written-is grid direction m c.recall_shape.ensures.some_row c.recall_shape.ensures.cells)
+    ∙ sym (all_written-is grid direction m c.recall_shape.ensures.shape.some_row c.recall_shape.ensures.shape.cells)
     ∙ sym (ap walked only) in
     let some : all meant ≢ [] =
     subst (λ (rows : List (List (List CellMeaning))). all rows ≢ []) (sym only)
-    (some_combination grid direction m there.number c.recall_shape.ensures.some_row c.recall_shape.ensures.cells there.fits) in
+    (some_combination grid direction m there.number c.recall_shape.ensures.shape.some_row c.recall_shape.ensures.shape.cells there.fits) in
     ap (λ (q : Commands). let r : Result = record { state = record { grid = after.grid; queue = q }; changed = after.changed } in r) c.enter.ensures
     ∙ attempt_written direction meant rule.rewrites (commands_shown rule.commands.now) grid c.args.queue.now (all meant) after c.requires.rewrites some made
 

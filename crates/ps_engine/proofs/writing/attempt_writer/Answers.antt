@@ -24,7 +24,7 @@ returns-then-is_empty-clause-attempt g c =
     attempt_none (direction_of rule.axis) (rows_meaning table rule.rows) rule.rewrites
     (commands_shown rule.commands.now) grid c.args.queue.now
     (combinations_on grid (rule_meaning table rule))
-    (none_here grid table rule c.args.writer row c.writing_cell-cell.result.now c.recall_shape.ensures
+    (none_here grid table rule c.args.writer row c.writing_cell-cell.result.now c.recall_shape.ensures.shape
     c.requires.writer row_is
     c.writing_cell-cell.ensures c.find_targets-rows.result c.find_targets-rows.new.self.starts.items
     c.find_targets-rows.ensures (c.is_empty.ensures.none empty))
@@ -37,7 +37,7 @@ write_targets-requires g c =
     let row : CompiledRow = c.index-as_slice-0.result in
     let row_is : row ≡ slice_index_or rule.rows 0 row =
     c.index-as_slice-0.is ∙ ap (λ (rs : List CompiledRow). slice_index_or rs 0 row) c.as_slice.ensures in
-    inside grid table rule c.args.writer row c.writing_cell-cell.result.now c.recall_shape.ensures
+    inside grid table rule c.args.writer row c.writing_cell-cell.result.now c.recall_shape.ensures.shape
     c.requires.writer row_is
     c.writing_cell-cell.ensures c.find_targets-rows.result c.find_targets-rows.new.self.starts.items
     c.find_targets-rows.ensures
@@ -59,12 +59,12 @@ returns-clause-attempt g c =
     let all : List (List (List ℕ)) = combinations_on grid (rule_meaning table rule) in
     let made : after ≡ fold (applied (rows_meaning table rule.rows)) (unchanged grid) all =
     c.write_targets.ensures.rewritten
-    ∙ written_here grid table rule c.args.writer row c.writing_cell-cell.result.now c.recall_shape.ensures
+    ∙ written_here grid table rule c.args.writer row c.writing_cell-cell.result.now c.recall_shape.ensures.shape
     c.requires.writer row_is
     c.writing_cell-cell.ensures c.find_targets-rows.result c.find_targets-rows.new.self.starts.items
     c.find_targets-rows.ensures in
     let some : all ≢ [] =
-    some_here grid table rule c.args.writer row c.writing_cell-cell.result.now c.recall_shape.ensures
+    some_here grid table rule c.args.writer row c.writing_cell-cell.result.now c.recall_shape.ensures.shape
     c.requires.writer row_is
     c.writing_cell-cell.ensures c.find_targets-rows.result c.find_targets-rows.new.self.starts.items
     c.find_targets-rows.ensures

@@ -21,7 +21,7 @@ loop-row-init g c =
     record {
       among = all-of c.args.rows;
       rewritten = no_row_behind start becomes c.args.axis c.args.steps c.args.rows c.args.room.now.starts.items
-          c.recall_shape.ensures;
+          c.recall_shape.ensures.shape;
       table = refl;
     }
 
@@ -60,7 +60,7 @@ loop-row-preserved g c =
       rewritten =
           one_row_behind start now next becomes c.args.axis c.args.steps c.in-Some.row c.args.rows c.loop-row.left
           c.take_first.new.self
-          c.targets_on-columns.result starts any (any || c.write_behind-changed.result) c.recall_shape.ensures
+          c.targets_on-columns.result starts any (any || c.write_behind-changed.result) c.recall_shape.ensures.shape
           high c.loop-row.invariant.rewritten
           c.in-Some.ensures.some c.loop-row.invariant.among c.targets_on-columns.ensures (ap (λ
           (r : Rewritten). r.grid) made)
@@ -74,7 +74,7 @@ returns-clause-rewritten g c =
     let becomes : List Slot → List Slot = cell_written (write_in_room (g.B.Board.table c.args.board.now)
     (write_shown c.args.write.now)) in
     all_rows_behind start becomes c.args.axis c.args.steps c.args.rows c.loop-row.left c.args.room.now.starts.items
-    (told (g.B.Board.grid c.loop-row.board) c.loop-row.changed) c.recall_shape.ensures
+    (told (g.B.Board.grid c.loop-row.board) c.loop-row.changed) c.recall_shape.ensures.shape
     (c.in_default.ensures.none refl) c.loop-row.invariant.rewritten
 
 pub returns-clause-sides : goal.returns-clause-sides

@@ -28,7 +28,7 @@ returns-clause-grid g c =
     let start : Grid = g.B.Board.grid c.args.board.now in
     let becomes : List Slot → List Slot = cell_written (write_in_room (g.B.Board.table c.args.board.now) (write_shown c.args.write.now)) in
     let on : c.args.wanted ≡ true = search rules in
-    let low : c.args.cell < length start.cells = rw c.recall_shape.ensures.cells c.requires in
+    let low : c.args.cell < length start.cells = rw c.recall_shape.ensures.shape.cells c.requires in
     c.write_cell.ensures.grid ∙ sym (ap (λ (r : Rewritten). r.grid) (if-written start becomes c.args.wanted c.args.cell on low))
 
 pub returns-clause-changed : goal.returns-clause-changed
@@ -36,5 +36,5 @@ returns-clause-changed g c =
     let start : Grid = g.B.Board.grid c.args.board.now in
     let becomes : List Slot → List Slot = cell_written (write_in_room (g.B.Board.table c.args.board.now) (write_shown c.args.write.now)) in
     let on : c.args.wanted ≡ true = search rules in
-    let low : c.args.cell < length start.cells = rw c.recall_shape.ensures.cells c.requires in
+    let low : c.args.cell < length start.cells = rw c.recall_shape.ensures.shape.cells c.requires in
     c.write_cell.ensures.changed ∙ sym (ap (λ (r : Rewritten). c.args.changed || r.changed) (if-written start becomes c.args.wanted c.args.cell on low))

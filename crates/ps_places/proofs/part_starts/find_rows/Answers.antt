@@ -27,8 +27,8 @@ loop-row-init g c =
       long = refl;
     }
 
-pub starts_on_row-columns-requires : goal.starts_on_row-columns-requires
-starts_on_row-columns-requires g c = taken_below c.loop-row.left c.take_first.new.self _ c.in-Some.row
+pub starts_on_row-columns-requires-clause-row : goal.starts_on_row-columns-requires-clause-row
+starts_on_row-columns-requires-clause-row g c = taken_below c.loop-row.left c.take_first.new.self _ c.in-Some.row
     c.in-Some.ensures.some c.loop-row.invariant.low
 
 pub loop-row-preserved : goal.loop-row-preserved

@@ -1,5 +1,5 @@
 use Rattle.std.proofs.Common.{◌∙◌, sym, ap}
-use Rattle.ps_board.specs.ColumnSets.{columns_without, set_columns}
+use Rattle.ps_board.specs.ColumnSets.{set_columns}
 use Rattle.ps_places.proofs.Positions.{behind-none, behind-some}
 use Rattle.ps_places.proofs.parts.behind_position.Goals as goal
 
@@ -8,5 +8,4 @@ returns-then-from g c = ap set_columns c.none.ensures ∙ sym (behind-none c.arg
 
 pub returns : goal.returns
 returns g c =
-    ap set_columns (c.without.ensures ∙ ap (columns_without c.args.set) c.below.ensures)
-    ∙ behind-some c.args.set c.args.from
+    ap set_columns c.not_below.ensures ∙ behind-some c.args.set c.args.from

@@ -32,9 +32,7 @@ returns-in-Right-clause-rewritten g c =
     let chosen : List Bool → ℕ → Bool = is_on_row grid.height c.args.row in
     let moved : List Bool = columns_ahead c.args.columns c.args.steps in
     ap (λ (r : Rewritten). let after : Rewritten = record { grid = r.grid; changed = c.args.changed || r.changed } in
-    after) c.rewrite-in-Right.ensures.rewritten
-    ∙ ap (λ (columns : List Bool). then_where before (cell_meaning table cell).rewritten (chosen columns))
-    c.ahead.ensures
+    after) c.rewrite_ahead.ensures.rewritten
     ∙ sym (ap (λ (b : Bool). if_changes b (then_where before (cell_meaning table cell).rewritten (chosen moved)) before)
     does)
     ∙ ap (λ (axis : Axis). cell_changed before table axis c.args.row c.args.columns c.args.steps cell)

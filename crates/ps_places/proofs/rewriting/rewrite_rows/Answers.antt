@@ -59,7 +59,7 @@ pub returns-clause-rewritten : goal.returns-clause-rewritten
 returns-clause-rewritten g c =
     let start : Grid = g.B.Board.grid c.args.board.now in
     let table : Option (List ℕ) = g.B.Board.table c.args.board.now in
-    c.loop-row.invariant.rewritten c.recall_shape.ensures c.requires.whole c.requires.starts c.requires.alone
-    ∙ all_done start table c.args.axis c.args.part.now c.args.rows c.args.starts.now c.recall_shape.ensures
+    c.loop-row.invariant.rewritten c.recall_shape.ensures.shape c.requires.whole c.requires.starts c.requires.alone
+    ∙ all_done start table c.args.axis c.args.part.now c.args.rows c.args.starts.now c.recall_shape.ensures.shape
     c.requires.whole c.requires.starts c.requires.alone
     c.loop-row.left (c.in_default.ensures.none refl)

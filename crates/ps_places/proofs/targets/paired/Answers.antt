@@ -1,7 +1,7 @@
 use Rattle.std.proofs.Common.{◌≡◌, false, true, sym, rules, subst, Bool}
 use Rattle.ps_places.specs.PartTargets.{is_paired}
 use Rattle.ps_places.specs.Starts.{AreWhere}
-use Rattle.ps_places.proofs.TargetColumns.{paired-following, paired-leading}
+use Rattle.ps_places.proofs.TargetColumns.{paired-leading}
 use Rattle.ps_places.proofs.targets.paired.Goals as goal
 
 pub returns-then-leads : goal.returns-then-leads
@@ -15,6 +15,4 @@ pub returns-else-leads : goal.returns-else-leads
 returns-else-leads g c =
     let no : c.args.leads ≡ false = search rules in
     subst (λ (leads : Bool). AreWhere (is_paired leads c.args.size c.args.fronts c.args.backs)
-    c.both-else-leads.result) (sym no)
-    (paired-following c.args.size c.args.fronts c.args.backs c.from_first.result c.ahead.result
-    c.both-else-leads.result c.from_first.ensures c.ahead.ensures c.both-else-leads.ensures)
+    c.behind_first.result) (sym no) c.behind_first.ensures

@@ -5,7 +5,7 @@ use Rattle.ps_places.proofs.targets.up_to.Goals as goal
 pub loop-steps-init : goal.loop-steps-init
 loop-steps-init g c = record {
   some = omega arith;
-  reach = reach-init c.args.set c.below.result c.both-reach.result c.below.ensures c.both-reach.ensures;
+  reach = reach-init c.args.set c.both-reach.result c.both-reach.ensures;
 }
 
 pub loop-steps-preserved : goal.loop-steps-preserved

@@ -16,7 +16,7 @@ use Rattle.ps_stage.proofs.loading.load.Goals as goal
 pub fill_cell-requires-clause-shape : goal.fill_cell-requires-clause-shape
 fill_cell-requires-clause-shape g c =
     let within : c.loop-cell.cell < length c.args.level.now.cells = rw (← c.cells-cells.ensures) c.loop-cell-test.true in
-    rw c.loop-cell.invariant.loaded (partly_shape c.args.names.now c.args.level.now c.loop-cell.cell c.requires (omega arith))
+    rw c.loop-cell.invariant.loaded (partly_shape c.args.names.now c.args.level.now c.loop-cell.cell c.requires.playable (omega arith))
 
 pub loop-cell-preserved : goal.loop-cell-preserved
 loop-cell-preserved g c =
@@ -30,7 +30,7 @@ loop-cell-preserved g c =
           c.fill_cell.ensures.filled
           ∙ ap (λ (os : List ObjectId). grid_with_cell (g.B.Board.grid c.loop-cell.board) c.loop-cell.cell (fold put (cell_at (g.B.Board.grid c.loop-cell.board) c.loop-cell.cell) os)) objects
           ∙ ap (λ (h : Grid). grid_with_cell h c.loop-cell.cell (fold put (cell_at h c.loop-cell.cell) (get_or level.cells c.loop-cell.cell []))) c.loop-cell.invariant.loaded
-          ∙ one_more_loaded names level c.loop-cell.cell c.requires within;
+          ∙ one_more_loaded names level c.loop-cell.cell c.requires.playable within;
       room = rw c.fill_cell.ensures.table c.loop-cell.invariant.room;
       table = c.fill_cell.ensures.table ∙ c.loop-cell.invariant.table;
     }
@@ -46,7 +46,7 @@ loop-cell-init g c =
 pub returns-clause-loaded : goal.returns-clause-loaded
 returns-clause-loaded g c =
     let all : length c.args.level.now.cells ≤ c.loop-cell.cell = rw (← c.cells-cells.ensures) c.loop-cell-test.false in
-    c.loop-cell.invariant.loaded ∙ all_loaded c.args.names.now c.args.level.now c.loop-cell.cell c.requires all
+    c.loop-cell.invariant.loaded ∙ all_loaded c.args.names.now c.args.level.now c.loop-cell.cell c.requires.playable all
 
 pub returns-clause-table : goal.returns-clause-table
 returns-clause-table g c = c.loop-cell.invariant.table

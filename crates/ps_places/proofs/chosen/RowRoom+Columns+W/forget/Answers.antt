@@ -33,8 +33,8 @@ returns g c = λ height.
     length-set c.as_mut_slice-starts.result.now (c.from.result * length c.as_slice.result.now) c.behind_position.result
     ∙ ap length c.as_mut_slice-starts.ensures.value ∙ sym ((c.args.self.now.starts).ok.0) in
     forgotten height c.args.row.now c.args.self.now _ c.behind_position.result c.requires left
-    (c.without-self.ensures
-    ∙ ap (columns_without c.args.self.now.lines) (c.below.ensures ∙ ap columns_below c.from-2.ensures))
+    (c.not_below-self.ensures
+    ∙ ap (λ (n : ℕ). columns_without c.args.self.now.lines (columns_below n)) c.from-2.ensures)
     (with_items_is c.args.self.now.starts written long
     ∙ ap₂ (λ (ss : List (List Bool)) (n : ℕ). slice_set ss n c.behind_position.result)
     c.as_mut_slice-starts.ensures.value at)

@@ -86,7 +86,7 @@ loop-number-preserved g c =
     let high : (before.grid).height ≡ height = ap (λ (s : ℕ × ℕ × ℕ). s.1) c.loop-number.invariant.sides in
     let still : (after.grid).height ≡ (before.grid).height =
     ap (λ (s : ℕ × ℕ × ℕ). s.1) c.rewrite_fitting_part-any.ensures.sides in
-    let some : 0 < (before.grid).height = rw high c.recall_shape.ensures.some_row in
+    let some : 0 < (before.grid).height = rw high c.recall_shape.ensures.shape.some_row in
     let wrote : after ≡ rewritten_along before (part_meaning table part)
     (line_cells axis (before.grid).height line (get_or way number 0) (length part)) =
     c.rewrite_fitting_part-any.ensures.rewritten

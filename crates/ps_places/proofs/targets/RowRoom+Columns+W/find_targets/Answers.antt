@@ -16,4 +16,4 @@ returns-then-first g c =
     ∙ get_or_default parts 0 c.index-parts-0.result [] (omega (arith, c.requires)) in
     let long : SIDE_LIMIT ≤ length (part_of parts 0) = omega (arith, c.if-first.true, ap length first) in
     none-kept (g.B.Board.grid c.args.board.now) (g.B.Board.table c.args.board.now) c.args.row.now.axis c.args.leads
-    (part_of parts 0) (part_of parts 1) c.none.result _ c.recall_shape.ensures long c.none.ensures
+    (part_of parts 0) (part_of parts 1) c.none.result _ c.recall_shape.ensures.shape long c.none.ensures

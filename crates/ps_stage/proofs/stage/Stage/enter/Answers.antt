@@ -7,7 +7,7 @@ use Rattle.ps_model.specs.session.StartSteps.{entered}
 use Rattle.ps_levels.specs.declared.levels.Entry.{Entry}
 use Rattle.ps_levels.specs.EntriesShown.{entry_shown}
 use Rattle.ps_stage.specs.Standings.{script_for}
-use Rattle.ps_stage.proofs.EntriesFound.{entry_found, playable_at}
+use Rattle.ps_stage.proofs.EntriesFound.{entry_found, fits_at, playable_at}
 use Rattle.ps_stage.proofs.stage.Stage.enter.Goals as goal
 
 pub enter_level-requires-clause-playable : goal.enter_level-requires-clause-playable
@@ -15,6 +15,13 @@ enter_level-requires-clause-playable g c =
     let within : c.args.entry < length c.entries-entries.result.now = omega arith in
     playable_at c.args.self.now.game.names c.entries-entries.result.now c.args.self.now.game.entries c.args.entry _ c.in-Level.level c.entries-entries.ensures.entries within c.index-entries-entry.is
     (ap entry_shown c.in-Level.is) c.entries-entries.ensures.playable
+
+pub enter_level-requires-clause-fits : goal.enter_level-requires-clause-fits
+enter_level-requires-clause-fits g c =
+    let within : c.args.entry < length c.entries-entries.result.now = omega arith in
+    fits_at _ c.entries-entries.result.now c.args.self.now.game.entries c.args.entry _ c.in-Level.level
+    c.entries-entries.ensures.entries within c.index-entries-entry.is (ap entry_shown c.in-Level.is)
+    c.entries-entries.ensures.fit
 
 pub returns-in_ok-tell-in-Message-clause-came : goal.returns-in_ok-tell-in-Message-clause-came
 returns-in_ok-tell-in-Message-clause-came g c =
