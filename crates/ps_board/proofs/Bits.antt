@@ -1,7 +1,7 @@
 -- The bits of a word: joined with those of another, set and cleared, moved, and the lowest one taken out.
 use Rattle.std.proofs.Common.{◌≡◌, ◌≢◌, ◌∙◌, ℕ, ◌+◌, ◌-◌, ◌*◌, ◌/◌, ◌%◌, ◌^◌, ◌<◌}
 use Rattle.std.proofs.Common.{◌≤◌, ◌&&◌, ◌||◌, ◌⊎◌, inl, inr, not, suc, zero, Bool}
-use Rattle.std.proofs.Common.{true, false, min, max, refl, sym, ap, arith, bit_or, w64}
+use Rattle.std.proofs.Common.{true, false, min, max, refl, sym, ap, arith, bit_or, bit_xor, w64}
 use Rattle.std.specs.Prelude.{nat_eq, nat_lt, if◌then◌else◌, bit_and}
 use Rattle.std.specs.Int.{bit_at, bit_not}
 use Rattle.std.proofs.Math.Bool.{and-false}
@@ -12,7 +12,7 @@ use Rattle.std.proofs.lemmas.Bool.Decides.{nat_tests}
 use Rattle.std.proofs.lemmas.Nat.Bits.{bit_at_above, bit_at_ones, bit_at_ones_above}
 use Rattle.std.proofs.lemmas.Nat.Bits.{bit_at-zero, ones_shr, same_from_bits}
 use Rattle.std.proofs.lemmas.Nat.Bits.{bit_at_set_same, bit_at_set_other, bit_at_clear_same, bit_at_clear_other}
-use Rattle.std.proofs.lemmas.Nat.Bits.{bit_at-lt, bit_at_and, bit_at_or, bit_at_not}
+use Rattle.std.proofs.lemmas.Nat.Bits.{bit_at-lt, bit_at_and, bit_at_or, bit_at_xor, bit_at_not}
 use Rattle.ps_board.specs.ColumnSets.{bit_is_set}
 
 -- a bit is 0 or 1
@@ -33,6 +33,13 @@ max_bits p q hp hq = elim (bit_value p hp) [
   | inr e ↦ elim (bit_value q hq) [ inl d ↦ rw (e, d) refl | inr d ↦ rw (e, d) refl ]
 ]
 
+sum_bits : (p q : ℕ) → p < 2 → q < 2 →
+    nat_eq ((p + q) % 2) 1 ≡ (if nat_eq p 1 then not (nat_eq q 1) else nat_eq q 1)
+sum_bits p q hp hq = elim (bit_value p hp) [
+  | inl e ↦ elim (bit_value q hq) [ inl d ↦ rw (e, d) refl | inr d ↦ rw (e, d) refl ]
+  | inr e ↦ elim (bit_value q hq) [ inl d ↦ rw (e, d) refl | inr d ↦ rw (e, d) refl ]
+]
+
 pub and_bit : (a b x : ℕ) → bit_is_set (bit_and a b) x ≡ (bit_is_set a x && bit_is_set b x)
 and_bit a b x = ap (λ (bit : ℕ). nat_eq bit 1) (bit_at_and a b x)
     ∙ min_bits (bit_at a x) (bit_at b x) (bit_at-lt a x) (bit_at-lt b x)
@@ -40,6 +47,11 @@ and_bit a b x = ap (λ (bit : ℕ). nat_eq bit 1) (bit_at_and a b x)
 pub or_bit : (a b x : ℕ) → bit_is_set (bit_or a b) x ≡ (bit_is_set a x || bit_is_set b x)
 or_bit a b x = ap (λ (bit : ℕ). nat_eq bit 1) (bit_at_or a b x)
     ∙ max_bits (bit_at a x) (bit_at b x) (bit_at-lt a x) (bit_at-lt b x)
+
+pub xor_bit : (a b x : ℕ) → bit_is_set (bit_xor a b) x
+    ≡ (if bit_is_set a x then not (bit_is_set b x) else bit_is_set b x)
+xor_bit a b x = ap (λ (bit : ℕ). nat_eq bit 1) (bit_at_xor a b x)
+    ∙ sum_bits (bit_at a x) (bit_at b x) (bit_at-lt a x) (bit_at-lt b x)
 
 -- the bits of a word turned round
 not_bit : (word x : ℕ) → word < 2 ^ 64 → x < 64 → bit_is_set (18446744073709551615 - word) x ≡ not (bit_is_set word x)

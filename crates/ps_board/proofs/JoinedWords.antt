@@ -4,7 +4,7 @@ use Rattle.std.proofs.Common.{true, false, List, length, refl, sym, ap₂, arith
 use Rattle.std.specs.Prelude.{nat_lt}
 use Rattle.std.proofs.lemmas.Bool.Decides.{nat_tests}
 use Rattle.ps_board.specs.declared.many_words.Joining.{Joining}
-use Rattle.ps_board.specs.declared.many_words.Joining.TheVariants.{Both, Either, Without}
+use Rattle.ps_board.specs.declared.many_words.Joining.TheVariants.{Both, Either, Without, Unlike}
 use Rattle.ps_board.specs.ColumnSets.{bit_is_set, column_at}
 use Rattle.ps_board.specs.WordLists.{word_at, words_columns, words_have}
 use Rattle.ps_board.specs.Joinings.{joined, joined_columns, words_joined}
@@ -16,6 +16,7 @@ joined-none : (joining : Joining) → joined joining false false ≡ false
 joined-none Both = refl
 joined-none Either = refl
 joined-none Without = refl
+joined-none Unlike = refl
 
 pub joined_tells : (joining : Joining) (words others : List ℕ) (index word : ℕ) →
     ((x : ℕ) → x < 64 → bit_is_set word x

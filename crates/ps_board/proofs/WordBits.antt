@@ -1,20 +1,20 @@
 -- Sets of columns as the bits of one word.
 use Rattle.std.proofs.Common.{◌≡◌, ◌≢◌, ◌∙◌, ℕ, ◌+◌, ◌-◌, ◌*◌, ◌/◌, ◌%◌, ◌^◌, ◌<◌, ◌≤◌, ◌&&◌, ◌||◌, not, Bool, true, false}
-use Rattle.std.proofs.Common.{List, [], ◌∷◌, length, refl, sym, ap, ap₂, arith, bit_or, w64}
+use Rattle.std.proofs.Common.{List, [], ◌∷◌, length, refl, sym, ap, ap₂, arith, bit_or, bit_xor, w64}
 use Rattle.std.specs.Prelude.{nat_eq, nat_le, nat_lt, if◌then◌else◌, bit_and}
 use Rattle.std.specs.Int.{bit_at, bit_not, trailing_zeros}
 use Rattle.std.proofs.Math.Bool.{and-false, and-true}
 use Rattle.std.proofs.Math.Nat.{mod-lt}
 use Rattle.std.proofs.lemmas.Bool.Decides.{nat_tests}
-use Rattle.std.proofs.lemmas.Nat.{and_le_l, or_lt}
+use Rattle.std.proofs.lemmas.Nat.{and_le_l, or_lt, xor_lt}
 use Rattle.std.proofs.lemmas.Nat.Bits.{bit_at-zero, bit_at-trailing_zeros, bit_at_clear_same, bit_at_clear_other}
 use Rattle.std.proofs.lemmas.Nat.Bits.{shr_and_one}
 use Rattle.ps_model.specs.declared.limits.TheConstants.{SIDE_LIMIT}
 use Rattle.ps_board.specs.ColumnSets.{column_at, set_columns, bit_is_set, word_columns, with_column, both_columns}
 use Rattle.ps_board.specs.ColumnSets.{either_columns, columns_ahead, columns_behind, columns_below, columns_without}
-use Rattle.ps_board.specs.ColumnSets.{no_columns}
+use Rattle.ps_board.specs.ColumnSets.{no_columns, unlike_columns}
 use Rattle.ps_board.proofs.Bits.{and_bit, clear_bit, low_bit, minus_bit, moved_bit, no_bit_above, or_bit}
-use Rattle.ps_board.proofs.Bits.{raised_high, raised_low, set_bit}
+use Rattle.ps_board.proofs.Bits.{raised_high, raised_low, set_bit, xor_bit}
 use Rattle.ps_board.proofs.ColumnLaws.{column_at-where, column_at-all, columns-agree}
 use Rattle.ps_board.proofs.ColumnLaws.{set_columns-first, set_columns-none}
 
@@ -42,6 +42,14 @@ or_word a b =
     columns-agree (bit_is_set (bit_or a b)) (λ x. column_at (word_columns a) x || column_at (word_columns b) x)
     (λ x low. or_bit a b x
     ∙ sym (ap₂ (λ (p q : Bool). p || q) (column_at-where (bit_is_set a) x low) (column_at-where (bit_is_set b) x low)))
+
+pub xor_word : (a b : ℕ) → word_columns (bit_xor a b) ≡ unlike_columns (word_columns a) (word_columns b)
+xor_word a b =
+    columns-agree (bit_is_set (bit_xor a b))
+    (λ x. if column_at (word_columns a) x then not (column_at (word_columns b) x) else column_at (word_columns b) x)
+    (λ x low. xor_bit a b x
+    ∙ sym (ap₂ (λ (p q : Bool). if p then not q else q) (column_at-where (bit_is_set a) x low)
+    (column_at-where (bit_is_set b) x low)))
 
 -- no bit
 pub zero_word : word_columns 0 ≡ no_columns
@@ -276,6 +284,9 @@ minus_word a b fits other =
 -- a word with more bits is still a word
 pub or_below : (a b : ℕ) → a < 2 ^ 64 → b < 2 ^ 64 → bit_or a b < 2 ^ 64
 or_below a b = or_lt 64 a b
+
+pub xor_below : (a b : ℕ) → a < 2 ^ 64 → b < 2 ^ 64 → bit_xor a b < 2 ^ 64
+xor_below a b = xor_lt 64 a b
 
 pub set_below : (word column : ℕ) → word < 2 ^ 64 → with_bit word column < 2 ^ 64
 set_below word column within = or_lt 64 word (1 * 2 ^ column % 2 ^ 64) within (mod-lt (1 * 2 ^ column) (omega arith))

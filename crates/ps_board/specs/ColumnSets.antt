@@ -54,6 +54,11 @@ either_columns columns others = columns_where (λ x. column_at columns x || colu
 abbrev pub columns_without : List Bool → List Bool → List Bool
 columns_without columns others = columns_where (λ x. column_at columns x && not (column_at others x))
 
+-- the columns that are in one of two sets alone
+abbrev pub unlike_columns : List Bool → List Bool → List Bool
+unlike_columns columns others =
+    columns_where (λ x. if column_at columns x then not (column_at others x) else column_at others x)
+
 -- the columns so many of whose neighbours to the right on is one of the set
 abbrev pub columns_behind : List Bool → ℕ → List Bool
 columns_behind columns count = columns_where (λ x. column_at columns (x + count))

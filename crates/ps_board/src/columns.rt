@@ -4,7 +4,7 @@ ghost use Rattle.std.specs.Prelude.{◌≡◌, ◌<◌, ◌≤◌, [], ◌∷◌
 ghost use Rattle.ps_model.specs.declared.limits.TheConstants.{SIDE_LIMIT};
 ghost use Rattle.ps_board.specs.ColumnSets.{both_columns, column_at, columns_ahead, columns_behind};
 ghost use Rattle.ps_board.specs.ColumnSets.{columns_below, columns_without, either_columns};
-ghost use Rattle.ps_board.specs.ColumnSets.{no_columns, set_columns, with_column, word_columns};
+ghost use Rattle.ps_board.specs.ColumnSets.{no_columns, set_columns, unlike_columns, with_column, word_columns};
 
 use crate::one_word::OneWord;
 use crate::words::ColumnWords;
@@ -111,6 +111,15 @@ impl<W: ColumnWords> Columns<W> {
     {
         Columns {
             words: self.words.without(other.words),
+        }
+    }
+
+    /// The columns that are in one of the sets alone.
+    pub fn unlike(self, other: Columns<W>) -> Columns<W>
+        ensures { result ≡ unlike_columns self other }
+    {
+        Columns {
+            words: self.words.unlike(other.words),
         }
     }
 

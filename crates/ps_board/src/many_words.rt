@@ -46,6 +46,7 @@ enum Joining {
     Both,
     Either,
     Without,
+    Unlike,
 }
 
 /// Two words joined bit by bit.
@@ -57,6 +58,7 @@ fn joined_word(joining: Joining, first: u64, second: u64) -> u64
         Joining::Both => first & second,
         Joining::Either => first | second,
         Joining::Without => first & !second,
+        Joining::Unlike => first ^ second,
     }
 }
 
@@ -207,6 +209,10 @@ impl<const COUNT: usize> ColumnWords for ManyWords<COUNT> {
 
     fn without(self, other: ManyWords<COUNT>) -> ManyWords<COUNT> {
         self.joined(other, Joining::Without)
+    }
+
+    fn unlike(self, other: ManyWords<COUNT>) -> ManyWords<COUNT> {
+        self.joined(other, Joining::Unlike)
     }
 
     fn not_below(self, count: u32) -> ManyWords<COUNT> {

@@ -117,6 +117,12 @@ impl ColumnWords for OneWord {
         }
     }
 
+    fn unlike(self, other: OneWord) -> OneWord {
+        OneWord {
+            bits: self.bits ^ other.bits,
+        }
+    }
+
     fn not_below(self, count: u32) -> OneWord {
         let bits = self.bits;
         if WORD_BITS <= count {

@@ -4,7 +4,7 @@ ghost use Rattle.std.specs.Prelude.{◌≡◌, ℕ, ◌<◌, ◌≤◌, Bool, Li
 ghost use Rattle.ps_model.specs.declared.limits.TheConstants.{SIDE_LIMIT};
 ghost use Rattle.ps_board.specs.ColumnSets.{both_columns, column_at, columns_ahead, columns_behind};
 ghost use Rattle.ps_board.specs.ColumnSets.{columns_below, columns_without, either_columns};
-ghost use Rattle.ps_board.specs.ColumnSets.{no_columns, set_columns, with_column};
+ghost use Rattle.ps_board.specs.ColumnSets.{no_columns, set_columns, unlike_columns, with_column};
 
 /// The words that keep a set of columns, of `limit` columns at most: a kind of board has as many as its widest row
 /// needs. [`Columns`](crate::Columns) says what each of these does.
@@ -55,6 +55,10 @@ pub trait ColumnWords: Copy + Drop {
     /// The columns of the set that aren't in another.
     fn without(self, other: Self) -> Self
         ensures { columns result ≡ columns_without (columns self) (columns other) };
+
+    /// The columns that are in one of the sets alone.
+    fn unlike(self, other: Self) -> Self
+        ensures { columns result ≡ unlike_columns (columns self) (columns other) };
 
     /// The columns of the set that aren't below a number.
     fn not_below(self, count: u32) -> Self
