@@ -4,4 +4,4 @@ use Rattle.ps_rows.proofs.planes.Planes.set_cell.Goals as goal
 
 pub returns-clause-words : goal.returns-clause-words
 unfolding with_cell
-returns-clause-words c = rw (c.set_row.ensures.words, c.with_column-word.ensures, c.row.ensures) refl
+returns-clause-words g c = rw (c.set_row.ensures.words, c.with_column-word.ensures, c.row.ensures) refl

@@ -15,12 +15,12 @@ abbrev has_one : List Slot → List LayeredObject → Bool
 has_one cell objects = list_any (is_held_in cell) objects
 
 pub loop-objects-init : goal.loop-objects-init
-loop-objects-init c =
+loop-objects-init g c =
     let b = c.args.self.now in
     all_none (grid_shown b.members.table.items b.width b.planes.height b.layers b.planes.words.items) c.args.row has_one b.columns
 
 pub loop-objects-preserved : goal.loop-objects-preserved
-loop-objects-preserved c =
+loop-objects-preserved g c =
     let b = c.args.self.now in
     let g : Grid = grid_shown b.members.table.items b.width b.planes.height b.layers b.planes.words.items in
     let at_index = c.loop-objects.objects-index in
@@ -30,7 +30,7 @@ loop-objects-preserved c =
     (subst P (c.as_slice.ensures ∙ c.objects-item.is) c.any_row-word.ensures)
 
 pub returns : goal.returns
-returns c =
+returns g c =
     let b = c.args.self.now in
     let end : length c.args.lists.now ≤ c.loop-objects.objects-index = omega arith in
     let P : List (List LayeredObject) → Type 0 =

@@ -4,15 +4,16 @@ use Rattle.ps_model.specs.declared.compiled.LayeredObject.{LayeredObject}
 use Rattle.ps_model.specs.declared.compiled.MotionTest.{MotionTest}
 use Rattle.ps_model.specs.board.Grid.{Grid}
 use Rattle.ps_program.specs.ProgramShown.{mask_shown}
-use Rattle.ps_rows.specs.Planes.{has_column}
 use Rattle.ps_rows.specs.Showing.{grid_shown}
 use Rattle.ps_rows.specs.RowTests.{IsRowOf, held_all, held_any, held_of_each, moved_all}
 use Rattle.ps_rows.proofs.Absent.{mask_nowhere, none_within}
 use Rattle.ps_rows.proofs.Scans.{mask_inside, mask_within}
+use Rattle.ps_board.specs.ColumnSets.{column_at}
+use Rattle.ps_model.specs.declared.limits.TheConstants.{SIDE_LIMIT}
 use Rattle.ps_rows.proofs.row_board.RowBoard.mask_row.Goals as goal
 
 pub returns-then-needed-eq0-clause-inside : goal.returns-then-needed-eq0-clause-inside
-returns-then-needed-eq0-clause-inside c =
+returns-then-needed-eq0-clause-inside g c =
     let b = c.args.self.now in
     let g : Grid = grid_shown b.members.table.items b.width b.planes.height b.layers b.planes.words.items in
     let Needed : ℕ → Type 0 = λ word. IsRowOf g c.args.row word (held_all (mask_shown c.args.mask.now).needed) in
@@ -20,16 +21,16 @@ returns-then-needed-eq0-clause-inside c =
     mask_nowhere g c.args.row (mask_shown c.args.mask.now) (subst Needed c.if-needed-eq0.true (subst Listed c.as_slice.ensures c.all_row-needed.ensures))
 
 pub returns-then-needed-eq0-clause-within : goal.returns-then-needed-eq0-clause-within
-returns-then-needed-eq0-clause-within c =
+returns-then-needed-eq0-clause-within g c =
     let b = c.args.self.now in
     none_within (grid_shown b.members.table.items b.width b.planes.height b.layers b.planes.words.items)
 
 pub returns-clause-inside : goal.returns-clause-inside
-returns-clause-inside c =
+returns-clause-inside g c =
     let b = c.args.self.now in
     let g : Grid = grid_shown b.members.table.items b.width b.planes.height b.layers b.planes.words.items in
     let row : ℕ = c.args.row in
-    let wide : (x : ℕ) → x < 64 → has_column c.columns.result x ≡ nat_lt x b.width = λ x h. c.columns.ensures x h ∙ ap (nat_lt x) c.size-width.ensures.width in
+    let wide : (x : ℕ) → x < SIDE_LIMIT → column_at c.columns.result x ≡ nat_lt x b.width = λ x h. c.columns.ensures x h ∙ ap (nat_lt x) c.size-width.ensures.width in
     let fits : c.any_row-barred.result < 2 ^ 64 = search rules in
     let Needed : List LayeredObject → Type 0 = λ xs. IsRowOf g row c.all_row-needed.result (held_all xs) in
     let Barred : List LayeredObject → Type 0 = λ xs. IsRowOf g row c.any_row-barred.result (held_any xs) in
@@ -40,8 +41,8 @@ returns-clause-inside c =
     (subst Listed c.as_slice-3.ensures c.lists_row-listed.ensures) (subst Moving c.as_slice-4.ensures c.motions_row-moving.ensures)
 
 pub returns-clause-within : goal.returns-clause-within
-returns-clause-within c =
+returns-clause-within g c =
     let b = c.args.self.now in
     let g : Grid = grid_shown b.members.table.items b.width b.planes.height b.layers b.planes.words.items in
-    let wide : (x : ℕ) → x < 64 → has_column c.columns.result x ≡ nat_lt x b.width = λ x h. c.columns.ensures x h ∙ ap (nat_lt x) c.size-width.ensures.width in
+    let wide : (x : ℕ) → x < SIDE_LIMIT → column_at c.columns.result x ≡ nat_lt x b.width = λ x h. c.columns.ensures x h ∙ ap (nat_lt x) c.size-width.ensures.width in
     mask_within g c.columns.result c.all_row-needed.result (18446744073709551615 - c.any_row-barred.result) c.lists_row-listed.result c.motions_row-moving.result wide

@@ -5,13 +5,13 @@ use Rattle.ps_rows.proofs.Scans.{beyond_row, moving_row_is, resting_row_is}
 use Rattle.ps_rows.proofs.row_board.RowBoard.motion_row.Goals as goal
 
 pub returns-then-layers-test : goal.returns-then-layers-test
-returns-then-layers-test c =
+returns-then-layers-test g c =
     let b = c.args.self.now in
     let off : b.layers ≤ (c.args.test.now.layer).0 = omega arith in
     beyond_row b.members.table.items b.width b.planes.height b.layers b.planes.words.items c.args.row b.planes.some_row b.columns c.requires c.args.test.now c.still_row.result off c.still_row.ensures
 
 pub returns-in-Some : goal.returns-in-Some
-returns-in-Some c =
+returns-in-Some g c =
     let b = c.args.self.now in
     let test = c.args.test.now in
     let on : (test.layer).0 < b.layers = omega arith in
@@ -20,7 +20,7 @@ returns-in-Some c =
     moving_row_is b.members.table.items b.width b.planes.height b.layers b.planes.words.items c.args.row b.planes.some_row b.columns c.requires test c.row.result c.in-Some.plane b.motions on asked c.row.ensures
 
 pub returns-in-None : goal.returns-in-None
-returns-in-None c =
+returns-in-None g c =
     let b = c.args.self.now in
     let test = c.args.test.now in
     let on : (test.layer).0 < b.layers = omega arith in

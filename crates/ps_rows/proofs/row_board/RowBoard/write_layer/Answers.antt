@@ -10,17 +10,17 @@ use Rattle.ps_rows.proofs.LayerWritten.{listed_below, motions_again, motions_lef
 use Rattle.ps_rows.proofs.row_board.RowBoard.write_layer.Goals as goal
 
 pub change_layer-requires-clause-planes : goal.change_layer-requires-clause-planes
-change_layer-requires-clause-planes c =
+change_layer-requires-clause-planes g c =
     let b = c.args.self.now in
     rw c.of-places.ensures (planes_whole b.members.table.items b.layers b.planes.height b.planes.words.items c.args.layer (sym b.planes.words.ok.0 ∙ b.whole))
 
 pub change_layer-requires-clause-below : goal.change_layer-requires-clause-below
-change_layer-requires-clause-below c =
+change_layer-requires-clause-below g c =
     let b = c.args.self.now in
     listed_below b.members.table.items c.args.layer c.of-places.result.now c.motions_from-first.result c.of-places.ensures c.motions_from-first.ensures.first
 
 pub invariant_of-self-clause-objects : goal.invariant_of-self-clause-objects
-invariant_of-self-clause-objects c =
+invariant_of-self-clause-objects g c =
     let b = c.args.self.now in
     let table : List ℕ = b.members.table.items in
     let after : ℕ → Slot → Slot = slot_after (write_in_room (Some table) (write_shown c.args.write.now)) in
@@ -32,7 +32,7 @@ invariant_of-self-clause-objects c =
     rw c.change_layer.ensures.height (objects_again table b.width b.planes.height b.layers b.planes.words.items c.change_layer.new.planes.words.items c.args.layer c.args.row c.args.columns after c.layer_change.result.0 c.layer_change.result.1 b.planes.some_row b.columns c.requires.row c.requires.layer c.layer_change.ensures made b.objects b.motions)
 
 pub invariant_of-self-clause-motions : goal.invariant_of-self-clause-motions
-invariant_of-self-clause-motions c =
+invariant_of-self-clause-motions g c =
     let b = c.args.self.now in
     let table : List ℕ = b.members.table.items in
     let after : ℕ → Slot → Slot = slot_after (write_in_room (Some table) (write_shown c.args.write.now)) in
@@ -44,7 +44,7 @@ invariant_of-self-clause-motions c =
     rw c.change_layer.ensures.height (motions_again table b.width b.planes.height b.layers b.planes.words.items c.change_layer.new.planes.words.items c.args.layer c.args.row c.args.columns after c.layer_change.result.0 c.layer_change.result.1 b.planes.some_row b.columns c.requires.row c.requires.layer c.layer_change.ensures made b.objects b.motions)
 
 pub returns-clause-slots : goal.returns-clause-slots
-returns-clause-slots c =
+returns-clause-slots g c =
     let b = c.args.self.now in
     let table : List ℕ = b.members.table.items in
     let after : ℕ → Slot → Slot = slot_after (write_in_room (Some table) (write_shown c.args.write.now)) in
@@ -56,7 +56,7 @@ returns-clause-slots c =
     rw c.change_layer.ensures.height (slots_written table b.width b.planes.height b.layers b.planes.words.items c.change_layer.new.planes.words.items c.args.layer c.args.row c.args.columns after c.layer_change.result.0 c.layer_change.result.1 b.planes.some_row b.columns c.requires.row c.requires.layer c.layer_change.ensures made b.objects b.motions)
 
 pub returns-clause-quiet : goal.returns-clause-quiet
-returns-clause-quiet c = λ none.
+returns-clause-quiet g c = λ none.
     let b = c.args.self.now in
     let table : List ℕ = b.members.table.items in
     let after : ℕ → Slot → Slot = slot_after (write_in_room (Some table) (write_shown c.args.write.now)) in
@@ -68,7 +68,7 @@ returns-clause-quiet c = λ none.
     slots_left table b.width b.planes.height b.layers b.planes.words.items c.change_layer.new.planes.words.items c.args.layer c.args.row c.args.columns after c.layer_change.result.0 c.layer_change.result.1 b.planes.some_row b.columns c.requires.row c.requires.layer c.layer_change.ensures made b.objects b.motions (c.change_layer.ensures.quiet none)
 
 pub returns-clause-left : goal.returns-clause-left
-returns-clause-left c = λ all.
+returns-clause-left g c = λ all.
     let b = c.args.self.now in
     let table : List ℕ = b.members.table.items in
     let after : ℕ → Slot → Slot = slot_after (write_in_room (Some table) (write_shown c.args.write.now)) in

@@ -5,14 +5,14 @@ use Rattle.ps_rows.proofs.SameRows.{columns_alike, itself_alike}
 use Rattle.ps_rows.proofs.row_board.RowBoardBoard.alike.Goals as goal
 
 pub returns-clause-own : goal.returns-clause-own
-returns-clause-own c =
+returns-clause-own g c =
     let b = c.args.self.now in
     let fits : c.unlike_row-unlike.result < 2 ^ 64 = search rules in
     ap (λ (set : List Bool). column_at set c.args.column) c.from_word.ensures
     ∙ itself_alike b.width c.columns.result c.unlike_row-unlike.result c.args.column c.requires.column b.columns fits c.columns.ensures c.unlike_row-unlike.ensures.0
 
 pub returns-clause-alike : goal.returns-clause-alike
-returns-clause-alike c =
+returns-clause-alike g c =
     let b = c.args.self.now in
     let fits : c.unlike_row-unlike.result < 2 ^ 64 = search rules in
     let IsUnlike : ℕ → Type 0 = λ count. HasUnlikeOf b.planes.height c.args.row count b.planes.words.items c.args.column c.unlike_row-unlike.result in

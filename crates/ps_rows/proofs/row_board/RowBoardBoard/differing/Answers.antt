@@ -4,7 +4,7 @@ use Rattle.ps_rows.proofs.SameRows.{others_same}
 use Rattle.ps_rows.proofs.row_board.RowBoardBoard.differing.Goals as goal
 
 pub returns : goal.returns
-returns c =
+returns g c =
     let b = c.args.self.now in
     let o = c.args.other.now in
     let tables : o.members.table.items ≡ b.members.table.items = same_Some o.members.table.items b.members.table.items c.requires.table in

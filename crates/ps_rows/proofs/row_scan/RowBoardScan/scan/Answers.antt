@@ -2,17 +2,14 @@ use Rattle.std.proofs.Common.{◌+◌, ◌*◌, ◌∙◌, ℕ, Bool}
 use Rattle.std.specs.Prelude.{slice_get}
 use Rattle.ps_model.specs.board.Places.{fits_there}
 use Rattle.ps_program.specs.ProgramShown.{mask_shown}
-use Rattle.ps_board.specs.ColumnSets.{bit_is_set}
 use Rattle.ps_match.specs.InRoom.{meaning_of_mask}
 use Rattle.ps_board.proofs.ColumnLaws.{columns-agree}
-use Rattle.ps_rows.specs.Planes.{has_column}
 use Rattle.ps_rows.specs.Showing.{cells_shown}
 use Rattle.ps_rows.proofs.Rows.{row_told}
 use Rattle.ps_rows.proofs.row_scan.RowBoardScan.scan.Goals as goal
 
 pub returns : goal.returns
-unfolding has_column
-returns c =
+returns g c =
     let b = c.args.self.now in
     let mask = mask_shown c.args.mask.now in
     let fits : ℕ → Bool =

@@ -13,13 +13,13 @@ use Rattle.ps_rows.proofs.Rests.{cells_long}
 use Rattle.ps_rows.proofs.row_scan.RowBoardScan.write.Goals as goal
 
 pub write_columns-here-requires-clause-within : goal.write_columns-here-requires-clause-within
-write_columns-here-requires-clause-within c =
+write_columns-here-requires-clause-within g c =
     let b = c.args.self.now in
     let inside : c.args.cell < b.width * b.planes.height = rw (c.size-width.ensures.width, c.size-width.ensures.height) at c.if-width-height.false in
     rw c.size-width.ensures.height (alone_within b.width (c.args.cell / b.planes.height) (div_below c.args.cell b.planes.height b.width b.planes.some_row inside) b.columns)
 
 pub returns-clause-rewritten : goal.returns-clause-rewritten
-returns-clause-rewritten c =
+returns-clause-rewritten g c =
     let b = c.args.self.now in
     let cell : ℕ = c.args.cell in
     let start : Grid = grid_shown b.members.table.items b.width b.planes.height b.layers b.planes.words.items in
