@@ -12,7 +12,7 @@ use Rattle.ps_model.specs.declared.compiled.LayeredObject.{LayeredObject}
 use Rattle.ps_model.specs.board.Grid.{Grid, cell_at}
 use Rattle.ps_model.specs.meaning.Compiled.{CellMask, is_held_in, mask_fits, moves_as_asked}
 use Rattle.ps_laws.proofs.common.SameThings.{is_number-true}
-use Rattle.ps_board.specs.ColumnSets.{column_at, no_columns}
+use Rattle.ps_board.specs.ColumnSets.{column_at, no_columns, set_columns}
 use Rattle.ps_match.specs.Nowhere.{IsNotOnRow, IsNowhere}
 use Rattle.ps_model.specs.board.Movement.{is_number}
 use Rattle.ps_rows.specs.RowIndex.{AreRowsMarked}
@@ -23,6 +23,7 @@ use Rattle.ps_rows.proofs.Rests.{cells_long}
 use Rattle.ps_rows.proofs.Scans.{own_row}
 use Rattle.ps_model.specs.declared.limits.TheConstants.{SIDE_LIMIT}
 use Rattle.ps_rows.specs.Planes.{row_of}
+use Rattle.ps_board.proofs.ColumnLaws.{none_in}
 
 -- no row has it
 pub nowhere_by_rows : (table : List ℕ) (width height layers : ℕ) (words : List (List Bool)) (object : LayeredObject) → 0 < height →
@@ -66,12 +67,13 @@ not_marked table width height layers words index count row object some narrow un
     own_row table width height layers words row some narrow under object no_columns shown both (sym (marked (object.object).0 row (omega arith) under clear))
 
 -- on a row where what a mask needs is nowhere, nothing fits it
-pub mask_nowhere : (g : Grid) (row : ℕ) (mask : CellMask) → IsRowOf g row no_columns (held_all mask.needed) → IsRowOf g row no_columns (mask_fits mask)
-mask_nowhere g row mask none = λ x h.
+pub mask_nowhere : (g : Grid) (row : ℕ) (needed : List Bool) (mask : CellMask) → g.width ≤ SIDE_LIMIT → set_columns needed ≡ [] → IsRowOf g row needed (held_all mask.needed) →
+    IsRowOf g row no_columns (mask_fits mask)
+mask_nowhere g row needed mask narrow none told = λ x h.
     let cell : List Slot = cell_at g (x * g.height + row) in
     let rest : Bool = not (list_any (is_held_in cell) mask.barred)
     && (list_all (λ objects. list_any (is_held_in cell) objects) mask.one_of && list_all (moves_as_asked cell) mask.motions) in
-    none_at x ∙ sym (ap (λ (b : Bool). b && rest) (sym (none x h) ∙ none_at x))
+    none_at x ∙ sym (ap (λ (b : Bool). b && rest) (sym (told x h) ∙ none_in needed x none (omega (arith, h, narrow))))
 
 pub none_within : (g : Grid) → IsWithin g no_columns
 none_within g = λ x off low. none_at x

@@ -1,5 +1,5 @@
 -- Sets of columns, column by column.
-use Rattle.std.proofs.Common.{◌≡◌, ◌≢◌, ◌∙◌, ℕ, ◌<◌, ◌≤◌, Bool, true, false, not, ◌&&◌, ◌||◌, List, [], refl, sym, ap, arith}
+use Rattle.std.proofs.Common.{◌≡◌, ◌≢◌, ◌∙◌, ℕ, ◌<◌, ◌≤◌, Bool, true, false, not, ◌&&◌, ◌||◌, List, [], refl, sym, ap, arith, length}
 use Rattle.std.specs.Prelude.{nat_eq, nat_lt, if◌then◌else◌}
 use Rattle.std.proofs.lemmas.Bool.{eq-eqb, ne_eqb, lt-ltb, or_parts, not-false}
 use Rattle.ps_model.specs.declared.limits.TheConstants.{SIDE_LIMIT}
@@ -85,3 +85,11 @@ wide_on all width narrow is x across = wide_of all width is x (omega (arith, acr
 -- two sets that differ in no column
 pub same_by_unlike : (a b : List Bool) → set_columns (unlike_columns a b) ≡ [] → (x : ℕ) → x < SIDE_LIMIT → column_at a x ≡ column_at b x
 same_by_unlike a b none x low = not_unlike a b x low (none_in (unlike_columns a b) x none low)
+
+-- a test for no columns that isn't passed where there is one
+pub true_by : (empty : Bool) (numbers : List ℕ) → (empty ≡ false → 0 < length numbers) → numbers ≡ [] → empty ≡ true
+true_by true numbers some none = refl
+true_by false numbers some none =
+    let many : 0 < length numbers = some refl in
+    let few : length numbers ≡ 0 = ap length none in
+    absurd (omega (arith, many, few))

@@ -6,6 +6,7 @@ ghost use Rattle.ps_model.specs.meaning.Compiled.{mask_fits};
 ghost use Rattle.ps_model.specs.meaning.Fitting.{same_motion};
 ghost use Rattle.ps_program.specs.ProgramShown.{mask_shown};
 ghost use Rattle.ps_board.specs.ColumnSets.{column_at};
+ghost use Rattle.ps_rows.specs.Planes.{IsSet};
 ghost use Rattle.ps_rows.specs.RowTests.{IsRowOf, IsWithin, held, held_all, held_any};
 ghost use Rattle.ps_rows.specs.RowTests.{five_rows, held_of_each, moved, moved_all};
 ghost use Rattle.ps_rows.specs.Showing.{motions_from};
@@ -121,6 +122,7 @@ impl<W: ColumnWords> RowBoard<W> {
         requires { row < self.now.planes.height }
         ensures inside { IsRowOf (⟦<RowBoard<W> as Board>⟧.grid self.now) row result (mask_fits (mask_shown mask.now)) }
         ensures within { IsWithin (⟦<RowBoard<W> as Board>⟧.grid self.now) result }
+        ensures set { IsSet result }
     {
         let needed = self.all_row(mask.needed.as_slice(), row);
         if needed.is_empty() {

@@ -1,4 +1,4 @@
-use Rattle.std.proofs.Common.{◌≡◌, ◌∙◌, ℕ, List, false, refl, sym, subst}
+use Rattle.std.proofs.Common.{◌≡◌, ◌∙◌, ℕ, List, false, refl, sym, subst, Bool}
 use Rattle.ps_rows.specs.RowChanges.{AreRowsChanged, AreRowsLeft}
 use Rattle.ps_rows.specs.Showing.{motion_planes}
 use Rattle.ps_rows.proofs.RowChanges.{layer_made, motions_whole}
@@ -26,6 +26,6 @@ pub returns-clause-left : goal.returns-clause-left
 returns-clause-left g c = λ objects motions.
     let p = c.args.planes.now in
     let none : c.change_rows-changed.result ≡ false = c.change_rows-changed.ensures.left refl objects in
-    let P : List ℕ → Type 0 = λ words. AreRowsLeft p.height c.args.row c.args.motions words (motion_planes c.args.first) in
+    let P : List (List Bool) → Type 0 = λ words. AreRowsLeft p.height c.args.row c.args.motions words (motion_planes c.args.first) in
     let H : ℕ → Type 0 = λ h. AreRowsLeft h c.args.row c.args.motions c.change_rows-changed.new.planes.words.items (motion_planes c.args.first) in
     c.change_rows.ensures.left none (subst H (sym c.change_rows-changed.ensures.height) (subst P (sym (c.change_rows-changed.ensures.quiet none)) motions))

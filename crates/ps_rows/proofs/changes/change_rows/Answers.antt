@@ -1,8 +1,9 @@
-use Rattle.std.proofs.Common.{◌≡◌, ◌∙◌, ◌<◌, ◌≤◌, ◌+◌, ◌*◌, ℕ, List, false, length, get_or, sym, refl, ap, subst, arith}
+use Rattle.std.proofs.Common.{◌≡◌, ◌∙◌, ◌<◌, ◌≤◌, ◌+◌, ◌*◌, ℕ, List, false, length, get_or, sym, refl, ap, subst, arith, Bool}
 use Rattle.std.proofs.lemmas.List.{take_all}
 use Rattle.ps_rows.specs.RowChanges.{AreRowsChanged, IsRowLeft, row_after}
 use Rattle.ps_rows.proofs.Marks.{listed_at}
 use Rattle.ps_rows.proofs.RowChanges.{changed_more, changed_none, rows_kept}
+use Rattle.ps_board.specs.ColumnSets.{set_columns}
 use Rattle.ps_rows.proofs.changes.change_rows.Goals as goal
 
 pub change_row-any-requires-clause-row : goal.change_row-any-requires-clause-row
@@ -30,14 +31,14 @@ loop-plane-preserved g c =
       height = step.height ∙ was.height;
       count = step.count ∙ was.count;
       rows =
-          changed_more c.args.planes.now.height c.args.row c.args.change c.requires.row step.fits c.args.planes.now.words.items c.loop-plane.planes.words.items c.change_row-any.new.planes.words.items c.args.places.now c.loop-plane.plane-index below
+          changed_more c.args.planes.now.height c.args.row c.args.change c.requires.row c.args.planes.now.words.items c.loop-plane.planes.words.items c.change_row-any.new.planes.words.items c.args.places.now c.loop-plane.plane-index below
           c.requires.planes among made was.rows;
       before = λ none. was.before (step.before none);
       quiet = λ none. step.quiet none ∙ was.quiet (step.before none);
       left =
           λ none all.
           let so : c.loop-plane.any ≡ false = was.left none all in
-          let P : List ℕ → Type 0 = λ words. IsRowLeft c.args.planes.now.height c.args.row c.args.change words plane in
+          let P : List (List Bool) → Type 0 = λ words. IsRowLeft c.args.planes.now.height c.args.row c.args.change words plane in
           let H : ℕ → Type 0 = λ h. IsRowLeft h c.args.row c.args.change c.loop-plane.planes.words.items plane in
           step.left so (subst H (sym was.height) (subst P (sym (was.quiet so)) (all plane among)));
     }
@@ -73,6 +74,7 @@ returns-clause-quiet g c = c.loop-plane.invariant.quiet
 pub returns-clause-left : goal.returns-clause-left
 returns-clause-left g c = c.loop-plane.invariant.left
 
-pub returns-then-change-eq0-clause-words : goal.returns-then-change-eq0-clause-words
-returns-then-change-eq0-clause-words g c =
-    rows_kept c.args.planes.now.height c.args.row c.args.change c.args.planes.now.words.items c.args.places.now c.if-change-eq0.true
+pub returns-then-is_empty-clause-words : goal.returns-then-is_empty-clause-words
+returns-then-is_empty-clause-words g c =
+    rows_kept c.args.planes.now.height c.args.row c.args.change c.args.planes.now.words.items c.args.places.now
+    (ap set_columns (sym c.either.ensures) ∙ c.is_empty.ensures.none c.if-is_empty.true)

@@ -4,6 +4,7 @@ use Rattle.std.proofs.lemmas.List.{get_or-drop, get_or-take}
 use Rattle.ps_rows.specs.PlaneCopies.{ArePlanesOf}
 use Rattle.ps_rows.proofs.PlaneCopies.{plane_overwritten}
 use Rattle.ps_rows.specs.Planes.{row_of}
+use Rattle.ps_board.specs.ColumnSets.{no_columns}
 use Rattle.ps_rows.proofs.planes.copy_plane.Goals as goal
 
 pub returns : goal.returns
@@ -19,4 +20,4 @@ returns g c =
     (λ row under.
     let within : row < start + h - start = omega arith in
     ap (λ (ws : List (List Bool)). row_of ws row) c.copy_from_slice.ensures.after
-    ∙ get_or-take (start + h - start) (drop start c.args.words.now) row 0 within ∙ get_or-drop start c.args.words.now row 0))
+    ∙ get_or-take (start + h - start) (drop start c.args.words.now) row no_columns within ∙ get_or-drop start c.args.words.now row no_columns))

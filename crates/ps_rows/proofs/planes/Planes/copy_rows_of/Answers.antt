@@ -1,13 +1,12 @@
-use Rattle.std.proofs.Common.{◌≡◌, ◌∙◌, ◌+◌, ◌*◌, ◌<◌, ◌≤◌, ℕ, Bool, List, true, false, length, get_or, refl, sym, ap, ap₂, arith}
+use Rattle.std.proofs.Common.{◌≡◌, ◌∙◌, ◌+◌, ◌*◌, ◌<◌, ◌≤◌, ℕ, Bool, List, true, false, length, get_or, refl, sym, ap, ap₂, arith, subst}
 use Rattle.std.specs.Prelude.{slice_set}
 use Rattle.std.proofs.lemmas.Bool.{false≢true}
 use Rattle.ps_model.specs.declared.limits.TheConstants.{SIDE_LIMIT}
 use Rattle.ps_board.specs.ColumnSets.{column_at, columns_below, either_columns}
 use Rattle.ps_board.proofs.Taken.{below-init, below-more, passed-all, passed-changed, passed-init, taken_below}
-use Rattle.ps_rows.proofs.Absent.{column_clear}
 use Rattle.ps_rows.proofs.RowCopies.{not_wanted, row_kept, row_written, wanted-first, wanted-init, wanted-more}
 use Rattle.ps_rows.proofs.RowsDiffering.{row_unmarked}
-use Rattle.ps_rows.specs.Planes.{row_of}
+use Rattle.ps_rows.specs.Planes.{IsSet, row_of}
 use Rattle.ps_rows.proofs.planes.Planes.copy_rows_of.Goals as goal
 
 pub loop-row-init : goal.loop-row-init
@@ -16,7 +15,7 @@ loop-row-init g c =
     let o = c.args.other.now in
     let plane : ℕ = c.args.plane in
     let rows : List Bool = c.args.rows in
-    let marked : List Bool = c.from_word-marked.result in
+    let marked : List Bool = c.either-marked.result in
     let wanted : List Bool = c.both-wanted.result in
     let below : c.below.result ≡ columns_below p.height = c.below.ensures in
     let same : ℕ → Type 0 = λ row. column_at rows row ≡ true → row_of o.words.items (plane * p.height + row) ≡ row_of p.words.items (plane * p.height + row) in
@@ -29,9 +28,8 @@ loop-row-init g c =
           let low : row < SIDE_LIMIT = omega (arith, under, p.rows) in
           let clear = not_wanted rows marked wanted row low c.both-wanted.ensures off on in
           let none : column_at (either_columns (row_of p.index.items plane) (row_of o.index.items plane)) row ≡ false =
-          ap (λ (word : List Bool). column_at word row) (sym (ap₂ either_columns c.rows_of.ensures c.rows_of-2.ensures))
-          ∙ column_clear _ row low (ap (λ (set : List Bool). column_at set row) (sym c.from_word-marked.ensures) ∙ clear) in
-          sym (row_unmarked p.index.len o.index.len p.height o.height plane p.words.len o.words.len row p.words.items o.words.items p.index.items o.index.items p.some_row c.requires.height
+          ap (λ (word : List Bool). column_at word row) (sym (c.either-marked.ensures ∙ ap₂ either_columns c.rows_of.ensures c.rows_of-2.ensures)) ∙ clear in
+          sym (row_unmarked p.index.len o.index.len p.height o.height plane p.words.len o.words.len row p.words.items o.words.items p.index.items o.index.items p.some_row p.rows c.requires.height
           p.whole o.whole c.requires.here c.requires.there p.marked o.marked none under));
       elsewhere = λ other row under apart. refl;
       height = c.requires.height;
@@ -44,6 +42,11 @@ row-word-requires-clause-row g c = taken_below c.loop-row.left c.take_first.new.
 pub set_row-requires-clause-row : goal.set_row-requires-clause-row
 set_row-requires-clause-row g c =
     rw c.loop-row.invariant.height (taken_below c.loop-row.left c.take_first.new.self _ c.in-Some.row c.in-Some.ensures.some c.loop-row.invariant.low)
+
+pub set_row-requires-clause-set : goal.set_row-requires-clause-set
+set_row-requires-clause-set g c =
+    let P : List Bool → Type 0 = λ set. IsSet set in
+    subst P (sym c.row-word.ensures) (c.args.self.now.sets (c.args.plane * c.args.self.now.height + c.in-Some.row))
 
 pub loop-row-preserved : goal.loop-row-preserved
 loop-row-preserved g c =

@@ -28,5 +28,6 @@ returns-in-None g c =
     ap (λ (first : ℕ). motion_plane first test.motion) (sym c.motions_from-first.ensures.first) ∙ sym c.in-None.ensures in
     let any : c.moving_row.result ≡ five_rows b.planes.height b.planes.words.items (motions_from b.members.table.items (test.layer).0) c.args.row =
     c.moving_row.ensures ∙ ap (λ (first : ℕ). five_rows b.planes.height b.planes.words.items first c.args.row) c.motions_from-first.ensures.first in
-    let fits : c.moving_row.result < 2 ^ 64 = search rules in
-    resting_row_is b.members.table.items b.width b.planes.height b.layers b.planes.words.items c.args.row b.planes.some_row b.columns c.requires test c.moving_row.result b.motions on asked any fits
+    rw c.without.ensures
+    (resting_row_is b.members.table.items b.width b.planes.height b.layers b.planes.words.items c.args.row b.planes.some_row b.columns c.requires test b.all_columns c.moving_row.result b.all b.motions on
+    asked any)

@@ -11,4 +11,5 @@ returns-then-is_on g c =
 pub returns : goal.returns
 returns g c =
     let b = c.args.self.now in
-    other_row b.members.table.items b.width b.planes.height b.layers b.planes.words.items c.args.row b.planes.some_row b.columns c.requires c.args.sought.now (sym c.is_on.ensures ∙ c.if-is_on.false)
+    rw c.none.ensures
+    (other_row b.members.table.items b.width b.planes.height b.layers b.planes.words.items c.args.row b.planes.some_row b.columns c.requires c.args.sought.now (sym c.is_on.ensures ∙ c.if-is_on.false))

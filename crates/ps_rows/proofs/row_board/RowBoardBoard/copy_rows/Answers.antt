@@ -54,7 +54,7 @@ invariant_of-other-clause-motions g c =
     let so : c.clear_from.new.self.words.items ≡ cleared_from (length table * height) copied =
     c.clear_from.ensures.words ∙ rw (c.copy_rows.ensures.height, c.count-objects.ensures.value) refl in
     let high : c.clear_from.new.self.height ≡ height = c.clear_from.ensures.height ∙ c.copy_rows.ensures.height in
-    let M : List ℕ → ℕ → ℕ → ℕ → List ℕ → Type 0 = λ t l w h words. AreMotionsShown t l h words (w * h) in
+    let M : List ℕ → ℕ → ℕ → ℕ → List (List Bool) → Type 0 = λ t l w h words. AreMotionsShown t l h words (w * h) in
     let rested : M table b.layers b.width height (cleared_from (length table * height) copied) =
     rested_motions table b.layers height (b.width * height) copied b.planes.some_row whole in
     let written : M table b.layers b.width height c.clear_from.new.self.words.items =
