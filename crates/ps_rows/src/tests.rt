@@ -57,9 +57,8 @@ fn write_row(rt: &impl Abort, alloc: Global, write: &CellWrite, changes: bool) -
     list.put(3, HIGHER, Some(ObjectId(2)), Motion::Still);
     rows.put(7, HIGHER, Some(ObjectId(0)), Motion::Still);
     list.put(7, HIGHER, Some(ObjectId(0)), Motion::Still);
-    let columns = Columns::below(3);
-    assert_eq!(rt; rows.rewrite(write, 1, &columns), changes);
-    assert_eq!(rt; list.rewrite(write, 1, &columns), changes);
+    assert_eq!(rt; rows.rewrite(write, 1, &Columns::below(3)), changes);
+    assert_eq!(rt; list.rewrite(write, 1, &Columns::below(3)), changes);
     for cell in 0..8u32 {
         assert_eq!(rt; rows.object(cell, HIGHER), list.object(cell, HIGHER));
         assert_eq!(rt; rows.motion(cell, HIGHER), list.motion(cell, HIGHER));
