@@ -1,6 +1,6 @@
 //! Sets of columns as the bits of several words.
 
-ghost use Rattle.std.specs.Prelude.{◌≡◌, ◌<◌, ◌≤◌, ◌+◌, ◌-◌, ◌*◌, ◌&&◌, if◌then◌else◌};
+ghost use Rattle.std.specs.Prelude.{◌≡◌, ◌<◌, ◌≤◌, ◌+◌, ◌-◌, ℕ, ◌&&◌, if◌then◌else◌};
 ghost use Rattle.std.specs.Prelude.{length, nat_eq, nat_le, nat_lt};
 ghost use Rattle.ps_board.specs.declared.many_words.TheConstants.{WORDS_LIMIT};
 ghost use Rattle.ps_board.specs.ColumnSets.{bit_is_set};
