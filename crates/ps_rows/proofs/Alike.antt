@@ -226,7 +226,7 @@ cells_known (x ∷ xs) (y ∷ ys) h =
     ap₂ (λ (z : List Slot) (zs : List (List Slot)). z ∷ zs) (cell_known x y parts.0) (cells_known xs ys parts.1)
 
 -- what two boards of the same size for the same game show
-abbrev pub shown_same : List ℕ → ℕ → ℕ → ℕ → List ℕ → List ℕ → Bool
+abbrev pub shown_same : List ℕ → ℕ → ℕ → ℕ → List (List Bool) → List (List Bool) → Bool
 shown_same table width height layers first second =
     same_cells (cells_shown table layers height first (width * height))
     (cells_shown table layers height second (width * height))

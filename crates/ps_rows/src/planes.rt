@@ -152,7 +152,7 @@ impl<W: ColumnWords> Planes<W> {
 
     /// Whether a plane has a cell.
     pub fn has_cell(&self, cell: u32, plane: u32) -> bool
-        requires plane { (plane + 1) * self.now.height ≤ vec_len self.now.words }
+        requires { (plane + 1) * self.now.height ≤ vec_len self.now.words }
         ensures { result ≡ has_cell self.now.height self.now.words.items cell plane }
     {
         self.row(plane, cell % self.height).has(cell / self.height)
@@ -188,7 +188,7 @@ impl<W: ColumnWords> Planes<W> {
     /// The first of these planes that has a cell.
     #[tactic(auto, using(crate::proofs::Steps::found_nowhere))]
     pub fn first_plane(&self, cell: u32, planes: &[u32]) -> Option<u32>
-        requires planes { HavePlanes self.now.height self.now.words.items planes.now }
+        requires { HavePlanes self.now.height self.now.words.items planes.now }
         ensures { result ≡ find (has_cell self.now.height self.now.words.items cell) planes.now }
     {
         for plane in planes {

@@ -11,5 +11,5 @@ returns-clause-rewritten g c =
     c.rewrite.ensures.rewritten
     ∙ row-in-room (g.B.Board.grid c.args.board.now)
     (cell_written (write_in_room (g.B.Board.table c.args.board.now) (write_shown c.args.write.now))) c.args.row _
-    (columns_ahead c.args.columns c.args.steps) c.ahead.result c.recall_shape.ensures.shape
-    c.recall_shape.ensures.narrow c.ahead.ensures
+    (columns_ahead c.args.columns c.args.steps) c.ahead-ahead.result c.recall_shape.ensures.shape
+    c.recall_shape.ensures.narrow c.ahead-ahead.ensures

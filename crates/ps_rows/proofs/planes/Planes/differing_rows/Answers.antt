@@ -14,7 +14,7 @@ returns-then-is_empty g c =
     (ap set_columns (sym (c.either.ensures ∙ ap₂ either_columns c.rows_of.ensures c.rows_of-2.ensures)) ∙ c.is_empty.ensures.none c.if-is_empty.true))
 
 pub returns-then-has_same_words : goal.returns-then-has_same_words
-returns-then-has_same_words g c = rw c.none.ensures (c.has_same_words.ensures c.if-has_same_words.true)
+returns-then-has_same_words g c = rw c.none-then-has_same_words.ensures (c.has_same_words.ensures c.if-has_same_words.true)
 
 pub loop-row-preserved : goal.loop-row-preserved
 loop-row-preserved g c =

@@ -4,11 +4,11 @@ use Rattle.ps_rows.proofs.Marks.{listed_at}
 use Rattle.ps_rows.proofs.Steps.{found_here, found_behind}
 use Rattle.ps_rows.proofs.planes.Planes.first_plane.Goals as goal
 
-pub has_cell-requires-clause-plane : goal.has_cell-requires-clause-plane
-has_cell-requires-clause-plane g c =
+pub has_cell-requires : goal.has_cell-requires
+has_cell-requires g c =
     let below : c.loop-plane.plane-index < length c.args.planes.now = omega arith in
     let whole : (get_or c.args.planes.now c.loop-plane.plane-index 0 + 1) * c.args.self.now.height ≤ length c.args.self.now.words.items =
-    c.requires.planes (get_or c.args.planes.now c.loop-plane.plane-index 0) (listed_at c.args.planes.now c.loop-plane.plane-index 0 below) in
+    c.requires (get_or c.args.planes.now c.loop-plane.plane-index 0) (listed_at c.args.planes.now c.loop-plane.plane-index 0 below) in
     omega (arith, whole, c.args.self.now.words.ok.0)
 
 pub returns-then-has_cell : goal.returns-then-has_cell

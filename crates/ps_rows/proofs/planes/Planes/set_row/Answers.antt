@@ -15,7 +15,7 @@ invariant_of-self-clause-marked g c =
     let own : plane < length p.index.items = omega (arith, counted, p.index.ok.0) in
     let within : plane * p.height + c.args.row < length p.words.items = omega (arith, c.requires.plane, c.requires.row, p.words.ok.0) in
     let mark : c.with.result ≡ with_column (row_of p.index.items plane) c.args.row (not c.is_empty.result) =
-    c.with.ensures ∙ ap (λ (w : List Bool). with_column w c.args.row (not c.is_empty.result)) (get_or_read p.index.items _ _ own c.index.is no_columns) in
+    c.with.ensures ∙ ap (λ (w : List Bool). with_column w c.args.row (not c.is_empty.result)) (get_or_read p.index.items _ _ own c.index.ensures no_columns) in
     let P : List Bool → Type 0 =
     λ made. AreRowsMarked p.index.len p.height (slice_set p.words.items (plane * p.height + c.args.row) c.args.word) (slice_set p.index.items plane made) in
     subst P (sym mark)

@@ -3,7 +3,6 @@ use Rattle.std.specs.List.{list_any}
 use Rattle.std.specs.Prelude.{nat_eq, true}
 use Rattle.std.proofs.lemmas.List.{take_all}
 use Rattle.std.proofs.lemmas.Option.{slice_get_within}
-use Rattle.ps_rows.proofs.Bits.{none_at}
 use Rattle.ps_rows.proofs.LayerChanges.{has_at, standing_is, standing_more}
 use Rattle.ps_rows.proofs.Marks.{listed_at}
 use Rattle.ps_rows.proofs.MemberRanges.{listed_member}

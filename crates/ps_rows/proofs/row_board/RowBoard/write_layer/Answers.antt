@@ -25,11 +25,11 @@ invariant_of-self-clause-objects g c =
     let table : List ℕ = b.members.table.items in
     let after : ℕ → Slot → Slot = slot_after (write_in_room (Some table) (write_shown c.args.write.now)) in
     let P : List ℕ → Type 0 =
-    λ places. IsLayerWritten b.planes.height c.args.row b.planes.words.items c.change_layer.new.planes.words.items places c.layer_change.result.0 c.motions_from-first.result c.layer_change.result.1 in
+    λ places. IsLayerWritten b.planes.height c.args.row b.planes.words.items c.change_layer.new.planes.words.items places c.layer_change-objects.result.0 c.motions_from-first.result c.layer_change-objects.result.1 in
     let Q : ℕ → Type 0 =
-    λ first. IsLayerWritten b.planes.height c.args.row b.planes.words.items c.change_layer.new.planes.words.items (on_layer table c.args.layer) c.layer_change.result.0 first c.layer_change.result.1 in
+    λ first. IsLayerWritten b.planes.height c.args.row b.planes.words.items c.change_layer.new.planes.words.items (on_layer table c.args.layer) c.layer_change-objects.result.0 first c.layer_change-objects.result.1 in
     let made : Q (motions_from table c.args.layer) = subst Q c.motions_from-first.ensures.first (subst P c.of-places.ensures c.change_layer.ensures.words) in
-    rw c.change_layer.ensures.height (objects_again table b.width b.planes.height b.layers b.planes.words.items c.change_layer.new.planes.words.items c.args.layer c.args.row c.args.columns after c.layer_change.result.0 c.layer_change.result.1 b.planes.some_row b.columns c.requires.row c.requires.layer c.layer_change.ensures made b.objects b.motions)
+    rw c.change_layer.ensures.height (objects_again table b.width b.planes.height b.layers b.planes.words.items c.change_layer.new.planes.words.items c.args.layer c.args.row c.args.columns after c.layer_change-objects.result.0 c.layer_change-objects.result.1 b.planes.some_row b.columns c.requires.row c.requires.layer c.layer_change-objects.ensures made b.objects b.motions)
 
 pub invariant_of-self-clause-motions : goal.invariant_of-self-clause-motions
 invariant_of-self-clause-motions g c =
@@ -37,11 +37,11 @@ invariant_of-self-clause-motions g c =
     let table : List ℕ = b.members.table.items in
     let after : ℕ → Slot → Slot = slot_after (write_in_room (Some table) (write_shown c.args.write.now)) in
     let P : List ℕ → Type 0 =
-    λ places. IsLayerWritten b.planes.height c.args.row b.planes.words.items c.change_layer.new.planes.words.items places c.layer_change.result.0 c.motions_from-first.result c.layer_change.result.1 in
+    λ places. IsLayerWritten b.planes.height c.args.row b.planes.words.items c.change_layer.new.planes.words.items places c.layer_change-objects.result.0 c.motions_from-first.result c.layer_change-objects.result.1 in
     let Q : ℕ → Type 0 =
-    λ first. IsLayerWritten b.planes.height c.args.row b.planes.words.items c.change_layer.new.planes.words.items (on_layer table c.args.layer) c.layer_change.result.0 first c.layer_change.result.1 in
+    λ first. IsLayerWritten b.planes.height c.args.row b.planes.words.items c.change_layer.new.planes.words.items (on_layer table c.args.layer) c.layer_change-objects.result.0 first c.layer_change-objects.result.1 in
     let made : Q (motions_from table c.args.layer) = subst Q c.motions_from-first.ensures.first (subst P c.of-places.ensures c.change_layer.ensures.words) in
-    rw c.change_layer.ensures.height (motions_again table b.width b.planes.height b.layers b.planes.words.items c.change_layer.new.planes.words.items c.args.layer c.args.row c.args.columns after c.layer_change.result.0 c.layer_change.result.1 b.planes.some_row b.columns c.requires.row c.requires.layer c.layer_change.ensures made b.objects b.motions)
+    rw c.change_layer.ensures.height (motions_again table b.width b.planes.height b.layers b.planes.words.items c.change_layer.new.planes.words.items c.args.layer c.args.row c.args.columns after c.layer_change-objects.result.0 c.layer_change-objects.result.1 b.planes.some_row b.columns c.requires.row c.requires.layer c.layer_change-objects.ensures made b.objects b.motions)
 
 pub returns-clause-slots : goal.returns-clause-slots
 returns-clause-slots g c =
@@ -49,11 +49,11 @@ returns-clause-slots g c =
     let table : List ℕ = b.members.table.items in
     let after : ℕ → Slot → Slot = slot_after (write_in_room (Some table) (write_shown c.args.write.now)) in
     let P : List ℕ → Type 0 =
-    λ places. IsLayerWritten b.planes.height c.args.row b.planes.words.items c.change_layer.new.planes.words.items places c.layer_change.result.0 c.motions_from-first.result c.layer_change.result.1 in
+    λ places. IsLayerWritten b.planes.height c.args.row b.planes.words.items c.change_layer.new.planes.words.items places c.layer_change-objects.result.0 c.motions_from-first.result c.layer_change-objects.result.1 in
     let Q : ℕ → Type 0 =
-    λ first. IsLayerWritten b.planes.height c.args.row b.planes.words.items c.change_layer.new.planes.words.items (on_layer table c.args.layer) c.layer_change.result.0 first c.layer_change.result.1 in
+    λ first. IsLayerWritten b.planes.height c.args.row b.planes.words.items c.change_layer.new.planes.words.items (on_layer table c.args.layer) c.layer_change-objects.result.0 first c.layer_change-objects.result.1 in
     let made : Q (motions_from table c.args.layer) = subst Q c.motions_from-first.ensures.first (subst P c.of-places.ensures c.change_layer.ensures.words) in
-    rw c.change_layer.ensures.height (slots_written table b.width b.planes.height b.layers b.planes.words.items c.change_layer.new.planes.words.items c.args.layer c.args.row c.args.columns after c.layer_change.result.0 c.layer_change.result.1 b.planes.some_row b.columns c.requires.row c.requires.layer c.layer_change.ensures made b.objects b.motions)
+    rw c.change_layer.ensures.height (slots_written table b.width b.planes.height b.layers b.planes.words.items c.change_layer.new.planes.words.items c.args.layer c.args.row c.args.columns after c.layer_change-objects.result.0 c.layer_change-objects.result.1 b.planes.some_row b.columns c.requires.row c.requires.layer c.layer_change-objects.ensures made b.objects b.motions)
 
 pub returns-clause-quiet : goal.returns-clause-quiet
 returns-clause-quiet g c = λ none.
@@ -61,11 +61,11 @@ returns-clause-quiet g c = λ none.
     let table : List ℕ = b.members.table.items in
     let after : ℕ → Slot → Slot = slot_after (write_in_room (Some table) (write_shown c.args.write.now)) in
     let P : List ℕ → Type 0 =
-    λ places. IsLayerWritten b.planes.height c.args.row b.planes.words.items c.change_layer.new.planes.words.items places c.layer_change.result.0 c.motions_from-first.result c.layer_change.result.1 in
+    λ places. IsLayerWritten b.planes.height c.args.row b.planes.words.items c.change_layer.new.planes.words.items places c.layer_change-objects.result.0 c.motions_from-first.result c.layer_change-objects.result.1 in
     let Q : ℕ → Type 0 =
-    λ first. IsLayerWritten b.planes.height c.args.row b.planes.words.items c.change_layer.new.planes.words.items (on_layer table c.args.layer) c.layer_change.result.0 first c.layer_change.result.1 in
+    λ first. IsLayerWritten b.planes.height c.args.row b.planes.words.items c.change_layer.new.planes.words.items (on_layer table c.args.layer) c.layer_change-objects.result.0 first c.layer_change-objects.result.1 in
     let made : Q (motions_from table c.args.layer) = subst Q c.motions_from-first.ensures.first (subst P c.of-places.ensures c.change_layer.ensures.words) in
-    slots_left table b.width b.planes.height b.layers b.planes.words.items c.change_layer.new.planes.words.items c.args.layer c.args.row c.args.columns after c.layer_change.result.0 c.layer_change.result.1 b.planes.some_row b.columns c.requires.row c.requires.layer c.layer_change.ensures made b.objects b.motions (c.change_layer.ensures.quiet none)
+    slots_left table b.width b.planes.height b.layers b.planes.words.items c.change_layer.new.planes.words.items c.args.layer c.args.row c.args.columns after c.layer_change-objects.result.0 c.layer_change-objects.result.1 b.planes.some_row b.columns c.requires.row c.requires.layer c.layer_change-objects.ensures made b.objects b.motions (c.change_layer.ensures.quiet none)
 
 pub returns-clause-left : goal.returns-clause-left
 returns-clause-left g c = λ all.
@@ -73,12 +73,12 @@ returns-clause-left g c = λ all.
     let table : List ℕ = b.members.table.items in
     let after : ℕ → Slot → Slot = slot_after (write_in_room (Some table) (write_shown c.args.write.now)) in
     let P : List ℕ → Type 0 =
-    λ places. IsLayerWritten b.planes.height c.args.row b.planes.words.items c.change_layer.new.planes.words.items places c.layer_change.result.0 c.motions_from-first.result c.layer_change.result.1 in
+    λ places. IsLayerWritten b.planes.height c.args.row b.planes.words.items c.change_layer.new.planes.words.items places c.layer_change-objects.result.0 c.motions_from-first.result c.layer_change-objects.result.1 in
     let Q : ℕ → Type 0 =
-    λ first. IsLayerWritten b.planes.height c.args.row b.planes.words.items c.change_layer.new.planes.words.items (on_layer table c.args.layer) c.layer_change.result.0 first c.layer_change.result.1 in
+    λ first. IsLayerWritten b.planes.height c.args.row b.planes.words.items c.change_layer.new.planes.words.items (on_layer table c.args.layer) c.layer_change-objects.result.0 first c.layer_change-objects.result.1 in
     let made : Q (motions_from table c.args.layer) = subst Q c.motions_from-first.ensures.first (subst P c.of-places.ensures c.change_layer.ensures.words) in
-    let A : List ℕ → Type 0 = λ places. AreRowsLeft b.planes.height c.args.row c.layer_change.result.0 b.planes.words.items places in
-    let B : ℕ → Type 0 = λ first. AreRowsLeft b.planes.height c.args.row c.layer_change.result.1 b.planes.words.items (motion_planes first) in
+    let A : List ℕ → Type 0 = λ places. AreRowsLeft b.planes.height c.args.row c.layer_change-objects.result.0 b.planes.words.items places in
+    let B : ℕ → Type 0 = λ first. AreRowsLeft b.planes.height c.args.row c.layer_change-objects.result.1 b.planes.words.items (motion_planes first) in
     c.change_layer.ensures.left
-    (subst A (sym c.of-places.ensures) (objects_left table b.width b.planes.height b.layers b.planes.words.items c.change_layer.new.planes.words.items c.args.layer c.args.row c.args.columns after c.layer_change.result.0 c.layer_change.result.1 b.planes.some_row b.columns c.requires.row c.requires.layer c.layer_change.ensures made b.objects b.motions all))
-    (subst B (sym c.motions_from-first.ensures.first) (motions_left table b.width b.planes.height b.layers b.planes.words.items c.change_layer.new.planes.words.items c.args.layer c.args.row c.args.columns after c.layer_change.result.0 c.layer_change.result.1 b.planes.some_row b.columns c.requires.row c.requires.layer c.layer_change.ensures made b.objects b.motions all))
+    (subst A (sym c.of-places.ensures) (objects_left table b.width b.planes.height b.layers b.planes.words.items c.change_layer.new.planes.words.items c.args.layer c.args.row c.args.columns after c.layer_change-objects.result.0 c.layer_change-objects.result.1 b.planes.some_row b.columns c.requires.row c.requires.layer c.layer_change-objects.ensures made b.objects b.motions all))
+    (subst B (sym c.motions_from-first.ensures.first) (motions_left table b.width b.planes.height b.layers b.planes.words.items c.change_layer.new.planes.words.items c.args.layer c.args.row c.args.columns after c.layer_change-objects.result.0 c.layer_change-objects.result.1 b.planes.some_row b.columns c.requires.row c.requires.layer c.layer_change-objects.ensures made b.objects b.motions all))

@@ -65,7 +65,7 @@ invariant_of-other-clause-motions g c =
     subst (λ (l : ℕ). M o.members.table.items l b.width height c.clear_from.new.self.words.items)
     (sym c.requires.layers) tabled in
     let wide : M o.members.table.items o.layers o.width height c.clear_from.new.self.words.items =
-    subst (λ (w : List Bool). M o.members.table.items o.layers w height c.clear_from.new.self.words.items)
+    subst (λ (w : ℕ). M o.members.table.items o.layers w height c.clear_from.new.self.words.items)
     (sym c.requires.width) layered in
     subst (λ (h : ℕ). M o.members.table.items o.layers o.width h c.clear_from.new.self.words.items) (sym high) wide
 

@@ -1,7 +1,6 @@
 use Rattle.std.proofs.Common.{◌≡◌, ◌∙◌, ℕ, get_or, sym, ap, ◌≤◌, length, arith, Bool, List, []}
 use Rattle.std.proofs.lemmas.Bool.{eqb-true}
 use Rattle.ps_rows.proofs.Absent.{not_marked, nowhere_by_rows}
-use Rattle.ps_rows.proofs.Bits.{none_at}
 use Rattle.ps_rows.proofs.Marked.{planes_indexed}
 use Rattle.ps_rows.proofs.Scans.{other_row}
 use Rattle.ps_board.specs.ColumnSets.{set_columns}
