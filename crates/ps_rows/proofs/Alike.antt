@@ -1,12 +1,10 @@
 -- Two boards of the same size for the same game show the same where their planes have the same cells.
 use Rattle.std.proofs.Common.{◌≡◌, ℕ, ◌+◌, ◌-◌, ◌*◌, ◌/◌, ◌%◌, ◌^◌, ◌<◌, ◌≤◌, inl, inr, Bool, true, false, ◌&&◌, Option}
-use Rattle.std.proofs.Common.{Some, None, List, [], ◌∷◌, get_or, refl, sym, ap, ap₂, ◌∙◌, arith, bit_and, bit_xor}
+use Rattle.std.proofs.Common.{Some, None, List, [], ◌∷◌, get_or, refl, sym, ap, ap₂, ◌∙◌, arith}
 use Rattle.std.specs.Prelude.{nat_eq, nat_lt, slice_get, option_map}
 use Rattle.std.specs.List.{list_any}
-use Rattle.std.specs.Int.{bit_at}
 use Rattle.std.proofs.lemmas.Bool.{cases_eq, cases_lt, cases_Bool, and_parts, false≢true, lt-ltb, le-ltb}
 use Rattle.std.proofs.lemmas.Nat.{mul-add-lt, div-mul-add, mod-mul-add, mod_below, div_below}
-use Rattle.std.proofs.lemmas.Nat.Bits.{same_from_bits, bit_at_xor, bit_at-zero}
 use Rattle.std.proofs.Math.Bool.{and-true, and-false}
 use Rattle.ps_model.specs.declared.pieces.ObjectId.{ObjectId}
 use Rattle.ps_model.specs.declared.pieces.Direction.TheVariants.{Up, Down, Left, Right}
@@ -21,106 +19,61 @@ use Rattle.ps_model.specs.board.Turns.{same_cells}
 use Rattle.ps_model.specs.meaning.Fitting.{same_motion}
 use Rattle.ps_model.specs.names.Names.{same_object}
 use Rattle.ps_laws.proofs.common.SameThings.{same_cell-own, same_motion-true, same_object-true}
-use Rattle.ps_rows.specs.Planes.{has_column, has_cell}
+use Rattle.ps_rows.specs.Planes.{has_cell, row_of}
 use Rattle.ps_rows.specs.Members.{on_layer}
 use Rattle.ps_rows.specs.Showing.{numbered, motions_from, motion_plane, motion_planes, object_shown, motion_shown}
 use Rattle.ps_rows.specs.Showing.{slot_shown, cell_shown, cells_shown, AreObjectsShown, AreMotionsShown}
 use Rattle.ps_rows.specs.Sameness.{AreSameRows, IsSamePlane, AreSamePlanes, IsSameLayer}
-use Rattle.ps_rows.proofs.Bits.{has_column-zero}
-use Rattle.ps_rows.proofs.Scans.{bit_cases, has_column-and, has_column-width}
+use Rattle.ps_rows.proofs.Sets.{alike_at, below_at, both_at, empty_of, not_unlike}
 use Rattle.ps_rows.proofs.Listed.{find_same}
 use Rattle.ps_rows.proofs.MemberRanges.{listed_member}
 use Rattle.ps_rows.proofs.Moves.{five_true, five_false, five_high, first_motion-same}
 use Rattle.ps_rows.proofs.Rests.{slot_read}
 use Rattle.ps_rows.proofs.Tables.{tabled_same}
+use Rattle.ps_board.proofs.ColumnLaws.{none_in}
+use Rattle.ps_board.specs.ColumnSets.{both_columns, column_at, columns_below, set_columns, unlike_columns}
+use Rattle.ps_model.specs.declared.limits.TheConstants.{SIDE_LIMIT}
 
 -- rows ----------------------------------------------------------------------------------------------------------------
 
-column_off : (word x : ℕ) → bit_at word x ≡ 0 → has_column word x ≡ false
-unfolding has_column
-column_off word x e = rw e refl
+-- two sets that differ in no column of so many from the left on, and two that are the same there
+pub rows_same : (width : ℕ) (a b : List Bool) → width ≤ SIDE_LIMIT → set_columns (both_columns (unlike_columns a b) (columns_below width)) ≡ [] → AreSameRows width a b
+rows_same width a b narrow none = λ x h.
+    let low : x < SIDE_LIMIT = omega (arith, h, narrow) in
+    not_unlike a b x low
+    (sym (and-true (column_at (unlike_columns a b) x))
+    ∙ ap (λ (within : Bool). column_at (unlike_columns a b) x && within) (sym (below_at width x low ∙ lt-ltb x width h))
+    ∙ sym (both_at (unlike_columns a b) (columns_below width) x low)
+    ∙ none_in (both_columns (unlike_columns a b) (columns_below width)) x none low)
 
-column_on : (word x : ℕ) → bit_at word x ≡ 1 → has_column word x ≡ true
-unfolding has_column
-column_on word x e = rw e refl
-
-bit_off : (word x : ℕ) → has_column word x ≡ false → bit_at word x ≡ 0
-bit_off word x h = elim (bit_cases word x) [ inl e ↦ e | inr e ↦ absurd (false≢true (sym h ∙ column_on word x e)) ]
-
--- two words that have a column both or neither differ in no bit there
-differ_not : (a b x : ℕ) → has_column a x ≡ has_column b x → has_column (bit_xor a b) x ≡ false
-differ_not a b x same = elim (bit_cases a x) [
-  | inl e ↦ elim (bit_cases b x) [
-    | inl f ↦ column_off (bit_xor a b) x (rw (bit_at_xor, e, f) refl)
-    | inr f ↦ absurd (false≢true (sym (column_off a x e) ∙ same ∙ column_on b x f))
-  ]
-  | inr e ↦ elim (bit_cases b x) [
-    | inl f ↦ absurd (false≢true (sym (column_off b x f) ∙ sym same ∙ column_on a x e))
-    | inr f ↦ column_off (bit_xor a b) x (rw (bit_at_xor, e, f) refl)
-  ]
-]
-
-pub not_differ : (a b x : ℕ) → has_column (bit_xor a b) x ≡ false → has_column a x ≡ has_column b x
-not_differ a b x none = elim (bit_cases a x) [
-  | inl e ↦ elim (bit_cases b x) [
-    | inl f ↦ column_off a x e ∙ sym (column_off b x f)
-    | inr f ↦ absurd (false≢true (sym none ∙ column_on (bit_xor a b) x (rw (bit_at_xor, e, f) refl)))
-  ]
-  | inr e ↦ elim (bit_cases b x) [
-    | inl f ↦ absurd (false≢true (sym none ∙ column_on (bit_xor a b) x (rw (bit_at_xor, e, f) refl)))
-    | inr f ↦ column_on a x e ∙ sym (column_on b x f)
-  ]
-]
-
--- the bits in which two words differ, of so many columns
-abbrev pub differing : ℕ → ℕ → ℕ → ℕ
-differing width a b = bit_and (bit_xor a b) (18446744073709551615 / 2 ^ (64 - width))
-
-differing_at : (width a b x : ℕ) → 0 < width → width ≤ 64 →
-    has_column (differing width a b) x ≡ (has_column (bit_xor a b) x && nat_lt x width)
-differing_at width a b x some narrow =
-    has_column-and (bit_xor a b) (18446744073709551615 / 2 ^ (64 - width)) x
-    ∙ ap (λ (low : Bool). has_column (bit_xor a b) x && low) (has_column-width width x some narrow)
-
-pub rows_same : (width a b : ℕ) → 0 < width → width ≤ 64 → differing width a b ≡ 0 → AreSameRows width a b
-rows_same width a b some narrow none = λ x h.
-    not_differ a b x
-    (sym (and-true (has_column (bit_xor a b) x))
-    ∙ ap (λ (low : Bool). has_column (bit_xor a b) x && low) (sym (lt-ltb x width h))
-    ∙ sym (differing_at width a b x some narrow)
-    ∙ ap (λ (word : ℕ). has_column word x) none
-    ∙ has_column-zero x)
-
-no_difference : (width a b : ℕ) → 0 < width → width ≤ 64 → AreSameRows width a b → (x : ℕ) →
-    has_column (differing width a b) x ≡ false
-no_difference width a b some narrow same x = elim (cases_lt x width) [
-  | inl h ↦ differing_at width a b x some narrow ∙ ap (λ (differ : Bool). differ && nat_lt x width)
-      (differ_not a b x (same x h))
-  | inr h ↦ differing_at width a b x some narrow ∙ ap (λ (low : Bool). has_column (bit_xor a b) x && low)
-      (le-ltb x width h) ∙ and-false (has_column (bit_xor a b) x)
-]
-
-pub same_rows : (width a b : ℕ) → 0 < width → width ≤ 64 → AreSameRows width a b → differing width a b ≡ 0
-same_rows width a b some narrow same =
-    same_from_bits (differing width a b) 0
-    (λ x. bit_off (differing width a b) x (no_difference width a b some narrow same x) ∙ sym (bit_at-zero x))
+pub same_rows : (width : ℕ) (a b : List Bool) → AreSameRows width a b → set_columns (both_columns (unlike_columns a b) (columns_below width)) ≡ []
+same_rows width a b same =
+    empty_of (both_columns (unlike_columns a b) (columns_below width))
+    (λ x low.
+    both_at (unlike_columns a b) (columns_below width) x low
+    ∙ elim (cases_lt x width) [
+      | inl h ↦ ap (λ (differ : Bool). differ && column_at (columns_below width) x) (alike_at a b x low (same x h))
+      | inr h ↦
+          ap (λ (within : Bool). column_at (unlike_columns a b) x && within) (below_at width x low ∙ le-ltb x width h)
+          ∙ and-false (column_at (unlike_columns a b) x)
+    ])
 
 -- planes --------------------------------------------------------------------------------------------------------------
 
 -- cells of planes that are the same
-cell_of_plane : (width height : ℕ) (first second : List ℕ) (plane cell : ℕ) → 0 < height → cell < width * height →
+cell_of_plane : (width height : ℕ) (first second : List (List Bool)) (plane cell : ℕ) → 0 < height → cell < width * height →
     IsSamePlane width height first second plane →
     has_cell height first cell plane ≡ has_cell height second cell plane
 unfolding has_cell
 cell_of_plane width height first second plane cell some inside same =
     same (cell % height) (mod_below cell height some) (cell / height) (div_below cell height width some inside)
 
-pub column_read : (height : ℕ) (words : List ℕ) (row plane x : ℕ) → row < height →
-    has_column (get_or words (plane * height + row) 0) x ≡ has_cell height words (x * height + row) plane
+pub column_read : (height : ℕ) (words : List (List Bool)) (row plane x : ℕ) → row < height →
+    column_at (row_of words (plane * height + row)) x ≡ has_cell height words (x * height + row) plane
 unfolding has_cell
 column_read height words row plane x under = rw (mod-mul-add x height row under, div-mul-add x height row under) refl
 
-plane_of_cells : (width height : ℕ) (first second : List ℕ) (plane : ℕ) →
+plane_of_cells : (width height : ℕ) (first second : List (List Bool)) (plane : ℕ) →
     ((cell : ℕ) → cell < width * height → has_cell height first cell plane ≡ has_cell height second cell plane) →
     IsSamePlane width height first second plane
 plane_of_cells width height first second plane same = λ row under x h.
@@ -166,12 +119,12 @@ pub other_whole : (table table' : List ℕ) (layers layers' height height' long 
 other_whole table table' layers layers' height height' long a b c whole = whole ∙ rw (a, b, c) refl
 
 -- what another board of the same size for the same game keeps of its words
-pub other_objects : (table table' : List ℕ) (width width' height height' : ℕ) (words : List ℕ) → table' ≡ table →
+pub other_objects : (table table' : List ℕ) (width width' height height' : ℕ) (words : List (List Bool)) → table' ≡ table →
     width' ≡ width → height' ≡ height →
     AreObjectsShown table' height' words (width' * height') → AreObjectsShown table height words (width * height)
 other_objects table table' width width' height height' words a b c shown = let turned = rw (a, b, c) at shown in turned
 
-pub other_motions : (table table' : List ℕ) (width width' height height' layers layers' : ℕ) (words : List ℕ) →
+pub other_motions : (table table' : List ℕ) (width width' height height' layers layers' : ℕ) (words : List (List Bool)) →
     table' ≡ table → width' ≡ width → height' ≡ height → layers' ≡ layers →
     AreMotionsShown table' layers' height' words (width' * height') →
     AreMotionsShown table layers height words (width * height)
@@ -180,7 +133,7 @@ other_motions table table' width width' height height' layers layers' words a b 
 
 -- layers --------------------------------------------------------------------------------------------------------------
 
-pub layer_same : (table : List ℕ) (width height : ℕ) (first second : List ℕ) (layer : ℕ) → 0 < height →
+pub layer_same : (table : List ℕ) (width height : ℕ) (first second : List (List Bool)) (layer : ℕ) → 0 < height →
     AreSamePlanes width height first second (on_layer table layer) →
     AreSamePlanes width height first second (motion_planes (motions_from table layer)) →
     IsSameLayer table width height first second layer
@@ -205,13 +158,13 @@ unfolding back
 object_back None motion = refl
 object_back (Some o) motion = refl
 
-pub slot_object : (table : List ℕ) (height : ℕ) (words : List ℕ) (cell layer : ℕ) →
+pub slot_object : (table : List ℕ) (height : ℕ) (words : List (List Bool)) (cell layer : ℕ) →
     back (object_in (slot_shown table height words cell layer)) ≡ object_shown table height words cell layer
 unfolding slot_shown
 slot_object table height words cell layer =
     object_back (object_shown table height words cell layer) (motion_shown table height words cell layer)
 
-pub same_objects : (table : List ℕ) (width height : ℕ) (first second : List ℕ) (layer : ℕ) →
+pub same_objects : (table : List ℕ) (width height : ℕ) (first second : List (List Bool)) (layer : ℕ) →
     AreObjectsShown table height first (width * height) → AreObjectsShown table height second (width * height) →
     IsSameLayer table width height first second layer → AreSamePlanes width height first second (on_layer table layer)
 same_objects table width height first second layer shown showing same = λ plane listed.
@@ -229,7 +182,7 @@ five_low first q h = elim (cases_lt q first) [
   | inr b ↦ b
 ]
 
-pub same_moves : (table : List ℕ) (width height layers : ℕ) (first second : List ℕ) (layer : ℕ) → layer < layers →
+pub same_moves : (table : List ℕ) (width height layers : ℕ) (first second : List (List Bool)) (layer : ℕ) → layer < layers →
     AreMotionsShown table layers height first (width * height) →
     AreMotionsShown table layers height second (width * height) → IsSameLayer table width height first second layer →
     AreSamePlanes width height first second (motion_planes (motions_from table layer))
@@ -273,12 +226,12 @@ cells_known (x ∷ xs) (y ∷ ys) h =
     ap₂ (λ (z : List Slot) (zs : List (List Slot)). z ∷ zs) (cell_known x y parts.0) (cells_known xs ys parts.1)
 
 -- what two boards of the same size for the same game show
-abbrev pub shown_same : List ℕ → ℕ → ℕ → ℕ → List ℕ → List ℕ → Bool
+abbrev pub shown_same : List ℕ → ℕ → ℕ → ℕ → List (List Bool) → List (List Bool) → Bool
 shown_same table width height layers first second =
     same_cells (cells_shown table layers height first (width * height))
     (cells_shown table layers height second (width * height))
 
-pub board_same : (table : List ℕ) (width height layers : ℕ) (first second : List ℕ) →
+pub board_same : (table : List ℕ) (width height layers : ℕ) (first second : List (List Bool)) →
     ((layer : ℕ) → layer < layers → IsSameLayer table width height first second layer) →
     true ≡ shown_same table width height layers first second
 unfolding cells_shown cell_shown
@@ -289,7 +242,7 @@ board_same table width height layers first second same =
     (λ layer on. same layer on cell inside))))
     ∙ cells_itself (cells_shown table layers height first (width * height)))
 
-layer_of_board : (table : List ℕ) (width height layers : ℕ) (first second : List ℕ) (layer : ℕ) → layer < layers →
+layer_of_board : (table : List ℕ) (width height layers : ℕ) (first second : List (List Bool)) (layer : ℕ) → layer < layers →
     cells_shown table layers height first (width * height) ≡ cells_shown table layers height second (width * height) →
     IsSameLayer table width height first second layer
 layer_of_board table width height layers first second layer on same = λ cell inside.
@@ -297,7 +250,7 @@ layer_of_board table width height layers first second layer on same = λ cell in
     ∙ ap (λ (cells : List (List Slot)). get_or (get_or cells cell []) layer Bare) same
     ∙ slot_read table layers height second (width * height) cell layer inside on
 
-pub board_other : (table : List ℕ) (width height layers : ℕ) (first second : List ℕ) (layer : ℕ) (told : Bool) →
+pub board_other : (table : List ℕ) (width height layers : ℕ) (first second : List (List Bool)) (layer : ℕ) (told : Bool) →
     layer < layers → told ≡ false →
     (IsSameLayer table width height first second layer → told ≡ true) →
     false ≡ shown_same table width height layers first second

@@ -11,7 +11,7 @@ use Rattle.ps_model.specs.board.Movement.{is_number}
 use Rattle.ps_model.specs.session.Frames.{objects_in}
 use Rattle.ps_board.specs.ColumnSets.{column_at}
 use Rattle.ps_board.specs.Rows.{DifferOnlyOn}
-use Rattle.ps_rows.specs.Planes.{has_cell, has_column}
+use Rattle.ps_rows.specs.Planes.{has_cell}
 use Rattle.ps_rows.specs.PlaneCopies.{AreRowsOf}
 use Rattle.ps_rows.specs.Members.{on_layer}
 use Rattle.ps_rows.specs.Showing.{numbered, motions_from, object_shown, slot_shown, cell_shown, cells_shown, cleared_from, grid_shown, AreObjectsShown}
@@ -21,14 +21,14 @@ use Rattle.ps_rows.proofs.Rests.{cells_rested, slot_of_rested}
 use Rattle.ps_rows.proofs.MemberRanges.{listed_member}
 use Rattle.ps_rows.proofs.Tables.{tabled_at, tabled_same}
 
-module _ (table : List ℕ) (height : ℕ) (rows : List Bool) (first second copied : List ℕ) (some : 0 < height) (are : AreRowsOf height 0 (length table) rows first second copied) where
+module _ (table : List ℕ) (height : ℕ) (rows : List Bool) (first second copied : List (List Bool)) (some : 0 < height) (are : AreRowsOf height 0 (length table) rows first second copied) where
   cell_copied : (c o : ℕ) → o < length table → column_at rows (c % height) ≡ true → has_cell height copied c o ≡ has_cell height first c o
   unfolding has_cell
-  cell_copied c o below on = ap (λ (word : ℕ). has_column word (c / height)) (are.copied o (c % height) (mod_below c height some) (omega arith) below on)
+  cell_copied c o below on = ap (λ (word : List Bool). column_at word (c / height)) (are.copied o (c % height) (mod_below c height some) (omega arith) below on)
 
   cell_left : (c o : ℕ) → column_at rows (c % height) ≡ false → has_cell height copied c o ≡ has_cell height second c o
   unfolding has_cell
-  cell_left c o off = ap (λ (word : ℕ). has_column word (c / height)) (are.left o (c % height) (mod_below c height some) off)
+  cell_left c o off = ap (λ (word : List Bool). column_at word (c / height)) (are.left o (c % height) (mod_below c height some) off)
 
   object_copied : (c l : ℕ) → column_at rows (c % height) ≡ true → object_shown table height copied c l ≡ object_shown table height first c l
   unfolding object_shown
@@ -83,7 +83,7 @@ module _ (table : List ℕ) (height : ℕ) (rows : List Bool) (first second copi
           tabled_same (slot_shown table height (cleared_from (length table * height) copied) c) (slot_shown table height (cleared_from (length table * height) first) c) layers
           (λ l on. slots_kept c l inside on))
 
-      pub grid_copied : (written : List ℕ) → written ≡ cleared_from (length table * height) copied →
+      pub grid_copied : (written : List (List Bool)) → written ≡ cleared_from (length table * height) copied →
           grid_shown table width height layers written ≡ at_rest (grid_shown table width height layers first)
       grid_copied written so =
           rw so

@@ -1,5 +1,5 @@
 -- What a write makes of a layer in columns of a row.
-use Rattle.std.proofs.Common.{◌≡◌, ◌≢◌, ◌∙◌, ℕ, ◌+◌, ◌-◌, ◌*◌, ◌/◌, ◌%◌, ◌^◌, ◌<◌, ◌≤◌, inl, inr, Bool, true, false, not, ◌&&◌, ◌||◌, Option, Some, None, List, [], ◌∷◌, length, get_or, take, refl, sym, ap, ap₂, arith, bit_and, bit_or}
+use Rattle.std.proofs.Common.{◌≡◌, ◌≢◌, ◌∙◌, ℕ, ◌+◌, ◌-◌, ◌*◌, ◌/◌, ◌%◌, ◌^◌, ◌<◌, ◌≤◌, inl, inr, Bool, true, false, not, ◌&&◌, ◌||◌, Option, Some, None, List, [], ◌∷◌, length, get_or, take, refl, sym, ap, ap₂, arith}
 use Rattle.std.specs.Prelude.{nat_eq, find, option_map, slice_get}
 use Rattle.std.specs.List.{list_any}
 use Rattle.std.proofs.Math.Nat.{div-add-mod}
@@ -22,24 +22,24 @@ use Rattle.ps_model.specs.meaning.Fitting.{same_motion}
 use Rattle.ps_laws.proofs.common.SameThings.{is_number-true}
 use Rattle.ps_match.specs.InRoom.{SlotHasRoom, own_write, slot_after, write_in_room}
 use Rattle.ps_match.proofs.OwnWrites.{after_value, room_after}
-use Rattle.ps_rows.specs.Planes.{has_cell, has_column}
+use Rattle.ps_rows.specs.Planes.{has_cell, row_of}
 use Rattle.ps_rows.specs.Members.{on_layer}
-use Rattle.ps_rows.specs.RowChanges.{bit_after, motions_by, motions_change, moves_kept, objects_by, objects_change}
+use Rattle.ps_rows.specs.RowChanges.{Change, bit_after, motions_by, motions_change, moves_kept, objects_by, objects_change}
 use Rattle.ps_rows.specs.RowTests.{IsRowOf, IsWithin}
 use Rattle.ps_rows.specs.Showing.{numbered, motion_plane, motions_from, object_shown, motion_shown, slot_shown, grid_shown}
 use Rattle.ps_rows.specs.SlotsWritten.{IsLayerChange, goes_from, loses, one_goes, slot_if, slot_number, stands, stands_on}
-use Rattle.ps_rows.specs.declared.changes.RowChange.{RowChange}
 use Rattle.ps_rows.proofs.Alike.{column_read}
-use Rattle.ps_rows.proofs.Bits.{has_column-zero}
 use Rattle.ps_rows.proofs.Rests.{object_room, slot_read}
-use Rattle.ps_rows.proofs.Scans.{has_column-and, has_column-not, has_column-or}
+use Rattle.ps_rows.proofs.Sets.{both_at, either_at, none_at, without_at}
 use Rattle.ps_rows.proofs.SlotChanges.{motion_bit, object_bit}
+use Rattle.ps_board.specs.ColumnSets.{both_columns, column_at, columns_without, either_columns, no_columns}
+use Rattle.ps_model.specs.declared.limits.TheConstants.{SIDE_LIMIT}
 
 -- what goes --------------------------------------------------------------------------------------------------------------
 
-pub stays_here : (g : Grid) (row layer : ℕ) (each : LayeredObject) → (each.layer).0 ≢ layer → IsRowOf g row 0 (λ cell. goes_from layer cell each)
+pub stays_here : (g : Grid) (row layer : ℕ) (each : LayeredObject) → (each.layer).0 ≢ layer → IsRowOf g row no_columns (λ cell. goes_from layer cell each)
 stays_here g row layer each other = λ x h.
-    has_column-zero x ∙ sym (ap (λ (b : Bool). b && is_held_in (cell_at g (x * g.height + row)) each) (ne_eqb (each.layer).0 layer other))
+    none_at x ∙ sym (ap (λ (b : Bool). b && is_held_in (cell_at g (x * g.height + row)) each) (ne_eqb (each.layer).0 layer other))
 
 one_loses : (layer : ℕ) (cell : List Slot) (each : LayeredObject) (s : Slot) → get_or cell layer Bare ≡ s → goes_from layer cell each ≡ (nat_eq (each.layer).0 layer && slot_holds each.object s)
 one_loses layer cell each s e = elim (cases_eq (each.layer).0 layer) [
@@ -59,14 +59,14 @@ goes_loses (each ∷ gone) layer cell (Holds object motion) e =
 
 -- what stands ------------------------------------------------------------------------------------------------------------
 
-abbrev pub has_at : ℕ → ℕ → List ℕ → ℕ → ℕ → Bool
-has_at height row words x plane = has_column (get_or words (plane * height + row) 0) x
+abbrev pub has_at : ℕ → ℕ → List (List Bool) → ℕ → ℕ → Bool
+has_at height row words x plane = column_at (row_of words (plane * height + row)) x
 
-pub standing_more : (height row : ℕ) (words planes : List ℕ) (k word part : ℕ) → k < length planes → part ≡ get_or words (get_or planes k 0 * height + row) 0 →
-    ((x : ℕ) → has_column word x ≡ list_any (has_at height row words x) (take k planes)) → (x : ℕ) →
-    has_column (bit_or word part) x ≡ list_any (has_at height row words x) (take (k + 1) planes)
-standing_more height row words planes k word part below e so x =
-    has_column-or word part x ∙ ap₂ (λ (a b : Bool). a || b) (so x) (ap (λ (w : ℕ). has_column w x) e) ∙ sym (list_any_more (has_at height row words x) planes k 0 below)
+pub standing_more : (height row : ℕ) (words : List (List Bool)) (planes : List ℕ) (k : ℕ) (word part : List Bool) → k < length planes → part ≡ row_of words (get_or planes k 0 * height + row) →
+    ((x : ℕ) → x < SIDE_LIMIT → column_at word x ≡ list_any (has_at height row words x) (take k planes)) → (x : ℕ) → x < SIDE_LIMIT →
+    column_at (either_columns word part) x ≡ list_any (has_at height row words x) (take (k + 1) planes)
+standing_more height row words planes k word part below e so x low =
+    either_at word part x low ∙ ap₂ (λ (a b : Bool). a || b) (so x low) (ap (λ (w : List Bool). column_at w x) e) ∙ sym (list_any_more (has_at height row words x) planes k 0 below)
 
 abbrev found : Option ℕ → Bool
 found None = false
@@ -84,14 +84,14 @@ stands_found : (object : Option ℕ) (motion : Motion) → stands (slot_of (opti
 stands_found None motion = refl
 stands_found (Some o) motion = refl
 
-pub number_shown : (table : List ℕ) (height : ℕ) (words : List ℕ) (cell layer : ℕ) → slot_number (slot_shown table height words cell layer) ≡ object_shown table height words cell layer
+pub number_shown : (table : List ℕ) (height : ℕ) (words : List (List Bool)) (cell layer : ℕ) → slot_number (slot_shown table height words cell layer) ≡ object_shown table height words cell layer
 unfolding slot_shown
 number_shown table height words cell layer = number_of (object_shown table height words cell layer) (motion_shown table height words cell layer) where
   number_of : (object : Option ℕ) (motion : Motion) → slot_number (slot_of (option_map numbered object) motion) ≡ object
   number_of None motion = refl
   number_of (Some o) motion = refl
 
-pub stands_shown : (table : List ℕ) (height : ℕ) (words : List ℕ) (cell layer : ℕ) → list_any (has_cell height words cell) (on_layer table layer) ≡ stands (slot_shown table height words cell layer)
+pub stands_shown : (table : List ℕ) (height : ℕ) (words : List (List Bool)) (cell layer : ℕ) → list_any (has_cell height words cell) (on_layer table layer) ≡ stands (slot_shown table height words cell layer)
 unfolding slot_shown object_shown
 stands_shown table height words cell layer =
     any_found (has_cell height words cell) (on_layer table layer)
@@ -105,7 +105,7 @@ cell_again height row c e =
     let turned : c / height * height ≡ height * (c / height) = omega arith in
     omega (arith, whole, turned, e)
 
-module _ (table : List ℕ) (width height layers : ℕ) (words : List ℕ) (layer row : ℕ) (some : 0 < height) (narrow : width ≤ 64) (under : row < height) (on : layer < layers) where
+module _ (table : List ℕ) (width height layers : ℕ) (words : List (List Bool)) (layer row : ℕ) (some : 0 < height) (narrow : width ≤ SIDE_LIMIT) (under : row < height) (on : layer < layers) where
   abbrev g : Grid
   g = grid_shown table width height layers words
 
@@ -121,9 +121,9 @@ module _ (table : List ℕ) (width height layers : ℕ) (words : List ℕ) (laye
   inside_row : (x : ℕ) → x < width → x * height + row < width * height
   inside_row x h = let place : x * height + row < height * width = mul-add-lt x height row width h under in omega arith
 
-  pub standing_is : (word : ℕ) → ((x : ℕ) → has_column word x ≡ list_any (has_at height row words x) (on_layer table layer)) → IsRowOf g row word (stands_on layer)
+  pub standing_is : (word : List Bool) → ((x : ℕ) → x < SIDE_LIMIT → column_at word x ≡ list_any (has_at height row words x) (on_layer table layer)) → IsRowOf g row word (stands_on layer)
   standing_is word so = λ x h.
-      so x
+      so x (omega (arith, h, narrow))
       ∙ any_same (has_at height row words x) (has_cell height words (x * height + row)) (on_layer table layer) (λ p. column_read height words row p x under)
       ∙ stands_shown table height words (x * height + row) layer
       ∙ ap stands (sym (read (x * height + row) (inside_row x h)))
@@ -149,44 +149,47 @@ module _ (table : List ℕ) (width height layers : ℕ) (words : List ℕ) (laye
   unchanged true k n s e f = rw e refl
   unchanged false k n s e f = rw f (and-false n)
 
-  module _ (columns freed x p : ℕ) (before : Bool) (off : has_column columns x ≡ false) (none : has_column freed x ≡ false) where
+  module _ (columns freed : List Bool) (x p : ℕ) (before : Bool) (off : column_at columns x ≡ false) (none : column_at freed x ≡ false) where
     objects_beyond : (own : Option LayerWrite) → bit_after (objects_change own columns freed) p x before ≡ before
-    objects_beyond None = unchanged before (has_column freed x) false (has_column 0 x) none (has_column-zero x)
+    objects_beyond None = unchanged before (column_at freed x) false (column_at no_columns x) none (none_at x)
     objects_beyond (Some write) = by write.object where
       by : (object : ObjectWrite) → bit_after (objects_by object columns freed) p x before ≡ before
-      by (Put object) = unchanged before (has_column columns x) (is_number (Some object.0) p) (has_column columns x) off off
-      by Leave = unchanged before (has_column freed x) false (has_column 0 x) none (has_column-zero x)
-      by Clear = unchanged before (has_column columns x) false (has_column 0 x) off (has_column-zero x)
+      by (Put object) = unchanged before (column_at columns x) (is_number (Some object.0) p) (column_at columns x) off off
+      by Leave = unchanged before (column_at freed x) false (column_at no_columns x) none (none_at x)
+      by Clear = unchanged before (column_at columns x) false (column_at no_columns x) off (none_at x)
 
-    motions_beyond : (first kept : ℕ) (own : Option LayerWrite) → has_column kept x ≡ false → bit_after (motions_change first own columns freed kept) p x before ≡ before
-    motions_beyond first kept None gone = unchanged before (has_column freed x) false (has_column 0 x) none (has_column-zero x)
+    motions_beyond : (first : ℕ) (kept : List Bool) (own : Option LayerWrite) → column_at kept x ≡ false → bit_after (motions_change first own columns freed kept) p x before ≡ before
+    motions_beyond first kept None gone = unchanged before (column_at freed x) false (column_at no_columns x) none (none_at x)
     motions_beyond first kept (Some write) gone = by write.object write.motion where
       by : (object : ObjectWrite) (motion : Option Motion) → bit_after (motions_by first object motion columns freed kept) p x before ≡ before
-      by (Put object) None = unchanged before (has_column freed x) false (has_column 0 x) none (has_column-zero x)
-      by (Put object) (Some motion) = unchanged before (has_column columns x) (is_number (motion_plane first motion) p) (has_column columns x) off off
-      by Leave None = unchanged before (has_column freed x) false (has_column 0 x) none (has_column-zero x)
-      by Leave (Some motion) = unchanged before (has_column columns x) (is_number (motion_plane first motion) p) (has_column kept x) off gone
-      by Clear motion = unchanged before (has_column columns x) false (has_column 0 x) off (has_column-zero x)
+      by (Put object) None = unchanged before (column_at freed x) false (column_at no_columns x) none (none_at x)
+      by (Put object) (Some motion) = unchanged before (column_at columns x) (is_number (motion_plane first motion) p) (column_at columns x) off off
+      by Leave None = unchanged before (column_at freed x) false (column_at no_columns x) none (none_at x)
+      by Leave (Some motion) = unchanged before (column_at columns x) (is_number (motion_plane first motion) p) (column_at kept x) off gone
+      by Clear motion = unchanged before (column_at columns x) false (column_at no_columns x) off (none_at x)
 
   -- the whole
-  module _ (write : CellWrite) (columns gone standing : ℕ) (fits : columns < 2 ^ 64) (fits_freed : bit_and columns gone < 2 ^ 64) (within : IsWithin g columns) (gone_is : IsRowOf g row gone (one_goes write.gone layer))
+  module _ (write : CellWrite) (columns gone standing : List Bool) (within : IsWithin g columns) (gone_is : IsRowOf g row gone (one_goes write.gone layer))
       (standing_so : moves_kept (own_write (Some table) layer write.layers) ≡ true → IsRowOf g row standing (stands_on layer)) where
     abbrev own : Option LayerWrite
     own = own_write (Some table) layer write.layers
 
-    abbrev freed : ℕ
-    freed = bit_and columns gone
+    abbrev freed : List Bool
+    freed = both_columns columns gone
 
-    abbrev kept : ℕ
-    kept = bit_and (bit_and columns (18446744073709551615 - freed)) standing
+    abbrev kept : List Bool
+    kept = both_columns (columns_without columns freed) standing
 
     abbrev becomes : Slot → Slot
     becomes = slot_after (write_in_room (Some table) write) layer
 
-    freed_at : (c : ℕ) → c < width * height → c % height ≡ row → has_column freed (c / height) ≡ (has_column columns (c / height) && loses write.gone layer (slot c))
+    low : (c : ℕ) → c < width * height → c / height < SIDE_LIMIT
+    low c inside = let narrower : c / height < width = wide c inside in omega (arith, narrower, narrow)
+
+    freed_at : (c : ℕ) → c < width * height → c % height ≡ row → column_at freed (c / height) ≡ (column_at columns (c / height) && loses write.gone layer (slot c))
     freed_at c inside e =
-        has_column-and columns gone (c / height)
-        ∙ ap (λ (b : Bool). has_column columns (c / height) && b)
+        both_at columns gone (c / height) (low c inside)
+        ∙ ap (λ (b : Bool). column_at columns (c / height) && b)
         (gone_is (c / height) (wide c inside) ∙ ap (λ (n : ℕ). one_goes write.gone layer (cell_at g n)) (cell_again height row c e)
         ∙ goes_loses write.gone layer (cell_at g c) (slot c) (read c inside))
 
@@ -196,36 +199,35 @@ module _ (table : List ℕ) (width height layers : ℕ) (words : List ℕ) (laye
     stands_left lost true (Holds object motion) = elim (cases_Bool (loses lost layer (Holds object motion))) [ inl goes ↦ rw goes refl | inr stays ↦ rw stays refl ]
 
     kept_at : (c : ℕ) → c < width * height → c % height ≡ row → moves_kept own ≡ true →
-        has_column kept (c / height) ≡ (has_column columns (c / height) && stands (slot_freed write.gone layer (slot c)))
+        column_at kept (c / height) ≡ (column_at columns (c / height) && stands (slot_freed write.gone layer (slot c)))
     kept_at c inside e moves =
-        let low : c / height < 64 = let narrower : c / height < width = wide c inside in omega arith in
-        has_column-and (bit_and columns (18446744073709551615 - freed)) standing (c / height)
+        both_at (columns_without columns freed) standing (c / height) (low c inside)
         ∙ ap₂ (λ (a b : Bool). a && b)
-        (has_column-and columns (18446744073709551615 - freed) (c / height)
-        ∙ ap (λ (b : Bool). has_column columns (c / height) && b) (has_column-not freed (c / height) fits_freed low ∙ ap not (freed_at c inside e)))
+        (without_at columns freed (c / height) (low c inside)
+        ∙ ap (λ (b : Bool). column_at columns (c / height) && not b) (freed_at c inside e))
         (standing_so moves (c / height) (wide c inside) ∙ ap (λ (n : ℕ). stands_on layer (cell_at g n)) (cell_again height row c e) ∙ ap stands (read c inside))
-        ∙ stands_left write.gone (has_column columns (c / height)) (slot c)
+        ∙ stands_left write.gone (column_at columns (c / height)) (slot c)
 
-    off_beyond : (x : ℕ) → width ≤ x → x < 64 → has_column freed x ≡ false
-    off_beyond x far low = has_column-and columns gone x ∙ ap (λ (b : Bool). b && has_column gone x) (within x far low)
+    off_beyond : (x : ℕ) → width ≤ x → x < SIDE_LIMIT → column_at freed x ≡ false
+    off_beyond x far below = both_at columns gone x below ∙ ap (λ (b : Bool). b && column_at gone x) (within x far below)
 
-    kept_beyond : (x : ℕ) → width ≤ x → x < 64 → has_column kept x ≡ false
-    kept_beyond x far low =
-        has_column-and (bit_and columns (18446744073709551615 - freed)) standing x
-        ∙ ap (λ (b : Bool). b && has_column standing x)
-        (has_column-and columns (18446744073709551615 - freed) x ∙ ap (λ (b : Bool). b && has_column (18446744073709551615 - freed) x) (within x far low))
+    kept_beyond : (x : ℕ) → width ≤ x → x < SIDE_LIMIT → column_at kept x ≡ false
+    kept_beyond x far below =
+        both_at (columns_without columns freed) standing x below
+        ∙ ap (λ (b : Bool). b && column_at standing x)
+        (without_at columns freed x below ∙ ap (λ (b : Bool). b && not (column_at freed x)) (within x far below))
 
-    pub layer_changed : (first : ℕ) (objects motions : RowChange) → first ≡ motions_from table layer → objects ≡ objects_change own columns freed →
+    pub layer_changed : (first : ℕ) (objects motions : Change) → first ≡ motions_from table layer → objects ≡ objects_change own columns freed →
         motions ≡ motions_change first own columns freed kept → IsLayerChange table width height words layer row columns becomes objects motions
     layer_changed first objects motions e f h =
         rw (f, h, e) (record {
           object = λ c o inside so.
               object_bit write.gone layer columns freed (c / height) (slot c) (freed_at c inside so) own o
-              ∙ ap (λ (t : Slot). is_number (slot_number (slot_if (has_column columns (c / height)) (λ s. t) (slot c))) o) (sym (after_value (Some table) layer write (slot c)));
+              ∙ ap (λ (t : Slot). is_number (slot_number (slot_if (column_at columns (c / height)) (λ s. t) (slot c))) o) (sym (after_value (Some table) layer write (slot c)));
           motion = λ c m q inside so plane.
               motion_bit write.gone layer columns freed (c / height) (slot c) (freed_at c inside so) (motions_from table layer) kept own m q plane (kept_at c inside so)
-              ∙ ap (λ (t : Slot). same_motion m (motion_in (slot_if (has_column columns (c / height)) (λ s. t) (slot c)))) (sym (after_value (Some table) layer write (slot c)));
-          room = λ c o inside so is. room_of (slot_if (has_column columns (c / height)) becomes (slot c)) o (room_if write (has_column columns (c / height)) (slot c) (room_before c)) is;
+              ∙ ap (λ (t : Slot). same_motion m (motion_in (slot_if (column_at columns (c / height)) (λ s. t) (slot c)))) (sym (after_value (Some table) layer write (slot c)));
+          room = λ c o inside so is. room_of (slot_if (column_at columns (c / height)) becomes (slot c)) o (room_if write (column_at columns (c / height)) (slot c) (room_before c)) is;
           beyond_objects = λ x p before far low. objects_beyond columns freed x p before (within x far low) (off_beyond x far low) own;
           beyond_motions = λ x p before far low. motions_beyond columns freed x p before (within x far low) (off_beyond x far low) (motions_from table layer) kept own (kept_beyond x far low);
         })

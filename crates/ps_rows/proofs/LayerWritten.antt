@@ -14,12 +14,11 @@ use Rattle.ps_model.specs.board.Grid.{Grid, motion_in, slot_at, slot_of}
 use Rattle.ps_model.specs.board.Movement.{is_number}
 use Rattle.ps_model.specs.meaning.Fitting.{same_motion}
 use Rattle.ps_laws.proofs.common.SameThings.{same_slot-own}
-use Rattle.ps_rows.specs.Planes.{has_cell, has_column}
+use Rattle.ps_rows.specs.Planes.{has_cell, row_of}
 use Rattle.ps_rows.specs.Members.{on_layer}
-use Rattle.ps_rows.specs.RowChanges.{AreRowsLeft, IsLayerWritten, bit_after}
+use Rattle.ps_rows.specs.RowChanges.{AreRowsLeft, Change, IsLayerWritten, bit_after}
 use Rattle.ps_rows.specs.Showing.{numbered, motion_plane, motion_planes, motions_from, object_shown, motion_shown, slot_shown, grid_shown, AreObjectsShown, AreMotionsShown}
 use Rattle.ps_rows.specs.SlotsWritten.{AreSlotsLeft, AreSlotsWritten, IsLayerChange, in_columns, slot_if, slot_number}
-use Rattle.ps_rows.specs.declared.changes.RowChange.{RowChange}
 use Rattle.ps_rows.proofs.Alike.{column_read, five_motion, slot_known}
 use Rattle.ps_rows.proofs.LayerChanges.{number_shown}
 use Rattle.ps_rows.proofs.Listed.{find_listed, find_object, find_same}
@@ -28,6 +27,8 @@ use Rattle.ps_rows.proofs.Puts.{apart_from}
 use Rattle.ps_rows.proofs.Rests.{slot_read}
 use Rattle.ps_rows.proofs.MemberRanges.{listed_member, member_listed, not_listed}
 use Rattle.ps_rows.proofs.Whole.{columns_low}
+use Rattle.ps_board.specs.ColumnSets.{column_at}
+use Rattle.ps_model.specs.declared.limits.TheConstants.{SIDE_LIMIT}
 
 slot_again : (t : Slot) → slot_of (option_map numbered (slot_number t)) (motion_in t) ≡ t
 slot_again Bare = refl
@@ -39,7 +40,7 @@ listed_below table layer planes first e f p listed =
     let below : p < length table = slice_get_within table p layer (listed_member table layer p (ap (list_any (nat_eq p)) (sym e) ∙ listed)) in
     omega (arith, below, f)
 
-module _ (table : List ℕ) (width height layers : ℕ) (words written : List ℕ) (layer row columns : ℕ) (after : ℕ → Slot → Slot) (objects motions : RowChange) (some : 0 < height) (narrow : width ≤ 64)
+module _ (table : List ℕ) (width height layers : ℕ) (words written : List (List Bool)) (layer row : ℕ) (columns : List Bool) (after : ℕ → Slot → Slot) (objects motions : Change) (some : 0 < height) (narrow : width ≤ SIDE_LIMIT)
     (under : row < height) (on : layer < layers) (change : IsLayerChange table width height words layer row columns (after layer) objects motions)
     (made : IsLayerWritten height row words written (on_layer table layer) objects (motions_from table layer) motions) (objects_before : AreObjectsShown table height words (width * height))
     (motions_before : AreMotionsShown table layers height words (width * height)) where
@@ -55,21 +56,21 @@ module _ (table : List ℕ) (width height layers : ℕ) (words written : List �
   abbrev target : ℕ → ℕ → Slot
   target c l = slot_if (chosen c && nat_eq l layer) (after l) (slot c l)
 
-  low : (c : ℕ) → c < width * height → c / height < 64
+  low : (c : ℕ) → c < width * height → c / height < SIDE_LIMIT
   low c inside = columns_low width height some narrow c inside
 
-  target_there : (c l : ℕ) → c % height ≡ row → l ≡ layer → target c l ≡ slot_if (has_column columns (c / height)) (after layer) (slot c layer)
+  target_there : (c l : ℕ) → c % height ≡ row → l ≡ layer → target c l ≡ slot_if (column_at columns (c / height)) (after layer) (slot c layer)
   target_there c l e f =
-      ap₂ (λ (a b : Bool). slot_if ((a && has_column columns (c / height)) && b) (after l) (slot c l)) (eq-eqb (c % height) row e) (eq-eqb l layer f)
-      ∙ ap (λ (b : Bool). slot_if b (after l) (slot c l)) (and-true (has_column columns (c / height)))
-      ∙ ap (λ (k : ℕ). slot_if (has_column columns (c / height)) (after k) (slot c k)) f
+      ap₂ (λ (a b : Bool). slot_if ((a && column_at columns (c / height)) && b) (after l) (slot c l)) (eq-eqb (c % height) row e) (eq-eqb l layer f)
+      ∙ ap (λ (b : Bool). slot_if b (after l) (slot c l)) (and-true (column_at columns (c / height)))
+      ∙ ap (λ (k : ℕ). slot_if (column_at columns (c / height)) (after k) (slot c k)) f
 
   target_elsewhere : (c l : ℕ) → (c % height ≡ row → l ≢ layer) → target c l ≡ slot c l
   target_elsewhere c l apart = elim (cases_eq (c % height) row) [
     | inl e ↦
         ap (λ (b : Bool). slot_if (chosen c && b) (after l) (slot c l)) (ne_eqb l layer (apart e))
         ∙ ap (λ (b : Bool). slot_if b (after l) (slot c l)) (and-false (chosen c))
-    | inr n ↦ ap (λ (b : Bool). slot_if ((b && has_column columns (c / height)) && nat_eq l layer) (after l) (slot c l)) (ne_eqb (c % height) row n)
+    | inr n ↦ ap (λ (b : Bool). slot_if ((b && column_at columns (c / height)) && nat_eq l layer) (after l) (slot c l)) (ne_eqb (c % height) row n)
   ]
 
   object_before : (c l o : ℕ) → c < width * height → slice_get table o ≡ Some l → has_cell height words c o ≡ is_number (slot_number (slot c l)) o
@@ -80,9 +81,9 @@ module _ (table : List ℕ) (width height layers : ℕ) (words written : List �
   unfolding has_cell
   object_there c l o inside own e f =
       let mine : slice_get table o ≡ Some layer = own ∙ ap Some f in
-      ap (λ (y : ℕ). has_column (get_or written (o * height + y) 0) (c / height)) e
+      ap (λ (y : ℕ). column_at (row_of written (o * height + y)) (c / height)) e
       ∙ made.objects_there o (c / height) (member_listed table layer o mine) (low c inside)
-      ∙ ap (bit_after objects o (c / height)) (sym (ap (λ (y : ℕ). has_column (get_or words (o * height + y) 0) (c / height)) e) ∙ object_before c layer o inside mine)
+      ∙ ap (bit_after objects o (c / height)) (sym (ap (λ (y : ℕ). column_at (row_of words (o * height + y)) (c / height)) e) ∙ object_before c layer o inside mine)
       ∙ change.object c o inside e
       ∙ sym (ap (λ (t : Slot). is_number (slot_number t) o) (target_there c l e f))
 
@@ -91,7 +92,7 @@ module _ (table : List ℕ) (width height layers : ℕ) (words written : List �
   object_elsewhere c l o inside own apart =
       let below : o < length table = slice_get_within table o l own in
       let before : o < first = omega arith in
-      ap (λ (w : ℕ). has_column w (c / height))
+      ap (λ (w : List Bool). column_at w (c / height))
       (made.elsewhere o (c % height) (mod_below c height some) (λ e. not_listed table layer o (λ other. apart e (same_Some l layer (sym own ∙ other)))) (λ e. five_false first o (inl before)))
       ∙ object_before c l o inside own
       ∙ sym (ap (λ (t : Slot). is_number (slot_number t) o) (target_elsewhere c l apart))
@@ -108,9 +109,9 @@ module _ (table : List ℕ) (width height layers : ℕ) (words written : List �
   unfolding has_cell
   motion_there c l m q inside plane e f =
       let mine : motion_plane first m ≡ Some q = ap (λ (k : ℕ). motion_plane (motions_from table k) m) (sym f) ∙ plane in
-      ap (λ (y : ℕ). has_column (get_or written (q * height + y) 0) (c / height)) e
+      ap (λ (y : ℕ). column_at (row_of written (q * height + y)) (c / height)) e
       ∙ made.motions_there q (c / height) (five_true first m q mine) (low c inside)
-      ∙ ap (bit_after motions q (c / height)) (sym (ap (λ (y : ℕ). has_column (get_or words (q * height + y) 0) (c / height)) e) ∙ motions_before c layer m q inside on mine)
+      ∙ ap (bit_after motions q (c / height)) (sym (ap (λ (y : ℕ). column_at (row_of words (q * height + y)) (c / height)) e) ∙ motions_before c layer m q inside on mine)
       ∙ change.motion c m q inside e mine
       ∙ sym (ap (λ (t : Slot). same_motion m (motion_in t)) (target_there c l e f))
 
@@ -120,7 +121,7 @@ module _ (table : List ℕ) (width height layers : ℕ) (words written : List �
   motion_elsewhere c l m q inside below plane apart =
       let above : motions_from table l ≤ q = plane_low (motions_from table l) m q plane in
       let behind : length table ≤ q = omega arith in
-      ap (λ (w : ℕ). has_column w (c / height))
+      ap (λ (w : List Bool). column_at w (c / height))
       (made.elsewhere q (c % height) (mod_below c height some)
       (λ e. not_listed table layer q (λ own. let within : q < length table = slice_get_within table q layer own in absurd (omega arith)))
       (λ e. five_false first q (apart_from table l layer q (apart e) above (plane_high (motions_from table l) m q plane))))
@@ -172,7 +173,7 @@ module _ (table : List ℕ) (width height layers : ℕ) (words written : List �
   motions_again = λ c l m q inside below plane. motion_bit c l m q inside below plane ∙ sym (ap (λ (t : Slot). same_motion m (motion_in t)) (slot_now c l inside below))
 
   -- the slots that were written, and where nothing changed
-  abbrev g : List ℕ → Grid
+  abbrev g : List (List Bool) → Grid
   g ws = grid_shown table width height layers ws
 
   pub slots_written : AreSlotsWritten (g words) (g written) chosen (λ l. nat_eq l layer) after
@@ -184,12 +185,12 @@ module _ (table : List ℕ) (width height layers : ℕ) (words written : List �
   slots_left same = λ c l inside below here there.
       let read : slot_at (g words) c l ≡ slot c l = slot_read table layers height words (width * height) c l inside below in
       let stays : slot c l ≡ after l (slot c l) =
-      ap (λ (ws : List ℕ). slot_shown table height ws c l) (sym same) ∙ slot_now c l inside below ∙ ap₂ (λ (a b : Bool). slot_if (a && b) (after l) (slot c l)) here there in
+      ap (λ (ws : List (List Bool)). slot_shown table height ws c l) (sym same) ∙ slot_now c l inside below ∙ ap₂ (λ (a b : Bool). slot_if (a && b) (after l) (slot c l)) here there in
       ap (λ (s : Slot). same_slot s (after l s)) read ∙ ap (same_slot (slot c l)) (sym stays) ∙ same_slot-own (slot c l)
 
   module _ (all : AreSlotsLeft (g words) chosen (λ l. nat_eq l layer) after) where
-    left_slot : (c : ℕ) → c < width * height → c % height ≡ row → slot_if (has_column columns (c / height)) (after layer) (slot c layer) ≡ slot c layer
-    left_slot c inside e = elim (cases_Bool (has_column columns (c / height))) [
+    left_slot : (c : ℕ) → c < width * height → c % height ≡ row → slot_if (column_at columns (c / height)) (after layer) (slot c layer) ≡ slot c layer
+    left_slot c inside e = elim (cases_Bool (column_at columns (c / height))) [
       | inl here ↦
           let read : slot_at (g words) c layer ≡ slot c layer = slot_read table layers height words (width * height) c layer inside on in
           let sure : chosen c ≡ true = ap₂ (λ (a b : Bool). a && b) (eq-eqb (c % height) row e) here in
@@ -208,13 +209,13 @@ module _ (table : List ℕ) (width height layers : ℕ) (words written : List �
           let c : ℕ = x * height + row in
           let at_row : c % height ≡ row = mod-mul-add x height row under in
           let column : c / height ≡ x = div-mul-add x height row under in
-          let bit : has_column (get_or words (p * height + row) 0) x ≡ is_number (slot_number (slot c layer)) p =
+          let bit : column_at (row_of words (p * height + row)) x ≡ is_number (slot_number (slot c layer)) p =
           column_read height words row p x under ∙ object_before c layer p (cell_inside x h) (listed_member table layer p listed) in
           ap₂ (λ (y : ℕ) (b : Bool). bit_after objects p y b) (sym column) bit
           ∙ change.object c p (cell_inside x h) at_row
           ∙ ap (λ (t : Slot). is_number (slot_number t) p) (left_slot c (cell_inside x h) at_row)
           ∙ sym bit
-      | inr far ↦ change.beyond_objects x p (has_column (get_or words (p * height + row) 0) x) far x_low
+      | inr far ↦ change.beyond_objects x p (column_at (row_of words (p * height + row)) x) far x_low
     ]
 
     pub motions_left : AreRowsLeft height row motions words (motion_planes first)
@@ -227,11 +228,11 @@ module _ (table : List ℕ) (width height layers : ℕ) (words written : List �
           let above : first ≤ q = elim (cases_lt q first) [ inl under_it ↦ absurd (false≢true (sym (five_false first q (inl under_it)) ∙ listed)) | inr over ↦ over ] in
           let named = five_motion first q above high in
           let m : Motion = named.0 in
-          let bit : has_column (get_or words (q * height + row) 0) x ≡ same_motion m (motion_in (slot c layer)) =
+          let bit : column_at (row_of words (q * height + row)) x ≡ same_motion m (motion_in (slot c layer)) =
           column_read height words row q x under ∙ motions_before c layer m q (cell_inside x h) on named.1 in
           ap₂ (λ (y : ℕ) (b : Bool). bit_after motions q y b) (sym column) bit
           ∙ change.motion c m q (cell_inside x h) at_row named.1
           ∙ ap (λ (t : Slot). same_motion m (motion_in t)) (left_slot c (cell_inside x h) at_row)
           ∙ sym bit
-      | inr far ↦ change.beyond_motions x q (has_column (get_or words (q * height + row) 0) x) far x_low
+      | inr far ↦ change.beyond_motions x q (column_at (row_of words (q * height + row)) x) far x_low
     ]

@@ -1,4 +1,5 @@
-pub mod Bits
+pub mod Sets
+pub mod CellsChanged
 pub mod Marks
 pub mod Steps
 pub mod Listed

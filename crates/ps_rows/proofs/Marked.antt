@@ -1,16 +1,18 @@
 -- The index of the rows of planes, behind a change of the planes.
-use Rattle.std.proofs.Common.{◌≡◌, ◌≢◌, ◌∙◌, ℕ, ◌+◌, ◌*◌, ◌<◌, ◌≤◌, inl, inr, false, not, List, length, get_or, replicate, sym, ap, arith}
+use Rattle.std.proofs.Common.{◌≡◌, ◌≢◌, ◌∙◌, ℕ, ◌+◌, ◌*◌, ◌<◌, ◌≤◌, inl, inr, false, not, List, length, get_or, replicate, sym, ap, arith, Bool, true, subst, []}
 use Rattle.std.specs.Prelude.{nat_eq, slice_set}
 use Rattle.std.proofs.Math.Nat.{mul-le-mul_left}
-use Rattle.std.proofs.lemmas.Bool.{cases_eq, cases_lt, ne_eqb, false≢true}
+use Rattle.std.proofs.lemmas.Bool.{cases_eq, cases_lt, not-false}
 use Rattle.std.proofs.lemmas.Nat.{same_from_place}
 use Rattle.std.proofs.lemmas.List.{get_or-set_same, get_or-set_other}
-use Rattle.ps_rows.specs.Planes.{has_column, with_column}
 use Rattle.ps_rows.specs.RowIndex.{AreRowsMarked}
 use Rattle.ps_rows.specs.Showing.{motions_from}
-use Rattle.ps_rows.proofs.Bits.{has_column-with_same, has_column-with_other}
+use Rattle.ps_rows.proofs.Sets.{none_set, set_where, with_other, with_same}
 use Rattle.ps_rows.proofs.Puts.{plane_whole}
 use Rattle.ps_rows.proofs.Rests.{blank_word}
+use Rattle.ps_board.specs.ColumnSets.{column_at, no_columns, set_columns, with_column}
+use Rattle.ps_model.specs.declared.limits.TheConstants.{SIDE_LIMIT}
+use Rattle.ps_rows.specs.Planes.{AreSets, IsSet, row_of}
 
 -- a plane that stands whole in the words has its word in the index
 pub plane_indexed : (count height plane long : ℕ) → 0 < height → long ≡ count * height → (plane + 1) * height ≤ long → plane < count
@@ -28,39 +30,53 @@ planes_indexed table layers height long count some whole shown = elim (cases_lt 
   | inr enough ↦ enough
 ]
 
--- a row without a mark
-no_column : (word : ℕ) → not (nat_eq word 0) ≡ false → word ≡ 0
-no_column word h = elim (cases_eq word 0) [
-  | inl e ↦ e
-  | inr n ↦ absurd (false≢true (sym h ∙ ap not (ne_eqb word 0 n)))
+-- behind a change of one row of a plane each row is a set
+pub sets_row : (words : List (List Bool)) (place : ℕ) (word : List Bool) → place < length words → IsSet word → AreSets words → AreSets (slice_set words place word)
+sets_row words place word within is are = λ i. elim (cases_eq i place) [
+  | inl e ↦
+      let P : List Bool → Type 0 = λ set. IsSet set in
+      let now : row_of (slice_set words place word) i ≡ word = ap (λ (k : ℕ). row_of (slice_set words place word) k) e ∙ get_or-set_same words place word no_columns within in
+      subst P (sym now) is
+  | inr n ↦
+      let P : List Bool → Type 0 = λ set. IsSet set in subst P (sym (get_or-set_other words place i word no_columns n)) (are i)
 ]
 
--- behind a change of one row of a plane
-pub marked_row : (count height : ℕ) (words index : List ℕ) (plane row word : ℕ) → height ≤ 64 → row < height → plane < length index → plane * height + row < length words →
-    AreRowsMarked count height words index →
-    AreRowsMarked count height (slice_set words (plane * height + row) word) (slice_set index plane (with_column (get_or index plane 0) row (not (nat_eq word 0))))
-marked_row count height words index plane row word short under own within marked = λ o y below inside clear.
-    let mark : ℕ = with_column (get_or index plane 0) row (not (nat_eq word 0)) in
-    let low : row < 64 = omega arith in
-    let y_low : y < 64 = omega arith in
-    let elsewhere : o * height + y ≢ plane * height + row → has_column (get_or index o 0) y ≡ false → get_or (slice_set words (plane * height + row) word) (o * height + y) 0 ≡ 0 =
-    λ apart unmarked. get_or-set_other words (plane * height + row) (o * height + y) word 0 apart ∙ marked o y below inside unmarked in
+-- and each row without a mark is empty
+pub marked_row : (count height : ℕ) (words index : List (List Bool)) (plane row : ℕ) (word : List Bool) (empty : Bool) → height ≤ SIDE_LIMIT → row < height → plane < length index →
+    plane * height + row < length words → IsSet word → (empty ≡ true → set_columns word ≡ []) → AreRowsMarked count height words index →
+    AreRowsMarked count height (slice_set words (plane * height + row) word) (slice_set index plane (with_column (row_of index plane) row (not empty)))
+marked_row count height words index plane row word empty short under own within is told marked = λ o y below inside clear.
+    let mark : List Bool = with_column (row_of index plane) row (not empty) in
+    let low : row < SIDE_LIMIT = omega (arith, under, short) in
+    let y_low : y < SIDE_LIMIT = omega (arith, inside, short) in
+    let elsewhere : o * height + y ≢ plane * height + row → column_at (row_of index o) y ≡ false → row_of (slice_set words (plane * height + row) word) (o * height + y) ≡ no_columns =
+    λ apart unmarked. get_or-set_other words (plane * height + row) (o * height + y) word no_columns apart ∙ marked o y below inside unmarked in
     elim (cases_eq o plane) [
       | inl e ↦
-          let there : has_column mark y ≡ false = ap (λ (w : ℕ). has_column w y) (sym (ap (λ (p : ℕ). get_or (slice_set index plane mark) p 0) e ∙ get_or-set_same index plane mark 0 own)) ∙ clear in
+          let there : column_at mark y ≡ false =
+          ap (λ (w : List Bool). column_at w y) (sym (ap (λ (p : ℕ). row_of (slice_set index plane mark) p) e ∙ get_or-set_same index plane mark no_columns own)) ∙ clear in
           elim (cases_eq y row) [
             | inl f ↦
-                let none : word ≡ 0 = no_column word (sym (has_column-with_same (get_or index plane 0) row (not (nat_eq word 0)) low) ∙ sym (ap (has_column mark) f) ∙ there) in
-                rw (e, f) (get_or-set_same words (plane * height + row) word 0 within ∙ none)
+                let silent : not empty ≡ false = sym (with_same (row_of index plane) row (not empty) low) ∙ sym (ap (column_at mark) f) ∙ there in
+                let none : word ≡ no_columns = none_set word is (told (not-false empty silent)) in
+                rw (e, f) (get_or-set_same words (plane * height + row) word no_columns within ∙ none)
             | inr n ↦
                 elsewhere (λ same. n (same_from_place o y plane row height inside under same).1)
-                (ap (λ (p : ℕ). has_column (get_or index p 0) y) e ∙ sym (has_column-with_other (get_or index plane 0) row (not (nat_eq word 0)) y low y_low n) ∙ there)
+                (ap (λ (p : ℕ). column_at (row_of index p) y) e ∙ sym (with_other (row_of index plane) row (not empty) y y_low n) ∙ there)
           ]
       | inr n ↦
           elsewhere (λ same. n (same_from_place o y plane row height inside under same).0)
-          (ap (λ (w : ℕ). has_column w y) (sym (get_or-set_other index plane o mark 0 n)) ∙ clear)
+          (ap (λ (w : List Bool). column_at w y) (sym (get_or-set_other index plane o mark no_columns n)) ∙ clear)
     ]
 
 -- without anything
-pub marked_none : (planes height count : ℕ) (index : List ℕ) → AreRowsMarked planes height (replicate count 0) index
+pub marked_none : (planes height count : ℕ) (index : List (List Bool)) → AreRowsMarked planes height (replicate count no_columns) index
 marked_none planes height count index = λ o y below inside clear. blank_word count (o * height + y)
+
+pub sets_none : (count : ℕ) → AreSets (replicate count no_columns)
+sets_none count = λ place.
+    let P : List Bool → Type 0 = λ set. IsSet set in subst P (sym (blank_word count place)) (set_where (λ x. false))
+
+-- each row of planes that are the same
+pub sets_same : (words more : List (List Bool)) → more ≡ words → AreSets words → AreSets more
+sets_same words more e are = let P : List (List Bool) → Type 0 = λ ws. AreSets ws in subst P (sym e) are

@@ -1,8 +1,7 @@
 -- A row of which one column is written comes to one cell written.
-use Rattle.std.proofs.Common.{◌≡◌, ◌≢◌, ◌∙◌, ℕ, zero, ◌*◌, ◌/◌, ◌%◌, ◌^◌, ◌<◌, ◌≤◌, ◌&&◌, ◌||◌, inl, inr, Bool, false}
+use Rattle.std.proofs.Common.{◌≡◌, ◌≢◌, ◌∙◌, ℕ, zero, ◌*◌, ◌/◌, ◌%◌, ◌^◌, ◌<◌, ◌≤◌, ◌&&◌, ◌||◌, inl, inr, Bool, false, true}
 use Rattle.std.proofs.Common.{not, List, [], length, refl, sym, ap, ap₂, arith}
 use Rattle.std.specs.Prelude.{nat_eq, slice_get, slice_set}
-use Rattle.std.specs.Int.Bits.{or_zero_l}
 use Rattle.std.proofs.lemmas.Bool.{cases_eq, eq-eqb, ne_eqb}
 use Rattle.std.proofs.lemmas.Option.{slice_get-get_or}
 use Rattle.ps_model.specs.declared.pieces.Slot.{Slot}
@@ -13,35 +12,33 @@ use Rattle.ps_match.specs.InRoom.{meaning_of_write}
 use Rattle.ps_match.specs.Together.{rewritten_where}
 use Rattle.ps_match.proofs.Chosen.{rewritten_of, where-agree, where-one}
 use Rattle.ps_match.proofs.RowWritten.{cell_known}
-use Rattle.ps_rows.specs.Planes.{has_column}
 use Rattle.ps_rows.specs.SlotsWritten.{in_columns}
-use Rattle.ps_rows.proofs.Bits.{has_column-with_other, has_column-with_same, has_column-zero, with_column-set}
+use Rattle.ps_rows.proofs.Sets.{none_at, with_other, with_same}
 use Rattle.ps_rows.proofs.Whole.{columns_low}
+use Rattle.ps_board.specs.ColumnSets.{column_at, no_columns, with_column}
+use Rattle.ps_model.specs.declared.limits.TheConstants.{SIDE_LIMIT}
 
--- the word of one column
-abbrev pub column_alone : ℕ → ℕ
-column_alone column = 1 * 2 ^ column % 18446744073709551616
+-- the set of one column
+abbrev pub column_alone : ℕ → List Bool
+column_alone column = with_column no_columns column true
 
-alone_at : (column x : ℕ) → column < 64 → x < 64 → has_column (column_alone column) x ≡ nat_eq x column
-alone_at column x low under =
-    ap (λ (word : ℕ). has_column word x) (sym (or_zero_l (column_alone column)) ∙ with_column-set zero column)
-    ∙ elim (cases_eq x column) [
-      | inl e ↦ rw e (has_column-with_same zero column _ low ∙ sym (eq-eqb column column refl))
-      | inr other ↦ has_column-with_other zero column _ x low under other ∙ has_column-zero x
-          ∙ sym (ne_eqb x column other)
-    ]
+alone_at : (column x : ℕ) → x < SIDE_LIMIT → column_at (column_alone column) x ≡ nat_eq x column
+alone_at column x low = elim (cases_eq x column) [
+  | inl e ↦ rw e (with_same no_columns column true (omega (arith, low, e)) ∙ sym (eq-eqb column column refl))
+  | inr other ↦ with_other no_columns column true x low other ∙ none_at x ∙ sym (ne_eqb x column other)
+]
 
-pub alone_within : (width column : ℕ) → column < width → width ≤ 64 → (x : ℕ) → width ≤ x → x < 64 →
-    has_column (column_alone column) x ≡ false
-alone_within width column across narrow x far low =
+pub alone_within : (width column : ℕ) → column < width → (x : ℕ) → width ≤ x → x < SIDE_LIMIT →
+    column_at (column_alone column) x ≡ false
+alone_within width column across x far low =
     let apart : x ≢ column = omega (arith, across, far) in
-    alone_at column x (omega (arith, across, narrow)) low ∙ ne_eqb x column apart
+    alone_at column x low ∙ ne_eqb x column apart
 
 -- the cell of its row and its column, and no other one
-cell_alone : (height cell n : ℕ) → cell / height < 64 → n / height < 64 →
+cell_alone : (height cell n : ℕ) → n / height < SIDE_LIMIT →
     in_columns height (cell % height) (column_alone (cell / height)) n ≡ nat_eq n cell
-cell_alone height cell n low under =
-    ap (λ (b : Bool). nat_eq (n % height) (cell % height) && b) (alone_at (cell / height) (n / height) low under)
+cell_alone height cell n under =
+    ap (λ (b : Bool). nat_eq (n % height) (cell % height) && b) (alone_at (cell / height) (n / height) under)
     ∙ elim (cases_eq n cell) [
       | inl e ↦ rw (
         e,
@@ -58,7 +55,7 @@ cell_alone height cell n low under =
       ]
     ]
 
-module _ (g : Grid) (cell : ℕ) (some : 0 < g.height) (narrow : g.width ≤ 64)
+module _ (g : Grid) (cell : ℕ) (some : 0 < g.height) (narrow : g.width ≤ SIDE_LIMIT)
     (long : length g.cells ≡ g.width * g.height) (inside : cell < g.width * g.height) where
   one_rewritten : (becomes : List Slot → List Slot) →
       rewritten_where g becomes (in_columns g.height (cell % g.height) (column_alone (cell / g.height)))
@@ -67,7 +64,7 @@ module _ (g : Grid) (cell : ℕ) (some : 0 < g.height) (narrow : g.width ≤ 64)
   one_rewritten becomes =
       where-agree g becomes (in_columns g.height (cell % g.height) (column_alone (cell / g.height)))
       (λ n. nat_eq n cell)
-      (λ n low. cell_alone g.height cell n (columns_low g.width g.height some narrow cell inside)
+      (λ n low. cell_alone g.height cell n
       (columns_low g.width g.height some narrow n (rw (← long) low)))
       ∙ where-one g becomes cell (rw long inside)
 

@@ -1,5 +1,5 @@
 -- The objects of a cell tell what stands on each layer, as each object stands on its own.
-use Rattle.std.proofs.Common.{◌≡◌, ◌≢◌, ◌∙◌, ℕ, zero, suc, ◌+◌, ◌<◌, ◌≤◌, inl, inr, Option, Some, None, List, ◌∷◌, map, refl, sym, ap, arith}
+use Rattle.std.proofs.Common.{◌≡◌, ◌≢◌, ◌∙◌, ℕ, zero, suc, ◌+◌, ◌<◌, ◌≤◌, inl, inr, Option, Some, None, List, ◌∷◌, map, refl, sym, ap, arith, Bool}
 use Rattle.std.specs.Prelude.{IfSome, find, slice_get}
 use Rattle.std.specs.List.{range_with_len}
 use Rattle.std.proofs.lemmas.Bool.{cases_eq, ne_eqb}
@@ -42,7 +42,7 @@ unfolding with_first
 own_first table layer None objects room none = none
 own_first table layer (Some object) objects room none = rw room refl
 
-module _ (table : List ℕ) (height : ℕ) (words : List ℕ) (cell : ℕ) where
+module _ (table : List ℕ) (height : ℕ) (words : List (List Bool)) (cell : ℕ) where
   abbrev objects_from : ℕ → ℕ → List ObjectId
   objects_from a n = objects_in (map (slot_shown table height words cell) (range_with_len a n))
 
@@ -73,7 +73,7 @@ module _ (table : List ℕ) (height : ℕ) (words : List ℕ) (cell : ℕ) where
   own_object layers layer on = one_among layer 0 layers (omega arith) (omega arith)
 
 -- cells with the same objects have them on the same layers
-pub same_by_objects : (table : List ℕ) (height layers : ℕ) (first second : List ℕ) (cell layer : ℕ) → layer < layers →
+pub same_by_objects : (table : List ℕ) (height layers : ℕ) (first second : List (List Bool)) (cell layer : ℕ) → layer < layers →
     objects_in (cell_shown table layers height first cell) ≡ objects_in (cell_shown table layers height second cell) →
     object_shown table height first cell layer ≡ object_shown table height second cell layer
 same_by_objects table height layers first second cell layer on same =

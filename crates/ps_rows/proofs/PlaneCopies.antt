@@ -1,18 +1,19 @@
 -- Planes that were copied, or cleared, one behind the other.
-use Rattle.std.proofs.Common.{◌≡◌, ◌∙◌, ℕ, ◌+◌, ◌-◌, ◌*◌, ◌/◌, ◌%◌, ◌<◌, ◌≤◌, ◌++◌, inl, inr, false, List, [], length, get_or, take, drop, replicate, refl, sym, ap, arith, bit_or}
+use Rattle.std.proofs.Common.{◌≡◌, ◌∙◌, ℕ, ◌+◌, ◌-◌, ◌*◌, ◌/◌, ◌%◌, ◌<◌, ◌≤◌, ◌++◌, inl, inr, false, List, [], length, get_or, take, drop, replicate, refl, sym, ap, arith, Bool, subst}
 use borrow.Rule.Slice.PartMut.{put_mid}
 use Rattle.std.specs.Prelude.{slice_set}
 use Rattle.std.proofs.Math.Nat.{mul-le-mul_left}
 use Rattle.std.proofs.lemmas.Bool.{cases_eq, cases_lt, or_parts}
 use Rattle.std.proofs.lemmas.Nat.{div_below, mod_below, div-add-mod'}
 use Rattle.std.proofs.lemmas.List.{same_lists, get_or_default, get_or-set_same, get_or-set_other, length-take-le, get_or_append_left, get_or-append_right, get_or-take, get_or-drop, length-append, length-replicate}
-use Rattle.ps_rows.specs.Planes.{has_column}
 use Rattle.ps_rows.specs.PlaneCopies.{ArePlanesOf}
 use Rattle.ps_rows.specs.RowIndex.{AreRowsMarked}
 use Rattle.ps_rows.specs.Showing.{cleared_from}
-use Rattle.ps_rows.proofs.Bits.{has_column-zero}
 use Rattle.ps_rows.proofs.Rests.{blank_word}
-use Rattle.ps_rows.proofs.Scans.{has_column-or}
+use Rattle.ps_board.proofs.ColumnLaws.{none_in}
+use Rattle.ps_board.specs.ColumnSets.{column_at, no_columns, set_columns}
+use Rattle.ps_model.specs.declared.limits.TheConstants.{SIDE_LIMIT}
+use Rattle.ps_rows.specs.Planes.{AreSets, IsSet, row_of}
 
 -- a row of a plane lies before the next plane
 before_plane : (height plane other row : ℕ) → row < height → plane < other → plane * height + row < other * height
@@ -24,42 +25,42 @@ pub behind_plane : (height plane other : ℕ) → plane ≤ other → plane * he
 behind_plane height plane other less = let more : height * plane ≤ height * other = mul-le-mul_left height less in omega arith
 
 -- a part that is written over a plane
-pub plane_overwritten : (height plane : ℕ) (source part before : List ℕ) → length part ≡ height → (plane + 1) * height ≤ length before →
-    ((row : ℕ) → row < height → get_or part row 0 ≡ get_or source (plane * height + row) 0) → ArePlanesOf height plane (plane + 1) source before (put_mid (plane * height) height before part)
+pub plane_overwritten : (height plane : ℕ) (source part before : List (List Bool)) → length part ≡ height → (plane + 1) * height ≤ length before →
+    ((row : ℕ) → row < height → row_of part row ≡ row_of source (plane * height + row)) → ArePlanesOf height plane (plane + 1) source before (put_mid (plane * height) height before part)
 plane_overwritten height plane source part before long enough same =
     let start : ℕ = plane * height in
-    let rest : List ℕ = drop height (drop start before) in
+    let rest : List (List Bool) = drop height (drop start before) in
     let within : start ≤ length before = omega arith in
     let front : length (take start before) ≡ start = length-take-le start before within in
     record {
       below = λ o row under less.
           let place : o * height + row < start = before_plane height o plane row under less in
           let inside : o * height + row < length (take start before) = rw front place in
-          get_or_append_left (take start before) (part ++ rest) 0 (o * height + row) inside ∙ get_or-take start before (o * height + row) 0 place;
+          get_or_append_left (take start before) (part ++ rest) no_columns (o * height + row) inside ∙ get_or-take start before (o * height + row) no_columns place;
       behind = λ o row under more.
           let past : (plane + 1) * height ≤ o * height = behind_plane height (plane + 1) o more in
           let place : start ≤ o * height + row = omega arith in
           let beyond : length part ≤ o * height + row - start = omega arith in
           let back : start + (height + (o * height + row - start - length part)) ≡ o * height + row = omega arith in
-          get_or-append_right (take start before) (part ++ rest) start (o * height + row) 0 front place
-          ∙ get_or-append_right part rest (length part) (o * height + row - start) 0 refl beyond
-          ∙ get_or-drop height (drop start before) (o * height + row - start - length part) 0
-          ∙ get_or-drop start before (height + (o * height + row - start - length part)) 0
-          ∙ ap (λ (i : ℕ). get_or before i 0) back;
+          get_or-append_right (take start before) (part ++ rest) start (o * height + row) no_columns front place
+          ∙ get_or-append_right part rest (length part) (o * height + row - start) no_columns refl beyond
+          ∙ get_or-drop height (drop start before) (o * height + row - start - length part) no_columns
+          ∙ get_or-drop start before (height + (o * height + row - start - length part)) no_columns
+          ∙ ap (λ (i : ℕ). row_of before i) back;
       copied = λ o row under low high.
           let e : o ≡ plane = omega arith in
           let place : start ≤ start + row = omega arith in
           let inside : row < length part = omega arith in
           let back : start + row - start ≡ row = omega arith in
           rw e
-          (get_or-append_right (take start before) (part ++ rest) start (start + row) 0 front place
-          ∙ ap (λ (i : ℕ). get_or (part ++ rest) i 0) back
-          ∙ get_or_append_left part rest 0 row inside ∙ same row under);
+          (get_or-append_right (take start before) (part ++ rest) start (start + row) no_columns front place
+          ∙ ap (λ (i : ℕ). row_of (part ++ rest) i) back
+          ∙ get_or_append_left part rest no_columns row inside ∙ same row under);
     }
 
 -- a plane that has no columns, before and afterwards
-pub plane_blank : (height plane : ℕ) (source before : List ℕ) → ((row : ℕ) → row < height → get_or before (plane * height + row) 0 ≡ 0) →
-    ((row : ℕ) → row < height → get_or source (plane * height + row) 0 ≡ 0) → ArePlanesOf height plane (plane + 1) source before before
+pub plane_blank : (height plane : ℕ) (source before : List (List Bool)) → ((row : ℕ) → row < height → row_of before (plane * height + row) ≡ no_columns) →
+    ((row : ℕ) → row < height → row_of source (plane * height + row) ≡ no_columns) → ArePlanesOf height plane (plane + 1) source before before
 plane_blank height plane source before here there = record {
   below = λ o row under less. refl;
   behind = λ o row under more. refl;
@@ -67,43 +68,54 @@ plane_blank height plane source before here there = record {
 }
 
 -- a plane without marks
-pub unmarked_plane : (count height plane : ℕ) (words index : List ℕ) → plane < count → AreRowsMarked count height words index → get_or index plane 0 ≡ 0 → (row : ℕ) → row < height →
-    get_or words (plane * height + row) 0 ≡ 0
-unmarked_plane count height plane words index below marked none row under = marked plane row below under (ap (λ (word : ℕ). has_column word row) none ∙ has_column-zero row)
-
--- neither of two words
-pub neither_word : (first second : ℕ) → bit_or first second ≡ 0 → (row : ℕ) → (has_column first row ≡ false) × (has_column second row ≡ false)
-neither_word first second none row =
-    or_parts (has_column first row) (has_column second row) (sym (has_column-or first second row) ∙ ap (λ (word : ℕ). has_column word row) none ∙ has_column-zero row)
+pub unmarked_plane : (count height plane : ℕ) (words index : List (List Bool)) → height ≤ SIDE_LIMIT → plane < count → AreRowsMarked count height words index → set_columns (row_of index plane) ≡ [] →
+    (row : ℕ) → row < height → row_of words (plane * height + row) ≡ no_columns
+unmarked_plane count height plane words index short below marked none row under =
+    marked plane row below under (none_in (row_of index plane) row none (omega (arith, under, short)))
 
 -- the index behind a change of one plane
-pub marked_plane : (count height plane mark : ℕ) (source before after index : List ℕ) → plane < length index → ArePlanesOf height plane (plane + 1) source before after →
-    AreRowsMarked count height before index → ((row : ℕ) → row < height → has_column mark row ≡ false → get_or source (plane * height + row) 0 ≡ 0) →
+pub marked_plane : (count height plane : ℕ) (mark : List Bool) (source before after index : List (List Bool)) → plane < length index → ArePlanesOf height plane (plane + 1) source before after →
+    AreRowsMarked count height before index → ((row : ℕ) → row < height → column_at mark row ≡ false → row_of source (plane * height + row) ≡ no_columns) →
     AreRowsMarked count height after (slice_set index plane mark)
 marked_plane count height plane mark source before after index own changed marked blank = λ o row below under clear.
     elim (cases_eq o plane) [
       | inl e ↦
-          let there : has_column mark row ≡ false =
-          ap (λ (w : ℕ). has_column w row) (sym (ap (λ (p : ℕ). get_or (slice_set index plane mark) p 0) e ∙ get_or-set_same index plane mark 0 own)) ∙ clear in
+          let there : column_at mark row ≡ false =
+          ap (λ (w : List Bool). column_at w row) (sym (ap (λ (p : ℕ). row_of (slice_set index plane mark) p) e ∙ get_or-set_same index plane mark no_columns own)) ∙ clear in
           rw e (changed.copied plane row under (omega arith) (omega arith) ∙ blank row under there)
       | inr n ↦
-          let there : has_column (get_or index o 0) row ≡ false = ap (λ (w : ℕ). has_column w row) (sym (get_or-set_other index plane o mark 0 n)) ∙ clear in
+          let there : column_at (row_of index o) row ≡ false = ap (λ (w : List Bool). column_at w row) (sym (get_or-set_other index plane o mark no_columns n)) ∙ clear in
           elim (cases_lt o plane) [
             | inl less ↦ changed.below o row under less ∙ marked o row below under there
             | inr more ↦ changed.behind o row under (omega arith) ∙ marked o row below under there
           ]
     ]
 
--- a word of planes, by its plane and row
-at_place : (height i : ℕ) (words : List ℕ) → get_or words i 0 ≡ get_or words (i / height * height + i % height) 0
-at_place height i words = ap (λ (k : ℕ). get_or words k 0) (sym (div-add-mod' i height))
+-- a row of planes, by its plane and its number there
+at_place : (height i : ℕ) (words : List (List Bool)) → row_of words i ≡ row_of words (i / height * height + i % height)
+at_place height i words = ap (λ (k : ℕ). row_of words k) (sym (div-add-mod' i height))
+
+-- each row is a set
+pub sets_planes : (height first end : ℕ) (source before after : List (List Bool)) → 0 < height → ArePlanesOf height first end source before after → AreSets source → AreSets before → AreSets after
+sets_planes height first end source before after some changed sources befores = λ i.
+    let P : List Bool → Type 0 = λ set. IsSet set in
+    let plane : ℕ = i / height in
+    let row : ℕ = i % height in
+    let low : row < height = mod_below i height some in
+    subst P (sym (at_place height i after)) (elim (cases_lt plane first) [
+      | inl less ↦ subst P (sym (changed.below plane row low less)) (befores (plane * height + row))
+      | inr from ↦ elim (cases_lt plane end) [
+        | inl under ↦ subst P (sym (changed.copied plane row low from under)) (sources (plane * height + row))
+        | inr past ↦ subst P (sym (changed.behind plane row low past)) (befores (plane * height + row))
+      ]
+    ])
 
 -- all planes from one on
-pub all_cleared : (height first count : ℕ) (before after : List ℕ) → 0 < height → first * height ≤ length before → length before ≤ count * height → length after ≡ length before →
+pub all_cleared : (height first count : ℕ) (before after : List (List Bool)) → 0 < height → first * height ≤ length before → length before ≤ count * height → length after ≡ length before →
     ArePlanesOf height first count [] before after → after ≡ cleared_from (first * height) before
 all_cleared height first count before after some within whole long changed =
     let start : ℕ = first * height in
-    let zeros : List ℕ = replicate (length before - start) 0 in
+    let zeros : List (List Bool) = replicate (length before - start) no_columns in
     let front : length (take start before) ≡ start = length-take-le start before within in
     let total : length (cleared_from start before) ≡ length before =
     length-append (take start before) zeros ∙ (let back : start + (length before - start) ≡ length before = omega arith in rw (front, length-replicate) back) in
@@ -113,23 +125,23 @@ all_cleared height first count before after some within whole long changed =
     let here : i < length (cleared_from start before) = omega (arith, inside, long, total) in
     let place : i / height * height + i % height ≡ i = div-add-mod' i height in
     let plane : i / height < count = div_below i height count some (omega (arith, inside, long, whole)) in
-    get_or_default after i d 0 inside ∙ at_place height i after
+    get_or_default after i d no_columns inside ∙ at_place height i after
     ∙ elim (cases_lt i start) [
       | inl early ↦
           let under : i < length (take start before) = rw front early in
           changed.below (i / height) (i % height) low (div_below i height first some early) ∙ sym (at_place height i before)
-          ∙ sym (get_or_append_left (take start before) zeros 0 i under ∙ get_or-take start before i 0 early)
+          ∙ sym (get_or_append_left (take start before) zeros no_columns i under ∙ get_or-take start before i no_columns early)
       | inr late ↦
           let from : first ≤ i / height = elim (cases_lt (i / height) first) [
             | inl less ↦ let early = before_plane height (i / height) first (i % height) low less in absurd (omega (arith, early, place, late))
             | inr more ↦ more
           ] in
           changed.copied (i / height) (i % height) low from plane
-          ∙ sym (get_or-append_right (take start before) zeros start i 0 front late ∙ blank_word (length before - start) (i - start))
+          ∙ sym (get_or-append_right (take start before) zeros start i no_columns front late ∙ blank_word (length before - start) (i - start))
     ]
-    ∙ sym (get_or_default (cleared_from start before) i d 0 here))
+    ∙ sym (get_or_default (cleared_from start before) i d no_columns here))
 
-pub all_copied : (height count : ℕ) (source before after : List ℕ) → 0 < height → length source ≤ count * height → length after ≡ length source →
+pub all_copied : (height count : ℕ) (source before after : List (List Bool)) → 0 < height → length source ≤ count * height → length after ≡ length source →
     ArePlanesOf height 0 count source before after → after ≡ source
 all_copied height count source before after some whole long changed =
     same_lists after source long
@@ -137,5 +149,5 @@ all_copied height count source before after some whole long changed =
     let low : i % height < height = mod_below i height some in
     let here : i < length source = omega (arith, inside, long) in
     let plane : i / height < count = div_below i height count some (omega (arith, inside, long, whole)) in
-    get_or_default after i d 0 inside ∙ at_place height i after ∙ changed.copied (i / height) (i % height) low (omega arith) plane ∙ sym (at_place height i source)
-    ∙ sym (get_or_default source i d 0 here))
+    get_or_default after i d no_columns inside ∙ at_place height i after ∙ changed.copied (i / height) (i % height) low (omega arith) plane ∙ sym (at_place height i source)
+    ∙ sym (get_or_default source i d no_columns here))

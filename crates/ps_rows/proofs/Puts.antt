@@ -1,5 +1,5 @@
 -- What planes show behind a put.
-use Rattle.std.proofs.Common.{◌≡◌, ◌≢◌, ℕ, ◌+◌, ◌*◌, ◌/◌, ◌<◌, ◌≤◌, ◌⊎◌, inl, inr, Option, Some, None, List, [], length, get_or, map, refl, sym, ap, ◌∙◌, arith}
+use Rattle.std.proofs.Common.{◌≡◌, ◌≢◌, ℕ, ◌+◌, ◌*◌, ◌/◌, ◌<◌, ◌≤◌, ◌⊎◌, inl, inr, Option, Some, None, List, [], length, get_or, map, refl, sym, ap, ◌∙◌, arith, Bool}
 use Rattle.std.specs.Prelude.{slice_get, slice_set, option_map}
 use Rattle.std.specs.List.{range_with_len}
 use Rattle.std.proofs.Math.Nat.{mul-le-mul_left}
@@ -11,7 +11,7 @@ use Rattle.ps_model.specs.declared.pieces.Slot.{Slot}
 use Rattle.ps_model.specs.board.Grid.{slot_of, motion_in}
 use Rattle.ps_model.specs.board.Movement.{is_number}
 use Rattle.ps_model.specs.meaning.Fitting.{same_motion}
-use Rattle.ps_rows.specs.Planes.{has_cell, with_cell_in, HavePlanes}
+use Rattle.ps_rows.specs.Planes.{HavePlanes, has_cell, with_cell_in}
 use Rattle.ps_rows.specs.Members.{on_layer}
 use Rattle.ps_rows.specs.Showing.{numbered, motions_from, motion_plane, motion_planes, object_shown, motion_shown, slot_shown, cell_shown, cells_shown, with_slot_in, AreObjectsShown, AreMotionsShown}
 use Rattle.ps_rows.proofs.Marks.{length-with_cell_in, has_cell-in_elsewhere, has_cell-in_there}
@@ -19,11 +19,12 @@ use Rattle.ps_rows.proofs.Listed.{find_same, find_object}
 use Rattle.ps_rows.proofs.MemberRanges.{member_listed, listed_member, not_listed}
 use Rattle.ps_rows.proofs.Moves.{plane_low, plane_high, five_true, five_false, five_high, chosen_motion, first_motion-is, first_motion-same}
 use Rattle.ps_rows.proofs.Tables.{tabled_at, tabled_same, tabled_set}
+use Rattle.ps_model.specs.declared.limits.TheConstants.{SIDE_LIMIT}
 
 -- an object, or none, is put into a cell of a layer
-pub record IsPut (table : List ℕ) (layers height cells : ℕ) (words : List ℕ) (cell layer : ℕ) (object : Option ℕ) (motion : Motion) : Type 0 where
+pub record IsPut (table : List ℕ) (layers height cells : ℕ) (words : List (List Bool)) (cell layer : ℕ) (object : Option ℕ) (motion : Motion) : Type 0 where
   pub some : 0 < height
-  pub columns : (c : ℕ) → c < cells → c / height < 64
+  pub columns : (c : ℕ) → c < cells → c / height < SIDE_LIMIT
   pub inside : cell < cells
   pub layered : layer < layers
   pub whole : length words ≡ motions_from table layers * height
@@ -37,7 +38,7 @@ plane_whole table layers height long plane whole below =
     let more : height * (plane + 1) ≤ height * motions_from table layers = mul-le-mul_left height next in
     omega arith
 
-pub planes_whole : (table : List ℕ) (layers height : ℕ) (words : List ℕ) (layer : ℕ) → length words ≡ motions_from table layers * height → HavePlanes height words (on_layer table layer)
+pub planes_whole : (table : List ℕ) (layers height : ℕ) (words : List (List Bool)) (layer : ℕ) → length words ≡ motions_from table layers * height → HavePlanes height words (on_layer table layer)
 planes_whole table layers height words layer whole = λ plane listed.
     let own : plane < length table = slice_get_within table plane layer (listed_member table layer plane listed) in
     let below : plane < motions_from table layers = omega arith in
@@ -60,17 +61,17 @@ motion_of_slot : (object : Option ℕ) (motion : Motion) → (object ≡ None �
 motion_of_slot None motion still = sym (still refl)
 motion_of_slot (Some o) motion still = refl
 
-module _ (table : List ℕ) (layers height cells : ℕ) (words : List ℕ) (cell layer : ℕ) (object : Option ℕ) (motion : Motion) (put : IsPut table layers height cells words cell layer object motion) where
+module _ (table : List ℕ) (layers height cells : ℕ) (words : List (List Bool)) (cell layer : ℕ) (object : Option ℕ) (motion : Motion) (put : IsPut table layers height cells words cell layer object motion) where
   abbrev first : ℕ
   first = motions_from table layer
 
-  abbrev between : List ℕ
+  abbrev between : List (List Bool)
   between = with_cell_in height cell object words (on_layer table layer)
 
-  abbrev written : List ℕ
+  abbrev written : List (List Bool)
   written = with_slot_in height cell (on_layer table layer) object first motion words
 
-  low : cell / height < 64
+  low : cell / height < SIDE_LIMIT
   low = put.columns cell put.inside
 
   have_objects : HavePlanes height words (on_layer table layer)
@@ -90,14 +91,14 @@ module _ (table : List ℕ) (layers height cells : ℕ) (words : List ℕ) (cell
   object_there o own =
       let below : o < length table = slice_get_within table o layer own in
       let before : o < first = omega arith in
-      has_cell-in_elsewhere height cell (motion_plane first motion) between (motion_planes first) cell o put.some low low have_motions (λ e. five_false first o (inl before))
+      has_cell-in_elsewhere height cell (motion_plane first motion) between (motion_planes first) cell o put.some low have_motions (λ e. five_false first o (inl before))
       ∙ has_cell-in_there height cell object words (on_layer table layer) o put.some low have_objects (member_listed table layer o own)
 
   object_elsewhere : (c o : ℕ) → c < cells → o < length table → (c ≡ cell → slice_get table o ≡ Some layer → ⊥) → has_cell height written c o ≡ has_cell height words c o
   object_elsewhere c o inside below apart =
       let before : o < first = omega arith in
-      has_cell-in_elsewhere height cell (motion_plane first motion) between (motion_planes first) c o put.some low (put.columns c inside) have_motions (λ e. five_false first o (inl before))
-      ∙ has_cell-in_elsewhere height cell object words (on_layer table layer) c o put.some low (put.columns c inside) have_objects (λ e. not_listed table layer o (apart e))
+      has_cell-in_elsewhere height cell (motion_plane first motion) between (motion_planes first) c o put.some (put.columns c inside) have_motions (λ e. five_false first o (inl before))
+      ∙ has_cell-in_elsewhere height cell object words (on_layer table layer) c o put.some (put.columns c inside) have_objects (λ e. not_listed table layer o (apart e))
 
   motion_there : (m : Motion) (q : ℕ) → motion_plane first m ≡ Some q → has_cell height written cell q ≡ same_motion m motion
   motion_there m q h =
@@ -106,9 +107,9 @@ module _ (table : List ℕ) (layers height cells : ℕ) (words : List ℕ) (cell
   motion_elsewhere : (c l q : ℕ) → c < cells → motions_from table l ≤ q → q < motions_from table l + 5 → (c ≡ cell → l ≢ layer) → has_cell height written c q ≡ has_cell height words c q
   motion_elsewhere c l q inside above below apart =
       let behind : length table ≤ q = omega arith in
-      has_cell-in_elsewhere height cell (motion_plane first motion) between (motion_planes first) c q put.some low (put.columns c inside) have_motions
+      has_cell-in_elsewhere height cell (motion_plane first motion) between (motion_planes first) c q put.some (put.columns c inside) have_motions
       (λ e. five_false first q (apart_from table l layer q (apart e) above below))
-      ∙ has_cell-in_elsewhere height cell object words (on_layer table layer) c q put.some low (put.columns c inside) have_objects
+      ∙ has_cell-in_elsewhere height cell object words (on_layer table layer) c q put.some (put.columns c inside) have_objects
       (λ e. not_listed table layer q (λ own. let within : q < length table = slice_get_within table q layer own in absurd (omega arith)))
 
   -- the object and the motion that are shown there, and elsewhere

@@ -1,5 +1,5 @@
 -- What planes show without motions, and without anything; and how a slot is read.
-use Rattle.std.proofs.Common.{◌≡◌, ℕ, zero, ◌+◌, ◌-◌, ◌*◌, ◌/◌, ◌%◌, ◌<◌, ◌≤◌, inl, inr, true, false, Option, Some, None, List, [], length, get_or, map, take, replicate, refl, sym, ap, ◌∙◌, arith}
+use Rattle.std.proofs.Common.{◌≡◌, ℕ, zero, ◌+◌, ◌-◌, ◌*◌, ◌/◌, ◌%◌, ◌<◌, ◌≤◌, inl, inr, true, false, Option, Some, None, List, [], length, get_or, map, take, replicate, refl, sym, ap, ◌∙◌, arith, Bool}
 use Rattle.std.specs.Prelude.{slice_get, option_map, All}
 use Rattle.std.specs.List.{range_with_len}
 use Rattle.std.proofs.Math.Nat.{mul-le-mul_left}
@@ -17,14 +17,15 @@ use Rattle.ps_model.specs.board.Grid.{slot_of, object_in, motion_in, slot_at_res
 use Rattle.ps_model.specs.board.Movement.{is_number}
 use Rattle.ps_model.specs.meaning.Fitting.{same_motion}
 use Rattle.ps_laws.proofs.common.SameThings.{is_number-own}
-use Rattle.ps_rows.specs.Planes.{has_cell}
+use Rattle.ps_rows.specs.Planes.{has_cell, row_of}
 use Rattle.ps_rows.specs.Members.{on_layer}
 use Rattle.ps_rows.specs.Showing.{numbered, motions_from, object_shown, motion_shown, slot_shown, cell_shown, cells_shown, cleared_from, AreObjectsShown, AreMotionsShown}
-use Rattle.ps_rows.proofs.Bits.{has_column-zero}
+use Rattle.ps_rows.proofs.Sets.{none_at}
 use Rattle.ps_rows.proofs.Listed.{find_same, find_object, find_listed}
 use Rattle.ps_rows.proofs.MemberRanges.{listed_member}
 use Rattle.ps_rows.proofs.Moves.{plane_low, not_still, first_motion-is}
 use Rattle.ps_rows.proofs.Tables.{tabled_at, tabled_same, tabled_alike}
+use Rattle.ps_board.specs.ColumnSets.{no_columns}
 
 -- reading ----------------------------------------------------------------------------------------------------------------
 
@@ -33,21 +34,21 @@ object_of_slot None motion = refl
 object_of_slot (Some o) motion = refl
 
 -- the slot of a cell among all that is shown
-pub slot_read : (table : List ℕ) (layers height : ℕ) (words : List ℕ) (cells cell layer : ℕ) → cell < cells → layer < layers →
+pub slot_read : (table : List ℕ) (layers height : ℕ) (words : List (List Bool)) (cells cell layer : ℕ) → cell < cells → layer < layers →
     get_or (get_or (cells_shown table layers height words cells) cell []) layer Bare ≡ slot_shown table height words cell layer
 unfolding cells_shown cell_shown
 slot_read table layers height words cells cell layer inside on =
     ap (λ (slots : List Slot). get_or slots layer Bare) (tabled_at (cell_shown table layers height words) cells cell [] inside)
     ∙ tabled_at (slot_shown table height words cell) layers layer Bare on
 
-pub object_read : (table : List ℕ) (layers height : ℕ) (words : List ℕ) (cells cell layer : ℕ) → cell < cells → layer < layers →
+pub object_read : (table : List ℕ) (layers height : ℕ) (words : List (List Bool)) (cells cell layer : ℕ) → cell < cells → layer < layers →
     option_map numbered (object_shown table height words cell layer) ≡ object_in (get_or (get_or (cells_shown table layers height words cells) cell []) layer Bare)
 unfolding slot_shown
 object_read table layers height words cells cell layer inside on =
     sym (ap object_in (slot_read table layers height words cells cell layer inside on)
     ∙ object_of_slot (object_shown table height words cell layer) (motion_shown table height words cell layer))
 
-pub motion_read : (table : List ℕ) (layers height : ℕ) (words : List ℕ) (cells cell layer : ℕ) → cell < cells → layer < layers →
+pub motion_read : (table : List ℕ) (layers height : ℕ) (words : List (List Bool)) (cells cell layer : ℕ) → cell < cells → layer < layers →
     AreMotionsShown table layers height words cells →
     motion_shown table height words cell layer ≡ motion_in (get_or (get_or (cells_shown table layers height words cells) cell []) layer Bare)
 unfolding motion_shown
@@ -56,17 +57,17 @@ motion_read table layers height words cells cell layer inside on shown =
     ∙ ap motion_in (sym (slot_read table layers height words cells cell layer inside on))
 
 -- what stands on a layer has room there
-pub object_room : (table : List ℕ) (height : ℕ) (words : List ℕ) (cell layer o : ℕ) → object_shown table height words cell layer ≡ Some o → is_number (slice_get table o) layer ≡ true
+pub object_room : (table : List ℕ) (height : ℕ) (words : List (List Bool)) (cell layer o : ℕ) → object_shown table height words cell layer ≡ Some o → is_number (slice_get table o) layer ≡ true
 unfolding object_shown
 object_room table height words cell layer o h =
     is_number-own (slice_get table o) layer (listed_member table layer o (find_listed (has_cell height words cell) (on_layer table layer) o h))
 
 -- how many cells are shown, and how many slots of each
-pub cells_long : (table : List ℕ) (layers height : ℕ) (words : List ℕ) (cells : ℕ) → length (cells_shown table layers height words cells) ≡ cells
+pub cells_long : (table : List ℕ) (layers height : ℕ) (words : List (List Bool)) (cells : ℕ) → length (cells_shown table layers height words cells) ≡ cells
 unfolding cells_shown
 cells_long table layers height words cells = length-map-range_with_len (cell_shown table layers height words) 0 cells
 
-pub slots_long : (table : List ℕ) (layers height : ℕ) (words : List ℕ) (cells : ℕ) → All (λ cell. length cell ≡ layers) (cells_shown table layers height words cells)
+pub slots_long : (table : List ℕ) (layers height : ℕ) (words : List (List Bool)) (cells : ℕ) → All (λ cell. length cell ≡ layers) (cells_shown table layers height words cells)
 unfolding cells_shown cell_shown
 slots_long table layers height words cells = λ k d h.
     let inside : k < cells = rw (← length-map-range_with_len (cell_shown table layers height words) 0 cells) h in
@@ -82,17 +83,17 @@ still_slot : (object : Option ℕ) → motion_in (slot_of (option_map numbered o
 still_slot None = refl
 still_slot (Some o) = refl
 
-pub blank_word : (n i : ℕ) → get_or (replicate n zero) i zero ≡ zero
+pub blank_word : (n i : ℕ) → row_of (replicate n no_columns) i ≡ no_columns
 blank_word n i = elim (cases_lt i n) [
-  | inl h ↦ get_or-replicate n i zero zero h
-  | inr h ↦ get_or_past (replicate n zero) i zero (rw length-replicate h)
+  | inl h ↦ get_or-replicate n i no_columns no_columns h
+  | inr h ↦ get_or_past (replicate n no_columns) i no_columns (rw length-replicate h)
 ]
 
-module _ (table : List ℕ) (layers height cells : ℕ) (words : List ℕ) (some : 0 < height) (whole : length words ≡ motions_from table layers * height) where
+module _ (table : List ℕ) (layers height cells : ℕ) (words : List (List Bool)) (some : 0 < height) (whole : length words ≡ motions_from table layers * height) where
   abbrev start : ℕ
   start = length table * height
 
-  abbrev rested : List ℕ
+  abbrev rested : List (List Bool)
   rested = cleared_from start words
 
   within : start ≤ length words
@@ -111,8 +112,9 @@ module _ (table : List ℕ) (layers height cells : ℕ) (words : List ℕ) (some
       let next : height * (o + 1) ≤ height * length table = mul-le-mul_left height (let next : o + 1 ≤ length table = omega arith in next) in
       let place : o * height + c % height < start = omega arith in
       let long : o * height + c % height < length (take start words) = rw front place in
-      let word : get_or rested (o * height + c % height) 0 ≡ get_or words (o * height + c % height) 0 =
-      get_or_append_left (take start words) (replicate (length words - start) 0) 0 (o * height + c % height) long ∙ get_or-take start words (o * height + c % height) 0 place in
+      let word : row_of rested (o * height + c % height) ≡ row_of words (o * height + c % height) =
+      get_or_append_left (take start words) (replicate (length words - start) no_columns) no_columns (o * height + c % height) long
+      ∙ get_or-take start words (o * height + c % height) no_columns place in
       rw word refl
 
   cleared : (c q : ℕ) → length table ≤ q → has_cell height rested c q ≡ false
@@ -120,10 +122,10 @@ module _ (table : List ℕ) (layers height cells : ℕ) (words : List ℕ) (some
   cleared c q above =
       let more : height * length table ≤ height * q = mul-le-mul_left height above in
       let place : start ≤ q * height + c % height = omega arith in
-      let word : get_or rested (q * height + c % height) 0 ≡ 0 =
-      get_or-append_right (take start words) (replicate (length words - start) 0) start (q * height + c % height) 0 front place
+      let word : row_of rested (q * height + c % height) ≡ no_columns =
+      get_or-append_right (take start words) (replicate (length words - start) no_columns) start (q * height + c % height) no_columns front place
       ∙ blank_word (length words - start) (q * height + c % height - start) in
-      rw word (has_column-zero (c / height))
+      rw word (none_at (c / height))
 
   object_rested : (c l : ℕ) → object_shown table height rested c l ≡ object_shown table height words c l
   unfolding object_shown
@@ -174,12 +176,12 @@ module _ (table : List ℕ) (layers height cells : ℕ) (words : List ℕ) (some
 -- nothing ----------------------------------------------------------------------------------------------------------------
 
 module _ (table : List ℕ) (layers height cells count : ℕ) where
-  abbrev nothing : List ℕ
-  nothing = replicate count 0
+  abbrev nothing : List (List Bool)
+  nothing = replicate count no_columns
 
   blank : (c p : ℕ) → has_cell height nothing c p ≡ false
   unfolding has_cell
-  blank c p = rw (blank_word count (p * height + c % height)) (has_column-zero (c / height))
+  blank c p = rw (blank_word count (p * height + c % height)) (none_at (c / height))
 
   no_object : (c l : ℕ) → object_shown table height nothing c l ≡ None
   unfolding object_shown

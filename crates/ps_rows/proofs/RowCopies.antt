@@ -5,10 +5,11 @@ use Rattle.std.proofs.lemmas.Bool.{and_parts, cases_lt, or_right}
 use Rattle.std.proofs.lemmas.Nat.{same_from_place}
 use Rattle.std.proofs.lemmas.List.{get_or-set_other, get_or-set_same}
 use Rattle.ps_model.specs.declared.limits.TheConstants.{SIDE_LIMIT}
-use Rattle.ps_board.specs.ColumnSets.{both_columns, column_at, set_columns}
+use Rattle.ps_board.specs.ColumnSets.{both_columns, column_at, no_columns, set_columns}
 use Rattle.ps_board.proofs.ColumnLaws.{column_at-where, first_in}
 use Rattle.ps_board.proofs.Taken.{taken_out}
 use Rattle.ps_rows.specs.PlaneCopies.{AreRowsOf}
+use Rattle.ps_rows.specs.Planes.{row_of}
 
 -- sets -------------------------------------------------------------------------------------------------------------------
 
@@ -41,21 +42,21 @@ wanted-first rows set left k is wanted = let first = first_in set k (set_columns
 -- planes -----------------------------------------------------------------------------------------------------------------
 
 -- a row of a plane that is written, and each other one
-pub row_written : (height plane row word : ℕ) (words more : List ℕ) → row < height → (plane + 1) * height ≤ length words → more ≡ slice_set words (plane * height + row) word →
-    get_or more (plane * height + row) 0 ≡ word
+pub row_written : (height plane row : ℕ) (word : List Bool) (words more : List (List Bool)) → row < height → (plane + 1) * height ≤ length words → more ≡ slice_set words (plane * height + row) word →
+    row_of more (plane * height + row) ≡ word
 row_written height plane row word words more under enough is =
     let within : plane * height + row < length words = omega arith in
-    ap (λ (ws : List ℕ). get_or ws (plane * height + row) 0) is ∙ get_or-set_same words (plane * height + row) word 0 within
+    ap (λ (ws : List (List Bool)). row_of ws (plane * height + row)) is ∙ get_or-set_same words (plane * height + row) word no_columns within
 
-pub row_kept : (height plane row word other y : ℕ) (words more : List ℕ) → row < height → y < height → (other ≡ plane → y ≢ row) → more ≡ slice_set words (plane * height + row) word →
-    get_or more (other * height + y) 0 ≡ get_or words (other * height + y) 0
+pub row_kept : (height plane row : ℕ) (word : List Bool) (other y : ℕ) (words more : List (List Bool)) → row < height → y < height → (other ≡ plane → y ≢ row) → more ≡ slice_set words (plane * height + row) word →
+    row_of more (other * height + y) ≡ row_of words (other * height + y)
 row_kept height plane row word other y words more under inside apart is =
-    ap (λ (ws : List ℕ). get_or ws (other * height + y) 0) is
-    ∙ get_or-set_other words (plane * height + row) (other * height + y) word 0
+    ap (λ (ws : List (List Bool)). row_of ws (other * height + y)) is
+    ∙ get_or-set_other words (plane * height + row) (other * height + y) word no_columns
     (λ e. let same = same_from_place other y plane row height inside under e in apart same.0 same.1)
 
 -- one plane more, whose rows are copied
-pub one_plane_copied : (height plane : ℕ) (rows : List Bool) (source before now after : List ℕ) → AreRowsOf height 0 plane rows source before now →
+pub one_plane_copied : (height plane : ℕ) (rows : List Bool) (source before now after : List (List Bool)) → AreRowsOf height 0 plane rows source before now →
     AreRowsOf height plane (plane + 1) rows source now after → AreRowsOf height 0 (plane + 1) rows source before after
 one_plane_copied height plane rows source before now after so step = record {
   below = λ o row under less. absurd (omega arith);
@@ -68,7 +69,7 @@ one_plane_copied height plane rows source before now after so step = record {
 }
 
 -- no plane so far
-pub none_copied : (height : ℕ) (rows : List Bool) (source before : List ℕ) → AreRowsOf height 0 0 rows source before before
+pub none_copied : (height : ℕ) (rows : List Bool) (source before : List (List Bool)) → AreRowsOf height 0 0 rows source before before
 none_copied height rows source before = record {
   below = λ o row under less. refl;
   behind = λ o row under more. refl;

@@ -1,5 +1,5 @@
--- The cells of a row of a grid that fit a mask, by a word.
-use Rattle.std.proofs.Common.{◌≡◌, ℕ, ◌+◌, ◌*◌, ◌<◌, ◌≤◌, inl, inr, List, [], length, sym, ap, ◌∙◌, arith}
+-- The cells of a row of a grid that fit a mask, by a set of columns.
+use Rattle.std.proofs.Common.{◌≡◌, ℕ, ◌+◌, ◌*◌, ◌<◌, ◌≤◌, inl, inr, List, [], length, sym, ap, ◌∙◌, arith, Bool}
 use Rattle.std.specs.Prelude.{slice_get}
 use Rattle.std.proofs.Math.Nat.{mul-le-mul_left}
 use Rattle.std.proofs.lemmas.Bool.{cases_lt}
@@ -9,14 +9,15 @@ use Rattle.ps_model.specs.declared.pieces.Slot.{Slot}
 use Rattle.ps_model.specs.board.Places.{fits_there}
 use Rattle.ps_model.specs.meaning.Compiled.{CellMask, mask_fits}
 use Rattle.ps_match.specs.InRoom.{meaning_of_mask}
-use Rattle.ps_rows.specs.Planes.{has_column}
 use Rattle.ps_rows.specs.Showing.{grid_shown, cells_shown}
 use Rattle.ps_rows.specs.RowTests.{IsRowOf, IsWithin}
 use Rattle.ps_rows.proofs.Rests.{cells_long}
+use Rattle.ps_board.specs.ColumnSets.{column_at}
+use Rattle.ps_model.specs.declared.limits.TheConstants.{SIDE_LIMIT}
 
-pub row_told : (table : List ℕ) (width height layers : ℕ) (words : List ℕ) (row : ℕ) → row < height → (mask : CellMask) (word : ℕ) →
-    IsRowOf (grid_shown table width height layers words) row word (mask_fits mask) → IsWithin (grid_shown table width height layers words) word → (x : ℕ) → x < 64 →
-    has_column word x ≡ fits_there (meaning_of_mask mask) (slice_get (cells_shown table layers height words (width * height)) (x * height + row))
+pub row_told : (table : List ℕ) (width height layers : ℕ) (words : List (List Bool)) (row : ℕ) → row < height → (mask : CellMask) (word : List Bool) →
+    IsRowOf (grid_shown table width height layers words) row word (mask_fits mask) → IsWithin (grid_shown table width height layers words) word → (x : ℕ) → x < SIDE_LIMIT →
+    column_at word x ≡ fits_there (meaning_of_mask mask) (slice_get (cells_shown table layers height words (width * height)) (x * height + row))
 row_told table width height layers words row under mask word inside within x low =
     let cells : List (List Slot) = cells_shown table layers height words (width * height) in
     let long : length cells ≡ width * height = cells_long table layers height words (width * height) in

@@ -1,5 +1,5 @@
 -- Layers of a row written one after the other come to its cells written.
-use Rattle.std.proofs.Common.{◌≡◌, ◌∙◌, ℕ, zero, suc, ◌+◌, ◌*◌, ◌/◌, ◌%◌, ◌<◌, ◌≤◌, inl, inr, Bool, true, false, not, ◌&&◌, Option, List, [], ◌∷◌, length, get_or, refl, sym, ap, ap₂, arith, bit_and}
+use Rattle.std.proofs.Common.{◌≡◌, ◌∙◌, ℕ, zero, suc, ◌+◌, ◌*◌, ◌/◌, ◌%◌, ◌<◌, ◌≤◌, inl, inr, Bool, true, false, not, ◌&&◌, Option, List, [], ◌∷◌, length, get_or, refl, sym, ap, ap₂, arith}
 use Rattle.std.specs.Prelude.{nat_eq, nat_lt, if◌then◌else◌}
 use Rattle.std.specs.List.{list_any, range_with_len}
 use Rattle.std.proofs.lemmas.Bool.{and_parts, cases_Bool, cases_eq, eq-eqb, ne_eqb, lt-ltb, le-ltb, or_parts, false≢true, not-false}
@@ -10,8 +10,8 @@ use Rattle.ps_model.specs.board.Attempts.{Rewritten, same_cell, same_slot}
 use Rattle.ps_model.specs.board.Grid.{Grid, cell_at, slot_at}
 use Rattle.ps_model.specs.meaning.Compiled.{CellWrite, cell_written, written_from}
 use Rattle.ps_laws.proofs.common.SameThings.{same_slot-own}
-use Rattle.ps_board.specs.ColumnSets.{bit_is_set, column_at, word_columns}
-use Rattle.ps_board.proofs.ColumnLaws.{column_at-where}
+use Rattle.ps_board.specs.ColumnSets.{both_columns, column_at, columns_below, set_columns}
+use Rattle.ps_board.proofs.ColumnLaws.{none_in}
 use Rattle.std.proofs.lemmas.Nat.{div_below}
 use Rattle.std.proofs.Math.Bool.{and-true, and-false}
 use Rattle.ps_match.specs.InRoom.{slot_after, write_in_room}
@@ -21,10 +21,9 @@ use Rattle.ps_match.proofs.Cells.{get_or-written_from, length-written_from}
 use Rattle.ps_match.proofs.Chosen.{any_none, cell_at-where, length-where, rewritten_of, where-agree, where-none}
 use Rattle.ps_match.proofs.LeftAlone.{untouched}
 use Rattle.ps_match.proofs.RowWritten.{lt_next}
-use Rattle.ps_rows.specs.Planes.{has_column}
 use Rattle.ps_rows.specs.SlotsWritten.{AreSlotsLeft, AreSlotsWritten, in_columns}
-use Rattle.ps_rows.proofs.Bits.{has_column-zero}
-use Rattle.ps_rows.proofs.Scans.{has_column-and}
+use Rattle.ps_rows.proofs.Sets.{both_at, wide_of, wide_on}
+use Rattle.ps_model.specs.declared.limits.TheConstants.{SIDE_LIMIT}
 
 abbrev pub slot_when : Bool → Slot → Slot → Slot
 slot_when b new old = if b then new else old
@@ -234,34 +233,33 @@ module _ (table : Option (List ℕ)) (write : CellWrite) (g next : Grid) (chosen
 
 -- sets of columns ---------------------------------------------------------------------------------------------------------
 
-column_of_word : (word x : ℕ) → x < 64 → has_column word x ≡ column_at (word_columns word) x
-unfolding has_column
-column_of_word word x low = sym (column_at-where (bit_is_set word) x low)
+module _ (width : ℕ) (all columns : List Bool) (narrow : width ≤ SIDE_LIMIT) (is : all ≡ columns_below width) where
+  pub set_within : (x : ℕ) → width ≤ x → x < SIDE_LIMIT → column_at (both_columns columns all) x ≡ false
+  set_within x far low =
+      both_at columns all x low ∙ ap (λ (b : Bool). column_at columns x && b) (wide_of all width is x low ∙ le-ltb x width far) ∙ and-false (column_at columns x)
 
-module _ (width word full : ℕ) (columns : List Bool) (narrow : width ≤ 64) (wide : (x : ℕ) → x < 64 → has_column full x ≡ nat_lt x width) where
-  pub set_within : (x : ℕ) → width ≤ x → x < 64 → has_column (bit_and word full) x ≡ false
-  set_within x far low = has_column-and word full x ∙ ap (λ (b : Bool). has_column word x && b) (wide x low ∙ le-ltb x width far) ∙ and-false (has_column word x)
+  set_column : (x : ℕ) → x < width → column_at (both_columns columns all) x ≡ column_at columns x
+  set_column x near =
+      both_at columns all x (omega (arith, near, narrow)) ∙ ap (λ (b : Bool). column_at columns x && b) (wide_on all width narrow is x near) ∙ and-true (column_at columns x)
 
-  set_column : (x : ℕ) → x < width → word_columns word ≡ columns → has_column (bit_and word full) x ≡ column_at columns x
-  set_column x near is =
-      let low : x < 64 = omega arith in
-      has_column-and word full x ∙ ap (λ (b : Bool). has_column word x && b) (wide x low ∙ lt-ltb x width near) ∙ and-true (has_column word x) ∙ column_of_word word x low
-      ∙ ap (λ (set : List Bool). column_at set x) is
-
-  pub set_rewritten : (g : Grid) (becomes : List Slot → List Slot) (row : ℕ) → g.width ≡ width → row < g.height → length g.cells ≡ g.width * g.height → word_columns word ≡ columns →
-      rewritten_where g becomes (in_columns g.height row (bit_and word full)) ≡ rewritten_where g becomes (is_on_row g.height row columns)
-  set_rewritten g becomes row same under long is =
-      where-agree g becomes (in_columns g.height row (bit_and word full)) (is_on_row g.height row columns)
+  pub set_rewritten : (g : Grid) (becomes : List Slot → List Slot) (row : ℕ) → g.width ≡ width → row < g.height → length g.cells ≡ g.width * g.height →
+      rewritten_where g becomes (in_columns g.height row (both_columns columns all)) ≡ rewritten_where g becomes (is_on_row g.height row columns)
+  set_rewritten g becomes row same under long =
+      where-agree g becomes (in_columns g.height row (both_columns columns all)) (is_on_row g.height row columns)
       (λ n low.
-      let some : 0 < g.height = omega arith in
+      let some : 0 < g.height = omega (arith, under) in
       let inside : n < g.width * g.height = rw (← long) low in
       let near : n / g.height < width = rw (← same) (div_below n g.height g.width some inside) in
-      ap (λ (b : Bool). nat_eq (n % g.height) row && b) (set_column (n / g.height) near is))
+      ap (λ (b : Bool). nat_eq (n % g.height) row && b) (set_column (n / g.height) near))
 
-  pub set_empty : (g : Grid) (becomes : List Slot → List Slot) (row : ℕ) → g.width ≡ width → row < g.height → length g.cells ≡ g.width * g.height → word_columns word ≡ columns → bit_and word full ≡ 0 →
-      record { grid = g; changed = false } ≡ rewritten_where g becomes (is_on_row g.height row columns)
-  set_empty g becomes row same under long is none =
-      sym (where-none g becomes (in_columns g.height row (bit_and word full))
-      (λ n low. ap (λ (w : ℕ). nat_eq (n % g.height) row && has_column w (n / g.height)) none ∙ ap (λ (b : Bool). nat_eq (n % g.height) row && b) (has_column-zero (n / g.height))
+  pub set_empty : (g : Grid) (becomes : List Slot → List Slot) (row : ℕ) → g.width ≡ width → row < g.height → length g.cells ≡ g.width * g.height →
+      set_columns (both_columns columns all) ≡ [] → record { grid = g; changed = false } ≡ rewritten_where g becomes (is_on_row g.height row columns)
+  set_empty g becomes row same under long none =
+      sym (where-none g becomes (in_columns g.height row (both_columns columns all))
+      (λ n low.
+      let some : 0 < g.height = omega (arith, under) in
+      let inside : n < g.width * g.height = rw (← long) low in
+      let near : n / g.height < width = rw (← same) (div_below n g.height g.width some inside) in
+      ap (λ (b : Bool). nat_eq (n % g.height) row && b) (none_in (both_columns columns all) (n / g.height) none (omega (arith, near, narrow)))
       ∙ and-false (nat_eq (n % g.height) row)))
-      ∙ set_rewritten g becomes row same under long is
+      ∙ set_rewritten g becomes row same under long

@@ -1,5 +1,5 @@
--- Columns in which the words of a row are the same in the planes of all objects show the same objects.
-use Rattle.std.proofs.Common.{◌≡◌, ℕ, zero, suc, ◌+◌, ◌-◌, ◌*◌, ◌^◌, ◌<◌, ◌≤◌, true, false, List, [], ◌∷◌, length, get_or, map, refl, sym, ap, ◌∙◌, arith, bit_and}
+-- Columns in which a row is the same in the planes of all objects show the same objects.
+use Rattle.std.proofs.Common.{◌≡◌, ℕ, zero, suc, ◌+◌, ◌-◌, ◌*◌, ◌^◌, ◌<◌, ◌≤◌, true, false, List, [], ◌∷◌, length, get_or, map, refl, sym, ap, ◌∙◌, arith, Bool, not, ap₂, ◌&&◌}
 use Rattle.std.specs.Prelude.{nat_lt, option_map}
 use Rattle.std.specs.List.{range_with_len}
 use Rattle.std.proofs.lemmas.Bool.{and_parts, lt-ltb, not-true}
@@ -8,24 +8,23 @@ use Rattle.std.proofs.lemmas.Option.{slice_get_within}
 use Rattle.ps_model.specs.declared.pieces.Slot.{Slot}
 use Rattle.ps_model.specs.board.Grid.{cell_at, object_in}
 use Rattle.ps_model.specs.session.Frames.{objects_in}
-use Rattle.ps_board.specs.ColumnSets.{bit_is_set, column_at, word_columns}
+use Rattle.ps_board.specs.ColumnSets.{column_at, columns_below, columns_without}
 use Rattle.ps_board.specs.Rows.{AreAlike, DifferOnlyIn}
-use Rattle.ps_board.proofs.ColumnLaws.{column_at-where}
-use Rattle.ps_rows.specs.Planes.{has_cell, has_column}
+use Rattle.ps_rows.specs.Planes.{has_cell, row_of}
 use Rattle.ps_rows.specs.Members.{on_layer}
 use Rattle.ps_rows.specs.Showing.{numbered, object_shown, motion_shown, slot_shown, cell_shown, cells_shown, grid_shown}
 use Rattle.ps_rows.specs.Sameness.{HasDifferences, HasUnlikeOf}
-use Rattle.ps_rows.proofs.Absent.{column_clear}
 use Rattle.ps_rows.proofs.Alike.{column_read}
 use Rattle.ps_rows.proofs.Listed.{find_same}
 use Rattle.ps_rows.proofs.Rests.{object_of_slot}
-use Rattle.ps_rows.proofs.Scans.{has_column-and, has_column-not}
+use Rattle.ps_rows.proofs.Sets.{wide_on, without_at}
 use Rattle.ps_rows.proofs.MemberRanges.{listed_member}
 use Rattle.ps_rows.proofs.Tables.{tabled_at}
+use Rattle.ps_model.specs.declared.limits.TheConstants.{SIDE_LIMIT}
 
 -- two cells of a row, each of a board, have the same objects where each object's plane has both or neither
-same_shown : (table : List ℕ) (height : ℕ) (first second : List ℕ) (row x y : ℕ) → row < height →
-    ((o : ℕ) → o < length table → has_column (get_or first (o * height + row) 0) x ≡ has_column (get_or second (o * height + row) 0) y) → (layer : ℕ) →
+same_shown : (table : List ℕ) (height : ℕ) (first second : List (List Bool)) (row x y : ℕ) → row < height →
+    ((o : ℕ) → o < length table → column_at (row_of first (o * height + row)) x ≡ column_at (row_of second (o * height + row)) y) → (layer : ℕ) →
     object_shown table height first (x * height + row) layer ≡ object_shown table height second (y * height + row) layer
 unfolding object_shown
 same_shown table height first second row x y under same layer =
@@ -34,7 +33,7 @@ same_shown table height first second row x y under same layer =
     let below : o < length table = slice_get_within table o layer (listed_member table layer o listed) in
     sym (column_read height first row o x under) ∙ same o below ∙ column_read height second row o y under)
 
-pub object_of_shown : (table : List ℕ) (height : ℕ) (words : List ℕ) (cell layer : ℕ) →
+pub object_of_shown : (table : List ℕ) (height : ℕ) (words : List (List Bool)) (cell layer : ℕ) →
     object_in (slot_shown table height words cell layer) ≡ option_map numbered (object_shown table height words cell layer)
 unfolding slot_shown
 object_of_shown table height words cell layer = object_of_slot (object_shown table height words cell layer) (motion_shown table height words cell layer)
@@ -42,7 +41,7 @@ object_of_shown table height words cell layer = object_of_slot (object_shown tab
 one_more : (x y : Slot) (xs ys : List Slot) → object_in x ≡ object_in y → objects_in xs ≡ objects_in ys → objects_in (x ∷ xs) ≡ objects_in (y ∷ ys)
 one_more x y xs ys e f = rw (e, f) refl
 
-same_objects : (table : List ℕ) (height : ℕ) (first second : List ℕ) (cell other : ℕ) →
+same_objects : (table : List ℕ) (height : ℕ) (first second : List (List Bool)) (cell other : ℕ) →
     ((layer : ℕ) → object_shown table height first cell layer ≡ object_shown table height second other layer) → (a n : ℕ) →
     objects_in (map (slot_shown table height first cell) (range_with_len a n)) ≡ objects_in (map (slot_shown table height second other) (range_with_len a n))
 same_objects table height first second cell other same a zero = refl
@@ -52,8 +51,8 @@ same_objects table height first second cell other same a (suc n) =
     (object_of_shown table height first cell a ∙ ap (option_map numbered) (same a) ∙ sym (object_of_shown table height second other a))
     (same_objects table height first second cell other same (a + 1) n)
 
-cells_same : (table : List ℕ) (width height layers : ℕ) (first second : List ℕ) (row x y : ℕ) → row < height → x < width → y < width →
-    ((o : ℕ) → o < length table → has_column (get_or first (o * height + row) 0) x ≡ has_column (get_or second (o * height + row) 0) y) →
+cells_same : (table : List ℕ) (width height layers : ℕ) (first second : List (List Bool)) (row x y : ℕ) → row < height → x < width → y < width →
+    ((o : ℕ) → o < length table → column_at (row_of first (o * height + row)) x ≡ column_at (row_of second (o * height + row)) y) →
     objects_in (cell_at (grid_shown table width height layers first) (x * height + row)) ≡ objects_in (cell_at (grid_shown table width height layers second) (y * height + row))
 unfolding cells_shown cell_shown
 cells_same table width height layers first second row x y under across over same =
@@ -65,34 +64,29 @@ cells_same table width height layers first second row x y under across over same
     ∙ same_objects table height first second (x * height + row) (y * height + row) (same_shown table height first second row x y under same) 0 layers
     ∙ sym (ap objects_in (tabled_at (cell_shown table layers height second) (width * height) (y * height + row) [] within))
 
-pub others_same : (table : List ℕ) (width height layers : ℕ) (first second : List ℕ) (row word : ℕ) → row < height → width ≤ 64 →
+pub others_same : (table : List ℕ) (width height layers : ℕ) (first second : List (List Bool)) (row : ℕ) (word : List Bool) → row < height → width ≤ SIDE_LIMIT →
     HasDifferences height row (length table) first second word →
-    DifferOnlyIn (word_columns word) (grid_shown table width height layers first) (grid_shown table width height layers second) row
+    DifferOnlyIn word (grid_shown table width height layers first) (grid_shown table width height layers second) row
 others_same table width height layers first second row word under narrow same = λ column h none.
     cells_same table width height layers first second row column column under h h
-    (λ o below. same o column below (column_clear word column (omega (arith, h, narrow)) none))
+    (λ o below. same o column below (omega (arith, h, narrow)) none)
 
--- a column is in the set of those that are in no other word, and any other there shows what it shows
-pub itself_alike : (width full unlike column : ℕ) → column < width → width ≤ 64 → unlike < 2 ^ 64 → ((x : ℕ) → x < 64 → has_column full x ≡ nat_lt x width) →
-    has_column unlike column ≡ false → column_at (word_columns (bit_and full (18446744073709551615 - unlike))) column ≡ true
-unfolding has_column
-itself_alike width full unlike column across narrow fits wide none =
-    let low : column < 64 = omega (arith, across, narrow) in
-    column_at-where (bit_is_set (bit_and full (18446744073709551615 - unlike))) column low
-    ∙ has_column-and full (18446744073709551615 - unlike) column
-    ∙ rw (wide column low, lt-ltb column width across, has_column-not unlike column fits low, none) refl
+-- a column is among those of a board that aren't unlike it, and any other there shows what it shows
+pub itself_alike : (width : ℕ) (all unlike : List Bool) (column : ℕ) → column < width → width ≤ SIDE_LIMIT → all ≡ columns_below width →
+    column_at unlike column ≡ false → column_at (columns_without all unlike) column ≡ true
+itself_alike width all unlike column across narrow is none =
+    without_at all unlike column (omega (arith, across, narrow))
+    ∙ ap₂ (λ (a b : Bool). a && not b) (wide_on all width narrow is column across) none
 
-like_column : (full unlike x : ℕ) → x < 64 → unlike < 2 ^ 64 → column_at (word_columns (bit_and full (18446744073709551615 - unlike))) x ≡ true → has_column unlike x ≡ false
-unfolding has_column
-like_column full unlike x low fits has =
-    let both = sym (has_column-and full (18446744073709551615 - unlike) x) ∙ sym (column_at-where (bit_is_set (bit_and full (18446744073709551615 - unlike))) x low) ∙ has in
-    let parts = and_parts (has_column full x) (has_column (18446744073709551615 - unlike) x) both in
-    not-true (has_column unlike x) (sym (has_column-not unlike x fits low) ∙ parts.1)
+like_column : (all unlike : List Bool) (x : ℕ) → x < SIDE_LIMIT → column_at (columns_without all unlike) x ≡ true → column_at unlike x ≡ false
+like_column all unlike x low has =
+    let parts = and_parts (column_at all x) (not (column_at unlike x)) (sym (without_at all unlike x low) ∙ has) in
+    not-true (column_at unlike x) parts.1
 
-pub columns_alike : (table : List ℕ) (width height layers : ℕ) (words : List ℕ) (row column full unlike : ℕ) → row < height → column < width → width ≤ 64 → unlike < 2 ^ 64 →
-    HasUnlikeOf height row (length table) words column unlike →
-    AreAlike (word_columns (bit_and full (18446744073709551615 - unlike))) (grid_shown table width height layers words) row column
-columns_alike table width height layers words row column full unlike under over narrow fits told = λ x across has.
-    let low : x < 64 = omega (arith, across, narrow) in
+pub columns_alike : (table : List ℕ) (width height layers : ℕ) (words : List (List Bool)) (row column : ℕ) (all unlike : List Bool) → row < height → column < width → width ≤ SIDE_LIMIT →
+    all ≡ columns_below width → HasUnlikeOf height row (length table) words all column unlike →
+    AreAlike (columns_without all unlike) (grid_shown table width height layers words) row column
+columns_alike table width height layers words row column all unlike under over narrow is told = λ x across has.
+    let low : x < SIDE_LIMIT = omega (arith, across, narrow) in
     cells_same table width height layers words words row x column under across over
-    (λ o below. told.1 o x below low (like_column full unlike x low fits has))
+    (λ o below. told.1 o x below low (wide_on all width narrow is x across) (like_column all unlike x low has))

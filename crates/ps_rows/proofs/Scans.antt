@@ -1,16 +1,12 @@
--- Words of a row against what a mask asks.
-use Rattle.std.proofs.Common.{◌≡◌, ℕ, ◌+◌, ◌-◌, ◌*◌, ◌/◌, ◌^◌, ◌<◌, ◌≤◌, ◌⊎◌, inl, inr, Bool, true, false, not, ◌&&◌}
+-- Sets of columns of a row against what a mask asks.
+use Rattle.std.proofs.Common.{◌≡◌, ℕ, ◌+◌, ◌-◌, ◌*◌, ◌/◌, ◌^◌, ◌<◌, ◌≤◌, ◌⊎◌, inl, inr, Bool, true, false, not, ◌&&◌, ap₂}
 use Rattle.std.proofs.Common.{◌||◌, Option, Some, None, List, [], length, get_or, take, map, refl, sym, ap, ◌∙◌, arith}
-use Rattle.std.proofs.Common.{bit_and, bit_or}
 use Rattle.std.specs.Prelude.{nat_lt, slice_get, option_map}
 use Rattle.std.specs.List.{list_all, list_any, range_with_len}
-use Rattle.std.specs.Int.{bit_at, w64}
 use Rattle.std.proofs.lemmas.Bool.{cases_eq, cases_lt, and_parts, false_from_ne_true, false≢true, ltb-true, lt-ltb}
 use Rattle.std.proofs.lemmas.Bool.{le-ltb}
 use Rattle.std.proofs.lemmas.Option.{none-some}
 use Rattle.std.proofs.lemmas.Nat.{mul-add-lt, div-mul-add, mod-mul-add}
-use Rattle.std.proofs.lemmas.Nat.Bits.{bit_at_and, bit_at_or, bit_at_not, bit_at_ones, bit_at_ones_above, bit_at-lt}
-use Rattle.std.proofs.lemmas.Nat.Bits.{ones_shr}
 use Rattle.std.proofs.lemmas.List.{get_or_past}
 use Rattle.std.proofs.lemmas.List.Folds.{list_all_more, list_any_more}
 use Rattle.std.proofs.lemmas.List.FromFn.{length-map-range_with_len}
@@ -27,86 +23,44 @@ use Rattle.ps_model.specs.board.Movement.{is_number}
 use Rattle.ps_model.specs.meaning.Fitting.{same_motion}
 use Rattle.ps_model.specs.meaning.Compiled.{CellMask, slot_holds, mask_fits}
 use Rattle.ps_laws.proofs.common.SameThings.{is_number-true}
-use Rattle.ps_rows.specs.Planes.{has_column, has_cell}
+use Rattle.ps_rows.specs.Planes.{has_cell, row_of}
 use Rattle.ps_rows.specs.Showing.{numbered, motions_from, motion_plane, object_shown, motion_shown, slot_shown}
 use Rattle.ps_rows.specs.Showing.{cell_shown, cells_shown, grid_shown, AreObjectsShown, AreMotionsShown}
 use Rattle.ps_rows.specs.RowTests.{IsRowOf, IsWithin, held, held_all, held_any, held_of_each, moved, moved_all}
 use Rattle.ps_rows.specs.RowTests.{five_rows}
-use Rattle.ps_rows.proofs.Bits.{has_column-zero}
+use Rattle.ps_rows.proofs.Sets.{both_at, either_at, none_at, wide_of, wide_on, without_at}
 use Rattle.ps_rows.proofs.Listed.{same_tests}
 use Rattle.ps_rows.proofs.Rests.{slot_read, object_room}
 use Rattle.ps_rows.proofs.Tables.{tabled_at}
-
--- bits ----------------------------------------------------------------------------------------------------------------
-
-pub bit_cases : (n i : ℕ) → (bit_at n i ≡ 0) ⊎ (bit_at n i ≡ 1)
-bit_cases n i = let low : bit_at n i < 2 = bit_at-lt n i in
-    elim (cases_eq (bit_at n i) 0) [ inl e ↦ inl e | inr e ↦ inr (omega arith) ]
-
-pub has_column-and : (a b x : ℕ) → has_column (bit_and a b) x ≡ (has_column a x && has_column b x)
-unfolding has_column
-has_column-and a b x = elim (bit_cases a x) [
-  | inl e ↦ elim (bit_cases b x) [ inl f ↦ rw (bit_at_and, e, f) refl | inr f ↦ rw (bit_at_and, e, f) refl ]
-  | inr e ↦ elim (bit_cases b x) [ inl f ↦ rw (bit_at_and, e, f) refl | inr f ↦ rw (bit_at_and, e, f) refl ]
-]
-
-pub has_column-or : (a b x : ℕ) → has_column (bit_or a b) x ≡ (has_column a x || has_column b x)
-unfolding has_column
-has_column-or a b x = elim (bit_cases a x) [
-  | inl e ↦ elim (bit_cases b x) [ inl f ↦ rw (bit_at_or, e, f) refl | inr f ↦ rw (bit_at_or, e, f) refl ]
-  | inr e ↦ elim (bit_cases b x) [ inl f ↦ rw (bit_at_or, e, f) refl | inr f ↦ rw (bit_at_or, e, f) refl ]
-]
-
-pub has_column-not : (a x : ℕ) → a < 2 ^ 64 → x < 64 → has_column (18446744073709551615 - a) x ≡ not (has_column a x)
-unfolding has_column
-has_column-not a x fits h = elim (bit_cases a x) [
-  | inl e ↦ rw (bit_at_not w64 a x fits h, e) refl
-  | inr e ↦ rw (bit_at_not w64 a x fits h, e) refl
-]
-
-pub has_column-all : (x : ℕ) → x < 64 → has_column 18446744073709551615 x ≡ true
-unfolding has_column
-has_column-all x h = rw (bit_at_ones 64 x h) refl
-
--- the columns of a board of so many
-pub has_column-width : (width x : ℕ) → 0 < width → width ≤ 64 → has_column (18446744073709551615 / 2 ^ (64 - width)) x
-    ≡ nat_lt x width
-unfolding has_column
-has_column-width width x some narrow =
-    let back : 64 - (64 - width) ≡ width = omega arith in
-    let ones : 18446744073709551615 / 2 ^ (64 - width) ≡ 2 ^ width - 1 = ones_shr 64 (64 - width) (omega arith)
-    ∙ ap (λ (k : ℕ). 2 ^ k - 1) back in
-    elim (cases_lt x width) [
-      | inl h ↦ rw (ones, bit_at_ones width x h) (sym (lt-ltb x width h))
-      | inr h ↦ rw (ones, bit_at_ones_above width x h) (sym (le-ltb x width h))
-    ]
+use Rattle.ps_board.specs.ColumnSets.{both_columns, column_at, columns_below, columns_without, either_columns, no_columns}
+use Rattle.ps_model.specs.declared.limits.TheConstants.{SIDE_LIMIT}
 
 -- loops ---------------------------------------------------------------------------------------------------------------
 
-module _ {X : Type 0} (g : Grid) (row : ℕ) (q : List Slot → X → Bool) (narrow : g.width ≤ 64) where
-  pub all_none : IsRowOf g row 18446744073709551615 (λ cell. list_all (q cell) [])
-  all_none = λ x h. has_column-all x (omega arith)
+module _ {X : Type 0} (g : Grid) (row : ℕ) (q : List Slot → X → Bool) (narrow : g.width ≤ SIDE_LIMIT) where
+  pub all_none : (all : List Bool) → all ≡ columns_below g.width → IsRowOf g row all (λ cell. list_all (q cell) [])
+  all_none all is = wide_on all g.width narrow is
 
-  pub any_none : IsRowOf g row 0 (λ cell. list_any (q cell) [])
-  any_none = λ x h. has_column-zero x
+  pub any_none : IsRowOf g row no_columns (λ cell. list_any (q cell) [])
+  any_none = λ x h. none_at x
 
-  pub all_more : (xs : List X) (i : ℕ) (d : X) (word part : ℕ) → i < length xs →
+  pub all_more : (xs : List X) (i : ℕ) (d : X) (word part : List Bool) → i < length xs →
       IsRowOf g row word (λ cell. list_all (q cell) (take i xs)) →
       IsRowOf g row part (λ cell. q cell (get_or xs i d)) →
-      IsRowOf g row (bit_and word part) (λ cell. list_all (q cell) (take (i + 1) xs))
+      IsRowOf g row (both_columns word part) (λ cell. list_all (q cell) (take (i + 1) xs))
   all_more xs i d word part below front here = λ x h.
       let cell : List Slot = cell_at g (x * g.height + row) in
-      has_column-and word part x ∙ ap (λ (b : Bool). b && has_column part x) (front x h)
+      both_at word part x (omega (arith, h, narrow)) ∙ ap (λ (b : Bool). b && column_at part x) (front x h)
       ∙ ap (λ (b : Bool). list_all (q cell) (take i xs) && b) (here x h)
       ∙ sym (list_all_more (q cell) xs i d below)
 
-  pub any_more : (xs : List X) (i : ℕ) (d : X) (word part : ℕ) → i < length xs →
+  pub any_more : (xs : List X) (i : ℕ) (d : X) (word part : List Bool) → i < length xs →
       IsRowOf g row word (λ cell. list_any (q cell) (take i xs)) →
       IsRowOf g row part (λ cell. q cell (get_or xs i d)) →
-      IsRowOf g row (bit_or word part) (λ cell. list_any (q cell) (take (i + 1) xs))
+      IsRowOf g row (either_columns word part) (λ cell. list_any (q cell) (take (i + 1) xs))
   any_more xs i d word part below front here = λ x h.
       let cell : List Slot = cell_at g (x * g.height + row) in
-      has_column-or word part x ∙ ap (λ (b : Bool). b || has_column part x) (front x h)
+      either_at word part x (omega (arith, h, narrow)) ∙ ap (λ (b : Bool). b || column_at part x) (front x h)
       ∙ ap (λ (b : Bool). list_any (q cell) (take i xs) || b) (here x h)
       ∙ sym (list_any_more (q cell) xs i d below)
 
@@ -146,7 +100,7 @@ no_plane first (Going Left) h = absurd (none-some (first + 2) (sym h))
 no_plane first (Going Right) h = absurd (none-some (first + 3) (sym h))
 no_plane first Acting h = absurd (none-some (first + 4) (sym h))
 
-module _ (table : List ℕ) (width height layers : ℕ) (words : List ℕ) (row : ℕ) (some : 0 < height) (narrow : width ≤ 64)
+module _ (table : List ℕ) (width height layers : ℕ) (words : List (List Bool)) (row : ℕ) (some : 0 < height) (narrow : width ≤ SIDE_LIMIT)
     (under : row < height) where
   abbrev g : Grid
   g = grid_shown table width height layers words
@@ -154,8 +108,8 @@ module _ (table : List ℕ) (width height layers : ℕ) (words : List ℕ) (row 
   inside : (x : ℕ) → x < width → x * height + row < width * height
   inside x h = let place : x * height + row < height * width = mul-add-lt x height row width h under in omega arith
 
-  -- a bit of a plane's row
-  column_read : (plane x : ℕ) → has_column (get_or words (plane * height + row) 0) x ≡ has_cell height words
+  -- a column of a plane's row
+  column_read : (plane x : ℕ) → column_at (row_of words (plane * height + row)) x ≡ has_cell height words
       (x * height + row) plane
   unfolding has_cell
   column_read plane x = rw (mod-mul-add x height row under, div-mul-add x height row under) refl
@@ -185,7 +139,7 @@ module _ (table : List ℕ) (width height layers : ℕ) (words : List ℕ) (row 
   -- an object that isn't on the layer by the table, or whose layer there isn't
   pub other_row : (sought : LayeredObject) →
       (nat_lt (sought.layer).0 layers && is_number (slice_get table (sought.object).0) (sought.layer).0) ≡ false →
-      IsRowOf g row 0 (held sought)
+      IsRowOf g row no_columns (held sought)
   other_row sought not_on = λ x h.
       let layer : ℕ = (sought.layer).0 in
       let object : ObjectId = sought.object in
@@ -198,78 +152,79 @@ module _ (table : List ℕ) (width height layers : ℕ) (words : List ℕ) (row 
             (sym other
             ∙ object_room table height words (x * height + row) layer object.0
             (is_number-true (object_shown table height words (x * height + row) layer) object.0 yes))) in
-            has_column-zero x
+            none_at x
             ∙ sym (ap (slot_holds object) (slot_within x layer h on) ∙ shown_holds x layer object ∙ none)
-        | inr off ↦ has_column-zero x ∙ sym (ap (slot_holds object) (slot_beyond x layer h off))
+        | inr off ↦ none_at x ∙ sym (ap (slot_holds object) (slot_beyond x layer h off))
       ]
 
   -- an object that is on the layer by the table
-  pub own_row : (sought : LayeredObject) (word : ℕ) → AreObjectsShown table height words (width * height) →
+  pub own_row : (sought : LayeredObject) (word : List Bool) → AreObjectsShown table height words (width * height) →
       (nat_lt (sought.layer).0 layers && is_number (slice_get table (sought.object).0) (sought.layer).0) ≡ true →
-      word ≡ get_or words ((sought.object).0 * height + row) 0 → IsRowOf g row word (held sought)
+      word ≡ row_of words ((sought.object).0 * height + row) → IsRowOf g row word (held sought)
   own_row sought word shown both so = λ x h.
       let layer : ℕ = (sought.layer).0 in
       let object : ObjectId = sought.object in
       let parts = and_parts (nat_lt layer layers) (is_number (slice_get table object.0) layer) both in
       let on : layer < layers = ltb-true layer layers parts.0 in
       let own : slice_get table object.0 ≡ Some layer = is_number-true (slice_get table object.0) layer parts.1 in
-      ap (λ (w : ℕ). has_column w x) so ∙ column_read object.0 x ∙ shown (x * height + row) object.0 layer
+      ap (λ (w : List Bool). column_at w x) so ∙ column_read object.0 x ∙ shown (x * height + row) object.0 layer
       (inside x h) own
       ∙ sym (ap (slot_holds object) (slot_within x layer h on) ∙ shown_holds x layer object)
 
   -- a layer that there isn't rests
-  pub beyond_row : (test : MotionTest) (word : ℕ) → layers ≤ (test.layer).0 →
-      ((x : ℕ) → x < 64 → has_column word x ≡ same_motion test.motion Still) → IsRowOf g row word (moved test)
+  pub beyond_row : (test : MotionTest) (word : List Bool) → layers ≤ (test.layer).0 →
+      ((x : ℕ) → x < width → column_at word x ≡ same_motion test.motion Still) → IsRowOf g row word (moved test)
   beyond_row test word off still = λ x h.
-      still x (omega arith)
+      still x h
       ∙ sym (ap (λ (slot : Slot). same_motion test.motion (motion_in slot)) (slot_beyond x (test.layer).0 h off))
 
   -- a layer is asked for a motion, or for rest
-  pub moving_row_is : (test : MotionTest) (word plane : ℕ) →
+  pub moving_row_is : (test : MotionTest) (word : List Bool) (plane : ℕ) →
       AreMotionsShown table layers height words (width * height) → (test.layer).0 < layers →
       motion_plane (motions_from table (test.layer).0) test.motion ≡ Some plane →
-      word ≡ get_or words (plane * height + row) 0 → IsRowOf g row word (moved test)
+      word ≡ row_of words (plane * height + row) → IsRowOf g row word (moved test)
   moving_row_is test word plane shown on asked so = λ x h.
-      ap (λ (w : ℕ). has_column w x) so ∙ column_read plane x
+      ap (λ (w : List Bool). column_at w x) so ∙ column_read plane x
       ∙ shown (x * height + row) (test.layer).0 test.motion plane (inside x h) on asked
       ∙ sym (ap (λ (slot : Slot). same_motion test.motion (motion_in slot)) (slot_within x (test.layer).0 h on))
 
-  pub resting_row_is : (test : MotionTest) (any : ℕ) → AreMotionsShown table layers height words (width * height) →
-      (test.layer).0 < layers →
+  pub resting_row_is : (test : MotionTest) (all any : List Bool) → all ≡ columns_below width →
+      AreMotionsShown table layers height words (width * height) → (test.layer).0 < layers →
       motion_plane (motions_from table (test.layer).0) test.motion ≡ None →
-      any ≡ five_rows height words (motions_from table (test.layer).0) row → any < 2 ^ 64 →
-      IsRowOf g row (18446744073709551615 - any) (moved test)
-  resting_row_is test any shown on asked so fits = λ x h.
+      any ≡ five_rows height words (motions_from table (test.layer).0) row →
+      IsRowOf g row (columns_without all any) (moved test)
+  resting_row_is test all any is shown on asked so = λ x h.
+      let low : x < SIDE_LIMIT = omega (arith, h, narrow) in
       let layer : ℕ = (test.layer).0 in
       let first : ℕ = motions_from table layer in
       let motion : Motion = motion_in (slot_shown table height words (x * height + row) layer) in
-      let word : ℕ → ℕ = λ plane. get_or words (plane * height + row) 0 in
+      let word : ℕ → List Bool = λ plane. row_of words (plane * height + row) in
+      let two : List Bool = either_columns (word first) (word (first + 1)) in
+      let three : List Bool = either_columns two (word (first + 2)) in
+      let four : List Bool = either_columns three (word (first + 3)) in
+      let either : Bool → Bool → Bool = λ a b. a || b in
       let tells : (m : Motion) (plane : ℕ) → motion_plane first m ≡ Some plane →
-      has_column (word plane) x ≡ same_motion m motion =
+      column_at (word plane) x ≡ same_motion m motion =
       λ m plane e. column_read plane x ∙ shown (x * height + row) layer m plane (inside x h) on e in
-      let or5 : has_column (five_rows height words first row) x
-      ≡ ((((has_column (word first) x || has_column (word (first + 1)) x) || has_column (word (first + 2)) x) ||
-      has_column (word (first + 3)) x) || has_column (word (first + 4)) x) =
-      rw (
-        has_column-or (bit_or (bit_or (bit_or (word first) (word (first + 1))) (word (first + 2))) (word (first + 3)))
-            (word (first + 4)) x,
-        has_column-or (bit_or (bit_or (word first) (word (first + 1))) (word (first + 2))) (word (first + 3)) x,
-        has_column-or (bit_or (word first) (word (first + 1))) (word (first + 2)) x,
-        has_column-or (word first) (word (first + 1)) x,
-      ) refl in
-      let told : has_column any x
+      let told : column_at any x
       ≡ ((((same_motion (Going Up) motion || same_motion (Going Down) motion) || same_motion (Going Left) motion) ||
       same_motion (Going Right) motion) || same_motion Acting motion) =
-      ap (λ (w : ℕ). has_column w x) so ∙ or5
-      ∙ rw (
-        tells (Going Up) first refl,
-        tells (Going Down) (first + 1) refl,
-        tells (Going Left) (first + 2) refl,
-        tells (Going Right) (first + 3) refl,
-        tells Acting (first + 4) refl,
-      ) refl in
+      ap (λ (w : List Bool). column_at w x) so
+      ∙ either_at four (word (first + 4)) x low
+      ∙ ap₂ either
+      (either_at three (word (first + 3)) x low
+      ∙ ap₂ either
+      (either_at two (word (first + 2)) x low
+      ∙ ap₂ either
+      (either_at (word first) (word (first + 1)) x low
+      ∙ ap₂ either (tells (Going Up) first refl) (tells (Going Down) (first + 1) refl))
+      (tells (Going Left) (first + 2) refl))
+      (tells (Going Right) (first + 3) refl))
+      (tells Acting (first + 4) refl) in
       let still : test.motion ≡ Still = no_plane first test.motion asked in
-      has_column-not any x fits (omega arith) ∙ ap not told ∙ rest_is_none motion
+      without_at all any x low
+      ∙ ap₂ (λ (a b : Bool). a && not b) (wide_on all width narrow is x h) told
+      ∙ rest_is_none motion
       ∙ ap (λ (m : Motion). same_motion m motion) (sym still)
       ∙ sym (ap (λ (slot : Slot). same_motion test.motion (motion_in slot)) (slot_within x layer h on))
 
@@ -281,40 +236,35 @@ and4 true true false d = refl
 and4 true false c d = refl
 and4 false b c d = refl
 
-pub mask_inside : (g : Grid) (row full needed barred listed moving : ℕ) (mask : CellMask) → g.width ≤ 64 →
-    barred < 2 ^ 64 → ((x : ℕ) → x < 64 → has_column full x ≡ nat_lt x g.width) →
-    IsRowOf g row needed (held_all mask.needed) → IsRowOf g row barred (held_any mask.barred) →
+pub mask_inside : (g : Grid) (row : ℕ) (full needed barred listed moving : List Bool) (mask : CellMask) → g.width ≤ SIDE_LIMIT →
+    full ≡ columns_below g.width → IsRowOf g row needed (held_all mask.needed) → IsRowOf g row barred (held_any mask.barred) →
     IsRowOf g row listed (held_of_each mask.one_of) → IsRowOf g row moving (moved_all mask.motions) →
-    IsRowOf g row (bit_and (bit_and (bit_and (bit_and full needed) (18446744073709551615 - barred)) listed) moving)
+    IsRowOf g row (both_columns (both_columns (columns_without (both_columns full needed) barred) listed) moving)
     (mask_fits mask)
-mask_inside g row full needed barred listed moving mask narrow fits wide a b c d = λ x h.
-    let low : x < 64 = omega arith in
+mask_inside g row full needed barred listed moving mask narrow is a b c d = λ x h.
+    let low : x < SIDE_LIMIT = omega (arith, h, narrow) in
     let cell : List Slot = cell_at g (x * g.height + row) in
-    let here : has_column full x ≡ true = wide x low ∙ lt-ltb x g.width h in
-    rw (
-      has_column-and (bit_and (bit_and (bit_and full needed) (18446744073709551615 - barred)) listed) moving x,
-      has_column-and (bit_and (bit_and full needed) (18446744073709551615 - barred)) listed x,
-      has_column-and (bit_and full needed) (18446744073709551615 - barred) x,
-      has_column-and full needed x,
-      has_column-not barred x fits low,
-      here,
-      a x h,
-      b x h,
-      c x h,
-      d x h,
-    )
-    (and4 (held_all mask.needed cell) (not (held_any mask.barred cell)) (held_of_each mask.one_of cell)
-    (moved_all mask.motions cell))
+    let both : Bool → Bool → Bool = λ p q. p && q in
+    both_at (both_columns (columns_without (both_columns full needed) barred) listed) moving x low
+    ∙ ap₂ both
+    (both_at (columns_without (both_columns full needed) barred) listed x low
+    ∙ ap₂ both
+    (without_at (both_columns full needed) barred x low
+    ∙ ap₂ (λ (p q : Bool). p && not q) (both_at full needed x low ∙ ap₂ both (wide_on full g.width narrow is x h) (a x h))
+    (b x h))
+    (c x h))
+    (d x h)
+    ∙ and4 (held_all mask.needed cell) (not (held_any mask.barred cell)) (held_of_each mask.one_of cell)
+    (moved_all mask.motions cell)
 
-pub mask_within : (g : Grid) (full needed other listed moving : ℕ) →
-    ((x : ℕ) → x < 64 → has_column full x ≡ nat_lt x g.width) →
-    IsWithin g (bit_and (bit_and (bit_and (bit_and full needed) other) listed) moving)
-mask_within g full needed other listed moving wide = λ x off low.
-    let none : has_column full x ≡ false = wide x low ∙ le-ltb x g.width off in
-    rw (
-      has_column-and (bit_and (bit_and (bit_and full needed) other) listed) moving x,
-      has_column-and (bit_and (bit_and full needed) other) listed x,
-      has_column-and (bit_and full needed) other x,
-      has_column-and full needed x,
-      none,
-    ) refl
+pub mask_within : (g : Grid) (full needed other listed moving : List Bool) → full ≡ columns_below g.width →
+    IsWithin g (both_columns (both_columns (columns_without (both_columns full needed) other) listed) moving)
+mask_within g full needed other listed moving is = λ x off low.
+    let none : column_at full x ≡ false = wide_of full g.width is x low ∙ le-ltb x g.width off in
+    both_at (both_columns (columns_without (both_columns full needed) other) listed) moving x low
+    ∙ ap (λ (b : Bool). b && column_at moving x)
+    (both_at (columns_without (both_columns full needed) other) listed x low
+    ∙ ap (λ (b : Bool). b && column_at listed x)
+    (without_at (both_columns full needed) other x low
+    ∙ ap (λ (b : Bool). b && not (column_at other x))
+    (both_at full needed x low ∙ ap (λ (b : Bool). b && column_at needed x) none)))

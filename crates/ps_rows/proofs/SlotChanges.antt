@@ -14,11 +14,11 @@ use Rattle.ps_model.specs.board.Grid.{motion_in, object_in, slot_of}
 use Rattle.ps_model.specs.board.Movement.{is_number}
 use Rattle.ps_model.specs.meaning.Compiled.{is_gone, object_written, slot_freed, slot_written}
 use Rattle.ps_model.specs.meaning.Fitting.{same_motion}
-use Rattle.ps_rows.specs.Planes.{has_column}
 use Rattle.ps_rows.specs.RowChanges.{bit_after, motions_by, motions_change, moves_by, moves_kept, objects_by, objects_change}
 use Rattle.ps_rows.specs.Showing.{motion_plane}
 use Rattle.ps_rows.specs.SlotsWritten.{loses, slot_number, stands}
 use Rattle.ps_rows.proofs.Moves.{chosen_motion, not_still}
+use Rattle.ps_board.specs.ColumnSets.{column_at}
 
 -- a slot that becomes another where it is chosen
 chosen_slot : (P : Slot → Bool) (s t : Slot) (b n : Bool) → P t ≡ n → ((P s && not b) || (n && b)) ≡ P (if b then t else s)
@@ -56,9 +56,9 @@ motion_again (Holds object motion) = refl
 
 -- a column ---------------------------------------------------------------------------------------------------------------
 
-module _ (gone : List LayeredObject) (layer bits freed x : ℕ) (s : Slot) (goes : has_column freed x ≡ (has_column bits x && loses gone layer s)) where
+module _ (gone : List LayeredObject) (layer : ℕ) (bits freed : List Bool) (x : ℕ) (s : Slot) (goes : column_at freed x ≡ (column_at bits x && loses gone layer s)) where
   abbrev b : Bool
-  b = has_column bits x
+  b = column_at bits x
 
   abbrev left : Slot
   left = slot_freed gone layer s
@@ -74,23 +74,23 @@ module _ (gone : List LayeredObject) (layer bits freed x : ℕ) (s : Slot) (goes
   object_by (Put object) motion o =
       chosen_slot (has_number o) s (object_written (Put object) motion left) b (is_number (Some object.0) o) refl
   object_by Leave motion o =
-      freed_slot (has_number o) gone layer s b (has_column freed x) refl goes
+      freed_slot (has_number o) gone layer s b (column_at freed x) refl goes
       ∙ alike_slot (has_number o) s left (object_written Leave motion left) b (ap (λ (n : Option ℕ). is_number n o) (sym (number_again left (unwrap_or motion (motion_in left)))))
   object_by Clear motion o = cleared_slot (has_number o) s Bare b refl
 
   pub object_bit : (own : Option LayerWrite) (o : ℕ) → bit_after (objects_change own bits freed) o x (has_number o s) ≡ has_number o (if b then slot_written own left else s)
-  object_bit None o = freed_slot (has_number o) gone layer s b (has_column freed x) refl goes
+  object_bit None o = freed_slot (has_number o) gone layer s b (column_at freed x) refl goes
   object_bit (Some write) o = object_by write.object write.motion o
 
-  motion_put : (first : ℕ) (m motion : Motion) (q kept : ℕ) (t : Slot) → motion_plane first m ≡ Some q → motion_in t ≡ motion → has_column kept x ≡ b →
-      ((has_motion m s && not b) || (is_number (motion_plane first motion) q && has_column kept x)) ≡ has_motion m (if b then t else s)
+  motion_put : (first : ℕ) (m motion : Motion) (q : ℕ) (kept : List Bool) (t : Slot) → motion_plane first m ≡ Some q → motion_in t ≡ motion → column_at kept x ≡ b →
+      ((has_motion m s && not b) || (is_number (motion_plane first motion) q && column_at kept x)) ≡ has_motion m (if b then t else s)
   motion_put first m motion q kept t plane e f =
       ap (λ (k : Bool). (has_motion m s && not b) || (is_number (motion_plane first motion) q && k)) f
       ∙ chosen_slot (has_motion m) s t b (is_number (motion_plane first motion) q) (ap (same_motion m) e ∙ sym (chosen_motion first motion m q plane))
 
   -- a motion given to what is left
-  motion_left : (first : ℕ) (m motion : Motion) (q kept : ℕ) (t : Slot) → motion_plane first m ≡ Some q → has_column kept x ≡ (b && stands t) →
-      ((has_motion m s && not b) || (is_number (motion_plane first motion) q && has_column kept x)) ≡ has_motion m (if b then slot_of (object_in t) motion else s)
+  motion_left : (first : ℕ) (m motion : Motion) (q : ℕ) (kept : List Bool) (t : Slot) → motion_plane first m ≡ Some q → column_at kept x ≡ (b && stands t) →
+      ((has_motion m s && not b) || (is_number (motion_plane first motion) q && column_at kept x)) ≡ has_motion m (if b then slot_of (object_in t) motion else s)
   motion_left first m motion q kept (Holds object old) plane f = motion_put first m motion q kept (Holds object motion) plane refl (f ∙ and-true b)
   motion_left first m motion q kept Bare plane f =
       ap (λ (k : Bool). (has_motion m s && not b) || (is_number (motion_plane first motion) q && k)) (f ∙ and-false b)
@@ -98,13 +98,13 @@ module _ (gone : List LayeredObject) (layer bits freed x : ℕ) (s : Slot) (goes
       ∙ cleared_slot (has_motion m) s Bare b (not_still first m q plane)
 
   motion_freed : (first : ℕ) (m : Motion) (q : ℕ) (t : Slot) → motion_plane first m ≡ Some q → motion_in t ≡ motion_in left →
-      ((has_motion m s && not (has_column freed x)) || false) ≡ has_motion m (if b then t else s)
+      ((has_motion m s && not (column_at freed x)) || false) ≡ has_motion m (if b then t else s)
   motion_freed first m q t plane e =
-      freed_slot (has_motion m) gone layer s b (has_column freed x) (not_still first m q plane) goes
+      freed_slot (has_motion m) gone layer s b (column_at freed x) (not_still first m q plane) goes
       ∙ alike_slot (has_motion m) s left t b (ap (same_motion m) (sym e))
 
-  motion_by : (first kept : ℕ) (object : ObjectWrite) (motion : Option Motion) (m : Motion) (q : ℕ) → motion_plane first m ≡ Some q →
-      (moves_by object motion ≡ true → has_column kept x ≡ (b && stands left)) →
+  motion_by : (first : ℕ) (kept : List Bool) (object : ObjectWrite) (motion : Option Motion) (m : Motion) (q : ℕ) → motion_plane first m ≡ Some q →
+      (moves_by object motion ≡ true → column_at kept x ≡ (b && stands left)) →
       bit_after (motions_by first object motion bits freed kept) q x (has_motion m s) ≡ has_motion m (if b then object_written object motion left else s)
   motion_by first kept (Put object) None m q plane says = motion_freed first m q (Holds object (motion_in left)) plane refl
   motion_by first kept (Put object) (Some motion) m q plane says = motion_put first m motion q bits (Holds object motion) plane refl refl
@@ -112,8 +112,8 @@ module _ (gone : List LayeredObject) (layer bits freed x : ℕ) (s : Slot) (goes
   motion_by first kept Leave (Some motion) m q plane says = motion_left first m motion q kept left plane (says refl)
   motion_by first kept Clear motion m q plane says = cleared_slot (has_motion m) s Bare b (not_still first m q plane)
 
-  pub motion_bit : (first kept : ℕ) (own : Option LayerWrite) (m : Motion) (q : ℕ) → motion_plane first m ≡ Some q →
-      (moves_kept own ≡ true → has_column kept x ≡ (b && stands left)) →
+  pub motion_bit : (first : ℕ) (kept : List Bool) (own : Option LayerWrite) (m : Motion) (q : ℕ) → motion_plane first m ≡ Some q →
+      (moves_kept own ≡ true → column_at kept x ≡ (b && stands left)) →
       bit_after (motions_change first own bits freed kept) q x (has_motion m s) ≡ has_motion m (if b then slot_written own left else s)
   motion_bit first kept None m q plane says = motion_freed first m q left plane refl
   motion_bit first kept (Some write) m q plane says = motion_by first kept write.object write.motion m q plane says

@@ -24,17 +24,17 @@ pub found_nowhere : (f : ℕ → Bool) (xs : List ℕ) (k : ℕ) → length xs �
 found_nowhere f xs k h so = sym (at_drop_all (find f) xs k h) ∙ so
 
 -- one plane more is changed
-pub changed_more : (height cell : ℕ) (chosen : Option ℕ) (words more planes : List ℕ) (k : ℕ) (all : List ℕ) → k < length planes →
+pub changed_more : (height cell : ℕ) (chosen : Option ℕ) (words more : List (List Bool)) (planes : List ℕ) (k : ℕ) (all : List (List Bool)) → k < length planes →
     more ≡ with_cell height words cell (get_or planes k 0) (is_number chosen (get_or planes k 0)) →
     with_cell_in height cell chosen words (drop k planes) ≡ all → with_cell_in height cell chosen more (drop (k + 1) planes) ≡ all
 unfolding with_cell_in
 changed_more height cell chosen words more planes k all h e so =
     let here : with_cell_in height cell chosen words (drop k planes) ≡ with_cell_in height cell chosen words (get_or planes k 0 ∷ drop (k + 1) planes) =
     at_drop_more (with_cell_in height cell chosen words) planes k 0 h in
-    ap (λ (ws : List ℕ). with_cell_in height cell chosen ws (drop (k + 1) planes)) e ∙ sym here ∙ so
+    ap (λ (ws : List (List Bool)). with_cell_in height cell chosen ws (drop (k + 1) planes)) e ∙ sym here ∙ so
 
 -- and then all
-pub changed_all : (height cell : ℕ) (chosen : Option ℕ) (words planes : List ℕ) (k : ℕ) (all : List ℕ) → length planes ≤ k →
+pub changed_all : (height cell : ℕ) (chosen : Option ℕ) (words : List (List Bool)) (planes : List ℕ) (k : ℕ) (all : List (List Bool)) → length planes ≤ k →
     with_cell_in height cell chosen words (drop k planes) ≡ all → words ≡ all
 unfolding with_cell_in
 changed_all height cell chosen words planes k all h so = sym (at_drop_all (with_cell_in height cell chosen words) planes k h) ∙ so

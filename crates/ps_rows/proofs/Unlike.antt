@@ -1,37 +1,45 @@
--- Words with the columns that aren't as one of them is in other words.
-use Rattle.std.proofs.Common.{◌≡◌, ◌∙◌, ℕ, ◌+◌, ◌-◌, ◌*◌, ◌^◌, ◌<◌, inl, inr, ◌||◌, Bool, true, not, List, sym, ap, arith, get_or, bit_or}
+-- Sets with the columns that aren't as one of them is in other sets.
+use Rattle.std.proofs.Common.{◌≡◌, ◌∙◌, ℕ, ◌+◌, ◌*◌, ◌<◌, inl, inr, ◌&&◌, ◌||◌, Bool, true, false, not, List, sym, ap, ap₂, arith}
 use Rattle.std.proofs.lemmas.Bool.{cases_eq, or_parts, not-false}
-use Rattle.ps_rows.specs.Planes.{has_column}
+use Rattle.std.proofs.Math.Bool.{and-false}
+use Rattle.ps_model.specs.declared.limits.TheConstants.{SIDE_LIMIT}
+use Rattle.ps_board.specs.ColumnSets.{column_at, columns_without, either_columns, no_columns}
+use Rattle.ps_rows.specs.Planes.{row_of}
 use Rattle.ps_rows.specs.Sameness.{HasUnlike, HasUnlikeOf}
-use Rattle.ps_rows.proofs.Bits.{has_column-zero}
-use Rattle.ps_rows.proofs.Scans.{has_column-not, has_column-or}
+use Rattle.ps_rows.proofs.Sets.{either_at, none_at, without_at}
 
--- no column of an empty word is unlike another
-pub none_unlike : (of column : ℕ) → of ≡ 0 → HasUnlike of column 0
-none_unlike of column empty = (
-  has_column-zero column,
-  λ x low none. ap (λ (word : ℕ). has_column word x) empty ∙ has_column-zero x ∙ sym (ap (λ (word : ℕ). has_column word column) empty ∙ has_column-zero column),
+-- no column of an empty set is unlike another
+pub none_unlike : (all of : List Bool) (column : ℕ) → of ≡ no_columns → HasUnlike all of column no_columns
+none_unlike all of column empty = (
+  none_at column,
+  λ x low on none. ap (λ (word : List Bool). column_at word x) empty ∙ none_at x ∙ sym (ap (λ (word : List Bool). column_at word column) empty ∙ none_at column),
 )
 
--- the columns that a word hasn't, if it has that one
-pub others_unlike : (word column : ℕ) → word < 2 ^ 64 → column < 64 → has_column word column ≡ true → HasUnlike word column (18446744073709551615 - word)
-others_unlike word column fits low has = (
-  has_column-not word column fits low ∙ ap not has,
-  λ x across none. not-false (has_column word x) (sym (has_column-not word x fits across) ∙ none) ∙ sym has,
+-- the columns that a set hasn't, if it has that one
+pub others_unlike : (all word : List Bool) (column : ℕ) → column < SIDE_LIMIT → column_at word column ≡ true → HasUnlike all word column (columns_without all word)
+others_unlike all word column low has = (
+  without_at all word column low ∙ ap (λ (b : Bool). column_at all column && not b) has ∙ and-false (column_at all column),
+  λ x across on none.
+      let told = sym (ap (λ (b : Bool). b && not (column_at word x)) on) ∙ sym (without_at all word x across) ∙ none in
+      not-false (column_at word x) told ∙ sym has,
 )
+
+-- and those that it has, if it hasn't that one
+pub own_unlike : (all word : List Bool) (column : ℕ) → column_at word column ≡ false → HasUnlike all word column word
+own_unlike all word column hasnt = (hasnt, λ x low on none. none ∙ sym hasnt)
 
 -- no plane is looked at, and one more
-pub nothing_unlike : (height row column : ℕ) (words : List ℕ) → HasUnlikeOf height row 0 words column 0
-nothing_unlike height row column words = (has_column-zero column, λ plane x below low none. absurd (omega arith))
+pub nothing_unlike : (height row column : ℕ) (words : List (List Bool)) (all : List Bool) → HasUnlikeOf height row 0 words all column no_columns
+nothing_unlike height row column words all = (none_at column, λ plane x below low on none. absurd (omega arith))
 
-pub one_more_unlike : (height row plane column unlike more : ℕ) (words : List ℕ) → HasUnlikeOf height row plane words column unlike →
-    HasUnlike (get_or words (plane * height + row) 0) column more → HasUnlikeOf height row (plane + 1) words column (bit_or unlike more)
-one_more_unlike height row plane column unlike more words before here = (
-  has_column-or unlike more column ∙ ap (λ (b : Bool). b || has_column more column) before.0 ∙ here.0,
-  λ each x below low none.
-      let parts = or_parts (has_column unlike x) (has_column more x) (sym (has_column-or unlike more x) ∙ none) in
+pub one_more_unlike : (height row plane column : ℕ) (all unlike more : List Bool) (words : List (List Bool)) → column < SIDE_LIMIT → HasUnlikeOf height row plane words all column unlike →
+    HasUnlike all (row_of words (plane * height + row)) column more → HasUnlikeOf height row (plane + 1) words all column (either_columns unlike more)
+one_more_unlike height row plane column all unlike more words near before here = (
+  either_at unlike more column near ∙ ap₂ (λ (a b : Bool). a || b) before.0 here.0,
+  λ each x below low on none.
+      let parts = or_parts (column_at unlike x) (column_at more x) (sym (either_at unlike more x low) ∙ none) in
       elim (cases_eq each plane) [
-        | inl e ↦ rw e (here.1 x low parts.1)
-        | inr apart ↦ before.1 each x (omega arith) low parts.0
+        | inl e ↦ rw e (here.1 x low on parts.1)
+        | inr apart ↦ before.1 each x (omega arith) low on parts.0
       ],
 )

@@ -1,34 +1,37 @@
--- Planes of rows of bits, as one flat list of words: row y of a plane is the word at plane * height + y, and its bit x says
--- whether the plane has the cell in column x of that row.
-use Rattle.std.specs.Prelude.{ℕ, ◌+◌, ◌*◌, ◌/◌, ◌%◌, ◌^◌, ◌==◌, ◌≡◌, ◌≤◌, nat_eq, length, Bool, true, false, Option, List, [], ◌∷◌, slice_index, slice_set, bit_and, bit_or}
+-- Planes of rows, each a set of columns, as one flat list: row y of a plane is the set at plane * height + y, and the set says
+-- whether the plane has the cell in each column of that row.
+use Rattle.std.specs.Prelude.{ℕ, ◌+◌, ◌*◌, ◌/◌, ◌%◌, ◌≡◌, ◌≤◌, nat_eq, length, Bool, true, Option, List, [], ◌∷◌, slice_index_or, slice_set}
 use Rattle.std.specs.List.{list_any}
-use Rattle.std.specs.Int.{bit_at, bit_not, w64}
 use Rattle.ps_model.specs.board.Movement.{is_number}
+use Rattle.ps_board.specs.ColumnSets.{column_at, columns_where, no_columns, with_column}
 
--- the word has the column
-unfoldable pub has_column : ℕ → ℕ → Bool
-has_column word column = bit_at word column == 1
+-- the list is a set of columns: it tells of each column that a board may have, and of no other one
+abbrev pub IsSet : List Bool → Type 0
+IsSet columns = columns_where (column_at columns) ≡ columns
 
--- the word with the column or without it
-unfoldable pub with_column : ℕ → ℕ → Bool → ℕ
-with_column word column true = bit_or word (1 * 2 ^ column % 2 ^ 64)
-with_column word column false = bit_and word (bit_not w64 (1 * 2 ^ column % 2 ^ 64))
+-- the row at a place of the list, without columns beyond its end
+abbrev pub row_of : List (List Bool) → ℕ → List Bool
+row_of words place = slice_index_or words place no_columns
+
+-- each row is a set
+abbrev pub AreSets : List (List Bool) → Type 0
+AreSets words = (place : ℕ) → IsSet (row_of words place)
 
 -- the plane has the cell
-unfoldable pub has_cell : ℕ → List ℕ → ℕ → ℕ → Bool
-has_cell height words cell plane = has_column (slice_index words (plane * height + cell % height)) (cell / height)
+unfoldable pub has_cell : ℕ → List (List Bool) → ℕ → ℕ → Bool
+has_cell height words cell plane = column_at (row_of words (plane * height + cell % height)) (cell / height)
 
 -- the planes with the cell in that one, or without it
-unfoldable pub with_cell : ℕ → List ℕ → ℕ → ℕ → Bool → List ℕ
+unfoldable pub with_cell : ℕ → List (List Bool) → ℕ → ℕ → Bool → List (List Bool)
 with_cell height words cell plane on =
-    let place = plane * height + cell % height in slice_set words place (with_column (slice_index words place) (cell / height) on)
+    let place = plane * height + cell % height in slice_set words place (with_column (row_of words place) (cell / height) on)
 
 -- of these planes the chosen one with the cell, and each other without it
-unfoldable pub with_cell_in : ℕ → ℕ → Option ℕ → List ℕ → List ℕ → List ℕ
+unfoldable pub with_cell_in : ℕ → ℕ → Option ℕ → List (List Bool) → List ℕ → List (List Bool)
 with_cell_in height cell chosen words [] = words
 with_cell_in height cell chosen words (plane ∷ planes) =
     with_cell_in height cell chosen (with_cell height words cell plane (is_number chosen plane)) planes
 
--- the words hold each of these planes whole
-abbrev pub HavePlanes : ℕ → List ℕ → List ℕ → Type 0
+-- the rows of each of these planes are all there
+abbrev pub HavePlanes : ℕ → List (List Bool) → List ℕ → Type 0
 HavePlanes height words planes = (plane : ℕ) → list_any (nat_eq plane) planes ≡ true → (plane + 1) * height ≤ length words

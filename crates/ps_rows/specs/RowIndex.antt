@@ -1,8 +1,9 @@
--- An index of the rows of planes: one word for each plane, and where row y of the plane has a column, bit y of it is set.
-use Rattle.std.specs.Prelude.{◌≡◌, ◌<◌, ℕ, ◌+◌, ◌*◌, false, List, slice_index}
-use Rattle.ps_rows.specs.Planes.{has_column}
+-- An index of the rows of planes: one set of rows for each plane, and where row y of the plane has a column, y is in the set.
+use Rattle.std.specs.Prelude.{◌≡◌, ◌<◌, ℕ, ◌+◌, ◌*◌, Bool, false, List}
+use Rattle.ps_board.specs.ColumnSets.{column_at, no_columns}
+use Rattle.ps_rows.specs.Planes.{row_of}
 
 -- a row of a plane that isn't marked has no column
-abbrev pub AreRowsMarked : ℕ → ℕ → List ℕ → List ℕ → Type 0
+abbrev pub AreRowsMarked : ℕ → ℕ → List (List Bool) → List (List Bool) → Type 0
 AreRowsMarked planes height words index =
-    (plane row : ℕ) → plane < planes → row < height → has_column (slice_index index plane) row ≡ false → slice_index words (plane * height + row) ≡ 0
+    (plane row : ℕ) → plane < planes → row < height → column_at (row_of index plane) row ≡ false → row_of words (plane * height + row) ≡ no_columns

@@ -1,21 +1,22 @@
--- Words as the cells of a row of a grid that pass a test.
-use Rattle.std.specs.Prelude.{◌≡◌, ◌<◌, ◌≤◌, ◌+◌, ◌*◌, ℕ, Bool, false, List, bit_or, slice_index}
+-- Sets of columns as the cells of a row of a grid that pass a test.
+use Rattle.std.specs.Prelude.{◌≡◌, ◌<◌, ◌≤◌, ◌+◌, ◌*◌, ℕ, Bool, false, List}
 use Rattle.std.specs.List.{list_all, list_any}
 use Rattle.ps_model.specs.declared.pieces.Slot.{Slot}
 use Rattle.ps_model.specs.declared.compiled.LayeredObject.{LayeredObject}
 use Rattle.ps_model.specs.declared.compiled.MotionTest.{MotionTest}
 use Rattle.ps_model.specs.board.Grid.{Grid, cell_at}
 use Rattle.ps_model.specs.meaning.Compiled.{is_held_in, moves_as_asked}
-use Rattle.ps_board.specs.declared.one_word.TheConstants.{WORD_BITS}
-use Rattle.ps_rows.specs.Planes.{has_column}
+use Rattle.ps_model.specs.declared.limits.TheConstants.{SIDE_LIMIT}
+use Rattle.ps_board.specs.ColumnSets.{column_at, either_columns}
+use Rattle.ps_rows.specs.Planes.{row_of}
 
--- the word tells the cells of the row that pass the test
-abbrev pub IsRowOf : Grid → ℕ → ℕ → (List Slot → Bool) → Type 0
-IsRowOf g row word test = (x : ℕ) → x < g.width → has_column word x ≡ test (cell_at g (x * g.height + row))
+-- the set tells the cells of the row that pass the test
+abbrev pub IsRowOf : Grid → ℕ → List Bool → (List Slot → Bool) → Type 0
+IsRowOf g row word test = (x : ℕ) → x < g.width → column_at word x ≡ test (cell_at g (x * g.height + row))
 
--- the word has no column beyond the grid
-abbrev pub IsWithin : Grid → ℕ → Type 0
-IsWithin g word = (x : ℕ) → g.width ≤ x → x < WORD_BITS → has_column word x ≡ false
+-- the set has no column beyond the grid
+abbrev pub IsWithin : Grid → List Bool → Type 0
+IsWithin g word = (x : ℕ) → g.width ≤ x → x < SIDE_LIMIT → column_at word x ≡ false
 
 -- what a mask asks of a cell, part by part
 abbrev pub held : LayeredObject → List Slot → Bool
@@ -37,7 +38,8 @@ abbrev pub moved_all : List MotionTest → List Slot → Bool
 moved_all tests cell = list_all (moves_as_asked cell) tests
 
 -- the columns of a row that one of five planes has
-abbrev pub five_rows : ℕ → List ℕ → ℕ → ℕ → ℕ
+abbrev pub five_rows : ℕ → List (List Bool) → ℕ → ℕ → List Bool
 five_rows height words first row =
-    let word : ℕ → ℕ = λ plane. slice_index words (plane * height + row) in
-    bit_or (bit_or (bit_or (bit_or (word first) (word (first + 1))) (word (first + 2))) (word (first + 3))) (word (first + 4))
+    let word : ℕ → List Bool = λ plane. row_of words (plane * height + row) in
+    either_columns (either_columns (either_columns (either_columns (word first) (word (first + 1))) (word (first + 2))) (word (first + 3)))
+    (word (first + 4))

@@ -1,6 +1,5 @@
 -- What planes show. A game has one plane for each object, and behind them five for each layer, of the objects that are
--- about
--- to go up, down, left or right, or to act.
+-- about to go up, down, left or right, or to act.
 use Rattle.std.specs.Prelude.{◌≡◌, ◌<◌, ℕ, ◌+◌, ◌-◌, ◌*◌, Bool, cond, Option, Some, None, option_map, List, [], ◌∷◌}
 use Rattle.std.specs.Prelude.{◌++◌, length, map, replicate, slice_get, take, find}
 use Rattle.std.specs.List.{range_with_len}
@@ -12,6 +11,7 @@ use Rattle.ps_model.specs.declared.pieces.Slot.{Slot}
 use Rattle.ps_model.specs.board.Grid.{Grid, motion_in, slot_of}
 use Rattle.ps_model.specs.board.Movement.{is_number}
 use Rattle.ps_model.specs.meaning.Fitting.{same_motion}
+use Rattle.ps_board.specs.ColumnSets.{no_columns}
 use Rattle.ps_rows.specs.Planes.{has_cell, with_cell_in}
 use Rattle.ps_rows.specs.Members.{on_layer}
 
@@ -45,53 +45,52 @@ first_motion passes first =
     (cond (passes (first + 3)) (Going Right) (cond (passes (first + 4)) Acting Still))))
 
 -- the number of the object that stands on a layer of a cell: the first whose plane has the cell
-unfoldable pub object_shown : List ℕ → ℕ → List ℕ → ℕ → ℕ → Option ℕ
+unfoldable pub object_shown : List ℕ → ℕ → List (List Bool) → ℕ → ℕ → Option ℕ
 object_shown table height words cell layer = find (has_cell height words cell) (on_layer table layer)
 
 -- what it is about to do
-unfoldable pub motion_shown : List ℕ → ℕ → List ℕ → ℕ → ℕ → Motion
+unfoldable pub motion_shown : List ℕ → ℕ → List (List Bool) → ℕ → ℕ → Motion
 motion_shown table height words cell layer = first_motion (has_cell height words cell) (motions_from table layer)
 
 -- the slot of a cell on a layer
-unfoldable pub slot_shown : List ℕ → ℕ → List ℕ → ℕ → ℕ → Slot
+unfoldable pub slot_shown : List ℕ → ℕ → List (List Bool) → ℕ → ℕ → Slot
 slot_shown table height words cell layer =
     slot_of (option_map numbered (object_shown table height words cell layer))
     (motion_shown table height words cell layer)
 
 -- the slots of a cell, and all cells
-unfoldable pub cell_shown : List ℕ → ℕ → ℕ → List ℕ → ℕ → List Slot
+unfoldable pub cell_shown : List ℕ → ℕ → ℕ → List (List Bool) → ℕ → List Slot
 cell_shown table layers height words cell = map (slot_shown table height words cell) (range_with_len 0 layers)
 
-unfoldable pub cells_shown : List ℕ → ℕ → ℕ → List ℕ → ℕ → List (List Slot)
+unfoldable pub cells_shown : List ℕ → ℕ → ℕ → List (List Bool) → ℕ → List (List Slot)
 cells_shown table layers height words cells = map (cell_shown table layers height words) (range_with_len 0 cells)
 
 -- an object's plane has no cell but those which show the object
-abbrev pub AreObjectsShown : List ℕ → ℕ → List ℕ → ℕ → Type 0
+abbrev pub AreObjectsShown : List ℕ → ℕ → List (List Bool) → ℕ → Type 0
 AreObjectsShown table height words cells = (cell object layer : ℕ) → cell < cells →
     slice_get table object ≡ Some layer →
     has_cell height words cell object ≡ is_number (object_shown table height words cell layer) object
 
 -- a motion's plane has no cell but those whose object has that motion
-abbrev pub AreMotionsShown : List ℕ → ℕ → ℕ → List ℕ → ℕ → Type 0
+abbrev pub AreMotionsShown : List ℕ → ℕ → ℕ → List (List Bool) → ℕ → Type 0
 AreMotionsShown table layers height words cells = (cell layer : ℕ) (motion : Motion) (plane : ℕ) → cell < cells →
     layer < layers →
     motion_plane (motions_from table layer) motion ≡ Some plane →
     has_cell height words cell plane ≡ same_motion motion (motion_in (slot_shown table height words cell layer))
 
--- the words with an object and its motion in a cell of a layer, whose objects have these planes, and whose motions have
--- five
--- from the first on
-abbrev pub with_slot_in : ℕ → ℕ → List ℕ → Option ℕ → ℕ → Motion → List ℕ → List ℕ
+-- the rows with an object and its motion in a cell of a layer, whose objects have these planes, and whose motions have
+-- five from the first on
+abbrev pub with_slot_in : ℕ → ℕ → List ℕ → Option ℕ → ℕ → Motion → List (List Bool) → List (List Bool)
 with_slot_in height cell planes object first motion words =
     with_cell_in height cell (motion_plane first motion) (with_cell_in height cell object words planes)
     (motion_planes first)
 
--- the words with those from a place on cleared
-abbrev pub cleared_from : ℕ → List ℕ → List ℕ
-cleared_from start words = take start words ++ replicate (length words - start) 0
+-- the rows with those from a place on cleared
+abbrev pub cleared_from : ℕ → List (List Bool) → List (List Bool)
+cleared_from start words = take start words ++ replicate (length words - start) no_columns
 
 -- the grid that is shown
-abbrev pub grid_shown : List ℕ → ℕ → ℕ → ℕ → List ℕ → Grid
+abbrev pub grid_shown : List ℕ → ℕ → ℕ → ℕ → List (List Bool) → Grid
 grid_shown table width height layers words =
     record {
       width = width;

@@ -13,8 +13,8 @@ use Rattle.ps_model.specs.declared.pieces.Motion.{Motion}
 use Rattle.ps_model.specs.meaning.Compiled.{CellWrite, is_held_in}
 use Rattle.ps_model.specs.meaning.Fitting.{same_motion}
 use Rattle.ps_match.specs.InRoom.{slot_after, write_in_room}
-use Rattle.ps_board.specs.declared.one_word.TheConstants.{WORD_BITS}
-use Rattle.ps_rows.specs.Planes.{has_column}
+use Rattle.ps_model.specs.declared.limits.TheConstants.{SIDE_LIMIT}
+use Rattle.ps_board.specs.ColumnSets.{column_at}
 use Rattle.ps_rows.specs.RowChanges.{bit_after}
 use Rattle.ps_rows.specs.Showing.{motion_plane, motions_from, slot_shown}
 use Rattle.ps_rows.specs.declared.changes.RowChange.{RowChange}
@@ -45,9 +45,9 @@ one_goes gone layer cell = list_any (goes_from layer cell) gone
 abbrev pub stands_on : ℕ → List Slot → Bool
 stands_on layer cell = stands (slice_index_or cell layer Bare)
 
--- the cell lies on that row, in a column of a word
-abbrev pub in_columns : ℕ → ℕ → ℕ → ℕ → Bool
-in_columns height row word cell = nat_eq (cell % height) row && has_column word (cell / height)
+-- the cell lies on that row, in a column of a set
+abbrev pub in_columns : ℕ → ℕ → List Bool → ℕ → Bool
+in_columns height row columns cell = nat_eq (cell % height) row && column_at columns (cell / height)
 
 -- what a write makes of a slot on a board with such a table
 abbrev pub slot_by : List ℕ → CellWrite → ℕ → Slot → Slot
@@ -67,14 +67,15 @@ AreSlotsLeft before chosen on becomes = (cell layer : ℕ) → cell < before.wid
 abbrev pub slot_if : Bool → (Slot → Slot) → Slot → Slot
 slot_if chosen becomes slot = if chosen then becomes slot else slot
 
--- two changes, of a layer's objects and of its motions, make of each slot of a row what it becomes, in columns of a word
-pub record IsLayerChange (table : List ℕ) (width height : ℕ) (words : List ℕ) (layer row columns : ℕ) (becomes : Slot → Slot) (objects motions : RowChange) : Type 0 where
+-- two changes, of a layer's objects and of its motions, make of each slot of a row what it becomes, in columns of a set
+pub record IsLayerChange (table : List ℕ) (width height : ℕ) (words : List (List Bool)) (layer row : ℕ) (columns : List Bool) (becomes : Slot → Slot)
+    (objects motions : RowChange (List Bool)) : Type 0 where
   pub object : (cell o : ℕ) → cell < width * height → cell % height ≡ row → let slot = slot_shown table height words cell layer in
-      bit_after objects o (cell / height) (is_number (slot_number slot) o) ≡ is_number (slot_number (slot_if (has_column columns (cell / height)) becomes slot)) o
+      bit_after objects o (cell / height) (is_number (slot_number slot) o) ≡ is_number (slot_number (slot_if (column_at columns (cell / height)) becomes slot)) o
   pub motion : (cell : ℕ) (m : Motion) (q : ℕ) → cell < width * height → cell % height ≡ row → motion_plane (motions_from table layer) m ≡ Some q →
       let slot = slot_shown table height words cell layer in
-      bit_after motions q (cell / height) (same_motion m (motion_in slot)) ≡ same_motion m (motion_in (slot_if (has_column columns (cell / height)) becomes slot))
+      bit_after motions q (cell / height) (same_motion m (motion_in slot)) ≡ same_motion m (motion_in (slot_if (column_at columns (cell / height)) becomes slot))
   pub room : (cell o : ℕ) → cell < width * height → cell % height ≡ row →
-      slot_number (slot_if (has_column columns (cell / height)) becomes (slot_shown table height words cell layer)) ≡ Some o → slice_get table o ≡ Some layer
-  pub beyond_objects : (x p : ℕ) (before : Bool) → width ≤ x → x < WORD_BITS → bit_after objects p x before ≡ before
-  pub beyond_motions : (x p : ℕ) (before : Bool) → width ≤ x → x < WORD_BITS → bit_after motions p x before ≡ before
+      slot_number (slot_if (column_at columns (cell / height)) becomes (slot_shown table height words cell layer)) ≡ Some o → slice_get table o ≡ Some layer
+  pub beyond_objects : (x p : ℕ) (before : Bool) → width ≤ x → x < SIDE_LIMIT → bit_after objects p x before ≡ before
+  pub beyond_motions : (x p : ℕ) (before : Bool) → width ≤ x → x < SIDE_LIMIT → bit_after motions p x before ≡ before

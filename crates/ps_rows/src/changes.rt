@@ -10,30 +10,35 @@ ghost use Rattle.ps_rows.specs.Showing.{motion_planes};
 
 use crate::motions::motion_plane;
 use crate::planes::{Planes, is_chosen};
+use ps_board::{ColumnWords, Columns};
 use ps_model::{LayerWrite, ObjectWrite};
 
 /// What becomes of a row of some planes: columns are cleared in each of them, and then columns are set in one, if one
-/// is named.
+/// is named. `S` is a set of columns.
 #[derive(Clone, Copy)]
-pub struct RowChange {
-    pub cleared: u64,
+pub struct RowChange<S> {
+    pub cleared: S,
     pub plane: Option<u32>,
-    pub set: u64,
+    pub set: S,
 }
 
 /// The change that clears columns in each plane.
-fn clearing(cleared: u64) -> RowChange
+fn clearing<W: ColumnWords>(cleared: Columns<W>) -> RowChange<Columns<W>>
     ensures { result ≡ clearing cleared }
 {
     RowChange {
         cleared,
         plane: None,
-        set: 0,
+        set: Columns::none(),
     }
 }
 
 /// What a layer's write makes of the planes of its objects, in these columns, of which some have lost their object.
-pub fn objects_change(own: Option<LayerWrite>, columns: u64, freed: u64) -> RowChange
+pub fn objects_change<W: ColumnWords>(
+    own: Option<LayerWrite>,
+    columns: Columns<W>,
+    freed: Columns<W>,
+) -> RowChange<Columns<W>>
     ensures { result ≡ objects_change own columns freed }
 {
     match own {
@@ -52,13 +57,13 @@ pub fn objects_change(own: Option<LayerWrite>, columns: u64, freed: u64) -> RowC
 
 /// What a layer's write makes of the planes of its motions, which begin with the first, in these columns, of which some
 /// have lost their object, and some keep theirs.
-pub fn motions_change(
+pub fn motions_change<W: ColumnWords>(
     first: u32,
     own: Option<LayerWrite>,
-    columns: u64,
-    freed: u64,
-    kept: u64,
-) -> RowChange
+    columns: Columns<W>,
+    freed: Columns<W>,
+    kept: Columns<W>,
+) -> RowChange<Columns<W>>
     requires { first + 4 < 2 ^ 32 }
     ensures { result ≡ motions_change first own columns freed kept }
 {
@@ -98,31 +103,39 @@ pub fn moves_kept(own: Option<LayerWrite>) -> bool
 }
 
 /// The columns that a change sets in a plane.
-fn set_in(change: RowChange, plane: u32) -> u64
+fn set_in<W: ColumnWords>(change: RowChange<Columns<W>>, plane: u32) -> Columns<W>
     ensures { result ≡ set_in change plane }
 {
     if is_chosen(change.plane, plane) {
         return change.set;
     }
-    0
+    Columns::none()
 }
 
-/// The word of a plane's row behind a change.
-fn word_after(change: RowChange, plane: u32, word: u64) -> u64
-    ensures word { result ≡ word_after change plane word }
-    ensures fits { change.cleared < 2 ^ 64 }
+/// The columns of a plane's row behind a change.
+fn word_after<W: ColumnWords>(
+    change: RowChange<Columns<W>>,
+    plane: u32,
+    word: Columns<W>,
+) -> Columns<W>
+    ensures { result ≡ word_after change plane word }
 {
-    (word & !change.cleared) | set_in(change, plane)
+    word.without(change.cleared).either(set_in(change, plane))
 }
 
-/// Changes the row of a plane, and answers whether a word changed, or something had `changed` before.
-fn change_row(planes: &mut Planes, row: u32, change: RowChange, plane: u32, changed: bool) -> bool
+/// Changes the row of a plane, and answers whether it has other columns then, or something had `changed` before.
+fn change_row<W: ColumnWords>(
+    planes: &mut Planes<W>,
+    row: u32,
+    change: RowChange<Columns<W>>,
+    plane: u32,
+    changed: bool,
+) -> bool
     requires row { row < planes.old.height }
     requires plane { (plane + 1) * planes.old.height ≤ vec_len planes.old.words }
     ensures words { let p = planes.old in planes.new.words.items ≡ row_after p.height row change p.words.items plane }
     ensures height { planes.new.height ≡ planes.old.height }
     ensures count { vec_len planes.new.words ≡ vec_len planes.old.words }
-    ensures fits { change.cleared < 2 ^ 64 }
     ensures before { result ≡ false → changed ≡ false }
     ensures quiet { result ≡ false → planes.new.words.items ≡ planes.old.words.items }
     ensures left { let p = planes.old in
@@ -130,19 +143,19 @@ fn change_row(planes: &mut Planes, row: u32, change: RowChange, plane: u32, chan
 {
     let word = planes.row(plane, row);
     let after = word_after(change, plane, word);
-    if after == word {
+    if after.unlike(word).is_empty() {
         return changed;
     }
     planes.set_row(plane, row, after);
     true
 }
 
-/// Changes the row of each of these planes, and answers whether a word changed, or something had `changed` before. No
-/// plane is read for a change that clears and sets nothing.
-pub fn change_rows(
-    planes: &mut Planes,
+/// Changes the row of each of these planes, and answers whether one has other columns then, or something had `changed`
+/// before. No plane is read for a change that clears and sets nothing.
+pub fn change_rows<W: ColumnWords>(
+    planes: &mut Planes<W>,
     row: u32,
-    change: RowChange,
+    change: RowChange<Columns<W>>,
     places: &[u32],
     changed: bool,
 ) -> bool
@@ -158,7 +171,7 @@ pub fn change_rows(
         changed ≡ false → AreRowsLeft p.height row change p.words.items places.now → result ≡ false }
 {
     let mut any = changed;
-    if change.cleared | change.set == 0 {
+    if change.cleared.either(change.set).is_empty() {
         return any;
     }
     for plane in places {
@@ -168,14 +181,14 @@ pub fn change_rows(
 }
 
 /// Changes the row of a layer, whose objects have those places among the planes, and whose motions have those from the
-/// first on, and answers whether a word changed.
-pub fn change_layer(
-    planes: &mut Planes,
+/// first on, and answers whether a row has other columns then.
+pub fn change_layer<W: ColumnWords>(
+    planes: &mut Planes<W>,
     row: u32,
     places: &[u32],
-    objects: RowChange,
+    objects: RowChange<Columns<W>>,
     first: u32,
-    motions: RowChange,
+    motions: RowChange<Columns<W>>,
 ) -> bool
     requires row { row < planes.old.height }
     requires planes { HavePlanes planes.old.height planes.old.words.items places.now }

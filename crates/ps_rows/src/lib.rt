@@ -1,7 +1,7 @@
-//! A board of rows of bits.
+//! A board of rows of columns.
 //!
-//! [`RowBoard`] keeps for each object of its game the cells where it stands, one word for a row of the board, so that
-//! what looks for objects can look at a whole row at once.
+//! [`RowBoard`] keeps for each object of its game the cells where it stands, one set of columns for a row of the board,
+//! so that what looks for objects can look at a whole row at once.
 #![tactic(auto)]
 
 mod changes;

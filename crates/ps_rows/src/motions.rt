@@ -1,11 +1,11 @@
 //! The five planes of a layer's motions.
 
 ghost use Rattle.std.specs.Prelude.{◌≡◌, ◌+◌, ◌*◌, ◌/◌, ◌^◌, ◌<◌, ◌≤◌, vec_len};
-ghost use Rattle.ps_model.specs.declared.limits.TheConstants.{SIDE_LIMIT};
 ghost use Rattle.ps_rows.specs.Planes.{has_cell, with_cell_in};
 ghost use Rattle.ps_rows.specs.Showing.{first_motion, motion_plane, motion_planes};
 
 use crate::planes::Planes;
+use ps_board::ColumnWords;
 use ps_model::{Direction, Motion};
 
 /// The plane of a motion, behind the first plane of its layer; none, of rest.
@@ -24,8 +24,7 @@ pub fn motion_plane(first: u32, motion: Motion) -> Option<u32>
 }
 
 /// The first motion whose plane has a cell.
-pub fn first_motion(planes: &Planes, cell: u32, first: u32) -> Motion
-    requires column { cell / planes.now.height < SIDE_LIMIT }
+pub fn first_motion<W: ColumnWords>(planes: &Planes<W>, cell: u32, first: u32) -> Motion
     requires few { first + 4 < 2 ^ 32 }
     requires planes { (first + 5) * planes.now.height ≤ vec_len planes.now.words }
     ensures { result ≡ first_motion (has_cell planes.now.height planes.now.words.items cell) first }
@@ -49,8 +48,13 @@ pub fn first_motion(planes: &Planes, cell: u32, first: u32) -> Motion
 }
 
 /// Gives a cell this motion alone.
-pub fn choose_motion(planes: &mut Planes, cell: u32, first: u32, motion: Motion)
-    requires column { cell / planes.old.height < SIDE_LIMIT }
+pub fn choose_motion<W: ColumnWords>(
+    planes: &mut Planes<W>,
+    cell: u32,
+    first: u32,
+    motion: Motion,
+)
+    requires column { cell / planes.old.height < W.limit }
     requires few { first + 4 < 2 ^ 32 }
     requires planes { (first + 5) * planes.old.height ≤ vec_len planes.old.words }
     ensures words { let p = planes.old in

@@ -1,67 +1,46 @@
-//! Planes of rows of bits, as one flat list of words, with an index of their rows.
+//! Planes of rows, each row a set of columns, as one flat list of sets, with an index of their rows.
 
 ghost use Rattle.std.specs.Prelude.{◌≡◌, ◌+◌, ◌*◌, ◌/◌, ◌%◌, ◌<◌, ◌≤◌, ℕ, ◌∷◌, [], IfOk, find, length, replicate};
-ghost use Rattle.std.specs.Prelude.{slice_index, slice_set, true, vec_len};
+ghost use Rattle.std.specs.Prelude.{slice_set, true, vec_len};
 ghost use Rattle.ps_model.specs.board.Movement.{is_number};
 ghost use Rattle.ps_model.specs.declared.limits.TheConstants.{SIDE_LIMIT};
-ghost use Rattle.ps_board.specs.declared.one_word.TheConstants.{WORD_BITS};
-ghost use Rattle.ps_rows.specs.Planes.{
-  HavePlanes,
-  has_cell,
-  has_column,
-  with_cell,
-  with_cell_in,
-  with_column,
-};
+ghost use Rattle.ps_board.specs.ColumnSets.{no_columns};
+ghost use Rattle.ps_rows.specs.Planes.{AreSets, HavePlanes, IsSet, has_cell, row_of, with_cell, with_cell_in};
 ghost use Rattle.ps_rows.specs.PlaneCopies.{ArePlanesOf, AreRowsOf};
 ghost use Rattle.ps_rows.specs.RowIndex.{AreRowsMarked};
 ghost use Rattle.ps_rows.specs.Sameness.{DifferOnlyOnRows};
 ghost use Rattle.ps_rows.specs.Showing.{cleared_from};
 
-use ps_board::{Columns, OneWord};
+use ps_board::{ColumnWords, Columns};
 use ps_model::Memory;
 use std::alloc::Global;
 
-/// Planes of one height. A plane has one word for each of its rows, the highest first, and in a word bit x stands for
-/// column x.
+/// Planes of one height. A plane has the columns of each of its rows, the highest row first.
 ///
-/// For each plane the index has one word, whose bit y is set where row y of the plane has a column.
+/// For each plane the index has a set of rows, with each row of the plane that has a column.
 #[derive(Drop)]
-pub struct Planes {
+pub struct Planes<W: ColumnWords> {
     pub height: u32,
-    pub words: Vec<u64>,
-    index: Vec<u64>,
+    pub words: Vec<Columns<W>>,
+    index: Vec<Columns<W>>,
     ghost some_row: { 0 < height },
     ghost rows: { height ≤ SIDE_LIMIT },
+    ghost low: { height ≤ W.limit },
     ghost whole: { vec_len words ≡ vec_len index * height },
+    ghost sets: { AreSets words.items },
     ghost marked: { AreRowsMarked (vec_len index) height words.items index.items },
 }
 
-/// Whether a word has a column.
-pub fn has_column(word: u64, column: u32) -> bool
-    requires { column < WORD_BITS }
-    ensures { result ≡ has_column word column }
-{
-    (word >> column) & 1 == 1
-}
-
-/// A word with a column, or without it.
-fn with_column(word: u64, column: u32, on: bool) -> u64
-    requires { column < WORD_BITS }
-    ensures { result ≡ with_column word column on }
-{
-    if on {
-        word | (1 << column)
-    } else {
-        word & !(1 << column)
-    }
-}
-
 /// The columns of a row that a plane has.
-pub fn plane_row(words: &[u64], height: u32, plane: u32, row: u32) -> u64
+pub fn plane_row<W: ColumnWords>(
+    words: &[Columns<W>],
+    height: u32,
+    plane: u32,
+    row: u32,
+) -> Columns<W>
     requires row { row < height }
     requires plane { (plane + 1) * height ≤ length words.now }
-    ensures { result ≡ slice_index words.now (plane * height + row) }
+    ensures { result ≡ row_of words.now (plane * height + row) }
 {
     words[plane as usize * height as usize + row as usize]
 }
@@ -76,15 +55,15 @@ pub fn is_chosen(chosen: Option<u32>, plane: u32) -> bool
     }
 }
 
-/// Clears all words.
-fn clear(words: &mut [u64])
-    ensures { words.new ≡ replicate (length words.old) 0 }
+/// Clears all rows.
+fn clear<W: ColumnWords>(words: &mut [Columns<W>])
+    ensures { words.new ≡ replicate (length words.old) no_columns }
 {
-    words.fill(0);
+    words.fill(Columns::none());
 }
 
-/// Clears the words of a plane.
-fn clear_plane(words: &mut [u64], height: u32, plane: usize)
+/// Clears the rows of a plane.
+fn clear_plane<W: ColumnWords>(words: &mut [Columns<W>], height: u32, plane: usize)
     requires { (plane + 1) * height ≤ length words.old }
     ensures { ArePlanesOf height plane (plane + 1) [] words.old words.new }
 {
@@ -92,8 +71,13 @@ fn clear_plane(words: &mut [u64], height: u32, plane: usize)
     clear(&mut words[start..start + height as usize]);
 }
 
-/// Copies the words of a plane.
-fn copy_plane(words: &[u64], height: u32, plane: usize, other: &mut [u64])
+/// Copies the rows of a plane.
+fn copy_plane<W: ColumnWords>(
+    words: &[Columns<W>],
+    height: u32,
+    plane: usize,
+    other: &mut [Columns<W>],
+)
     requires here { (plane + 1) * height ≤ length words.now }
     requires there { (plane + 1) * height ≤ length other.old }
     ensures { ArePlanesOf height plane (plane + 1) words.now other.old other.new }
@@ -103,16 +87,17 @@ fn copy_plane(words: &[u64], height: u32, plane: usize, other: &mut [u64])
     other[start..end].copy_from_slice(&words[start..end]);
 }
 
-impl Planes {
+impl<W: ColumnWords> Planes<W> {
     /// So many planes of a height, without columns. Nothing, where there is no memory.
-    pub fn try_new(alloc: Global, count: u32, height: u32) -> Result<Planes, Memory>
+    pub fn try_new(alloc: Global, count: u32, height: u32) -> Result<Planes<W>, Memory>
         requires row { 0 < height }
         requires rows { height ≤ SIDE_LIMIT }
-        ensures words { IfOk result (λ planes. planes.words.items ≡ replicate (count * height) 0) }
+        requires low { height ≤ W.limit }
+        ensures words { IfOk result (λ planes. planes.words.items ≡ replicate (count * height) no_columns) }
         ensures height { IfOk result (λ planes. planes.height ≡ height) }
     {
-        let words = Vec::from_elem(alloc, 0u64, count as usize * height as usize)?;
-        let index = Vec::from_elem(alloc, 0u64, count as usize)?;
+        let words = Vec::from_elem(alloc, Columns::none(), count as usize * height as usize)?;
+        let index = Vec::from_elem(alloc, Columns::none(), count as usize)?;
         Ok(Planes {
             height,
             words,
@@ -121,7 +106,7 @@ impl Planes {
     }
 
     /// The same planes. Nothing, where there is no memory.
-    pub fn try_copy(&self, alloc: Global) -> Result<Planes, Memory>
+    pub fn try_copy(&self, alloc: Global) -> Result<Planes<W>, Memory>
         ensures words { IfOk result (λ planes. planes.words.items ≡ self.now.words.items) }
         ensures height { IfOk result (λ planes. planes.height ≡ self.now.height) }
     {
@@ -135,60 +120,60 @@ impl Planes {
     }
 
     /// The columns of a row that a plane has.
-    pub fn row(&self, plane: u32, row: u32) -> u64
+    pub fn row(&self, plane: u32, row: u32) -> Columns<W>
         requires row { row < self.now.height }
         requires plane { (plane + 1) * self.now.height ≤ vec_len self.now.words }
-        ensures { result ≡ slice_index self.now.words.items (plane * self.now.height + row) }
+        ensures { result ≡ row_of self.now.words.items (plane * self.now.height + row) }
     {
         plane_row(self.words.as_slice(), self.height, plane, row)
     }
 
-    /// The rows of a plane that may have a column: bit y stands for row y.
-    pub fn rows_of(&self, plane: u32) -> u64
+    /// The rows of a plane that may have a column.
+    pub fn rows_of(&self, plane: u32) -> Columns<W>
         requires { (plane + 1) * self.now.height ≤ vec_len self.now.words }
-        ensures { result ≡ slice_index self.now.index.items plane }
+        ensures { result ≡ row_of self.now.index.items plane }
     {
         self.index[plane as usize]
     }
 
     /// Gives a row of a plane these columns.
-    pub fn set_row(&mut self, plane: u32, row: u32, word: u64)
+    pub fn set_row(&mut self, plane: u32, row: u32, word: Columns<W>)
         requires row { row < self.old.height }
         requires plane { (plane + 1) * self.old.height ≤ vec_len self.old.words }
+        requires set { IsSet word }
         ensures words { self.new.words.items ≡ slice_set self.old.words.items (plane * self.old.height + row) word }
         ensures height { self.new.height ≡ self.old.height }
         ensures count { vec_len self.new.words ≡ vec_len self.old.words }
     {
         let place = plane as usize;
         self.words[place * self.height as usize + row as usize] = word;
-        self.index[place] = with_column(self.index[place], row, word != 0);
+        self.index[place] = self.index[place].with(row, !word.is_empty());
     }
 
     /// Whether a plane has a cell.
     pub fn has_cell(&self, cell: u32, plane: u32) -> bool
-        requires column { cell / self.now.height < SIDE_LIMIT }
-        requires plane { (plane + 1) * self.now.height ≤ vec_len self.now.words }
+        requires { (plane + 1) * self.now.height ≤ vec_len self.now.words }
         ensures { result ≡ has_cell self.now.height self.now.words.items cell plane }
     {
-        has_column(self.row(plane, cell % self.height), cell / self.height)
+        self.row(plane, cell % self.height).has(cell / self.height)
     }
 
     /// Puts a cell into a plane, or takes it away.
     fn set_cell(&mut self, cell: u32, plane: u32, on: bool)
-        requires column { cell / self.old.height < SIDE_LIMIT }
+        requires column { cell / self.old.height < W.limit }
         requires plane { (plane + 1) * self.old.height ≤ vec_len self.old.words }
         ensures words { self.new.words.items ≡ with_cell self.old.height self.old.words.items cell plane on }
         ensures height { self.new.height ≡ self.old.height }
         ensures count { vec_len self.new.words ≡ vec_len self.old.words }
     {
         let row = cell % self.height;
-        let word = with_column(self.row(plane, row), cell / self.height, on);
+        let word = self.row(plane, row).with(cell / self.height, on);
         self.set_row(plane, row, word);
     }
 
     /// Puts a cell into the chosen one of these planes, if one is chosen, and takes it away from the others.
     pub fn choose_plane(&mut self, cell: u32, planes: &[u32], chosen: Option<u32>)
-        requires column { cell / self.old.height < SIDE_LIMIT }
+        requires column { cell / self.old.height < W.limit }
         requires planes { HavePlanes self.old.height self.old.words.items planes.now }
         ensures words { let p = self.old in
             self.new.words.items ≡ with_cell_in p.height cell chosen p.words.items planes.now }
@@ -203,8 +188,7 @@ impl Planes {
     /// The first of these planes that has a cell.
     #[tactic(auto, using(crate::proofs::Steps::found_nowhere))]
     pub fn first_plane(&self, cell: u32, planes: &[u32]) -> Option<u32>
-        requires column { cell / self.now.height < SIDE_LIMIT }
-        requires planes { HavePlanes self.now.height self.now.words.items planes.now }
+        requires { HavePlanes self.now.height self.now.words.items planes.now }
         ensures { result ≡ find (has_cell self.now.height self.now.words.items cell) planes.now }
     {
         for plane in planes {
@@ -224,12 +208,12 @@ impl Planes {
         ensures count { vec_len self.new.words ≡ vec_len self.old.words }
         ensures marks { vec_len self.new.index ≡ vec_len self.old.index }
     {
-        if self.index[plane] == 0 {
+        if self.index[plane].is_empty() {
             return;
         }
         let height = self.height;
         clear_plane(self.words.as_mut_slice(), height, plane);
-        self.index[plane] = 0;
+        self.index[plane] = Columns::none();
     }
 
     /// Clears the planes from that one on, those that have a column.
@@ -245,7 +229,7 @@ impl Planes {
     }
 
     /// Makes a plane of others the same, if a row of it is marked on either side.
-    fn copy_marked(&self, other: &mut Planes, plane: usize)
+    fn copy_marked(&self, other: &mut Planes<W>, plane: usize)
         requires height { other.old.height ≡ self.now.height }
         requires here { (plane + 1) * self.now.height ≤ vec_len self.now.words }
         requires there { (plane + 1) * self.now.height ≤ vec_len other.old.words }
@@ -255,7 +239,7 @@ impl Planes {
         ensures count { vec_len other.new.words ≡ vec_len other.old.words }
     {
         let rows = self.index[plane];
-        if rows | other.index[plane] == 0 {
+        if rows.either(other.index[plane]).is_empty() {
             return;
         }
         copy_plane(
@@ -268,7 +252,7 @@ impl Planes {
     }
 
     /// Makes other planes, as many of the same height, the same. Those without columns on both sides are passed over.
-    pub fn copy_into(&self, other: &mut Planes)
+    pub fn copy_into(&self, other: &mut Planes<W>)
         requires height { other.old.height ≡ self.now.height }
         requires count { vec_len other.old.words ≡ vec_len self.now.words }
         ensures words { other.new.words.items ≡ self.now.words.items }
@@ -281,7 +265,7 @@ impl Planes {
     }
 
     /// Makes rows of a plane of others the same, those in a set that are marked on either side.
-    fn copy_rows_of(&self, other: &mut Planes, plane: u32, rows: Columns<OneWord>)
+    fn copy_rows_of(&self, other: &mut Planes<W>, plane: u32, rows: Columns<W>)
         requires height { other.old.height ≡ self.now.height }
         requires here { (plane + 1) * self.now.height ≤ vec_len self.now.words }
         requires there { (plane + 1) * self.now.height ≤ vec_len other.old.words }
@@ -290,7 +274,7 @@ impl Planes {
         ensures height { other.new.height ≡ self.now.height }
         ensures count { vec_len other.new.words ≡ vec_len other.old.words }
     {
-        let marked = Columns::from_word(self.rows_of(plane) | other.rows_of(plane));
+        let marked = self.rows_of(plane).either(other.rows_of(plane));
         let wanted = rows.both(marked);
         let mut left = wanted.both(Columns::below(self.height));
         while let Some(row) = left.take_first() {
@@ -301,7 +285,7 @@ impl Planes {
 
     /// Makes rows of so many planes of others, the first ones, the same, those in a set. What neither side has marked
     /// is passed over.
-    pub fn copy_rows(&self, other: &mut Planes, planes: u32, rows: Columns<OneWord>)
+    pub fn copy_rows(&self, other: &mut Planes<W>, planes: u32, rows: Columns<W>)
         requires height { other.old.height ≡ self.now.height }
         requires here { planes * self.now.height ≤ vec_len self.now.words }
         requires there { planes * self.now.height ≤ vec_len other.old.words }
@@ -315,55 +299,56 @@ impl Planes {
         }
     }
 
-    /// Whether a plane has the same words on others, of the same height. All of them are looked at in one go, without a
+    /// Whether a plane has the same rows on others, of the same height. All of them are looked at in one go, without a
     /// test for each.
-    pub fn has_same_words(&self, other: &Planes, plane: u32) -> bool
+    pub fn has_same_words(&self, other: &Planes<W>, plane: u32) -> bool
         requires height { other.now.height ≡ self.now.height }
         requires here { (plane + 1) * self.now.height ≤ vec_len self.now.words }
         requires there { (plane + 1) * self.now.height ≤ vec_len other.now.words }
-        ensures { result ≡ true → DifferOnlyOnRows self.now.height plane self.now.words.items other.now.words.items 0 }
+        ensures { result ≡ true →
+            DifferOnlyOnRows self.now.height plane self.now.words.items other.now.words.items no_columns }
     {
-        let mut unlike = 0;
+        let mut unlike = Columns::none();
         for row in 0..self.height {
-            unlike |= self.row(plane, row) ^ other.row(plane, row);
+            unlike = unlike.either(self.row(plane, row).unlike(other.row(plane, row)));
         }
-        unlike == 0
+        unlike.is_empty()
     }
 
-    /// The rows in which a plane may have other columns than on others, as many of the same height: bit y stands for
-    /// row y. A plane without columns on both sides is passed over.
-    fn differing_rows(&self, other: &Planes, plane: u32) -> u64
+    /// The rows in which a plane may have other columns than on others, as many of the same height. A plane without
+    /// columns on both sides is passed over.
+    fn differing_rows(&self, other: &Planes<W>, plane: u32) -> Columns<W>
         requires height { other.now.height ≡ self.now.height }
         requires here { (plane + 1) * self.now.height ≤ vec_len self.now.words }
         requires there { (plane + 1) * self.now.height ≤ vec_len other.now.words }
         ensures { DifferOnlyOnRows self.now.height plane self.now.words.items other.now.words.items result }
     {
-        if self.rows_of(plane) | other.rows_of(plane) == 0 {
-            return 0;
+        if self.rows_of(plane).either(other.rows_of(plane)).is_empty() {
+            return Columns::none();
         }
         if self.has_same_words(other, plane) {
-            return 0;
+            return Columns::none();
         }
-        let mut rows = 0;
+        let mut rows = Columns::none();
         for row in 0..self.height {
-            let differ = self.row(plane, row) != other.row(plane, row);
-            rows = with_column(rows, row, differ);
+            let unlike = self.row(plane, row).unlike(other.row(plane, row));
+            rows = rows.with(row, !unlike.is_empty());
         }
         rows
     }
 
     /// The rows in which one of so many planes, the first ones, may have other columns than on others, as many of the
-    /// same height: bit y stands for row y.
-    pub fn rows_differing(&self, other: &Planes, planes: u32) -> u64
+    /// same height.
+    pub fn rows_differing(&self, other: &Planes<W>, planes: u32) -> Columns<W>
         requires height { other.now.height ≡ self.now.height }
         requires here { planes * self.now.height ≤ vec_len self.now.words }
         requires there { planes * self.now.height ≤ vec_len other.now.words }
         ensures { (plane : ℕ) → plane < planes →
             DifferOnlyOnRows self.now.height plane self.now.words.items other.now.words.items result }
     {
-        let mut rows = 0;
+        let mut rows = Columns::none();
         for plane in 0..planes {
-            rows |= self.differing_rows(other, plane);
+            rows = rows.either(self.differing_rows(other, plane));
         }
         rows
     }

@@ -1,4 +1,4 @@
-//! A row of the board rewritten by words, layer by layer.
+//! A row of the board rewritten in many columns at once, layer by layer.
 
 ghost use Rattle.std.specs.Prelude.{◌≡◌, ◌+◌, ◌*◌, ◌<◌, ◌≤◌, ℕ, Some, false, nat_eq, true};
 ghost use Rattle.ps_model.specs.meaning.Compiled.{cell_written};
@@ -12,47 +12,47 @@ ghost use Rattle.ps_rows.specs.SlotsWritten.{goes_from, in_columns, one_goes, sl
 
 use crate::changes::{RowChange, motions_change, moves_kept, objects_change};
 use crate::row_board::RowBoard;
-use ps_board::Board;
+use ps_board::{Board, ColumnWords, Columns};
 use ps_match::{own_write, touches};
 use ps_model::{LayerId, LayerWrite, LayeredObject};
 use ps_program::CellWrite;
 
-impl RowBoard {
+impl<W: ColumnWords> RowBoard<W> {
     /// Where an object stands, if it goes from that layer.
-    fn going_row(&self, each: &LayeredObject, layer: u32, row: u32) -> u64
+    fn going_row(&self, each: &LayeredObject, layer: u32, row: u32) -> Columns<W>
         requires { row < self.now.planes.height }
-        ensures { IsRowOf (⟦<RowBoard as Board>⟧.grid self.now) row result
+        ensures { IsRowOf (⟦<RowBoard<W> as Board>⟧.grid self.now) row result
             (λ cell. goes_from layer cell each.now) }
     {
         if each.layer.0 == layer {
             return self.object_row(each, row);
         }
-        0
+        Columns::none()
     }
 
     /// Where one of the objects stands that goes from that layer.
-    fn gone_row(&self, gone: &[LayeredObject], layer: u32, row: u32) -> u64
+    fn gone_row(&self, gone: &[LayeredObject], layer: u32, row: u32) -> Columns<W>
         requires { row < self.now.planes.height }
-        ensures { IsRowOf (⟦<RowBoard as Board>⟧.grid self.now) row result (one_goes gone.now layer) }
+        ensures { IsRowOf (⟦<RowBoard<W> as Board>⟧.grid self.now) row result (one_goes gone.now layer) }
     {
-        let mut word = 0;
+        let mut word = Columns::none();
         for each in gone {
-            word |= self.going_row(each, layer, row);
+            word = word.either(self.going_row(each, layer, row));
         }
         word
     }
 
     /// Where an object stands on a layer, if the layer's write moves it.
-    fn kept_row(&self, own: Option<LayerWrite>, layer: u32, row: u32) -> u64
+    fn kept_row(&self, own: Option<LayerWrite>, layer: u32, row: u32) -> Columns<W>
         requires layer { layer < self.now.layers }
         requires row { row < self.now.planes.height }
         ensures { moves_kept own ≡ true →
-            IsRowOf (⟦<RowBoard as Board>⟧.grid self.now) row result (stands_on layer) }
+            IsRowOf (⟦<RowBoard<W> as Board>⟧.grid self.now) row result (stands_on layer) }
     {
         if moves_kept(own) {
             return self.standing_row(layer, row);
         }
-        0
+        Columns::none()
     }
 
     /// What a write makes of a layer in columns of a row: of the planes of its objects, and of those of its motions.
@@ -61,37 +61,37 @@ impl RowBoard {
         write: &CellWrite,
         layer: u32,
         row: u32,
-        columns: u64,
-    ) -> (RowChange, RowChange)
+        columns: Columns<W>,
+    ) -> (RowChange<Columns<W>>, RowChange<Columns<W>>)
         requires layer { layer < self.now.layers }
         requires row { row < self.now.planes.height }
-        requires within { IsWithin (⟦<RowBoard as Board>⟧.grid self.now) columns }
+        requires within { IsWithin (⟦<RowBoard<W> as Board>⟧.grid self.now) columns }
         ensures { let b = self.now in
             let becomes = slot_by b.members.table.items (write_shown write.now) layer in
             IsLayerChange b.members.table.items b.width b.planes.height b.planes.words.items layer row columns becomes
             result.0 result.1 }
     {
         let own = own_write(self, write.layers.as_slice(), LayerId(layer));
-        let freed = columns & self.gone_row(write.gone.as_slice(), layer, row);
-        let kept = columns & !freed & self.kept_row(own, layer, row);
+        let freed = columns.both(self.gone_row(write.gone.as_slice(), layer, row));
+        let kept = columns.without(freed).both(self.kept_row(own, layer, row));
         let first = self.motions_from(layer);
         let objects = objects_change(own, columns, freed);
         (objects, motions_change(first, own, columns, freed, kept))
     }
 
     /// Writes a layer of a row in these columns, if the write touches it, and answers whether one of its slots changed.
-    fn write_if(&mut self, write: &CellWrite, layer: u32, row: u32, columns: u64) -> bool
+    fn write_if(&mut self, write: &CellWrite, layer: u32, row: u32, columns: Columns<W>) -> bool
         requires layer { layer < self.old.layers }
         requires row { row < self.old.planes.height }
-        requires within { IsWithin (⟦<RowBoard as Board>⟧.grid self.old) columns }
+        requires within { IsWithin (⟦<RowBoard<W> as Board>⟧.grid self.old) columns }
         ensures slots { let after = slot_by self.old.members.table.items (write_shown write.now) in
-            AreSlotsWritten (⟦<RowBoard as Board>⟧.grid self.old) (⟦<RowBoard as Board>⟧.grid self.new)
+            AreSlotsWritten (⟦<RowBoard<W> as Board>⟧.grid self.old) (⟦<RowBoard<W> as Board>⟧.grid self.new)
             (in_columns self.old.planes.height row columns) (λ l. nat_eq l layer) after }
         ensures quiet { let after = slot_by self.old.members.table.items (write_shown write.now) in
-            result ≡ false → AreSlotsLeft (⟦<RowBoard as Board>⟧.grid self.old)
+            result ≡ false → AreSlotsLeft (⟦<RowBoard<W> as Board>⟧.grid self.old)
             (in_columns self.old.planes.height row columns) (λ l. nat_eq l layer) after }
         ensures left { let after = slot_by self.old.members.table.items (write_shown write.now) in
-            AreSlotsLeft (⟦<RowBoard as Board>⟧.grid self.old)
+            AreSlotsLeft (⟦<RowBoard<W> as Board>⟧.grid self.old)
             (in_columns self.old.planes.height row columns) (λ l. nat_eq l layer) after → result ≡ false }
         ensures width { self.new.width ≡ self.old.width }
         ensures height { self.new.planes.height ≡ self.old.planes.height }
@@ -105,12 +105,17 @@ impl RowBoard {
     }
 
     /// Writes a row in these columns, and answers whether one of its cells changed.
-    pub(crate) fn write_columns(&mut self, write: &CellWrite, row: u32, columns: u64) -> bool
+    pub(crate) fn write_columns(
+        &mut self,
+        write: &CellWrite,
+        row: u32,
+        columns: Columns<W>,
+    ) -> bool
         requires row { row < self.old.planes.height }
-        requires within { IsWithin (⟦<RowBoard as Board>⟧.grid self.old) columns }
-        ensures rewritten { let before = ⟦<RowBoard as Board>⟧.grid self.old in
+        requires within { IsWithin (⟦<RowBoard<W> as Board>⟧.grid self.old) columns }
+        ensures rewritten { let before = ⟦<RowBoard<W> as Board>⟧.grid self.old in
             let becomes = cell_written (write_in_room (Some self.old.members.table.items) (write_shown write.now)) in
-            record { grid = ⟦<RowBoard as Board>⟧.grid self.new; changed = result }
+            record { grid = ⟦<RowBoard<W> as Board>⟧.grid self.new; changed = result }
             ≡ rewritten_where before becomes (in_columns before.height row columns) }
         ensures width { self.new.width ≡ self.old.width }
         ensures height { self.new.planes.height ≡ self.old.planes.height }

@@ -2,10 +2,11 @@
 
 ghost use Rattle.std.specs.Prelude.{◌≡◌, ◌+◌, ◌*◌, ◌/◌, ◌^◌, ◌<◌, ◌≤◌, ◌&&◌, ℕ, Some, List};
 ghost use Rattle.std.specs.Prelude.{false, length, nat_eq, nat_lt, true};
-ghost use Rattle.std.specs.Prelude.{option_map, replicate, slice_get, slice_index, vec_len};
+ghost use Rattle.std.specs.Prelude.{option_map, slice_get, vec_len};
 ghost use Rattle.ps_model.specs.board.Movement.{is_number};
 ghost use Rattle.ps_model.specs.declared.limits.TheConstants.{LAYER_LIMIT, SIDE_LIMIT};
-ghost use Rattle.ps_rows.specs.Planes.{HavePlanes};
+ghost use Rattle.ps_board.specs.ColumnSets.{columns_below};
+ghost use Rattle.ps_rows.specs.Planes.{HavePlanes, row_of};
 ghost use Rattle.ps_program.specs.ProgramShown.{write_shown};
 ghost use Rattle.ps_rows.specs.RowTests.{IsRowOf, IsWithin};
 ghost use Rattle.ps_rows.specs.Sameness.{IsSameLayer};
@@ -19,26 +20,29 @@ use crate::members::Members;
 use crate::motions::{choose_motion, first_motion};
 use crate::planes::Planes;
 use crate::sameness::{differing_row, same_planes, unlike_row};
-use crate::scanning::columns;
-use ps_board::{Board, Columns, OneWord};
+use ps_board::{Board, ColumnWords, Columns};
 use ps_model::{LayerId, LayeredObject, Memory, Motion, MotionTest, ObjectId};
 use ps_program::CellWrite;
 use std::alloc::Global;
 
 /// A board with one plane for each object of its game and, behind them, five for each layer: of the objects there that
-/// are about to go up, down, left or right, or to act. A plane has one word for each row of the board, the highest
-/// first, and in a word bit x stands for column x.
+/// are about to go up, down, left or right, or to act. A plane has the columns of each row of the board, the highest
+/// first.
 ///
 /// On a layer of a cell stands one object at most, which has one motion at most, and there is no motion without an
 /// object.
 #[derive(Drop)]
-pub struct RowBoard {
+pub struct RowBoard<W: ColumnWords> {
     width: u32,
+    /// All columns of the board.
+    pub(crate) all_columns: Columns<W>,
     layers: u32,
     members: Members,
-    planes: Planes,
+    planes: Planes<W>,
     ghost some_column: { 0 < width },
     ghost columns: { width ≤ SIDE_LIMIT },
+    ghost narrow: { width ≤ W.limit },
+    ghost all: { all_columns ≡ columns_below width },
     ghost some_layer: { 0 < layers },
     ghost few_layers: { layers ≤ LAYER_LIMIT },
     ghost ranges: { vec_len members.ranges ≡ layers },
@@ -50,15 +54,15 @@ pub struct RowBoard {
 
 /// Puts an object with its motion into a cell of a layer, whose objects have these planes and whose motions have those
 /// from `first` on, in place of what stood there; or clears the layer there.
-fn put_slot(
-    planes: &mut Planes,
+fn put_slot<W: ColumnWords>(
+    planes: &mut Planes<W>,
     cell: u32,
     objects: &[u32],
     object: Option<u32>,
     first: u32,
     motion: Motion,
 )
-    requires column { cell / planes.old.height < SIDE_LIMIT }
+    requires column { cell / planes.old.height < W.limit }
     requires objects { HavePlanes planes.old.height planes.old.words.items objects.now }
     requires few { first + 4 < 2 ^ 32 }
     requires motions { (first + 5) * planes.old.height ≤ vec_len planes.old.words }
@@ -91,7 +95,7 @@ fn object_of(number: Option<u32>) -> Option<ObjectId>
     }
 }
 
-impl RowBoard {
+impl<W: ColumnWords> RowBoard<W> {
     /// The first plane of a layer's motions.
     pub(crate) fn motions_from(&self, layer: u32) -> u32
         requires { layer < self.now.layers }
@@ -103,18 +107,18 @@ impl RowBoard {
     }
 
     /// The columns of a row that a plane has.
-    pub(crate) fn row(&self, plane: u32, row: u32) -> u64
+    pub(crate) fn row(&self, plane: u32, row: u32) -> Columns<W>
         requires plane { plane < motions_from self.now.members.table.items self.now.layers }
         requires row { row < self.now.planes.height }
-        ensures { result ≡ slice_index self.now.planes.words.items (plane * self.now.planes.height + row) }
+        ensures { result ≡ row_of self.now.planes.words.items (plane * self.now.planes.height + row) }
     {
         self.planes.row(plane, row)
     }
 
-    /// The rows of a plane that may have a column: bit y stands for row y.
-    pub(crate) fn rows_of(&self, plane: u32) -> u64
+    /// The rows of a plane that may have a column.
+    pub(crate) fn rows_of(&self, plane: u32) -> Columns<W>
         requires { plane < motions_from self.now.members.table.items self.now.layers }
-        ensures { result ≡ slice_index self.now.planes.index.items plane }
+        ensures { result ≡ row_of self.now.planes.index.items plane }
     {
         self.planes.rows_of(plane)
     }
@@ -135,14 +139,14 @@ impl RowBoard {
     }
 
     /// Where an object stands on a layer.
-    pub(crate) fn standing_row(&self, layer: u32, row: u32) -> u64
+    pub(crate) fn standing_row(&self, layer: u32, row: u32) -> Columns<W>
         requires layer { layer < self.now.layers }
         requires row { row < self.now.planes.height }
-        ensures { IsRowOf (⟦<RowBoard as Board>⟧.grid self.now) row result (stands_on layer) }
+        ensures { IsRowOf (⟦<RowBoard<W> as Board>⟧.grid self.now) row result (stands_on layer) }
     {
-        let mut word = 0;
+        let mut word = Columns::none();
         for plane in self.members.of(layer) {
-            word |= self.row(*plane, row);
+            word = word.either(self.row(*plane, row));
         }
         word
     }
@@ -164,19 +168,19 @@ impl RowBoard {
         write: &CellWrite,
         layer: u32,
         row: u32,
-        columns: u64,
+        columns: Columns<W>,
     ) -> bool
         requires layer { layer < self.old.layers }
         requires row { row < self.old.planes.height }
-        requires within { IsWithin (⟦<RowBoard as Board>⟧.grid self.old) columns }
+        requires within { IsWithin (⟦<RowBoard<W> as Board>⟧.grid self.old) columns }
         ensures slots { let after = slot_by self.old.members.table.items (write_shown write.now) in
-            AreSlotsWritten (⟦<RowBoard as Board>⟧.grid self.old) (⟦<RowBoard as Board>⟧.grid self.new)
+            AreSlotsWritten (⟦<RowBoard<W> as Board>⟧.grid self.old) (⟦<RowBoard<W> as Board>⟧.grid self.new)
             (in_columns self.old.planes.height row columns) (λ l. nat_eq l layer) after }
         ensures quiet { let after = slot_by self.old.members.table.items (write_shown write.now) in
-            result ≡ false → AreSlotsLeft (⟦<RowBoard as Board>⟧.grid self.old)
+            result ≡ false → AreSlotsLeft (⟦<RowBoard<W> as Board>⟧.grid self.old)
             (in_columns self.old.planes.height row columns) (λ l. nat_eq l layer) after }
         ensures left { let after = slot_by self.old.members.table.items (write_shown write.now) in
-            AreSlotsLeft (⟦<RowBoard as Board>⟧.grid self.old)
+            AreSlotsLeft (⟦<RowBoard<W> as Board>⟧.grid self.old)
             (in_columns self.old.planes.height row columns) (λ l. nat_eq l layer) after → result ≡ false }
         ensures width { self.new.width ≡ self.old.width }
         ensures height { self.new.planes.height ≡ self.old.planes.height }
@@ -190,7 +194,7 @@ impl RowBoard {
     }
 
     /// Whether a layer shows the same on another board of the same size for the same game.
-    fn same_layer(&self, other: &RowBoard, layer: u32) -> bool
+    fn same_layer(&self, other: &RowBoard<W>, layer: u32) -> bool
         requires layer { layer < self.now.layers }
         requires width { other.now.width ≡ self.now.width }
         requires height { other.now.planes.height ≡ self.now.planes.height }
@@ -213,14 +217,14 @@ impl RowBoard {
     }
 }
 
-impl Board for RowBoard {
+impl<W: ColumnWords> Board for RowBoard<W> {
     ghost grid = { λ b. grid_shown b.members.table.items b.width b.planes.height b.layers b.planes.words.items };
 
     ghost table = { λ b. Some b.members.table.items };
 
     ghost table_for = { λ layers. Some layers };
 
-    type Words = OneWord;
+    type Words = W;
 
     /// Nothing too, if the game has more objects than 2147483648.
     fn try_empty(
@@ -229,22 +233,24 @@ impl Board for RowBoard {
         height: u32,
         layers: u32,
         own_layers: &[LayerId],
-    ) -> Result<RowBoard, Memory> {
+    ) -> Result<RowBoard<W>, Memory> {
         let members = Members::try_new(alloc, layers, own_layers)?;
         let planes = Planes::try_new(alloc, members.count() + 5 * layers, height)?;
         Ok(RowBoard {
             width,
+            all_columns: Columns::below(width),
             layers,
             members,
             planes,
         })
     }
 
-    fn try_copy(&self, alloc: Global) -> Result<RowBoard, Memory> {
+    fn try_copy(&self, alloc: Global) -> Result<RowBoard<W>, Memory> {
         let members = self.members.try_copy(alloc)?;
         let planes = self.planes.try_copy(alloc)?;
         Ok(RowBoard {
             width: self.width,
+            all_columns: self.all_columns,
             layers: self.layers,
             members,
             planes,
@@ -280,24 +286,24 @@ impl Board for RowBoard {
         self.planes.clear_from(first);
     }
 
-    fn copy_into(&self, other: &mut RowBoard) {
+    fn copy_into(&self, other: &mut RowBoard<W>) {
         self.planes.copy_into(&mut other.planes);
     }
 
-    fn movers(&self, layer: LayerId, row: u32) -> Columns<OneWord> {
+    fn movers(&self, layer: LayerId, row: u32) -> Columns<W> {
         let still = MotionTest {
             layer,
             motion: Motion::Still,
         };
-        Columns::from_word(columns(self.width) & !self.motion_row(&still, row))
+        self.all_columns.without(self.motion_row(&still, row))
     }
 
-    fn holders(&self, object: ObjectId, layer: LayerId, row: u32) -> Columns<OneWord> {
+    fn holders(&self, object: ObjectId, layer: LayerId, row: u32) -> Columns<W> {
         let sought = LayeredObject { object, layer };
-        Columns::from_word(columns(self.width) & self.object_row(&sought, row))
+        self.all_columns.both(self.object_row(&sought, row))
     }
 
-    fn same(&self, other: &RowBoard) -> bool {
+    fn same(&self, other: &RowBoard<W>) -> bool {
         for layer in 0..self.layers {
             if !self.same_layer(other, layer) {
                 return false;
@@ -307,54 +313,53 @@ impl Board for RowBoard {
     }
 
     /// The rows of all planes of motions, by the index.
-    fn rows_moving_any(&self) -> Columns<OneWord> {
+    fn rows_moving_any(&self) -> Columns<W> {
         let first = self.members.count();
-        let mut rows = 0;
+        let mut rows = Columns::none();
         for plane in first..first + 5 * self.layers {
-            rows |= self.rows_of(plane);
+            rows = rows.either(self.rows_of(plane));
         }
-        Columns::from_word(rows)
+        rows
     }
 
     /// The rows of the object's plane, by the index; none, where no object has that number.
-    fn rows_holding(&self, object: ObjectId) -> Columns<OneWord> {
+    fn rows_holding(&self, object: ObjectId) -> Columns<W> {
         if self.members.count() <= object.0 {
             return Columns::none();
         }
-        Columns::from_word(self.rows_of(object.0))
+        self.rows_of(object.0)
     }
 
     /// The columns in which the planes of all objects are as in that one.
-    fn alike(&self, row: u32, column: u32) -> Columns<OneWord> {
+    fn alike(&self, row: u32, column: u32) -> Columns<W> {
         let objects = self.members.count();
-        let unlike = unlike_row(&self.planes, objects, row, column);
-        Columns::from_word(columns(self.width) & !unlike)
+        let unlike = unlike_row(&self.planes, objects, row, column, self.all_columns);
+        self.all_columns.without(unlike)
     }
 
-    fn is_alike(&self, other: &RowBoard) -> bool {
+    fn is_alike(&self, other: &RowBoard<W>) -> bool {
         self.width == other.width
             && self.planes.height == other.planes.height
             && self.layers == other.layers
             && self.members.has_table_of(&other.members)
     }
 
-    /// The words of the row are compared, in the planes of all objects.
-    fn differing(&self, other: &RowBoard, row: u32) -> Columns<OneWord> {
+    /// The row is compared in the planes of all objects.
+    fn differing(&self, other: &RowBoard<W>, row: u32) -> Columns<W> {
         let objects = self.members.count();
         let here = self.planes.words.as_slice();
         let there = other.planes.words.as_slice();
-        Columns::from_word(differing_row(here, there, self.planes.height, row, objects))
+        differing_row(here, there, self.planes.height, row, objects)
     }
 
-    /// The words of the planes of all objects are compared; a plane without columns on both boards is passed over.
-    fn rows_differing(&self, other: &RowBoard) -> Columns<OneWord> {
+    /// The planes of all objects are compared; a plane without columns on both boards is passed over.
+    fn rows_differing(&self, other: &RowBoard<W>) -> Columns<W> {
         let objects = self.members.count();
-        Columns::from_word(self.planes.rows_differing(&other.planes, objects))
+        self.planes.rows_differing(&other.planes, objects)
     }
 
-    /// The words of these rows are copied, in the planes of all objects, and what moved on the other board is brought
-    /// to rest.
-    fn copy_rows(&self, other: &mut RowBoard, rows: &Columns<OneWord>) {
+    /// These rows are copied in the planes of all objects, and what moved on the other board is brought to rest.
+    fn copy_rows(&self, other: &mut RowBoard<W>, rows: &Columns<W>) {
         let objects = self.members.count();
         self.planes.copy_rows(&mut other.planes, objects, *rows);
         other.planes.clear_from(objects);
@@ -364,6 +369,7 @@ impl Board for RowBoard {
 #[cfg(test)]
 mod tests {
     use super::*;
+    use ps_board::OneWord;
     use ps_model::{Direction, LAYER_LIMIT, OBJECT_LIMIT, SIDE_LIMIT};
     use std::test::Fail;
 
@@ -374,7 +380,7 @@ mod tests {
 
     #[test]
     fn an_empty_board_has_no_object(rt: HostRuntime) -> Result<(), Fail> {
-        let board = RowBoard::try_empty(rt.alloc(), 2, 3, 2, &OWN_LAYERS)?;
+        let board = RowBoard::<OneWord>::try_empty(rt.alloc(), 2, 3, 2, &OWN_LAYERS)?;
         assert_eq!(rt; board.size(), (2, 3));
         assert_eq!(rt; board.layers(), 2);
         for cell in 0..6u32 {
@@ -388,7 +394,7 @@ mod tests {
 
     #[test]
     fn put_sets_one_slot_and_no_other(rt: HostRuntime) -> Result<(), Fail> {
-        let mut board = RowBoard::try_empty(rt.alloc(), 2, 3, 2, &OWN_LAYERS)?;
+        let mut board = RowBoard::<OneWord>::try_empty(rt.alloc(), 2, 3, 2, &OWN_LAYERS)?;
         board.put(4, LayerId(1), Some(ObjectId(0)), Motion::Still);
         board.put(4, LayerId(1), Some(ObjectId(2)), PUSHED);
         for cell in 0..6u32 {
@@ -411,7 +417,7 @@ mod tests {
 
     #[test]
     fn a_copy_is_equal_and_apart(rt: HostRuntime) -> Result<(), Fail> {
-        let mut board = RowBoard::try_empty(rt.alloc(), 1, 2, 2, &OWN_LAYERS)?;
+        let mut board = RowBoard::<OneWord>::try_empty(rt.alloc(), 1, 2, 2, &OWN_LAYERS)?;
         board.put(1, LayerId(0), Some(ObjectId(1)), Motion::Acting);
         let copy = board.try_copy(rt.alloc())?;
         board.put(1, LayerId(0), None, Motion::Still);
@@ -425,7 +431,7 @@ mod tests {
 
     #[test]
     fn copies_into_another_and_rests(rt: HostRuntime) -> Result<(), Fail> {
-        let mut board = RowBoard::try_empty(rt.alloc(), 1, 2, 2, &OWN_LAYERS)?;
+        let mut board = RowBoard::<OneWord>::try_empty(rt.alloc(), 1, 2, 2, &OWN_LAYERS)?;
         let mut other = board.try_copy(rt.alloc())?;
         board.put(1, LayerId(0), Some(ObjectId(1)), PUSHED);
         assert!(rt; !board.same(&other));
@@ -443,7 +449,7 @@ mod tests {
 
     #[test]
     fn copies_rows_alone_and_rests(rt: HostRuntime) -> Result<(), Fail> {
-        let mut board = RowBoard::try_empty(rt.alloc(), 2, 3, 2, &OWN_LAYERS)?;
+        let mut board = RowBoard::<OneWord>::try_empty(rt.alloc(), 2, 3, 2, &OWN_LAYERS)?;
         board.put(0, LayerId(0), Some(ObjectId(1)), PUSHED);
         board.put(4, LayerId(1), Some(ObjectId(2)), PUSHED);
         let mut other = board.try_copy(rt.alloc())?;
@@ -468,7 +474,7 @@ mod tests {
 
     #[test]
     fn tells_which_columns_differ(rt: HostRuntime) -> Result<(), Fail> {
-        let mut board = RowBoard::try_empty(rt.alloc(), 2, 3, 2, &OWN_LAYERS)?;
+        let mut board = RowBoard::<OneWord>::try_empty(rt.alloc(), 2, 3, 2, &OWN_LAYERS)?;
         let other = board.try_copy(rt.alloc())?;
         board.put(4, LayerId(1), Some(ObjectId(2)), Motion::Still);
         board.put(5, LayerId(1), Some(ObjectId(2)), Motion::Still);
@@ -478,16 +484,16 @@ mod tests {
         assert!(rt; !board.differing(&other, 1).has(0));
         assert!(rt; board.differing(&other, 1).has(1));
         assert!(rt; board.differing(&other, 2).is_empty());
-        let turned = RowBoard::try_empty(rt.alloc(), 3, 2, 2, &OWN_LAYERS)?;
+        let turned = RowBoard::<OneWord>::try_empty(rt.alloc(), 3, 2, 2, &OWN_LAYERS)?;
         assert!(rt; !board.is_alike(&turned));
-        let fewer = RowBoard::try_empty(rt.alloc(), 2, 3, 2, &[LayerId(1)])?;
+        let fewer = RowBoard::<OneWord>::try_empty(rt.alloc(), 2, 3, 2, &[LayerId(1)])?;
         assert!(rt; !board.is_alike(&fewer));
         Ok(())
     }
 
     #[test]
     fn tells_which_columns_are_alike(rt: HostRuntime) -> Result<(), Fail> {
-        let mut board = RowBoard::try_empty(rt.alloc(), 5, 2, 2, &OWN_LAYERS)?;
+        let mut board = RowBoard::<OneWord>::try_empty(rt.alloc(), 5, 2, 2, &OWN_LAYERS)?;
         board.put(3, LayerId(1), Some(ObjectId(2)), Motion::Still);
         board.put(7, LayerId(1), Some(ObjectId(2)), PUSHED);
         board.put(9, LayerId(1), Some(ObjectId(2)), Motion::Still);
@@ -510,7 +516,7 @@ mod tests {
         let mut own_layers = [LayerId(LAYER_LIMIT - 2); OBJECT_LIMIT as usize];
         own_layers[last.0 as usize] = highest;
         let (side, layers) = (SIDE_LIMIT, LAYER_LIMIT);
-        let mut board = RowBoard::try_empty(rt.alloc(), side, side, layers, &own_layers)?;
+        let mut board = RowBoard::<OneWord>::try_empty(rt.alloc(), side, side, layers, &own_layers)?;
         let corner = SIDE_LIMIT * SIDE_LIMIT - 1;
         board.put(corner, highest, Some(last), Motion::Acting);
         for cell in 0..corner {

@@ -1,57 +1,55 @@
-//! The board of rows, matched by words and written by words.
+//! The board of rows, matched and written in many columns at once.
 
 use crate::motions::motion_plane;
-use crate::planes::has_column;
 use crate::row_board::RowBoard;
-use crate::scanning::columns as all_columns;
-use ps_board::{Board, OneWord};
+use ps_board::{Board, ColumnWords};
 use ps_match::{Columns, Rooms, Scan};
 use ps_model::{LayerId, LayeredObject, MotionTest, ObjectId};
 use ps_program::{CellMask, CellWrite};
 
-impl Rooms for RowBoard {
+impl<W: ColumnWords> Rooms for RowBoard<W> {
     fn has_room(&self, object: ObjectId, layer: LayerId) -> bool {
         self.is_member(object.0, layer.0)
     }
 }
 
-impl Scan for RowBoard {
+impl<W: ColumnWords> Scan for RowBoard<W> {
     fn fits(&self, mask: &CellMask, cell: u32) -> bool {
         let (width, height) = self.size();
         if width * height <= cell {
             return false;
         }
-        has_column(self.mask_row(mask, cell % height), cell / height)
+        self.mask_row(mask, cell % height).has(cell / height)
     }
 
-    fn scan(&self, mask: &CellMask, row: u32) -> Columns<OneWord> {
-        Columns::from_word(self.mask_row(mask, row))
+    fn scan(&self, mask: &CellMask, row: u32) -> Columns<W> {
+        self.mask_row(mask, row)
     }
 
     fn lacks(&self, object: &LayeredObject) -> bool {
         if !self.is_on(object.object.0, object.layer.0) {
             return true;
         }
-        self.rows_of(object.object.0) == 0
+        self.rows_of(object.object.0).is_empty()
     }
 
     /// The rows that have it, by the index.
-    fn rows_with(&self, object: &LayeredObject) -> Columns<OneWord> {
+    fn rows_with(&self, object: &LayeredObject) -> Columns<W> {
         if !self.is_on(object.object.0, object.layer.0) {
             return Columns::none();
         }
-        Columns::from_word(self.rows_of(object.object.0))
+        self.rows_of(object.object.0)
     }
 
     /// The rows of the motion's plane, by the index; all rows, for rest, and for a layer that the board doesn't have.
-    fn rows_moving(&self, test: &MotionTest) -> Columns<OneWord> {
+    fn rows_moving(&self, test: &MotionTest) -> Columns<W> {
         let (_width, height) = self.size();
         if self.layers() <= test.layer.0 {
             return Columns::below(height);
         }
         let first = self.motions_from(test.layer.0);
         match motion_plane(first, test.motion) {
-            Some(plane) => Columns::from_word(self.rows_of(plane)),
+            Some(plane) => self.rows_of(plane),
             None => Columns::below(height),
         }
     }
@@ -62,24 +60,24 @@ impl Scan for RowBoard {
         if width * height <= cell {
             return changed;
         }
-        let column = 1 << (cell / height);
+        let column = Columns::none().with(cell / height, true);
         let here = self.write_columns(write, cell % height, column);
         changed | here
     }
 
-    fn rewrite(&mut self, write: &CellWrite, row: u32, columns: &Columns<OneWord>) -> bool {
-        let (width, _height) = self.size();
-        let word = columns.word() & all_columns(width);
-        if word == 0 {
+    fn rewrite(&mut self, write: &CellWrite, row: u32, columns: &Columns<W>) -> bool {
+        let within = columns.both(self.all_columns);
+        if within.is_empty() {
             return false;
         }
-        self.write_columns(write, row, word)
+        self.write_columns(write, row, within)
     }
 }
 
 #[cfg(test)]
 mod tests {
     use super::*;
+    use ps_board::OneWord;
     use ps_model::Motion;
     use std::test::Fail;
 
@@ -98,7 +96,7 @@ mod tests {
 
     #[test]
     fn tells_the_rows_that_have_an_object(rt: HostRuntime) -> Result<(), Fail> {
-        let mut board = RowBoard::try_empty(rt.alloc(), 2, 3, 2, &OWN_LAYERS)?;
+        let mut board = RowBoard::<OneWord>::try_empty(rt.alloc(), 2, 3, 2, &OWN_LAYERS)?;
         assert!(rt; board.lacks(&SOUGHT));
         board.put(2, LayerId(1), Some(ObjectId(2)), Motion::Still);
         board.put(4, LayerId(1), Some(ObjectId(2)), Motion::Acting);
@@ -123,7 +121,7 @@ mod tests {
 
     #[test]
     fn tells_the_rows_where_something_moves(rt: HostRuntime) -> Result<(), Fail> {
-        let mut board = RowBoard::try_empty(rt.alloc(), 2, 3, 2, &OWN_LAYERS)?;
+        let mut board = RowBoard::<OneWord>::try_empty(rt.alloc(), 2, 3, 2, &OWN_LAYERS)?;
         let mut other = board.try_copy(rt.alloc())?;
         let acts = MotionTest {
             layer: LayerId(1),

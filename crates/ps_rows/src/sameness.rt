@@ -1,27 +1,33 @@
 //! Whether planes have the same cells on two boards, or in two columns of one.
 
-ghost use Rattle.std.specs.Prelude.{◌≡◌, ◌+◌, ◌*◌, ◌<◌, ◌≤◌, length, slice_index, true, vec_len};
+ghost use Rattle.std.specs.Prelude.{◌≡◌, ◌+◌, ◌*◌, ◌<◌, ◌≤◌, length, true, vec_len};
 ghost use Rattle.ps_model.specs.declared.limits.TheConstants.{SIDE_LIMIT};
-ghost use Rattle.ps_board.specs.declared.one_word.TheConstants.{WORD_BITS};
-ghost use Rattle.ps_rows.specs.Planes.{HavePlanes};
+ghost use Rattle.ps_rows.specs.Planes.{HavePlanes, row_of};
 ghost use Rattle.ps_rows.specs.Sameness.{AreSamePlanes, AreSameRows, HasDifferences, IsSamePlane};
 ghost use Rattle.ps_rows.specs.Sameness.{HasUnlike, HasUnlikeOf};
 
-use crate::planes::{Planes, has_column, plane_row};
-use ps_board::WORD_BITS;
+use crate::planes::{Planes, plane_row};
+use ps_board::{ColumnWords, Columns};
 
 /// Whether two rows have the same columns, of so many from the left on.
-fn same_row(first: u64, second: u64, width: u32) -> bool
-    requires { (0 < width) × (width ≤ WORD_BITS) }
+fn same_row<W: ColumnWords>(first: Columns<W>, second: Columns<W>, width: u32) -> bool
+    requires width { width ≤ SIDE_LIMIT }
+    requires narrow { width ≤ W.limit }
     ensures same { result ≡ true → AreSameRows width first second }
     ensures other { AreSameRows width first second → result ≡ true }
 {
-    (first ^ second) & (u64::MAX >> (WORD_BITS - width)) == 0
+    first.unlike(second).both(Columns::below(width)).is_empty()
 }
 
 /// Whether a plane has the same cells on two boards of this width. One without columns on both isn't read.
-fn same_plane(first: &Planes, second: &Planes, width: u32, plane: u32) -> bool
-    requires width { (0 < width) × (width ≤ SIDE_LIMIT) }
+fn same_plane<W: ColumnWords>(
+    first: &Planes<W>,
+    second: &Planes<W>,
+    width: u32,
+    plane: u32,
+) -> bool
+    requires width { width ≤ SIDE_LIMIT }
+    requires narrow { width ≤ W.limit }
     requires height { second.now.height ≡ first.now.height }
     requires first { (plane + 1) * first.now.height ≤ vec_len first.now.words }
     requires second { (plane + 1) * first.now.height ≤ vec_len second.now.words }
@@ -30,7 +36,11 @@ fn same_plane(first: &Planes, second: &Planes, width: u32, plane: u32) -> bool
     ensures other { let here = first.now.words.items in
         IsSamePlane width first.now.height here second.now.words.items plane → result ≡ true }
 {
-    if first.rows_of(plane) | second.rows_of(plane) == 0 {
+    if first
+        .rows_of(plane)
+        .either(second.rows_of(plane))
+        .is_empty()
+    {
         return true;
     }
     if first.has_same_words(second, plane) {
@@ -45,8 +55,14 @@ fn same_plane(first: &Planes, second: &Planes, width: u32, plane: u32) -> bool
 }
 
 /// Whether these planes have the same cells on two boards of this width.
-pub fn same_planes(first: &Planes, second: &Planes, width: u32, planes: &[u32]) -> bool
-    requires width { (0 < width) × (width ≤ SIDE_LIMIT) }
+pub fn same_planes<W: ColumnWords>(
+    first: &Planes<W>,
+    second: &Planes<W>,
+    width: u32,
+    planes: &[u32],
+) -> bool
+    requires width { width ≤ SIDE_LIMIT }
+    requires narrow { width ≤ W.limit }
     requires height { second.now.height ≡ first.now.height }
     requires first { HavePlanes first.now.height first.now.words.items planes.now }
     requires second { HavePlanes first.now.height second.now.words.items planes.now }
@@ -64,46 +80,68 @@ pub fn same_planes(first: &Planes, second: &Planes, width: u32, planes: &[u32]) 
 }
 
 /// The columns of a row in which so many planes, the first ones, differ on two boards of so many rows.
-pub fn differing_row(first: &[u64], second: &[u64], height: u32, row: u32, planes: u32) -> u64
+pub fn differing_row<W: ColumnWords>(
+    first: &[Columns<W>],
+    second: &[Columns<W>],
+    height: u32,
+    row: u32,
+    planes: u32,
+) -> Columns<W>
     requires row { row < height }
     requires first { planes * height ≤ length first.now }
     requires second { planes * height ≤ length second.now }
     ensures { HasDifferences height row planes first.now second.now result }
 {
-    let mut differing = 0;
+    let mut differing = Columns::none();
     for plane in 0..planes {
-        differing |= plane_row(first, height, plane, row) ^ plane_row(second, height, plane, row);
+        let here = plane_row(first, height, plane, row);
+        let there = plane_row(second, height, plane, row);
+        differing = differing.either(here.unlike(there));
     }
     differing
 }
 
-/// The columns of a row in which a plane isn't as in one of them. A row that the plane has empty isn't read.
-fn unlike_in(planes: &Planes, plane: u32, row: u32, column: u32) -> u64
+/// The columns of a row, of `all` those of a board, in which a plane isn't as in one of them. A row that the plane has
+/// empty isn't read.
+fn unlike_in<W: ColumnWords>(
+    planes: &Planes<W>,
+    plane: u32,
+    row: u32,
+    column: u32,
+    all: Columns<W>,
+) -> Columns<W>
     requires column { column < SIDE_LIMIT }
     requires row { row < planes.now.height }
     requires plane { (plane + 1) * planes.now.height ≤ vec_len planes.now.words }
-    ensures { HasUnlike (slice_index planes.now.words.items (plane * planes.now.height + row)) column result }
+    ensures { let here = row_of planes.now.words.items (plane * planes.now.height + row) in
+        HasUnlike all here column result }
 {
-    if !has_column(planes.rows_of(plane), row) {
-        return 0;
+    if !planes.rows_of(plane).has(row) {
+        return Columns::none();
     }
     let word = planes.row(plane, row);
-    if has_column(word, column) {
-        return !word;
+    if word.has(column) {
+        return all.without(word);
     }
     word
 }
 
-/// The columns of a row in which so many planes, the first ones, aren't as in one of them.
-pub fn unlike_row(planes: &Planes, count: u32, row: u32, column: u32) -> u64
+/// The columns of a row, of `all` those of a board, in which so many planes, the first ones, aren't as in one of them.
+pub fn unlike_row<W: ColumnWords>(
+    planes: &Planes<W>,
+    count: u32,
+    row: u32,
+    column: u32,
+    all: Columns<W>,
+) -> Columns<W>
     requires column { column < SIDE_LIMIT }
     requires row { row < planes.now.height }
     requires planes { count * planes.now.height ≤ vec_len planes.now.words }
-    ensures { HasUnlikeOf planes.now.height row count planes.now.words.items column result }
+    ensures { HasUnlikeOf planes.now.height row count planes.now.words.items all column result }
 {
-    let mut unlike = 0;
+    let mut unlike = Columns::none();
     for plane in 0..count {
-        unlike |= unlike_in(planes, plane, row, column);
+        unlike = unlike.either(unlike_in(planes, plane, row, column, all));
     }
     unlike
 }

@@ -1,144 +1,137 @@
-//! A row of the board against a mask, all its cells at once: bit x of a word stands for column x.
+//! A row of the board against a mask, all its cells at once.
 
-ghost use Rattle.std.specs.Prelude.{◌≡◌, ◌+◌, ◌^◌, ◌<◌, ◌≤◌, ℕ, nat_lt};
+ghost use Rattle.std.specs.Prelude.{◌≡◌, ◌+◌, ◌^◌, ◌<◌, ℕ};
 ghost use Rattle.ps_model.specs.declared.pieces.Motion.TheVariants.{Still};
 ghost use Rattle.ps_model.specs.meaning.Compiled.{mask_fits};
 ghost use Rattle.ps_model.specs.meaning.Fitting.{same_motion};
 ghost use Rattle.ps_program.specs.ProgramShown.{mask_shown};
-ghost use Rattle.ps_board.specs.declared.one_word.TheConstants.{WORD_BITS};
-ghost use Rattle.ps_rows.specs.Planes.{has_column};
+ghost use Rattle.ps_board.specs.ColumnSets.{column_at};
+ghost use Rattle.ps_rows.specs.Planes.{IsSet};
 ghost use Rattle.ps_rows.specs.RowTests.{IsRowOf, IsWithin, held, held_all, held_any};
 ghost use Rattle.ps_rows.specs.RowTests.{five_rows, held_of_each, moved, moved_all};
 ghost use Rattle.ps_rows.specs.Showing.{motions_from};
 
 use crate::motions::motion_plane;
 use crate::row_board::RowBoard;
-use ps_board::{Board, WORD_BITS};
+use ps_board::{Board, ColumnWords, Columns};
 use ps_model::{LayeredObject, Motion, MotionTest};
 use ps_program::CellMask;
 use ps_text::List;
 
-/// All columns, where rest is asked for, and else none.
-fn still_row(motion: Motion) -> u64
-    ensures { (x : ℕ) → x < WORD_BITS → has_column result x ≡ same_motion motion Still }
-{
-    match motion {
-        Motion::Still => u64::MAX,
-        _ => 0,
+impl<W: ColumnWords> RowBoard<W> {
+    /// All columns of the board, where rest is asked for, and else none.
+    fn still_row(&self, motion: Motion) -> Columns<W>
+        ensures { (x : ℕ) → x < self.now.width → column_at result x ≡ same_motion motion Still }
+    {
+        match motion {
+            Motion::Still => self.all_columns,
+            _ => Columns::none(),
+        }
     }
-}
 
-/// The columns of a board of so many.
-pub(crate) fn columns(width: u32) -> u64
-    requires { (0 < width) × (width ≤ WORD_BITS) }
-    ensures { (x : ℕ) → x < WORD_BITS → has_column result x ≡ nat_lt x width }
-{
-    u64::MAX >> (WORD_BITS - width)
-}
-
-impl RowBoard {
     /// Where an object stands on its layer.
-    pub(crate) fn object_row(&self, sought: &LayeredObject, row: u32) -> u64
+    pub(crate) fn object_row(&self, sought: &LayeredObject, row: u32) -> Columns<W>
         requires { row < self.now.planes.height }
-        ensures { IsRowOf (⟦<RowBoard as Board>⟧.grid self.now) row result (held sought.now) }
+        ensures { IsRowOf (⟦<RowBoard<W> as Board>⟧.grid self.now) row result (held sought.now) }
     {
         if self.is_on(sought.object.0, sought.layer.0) {
             return self.row(sought.object.0, row);
         }
-        0
+        Columns::none()
     }
 
     /// Where each of the objects stands.
-    fn all_row(&self, objects: &[LayeredObject], row: u32) -> u64
+    fn all_row(&self, objects: &[LayeredObject], row: u32) -> Columns<W>
         requires { row < self.now.planes.height }
-        ensures { IsRowOf (⟦<RowBoard as Board>⟧.grid self.now) row result (held_all objects.now) }
+        ensures { IsRowOf (⟦<RowBoard<W> as Board>⟧.grid self.now) row result (held_all objects.now) }
     {
-        let mut word = u64::MAX;
+        let mut word = self.all_columns;
         for sought in objects {
-            word &= self.object_row(sought, row);
+            word = word.both(self.object_row(sought, row));
         }
         word
     }
 
     /// Where one of the objects stands.
-    fn any_row(&self, objects: &[LayeredObject], row: u32) -> u64
+    fn any_row(&self, objects: &[LayeredObject], row: u32) -> Columns<W>
         requires { row < self.now.planes.height }
-        ensures { IsRowOf (⟦<RowBoard as Board>⟧.grid self.now) row result (held_any objects.now) }
+        ensures { IsRowOf (⟦<RowBoard<W> as Board>⟧.grid self.now) row result (held_any objects.now) }
     {
-        let mut word = 0;
+        let mut word = Columns::none();
         for sought in objects {
-            word |= self.object_row(sought, row);
+            word = word.either(self.object_row(sought, row));
         }
         word
     }
 
     /// Where one object of each list stands.
-    fn lists_row(&self, lists: &[List<LayeredObject>], row: u32) -> u64
+    fn lists_row(&self, lists: &[List<LayeredObject>], row: u32) -> Columns<W>
         requires { row < self.now.planes.height }
-        ensures { IsRowOf (⟦<RowBoard as Board>⟧.grid self.now) row result (held_of_each lists.now) }
+        ensures { IsRowOf (⟦<RowBoard<W> as Board>⟧.grid self.now) row result (held_of_each lists.now) }
     {
-        let mut word = u64::MAX;
+        let mut word = self.all_columns;
         for objects in lists {
-            word &= self.any_row(objects.as_slice(), row);
+            word = word.both(self.any_row(objects.as_slice(), row));
         }
         word
     }
 
     /// The columns of a row that one of a layer's five planes has.
-    fn moving_row(&self, first: u32, row: u32) -> u64
+    fn moving_row(&self, first: u32, row: u32) -> Columns<W>
         requires first { first + 4 < motions_from self.now.members.table.items self.now.layers }
         requires few { first + 4 < 2 ^ 32 }
         requires row { row < self.now.planes.height }
         ensures { result ≡ five_rows self.now.planes.height self.now.planes.words.items first row }
     {
         self.row(first, row)
-            | self.row(first + 1, row)
-            | self.row(first + 2, row)
-            | self.row(first + 3, row)
-            | self.row(first + 4, row)
+            .either(self.row(first + 1, row))
+            .either(self.row(first + 2, row))
+            .either(self.row(first + 3, row))
+            .either(self.row(first + 4, row))
     }
 
     /// Where a layer has the motion that is asked for.
-    pub(crate) fn motion_row(&self, test: &MotionTest, row: u32) -> u64
+    pub(crate) fn motion_row(&self, test: &MotionTest, row: u32) -> Columns<W>
         requires { row < self.now.planes.height }
-        ensures { IsRowOf (⟦<RowBoard as Board>⟧.grid self.now) row result (moved test.now) }
+        ensures { IsRowOf (⟦<RowBoard<W> as Board>⟧.grid self.now) row result (moved test.now) }
     {
         if self.layers() <= test.layer.0 {
-            return still_row(test.motion);
+            return self.still_row(test.motion);
         }
         let first = self.motions_from(test.layer.0);
         match motion_plane(first, test.motion) {
             Some(plane) => self.row(plane, row),
-            None => !self.moving_row(first, row),
+            None => self.all_columns.without(self.moving_row(first, row)),
         }
     }
 
     /// Where each layer has the motion that is asked for.
-    fn motions_row(&self, tests: &[MotionTest], row: u32) -> u64
+    fn motions_row(&self, tests: &[MotionTest], row: u32) -> Columns<W>
         requires { row < self.now.planes.height }
-        ensures { IsRowOf (⟦<RowBoard as Board>⟧.grid self.now) row result (moved_all tests.now) }
+        ensures { IsRowOf (⟦<RowBoard<W> as Board>⟧.grid self.now) row result (moved_all tests.now) }
     {
-        let mut word = u64::MAX;
+        let mut word = self.all_columns;
         for test in tests {
-            word &= self.motion_row(test, row);
+            word = word.both(self.motion_row(test, row));
         }
         word
     }
 
     /// The cells of a row that fit a mask.
-    pub(crate) fn mask_row(&self, mask: &CellMask, row: u32) -> u64
+    pub(crate) fn mask_row(&self, mask: &CellMask, row: u32) -> Columns<W>
         requires { row < self.now.planes.height }
-        ensures inside { IsRowOf (⟦<RowBoard as Board>⟧.grid self.now) row result (mask_fits (mask_shown mask.now)) }
-        ensures within { IsWithin (⟦<RowBoard as Board>⟧.grid self.now) result }
+        ensures inside { IsRowOf (⟦<RowBoard<W> as Board>⟧.grid self.now) row result (mask_fits (mask_shown mask.now)) }
+        ensures within { IsWithin (⟦<RowBoard<W> as Board>⟧.grid self.now) result }
+        ensures set { IsSet result }
     {
         let needed = self.all_row(mask.needed.as_slice(), row);
-        if needed == 0 {
-            return 0;
+        if needed.is_empty() {
+            return Columns::none();
         }
         let barred = self.any_row(mask.barred.as_slice(), row);
         let listed = self.lists_row(mask.one_of.as_slice(), row);
         let moving = self.motions_row(mask.motions.as_slice(), row);
-        let (width, _) = self.size();
-        columns(width) & needed & !barred & listed & moving
+        let within = self.all_columns.both(needed);
+        within.without(barred).both(listed).both(moving)
     }
 }

@@ -1,7 +1,7 @@
 //! Rows written on both kinds of boards, which must tell and show the same.
 
 use crate::row_board::RowBoard;
-use ps_board::{Board, Columns, ListBoard};
+use ps_board::{Board, Columns, ListBoard, OneWord};
 use ps_match::Scan;
 use ps_model::{
     Direction, LayerId, LayerWrite, LayeredObject, Memory, Motion, ObjectId, ObjectWrite,
@@ -49,7 +49,7 @@ fn write_of(
 /// Writes the first three columns of the lower of two rows, where an object acts, another rests, and none stands; in
 /// the fourth column an object rests.
 fn write_row(rt: &impl Abort, alloc: Global, write: &CellWrite, changes: bool) -> Result<(), Fail> {
-    let mut rows = RowBoard::try_empty(alloc, 4, 2, 2, &OWN_LAYERS)?;
+    let mut rows = RowBoard::<OneWord>::try_empty(alloc, 4, 2, 2, &OWN_LAYERS)?;
     let mut list = ListBoard::try_empty(alloc, 4, 2, 2, &OWN_LAYERS)?;
     rows.put(1, HIGHER, Some(ObjectId(0)), Motion::Acting);
     list.put(1, HIGHER, Some(ObjectId(0)), Motion::Acting);
@@ -57,9 +57,8 @@ fn write_row(rt: &impl Abort, alloc: Global, write: &CellWrite, changes: bool) -
     list.put(3, HIGHER, Some(ObjectId(2)), Motion::Still);
     rows.put(7, HIGHER, Some(ObjectId(0)), Motion::Still);
     list.put(7, HIGHER, Some(ObjectId(0)), Motion::Still);
-    let columns = Columns::below(3);
-    assert_eq!(rt; rows.rewrite(write, 1, &columns), changes);
-    assert_eq!(rt; list.rewrite(write, 1, &columns), changes);
+    assert_eq!(rt; rows.rewrite(write, 1, &Columns::below(3)), changes);
+    assert_eq!(rt; list.rewrite(write, 1, &Columns::below(3)), changes);
     for cell in 0..8u32 {
         assert_eq!(rt; rows.object(cell, HIGHER), list.object(cell, HIGHER));
         assert_eq!(rt; rows.motion(cell, HIGHER), list.motion(cell, HIGHER));
@@ -70,7 +69,7 @@ fn write_row(rt: &impl Abort, alloc: Global, write: &CellWrite, changes: bool) -
 
 #[test]
 fn a_cell_is_written_and_no_other_one(rt: HostRuntime) -> Result<(), Fail> {
-    let mut rows = RowBoard::try_empty(rt.alloc(), 4, 2, 2, &OWN_LAYERS)?;
+    let mut rows = RowBoard::<OneWord>::try_empty(rt.alloc(), 4, 2, 2, &OWN_LAYERS)?;
     let mut list = ListBoard::try_empty(rt.alloc(), 4, 2, 2, &OWN_LAYERS)?;
     let put = ObjectWrite::Put(ObjectId(2));
     let write = write_of(rt.alloc(), None, put, Some(RIGHT))?;
@@ -159,7 +158,7 @@ fn nothing_written_changes_nothing(rt: HostRuntime) -> Result<(), Fail> {
 
 #[test]
 fn an_object_that_goes_and_is_put_again_changes_nothing(rt: HostRuntime) -> Result<(), Fail> {
-    let mut board = RowBoard::try_empty(rt.alloc(), 4, 2, 2, &OWN_LAYERS)?;
+    let mut board = RowBoard::<OneWord>::try_empty(rt.alloc(), 4, 2, 2, &OWN_LAYERS)?;
     board.put(3, HIGHER, Some(ObjectId(2)), Motion::Still);
     let put = ObjectWrite::Put(ObjectId(2));
     let write = write_of(rt.alloc(), Some(ObjectId(2)), put, None)?;
@@ -171,7 +170,7 @@ fn an_object_that_goes_and_is_put_again_changes_nothing(rt: HostRuntime) -> Resu
 
 #[test]
 fn what_has_no_room_is_not_put(rt: HostRuntime) -> Result<(), Fail> {
-    let mut board = RowBoard::try_empty(rt.alloc(), 4, 2, 2, &OWN_LAYERS)?;
+    let mut board = RowBoard::<OneWord>::try_empty(rt.alloc(), 4, 2, 2, &OWN_LAYERS)?;
     let put = ObjectWrite::Put(ObjectId(1));
     let write = write_of(rt.alloc(), None, put, None)?;
     assert!(&rt; !board.rewrite(&write, 1, &Columns::below(SIDE_LIMIT)));

@@ -2,6 +2,7 @@
 
 ghost use Rattle.ps_rulebook.specs.PlayedGames.{GivesRoom};
 
+use ps_board::ColumnWords;
 use ps_engine::{ListBoard, Scan};
 use ps_rows::RowBoard;
 
@@ -17,7 +18,7 @@ impl GameBoard for ListBoard {
     ghost room = { λ layers object layer own. refl };
 }
 
-impl GameBoard for RowBoard {
+impl<W: ColumnWords> GameBoard for RowBoard<W> {
     ghost use Rattle.std.specs.Prelude.{refl};
     ghost use Rattle.ps_board.specs.Rooms.{layer_numbers};
     ghost use Rattle.ps_rows.proofs.Whole.{have_room};

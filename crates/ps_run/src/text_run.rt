@@ -13,7 +13,7 @@ use ps_compile::{CompiledPrograms, compile};
 use ps_devices::{ByteReader, ByteWriter};
 use ps_game::{Game, read_game};
 use ps_model::Ending;
-use ps_rulebook::{GameRules, RowBoard, rules_of_turns};
+use ps_rulebook::{GameRules, OneWord, RowBoard, rules_of_turns};
 use ps_stage::SessionGame;
 use std::alloc::Global;
 
@@ -79,5 +79,7 @@ fn run_compiled<I: ByteReader, W: ByteWriter>(
         Ok(rules) => rules,
         Err(_) => return Err(RunFault::Memory),
     };
-    run_game::<RowBoard, GameRules<'_, '_, RowBoard>, I, W>(alloc, parts, rules, reader, writer)
+    run_game::<RowBoard<OneWord>, GameRules<'_, '_, RowBoard<OneWord>>, I, W>(
+        alloc, parts, rules, reader, writer,
+    )
 }

@@ -4,7 +4,7 @@ use Rattle.ps_rows.proofs.changes.change_rows.Given as goal
 
 -- the planes passed by have their row changed, and the answer so far is theirs
 abbrev pub invariant-loop-plane : goal.invariant-loop-plane
-invariant-loop-plane l =
+invariant-loop-plane g l =
     record {
       height : l.planes.height ≡ l.initial.planes.height;
       count : l.planes.words.len ≡ l.initial.planes.words.len;

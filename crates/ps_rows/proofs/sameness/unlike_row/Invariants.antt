@@ -3,4 +3,4 @@ use Rattle.ps_rows.proofs.sameness.unlike_row.Given as goal
 
 -- the columns of the planes passed by
 abbrev pub invariant-loop-plane : goal.invariant-loop-plane
-invariant-loop-plane l = HasUnlikeOf l.planes.height l.row l.plane l.planes.words.items l.column l.unlike
+invariant-loop-plane g l = HasUnlikeOf l.planes.height l.row l.plane l.planes.words.items l.all l.column l.unlike

@@ -5,10 +5,10 @@ use Rattle.ps_rows.proofs.Steps.{changed_more, changed_all}
 use Rattle.ps_rows.proofs.planes.Planes.choose_plane.Goals as goal
 
 pub set_cell-requires-clause-column : goal.set_cell-requires-clause-column
-set_cell-requires-clause-column c = rw c.loop-plane.invariant.1 c.requires.column
+set_cell-requires-clause-column g c = rw c.loop-plane.invariant.1 c.requires.column
 
 pub set_cell-requires-clause-plane : goal.set_cell-requires-clause-plane
-set_cell-requires-clause-plane c =
+set_cell-requires-clause-plane g c =
     let below : c.loop-plane.plane-index < length c.args.planes.now = omega arith in
     let whole : (get_or c.args.planes.now c.loop-plane.plane-index 0 + 1) * c.args.self.now.height ≤ length c.args.self.now.words.items =
     c.requires.planes (get_or c.args.planes.now c.loop-plane.plane-index 0) (listed_at c.args.planes.now c.loop-plane.plane-index 0 below) in
@@ -16,7 +16,7 @@ set_cell-requires-clause-plane c =
     rw (c.loop-plane.invariant.1, c.loop-plane.invariant.2) long
 
 pub loop-plane-preserved : goal.loop-plane-preserved
-loop-plane-preserved c =
+loop-plane-preserved g c =
     let below : c.loop-plane.plane-index < length c.args.planes.now = omega arith in
     let plane : ℕ = get_or c.args.planes.now c.loop-plane.plane-index 0 in (
       changed_more c.args.self.now.height c.args.cell c.args.chosen c.loop-plane.self.words.items _ c.args.planes.now c.loop-plane.plane-index _ below
@@ -29,12 +29,12 @@ loop-plane-preserved c =
     )
 
 pub returns-clause-words : goal.returns-clause-words
-returns-clause-words c =
+returns-clause-words g c =
     let end : length c.args.planes.now ≤ c.loop-plane.plane-index = omega arith in
     changed_all c.args.self.now.height c.args.cell c.args.chosen c.loop-plane.self.words.items c.args.planes.now c.loop-plane.plane-index _ end c.loop-plane.invariant.0
 
 pub returns-clause-height : goal.returns-clause-height
-returns-clause-height c = c.loop-plane.invariant.1
+returns-clause-height g c = c.loop-plane.invariant.1
 
 pub returns-clause-count : goal.returns-clause-count
-returns-clause-count c = c.loop-plane.invariant.2
+returns-clause-count g c = c.loop-plane.invariant.2

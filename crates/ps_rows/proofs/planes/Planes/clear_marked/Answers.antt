@@ -1,14 +1,45 @@
-use Rattle.std.proofs.Common.{◌≡◌, ◌<◌, ◌∙◌, ℕ, [], length, get_or, sym, refl, arith}
+use Rattle.std.proofs.Common.{◌≡◌, ◌<◌, ◌∙◌, ℕ, [], length, get_or, sym, refl, arith, ap, Bool, List, false, subst, ◌+◌}
 use Rattle.std.proofs.lemmas.List.{get_or_read}
 use Rattle.ps_rows.proofs.Marked.{plane_indexed}
-use Rattle.ps_rows.proofs.PlaneCopies.{plane_blank, unmarked_plane}
+use Rattle.ps_rows.proofs.PlaneCopies.{marked_plane, plane_blank, sets_planes, unmarked_plane}
+use Rattle.ps_rows.specs.Planes.{row_of}
+use Rattle.ps_board.specs.ColumnSets.{no_columns, set_columns}
+use Rattle.std.specs.Vec.{with_items}
+use Rattle.std.proofs.lemmas.List.{with_items_is}
+use Rattle.ps_rows.specs.PlaneCopies.{ArePlanesOf}
+use Rattle.ps_rows.proofs.Sets.{set_where}
 use Rattle.ps_rows.proofs.planes.Planes.clear_marked.Goals as goal
 
-pub returns-then-index-eq0-clause-words : goal.returns-then-index-eq0-clause-words
-returns-then-index-eq0-clause-words c =
+pub returns-then-is_empty-clause-words : goal.returns-then-is_empty-clause-words
+returns-then-is_empty-clause-words g c =
     let p = c.args.self.now in
     let plane : ℕ = c.args.plane in
     let counted : plane < p.index.len = plane_indexed p.index.len p.height plane p.words.len p.some_row p.whole c.requires in
     let own : plane < length p.index.items = omega (arith, counted, p.index.ok.0) in
-    let none : get_or p.index.items plane 0 ≡ 0 = sym (get_or_read p.index.items _ _ own c.index.ensures 0) ∙ c.if-index-eq0.true in
-    plane_blank p.height plane [] p.words.items (unmarked_plane p.index.len p.height plane p.words.items p.index.items counted p.marked none) (λ row under. refl)
+    let none : set_columns (row_of p.index.items plane) ≡ [] =
+    ap set_columns (sym (get_or_read p.index.items _ _ own c.index.ensures no_columns)) ∙ c.is_empty.ensures.none c.if-is_empty.true in
+    plane_blank p.height plane [] p.words.items (unmarked_plane p.index.len p.height plane p.words.items p.index.items p.rows counted p.marked none) (λ row under. refl)
+
+pub invariant_of-self-clause-marked : goal.invariant_of-self-clause-marked
+invariant_of-self-clause-marked g c =
+    let p = c.args.self.now in
+    let left : List (List Bool) = c.clear_plane.new.words in
+    let long : length left ≡ p.words.len = omega (arith, c.clear_plane.auto.words, c.as_mut_slice.ensures.len) in
+    let B : List (List Bool) → Type 0 = λ ws. ArePlanesOf p.height c.args.plane (c.args.plane + 1) [] ws left in
+    let D : List (List Bool) → Type 0 = λ ws. ArePlanesOf p.height c.args.plane (c.args.plane + 1) [] p.words.items ws in
+    let changed : ArePlanesOf p.height c.args.plane (c.args.plane + 1) [] p.words.items (with_items p.words left).items =
+    subst D (sym (with_items_is p.words left long)) (subst B c.as_mut_slice.ensures.value c.clear_plane.ensures) in
+    let counted : c.args.plane < p.index.len = plane_indexed p.index.len p.height c.args.plane p.words.len p.some_row p.whole c.requires in
+    let own : c.args.plane < length p.index.items = omega (arith, counted, p.index.ok.0) in
+    marked_plane p.index.len p.height c.args.plane c.none.result [] p.words.items (with_items p.words left).items p.index.items own changed p.marked (λ row under clear. refl)
+
+pub invariant_of-self-clause-sets : goal.invariant_of-self-clause-sets
+invariant_of-self-clause-sets g c =
+    let p = c.args.self.now in
+    let left : List (List Bool) = c.clear_plane.new.words in
+    let long : length left ≡ p.words.len = omega (arith, c.clear_plane.auto.words, c.as_mut_slice.ensures.len) in
+    let B : List (List Bool) → Type 0 = λ ws. ArePlanesOf p.height c.args.plane (c.args.plane + 1) [] ws left in
+    let D : List (List Bool) → Type 0 = λ ws. ArePlanesOf p.height c.args.plane (c.args.plane + 1) [] p.words.items ws in
+    let changed : ArePlanesOf p.height c.args.plane (c.args.plane + 1) [] p.words.items (with_items p.words left).items =
+    subst D (sym (with_items_is p.words left long)) (subst B c.as_mut_slice.ensures.value c.clear_plane.ensures) in
+    sets_planes p.height c.args.plane (c.args.plane + 1) [] p.words.items (with_items p.words left).items p.some_row changed (λ place. set_where (λ x. false)) p.sets

@@ -3,7 +3,7 @@ use Rattle.ps_rows.proofs.PlaneCopies.{all_copied, behind_plane}
 use Rattle.ps_rows.proofs.planes.Planes.copy_into.Goals as goal
 
 pub returns-clause-words : goal.returns-clause-words
-returns-clause-words c =
+returns-clause-words g c =
     let p = c.args.self.now in
     let reached : p.index.len ≤ c.loop-plane.plane = omega (arith, c.loop-plane-test.false, c.len-plane-end.ensures) in
     let enough = behind_plane p.height p.index.len c.loop-plane.plane reached in

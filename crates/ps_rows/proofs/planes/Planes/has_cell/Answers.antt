@@ -1,7 +1,8 @@
-use Rattle.std.proofs.Common.{ℕ, ◌/◌, ◌∙◌, ap}
-use Rattle.ps_rows.specs.Planes.{has_cell, has_column}
+use Rattle.std.proofs.Common.{ℕ, ◌/◌, ◌∙◌, ap, Bool, List}
+use Rattle.ps_rows.specs.Planes.{has_cell}
+use Rattle.ps_board.specs.ColumnSets.{column_at}
 use Rattle.ps_rows.proofs.planes.Planes.has_cell.Goals as goal
 
 pub returns : goal.returns
 unfolding has_cell
-returns c = c.has_column.ensures ∙ ap (λ (word : ℕ). has_column word (c.args.cell / c.args.self.now.height)) c.row.ensures
+returns g c = c.has.ensures ∙ ap (λ (word : List Bool). column_at word (c.args.cell / c.args.self.now.height)) c.row.ensures

@@ -4,5 +4,5 @@ use Rattle.ps_rows.proofs.planes.Planes.rows_differing.Given as goal
 
 -- the planes passed by
 abbrev pub invariant-loop-plane : goal.invariant-loop-plane
-invariant-loop-plane l =
+invariant-loop-plane g l =
     (plane : ℕ) → plane < l.plane → DifferOnlyOnRows l.self.height plane l.self.words.items l.other.words.items l.rows

@@ -8,19 +8,21 @@ use Rattle.ps_rows.proofs.Scans.{any_none, any_more}
 use Rattle.ps_rows.proofs.row_board.RowBoard.any_row.Goals as goal
 
 pub loop-sought-init : goal.loop-sought-init
-loop-sought-init c =
+loop-sought-init g c =
     let b = c.args.self.now in
-    any_none (grid_shown b.members.table.items b.width b.planes.height b.layers b.planes.words.items) c.args.row is_held_in b.columns
+    rw c.none-word.ensures
+    (any_none (grid_shown b.members.table.items b.width b.planes.height b.layers b.planes.words.items) c.args.row is_held_in b.columns)
 
 pub loop-sought-preserved : goal.loop-sought-preserved
-loop-sought-preserved c =
+loop-sought-preserved g c =
     let b = c.args.self.now in
     let below : c.loop-sought.sought-index < length c.args.objects.now = omega arith in
-    any_more (grid_shown b.members.table.items b.width b.planes.height b.layers b.planes.words.items) c.args.row is_held_in b.columns c.args.objects.now c.loop-sought.sought-index _
-    c.loop-sought.word c.object_row-word.result below c.loop-sought.invariant c.object_row-word.ensures
+    rw c.either-word.ensures
+    (any_more (grid_shown b.members.table.items b.width b.planes.height b.layers b.planes.words.items) c.args.row is_held_in b.columns c.args.objects.now c.loop-sought.sought-index _
+    c.loop-sought.word c.object_row.result below c.loop-sought.invariant c.object_row.ensures)
 
 pub returns : goal.returns
-returns c =
+returns g c =
     let b = c.args.self.now in
     let end : length c.args.objects.now ≤ c.loop-sought.sought-index = omega arith in
     let P : List LayeredObject → Type 0 =

@@ -8,19 +8,21 @@ use Rattle.ps_rows.proofs.Scans.{any_none, any_more}
 use Rattle.ps_rows.proofs.row_board.RowBoard.gone_row.Goals as goal
 
 pub loop-each-init : goal.loop-each-init
-loop-each-init c =
+loop-each-init g c =
     let b = c.args.self.now in
-    any_none (grid_shown b.members.table.items b.width b.planes.height b.layers b.planes.words.items) c.args.row (goes_from c.args.layer) b.columns
+    rw c.none-word.ensures
+    (any_none (grid_shown b.members.table.items b.width b.planes.height b.layers b.planes.words.items) c.args.row (goes_from c.args.layer) b.columns)
 
 pub loop-each-preserved : goal.loop-each-preserved
-loop-each-preserved c =
+loop-each-preserved g c =
     let b = c.args.self.now in
     let below : c.loop-each.each-index < length c.args.gone.now = omega arith in
-    any_more (grid_shown b.members.table.items b.width b.planes.height b.layers b.planes.words.items) c.args.row (goes_from c.args.layer) b.columns c.args.gone.now c.loop-each.each-index _
-    c.loop-each.word c.going_row-word.result below c.loop-each.invariant c.going_row-word.ensures
+    rw c.either-word.ensures
+    (any_more (grid_shown b.members.table.items b.width b.planes.height b.layers b.planes.words.items) c.args.row (goes_from c.args.layer) b.columns c.args.gone.now c.loop-each.each-index _
+    c.loop-each.word c.going_row.result below c.loop-each.invariant c.going_row.ensures)
 
 pub returns : goal.returns
-returns c =
+returns g c =
     let b = c.args.self.now in
     let end : length c.args.gone.now ≤ c.loop-each.each-index = omega arith in
     let P : List LayeredObject → Type 0 =

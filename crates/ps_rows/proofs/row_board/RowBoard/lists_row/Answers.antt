@@ -15,22 +15,23 @@ abbrev has_one : List Slot → List LayeredObject → Bool
 has_one cell objects = list_any (is_held_in cell) objects
 
 pub loop-objects-init : goal.loop-objects-init
-loop-objects-init c =
+loop-objects-init g c =
     let b = c.args.self.now in
-    all_none (grid_shown b.members.table.items b.width b.planes.height b.layers b.planes.words.items) c.args.row has_one b.columns
+    all_none (grid_shown b.members.table.items b.width b.planes.height b.layers b.planes.words.items) c.args.row has_one b.columns b.all_columns b.all
 
 pub loop-objects-preserved : goal.loop-objects-preserved
-loop-objects-preserved c =
+loop-objects-preserved g c =
     let b = c.args.self.now in
-    let g : Grid = grid_shown b.members.table.items b.width b.planes.height b.layers b.planes.words.items in
+    let grid : Grid = grid_shown b.members.table.items b.width b.planes.height b.layers b.planes.words.items in
     let at_index = c.loop-objects.objects-index in
     let below : at_index < length c.args.lists.now = omega arith in
-    let P : List LayeredObject → Type 0 = λ xs. IsRowOf g c.args.row c.any_row-word.result (held_any xs) in
-    all_more g c.args.row has_one b.columns c.args.lists.now at_index c.objects-item.result c.loop-objects.word c.any_row-word.result below c.loop-objects.invariant
-    (subst P (c.as_slice.ensures ∙ c.objects-item.is) c.any_row-word.ensures)
+    let P : List LayeredObject → Type 0 = λ xs. IsRowOf grid c.args.row c.any_row.result (held_any xs) in
+    rw c.both-word.ensures
+    (all_more grid c.args.row has_one b.columns c.args.lists.now at_index c.objects-item.result c.loop-objects.word c.any_row.result below c.loop-objects.invariant
+    (subst P (c.as_slice.ensures ∙ c.objects-item.is) c.any_row.ensures))
 
 pub returns : goal.returns
-returns c =
+returns g c =
     let b = c.args.self.now in
     let end : length c.args.lists.now ≤ c.loop-objects.objects-index = omega arith in
     let P : List (List LayeredObject) → Type 0 =

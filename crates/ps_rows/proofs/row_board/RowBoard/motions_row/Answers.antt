@@ -8,19 +8,20 @@ use Rattle.ps_rows.proofs.Scans.{all_none, all_more}
 use Rattle.ps_rows.proofs.row_board.RowBoard.motions_row.Goals as goal
 
 pub loop-test-init : goal.loop-test-init
-loop-test-init c =
+loop-test-init g c =
     let b = c.args.self.now in
-    all_none (grid_shown b.members.table.items b.width b.planes.height b.layers b.planes.words.items) c.args.row moves_as_asked b.columns
+    all_none (grid_shown b.members.table.items b.width b.planes.height b.layers b.planes.words.items) c.args.row moves_as_asked b.columns b.all_columns b.all
 
 pub loop-test-preserved : goal.loop-test-preserved
-loop-test-preserved c =
+loop-test-preserved g c =
     let b = c.args.self.now in
     let below : c.loop-test.test-index < length c.args.tests.now = omega arith in
-    all_more (grid_shown b.members.table.items b.width b.planes.height b.layers b.planes.words.items) c.args.row moves_as_asked b.columns c.args.tests.now c.loop-test.test-index _
-    c.loop-test.word c.motion_row-word.result below c.loop-test.invariant c.motion_row-word.ensures
+    rw c.both-word.ensures
+    (all_more (grid_shown b.members.table.items b.width b.planes.height b.layers b.planes.words.items) c.args.row moves_as_asked b.columns c.args.tests.now c.loop-test.test-index _
+    c.loop-test.word c.motion_row.result below c.loop-test.invariant c.motion_row.ensures)
 
 pub returns : goal.returns
-returns c =
+returns g c =
     let b = c.args.self.now in
     let end : length c.args.tests.now ≤ c.loop-test.test-index = omega arith in
     let P : List MotionTest → Type 0 =

@@ -7,12 +7,12 @@ use Rattle.ps_rows.proofs.Puts.{planes_whole}
 use Rattle.ps_rows.proofs.row_board.RowBoard.same_layer.Goals as goal
 
 pub same_planes-requires-clause-first : goal.same_planes-requires-clause-first
-same_planes-requires-clause-first c =
+same_planes-requires-clause-first g c =
     let b = c.args.self.now in
     rw c.of-objects.ensures (planes_whole b.members.table.items b.layers b.planes.height b.planes.words.items c.args.layer (sym b.planes.words.ok.0 ∙ b.whole))
 
 pub same_planes-requires-clause-second : goal.same_planes-requires-clause-second
-same_planes-requires-clause-second c =
+same_planes-requires-clause-second g c =
     let b = c.args.self.now in
     let o = c.args.other.now in
     rw c.of-objects.ensures
@@ -20,7 +20,7 @@ same_planes-requires-clause-second c =
     (other_whole b.members.table.items o.members.table.items b.layers o.layers b.planes.height o.planes.height _ c.requires.table c.requires.layers c.requires.height (sym o.planes.words.ok.0 ∙ o.whole)))
 
 pub returns-then-not-same_planes-clause-other : goal.returns-then-not-same_planes-clause-other
-returns-then-not-same_planes-clause-other c = λ same.
+returns-then-not-same_planes-clause-other g c = λ same.
     let b = c.args.self.now in
     let o = c.args.other.now in
     let table : List ℕ = b.members.table.items in
@@ -32,7 +32,7 @@ returns-then-not-same_planes-clause-other c = λ same.
     sym c.if-not-same_planes.true ∙ c.same_planes.ensures.other objects
 
 pub returns-clause-same : goal.returns-clause-same
-returns-clause-same c = λ e.
+returns-clause-same g c = λ e.
     let b = c.args.self.now in
     let o = c.args.other.now in
     let table : List ℕ = b.members.table.items in
@@ -45,7 +45,7 @@ returns-clause-same c = λ e.
     layer_same table b.width b.planes.height b.planes.words.items o.planes.words.items layer b.planes.some_row objects motions
 
 pub returns-clause-other : goal.returns-clause-other
-returns-clause-other c = λ same.
+returns-clause-other g c = λ same.
     let b = c.args.self.now in
     let o = c.args.other.now in
     let table : List ℕ = b.members.table.items in

@@ -13,7 +13,7 @@ use Rattle.ps_rows.proofs.RowsWritten.{left_all, left_here, left_next, left_none
 use Rattle.ps_rows.proofs.row_board.RowBoard.write_columns.Goals as goal
 
 pub loop-layer-init : goal.loop-layer-init
-loop-layer-init c =
+loop-layer-init g c =
     let b = c.args.self.now in
     let start : Grid = grid_shown b.members.table.items b.width b.planes.height b.layers b.planes.words.items in
     let after : ℕ → Slot → Slot = slot_after (write_in_room (Some b.members.table.items) (write_shown c.args.write.now)) in
@@ -29,7 +29,7 @@ loop-layer-init c =
     }
 
 pub loop-layer-preserved : goal.loop-layer-preserved
-loop-layer-preserved c =
+loop-layer-preserved g c =
     let b = c.args.self.now in
     let was = c.loop-layer.invariant in
     let before = c.loop-layer.self in
@@ -67,7 +67,7 @@ loop-layer-preserved c =
     }
 
 pub returns-clause-rewritten : goal.returns-clause-rewritten
-returns-clause-rewritten c =
+returns-clause-rewritten g c =
     let b = c.args.self.now in
     let was = c.loop-layer.invariant in
     let last = c.loop-layer.self in

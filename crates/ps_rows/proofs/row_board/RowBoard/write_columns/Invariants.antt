@@ -8,7 +8,7 @@ use Rattle.ps_rows.proofs.row_board.RowBoard.write_columns.Given as goal
 
 -- the layers passed by are written
 abbrev pub invariant-loop-layer : goal.invariant-loop-layer
-invariant-loop-layer l =
+invariant-loop-layer g l =
     let b = l.fn.self in
     let start = grid_shown b.members.table.items b.width b.planes.height b.layers b.planes.words.items in
     let now = grid_shown l.self.members.table.items l.self.width l.self.planes.height l.self.layers l.self.planes.words.items in

@@ -5,17 +5,15 @@ use Rattle.ps_rows.proofs.SameRows.{columns_alike, itself_alike}
 use Rattle.ps_rows.proofs.row_board.RowBoardBoard.alike.Goals as goal
 
 pub returns-clause-own : goal.returns-clause-own
-returns-clause-own c =
+returns-clause-own g c =
     let b = c.args.self.now in
-    let fits : c.unlike_row-unlike.result < 2 ^ 64 = search rules in
-    ap (λ (set : List Bool). column_at set c.args.column) c.from_word.ensures
-    ∙ itself_alike b.width c.columns.result c.unlike_row-unlike.result c.args.column c.requires.column b.columns fits c.columns.ensures c.unlike_row-unlike.ensures.0
+    ap (λ (set : List Bool). column_at set c.args.column) c.without.ensures
+    ∙ itself_alike b.width b.all_columns c.unlike_row-unlike.result c.args.column c.requires.column b.columns b.all c.unlike_row-unlike.ensures.0
 
 pub returns-clause-alike : goal.returns-clause-alike
-returns-clause-alike c =
+returns-clause-alike g c =
     let b = c.args.self.now in
-    let fits : c.unlike_row-unlike.result < 2 ^ 64 = search rules in
-    let IsUnlike : ℕ → Type 0 = λ count. HasUnlikeOf b.planes.height c.args.row count b.planes.words.items c.args.column c.unlike_row-unlike.result in
-    rw c.from_word.ensures
-    (columns_alike b.members.table.items b.width b.planes.height b.layers b.planes.words.items c.args.row c.args.column c.columns.result c.unlike_row-unlike.result c.requires.row c.requires.column b.columns fits
+    let IsUnlike : ℕ → Type 0 = λ count. HasUnlikeOf b.planes.height c.args.row count b.planes.words.items b.all_columns c.args.column c.unlike_row-unlike.result in
+    rw c.without.ensures
+    (columns_alike b.members.table.items b.width b.planes.height b.layers b.planes.words.items c.args.row c.args.column b.all_columns c.unlike_row-unlike.result c.requires.row c.requires.column b.columns b.all
     (subst IsUnlike c.count-objects.ensures.value c.unlike_row-unlike.ensures))

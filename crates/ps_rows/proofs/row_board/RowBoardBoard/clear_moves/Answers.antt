@@ -5,21 +5,21 @@ use Rattle.ps_rows.proofs.Whole.{rest_grid}
 use Rattle.ps_rows.proofs.row_board.RowBoardBoard.clear_moves.Goals as goal
 
 pub invariant_of-self-clause-objects : goal.invariant_of-self-clause-objects
-invariant_of-self-clause-objects c =
+invariant_of-self-clause-objects g c =
     let b = c.args.self.now in
     let table : List ℕ = b.members.table.items in
     rw (c.clear_from.ensures.words, c.clear_from.ensures.height, c.count-first.ensures.value)
     (rested_objects table b.layers b.planes.height (b.width * b.planes.height) b.planes.words.items b.planes.some_row (sym b.planes.words.ok.0 ∙ b.whole) b.objects)
 
 pub invariant_of-self-clause-motions : goal.invariant_of-self-clause-motions
-invariant_of-self-clause-motions c =
+invariant_of-self-clause-motions g c =
     let b = c.args.self.now in
     let table : List ℕ = b.members.table.items in
     rw (c.clear_from.ensures.words, c.clear_from.ensures.height, c.count-first.ensures.value)
     (rested_motions table b.layers b.planes.height (b.width * b.planes.height) b.planes.words.items b.planes.some_row (sym b.planes.words.ok.0 ∙ b.whole))
 
 pub returns-clause-grid : goal.returns-clause-grid
-returns-clause-grid c =
+returns-clause-grid g c =
     let b = c.args.self.now in
     let table : List ℕ = b.members.table.items in
     let so : c.clear_from.new.self.words.items ≡ cleared_from (length table * b.planes.height) b.planes.words.items =

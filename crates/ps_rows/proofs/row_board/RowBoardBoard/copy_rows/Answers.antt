@@ -1,4 +1,4 @@
-use Rattle.std.proofs.Common.{◌≡◌, ◌∙◌, ◌*◌, ℕ, List, length, refl, sym, subst}
+use Rattle.std.proofs.Common.{◌≡◌, ◌∙◌, ◌*◌, ℕ, List, length, refl, sym, subst, Bool}
 use Rattle.std.proofs.lemmas.Option.{same_Some}
 use Rattle.ps_board.specs.Rows.{DifferOnlyOn}
 use Rattle.ps_rows.specs.PlaneCopies.{AreRowsOf}
@@ -9,12 +9,12 @@ use Rattle.ps_rows.proofs.Rests.{rested_motions, rested_objects}
 use Rattle.ps_rows.proofs.row_board.RowBoardBoard.copy_rows.Goals as goal
 
 pub invariant_of-other-clause-objects : goal.invariant_of-other-clause-objects
-invariant_of-other-clause-objects c =
+invariant_of-other-clause-objects g c =
     let b = c.args.self.now in
     let o = c.args.other.now in
     let table : List ℕ = b.members.table.items in
     let height : ℕ = b.planes.height in
-    let copied : List ℕ = c.copy_rows.new.other.words.items in
+    let copied : List (List Bool) = c.copy_rows.new.other.words.items in
     let tables : o.members.table.items ≡ table = same_Some o.members.table.items table c.requires.table in
     let showing : AreObjectsShown table height o.planes.words.items (b.width * height) =
     other_objects table o.members.table.items b.width o.width height o.planes.height o.planes.words.items tables
@@ -40,12 +40,12 @@ invariant_of-other-clause-objects c =
     (b.width * height) b.objects showing))
 
 pub invariant_of-other-clause-motions : goal.invariant_of-other-clause-motions
-invariant_of-other-clause-motions c =
+invariant_of-other-clause-motions g c =
     let b = c.args.self.now in
     let o = c.args.other.now in
     let table : List ℕ = b.members.table.items in
     let height : ℕ = b.planes.height in
-    let copied : List ℕ = c.copy_rows.new.other.words.items in
+    let copied : List (List Bool) = c.copy_rows.new.other.words.items in
     let tables : o.members.table.items ≡ table = same_Some o.members.table.items table c.requires.table in
     let whole : length copied ≡ motions_from table b.layers * height =
     sym c.copy_rows.new.other.words.ok.0 ∙ c.copy_rows.ensures.count
@@ -54,11 +54,11 @@ invariant_of-other-clause-motions c =
     let so : c.clear_from.new.self.words.items ≡ cleared_from (length table * height) copied =
     c.clear_from.ensures.words ∙ rw (c.copy_rows.ensures.height, c.count-objects.ensures.value) refl in
     let high : c.clear_from.new.self.height ≡ height = c.clear_from.ensures.height ∙ c.copy_rows.ensures.height in
-    let M : List ℕ → ℕ → ℕ → ℕ → List ℕ → Type 0 = λ t l w h words. AreMotionsShown t l h words (w * h) in
+    let M : List ℕ → ℕ → ℕ → ℕ → List (List Bool) → Type 0 = λ t l w h words. AreMotionsShown t l h words (w * h) in
     let rested : M table b.layers b.width height (cleared_from (length table * height) copied) =
     rested_motions table b.layers height (b.width * height) copied b.planes.some_row whole in
     let written : M table b.layers b.width height c.clear_from.new.self.words.items =
-    subst (λ (words : List ℕ). M table b.layers b.width height words) (sym so) rested in
+    subst (λ (words : List (List Bool)). M table b.layers b.width height words) (sym so) rested in
     let tabled : M o.members.table.items b.layers b.width height c.clear_from.new.self.words.items =
     subst (λ (t : List ℕ). M t b.layers b.width height c.clear_from.new.self.words.items) (sym tables) written in
     let layered : M o.members.table.items o.layers b.width height c.clear_from.new.self.words.items =
@@ -70,12 +70,12 @@ invariant_of-other-clause-motions c =
     subst (λ (h : ℕ). M o.members.table.items o.layers o.width h c.clear_from.new.self.words.items) (sym high) wide
 
 pub returns-clause-grid : goal.returns-clause-grid
-returns-clause-grid c =
+returns-clause-grid g c =
     let b = c.args.self.now in
     let o = c.args.other.now in
     let table : List ℕ = b.members.table.items in
     let height : ℕ = b.planes.height in
-    let copied : List ℕ = c.copy_rows.new.other.words.items in
+    let copied : List (List Bool) = c.copy_rows.new.other.words.items in
     let tables : o.members.table.items ≡ table = same_Some o.members.table.items table c.requires.table in
     let P : ℕ →
     Type 0 = λ count. AreRowsOf height 0 count c.args.rows.now b.planes.words.items o.planes.words.items copied in

@@ -6,12 +6,12 @@ use Rattle.ps_rows.proofs.Whole.{put_facts, put_grid}
 use Rattle.ps_rows.proofs.row_board.RowBoardBoard.put.Goals as goal
 
 pub put_slot-requires-clause-objects : goal.put_slot-requires-clause-objects
-put_slot-requires-clause-objects c =
+put_slot-requires-clause-objects g c =
     let b = c.args.self.now in
     rw c.of-objects.ensures (planes_whole b.members.table.items b.layers b.planes.height b.planes.words.items c.args.layer.0 (sym b.planes.words.ok.0 ∙ b.whole))
 
 pub invariant_of-self-clause-objects : goal.invariant_of-self-clause-objects
-invariant_of-self-clause-objects c =
+invariant_of-self-clause-objects g c =
     let b = c.args.self.now in
     let table : List ℕ = b.members.table.items in
     let layer : ℕ = c.args.layer.0 in
@@ -25,7 +25,7 @@ invariant_of-self-clause-objects c =
     (objects_kept table b.layers b.planes.height (b.width * b.planes.height) b.planes.words.items c.args.cell layer number c.args.motion put b.objects)
 
 pub invariant_of-self-clause-motions : goal.invariant_of-self-clause-motions
-invariant_of-self-clause-motions c =
+invariant_of-self-clause-motions g c =
     let b = c.args.self.now in
     let table : List ℕ = b.members.table.items in
     let layer : ℕ = c.args.layer.0 in
@@ -39,7 +39,7 @@ invariant_of-self-clause-motions c =
     (motions_kept table b.layers b.planes.height (b.width * b.planes.height) b.planes.words.items c.args.cell layer number c.args.motion put b.motions)
 
 pub returns-clause-grid : goal.returns-clause-grid
-returns-clause-grid c =
+returns-clause-grid g c =
     let b = c.args.self.now in
     let table : List ℕ = b.members.table.items in
     let layer : ℕ = c.args.layer.0 in

@@ -1,23 +1,22 @@
 use Rattle.std.proofs.Common.{◌≡◌, ◌+◌, ◌*◌, ◌<◌, ◌≤◌, ◌∙◌, Bool, List, false, length, ap, sym, arith}
-use Rattle.ps_board.specs.ColumnSets.{column_at, word_columns}
-use Rattle.ps_rows.specs.Planes.{has_column}
-use Rattle.ps_rows.proofs.Absent.{column_clear}
 use Rattle.ps_rows.proofs.Marked.{planes_indexed}
 use Rattle.ps_rows.proofs.Unmarked.{none_moving, one_plane_rows}
+use Rattle.ps_model.specs.declared.limits.TheConstants.{SIDE_LIMIT}
 use Rattle.ps_rows.proofs.row_board.RowBoardBoard.rows_moving_any.Goals as goal
 
+pub loop-plane-init : goal.loop-plane-init
+loop-plane-init g c = λ plane row few above below none. absurd (omega (arith, above, below, c.count-first.ensures.value))
+
 pub loop-plane-preserved : goal.loop-plane-preserved
-loop-plane-preserved c =
+loop-plane-preserved g c =
     let b = c.args.self.now in
-    rw c.rows_of-rows.ensures (one_plane_rows (length b.members.table.items) b.planes.index.items c.loop-plane.plane c.loop-plane.rows c.loop-plane.invariant)
+    rw (c.either-rows.ensures, c.rows_of.ensures) (one_plane_rows (length b.members.table.items) b.planes.index.items c.loop-plane.plane c.loop-plane.rows c.loop-plane.invariant)
 
 pub returns : goal.returns
-returns c = λ row under none.
+returns g c = λ row under none.
     let b = c.args.self.now in
     let counted = planes_indexed b.members.table.items b.layers b.planes.height b.planes.words.len b.planes.index.len b.planes.some_row b.planes.whole b.whole in
-    let low : row < 64 = omega (arith, under, b.planes.rows) in
-    let set : column_at (word_columns c.loop-plane.rows) row ≡ false = ap (λ (columns : List Bool). column_at columns row) (sym c.from_word.ensures) ∙ none in
-    let clear : has_column c.loop-plane.rows row ≡ false = column_clear c.loop-plane.rows row low set in
+    let low : row < SIDE_LIMIT = omega (arith, under, b.planes.rows) in
     let end : length b.members.table.items + 5 * b.layers ≤ c.loop-plane.plane = omega (arith, c.count-first.ensures.value, c.loop-plane-test.false) in
     none_moving b.members.table.items b.width b.planes.height b.layers b.planes.words.items row b.planes.some_row b.columns under b.motions
-    (λ plane above below. b.planes.marked plane row (omega arith) under (c.loop-plane.invariant plane row above (omega arith) clear))
+    (λ plane above below. b.planes.marked plane row (omega arith) under (c.loop-plane.invariant plane row low above (omega arith) none))

@@ -4,7 +4,7 @@ use Rattle.ps_rows.proofs.Alike.{board_same, board_other}
 use Rattle.ps_rows.proofs.row_board.RowBoardBoard.same.Goals as goal
 
 pub returns-then-not-same_layer : goal.returns-then-not-same_layer
-returns-then-not-same_layer c =
+returns-then-not-same_layer g c =
     let b = c.args.self.now in
     let o = c.args.other.now in
     let tables : o.members.table.items ≡ b.members.table.items = same_Some o.members.table.items b.members.table.items c.requires.table in
@@ -13,7 +13,7 @@ returns-then-not-same_layer c =
     (board_other b.members.table.items b.width b.planes.height b.layers b.planes.words.items o.planes.words.items c.loop-layer.layer c.same_layer.result on c.if-not-same_layer.true c.same_layer.ensures.other)
 
 pub returns : goal.returns
-returns c =
+returns g c =
     let b = c.args.self.now in
     let o = c.args.other.now in
     let tables : o.members.table.items ≡ b.members.table.items = same_Some o.members.table.items b.members.table.items c.requires.table in

@@ -3,7 +3,7 @@ use Rattle.ps_rows.proofs.Rests.{cells_long, slots_long}
 use Rattle.ps_rows.proofs.row_board.RowBoardBoard.size.Goals as goal
 
 pub returns-clause-shape : goal.returns-clause-shape
-returns-clause-shape c =
+returns-clause-shape g c =
     let b = c.args.self.now in
     record {
       some_column = b.some_column;

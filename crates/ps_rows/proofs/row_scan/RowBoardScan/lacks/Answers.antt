@@ -1,14 +1,15 @@
-use Rattle.std.proofs.Common.{◌≡◌, ◌∙◌, ℕ, get_or, sym, ap, ◌≤◌, length, arith}
+use Rattle.std.proofs.Common.{◌≡◌, ◌∙◌, ℕ, get_or, sym, ap, ◌≤◌, length, arith, Bool, List, []}
 use Rattle.std.proofs.lemmas.Bool.{eqb-true}
-use Rattle.ps_rows.specs.Planes.{has_column}
 use Rattle.ps_rows.proofs.Absent.{not_marked, nowhere_by_rows}
-use Rattle.ps_rows.proofs.Bits.{has_column-zero}
 use Rattle.ps_rows.proofs.Marked.{planes_indexed}
 use Rattle.ps_rows.proofs.Scans.{other_row}
+use Rattle.ps_board.specs.ColumnSets.{set_columns}
+use Rattle.ps_rows.specs.Planes.{row_of}
+use Rattle.ps_board.proofs.ColumnLaws.{none_in}
 use Rattle.ps_rows.proofs.row_scan.RowBoardScan.lacks.Goals as goal
 
 pub returns-then-not-is_on : goal.returns-then-not-is_on
-returns-then-not-is_on c = λ e.
+returns-then-not-is_on g c = λ e.
     let b = c.args.self.now in
     nowhere_by_rows b.members.table.items b.width b.planes.height b.layers b.planes.words.items c.args.object.now
     b.planes.some_row
@@ -16,7 +17,7 @@ returns-then-not-is_on c = λ e.
     b.planes.some_row b.columns low c.args.object.now (sym c.is_on.ensures ∙ c.if-not-is_on.true))
 
 pub returns : goal.returns
-returns c = λ e.
+returns g c = λ e.
     let b = c.args.self.now in
     let counted : length b.members.table.items ≤ b.planes.index.len =
     omega (
@@ -25,10 +26,10 @@ returns c = λ e.
           b.planes.some_row b.planes.whole b.whole,
     ) in
     let object : ℕ = (c.args.object.now.object).0 in
-    let zero : get_or b.planes.index.items object 0 ≡ 0 = sym c.rows_of.ensures ∙ eqb-true c.rows_of.result 0 e in
+    let none : set_columns (row_of b.planes.index.items object) ≡ [] = ap set_columns (sym c.rows_of.ensures) ∙ c.is_empty.ensures.none e in
     nowhere_by_rows b.members.table.items b.width b.planes.height b.layers b.planes.words.items c.args.object.now
     b.planes.some_row
     (λ row low. not_marked b.members.table.items b.width b.planes.height b.layers b.planes.words.items
     b.planes.index.items b.planes.index.len row c.args.object.now b.planes.some_row b.columns low b.objects counted
     b.planes.marked
-    (sym c.is_on.ensures ∙ c.if-not-is_on.false) (ap (λ (word : ℕ). has_column word row) zero ∙ has_column-zero row))
+    (sym c.is_on.ensures ∙ c.if-not-is_on.false) (none_in (row_of b.planes.index.items object) row none (omega (arith, low, b.planes.rows))))

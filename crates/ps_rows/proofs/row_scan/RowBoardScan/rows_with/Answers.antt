@@ -1,20 +1,20 @@
 use Rattle.std.proofs.Common.{◌≡◌, ◌<◌, ◌∙◌, List, Bool, false, get_or, sym, ap, arith, ◌≤◌, length}
-use Rattle.ps_board.specs.ColumnSets.{column_at, word_columns}
-use Rattle.ps_rows.specs.Planes.{has_column}
-use Rattle.ps_rows.proofs.Absent.{column_clear, not_marked, not_on_row}
+use Rattle.ps_board.specs.ColumnSets.{column_at}
+use Rattle.ps_rows.proofs.Absent.{not_marked, not_on_row}
 use Rattle.ps_rows.proofs.Marked.{planes_indexed}
 use Rattle.ps_rows.proofs.Scans.{other_row}
+use Rattle.ps_rows.specs.Planes.{row_of}
 use Rattle.ps_rows.proofs.row_scan.RowBoardScan.rows_with.Goals as goal
 
 pub returns-then-not-is_on : goal.returns-then-not-is_on
-returns-then-not-is_on c = λ row under none.
+returns-then-not-is_on g c = λ row under none.
     let b = c.args.self.now in
     not_on_row b.members.table.items b.width b.planes.height b.layers b.planes.words.items row c.args.object.now
     (other_row b.members.table.items b.width b.planes.height b.layers b.planes.words.items row b.planes.some_row
     b.columns under c.args.object.now (sym c.is_on.ensures ∙ c.if-not-is_on.true))
 
 pub returns : goal.returns
-returns c = λ row under none.
+returns g c = λ row under none.
     let b = c.args.self.now in
     let counted : length b.members.table.items ≤ b.planes.index.len =
     omega (
@@ -22,11 +22,8 @@ returns c = λ row under none.
       planes_indexed b.members.table.items b.layers b.planes.height b.planes.words.len b.planes.index.len
           b.planes.some_row b.planes.whole b.whole,
     ) in
-    let low : row < 64 = omega (arith, under, b.planes.rows) in
-    let set : column_at (word_columns c.rows_of.result) row ≡ false =
-    ap (λ (columns : List Bool). column_at columns row) (sym c.from_word.ensures) ∙ none in
-    let clear : has_column (get_or b.planes.index.items (c.args.object.now.object).0 0) row ≡ false =
-    ap (λ (word : _). has_column word row) (sym c.rows_of.ensures) ∙ column_clear c.rows_of.result row low set in
+    let clear : column_at (row_of b.planes.index.items (c.args.object.now.object).0) row ≡ false =
+    ap (λ (word : List Bool). column_at word row) (sym c.rows_of.ensures) ∙ none in
     not_on_row b.members.table.items b.width b.planes.height b.layers b.planes.words.items row c.args.object.now
     (not_marked b.members.table.items b.width b.planes.height b.layers b.planes.words.items b.planes.index.items
     b.planes.index.len row c.args.object.now b.planes.some_row b.columns under b.objects counted b.planes.marked
