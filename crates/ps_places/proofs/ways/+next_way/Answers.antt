@@ -1,4 +1,5 @@
 use Rattle.std.proofs.Common.{◌≡◌, ◌∙◌, ℕ, ◌+◌, Bool, true, false, Option, List, length, sym, ap, arith, rules}
+use Rattle.std.specs.Prelude.{All}
 use Rattle.std.proofs.lemmas.Bool.Decides.{nat_tests}
 use Rattle.std.proofs.lemmas.List.Elements.{All-rest}
 use Rattle.ps_model.specs.board.Grid.{Grid}
@@ -13,15 +14,10 @@ use Rattle.ps_places.proofs.ways.+next_way.Goals.{then-not-is_empty+then-part_fi
 
 pub next_way-requires : goal.next_way-requires
 next_way-requires g t c κs within =
-    record {
-      line = c.requires.line;
-      sets = omega (arith, ap length c.in-Some-split_first.ensures.cases.0, ap length c.in-Some.ensures.cases.0,
-          c.requires.sets);
-      way = omega (arith, ap length c.in-Some-split_first_mut.ensures.cases.0, ap length c.in-Some.ensures.cases.0,
-          c.requires.way);
-      whole = All-rest HasCells c.in-Some.part.now c.in-Some.others.now c.args.parts.now
-          c.in-Some.ensures.cases.0 c.requires.whole;
-    }
+    let whole : All HasCells c.in-Some.others.now =
+    All-rest HasCells c.in-Some.part.now c.in-Some.others.now c.args.parts.now c.in-Some.ensures.cases.0
+    c.requires.whole in
+    search rules
 
 pub returns-then-next_way-clause-found : goal.returns-then-next_way-clause-found
 returns-then-next_way-clause-found g t c = λ yes.
