@@ -190,7 +190,7 @@ pub begin-init : (g : Grid) (table : Option (List ℕ)) (axis : Axis) (part : Li
     BeginsOnlyOn g table axis part rows
 begin-init g table axis part rows {limit} grid room is =
     record {
-      at = λ row x low room out. let clash : true ≡ false =
+      at = λ row x low fits out. let clash : true ≡ false =
           not_left_out g limit rows row grid room is low out in absurd (cc);
     }
 
