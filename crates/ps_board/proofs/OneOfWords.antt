@@ -3,7 +3,7 @@ use Rattle.std.proofs.Common.{◌≡◌, ◌≢◌, ◌∙◌, ℕ, ◌+◌, ◌
 use Rattle.std.proofs.Common.{◌^◌, ◌<◌, ◌≤◌, ◌&&◌, Bool, true, false, List, length}
 use Rattle.std.proofs.Common.{refl, sym, ap, arith}
 use Rattle.std.specs.Prelude.{nat_eq, nat_lt, if◌then◌else◌, bit_and, slice_set}
-use Rattle.std.proofs.Math.Bool.{and-false}
+use Rattle.std.proofs.Math.Bool.{and-false, and-true}
 use Rattle.std.proofs.lemmas.Bool.Decides.{nat_tests}
 use Rattle.std.proofs.lemmas.List.{get_or-set_same, get_or-set_other}
 use Rattle.std.proofs.lemmas.Nat.Bits.{shr_and_one}
@@ -94,6 +94,14 @@ pub some_below : (index count : ℕ) → index * 64 < count → count < index * 
 some_below index count some few x small within =
     low_bit (index * 64 + 64 - count) x (omega (arith, some, few))
     ∙ moved_test index count x (nat_lt x (64 - (index * 64 + 64 - count))) refl some few
+
+pub below_all : (count index : ℕ) (words : List ℕ) → AreMade (λ x. nat_lt x SIDE_LIMIT) count index words →
+    count ≤ index → words_columns words ≡ columns_below (64 * count)
+below_all count index words made end =
+    made-all (λ x. nat_lt x SIDE_LIMIT) count index words made end
+    ∙ columns-agree (λ x. nat_lt x (64 * count) && nat_lt x SIDE_LIMIT) (λ x. nat_lt x (64 * count))
+    (λ x low. let within : nat_lt x SIDE_LIMIT ≡ true = grind (arith, nat_tests, low) in
+    ap (λ (b : Bool). nat_lt x (64 * count) && b) within ∙ and-true (nat_lt x (64 * count)))
 
 both_below : (a b x : ℕ) (low : Bool) → nat_lt x b ≡ low → b ≤ a → (nat_lt x a && low) ≡ low
 both_below a b x true t few = let low : nat_lt x a ≡ true = grind (arith, nat_tests) in rw low refl

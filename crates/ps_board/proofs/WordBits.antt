@@ -13,7 +13,7 @@ use Rattle.ps_model.specs.declared.limits.TheConstants.{SIDE_LIMIT}
 use Rattle.ps_board.specs.ColumnSets.{column_at, set_columns, bit_is_set, word_columns, with_column, both_columns}
 use Rattle.ps_board.specs.ColumnSets.{either_columns, columns_ahead, columns_behind, columns_below, columns_without}
 use Rattle.ps_board.specs.ColumnSets.{no_columns, unlike_columns}
-use Rattle.ps_board.proofs.Bits.{and_bit, clear_bit, low_bit, minus_bit, moved_bit, no_bit_above, or_bit}
+use Rattle.ps_board.proofs.Bits.{and_bit, clear_bit, full_bit, low_bit, minus_bit, moved_bit, no_bit_above, or_bit}
 use Rattle.ps_board.proofs.Bits.{raised_high, raised_low, set_bit, xor_bit}
 use Rattle.ps_board.proofs.ColumnLaws.{column_at-where, column_at-all, columns-agree}
 use Rattle.ps_board.proofs.ColumnLaws.{set_columns-first, set_columns-none}
@@ -167,6 +167,14 @@ pub kept_out : (word count : ℕ) → word < 2 ^ 64 → 64 ≤ count →
 kept_out word count within far = zero_word ∙ columns-agree (λ x. false)
     (λ x. column_at (word_columns word) x && not (column_at (columns_below count) x))
     (λ x low. kept_off word count x (nat_lt x 64) refl within far low)
+
+-- all bits
+all_bit : (x : ℕ) (here : Bool) → nat_lt x 64 ≡ here → bit_is_set (2 ^ 64 - 1) x ≡ here
+all_bit x true t = full_bit x (grind (arith, nat_tests))
+all_bit x false t = no_bit_above (2 ^ 64 - 1) x (omega arith) (grind (arith, nat_tests))
+
+pub all_word : word_columns (2 ^ 64 - 1) ≡ columns_below 64
+all_word = columns-agree (bit_is_set (2 ^ 64 - 1)) (λ x. nat_lt x 64) (λ x low. all_bit x (nat_lt x 64) refl)
 
 -- the lowest bits
 pub below_none : (count : ℕ) → count ≡ 0 → word_columns 0 ≡ columns_below count

@@ -52,6 +52,13 @@ impl<W: ColumnWords> Columns<W> {
         Columns { words: W::none() }
     }
 
+    /// All columns for which the words have room.
+    pub fn all() -> Columns<W>
+        ensures { result ≡ columns_below W.limit }
+    {
+        Columns { words: W::all() }
+    }
+
     /// The columns below a number.
     pub fn below(count: u32) -> Columns<W>
         requires { count ≤ W.limit }

@@ -10,6 +10,7 @@ ghost use Rattle.ps_board.specs.WordSteps.{TellsAt};
 
 use crate::one_word::WORD_BITS;
 use crate::words::ColumnWords;
+use ps_model::SIDE_LIMIT;
 use std::marker::Model;
 
 /// How many words a set has at most: so many as tell of all columns of a board.
@@ -162,6 +163,14 @@ impl<const COUNT: usize> ColumnWords for ManyWords<COUNT> {
 
     fn none() -> ManyWords<COUNT> {
         ManyWords { words: [0; COUNT] }
+    }
+
+    fn all() -> ManyWords<COUNT> {
+        let mut words = [0; COUNT];
+        for index in 0..COUNT {
+            words[index] = word_below(index, SIDE_LIMIT);
+        }
+        ManyWords { words }
     }
 
     fn below(count: u32) -> ManyWords<COUNT> {

@@ -66,6 +66,10 @@ impl ColumnWords for OneWord {
         OneWord { bits: 0 }
     }
 
+    fn all() -> OneWord {
+        OneWord { bits: u64::MAX }
+    }
+
     fn below(count: u32) -> OneWord {
         if count == 0 {
             return OneWord { bits: 0 };

@@ -25,6 +25,10 @@ pub trait ColumnWords: Copy + Drop {
     fn none() -> Self
         ensures { columns result ≡ no_columns };
 
+    /// All columns that there is room for.
+    fn all() -> Self
+        ensures { columns result ≡ columns_below limit };
+
     /// The columns below a number.
     fn below(count: u32) -> Self
         requires { count ≤ limit }

@@ -29,12 +29,12 @@ use Rattle.ps_places.proofs.OnlyOn.{missing, not_left_out}
 
 -- rows on which a part begins nowhere ---------------------------------------------------------------------------------------
 
-pub ways-init : (g : Grid) (table : Option (List ℕ)) (parts : List (List CompiledCell)) (rows : List Bool) → IsGrid g →
-    rows ≡ columns_below g.height → HaveWaysOnlyOn g table Right parts rows
-ways-init g table parts rows grid is =
+pub ways-init : (g : Grid) (table : Option (List ℕ)) (parts : List (List CompiledCell)) (rows : List Bool)
+    {limit : ℕ} → IsGrid g → g.height ≤ limit → rows ≡ columns_below limit → HaveWaysOnlyOn g table Right parts rows
+ways-init g table parts rows {limit} grid room is =
     record {
       at = λ row low out. let clash : true ≡ false =
-          not_left_out g rows row grid is low out in absurd (cc);
+          not_left_out g limit rows row grid room is low out in absurd (cc);
     }
 
 pub nowhere_by : (g : Grid) (table : Option (List ℕ)) (part : List CompiledCell) (row : ℕ) (own : List Bool) →

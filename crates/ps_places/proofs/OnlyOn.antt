@@ -30,13 +30,14 @@ use Rattle.ps_places.specs.Lines.{cells_from, part_meaning, step_along}
 use Rattle.ps_places.proofs.CellByCell.{fits_not, moved_on}
 
 -- no row of the grid is left out of all of them
-pub not_left_out : (g : Grid) (rows : List Bool) (row : ℕ) → IsGrid g → rows ≡ columns_below g.height →
-    row < g.height → column_at rows row ≡ false → true ≡ false
-not_left_out g rows row grid is low out =
-    let within : nat_lt row g.height ≡ true = grind (arith, nat_tests, low) in
+pub not_left_out : (g : Grid) (limit : ℕ) (rows : List Bool) (row : ℕ) → IsGrid g → g.height ≤ limit →
+    rows ≡ columns_below limit → row < g.height → column_at rows row ≡ false → true ≡ false
+not_left_out g limit rows row grid room is low out =
+    let near : row < limit = omega (arith, low, room) in
+    let within : nat_lt row limit ≡ true = grind (arith, nat_tests, near) in
     sym within
     ∙ sym (ap (λ (cs : List Bool). column_at cs row) is
-    ∙ column_at-where (λ y. nat_lt y g.height) row (omega (arith, low, grid.rows)))
+    ∙ column_at-where (λ y. nat_lt y limit) row (omega (arith, low, grid.rows)))
     ∙ out
 
 -- a row that isn't in both sets is missing in one of them
@@ -83,11 +84,11 @@ cell_off g mask object k number (Some slots) needs off e =
     let same : cell_at g number ≡ slots = get_or_from_slice_get g.cells number slots [] e in
     mask_off mask slots object k (ap (λ (s : List Slot). is_held_in s object) (sym same) ∙ off) needs
 
-pub mask-init : (g : Grid) (mask : CellMask) (rows : List Bool) → IsGrid g → rows ≡ columns_below g.height →
-    FitsOnlyOn g mask rows
-mask-init g mask rows grid is = record {
+pub mask-init : (g : Grid) (mask : CellMask) {limit : ℕ} (rows : List Bool) → IsGrid g → g.height ≤ limit →
+    rows ≡ columns_below limit → FitsOnlyOn g mask rows
+mask-init g mask {limit} rows grid room is = record {
   at = λ row x low out. let clash : true ≡ false =
-      not_left_out g rows row grid is low out in absurd (cc);
+      not_left_out g limit rows row grid room is low out in absurd (cc);
 }
 
 mask_by : (g : Grid) (mask : CellMask) (object : LayeredObject) (k row x : ℕ) (rows having : List Bool) →
@@ -185,12 +186,12 @@ cell-down g mask steps rows behind grid is only =
     }
 
 pub begin-init : (g : Grid) (table : Option (List ℕ)) (axis : Axis) (part : List CompiledCell) (rows : List Bool) →
-    IsGrid g → rows ≡ columns_below g.height →
+    {limit : ℕ} → IsGrid g → g.height ≤ limit → rows ≡ columns_below limit →
     BeginsOnlyOn g table axis part rows
-begin-init g table axis part rows grid is =
+begin-init g table axis part rows {limit} grid room is =
     record {
-      at = λ row x low room out. let clash : true ≡ false =
-          not_left_out g rows row grid is low out in absurd (cc);
+      at = λ row x low fits out. let clash : true ≡ false =
+          not_left_out g limit rows row grid room is low out in absurd (cc);
     }
 
 begin_by : (g : Grid) (table : Option (List ℕ)) (axis : Axis) (part : List CompiledCell) (index row x : ℕ)

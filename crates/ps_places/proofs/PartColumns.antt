@@ -69,22 +69,24 @@ none_across g table (c ∷ cells) row x grid some far =
     (cell_off g c.mask row 0 x grid (omega (arith, far)))
 
 -- a part that has a cell begins on no column beyond the width
-begun_across : (g : Grid) (table : Option (List ℕ)) (part : List CompiledCell) (row x : ℕ) (here : Bool) →
-    nat_lt x g.width ≡ here → IsGrid g → 0 < length part →
+begun_across : (g : Grid) (table : Option (List ℕ)) (part : List CompiledCell) (row limit x : ℕ) (here : Bool) →
+    nat_lt x limit ≡ here → IsGrid g → 0 < length part → g.width ≤ limit →
     (here && rest_across g table part row 0 x) ≡ rest_across g table part row 0 x
-begun_across g table part row x true t grid some = refl
-begun_across g table part row x false t grid some =
-    sym (none_across g table part row x grid some (grind (arith, nat_tests)))
+begun_across g table part row limit x true t grid some room = refl
+begun_across g table part row limit x false t grid some room =
+    let far : limit ≤ x = grind (arith, nat_tests) in
+    sym (none_across g table part row x grid some (omega (arith, far, room)))
 
-pub across-init : (g : Grid) (table : Option (List ℕ)) (part : List CompiledCell) (row : ℕ) (columns : List Bool) →
-    IsGrid g → 0 < length part → columns ≡ columns_below g.width → AreLeftAcross g table part row columns 0
-across-init g table part row columns grid some is =
+pub across-init : (g : Grid) (table : Option (List ℕ)) (part : List CompiledCell) (row : ℕ) (columns : List Bool)
+    {limit : ℕ} → IsGrid g → 0 < length part → g.width ≤ limit → columns ≡ columns_below limit →
+    AreLeftAcross g table part row columns 0
+across-init g table part row columns {limit} grid some room is =
     record {
       at = λ x low.
           let all : length part - 0 ≡ length part = omega arith in
           ap (λ (b : Bool). b && rest_across g table part row 0 x)
-          (ap (λ (cs : List Bool). column_at cs x) is ∙ column_at-where (λ y. nat_lt y g.width) x low)
-          ∙ begun_across g table part row x (nat_lt x g.width) refl grid some
+          (ap (λ (cs : List Bool). column_at cs x) is ∙ column_at-where (λ y. nat_lt y limit) x low)
+          ∙ begun_across g table part row limit x (nat_lt x limit) refl grid some room
           ∙ ap (λ (n : ℕ). fits_along g (part_meaning table part)
           (map (λ k. x * g.height + row + k * g.height) (range_with_len 0 n))) all;
     }

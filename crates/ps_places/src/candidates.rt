@@ -13,8 +13,8 @@ use ps_program::{Axis, CellMask, CompiledCell};
 pub fn rows_of_mask<B: Scan>(board: &B, mask: &CellMask) -> Columns<B::Words>
     ensures { FitsOnlyOn (B.grid board.now) mask.now result }
 {
-    let (_width, height) = board.size();
-    let mut rows = Columns::below(height);
+    recall_shape(board);
+    let mut rows = Columns::all();
     for object in mask.needed.as_slice() {
         let having = board.rows_with(object);
         rows = rows.both(having);
@@ -46,8 +46,8 @@ fn rows_of_cell<B: Scan>(board: &B, axis: Axis, mask: &CellMask, steps: u32) -> 
 pub fn rows_of_part<B: Scan>(board: &B, axis: Axis, part: &[CompiledCell]) -> Columns<B::Words>
     ensures { BeginsOnlyOn (B.grid board.now) (B.table board.now) axis part.now result }
 {
-    let (_width, height) = board.size();
-    let mut rows = Columns::below(height);
+    recall_shape(board);
+    let mut rows = Columns::all();
     let mut steps = 0;
     for cell in part {
         if rows.is_empty() {

@@ -6,7 +6,7 @@ ghost use Rattle.ps_program.specs.declared.rows.Axis.TheVariants.{Right};
 ghost use Rattle.ps_places.specs.Lines.{part_fits};
 ghost use Rattle.ps_places.specs.Starts.{AreWhere, begins_down};
 
-use ps_match::{Columns, Scan};
+use ps_match::{Columns, Scan, recall_shape};
 use ps_model::SIDE_LIMIT;
 use ps_program::CompiledCell;
 
@@ -16,8 +16,8 @@ pub fn columns_across<B: Scan>(board: &B, part: &[CompiledCell], row: u32) -> Co
     requires whole { HasCells part.now }
     ensures { AreWhere (part_fits (B.grid board.now) (B.table board.now) Right row part.now) result }
 {
-    let (width, _height) = board.size();
-    let mut columns = Columns::below(width);
+    recall_shape(board);
+    let mut columns = Columns::all();
     let mut steps = 0;
     for cell in part {
         if columns.is_empty() {

@@ -5,6 +5,7 @@ ghost use Rattle.std.specs.Prelude.{◌≡◌, ◌+◌, ◌<◌, ◌∷◌, [], 
 ghost use Rattle.ps_model.specs.board.Attempts.{Rewritten, rewritten_along, rewritten_cell};
 ghost use Rattle.ps_model.specs.board.Places.{fits_there};
 ghost use Rattle.ps_model.specs.declared.limits.TheConstants.{SIDE_LIMIT};
+ghost use Rattle.ps_laws.specs.WholeRows.{HasCells};
 ghost use Rattle.ps_program.specs.declared.rows.Axis.TheVariants.{Down, Right};
 ghost use Rattle.ps_match.specs.InRoom.{sides_of};
 ghost use Rattle.ps_board.specs.ColumnSets.{set_columns};

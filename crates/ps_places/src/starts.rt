@@ -23,8 +23,8 @@ use ps_text::List;
 fn rows_of_all<B: Scan>(board: &B, parts: &[List<CompiledCell>]) -> Columns<B::Words>
     ensures { HaveWaysOnlyOn (B.grid board.now) (B.table board.now) Right parts.now result }
 {
-    let (_width, height) = board.size();
-    let mut rows = Columns::below(height);
+    recall_shape(board);
+    let mut rows = Columns::all();
     for part in parts {
         if rows.is_empty() {
             return rows;

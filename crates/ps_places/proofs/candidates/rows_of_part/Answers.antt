@@ -1,6 +1,5 @@
-use Rattle.std.proofs.Common.{◌∙◌, ◌+◌, ℕ, length, ap, refl, subst}
+use Rattle.std.proofs.Common.{◌+◌, ℕ, length, ap, refl, subst}
 use Rattle.std.proofs.lemmas.Option.{slice_get_read}
-use Rattle.ps_board.specs.ColumnSets.{columns_below}
 use Rattle.ps_places.specs.CellCandidates.{HasCellOnlyOn}
 use Rattle.ps_places.proofs.OnlyOn.{begin-init, begin-more}
 use Rattle.ps_places.proofs.candidates.rows_of_part.Goals as goal
@@ -10,8 +9,8 @@ loop-cell-init g c =
     record {
       only =
           begin-init (g.B.Board.grid c.args.board.now)
-          (g.B.Board.table c.args.board.now) c.args.axis c.args.part.now c.below-rows.result c.size-width.ensures.shape
-          (c.below-rows.ensures ∙ ap columns_below c.size-width.ensures.height);
+          (g.B.Board.table c.args.board.now) c.args.axis c.args.part.now c.all-rows.result c.recall_shape.ensures.shape
+          c.recall_shape.ensures.low c.all-rows.ensures;
       steps = refl;
     }
 
@@ -22,7 +21,7 @@ loop-cell-preserved g c =
       only =
           begin-more grid (g.B.Board.table c.args.board.now)
           c.args.axis c.args.part.now c.loop-cell.cell-index c.cell-item.result c.loop-cell.rows
-          c.rows_of_cell.result c.both-rows.result c.size-width.ensures.shape
+          c.rows_of_cell.result c.both-rows.result c.recall_shape.ensures.shape
           (slice_get_read c.args.part.now (length c.args.part.now)
           c.loop-cell.cell-index c.cell-item.result refl c.loop-cell-test.true c.cell-item.is) c.loop-cell-test.true
           (subst (λ (steps : ℕ). HasCellOnlyOn grid (c.cell-item.result).mask c.args.axis steps c.rows_of_cell.result)

@@ -1,7 +1,7 @@
 use Rattle.std.proofs.Common.{◌≡◌, ◌+◌, ◌≤◌, ℕ, true, length, ap, refl, rules, ◌∙◌}
 use Rattle.std.proofs.lemmas.Option.{slice_get_read}
 use Rattle.ps_model.specs.declared.limits.TheConstants.{SIDE_LIMIT}
-use Rattle.ps_board.specs.ColumnSets.{columns_behind, columns_below}
+use Rattle.ps_board.specs.ColumnSets.{columns_behind}
 use Rattle.ps_places.proofs.PartColumns.{across-all, across-init, across-more, across-none, across-past}
 use Rattle.ps_places.proofs.columns.columns_across.Goals as goal
 
@@ -9,9 +9,9 @@ pub loop-cell-init : goal.loop-cell-init
 loop-cell-init g c =
     record {
       left = across-init (g.B.Board.grid c.args.board.now)
-          (g.B.Board.table c.args.board.now) c.args.part.now c.args.row c.below-columns.result
-          c.size-width.ensures.shape c.requires.whole
-          (c.below-columns.ensures ∙ ap columns_below c.size-width.ensures.width);
+          (g.B.Board.table c.args.board.now) c.args.part.now c.args.row c.all-columns.result
+          c.recall_shape.ensures.shape c.requires.whole
+          c.recall_shape.ensures.narrow c.all-columns.ensures;
       steps = refl;
     }
 
@@ -27,7 +27,7 @@ returns-then-steps-ge-SIDE_LIMIT g c =
     let far : SIDE_LIMIT ≤ c.loop-cell.cell-index = rw (← c.loop-cell.invariant.steps) c.if-steps-ge-SIDE_LIMIT.true in
     across-past (g.B.Board.grid c.args.board.now) (g.B.Board.table c.args.board.now)
     c.args.part.now c.args.row c.loop-cell.cell-index c.cell-item.result c.loop-cell.columns
-    c.none.result c.size-width.ensures.shape
+    c.none.result c.recall_shape.ensures.shape
     (slice_get_read c.args.part.now (length c.args.part.now)
     c.loop-cell.cell-index c.cell-item.result refl c.loop-cell-test.true c.cell-item.is) c.loop-cell-test.true
     far c.none.ensures c.loop-cell.invariant.left
@@ -38,7 +38,7 @@ loop-cell-preserved g c =
       left =
           across-more (g.B.Board.grid c.args.board.now)
           (g.B.Board.table c.args.board.now) c.args.part.now c.args.row c.loop-cell.cell-index c.cell-item.result
-          c.loop-cell.columns c.scan.result c.behind.result c.both-columns.result c.size-width.ensures.shape
+          c.loop-cell.columns c.scan.result c.behind.result c.both-columns.result c.recall_shape.ensures.shape
           (slice_get_read c.args.part.now (length c.args.part.now)
           c.loop-cell.cell-index c.cell-item.result refl c.loop-cell-test.true c.cell-item.is) c.loop-cell-test.true
           c.scan.ensures (c.behind.ensures ∙ ap (columns_behind c.scan.result) c.loop-cell.invariant.steps)

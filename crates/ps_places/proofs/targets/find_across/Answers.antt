@@ -30,13 +30,13 @@ loop-row-init g c =
       long = refl;
     }
 
-pub columns_across-fronts-requires : goal.columns_across-fronts-requires
-columns_across-fronts-requires g c =
+pub columns_across-fronts-requires-clause-row : goal.columns_across-fronts-requires-clause-row
+columns_across-fronts-requires-clause-row g c =
     taken_below c.loop-row.left c.take_first.new.self (g.B.Board.grid c.args.board.now).height c.in-Some.row
     c.in-Some.ensures.some c.loop-row.invariant.low
 
-pub columns_across-backs-requires : goal.columns_across-backs-requires
-columns_across-backs-requires g c =
+pub columns_across-backs-requires-clause-row : goal.columns_across-backs-requires-clause-row
+columns_across-backs-requires-clause-row g c =
     taken_below c.loop-row.left c.take_first.new.self (g.B.Board.grid c.args.board.now).height c.in-Some.row
     c.in-Some.ensures.some c.loop-row.invariant.low
 

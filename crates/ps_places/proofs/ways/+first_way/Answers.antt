@@ -1,8 +1,18 @@
 use Rattle.std.proofs.Common.{◌≡◌, ◌≤◌, None, rules}
+use Rattle.std.specs.Prelude.{All}
+use Rattle.std.proofs.lemmas.List.Elements.{All-rest}
+use Rattle.ps_laws.specs.WholeRows.{HasCells}
 use Rattle.ps_places.proofs.WayLevels.{level-found, level-no_position, level-none}
 use Rattle.ps_places.specs.Lines.{part_fits}
 use Rattle.ps_places.proofs.SpacedWays.{far-enough, spaced-first}
 use Rattle.ps_places.proofs.ways.+first_way.Goals as goal
+
+pub first_way-requires : goal.first_way-requires
+first_way-requires g t c κs within =
+    let whole : All HasCells c.in-Some.others.now =
+    All-rest HasCells c.in-Some.part.now c.in-Some.others.now c.args.parts.now c.in-Some.ensures.cases.0
+    c.requires.whole in
+    search rules
 
 pub returns-in_default-least_position-clause-none : goal.returns-in_default-least_position-clause-none
 returns-in_default-least_position-clause-none g t c = λ same_result.

@@ -1,6 +1,9 @@
 use Rattle.std.proofs.Common.{◌≡◌, ◌∙◌, ℕ, ◌+◌, Bool, true, false, Option, List, length, sym, ap, arith, rules}
+use Rattle.std.specs.Prelude.{All}
 use Rattle.std.proofs.lemmas.Bool.Decides.{nat_tests}
+use Rattle.std.proofs.lemmas.List.Elements.{All-rest}
 use Rattle.ps_model.specs.board.Grid.{Grid}
+use Rattle.ps_laws.specs.WholeRows.{HasCells}
 use Rattle.ps_places.specs.FittingWays.{way_fits}
 use Rattle.ps_places.specs.RowPlaces.{part_sizes}
 use Rattle.ps_places.specs.Ways.{from_first, ways_behind, ways_from}
@@ -8,6 +11,13 @@ use Rattle.ps_places.proofs.WayLevels.{level-done, level-last, level-others, lev
 use Rattle.ps_places.proofs.SpacedWays.{spaced-later, spaced-others}
 use Rattle.ps_places.proofs.ways.+next_way.Goals as goal
 use Rattle.ps_places.proofs.ways.+next_way.Goals.{then-not-is_empty+then-part_fits+else-next_way, else-not-is_empty, else-not-is_empty-via-then-not-is_empty+else-part_fits, else-not-is_empty-via-else-not-is_empty}
+
+pub next_way-requires : goal.next_way-requires
+next_way-requires g t c κs within =
+    let whole : All HasCells c.in-Some.others.now =
+    All-rest HasCells c.in-Some.part.now c.in-Some.others.now c.args.parts.now c.in-Some.ensures.cases.0
+    c.requires.whole in
+    search rules
 
 pub returns-then-next_way-clause-found : goal.returns-then-next_way-clause-found
 returns-then-next_way-clause-found g t c = λ yes.
