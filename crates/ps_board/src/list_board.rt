@@ -198,7 +198,12 @@ impl Board for ListBoard {
         moving
     }
 
-    fn holders(&self, object: ObjectId, layer: LayerId, row: u32) -> Columns<ManyWords<WORDS_LIMIT>> {
+    fn holders(
+        &self,
+        object: ObjectId,
+        layer: LayerId,
+        row: u32,
+    ) -> Columns<ManyWords<WORDS_LIMIT>> {
         let mut holding = Columns::none();
         for column in 0..self.width {
             let slot = self.slot(column * self.height + row, layer);

@@ -47,7 +47,12 @@ impl Scan for ListBoard {
         write_cell(self, write, cell, changed)
     }
 
-    fn rewrite(&mut self, write: &CellWrite, row: u32, columns: &Columns<ManyWords<WORDS_LIMIT>>) -> bool {
+    fn rewrite(
+        &mut self,
+        write: &CellWrite,
+        row: u32,
+        columns: &Columns<ManyWords<WORDS_LIMIT>>,
+    ) -> bool {
         rewrite_row(self, write, row, *columns)
     }
 }

@@ -1,6 +1,5 @@
 -- Rows on which the planes of all objects are the same on two boards.
-use Rattle.std.proofs.Common.{◌≡◌, ◌∙◌, ℕ, ◌+◌, ◌*◌, ◌<◌, ◌≤◌, inl, inr, Bool, false, not, List, length, get_or, sym, ap, subst, arith, true, []}
-use Rattle.std.specs.Prelude.{nat_eq}
+use Rattle.std.proofs.Common.{◌≡◌, ◌∙◌, ℕ, ◌+◌, ◌*◌, ◌<◌, ◌≤◌, inl, inr, Bool, false, not, List, length, sym, ap, subst, arith, true, []}
 use Rattle.std.proofs.lemmas.Bool.{cases_eq, not-false, or_parts}
 use Rattle.ps_board.specs.ColumnSets.{column_at, either_columns, no_columns, set_columns, unlike_columns, with_column}
 use Rattle.ps_board.specs.Rows.{DifferOnlyOn}

@@ -48,12 +48,7 @@ pub fn first_motion<W: ColumnWords>(planes: &Planes<W>, cell: u32, first: u32) -
 }
 
 /// Gives a cell this motion alone.
-pub fn choose_motion<W: ColumnWords>(
-    planes: &mut Planes<W>,
-    cell: u32,
-    first: u32,
-    motion: Motion,
-)
+pub fn choose_motion<W: ColumnWords>(planes: &mut Planes<W>, cell: u32, first: u32, motion: Motion)
     requires column { cell / planes.old.height < W.limit }
     requires few { first + 4 < 2 ^ 32 }
     requires planes { (first + 5) * planes.old.height ≤ vec_len planes.old.words }

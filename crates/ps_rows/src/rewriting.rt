@@ -105,12 +105,7 @@ impl<W: ColumnWords> RowBoard<W> {
     }
 
     /// Writes a row in these columns, and answers whether one of its cells changed.
-    pub(crate) fn write_columns(
-        &mut self,
-        write: &CellWrite,
-        row: u32,
-        columns: Columns<W>,
-    ) -> bool
+    pub(crate) fn write_columns(&mut self, write: &CellWrite, row: u32, columns: Columns<W>) -> bool
         requires row { row < self.old.planes.height }
         requires within { IsWithin (⟦<RowBoard<W> as Board>⟧.grid self.old) columns }
         ensures rewritten { let before = ⟦<RowBoard<W> as Board>⟧.grid self.old in

@@ -516,7 +516,13 @@ mod tests {
         let mut own_layers = [LayerId(LAYER_LIMIT - 2); OBJECT_LIMIT as usize];
         own_layers[last.0 as usize] = highest;
         let (side, layers) = (SIDE_LIMIT, LAYER_LIMIT);
-        let mut board = RowBoard::<OneWord>::try_empty(rt.alloc(), side, side, layers, &own_layers)?;
+        let mut board = RowBoard::<OneWord>::try_empty(
+            rt.alloc(),
+            side,
+            side,
+            layers,
+            &own_layers,
+        )?;
         let corner = SIDE_LIMIT * SIDE_LIMIT - 1;
         board.put(corner, highest, Some(last), Motion::Acting);
         for cell in 0..corner {

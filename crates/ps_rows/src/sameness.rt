@@ -20,12 +20,7 @@ fn same_row<W: ColumnWords>(first: Columns<W>, second: Columns<W>, width: u32) -
 }
 
 /// Whether a plane has the same cells on two boards of this width. One without columns on both isn't read.
-fn same_plane<W: ColumnWords>(
-    first: &Planes<W>,
-    second: &Planes<W>,
-    width: u32,
-    plane: u32,
-) -> bool
+fn same_plane<W: ColumnWords>(first: &Planes<W>, second: &Planes<W>, width: u32, plane: u32) -> bool
     requires width { width ≤ SIDE_LIMIT }
     requires narrow { width ≤ W.limit }
     requires height { second.now.height ≡ first.now.height }

@@ -1,4 +1,4 @@
-use Rattle.std.proofs.Common.{◌≡◌, ◌+◌, ◌*◌, ◌-◌, ◌<◌, ◌∙◌, ℕ, List, Bool, [], length, subst, sym, ap, rules, arith}
+use Rattle.std.proofs.Common.{◌≡◌, ◌+◌, ◌*◌, ◌-◌, ◌∙◌, ℕ, List, Bool, [], length, subst, sym, ap, rules, arith}
 use borrow.Rule.Slice.PartMut.{put_mid}
 use Rattle.ps_rows.specs.PlaneCopies.{ArePlanesOf}
 use Rattle.ps_rows.proofs.PlaneCopies.{plane_overwritten}

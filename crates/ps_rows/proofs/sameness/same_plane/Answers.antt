@@ -1,4 +1,4 @@
-use Rattle.std.proofs.Common.{◌∙◌, ℕ, sym, ap, ap₂, Bool, List}
+use Rattle.std.proofs.Common.{◌∙◌, sym, ap, ap₂, Bool, List}
 use Rattle.ps_rows.proofs.RowsDiffering.{neither_marked}
 use Rattle.ps_board.specs.ColumnSets.{column_at, either_columns, set_columns}
 use Rattle.ps_rows.proofs.Sets.{none_at}

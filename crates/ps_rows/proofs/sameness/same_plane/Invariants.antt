@@ -1,4 +1,4 @@
-use Rattle.std.proofs.Common.{ℕ, ◌<◌, ◌+◌, ◌*◌, get_or}
+use Rattle.std.proofs.Common.{ℕ, ◌<◌, ◌+◌, ◌*◌}
 use Rattle.ps_rows.specs.Sameness.{AreSameRows}
 use Rattle.ps_rows.specs.Planes.{row_of}
 use Rattle.ps_rows.proofs.sameness.same_plane.Given as goal

@@ -1,4 +1,4 @@
-use Rattle.std.proofs.Common.{◌+◌, ◌*◌, ◌<◌, ◌^◌, ◌∙◌, ℕ, get_or, sym, ap, rules, Bool, List}
+use Rattle.std.proofs.Common.{◌+◌, ◌*◌, ◌<◌, ◌∙◌, ℕ, sym, ap, Bool, List}
 use Rattle.ps_rows.proofs.Marked.{plane_indexed}
 use Rattle.ps_rows.proofs.Unlike.{none_unlike, others_unlike, own_unlike}
 use Rattle.ps_board.specs.ColumnSets.{column_at}

@@ -1,4 +1,4 @@
-use Rattle.std.proofs.Common.{◌≡◌, ◌<◌, ◌∙◌, ℕ, [], length, get_or, sym, refl, arith, ap, Bool, List, false, subst, ◌+◌}
+use Rattle.std.proofs.Common.{◌≡◌, ◌<◌, ◌∙◌, ℕ, [], length, sym, refl, arith, ap, Bool, List, false, subst, ◌+◌}
 use Rattle.std.proofs.lemmas.List.{get_or_read}
 use Rattle.ps_rows.proofs.Marked.{plane_indexed}
 use Rattle.ps_rows.proofs.PlaneCopies.{marked_plane, plane_blank, sets_planes, unmarked_plane}

@@ -1,4 +1,4 @@
-use Rattle.std.proofs.Common.{◌≡◌, ◌+◌, ◌*◌, ◌∙◌, ℕ, get_or, sym, ap, ap₂}
+use Rattle.std.proofs.Common.{◌≡◌, ◌+◌, ◌*◌, ◌∙◌, ℕ, sym, ap, ap₂}
 use Rattle.ps_rows.proofs.RowsDiffering.{neither_marked, one_row_more}
 use Rattle.ps_board.specs.ColumnSets.{either_columns, set_columns, unlike_columns}
 use Rattle.ps_rows.specs.Planes.{row_of}

@@ -1,4 +1,4 @@
-use Rattle.std.proofs.Common.{ℕ, ◌/◌, ◌∙◌, ap, Bool, List}
+use Rattle.std.proofs.Common.{◌/◌, ◌∙◌, ap, Bool, List}
 use Rattle.ps_rows.specs.Planes.{has_cell}
 use Rattle.ps_board.specs.ColumnSets.{column_at}
 use Rattle.ps_rows.proofs.planes.Planes.has_cell.Goals as goal

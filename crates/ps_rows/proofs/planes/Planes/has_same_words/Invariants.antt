@@ -1,4 +1,4 @@
-use Rattle.std.proofs.Common.{◌≡◌, ◌+◌, ◌*◌, ◌<◌, ℕ, get_or, []}
+use Rattle.std.proofs.Common.{◌≡◌, ◌+◌, ◌*◌, ◌<◌, ℕ, []}
 use Rattle.ps_rows.specs.Planes.{row_of}
 use Rattle.ps_board.specs.ColumnSets.{set_columns}
 use Rattle.ps_rows.proofs.planes.Planes.has_same_words.Given as goal

@@ -1,5 +1,5 @@
-use Rattle.std.proofs.Common.{◌≡◌, ◌+◌, ◌*◌, ◌<◌, ◌∙◌, ℕ, not, get_or, length, sym, ap, subst, arith, Bool, List}
-use Rattle.std.specs.Prelude.{nat_eq, slice_set}
+use Rattle.std.proofs.Common.{◌≡◌, ◌+◌, ◌*◌, ◌<◌, ◌∙◌, ℕ, not, length, sym, ap, subst, arith, Bool, List}
+use Rattle.std.specs.Prelude.{slice_set}
 use Rattle.std.proofs.lemmas.List.{get_or_read}
 use Rattle.ps_rows.specs.RowIndex.{AreRowsMarked}
 use Rattle.ps_rows.proofs.Marked.{marked_row, plane_indexed, sets_row}

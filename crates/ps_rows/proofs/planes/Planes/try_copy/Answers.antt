@@ -1,4 +1,4 @@
-use Rattle.std.proofs.Common.{◌≡◌, ◌∙◌, List, Bool, sym, subst, length, ap, ℕ}
+use Rattle.std.proofs.Common.{◌≡◌, ◌∙◌, List, Bool, sym, subst, ℕ}
 use Rattle.ps_rows.specs.RowIndex.{AreRowsMarked}
 use Rattle.ps_rows.proofs.Marked.{sets_same}
 use Rattle.ps_rows.proofs.planes.Planes.try_copy.Goals as goal

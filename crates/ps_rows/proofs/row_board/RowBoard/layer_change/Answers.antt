@@ -1,4 +1,4 @@
-use Rattle.std.proofs.Common.{◌≡◌, ◌<◌, ◌≤◌, ◌^◌, ◌∙◌, ◌-◌, ℕ, Option, Some, List, ap, subst, arith, Bool, ap₂}
+use Rattle.std.proofs.Common.{◌≡◌, ◌∙◌, ℕ, Option, Some, List, ap, subst, Bool, ap₂}
 use Rattle.ps_model.specs.declared.compiled.LayerWrite.{LayerWrite}
 use Rattle.ps_model.specs.declared.compiled.LayeredObject.{LayeredObject}
 use Rattle.ps_model.specs.meaning.Compiled.{CellWrite}

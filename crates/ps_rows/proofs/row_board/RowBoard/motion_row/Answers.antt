@@ -1,4 +1,4 @@
-use Rattle.std.proofs.Common.{◌≡◌, ◌<◌, ◌≤◌, ◌^◌, ℕ, ◌∙◌, Some, None, ap, sym, rules, arith}
+use Rattle.std.proofs.Common.{◌≡◌, ◌<◌, ◌≤◌, ℕ, ◌∙◌, Some, None, ap, sym, arith}
 use Rattle.ps_rows.specs.Showing.{motion_plane, motions_from}
 use Rattle.ps_rows.specs.RowTests.{five_rows}
 use Rattle.ps_rows.proofs.Scans.{beyond_row, moving_row_is, resting_row_is}

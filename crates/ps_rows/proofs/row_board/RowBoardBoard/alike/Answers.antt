@@ -1,4 +1,4 @@
-use Rattle.std.proofs.Common.{◌<◌, ◌^◌, ◌∙◌, ℕ, List, Bool, ap, subst, rules}
+use Rattle.std.proofs.Common.{◌∙◌, ℕ, List, Bool, ap, subst}
 use Rattle.ps_board.specs.ColumnSets.{column_at}
 use Rattle.ps_rows.specs.Sameness.{HasUnlikeOf}
 use Rattle.ps_rows.proofs.SameRows.{columns_alike, itself_alike}

@@ -1,4 +1,4 @@
-use Rattle.std.proofs.Common.{◌≡◌, rules}
+use Rattle.std.proofs.Common.{◌≡◌}
 use Rattle.std.proofs.lemmas.Option.{same_Some}
 use Rattle.ps_rows.proofs.SameRows.{others_same}
 use Rattle.ps_rows.proofs.row_board.RowBoardBoard.differing.Goals as goal

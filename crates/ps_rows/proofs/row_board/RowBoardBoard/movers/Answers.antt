@@ -1,4 +1,4 @@
-use Rattle.std.proofs.Common.{◌∙◌, ◌+◌, ◌-◌, ◌*◌, ◌<◌, ◌^◌, rules, not, ◌&&◌}
+use Rattle.std.proofs.Common.{◌∙◌, ◌+◌, ◌*◌, not, ◌&&◌}
 use Rattle.ps_model.specs.board.Grid.{Grid, slot_at}
 use Rattle.ps_board.specs.ColumnSets.{column_at}
 use Rattle.ps_board.specs.RowsOfGrids.{is_moving}

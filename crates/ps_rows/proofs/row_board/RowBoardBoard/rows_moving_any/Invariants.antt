@@ -1,4 +1,4 @@
-use Rattle.std.proofs.Common.{◌≡◌, ◌<◌, ◌≤◌, ℕ, false, length, get_or}
+use Rattle.std.proofs.Common.{◌≡◌, ◌<◌, ◌≤◌, ℕ, false, length}
 use Rattle.ps_board.specs.ColumnSets.{column_at}
 use Rattle.ps_rows.specs.Planes.{row_of}
 use Rattle.ps_model.specs.declared.limits.TheConstants.{SIDE_LIMIT}

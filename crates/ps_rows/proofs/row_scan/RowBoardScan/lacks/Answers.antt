@@ -1,5 +1,4 @@
-use Rattle.std.proofs.Common.{◌≡◌, ◌∙◌, ℕ, get_or, sym, ap, ◌≤◌, length, arith, Bool, List, []}
-use Rattle.std.proofs.lemmas.Bool.{eqb-true}
+use Rattle.std.proofs.Common.{◌≡◌, ◌∙◌, ℕ, sym, ap, ◌≤◌, length, arith, []}
 use Rattle.ps_rows.proofs.Absent.{not_marked, nowhere_by_rows}
 use Rattle.ps_rows.proofs.Marked.{planes_indexed}
 use Rattle.ps_rows.proofs.Scans.{other_row}

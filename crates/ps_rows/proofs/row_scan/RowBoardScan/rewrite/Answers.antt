@@ -1,4 +1,4 @@
-use Rattle.std.proofs.Common.{◌∙◌, ◌*◌, ◌≤◌, List, Some, sym, arith, Bool, ap, refl}
+use Rattle.std.proofs.Common.{◌∙◌, ◌*◌, List, Some, sym, Bool, ap, refl}
 use Rattle.ps_model.specs.declared.pieces.Slot.{Slot}
 use Rattle.ps_model.specs.board.Grid.{Grid}
 use Rattle.ps_model.specs.meaning.Compiled.{cell_written}

@@ -1,4 +1,4 @@
-use Rattle.std.proofs.Common.{◌≡◌, ◌<◌, ◌∙◌, ℕ, Bool, List, Some, false, get_or, ap, sym, arith}
+use Rattle.std.proofs.Common.{◌≡◌, ◌<◌, ◌∙◌, ℕ, Bool, List, Some, false, ap, sym, arith}
 use Rattle.ps_board.specs.ColumnSets.{column_at}
 use Rattle.ps_match.proofs.AllRows.{all_moving}
 use Rattle.ps_rows.specs.Showing.{motion_plane, motions_from}

@@ -1,4 +1,4 @@
-use Rattle.std.proofs.Common.{◌≡◌, ◌<◌, ◌∙◌, List, Bool, false, get_or, sym, ap, arith, ◌≤◌, length}
+use Rattle.std.proofs.Common.{◌≡◌, ◌∙◌, List, Bool, false, sym, ap, arith, ◌≤◌, length}
 use Rattle.ps_board.specs.ColumnSets.{column_at}
 use Rattle.ps_rows.proofs.Absent.{not_marked, not_on_row}
 use Rattle.ps_rows.proofs.Marked.{planes_indexed}

@@ -1,4 +1,4 @@
-use Rattle.std.proofs.Common.{◌+◌, ◌*◌, ◌∙◌, ℕ, Bool, List, sym, ◌≡◌}
+use Rattle.std.proofs.Common.{◌+◌, ◌*◌, ◌∙◌, ℕ, Bool, sym}
 use Rattle.std.specs.Prelude.{slice_get}
 use Rattle.ps_model.specs.board.Places.{fits_there}
 use Rattle.ps_program.specs.ProgramShown.{mask_shown}
