@@ -1,6 +1,6 @@
 //! A game as a session plays it.
 
-ghost use Rattle.std.specs.Prelude.{◌≡◌};
+ghost use Rattle.std.specs.Prelude.{◌≡◌, true};
 ghost use Rattle.ps_levels.specs.EntriesShown.{entries_shown};
 ghost use Rattle.ps_levels.specs.WinsShown.{wins_shown};
 ghost use Rattle.ps_model.specs.declared.limits.TheConstants.{SIDE_LIMIT};
