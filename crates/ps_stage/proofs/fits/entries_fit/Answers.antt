@@ -25,6 +25,6 @@ loop-entry-preserved c = λ i x low. elim (cases_eq i c.loop-entry.entry-index) 
 
 pub returns : goal.returns
 returns c = λ yes.
-    All-mapped (λ (entry : Entry). EntryFits c.args.side (entry_shown entry)) (EntryFits c.args.side) entry_shown
+    All-mapped (EntryFits c.args.side) (λ (entry : Entry). EntryFits c.args.side (entry_shown entry)) entry_shown
     c.args.entries.now (λ entry fits. fits)
     (λ i x low. c.loop-entry.invariant i x (omega (arith, low, c.loop-entry-test.false)))
