@@ -369,7 +369,7 @@ impl<W: ColumnWords> Board for RowBoard<W> {
 #[cfg(test)]
 mod tests {
     use super::*;
-    use ps_board::OneWord;
+    use ps_board::{ManyWords, OneWord, WORDS_LIMIT};
     use ps_model::{Direction, LAYER_LIMIT, OBJECT_LIMIT, SIDE_LIMIT};
     use std::test::Fail;
 
@@ -516,7 +516,7 @@ mod tests {
         let mut own_layers = [LayerId(LAYER_LIMIT - 2); OBJECT_LIMIT as usize];
         own_layers[last.0 as usize] = highest;
         let (side, layers) = (SIDE_LIMIT, LAYER_LIMIT);
-        let mut board = RowBoard::<OneWord>::try_empty(
+        let mut board = RowBoard::<ManyWords<WORDS_LIMIT>>::try_empty(
             rt.alloc(),
             side,
             side,
