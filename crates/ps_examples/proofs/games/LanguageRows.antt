@@ -767,7 +767,7 @@ property_glyph : refused (changed 34 1 (codes "#P*Q#\n") (changed 23 1 (codes "Q
 unfolding chars is_utf8 utf8_valid_len encode
 property_glyph = refl
 
-too_large : refused (changed 34 1 (codes "P................................................................\n") the_game)
+too_large : refused (changed 34 1 (codes "P" ++ (replicate 256 46 ++ codes "\n")) the_game)
     ≡ Some (record { kind = kind.TooLarge; line = 34 })
 unfolding chars is_utf8 utf8_valid_len encode
 too_large = refl

@@ -239,10 +239,17 @@ unfolding chars is_utf8 encode utf8_valid_len digits
 objects_at_limit = refl
 
 -- the 513th isn't, and is told behind its other faults
-objects_over : map refused (text_with (more_objects 512) [] [] ∷ text_with (more_objects 510 ++ codes "e7\nx\n") [] [] ∷ text_with (more_objects 510 ++ codes "F\n") [] [] ∷ [])
-    ≡ at_line 1026 kind.TooManyNames ∷ at_line 1026 kind.Twice ∷ at_line 1026 kind.BadObject ∷ []
+objects_over : refused (text_with (more_objects 512) [] []) ≡ at_line 1026 kind.TooManyNames
 unfolding chars is_utf8 encode utf8_valid_len digits
 objects_over = refl
+
+twice_over : refused (text_with (more_objects 510 ++ codes "e7\nx\n") [] []) ≡ at_line 1026 kind.Twice
+unfolding chars is_utf8 encode utf8_valid_len digits
+twice_over = refl
+
+bad_object_over : refused (text_with (more_objects 510 ++ codes "F\n") [] []) ≡ at_line 1026 kind.BadObject
+unfolding chars is_utf8 encode utf8_valid_len digits
+bad_object_over = refl
 
 -- LEGEND: the form of lines ----------------------------------------------------------------------------------------------
 
