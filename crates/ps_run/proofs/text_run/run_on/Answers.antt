@@ -6,7 +6,7 @@ use Rattle.ps_run.proofs.Rightly.{comes_rightly, true_of_game, wants_memory}
 use Rattle.ps_run.proofs.text_run.run_on.Goals as goal
 
 -- boards of rows keep the table of their game
-table_for : List ℕ → Option (List ℕ)
+abbrev table_for : List ℕ → Option (List ℕ)
 table_for layers = Some layers
 
 pub returns-in-Err-clause-rightly : goal.returns-in-Err-clause-rightly
