@@ -17,7 +17,8 @@ use ps_stage::SessionGame;
 use ps_turn::{Rules, TurnRules};
 use std::alloc::Global;
 
-/// Plays a game by these rules, on boards that have room for its levels: writes its opening, and plays the keys of a reader to an ending.
+/// Plays a game by these rules, on boards that have room for its levels: writes its opening, and plays the keys of a
+/// reader to an ending.
 ///
 /// # Errors
 ///
