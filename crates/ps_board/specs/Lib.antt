@@ -9,3 +9,4 @@ pub mod WordSteps
 pub mod Joinings
 pub mod RowsOfGrids
 pub mod Rows
+pub mod Histories

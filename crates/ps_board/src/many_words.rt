@@ -14,7 +14,7 @@ use ps_model::SIDE_LIMIT;
 use std::marker::Model;
 
 /// How many words a set has at most: so many as tell of all columns of a board.
-pub const WORDS_LIMIT: usize = 1;
+pub const WORDS_LIMIT: usize = 4;
 
 /// A set of columns as so many words: bit x of word k stands for column `k * WORD_BITS + x`. Words beyond `WORDS_LIMIT`
 /// are zero.

@@ -78,7 +78,7 @@ const EXPLANATIONS: [(FaultKind, &str); 44] = [
     ),
     (
         FaultKind::TooManyNames,
-        "There are more than 64 objects or 32 layers.",
+        "There are more than 512 objects or 128 layers.",
     ),
     (
         FaultKind::SameLayerAggregate,
@@ -151,7 +151,7 @@ const EXPLANATIONS: [(FaultKind, &str); 44] = [
     ),
     (
         FaultKind::TooLarge,
-        "The first row of a level has more than 64 characters, or the level has more than 64 rows.",
+        "The first row of a level has more than 256 characters, or the level has more than 256 rows.",
     ),
     (
         FaultKind::NoLevel,

@@ -21,8 +21,8 @@ use std::alloc::Global;
 use std::marker::Model;
 use std::ops::Range;
 
-/// A level: its sides, each from 1 to 64, and the objects of each cell, in columns from the left and each column from
-/// the top.
+/// A level: its sides, each from 1 to `SIDE_LIMIT`, and the objects of each cell, in columns from the left and each
+/// column from the top.
 #[derive(Drop, Debug)]
 pub struct Level {
     width: u32,

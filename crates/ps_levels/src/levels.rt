@@ -152,9 +152,9 @@ fn has_level(entries: &[Entry]) -> bool
 ///
 /// `Refused` with the first fault of the lines, if they have one, line by line: `UnknownGlyph` (LV1) at a row with a
 /// character that is no name, up to the level's width; `PropertyGlyph` (LV2) at one with a property; `TooLarge` (LV3)
-/// at the first row of a level that is over 64 columns wide, or at its 65th row; `TooManyEntries` (LV5) at the 1,000th
-/// entry; and `NoLevel` (LV4), at the header right above the lines, if there is no level. `Memory` if a growth was
-/// refused.
+/// at the first row of a level that is over `SIDE_LIMIT` columns wide, or at its first row beyond as many;
+/// `TooManyEntries` (LV5) at the 1,000th entry; and `NoLevel` (LV4), at the header right above the lines, if there is
+/// no level. `Memory` if a growth was refused.
 pub fn read_levels(
     alloc: Global,
     source: &Source,

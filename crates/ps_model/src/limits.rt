@@ -3,11 +3,11 @@
 /// The bytes of a text.
 pub const TEXT_LIMIT: usize = 1048576;
 /// The objects of a game.
-pub const OBJECT_LIMIT: u32 = 64;
+pub const OBJECT_LIMIT: u32 = 512;
 /// The collision layers of a game.
-pub const LAYER_LIMIT: u32 = 32;
+pub const LAYER_LIMIT: u32 = 128;
 /// The columns of a board, and its rows.
-pub const SIDE_LIMIT: u32 = 64;
+pub const SIDE_LIMIT: u32 = 256;
 /// The rules of a game.
 pub const RULE_LIMIT: u32 = 1024;
 /// The readings of one rule.

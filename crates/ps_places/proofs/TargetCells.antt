@@ -32,6 +32,7 @@ use Rattle.ps_places.specs.PartTargets.{is_reached, is_target, has_partner, line
 use Rattle.ps_places.specs.PartTargets.{position_of}
 use Rattle.ps_places.proofs.AnyOf.{any-alike, any-both, any-found, any-here, any-positions, all}
 use Rattle.ps_places.proofs.AnyOf.{any-swap}
+use Rattle.ps_places.proofs.RowsTogether.{le_true}
 
 -- tests joined in another order
 first_kept : (t p e le : Bool) → le ≡ true → (t && (le && (p && e))) ≡ (e && (t && p))
@@ -294,7 +295,7 @@ module _ (g : Grid) (table : Option (List ℕ)) (axis : Axis) (first second : Li
       let is_position : position_of axis g.height n ≡ p + steps = ap (position_of axis g.height) same
       ∙ position_of-on g axis line (p + steps) few far in
       let reach : steps ≤ p + steps = omega arith in
-      let yes : nat_le steps (p + steps) ≡ true = grind (arith, nat_tests, reach) in
+      let yes : nat_le steps (p + steps) ≡ true = le_true steps (p + steps) reach in
       let start : p + steps - steps ≡ p = omega arith in
       ap₂ (λ (l k : ℕ). nat_le steps k && begun leads l (k - steps)) is_line is_position
       ∙ ap₂ (λ (b : Bool) (k : ℕ). b && begun leads line k) yes start ∙ both.1

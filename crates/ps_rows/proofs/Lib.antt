@@ -31,3 +31,5 @@ pub mod RowCopies
 pub mod OwnObjects
 pub mod CopiesShown
 pub mod OneCell
+pub mod RowDifferences
+pub mod RowHistories

@@ -37,7 +37,7 @@ with_other columns column on other low apart =
     with_at columns column on other low ∙ ap (λ (b : Bool). if b then on else column_at columns other) (ne_eqb other column apart)
 
 -- a column in which two sets differ, or don't
-unlike_at : (a b : List Bool) (x : ℕ) → x < SIDE_LIMIT →
+pub unlike_at : (a b : List Bool) (x : ℕ) → x < SIDE_LIMIT →
     column_at (unlike_columns a b) x ≡ (if column_at a x then not (column_at b x) else column_at b x)
 unlike_at a b x low = column_at-where (λ y. if column_at a y then not (column_at b y) else column_at b y) x low
 

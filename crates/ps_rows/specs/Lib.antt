@@ -7,3 +7,5 @@ pub mod RowIndex
 pub mod RowChanges
 pub mod SlotsWritten
 pub mod PlaneCopies
+pub mod RowDifferences
+pub mod RowHistories

@@ -1,7 +1,7 @@
 //! Planes of rows, each row a set of columns, as one flat list of sets, with an index of their rows.
 
 ghost use Rattle.std.specs.Prelude.{◌≡◌, ◌+◌, ◌*◌, ◌/◌, ◌%◌, ◌<◌, ◌≤◌, ℕ, ◌∷◌, [], IfOk, find, length, replicate};
-ghost use Rattle.std.specs.Prelude.{slice_set, true, vec_len};
+ghost use Rattle.std.specs.Prelude.{nat_lt, slice_set, true, vec_len};
 ghost use Rattle.ps_model.specs.board.Movement.{is_number};
 ghost use Rattle.ps_model.specs.declared.limits.TheConstants.{SIDE_LIMIT};
 ghost use Rattle.ps_board.specs.ColumnSets.{no_columns};
@@ -117,6 +117,13 @@ impl<W: ColumnWords> Planes<W> {
             words,
             index,
         })
+    }
+
+    /// Whether there is a plane of that number.
+    pub fn has_plane(&self, plane: u32) -> bool
+        ensures { result ≡ nat_lt plane (vec_len self.now.index) }
+    {
+        (plane as usize) < self.index.len()
     }
 
     /// The columns of a row that a plane has.
@@ -315,18 +322,29 @@ impl<W: ColumnWords> Planes<W> {
         unlike.is_empty()
     }
 
-    /// The rows in which a plane may have other columns than on others, as many of the same height. A plane without
-    /// columns on both sides is passed over.
+    /// Whether a plane is known to have the same rows on others, of the same height. One without columns on both sides
+    /// isn't read.
+    pub fn has_same_plane(&self, other: &Planes<W>, plane: u32) -> bool
+        requires height { other.now.height ≡ self.now.height }
+        requires here { (plane + 1) * self.now.height ≤ vec_len self.now.words }
+        requires there { (plane + 1) * self.now.height ≤ vec_len other.now.words }
+        ensures { result ≡ true →
+            DifferOnlyOnRows self.now.height plane self.now.words.items other.now.words.items no_columns }
+    {
+        if self.rows_of(plane).either(other.rows_of(plane)).is_empty() {
+            return true;
+        }
+        self.has_same_words(other, plane)
+    }
+
+    /// The rows in which a plane may have other columns than on others, as many of the same height.
     fn differing_rows(&self, other: &Planes<W>, plane: u32) -> Columns<W>
         requires height { other.now.height ≡ self.now.height }
         requires here { (plane + 1) * self.now.height ≤ vec_len self.now.words }
         requires there { (plane + 1) * self.now.height ≤ vec_len other.now.words }
         ensures { DifferOnlyOnRows self.now.height plane self.now.words.items other.now.words.items result }
     {
-        if self.rows_of(plane).either(other.rows_of(plane)).is_empty() {
-            return Columns::none();
-        }
-        if self.has_same_words(other, plane) {
+        if self.has_same_plane(other, plane) {
             return Columns::none();
         }
         let mut rows = Columns::none();

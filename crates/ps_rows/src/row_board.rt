@@ -1,6 +1,6 @@
 //! A board of rows of bits.
 
-ghost use Rattle.std.specs.Prelude.{◌≡◌, ◌+◌, ◌*◌, ◌/◌, ◌^◌, ◌<◌, ◌≤◌, ◌&&◌, ℕ, Some, List};
+ghost use Rattle.std.specs.Prelude.{◌≡◌, ◌+◌, ◌*◌, ◌/◌, ◌^◌, ◌<◌, ◌≤◌, ◌&&◌, ℕ, IfOk, IfSome, Some, List};
 ghost use Rattle.std.specs.Prelude.{false, length, nat_eq, nat_lt, true};
 ghost use Rattle.std.specs.Prelude.{option_map, slice_get, vec_len};
 ghost use Rattle.ps_model.specs.board.Movement.{is_number};
@@ -8,6 +8,7 @@ ghost use Rattle.ps_model.specs.declared.limits.TheConstants.{LAYER_LIMIT, SIDE_
 ghost use Rattle.ps_board.specs.ColumnSets.{columns_below};
 ghost use Rattle.ps_rows.specs.Planes.{HavePlanes, row_of};
 ghost use Rattle.ps_program.specs.ProgramShown.{write_shown};
+ghost use Rattle.ps_rows.specs.RowDifferences.{rows_changed};
 ghost use Rattle.ps_rows.specs.RowTests.{IsRowOf, IsWithin};
 ghost use Rattle.ps_rows.specs.Sameness.{IsSameLayer};
 ghost use Rattle.ps_rows.specs.Showing.{AreMotionsShown, AreObjectsShown, cleared_from, grid_shown};
@@ -19,6 +20,7 @@ use crate::changes::change_layer;
 use crate::members::Members;
 use crate::motions::{choose_motion, first_motion};
 use crate::planes::Planes;
+use crate::row_differences::{RowDifference, change_rows, differences};
 use crate::sameness::{differing_row, same_planes, unlike_row};
 use ps_board::{Board, ColumnWords, Columns};
 use ps_model::{LayerId, LayeredObject, Memory, Motion, MotionTest, ObjectId};
@@ -191,6 +193,45 @@ impl<W: ColumnWords> RowBoard<W> {
         let first = self.motions_from(layer);
         let places = self.members.of(layer);
         change_layer(&mut self.planes, row, places, objects, first, motions)
+    }
+
+    /// The rows in which the board differs from another one of the same size for the same game; nothing, where they are
+    /// more than half of all its rows. They make of each of the two the other.
+    ///
+    /// # Errors
+    ///
+    /// `Memory`.
+    pub(crate) fn differences(
+        &self,
+        alloc: Global,
+        other: &RowBoard<W>,
+    ) -> Result<Option<Vec<RowDifference<Columns<W>>>>, Memory>
+        requires height { other.now.planes.height ≡ self.now.planes.height }
+        requires layers { other.now.layers ≡ self.now.layers }
+        requires table { other.now.members.table.items ≡ self.now.members.table.items }
+        ensures forth { let p = self.now.planes in IfOk result (λ found. IfSome found (λ rows.
+            rows_changed p.height p.words.items rows.items ≡ other.now.planes.words.items)) }
+        ensures back { let p = self.now.planes in IfOk result (λ found. IfSome found (λ rows.
+            rows_changed p.height other.now.planes.words.items rows.items ≡ p.words.items)) }
+    {
+        let planes = self.members.count() + 5 * self.layers;
+        differences(alloc, &self.planes, &other.planes, planes)
+    }
+
+    /// Changes rows by what differs from a board.
+    pub(crate) fn change_rows(&mut self, rows: &[RowDifference<Columns<W>>])
+        requires objects { let b = self.old in let p = b.planes in AreObjectsShown b.members.table.items p.height
+            (rows_changed p.height p.words.items rows.now) (b.width * p.height) }
+        requires motions { let b = self.old in let p = b.planes in AreMotionsShown b.members.table.items b.layers
+            p.height (rows_changed p.height p.words.items rows.now) (b.width * p.height) }
+        ensures words { let p = self.old.planes in
+            self.new.planes.words.items ≡ rows_changed p.height p.words.items rows.now }
+        ensures width { self.new.width ≡ self.old.width }
+        ensures height { self.new.planes.height ≡ self.old.planes.height }
+        ensures layers { self.new.layers ≡ self.old.layers }
+        ensures table { self.new.members.table.items ≡ self.old.members.table.items }
+    {
+        change_rows(&mut self.planes, rows);
     }
 
     /// Whether a layer shows the same on another board of the same size for the same game.
@@ -369,7 +410,7 @@ impl<W: ColumnWords> Board for RowBoard<W> {
 #[cfg(test)]
 mod tests {
     use super::*;
-    use ps_board::OneWord;
+    use ps_board::{ManyWords, OneWord, WORDS_LIMIT};
     use ps_model::{Direction, LAYER_LIMIT, OBJECT_LIMIT, SIDE_LIMIT};
     use std::test::Fail;
 
@@ -516,7 +557,7 @@ mod tests {
         let mut own_layers = [LayerId(LAYER_LIMIT - 2); OBJECT_LIMIT as usize];
         own_layers[last.0 as usize] = highest;
         let (side, layers) = (SIDE_LIMIT, LAYER_LIMIT);
-        let mut board = RowBoard::<OneWord>::try_empty(
+        let mut board = RowBoard::<ManyWords<WORDS_LIMIT>>::try_empty(
             rt.alloc(),
             side,
             side,

@@ -5,7 +5,6 @@ use ps_board::{Board, Columns, ListBoard, OneWord};
 use ps_match::Scan;
 use ps_model::{
     Direction, LayerId, LayerWrite, LayeredObject, Memory, Motion, ObjectId, ObjectWrite,
-    SIDE_LIMIT,
 };
 use ps_program::CellWrite;
 use ps_text::List;
@@ -173,6 +172,6 @@ fn what_has_no_room_is_not_put(rt: HostRuntime) -> Result<(), Fail> {
     let mut board = RowBoard::<OneWord>::try_empty(rt.alloc(), 4, 2, 2, &OWN_LAYERS)?;
     let put = ObjectWrite::Put(ObjectId(1));
     let write = write_of(rt.alloc(), None, put, None)?;
-    assert!(&rt; !board.rewrite(&write, 1, &Columns::below(SIDE_LIMIT)));
+    assert!(&rt; !board.rewrite(&write, 1, &Columns::all()));
     Ok(())
 }

@@ -14,11 +14,11 @@ pub use boards::{GameBoard, gives_room};
 pub use game_rules::GameRules;
 pub use laws::games_play_as_written;
 pub use programs::rules_of_turns;
-pub use ps_board::OneWord;
+pub use ps_board::{OneWord, WORD_BITS};
 pub use ps_compile::CompiledPrograms;
 pub use ps_engine::{ListBoard, Scan};
 pub use ps_model::Memory;
-pub use ps_rows::RowBoard;
+pub use ps_rows::{RowBoard, RowHistory};
 pub use ps_turn::{Rules, TurnRules};
 
 #[cfg(test)]

@@ -7,7 +7,7 @@ ghost use Rattle.ps_run.specs.Runs.{ComesOrStops};
 
 use crate::faults::RunFault;
 use crate::play::{Play, write_output};
-use ps_board::Board;
+use ps_board::{Board, History};
 use ps_devices::{ByteReader, ByteWriter};
 use ps_keys::Keys;
 use ps_model::{Ending, Memory};
@@ -24,7 +24,7 @@ use std::alloc::Global;
 ///
 /// `Memory` where a growth was refused, `Read` where the reader failed or gave something `READ_LIMIT` times and the
 /// game hasn't ended, `Write` where the writer failed. No device is called after its failure.
-pub fn run_game<'g, B: Board, R: Rules<B> + Drop, I: ByteReader, W: ByteWriter>(
+pub fn run_game<'g, B: Board, H: History<B>, R: Rules<B> + Drop, I: ByteReader, W: ByteWriter>(
     alloc: Global,
     game: SessionGame<'g>,
     rules: TurnRules<B, R>,
@@ -39,7 +39,7 @@ pub fn run_game<'g, B: Board, R: Rules<B> + Drop, I: ByteReader, W: ByteWriter>(
 {
     let mut rules = rules;
     let mut output = OutputText::new(alloc);
-    let session = match Session::<B>::start(alloc, game, &mut rules, &mut output) {
+    let session = match Session::<B, H>::start(alloc, game, &mut rules, &mut output) {
         Ok(session) => session,
         Err(Memory) => return Err(RunFault::Memory),
     };

@@ -9,7 +9,7 @@ ghost use Rattle.ps_run.specs.Runs.{Comes};
 ghost use Rattle.ps_run.specs.Played.{HasTaken, HavePlayed, StopsAs, StopsAtText};
 
 use crate::faults::{PieceFault, RunFault, fault_of_piece};
-use ps_board::Board;
+use ps_board::{Board, History};
 use ps_devices::{ByteReader, ByteWriter, write_whole};
 use ps_keys::Keys;
 use ps_model::{CALL_LIMIT, Ending, Key, Memory, READ_LIMIT};
@@ -19,8 +19,8 @@ use ps_turn::{Rules, TurnRules};
 
 /// A game in play: its session and its rules, what is held of an arrow that has begun, and the text that is made next.
 #[derive(Drop)]
-pub struct Play<'g, B: Board, R> {
-    pub session: Session<'g, B>,
+pub struct Play<'g, B: Board, H: History<B>, R> {
+    pub session: Session<'g, B, H>,
     pub rules: TurnRules<B, R>,
     pub keys: Keys,
     pub output: OutputText,
@@ -41,7 +41,7 @@ pub fn write_output<W: ByteWriter>(output: &OutputText, writer: &mut W) -> Resul
     }
 }
 
-impl<'g, B: Board, R: Rules<B> + Drop> Play<'g, B, R> {
+impl<'g, B: Board, H: History<B>, R: Rules<B> + Drop> Play<'g, B, H, R> {
     /// Plays a key: makes its text whole, and then writes it.
     fn play_key<W: ByteWriter>(&mut self, key: Key, writer: &mut W) -> Result<(), PieceFault>
         requires { (W.state writer.old).has_failed ≡ false }

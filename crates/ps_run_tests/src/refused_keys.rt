@@ -9,7 +9,7 @@ use crate::playable::playable_game;
 use ps_compile::{CompiledPrograms, compile};
 use ps_game::Game;
 use ps_model::{Ending, Input, Key, Memory};
-use ps_rulebook::{OneWord, RowBoard, rules_of_turns};
+use ps_rulebook::{OneWord, RowBoard, RowHistory, WORD_BITS, rules_of_turns};
 use ps_session::{OutputText, Phase, Session, SessionGame};
 use ps_turn::{Rules, TurnRules};
 use std::alloc::Global;
@@ -46,7 +46,7 @@ fn is_refused(alloc: Global) -> bool {
 /// Plays a session by keys, each of which is tried again where it was refused a growth.
 fn expect_session_again<'g, R: Rules<RowBoard<OneWord>> + Drop>(
     rt: &(impl Abort + AllocGlobal),
-    session: &mut Session<'g, RowBoard<OneWord>>,
+    session: &mut Session<'g, RowBoard<OneWord>, RowHistory<OneWord>>,
     rules: &mut TurnRules<RowBoard<OneWord>, R>,
     output: &mut OutputText,
     opening: &str,
@@ -86,11 +86,17 @@ fn expect_programs_again(
 {
     let title = game.title.as_str();
     let parts = SessionGame::new(title, game.options, &game.names, &game.entries, &game.wins);
+    assert!(rt; parts.fits(WORD_BITS));
     let Ok(mut rules) = rules_of_turns(rt.alloc(), programs) else {
         return;
     };
     let mut output = OutputText::new(rt.alloc());
-    let started = Session::<RowBoard<OneWord>>::start(rt.alloc(), parts, &mut rules, &mut output);
+    let started = Session::<RowBoard<OneWord>, RowHistory<OneWord>>::start(
+        rt.alloc(),
+        parts,
+        &mut rules,
+        &mut output,
+    );
     let Ok(mut session) = started else {
         assert!(rt; output.bytes().is_empty());
         return;

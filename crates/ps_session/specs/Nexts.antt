@@ -1,8 +1,9 @@
 -- What a key does to a session, as a step of the definitions.
-use Rattle.std.specs.Prelude.{ℕ, ◌-◌, Option, Some, None, List, [], length, take}
+use Rattle.std.specs.Prelude.{◌≡◌, ℕ, ◌-◌, ⊤, Option, Some, None, List, [], length, take}
 use Rattle.ps_model.specs.board.Grid.{Grid}
 use Rattle.ps_model.specs.session.Sessions as model
 use Rattle.ps_model.specs.session.Sessions.{Step, quietly}
+use Rattle.ps_board.specs.Histories.{BoardShown}
 use Rattle.ps_stage.specs.Standings.{Standing, play_of}
 use Rattle.ps_stage.specs.StepsShown.{came, stands}
 use Rattle.ps_stage.specs.Locations.{location_shown, history_behind}
@@ -40,6 +41,25 @@ next_shown history location (Stands pending) = stood history location pending
 next_shown history location (Undoes level) = model.Playing (play_of (take (length history - 1) history) level)
 next_shown history location (Goes next history_change) =
     location_shown (history_behind_location history_change history location) next
+
+-- the board of a location is the one that is ready to enter the history
+abbrev pub IsReadyBehind : Option BoardShown → Location Standing → Type 0
+IsReadyBehind ready (Playing level) = ready ≡ Some (record { table = level.table; grid = level.board })
+IsReadyBehind ready (Waiting level pending) = ready ≡ Some (record { table = level.table; grid = level.board })
+IsReadyBehind ready (AtMessage entry) = ⊤
+IsReadyBehind ready (Ended ending) = ⊤
+
+-- it is, where it enters the history
+abbrev pub IsReadyTo : Option BoardShown → Location Standing → HistoryChange → Type 0
+IsReadyTo ready location Adds = IsReadyBehind ready location
+IsReadyTo ready location Keeps = ⊤
+IsReadyTo ready location Clears = ⊤
+
+-- before what comes next
+abbrev pub IsReadyFor : Option BoardShown → Location Standing → Next Standing → Type 0
+IsReadyFor ready location (Stands pending) = ⊤
+IsReadyFor ready location (Undoes level) = ⊤
+IsReadyFor ready location (Goes next history_change) = IsReadyTo ready location history_change
 
 -- what a key did, with the text that it made; an ignored key does nothing
 abbrev pub next_step : List Grid → Location Standing → Option (Next Standing) → List ℕ → Step

@@ -1,20 +1,17 @@
 //! What comes next is put in the place of what was. Nothing here takes memory.
 
-ghost use Rattle.std.specs.Prelude.{◌≡◌, ◌++◌, ℕ, [], ◌∷◌, List, Option};
+ghost use Rattle.std.specs.Prelude.{◌≡◌, ◌++◌, ℕ, [], ◌∷◌, List, Option, Some};
 ghost use Rattle.ps_model.specs.board.Grid.{Grid};
-ghost use Rattle.ps_model.specs.declared.limits.TheConstants.{HISTORY_LIMIT};
 ghost use Rattle.ps_stage.specs.Locations.{location_shown, IsOnTable};
 ghost use Rattle.ps_stage.specs.Standings.{play_of};
 ghost use Rattle.ps_stage.specs.StepsShown.{stands};
 ghost use Rattle.ps_model.specs.session.Sessions.{kept};
 ghost use Rattle.ps_session.specs.Histories.{AreOnTable, grids_of};
-ghost use Rattle.ps_session.specs.Nexts.{next_shown, history_behind_location, stood};
+ghost use Rattle.ps_session.specs.Nexts.{IsReadyFor, IsReadyTo, next_shown, history_behind_location, stood};
 ghost use Rattle.ps_session.specs.Tables.{ComesOnTable};
 
-use crate::history_boards::HistoryBoard;
 use crate::nexts::Next;
-use circular_buffer::HeapCircularBuffer;
-use ps_board::Board;
+use ps_board::{Board, History};
 use ps_model::Ending;
 use ps_stage::{HistoryChange, Location, Pending, PlayedLevel, Stage};
 use std::mem;
@@ -46,15 +43,6 @@ fn stood<B: Board>(
     }
 }
 
-/// The board that has left the history, if one has, is there to be used again.
-fn reuse<B: Board>(stage: &mut Stage<'_, B>, board: Option<HistoryBoard<B>>)
-    ensures { stage.new ≡ stage.old }
-{
-    if let Some(board) = board {
-        stage.keep_board(board.into_board());
-    }
-}
-
 /// The boards of a location that nobody is at any more are there to be used again.
 fn give_back<B: Board>(stage: &mut Stage<'_, B>, location: Location<PlayedLevel<B>>)
     ensures { stage.new ≡ stage.old }
@@ -80,38 +68,36 @@ pub fn give_up<B: Board>(stage: &mut Stage<'_, B>, next: Next<PlayedLevel<B>>)
     }
 }
 
-/// The board of a level enters the history. Of a full one the oldest board goes, to be used again.
-fn add_to_history<B: Board>(
+/// The board of a level that is left, which is ready, enters the history. The level's own boards are there to be used
+/// again.
+fn add_to_history<B: Board, H: History<B>>(
     stage: &mut Stage<'_, B>,
-    history: &mut HeapCircularBuffer<HistoryBoard<B>>,
+    history: &mut H,
     level: PlayedLevel<B>,
 )
-    requires limit { history.old.capacity ≡ HISTORY_LIMIT }
+    requires ready { H.ready history.old ≡ Some (record { table = level.table; grid = level.board }) }
     ensures stage { stage.new ≡ stage.old }
-    ensures limit { history.new.capacity ≡ HISTORY_LIMIT }
-    ensures shown { grids_of history.new.items ≡ kept (grids_of history.old.items ++ level.board ∷ []) }
-    ensures boards { (table : Option (List ℕ)) → AreOnTable table history.old.items → level.table ≡ table
-        → AreOnTable table history.new.items }
+    ensures shown { grids_of (H.boards history.new) ≡ kept (grids_of (H.boards history.old) ++ level.board ∷ []) }
+    ensures boards { (table : Option (List ℕ)) → AreOnTable table (H.boards history.old) → level.table ≡ table
+        → AreOnTable table (H.boards history.new) }
 {
-    let board = stage.board_of(level);
-    let oldest = history.push_back(HistoryBoard::of(board));
-    reuse(stage, oldest);
+    history.enter();
+    stage.keep_level(level);
 }
 
-/// The history behind a location that is left. Boards that don't enter it are there to be used again.
-fn leave<B: Board>(
+/// The history behind a location that is left. The boards of its level are there to be used again.
+fn leave<B: Board, H: History<B>>(
     stage: &mut Stage<'_, B>,
-    history: &mut HeapCircularBuffer<HistoryBoard<B>>,
+    history: &mut H,
     location: Location<PlayedLevel<B>>,
     history_change: HistoryChange,
 )
-    requires limit { history.old.capacity ≡ HISTORY_LIMIT }
+    requires ready { IsReadyTo (H.ready history.old) location history_change }
     ensures stage { stage.new ≡ stage.old }
-    ensures limit { history.new.capacity ≡ HISTORY_LIMIT }
-    ensures shown { grids_of history.new.items
-        ≡ history_behind_location history_change (grids_of history.old.items) location }
-    ensures boards { (table : Option (List ℕ)) → AreOnTable table history.old.items → IsOnTable table location
-        → AreOnTable table history.new.items }
+    ensures shown { grids_of (H.boards history.new)
+        ≡ history_behind_location history_change (grids_of (H.boards history.old)) location }
+    ensures boards { (table : Option (List ℕ)) → AreOnTable table (H.boards history.old) → IsOnTable table location
+        → AreOnTable table (H.boards history.new) }
 {
     match history_change {
         HistoryChange::Keeps => give_back(stage, location),
@@ -128,22 +114,21 @@ fn leave<B: Board>(
     }
 }
 
-/// What comes next becomes the location and the history. Boards that are in neither are there to be used again.
-pub fn commit<B: Board>(
+/// What comes next becomes the location and the history. The boards of a level that is left are there to be used again.
+pub fn commit<B: Board, H: History<B>>(
     stage: &mut Stage<'_, B>,
     location: &mut Location<PlayedLevel<B>>,
-    history: &mut HeapCircularBuffer<HistoryBoard<B>>,
+    history: &mut H,
     next: Next<PlayedLevel<B>>,
 )
-    requires limit { history.old.capacity ≡ HISTORY_LIMIT }
+    requires ready { IsReadyFor (H.ready history.old) location.old next }
     ensures stage { stage.new ≡ stage.old }
-    ensures limit { history.new.capacity ≡ HISTORY_LIMIT }
-    ensures shown { location_shown (grids_of history.new.items) location.new
-        ≡ next_shown (grids_of history.old.items) location.old next }
+    ensures shown { location_shown (grids_of (H.boards history.new)) location.new
+        ≡ next_shown (grids_of (H.boards history.old)) location.old next }
     ensures location { (table : Option (List ℕ)) → IsOnTable table location.old → ComesOnTable table next
         → IsOnTable table location.new }
-    ensures boards { (table : Option (List ℕ)) → AreOnTable table history.old.items → IsOnTable table location.old
-        → AreOnTable table history.new.items }
+    ensures boards { (table : Option (List ℕ)) → AreOnTable table (H.boards history.old) → IsOnTable table location.old
+        → AreOnTable table (H.boards history.new) }
 {
     match next {
         Next::Stands(pending) => {
@@ -151,8 +136,7 @@ pub fn commit<B: Board>(
             *location = stood(before, pending);
         }
         Next::Undoes(level) => {
-            let latest = history.pop_back();
-            reuse(stage, latest);
+            history.go_back();
             let before = mem::replace(location, Location::Playing(level));
             give_back(stage, before);
         }

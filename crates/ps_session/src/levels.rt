@@ -14,11 +14,9 @@ ghost use Rattle.ps_session.specs.IgnoredKeys.{is_ignored_in_level};
 ghost use Rattle.ps_session.specs.Nexts.{next_step};
 ghost use Rattle.ps_session.specs.Tables.{AnswersOnTable, ComesOnTable};
 
-use crate::history_boards::HistoryBoard;
 use crate::ignored::is_ignored_in_level;
 use crate::nexts::{Next, next_of};
-use circular_buffer::HeapCircularBuffer;
-use ps_board::Board;
+use ps_board::{Board, History};
 use ps_model::{Ending, Input, Key, Memory};
 use ps_stage::{HistoryChange, Location, PlayedLevel, Stage};
 use ps_turn::{Rules, TurnRules};
@@ -71,26 +69,26 @@ fn moves<B: Board, R: Rules<B>>(
 /// # Errors
 ///
 /// `Memory`.
-fn undoes<B: Board>(
+fn undoes<B: Board, H: History<B>>(
     stage: &mut Stage<'_, B>,
     level: &PlayedLevel<B>,
-    history: &HeapCircularBuffer<HistoryBoard<B>>,
+    history: &H,
 ) -> Result<Next<PlayedLevel<B>>, Memory>
     requires empty { stage.old.text ≡ [] }
     requires table { level.now.table ≡ B.table_for stage.old.game.names.layers }
-    requires boards { AreOnTable (B.table_for stage.old.game.names.layers) history.now.items }
+    requires boards { AreOnTable (B.table_for stage.old.game.names.layers) (H.boards history.now) }
     ensures game { stage.new.game ≡ stage.old.game }
     ensures came { IfOk result (λ next. (plain late : List Section)
-        → undone (script_of stage.old.game plain late) (play_of (grids_of history.now.items) level.now)
-        ≡ next_step (grids_of history.now.items) (Playing level.now) (Some next) stage.new.text) }
+        → undone (script_of stage.old.game plain late) (play_of (grids_of (H.boards history.now)) level.now)
+        ≡ next_step (grids_of (H.boards history.now)) (Playing level.now) (Some next) stage.new.text) }
     ensures table { IfOk result (λ next. ComesOnTable (B.table_for stage.old.game.names.layers) next) }
 {
-    let Some(latest) = history.back() else {
+    let Some(latest) = history.latest() else {
         stage.show(level.board())?;
         return Ok(Next::Stands(None));
     };
-    stage.show(latest.board())?;
-    let back = stage.level_at(level, latest.board())?;
+    stage.show(latest)?;
+    let back = stage.level_at(level, latest)?;
     Ok(Next::Undoes(back))
 }
 
@@ -124,24 +122,24 @@ fn restarts<B: Board, R: Rules<B>>(
 /// # Errors
 ///
 /// `Memory`, and the level is as before.
-pub fn key_in_level<B: Board, R: Rules<B>>(
+pub fn key_in_level<B: Board, H: History<B>, R: Rules<B>>(
     stage: &mut Stage<'_, B>,
     rules: &mut TurnRules<B, R>,
     level: &mut PlayedLevel<B>,
-    history: &HeapCircularBuffer<HistoryBoard<B>>,
+    history: &H,
     key: Key,
 ) -> Result<Option<Next<PlayedLevel<B>>>, Memory>
     requires empty { stage.old.text ≡ [] }
     requires table { level.old.table ≡ B.table_for stage.old.game.names.layers }
-    requires boards { AreOnTable (B.table_for stage.old.game.names.layers) history.now.items }
+    requires boards { AreOnTable (B.table_for stage.old.game.names.layers) (H.boards history.now) }
     ensures game { stage.new.game ≡ stage.old.game }
     ensures plain { R.meant rules.new.plain ≡ R.meant rules.old.plain }
     ensures late { R.meant rules.new.late ≡ R.meant rules.old.late }
     ensures same { level.new ≡ level.old }
     ensures came { IfOk result (λ next.
         key_in_level (script_for B.table_for stage.old.game (R.meant rules.old.plain) (R.meant rules.old.late))
-        (play_of (grids_of history.now.items) level.old) key
-        ≡ next_step (grids_of history.now.items) (Playing level.old) next stage.new.text) }
+        (play_of (grids_of (H.boards history.now)) level.old) key
+        ≡ next_step (grids_of (H.boards history.now)) (Playing level.old) next stage.new.text) }
     ensures table { IfOk result (λ next. AnswersOnTable (B.table_for stage.old.game.names.layers) next) }
     ensures ignored { is_ignored_in_level stage.old.game.options key ≡ true → result ≡ Ok None }
 {

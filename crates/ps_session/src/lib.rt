@@ -1,22 +1,23 @@
 //! A session: where a player is in a game, and what each key does.
 //!
-//! A key makes its text on the side and what comes next whole, adds the text to the output, and only then changes the
-//! session, by steps that can't fail. So after want of memory session and output are as before the key.
+//! A key makes its text on the side and what comes next whole, makes the board that is left ready to enter the undo
+//! history, adds the text to the output, and only then changes the session, by steps that can't fail. So after want of
+//! memory session and output are as before the key.
 #![tactic(auto)]
 
 mod commit;
-mod history_boards;
 mod ignored;
 mod levels;
 mod locations;
 mod messages;
 mod nexts;
 mod phase;
+mod ready;
 mod session;
 
 pub use ignored::ignored_keys_do_nothing;
 pub use phase::Phase;
-pub use ps_board::Board;
+pub use ps_board::{Board, History};
 pub use ps_model::{Ending, Key, Memory};
 pub use ps_screen::OutputText;
 pub use ps_stage::SessionGame;

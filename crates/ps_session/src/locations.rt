@@ -9,12 +9,10 @@ ghost use Rattle.ps_session.specs.IgnoredKeys.{is_ignored};
 ghost use Rattle.ps_session.specs.Nexts.{next_step};
 ghost use Rattle.ps_session.specs.Tables.{AnswersOnTable};
 
-use crate::history_boards::HistoryBoard;
 use crate::levels::key_in_level;
 use crate::messages::{key_at_entry, key_at_level_message};
 use crate::nexts::Next;
-use circular_buffer::HeapCircularBuffer;
-use ps_board::Board;
+use ps_board::{Board, History};
 use ps_model::{Key, Memory};
 use ps_stage::{Location, PlayedLevel, Stage};
 use ps_turn::{Rules, TurnRules};
@@ -24,27 +22,27 @@ use ps_turn::{Rules, TurnRules};
 /// # Errors
 ///
 /// `Memory`, and the location is as before.
-pub fn next_at<B: Board, R: Rules<B>>(
+pub fn next_at<B: Board, H: History<B>, R: Rules<B>>(
     stage: &mut Stage<'_, B>,
     rules: &mut TurnRules<B, R>,
     location: &mut Location<PlayedLevel<B>>,
-    history: &HeapCircularBuffer<HistoryBoard<B>>,
+    history: &H,
     key: Key,
 ) -> Result<Option<Next<PlayedLevel<B>>>, Memory>
     requires empty { stage.old.text ≡ [] }
     requires table { IsOnTable (B.table_for stage.old.game.names.layers) location.old }
-    requires boards { AreOnTable (B.table_for stage.old.game.names.layers) history.now.items }
+    requires boards { AreOnTable (B.table_for stage.old.game.names.layers) (H.boards history.now) }
     ensures game { stage.new.game ≡ stage.old.game }
     ensures plain { R.meant rules.new.plain ≡ R.meant rules.old.plain }
     ensures late { R.meant rules.new.late ≡ R.meant rules.old.late }
     ensures same { location.new ≡ location.old }
     ensures came { IfOk result (λ next.
         key_step (script_for B.table_for stage.old.game (R.meant rules.old.plain) (R.meant rules.old.late))
-        (location_shown (grids_of history.now.items) location.old) key
-        ≡ next_step (grids_of history.now.items) location.old next stage.new.text) }
+        (location_shown (grids_of (H.boards history.now)) location.old) key
+        ≡ next_step (grids_of (H.boards history.now)) location.old next stage.new.text) }
     ensures table { IfOk result (λ next. AnswersOnTable (B.table_for stage.old.game.names.layers) next) }
-    ensures ignored { is_ignored stage.old.game.options (location_shown (grids_of history.now.items) location.old) key
-        ≡ true → result ≡ Ok None }
+    ensures ignored { let here = location_shown (grids_of (H.boards history.now)) location.old in
+        is_ignored stage.old.game.options here key ≡ true → result ≡ Ok None }
 {
     match location {
         Location::Playing(level) => key_in_level(stage, rules, level, history, key),

@@ -9,12 +9,11 @@ ghost use Rattle.ps_session.specs.IgnoredKeys.{is_ignored};
 ghost use Rattle.ps_session.specs.Phases.{phase_of};
 
 use crate::commit::{commit, give_up};
-use crate::history_boards::HistoryBoard;
 use crate::locations::next_at;
 use crate::phase::Phase;
-use circular_buffer::HeapCircularBuffer;
-use ps_board::Board;
-use ps_model::{Ending, HISTORY_LIMIT, Key, Memory};
+use crate::ready::prepare;
+use ps_board::{Board, History};
+use ps_model::{Ending, Key, Memory};
 use ps_screen::OutputText;
 use ps_stage::{Location, PlayedLevel, SessionGame, Stage};
 use ps_turn::{Rules, TurnRules};
@@ -23,15 +22,14 @@ use std::marker::Model;
 
 /// Where a player is in a game: in a level with the boards that undo goes back to, at a message, or at the end.
 #[derive(Drop)]
-pub struct Session<'g, B: Board> {
+pub struct Session<'g, B: Board, H: History<B>> {
     stage: Stage<'g, B>,
     location: Location<PlayedLevel<B>>,
-    history: HeapCircularBuffer<HistoryBoard<B>>,
+    history: H,
 }
 
-impl<'g, B: Board> Model for Session<'g, B> {
+impl<'g, B: Board, H: History<B>> Model for Session<'g, B, H> {
     ghost use Rattle.std.specs.Prelude.{◌≡◌};
-    ghost use Rattle.ps_model.specs.declared.limits.TheConstants.{HISTORY_LIMIT};
     ghost use Rattle.ps_stage.specs.Locations.{location_shown, IsOnTable};
     ghost use Rattle.ps_stage.specs.Standings.{SessionValue};
     ghost use Rattle.ps_session.specs.Histories.{AreOnTable, grids_of};
@@ -40,17 +38,16 @@ impl<'g, B: Board> Model for Session<'g, B> {
 
     ghost view = { λ s. record {
       game = s.stage.game;
-      session = location_shown (grids_of s.history.items) s.location;
+      session = location_shown (grids_of (H.boards s.history)) s.location;
     } };
 
-    ghost invariant = { λ s. (s.history.capacity ≡ HISTORY_LIMIT)
-        × (IsOnTable (B.table_for s.stage.game.names.layers) s.location
-        × AreOnTable (B.table_for s.stage.game.names.layers) s.history.items) };
+    ghost invariant = { λ s. IsOnTable (B.table_for s.stage.game.names.layers) s.location
+        × AreOnTable (B.table_for s.stage.game.names.layers) (H.boards s.history) };
 }
 
-impl<'g, B: Board> Session<'g, B> {
+impl<'g, B: Board, H: History<B>> Session<'g, B, H> {
     /// Starts a game on boards that have room for its levels: adds its title to the output, and what its first entry
-    /// writes. The room for the boards of undo is taken here, and never again.
+    /// writes.
     ///
     /// # Errors
     ///
@@ -60,7 +57,7 @@ impl<'g, B: Board> Session<'g, B> {
         game: SessionGame<'g>,
         rules: &mut TurnRules<B, R>,
         output: &mut OutputText,
-    ) -> Result<Session<'g, B>, Memory>
+    ) -> Result<Session<'g, B, H>, Memory>
         requires { EntriesFit B.Words.limit game.entries }
         ensures game { IfOk result (λ session. session.game ≡ game.entry) }
         ensures session { IfOk result (λ session. session.session
@@ -73,7 +70,7 @@ impl<'g, B: Board> Session<'g, B> {
         ensures plain { R.meant rules.new.plain ≡ R.meant rules.old.plain }
         ensures late { R.meant rules.new.late ≡ R.meant rules.old.late }
     {
-        let history = HeapCircularBuffer::with_capacity(alloc, HISTORY_LIMIT)?;
+        let history = H::try_new(alloc)?;
         let mut stage = Stage::new(alloc, game);
         stage.tell_title()?;
         let location = stage.enter(rules, 0)?;
@@ -122,7 +119,14 @@ impl<'g, B: Board> Session<'g, B> {
         let Some(next) = next else {
             return Ok(self.phase());
         };
-        if let Err(Memory) = self.stage.move_text(output) {
+        let done = prepare(
+            &mut self.stage,
+            &self.location,
+            &mut self.history,
+            &next,
+            output,
+        );
+        if let Err(Memory) = done {
             give_up(&mut self.stage, next);
             return Err(Memory);
         }

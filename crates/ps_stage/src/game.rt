@@ -1,12 +1,13 @@
 //! A game as a session plays it.
 
-ghost use Rattle.std.specs.Prelude.{◌≡◌};
+ghost use Rattle.std.specs.Prelude.{◌≡◌, true};
 ghost use Rattle.ps_levels.specs.EntriesShown.{entries_shown};
 ghost use Rattle.ps_levels.specs.WinsShown.{wins_shown};
 ghost use Rattle.ps_model.specs.declared.limits.TheConstants.{SIDE_LIMIT};
 ghost use Rattle.ps_stage.specs.Playable.{ArePlayable, EntriesFit};
 ghost use Rattle.ps_stage.specs.Standings.{turn_parts};
 
+use crate::fits::entries_fit;
 use ps_levels::{Entry, Win};
 use ps_model::Options;
 use ps_names::Names;
@@ -89,6 +90,13 @@ impl<'g> SessionGame<'g> {
         ensures playable { ArePlayable self.now.names self.now.entries }
     {
         self.names
+    }
+
+    /// Whether the sides of each of its levels are no longer than that.
+    pub fn fits(&self, side: u32) -> bool
+        ensures { result ≡ true → EntriesFit side self.now.entries }
+    {
+        entries_fit(self.entries, side)
     }
 
     /// What its turns look at.

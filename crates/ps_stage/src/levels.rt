@@ -355,13 +355,10 @@ impl<B: Board> PlayedLevel<B> {
         &self.board
     }
 
-    /// Its board, for the history. The one for turns is spare.
-    pub(crate) fn into_board(self, spares: &mut SpareBoards<B>) -> B
-        ensures grid { B.grid result ≡ self.board }
-        ensures table { B.table result ≡ self.table }
-    {
+    /// Its board, and the one for turns, are there to be used again.
+    pub(crate) fn give_back(self, spares: &mut SpareBoards<B>) {
         spares.keep_any(self.spare);
-        self.board
+        spares.keep(self.board);
     }
 
     /// Takes a turn. Where it is done and counts, the level has its board, and goes back to it at a restart where the

@@ -9,6 +9,7 @@
 mod changes;
 mod entering;
 mod entries;
+mod fits;
 mod game;
 mod keys;
 mod levels;

@@ -130,28 +130,11 @@ impl<'g, B: Board> Stage<'g, B> {
         self.picture.show(board, &mut self.text)
     }
 
-    /// Keeps a board that nobody shows any more, to be used again. No memory is taken.
-    pub fn keep_board(&mut self, board: B)
-        ensures { self.new ≡ self.old }
-    {
-        self.spares.keep(board);
-    }
-
     /// Keeps the boards of a level that nobody plays any more, to be used again. No memory is taken.
     pub fn keep_level(&mut self, level: PlayedLevel<B>)
         ensures { self.new ≡ self.old }
     {
-        let board = level.into_board(&mut self.spares);
-        self.spares.keep(board);
-    }
-
-    /// The board of a level that is left, for the history. No memory is taken.
-    pub fn board_of(&mut self, level: PlayedLevel<B>) -> B
-        ensures stage { self.new ≡ self.old }
-        ensures grid { B.grid result ≡ level.board }
-        ensures table { B.table result ≡ level.table }
-    {
-        level.into_board(&mut self.spares)
+        level.give_back(&mut self.spares);
     }
 
     /// A level with a board that the history had.

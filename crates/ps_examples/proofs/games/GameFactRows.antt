@@ -54,14 +54,14 @@ foreign_object h =
     let cell : AreObjectsOf two_objects (object 2 ∷ []) = All-head (AreObjectsOf two_objects) (object 2 ∷ []) [] h.objects in
     omega (arith, All-head (λ (each : ObjectId). each.0 < 2) (object 2) [] cell)
 
--- a level of one cell is within the limits; one without a row, or with 65 columns, isn't
+-- a level of one cell is within the limits; one without a row, or with 257 columns, isn't
 small : IsWithinLimits (one_cell 1 [])
 small = record { columns = omega arith; some_row = omega arith; rows = omega arith }
 
 rowless : IsWithinLimits (record { width = 1; height = 0; cells = [] }) → ⊥
 rowless h = omega (arith, h.some_row)
 
-wide : IsWithinLimits (one_cell 65 []) → ⊥
+wide : IsWithinLimits (one_cell 257 []) → ⊥
 wide h = omega (arith, h.columns)
 
 -- a row is read with the background below

@@ -483,11 +483,11 @@ any_ground : written (changed 28 1 (codes "A B C\n") (changed 25 1 (codes "Backg
 unfolding chars digits is_utf8 utf8_valid_len encode group program_run all_start_turns all_key_turns turn opening_step
 any_ground = refl
 
-unknown_before_wide : refused (base_game [] [] (replicate 64 46 ++ codes "?\n")) ≡ Some (record { kind = kind.UnknownGlyph; line = 32 })
+unknown_before_wide : refused (base_game [] [] (replicate 256 46 ++ codes "?\n")) ≡ Some (record { kind = kind.UnknownGlyph; line = 32 })
 unfolding chars is_utf8 utf8_valid_len encode
 unknown_before_wide = refl
 
-too_wide : refused (base_game [] [] (replicate 65 46 ++ codes "\n")) ≡ Some (record { kind = kind.TooLarge; line = 32 })
+too_wide : refused (base_game [] [] (replicate 257 46 ++ codes "\n")) ≡ Some (record { kind = kind.TooLarge; line = 32 })
 unfolding chars is_utf8 utf8_valid_len encode
 too_wide = refl
 
@@ -638,11 +638,11 @@ bad_player : refused (changed 27 1 (codes "Hero, Wall, Crate\n") (changed 22 1 (
 unfolding chars is_utf8 utf8_valid_len encode
 bad_player = refl
 
-too_many_names : refused (changed 21 0 (objects 56) the_game) ≡ Some (record { kind = kind.TooManyNames; line = 131 })
+too_many_names : refused (changed 21 0 (objects 504) the_game) ≡ Some (record { kind = kind.TooManyNames; line = 1027 })
 unfolding chars digits is_utf8 utf8_valid_len encode
 too_many_names = refl
 
-too_many_layers : refused (changed 29 0 (many 29 (codes "A\n")) the_game) ≡ Some (record { kind = kind.TooManyNames; line = 57 })
+too_many_layers : refused (changed 29 0 (many 125 (codes "A\n")) the_game) ≡ Some (record { kind = kind.TooManyNames; line = 153 })
 unfolding chars is_utf8 utf8_valid_len encode
 too_many_layers = refl
 
@@ -767,7 +767,7 @@ property_glyph : refused (changed 34 1 (codes "#P*Q#\n") (changed 23 1 (codes "Q
 unfolding chars is_utf8 utf8_valid_len encode
 property_glyph = refl
 
-too_large : refused (changed 34 1 (codes "P................................................................\n") the_game)
+too_large : refused (changed 34 1 (codes "P" ++ (replicate 256 46 ++ codes "\n")) the_game)
     ≡ Some (record { kind = kind.TooLarge; line = 34 })
 unfolding chars is_utf8 utf8_valid_len encode
 too_large = refl

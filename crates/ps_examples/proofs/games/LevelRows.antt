@@ -199,17 +199,17 @@ unknown_first : first (codes "q?") ≡ at_line 2 UnknownGlyph
 unfolding chars encode
 unknown_first = refl
 
--- a first row of 64 characters is within the limit, one of 65 isn't; its characters come first; longer rows below
+-- a first row of 256 characters is within the limit, one of 257 isn't; its characters come first; longer rows below
 -- aren't too large
-widest : first (replicate 64 46 ++ codes "\nP" ++ replicate 70 46) ≡ None
+widest : first (replicate 256 46 ++ codes "\nP" ++ replicate 260 46) ≡ None
 unfolding chars encode
 widest = refl
 
-too_wide : first (codes ".\n\n" ++ replicate 65 46) ≡ at_line 4 TooLarge
+too_wide : first (codes ".\n\n" ++ replicate 257 46) ≡ at_line 4 TooLarge
 unfolding chars encode
 too_wide = refl
 
-unknown_before_wide : first (replicate 65 46 ++ codes "?") ≡ at_line 2 UnknownGlyph
+unknown_before_wide : first (replicate 257 46 ++ codes "?") ≡ at_line 2 UnknownGlyph
 unfolding chars encode
 unknown_before_wide = refl
 
@@ -221,21 +221,21 @@ property_before_wide = refl
 abbrev points : ℕ → List ℕ
 points count = flat_map (λ row. codes ".\n") (range_with_len 0 count)
 
--- 64 rows are within the limit; the 65th isn't
-highest : first (points 64 ++ codes "\n" ++ points 64) ≡ None
+-- 256 rows are within the limit; the 257th isn't
+highest : first (points 256 ++ codes "\n" ++ points 256) ≡ None
 unfolding chars encode
 highest = refl
 
-too_high : first (points 66) ≡ at_line 66 TooLarge
+too_high : first (points 258) ≡ at_line 258 TooLarge
 unfolding chars encode
 too_high = refl
 
-unknown_before_high : first (points 64 ++ codes "?\n.") ≡ at_line 66 UnknownGlyph
+unknown_before_high : first (points 256 ++ codes "?\n.") ≡ at_line 258 UnknownGlyph
 unfolding chars encode
 unknown_before_high = refl
 
 -- faults are told line by line
-earlier_line : first (points 65 ++ codes "?") ≡ at_line 66 TooLarge
+earlier_line : first (points 257 ++ codes "?") ≡ at_line 258 TooLarge
 unfolding chars encode
 earlier_line = refl
 

@@ -94,7 +94,7 @@ unfolding chars digits is_utf8 utf8_valid_len encode group program_run all_start
 odd_fault_066 = refl
 
 odd_fault_069 : refused (codes "title T\nOBJECTS\nBackground .\ngreen\nWall #\nbrown\nPlayer P\nwhite\nCrate *\norange\nTarget O\nblue\nA\nred\nB\npink\nC\ngray\nD\nblack\nE0\nx\nE1\nx\nE2\nx\nE3\nx\nE4\nx\nE5\nx\nE6\nx\nE7\nx\nE8\nx\nE9\nx\nE10\nx\nE11\nx\nE12\nx\nE13\nx\nE14\nx\nE15\nx\nE16\nx\nE17\nx\nE18\nx\nE19\nx\nE20\nx\nE21\nx\nE22\nx\nE23\nx\nE24\nx\nE25\nx\nE26\nx\nE27\nx\nE28\nx\nE29\nx\nE30\nx\nE31\nx\nE32\nx\nE33\nx\nE34\nx\nE35\nx\nE36\nx\nE37\nx\nE38\nx\nE39\nx\nE40\nx\nE41\nx\nE42\nx\nE43\nx\nE44\nx\nE45\nx\nE46\nx\nE47\nx\nE48\nx\nE49\nx\nE50\nx\nE51\nx\nE52\nx\nE53\nx\nE54\nx\nE55\nx\nLEGEND\n@ = Crate and Target\nX = A and Target and Crate\nAT = A or Target\nCOLLISIONLAYERS\nBackground\nTarget\nPlayer, Wall, Crate\nA B C D E0 E1 E2 E3 E4 E5 E6 E7 E8 E9 E10 E11 E12 E13 E14 E15 E16 E17 E18 E19 E20 E21 E22 E23 E24 E25 E26 E27 E28 E29 E30 E31 E32 E33 E34 E35 E36 E37 E38 E39 E40 E41 E42 E43 E44 E45 E46 E47 E48 E49 E50 E51 E52 E53 E54 E55\nRULES\nWINCONDITIONS\nLEVELS\n===P\n#P*O.\n")
-    ≡ Some (record { kind = kind.TooManyNames; line = 131 })
+    ≡ Some (record { kind = kind.UnknownGlyph; line = 145 })
 unfolding chars digits is_utf8 utf8_valid_len encode group program_run all_start_turns all_key_turns turn opening_step
 odd_fault_069 = refl
 

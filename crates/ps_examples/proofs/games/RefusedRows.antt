@@ -111,12 +111,12 @@ no_layer = refl
 abbrev with_objects : ℕ → List ℕ
 with_objects count = changed 21 0 (objects count) (changed 28 1 (codes "A B C D" ++ (names_of_objects count ++ codes "\n")) (base_game ([]) ([]) (codes "P\n")))
 
--- 64 objects are few enough, 65 aren't
-as_many_objects : refused (with_objects 55) ≡ None
+-- 512 objects are few enough, 513 aren't
+as_many_objects : refused (with_objects 503) ≡ None
 unfolding chars digits is_utf8 utf8_valid_len encode group program_run all_start_turns all_key_turns turn opening_step
 as_many_objects = refl
 
-one_object_more : refused (with_objects 56) ≡ Some (record { kind = kind.TooManyNames; line = 131 })
+one_object_more : refused (with_objects 504) ≡ Some (record { kind = kind.TooManyNames; line = 1027 })
 unfolding chars digits is_utf8 utf8_valid_len encode group program_run all_start_turns all_key_turns turn opening_step
 one_object_more = refl
 

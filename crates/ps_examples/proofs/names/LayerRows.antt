@@ -104,11 +104,11 @@ by_line = refl
 abbrev many_layers : ℕ → List ℕ → List ℕ
 many_layers count last = flat_map (λ number. codes "Background Player A B C\n") (range_with_len 0 count) ++ last
 
-as_many_as_may_be : fault (many_layers 31 (codes "A\n\n")) ≡ None
+as_many_as_may_be : fault (many_layers 127 (codes "A\n\n")) ≡ None
 unfolding chars
 as_many_as_may_be = refl
 
-one_over : map (λ last. fault (many_layers 32 last)) (codes "A" ∷ codes "," ∷ codes "Zed" ∷ []) ≡ at TooManyNames 45 ∷ at TooManyNames 45 ∷ at UnknownName 45 ∷ []
+one_over : map (λ last. fault (many_layers 128 last)) (codes "A" ∷ codes "," ∷ codes "Zed" ∷ []) ≡ at TooManyNames 141 ∷ at TooManyNames 141 ∷ at UnknownName 141 ∷ []
 unfolding chars
 one_over = refl
 

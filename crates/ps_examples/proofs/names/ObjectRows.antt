@@ -1,5 +1,5 @@
 -- Texts with objects, good and bad, worked by hand.
-use Rattle.std.proofs.Common.{◌≡◌, ℕ, List, [], ◌∷◌, ◌++◌, map, refl, Option, Some, None}
+use Rattle.std.proofs.Common.{◌≡◌, ℕ, ◌+◌, ◌/◌, ◌%◌, List, [], ◌∷◌, ◌++◌, map, refl, Option, Some, None}
 use Rattle.std.specs.Prelude.{codes, flat_map}
 use Rattle.std.specs.List.{range_with_len}
 use Rattle.std.specs.Str.{chars}
@@ -118,20 +118,23 @@ line_by_line = refl
 
 -- NA14 ------------------------------------------------------------------------------------------------------------------
 
--- objects with the names 01, 02 and so on, and these names on a layer
+-- objects with the names 001, 002 and so on, and these names on a layer
+abbrev three_digits : ℕ → List ℕ
+three_digits number = (48 + number / 100) ∷ two_digits (number % 100)
+
 abbrev named_by_numbers : ℕ → List ℕ
-named_by_numbers count = flat_map (λ number. two_digits number ++ codes "\nx\n") (range_with_len 1 count)
+named_by_numbers count = flat_map (λ number. three_digits number ++ codes "\nx\n") (range_with_len 1 count)
 
 abbrev numbers_on_layer : ℕ → List ℕ
-numbers_on_layer count = flat_map (λ number. two_digits number ++ codes " ") (range_with_len 1 count)
+numbers_on_layer count = flat_map (λ number. three_digits number ++ codes " ") (range_with_len 1 count)
 
 abbrev many_objects : ℕ → List ℕ
 many_objects count = with_objects (named_by_numbers count) (numbers_on_layer count)
 
-as_many_as_may_be : first_name_fault (many_objects 62) ≡ None
+as_many_as_may_be : first_name_fault (many_objects 510) ≡ None
 unfolding chars
 as_many_as_may_be = refl
 
-one_over : first_name_fault (many_objects 63) ≡ at TooManyNames 130
+one_over : first_name_fault (many_objects 511) ≡ at TooManyNames 1026
 unfolding chars
 one_over = refl

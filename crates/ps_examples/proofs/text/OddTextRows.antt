@@ -233,16 +233,23 @@ more_objects count = flat_map (λ number. name_of number ++ codes "\nx\n") (rang
 abbrev more_names : ℕ → List ℕ
 more_names count = flat_map (λ number. name_of number ++ codes " ") (range_with_len 0 count) ++ codes "\n"
 
--- 64 objects are within the limit
-sixty_four : refused (text_with (more_objects 62) [] (more_names 62)) ≡ None
+-- 512 objects are within the limit
+objects_at_limit : refused (text_with (more_objects 510) [] (more_names 510)) ≡ None
 unfolding chars is_utf8 encode utf8_valid_len digits
-sixty_four = refl
+objects_at_limit = refl
 
--- the 65th isn't, and is told behind its other faults
-sixty_five : map refused (text_with (more_objects 64) [] [] ∷ text_with (more_objects 62 ++ codes "e7\nx\n") [] [] ∷ text_with (more_objects 62 ++ codes "F\n") [] [] ∷ [])
-    ≡ at_line 130 kind.TooManyNames ∷ at_line 130 kind.Twice ∷ at_line 130 kind.BadObject ∷ []
+-- the 513th isn't, and is told behind its other faults
+objects_over : refused (text_with (more_objects 512) [] []) ≡ at_line 1026 kind.TooManyNames
 unfolding chars is_utf8 encode utf8_valid_len digits
-sixty_five = refl
+objects_over = refl
+
+twice_over : refused (text_with (more_objects 510 ++ codes "e7\nx\n") [] []) ≡ at_line 1026 kind.Twice
+unfolding chars is_utf8 encode utf8_valid_len digits
+twice_over = refl
+
+bad_object_over : refused (text_with (more_objects 510 ++ codes "F\n") [] []) ≡ at_line 1026 kind.BadObject
+unfolding chars is_utf8 encode utf8_valid_len digits
+bad_object_over = refl
 
 -- LEGEND: the form of lines ----------------------------------------------------------------------------------------------
 
@@ -351,9 +358,9 @@ aggregates_on_layers = refl
 abbrev layers : ℕ → List ℕ
 layers count = flat_map (λ line. line) (replicate count (codes "Background\n"))
 
--- 32 layers are within the limit, blank lines aside; the next isn't, also where it has no name
-many_layers : map refused (text_with [] [] (layers 15 ++ codes "\n(x)\n" ++ layers 15) ∷ text_with [] [] (layers 31) ∷ text_with [] [] (layers 32 ++ codes ",\n") ∷ text_with [] [] (layers 32 ++ codes "Nope\n") ∷ [])
-    ≡ None ∷ at_line 40 kind.TooManyNames ∷ at_line 40 kind.TooManyNames ∷ at_line 40 kind.UnknownName ∷ []
+-- 128 layers are within the limit, blank lines aside; the next isn't, also where it has no name
+many_layers : map refused (text_with [] [] (layers 63 ++ codes "\n(x)\n" ++ layers 63) ∷ text_with [] [] (layers 127) ∷ text_with [] [] (layers 128 ++ codes ",\n") ∷ text_with [] [] (layers 128 ++ codes "Nope\n") ∷ [])
+    ≡ None ∷ at_line 136 kind.TooManyNames ∷ at_line 136 kind.TooManyNames ∷ at_line 136 kind.UnknownName ∷ []
 unfolding chars is_utf8 encode utf8_valid_len
 many_layers = refl
 
@@ -419,9 +426,9 @@ wide_glyph : written (text_with_rows (codes "Rock " ++ (e_acute ++ codes "\nx\n"
 unfolding chars digits is_utf8 utf8_valid_len encode group program_run all_start_turns all_key_turns turn opening_step
 wide_glyph = refl
 
--- 64 characters of two bytes are a row within the limit, 65 aren't
+-- 256 characters of two bytes are a row within the limit, 257 aren't
 wide_rows : map refused
-    (map (λ count. text_with_rows (codes "Rock " ++ (e_acute ++ codes "\nx\n")) [] (codes "Rock\n") (flat_map (λ row. row) (replicate count e_acute))) (64 ∷ 65 ∷ []))
+    (map (λ count. text_with_rows (codes "Rock " ++ (e_acute ++ codes "\nx\n")) [] (codes "Rock\n") (flat_map (λ row. row) (replicate count e_acute))) (256 ∷ 257 ∷ []))
     ≡ None ∷ at_line 14 kind.TooLarge ∷ []
 unfolding chars is_utf8 encode utf8_valid_len
 wide_rows = refl

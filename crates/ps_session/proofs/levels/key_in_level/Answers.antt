@@ -14,7 +14,7 @@ pub returns-in_ok-next-in-Undo-clause-came : goal.returns-in_ok-next-in-Undo-cla
 returns-in_ok-next-in-Undo-clause-came g c =
     let game : SessionParts = c.args.stage.now.game in
     let script : Script = script_for g.B.Board.table_for game (g.R.Rules.meant c.args.rules.now.plain) (g.R.Rules.meant c.args.rules.now.late) in
-    let play : Play = play_of (grids_of c.args.history.now.items) c.args.level.now in
+    let play : Play = play_of (grids_of (g.H.History.boards c.args.history.now)) c.args.level.now in
     let heeded : game.options.no_undo ≡ false =
     ap (λ (key : Key). is_ignored_in_level game.options key) (sym c.in-Undo.is)
     ∙ ap (λ (options : Options). is_ignored_in_level options c.args.key) (sym (c.options.ensures ∙ ap (λ (parts : SessionParts). parts.options) c.game.ensures))

@@ -62,6 +62,9 @@ loop-call-preserved g c =
     let counted = one_call _ _ _ c.in-Ok.ensures.counted c.in-Ok.ensures.worn in
     let plays = rw (c.loop-call.invariant.game, c.loop-call.invariant.plain, c.loop-call.invariant.late, c.split_at.ensures.front) at c.in_default-play_piece.ensures.played in
     let long : length (take c.in-Ok.count c.read_some.new.buffer) ≡ c.in-Ok.count = rw (← c.split_at.ensures.front) c.split_at.ensures.front_len in
+    let size : length c.loop-call.buffer ≡ CALL_LIMIT = search rules in
+    let some : 1 ≤ c.in-Ok.count = omega (arith, c.if-count-eq0.false) in
+    let short : c.in-Ok.count ≤ CALL_LIMIT = omega (arith, c.in-Ok.ensures.count, size) in
     record {
       game = c.in_default-play_piece.ensures.game ∙ c.loop-call.invariant.game;
       plain = c.in_default-play_piece.ensures.plain ∙ c.loop-call.invariant.plain;
@@ -70,8 +73,8 @@ loop-call-preserved g c =
       well = c.in_default-play_piece.ensures.well (λ e. cc);
       stands = λ before started.
           runs.one_more _ _ _ _ before _ _ _ _ _ _ _ (take c.in-Ok.count c.read_some.new.buffer) c.loop-call-test.true
-          (c.loop-call.invariant.stands before started) (sym c.in_default.ensures) (rw long (search rules)) (rw long (search rules)) c.in-Ok.ensures.given
-          (c.in-Ok.ensures.last_count ∙ sym long) counted (c.in-Ok.ensures.some (search rules)) (c.in-Ok.ensures.even_sized (search rules)) (λ bytes played. plays before bytes played);
+          (c.loop-call.invariant.stands before started) (sym c.in_default.ensures) (rw long some) (rw long short) c.in-Ok.ensures.given
+          (c.in-Ok.ensures.last_count ∙ sym long) counted (c.in-Ok.ensures.some some) (c.in-Ok.ensures.even_sized size) (λ bytes played. plays before bytes played);
     }
 
 pub returns-in-Some-ending-clause-answers : goal.returns-in-Some-ending-clause-answers

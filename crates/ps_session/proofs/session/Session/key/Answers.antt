@@ -2,6 +2,7 @@ use Rattle.std.proofs.Common.{◌≡◌, ◌∙◌, ℕ, List, Some, subst, ap}
 use Rattle.std.specs.Prelude.{Option}
 use Rattle.ps_stage.specs.Locations.{IsOnTable}
 use Rattle.ps_stage.specs.Standings.{StageValue}
+use Rattle.ps_session.specs.Histories.{AreOnTable}
 use Rattle.ps_session.specs.Tables.{AnswersOnTable}
 use Rattle.ps_session.proofs.session.Session.key.Goals as goal
 
@@ -9,13 +10,11 @@ pub invariant_of-self-2 : goal.invariant_of-self-2
 invariant_of-self-2 g c =
     let table : Option (List ℕ) = g.B.Board.table_for c.self.inside.stage.game.names.layers in
     let game : c.commit.new.stage.game ≡ c.self.inside.stage.game =
-    ap (λ (stage : StageValue). stage.game) c.commit.ensures.stage ∙ c.move_text.ensures.game
+    ap (λ (stage : StageValue). stage.game) c.commit.ensures.stage ∙ c.prepare-done.ensures.game
     ∙ c.in_ok-next.ensures.game ∙ c.forget_text.ensures.game in
-    let here : IsOnTable table c.next_at.new.location = rw c.in_ok-next.ensures.same c.self.invariant.1.0 in
+    let here : IsOnTable table c.next_at.new.location = rw c.in_ok-next.ensures.same c.self.invariant.0 in
     let answers : AnswersOnTable table c.in_ok-next.next =
     rw (← c.forget_text.ensures.game) c.in_ok-next.ensures.table in
     let comes : AnswersOnTable table (Some c.in-Some.next) = subst (AnswersOnTable table) c.in-Some.is answers in
-    rw game (
-      c.commit.ensures.limit,
-      (c.commit.ensures.location table here comes, c.commit.ensures.boards table c.self.invariant.1.1 here),
-    )
+    let before : AreOnTable table (g.H.History.boards c.prepare-done.new.history) = rw c.prepare-done.ensures.boards c.self.invariant.1 in
+    rw game (c.commit.ensures.location table here comes, c.commit.ensures.boards table before here)

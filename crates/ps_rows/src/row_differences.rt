@@ -1,0 +1,106 @@
+//! How the rows of planes differ from others', and how they become those.
+
+ghost use Rattle.std.specs.Prelude.{◌≡◌, ◌+◌, ◌*◌, ◌<◌, ◌≤◌, ◌^◌, IfOk, IfSome, OnOk, vec_len};
+ghost use Rattle.ps_rows.specs.RowDifferences.{LeadBothWays, row_changed, rows_changed};
+
+use crate::planes::Planes;
+use ps_board::{ColumnWords, Columns};
+use ps_model::Memory;
+use std::alloc::Global;
+
+/// The columns that a row of a plane has on one of two boards alone. `S` is a set of columns.
+#[derive(Clone, Copy)]
+pub struct RowDifference<S> {
+    pub plane: u32,
+    pub row: u32,
+    pub columns: S,
+}
+
+/// Changes a row by what differs. Nothing is changed where the planes don't have that row.
+fn change_row<W: ColumnWords>(planes: &mut Planes<W>, difference: &RowDifference<Columns<W>>)
+    ensures words { planes.new.words.items ≡ row_changed planes.old.height planes.old.words.items difference.now }
+    ensures height { planes.new.height ≡ planes.old.height }
+    ensures count { vec_len planes.new.words ≡ vec_len planes.old.words }
+{
+    let (plane, row) = (difference.plane, difference.row);
+    if planes.height <= row {
+        return;
+    }
+    if !planes.has_plane(plane) {
+        return;
+    }
+    let columns = planes.row(plane, row).unlike(difference.columns);
+    planes.set_row(plane, row, columns);
+}
+
+/// Changes rows by what differs, one behind the other.
+pub fn change_rows<W: ColumnWords>(planes: &mut Planes<W>, rows: &[RowDifference<Columns<W>>])
+    ensures words { planes.new.words.items ≡ rows_changed planes.old.height planes.old.words.items rows.now }
+    ensures height { planes.new.height ≡ planes.old.height }
+    ensures count { vec_len planes.new.words ≡ vec_len planes.old.words }
+{
+    for difference in rows {
+        change_row(planes, difference);
+    }
+}
+
+/// Adds the rows in which a plane differs, where the planes before it have been added.
+fn add_differences<W: ColumnWords>(
+    first: &Planes<W>,
+    second: &Planes<W>,
+    plane: u32,
+    found: &mut Vec<RowDifference<Columns<W>>>,
+) -> Result<(), Memory>
+    requires height { second.now.height ≡ first.now.height }
+    requires count { vec_len second.now.words ≡ vec_len first.now.words }
+    requires plane { (plane + 1) * first.now.height ≤ vec_len first.now.words }
+    requires before { let p = first.now in
+        LeadBothWays p.height (plane * p.height) p.words.items second.now.words.items found.old.items }
+    ensures { let p = first.now in OnOk result
+        (LeadBothWays p.height ((plane + 1) * p.height) p.words.items second.now.words.items found.new.items) }
+{
+    if first.has_same_plane(second, plane) {
+        return Ok(());
+    }
+    for row in 0..first.height {
+        let columns = first.row(plane, row).unlike(second.row(plane, row));
+        if !columns.is_empty() {
+            found.push(RowDifference {
+                plane,
+                row,
+                columns,
+            })?;
+        }
+    }
+    Ok(())
+}
+
+/// The rows in which planes differ from others, as many of the same height; nothing, where they are more than half of
+/// all rows. They make the first planes the second ones, and the second ones the first.
+///
+/// # Errors
+///
+/// `Memory`.
+pub fn differences<W: ColumnWords>(
+    alloc: Global,
+    first: &Planes<W>,
+    second: &Planes<W>,
+    planes: u32,
+) -> Result<Option<Vec<RowDifference<Columns<W>>>>, Memory>
+    requires height { second.now.height ≡ first.now.height }
+    requires count { vec_len second.now.words ≡ vec_len first.now.words }
+    requires planes { planes * first.now.height ≡ vec_len first.now.words }
+    ensures forth { IfOk result (λ found. IfSome found (λ rows.
+        rows_changed first.now.height first.now.words.items rows.items ≡ second.now.words.items)) }
+    ensures back { IfOk result (λ found. IfSome found (λ rows.
+        rows_changed first.now.height second.now.words.items rows.items ≡ first.now.words.items)) }
+{
+    let mut found = Vec::new(alloc);
+    for plane in 0..planes {
+        add_differences(first, second, plane, &mut found)?;
+        if found.len() > first.words.len() / 2 {
+            return Ok(None);
+        }
+    }
+    Ok(Some(found))
+}

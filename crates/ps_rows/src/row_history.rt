@@ -1,0 +1,182 @@
+//! The boards of an undo history, by the rows in which each differs from the next.
+
+ghost use Rattle.std.specs.Prelude.{◌≡◌, ◌∷◌, IfOk};
+ghost use Rattle.ps_rows.specs.RowHistories.{LeadsBack, LeadsOn, first_of, kept, shown, stepped};
+
+use crate::row_board::RowBoard;
+use crate::row_differences::RowDifference;
+use circular_buffer::HeapCircularBuffer;
+use ps_board::{Board, ColumnWords, Columns, History};
+use ps_model::{HISTORY_LIMIT, Memory};
+use std::alloc::Global;
+use std::marker::Model;
+
+/// How a history comes from one board to another. `B` is a board, `S` a set of columns.
+#[derive(Drop)]
+pub enum BoardStep<B, S> {
+    /// By what differs in some rows, where these are few.
+    Rows(Vec<RowDifference<S>>),
+    /// By the other board as a whole.
+    Whole(B),
+}
+
+/// The boards of an undo history. The latest one is there as a whole, and each other one by the step that leads to it
+/// from the next, so that a move which changes few rows costs few words.
+#[derive(Drop)]
+pub struct RowHistory<W: ColumnWords> {
+    alloc: Global,
+    latest: Option<RowBoard<W>>,
+    /// The steps back, that to the oldest board first.
+    steps: HeapCircularBuffer<BoardStep<RowBoard<W>, Columns<W>>>,
+    /// The step from the latest board to the one that is ready to enter.
+    ready: Option<BoardStep<RowBoard<W>, Columns<W>>>,
+}
+
+impl<W: ColumnWords> Model for RowHistory<W> {
+    ghost use Rattle.std.specs.Prelude.{◌≡◌, ◌-◌};
+    ghost use Rattle.ps_model.specs.declared.limits.TheConstants.{HISTORY_LIMIT};
+    ghost use Rattle.ps_rows.specs.RowHistories.{AreBehind, HistoryShown, IsReady, boards_of, kept, ready_of};
+
+    ghost Value = { HistoryShown };
+
+    ghost view = { λ h. record {
+      boards = boards_of h.latest h.steps.items
+          (λ b. kept b.members.table.items b.width b.planes.height b.layers b.planes.words.items);
+      ready = ready_of h.latest h.ready
+          (λ b. kept b.members.table.items b.width b.planes.height b.layers b.planes.words.items);
+    } };
+
+    ghost invariant = { λ h. (h.steps.capacity ≡ HISTORY_LIMIT - 1)
+        × (AreBehind h.latest h.steps.items
+        (λ b. kept b.members.table.items b.width b.planes.height b.layers b.planes.words.items)
+        × IsReady h.latest h.ready
+        (λ b. kept b.members.table.items b.width b.planes.height b.layers b.planes.words.items)) };
+}
+
+/// The step from a board to another one.
+///
+/// # Errors
+///
+/// `Memory`.
+fn step_to<W: ColumnWords>(
+    alloc: Global,
+    board: &RowBoard<W>,
+    other: &RowBoard<W>,
+) -> Result<BoardStep<RowBoard<W>, Columns<W>>, Memory>
+    ensures shown { let b = board.now in let o = other.now in IfOk result (λ step.
+        shown (stepped (kept b.members.table.items b.width b.planes.height b.layers b.planes.words.items) step
+        (λ b. kept b.members.table.items b.width b.planes.height b.layers b.planes.words.items))
+        ≡ shown (kept o.members.table.items o.width o.planes.height o.layers o.planes.words.items)) }
+    ensures on { let b = board.now in IfOk result (λ step.
+        LeadsOn (kept b.members.table.items b.width b.planes.height b.layers b.planes.words.items) step) }
+    ensures back { let b = board.now in IfOk result (λ step.
+        LeadsBack (kept b.members.table.items b.width b.planes.height b.layers b.planes.words.items) step) }
+{
+    if board.is_alike(other) {
+        if let Some(rows) = board.differences(alloc, other)? {
+            return Ok(BoardStep::Rows(rows));
+        }
+    }
+    let copy = other.try_copy(alloc)?;
+    Ok(BoardStep::Whole(copy))
+}
+
+/// The board to which a step leads where there is none yet.
+fn first_board<B: Drop, S: Drop>(step: BoardStep<B, S>) -> Option<B>
+    ensures { result ≡ first_of step }
+{
+    match step {
+        BoardStep::Rows(_) => None,
+        BoardStep::Whole(board) => Some(board),
+    }
+}
+
+/// The board to which a step leads, and the step back.
+fn taken<W: ColumnWords>(
+    board: RowBoard<W>,
+    step: BoardStep<RowBoard<W>, Columns<W>>,
+) -> (RowBoard<W>, BoardStep<RowBoard<W>, Columns<W>>)
+    requires { LeadsOn (kept board.members.table.items board.width board.planes.height board.layers
+        board.planes.words.items) step }
+    ensures forth { let b = board in let r = result.0 in
+        kept r.members.table.items r.width r.planes.height r.layers r.planes.words.items
+        ≡ stepped (kept b.members.table.items b.width b.planes.height b.layers b.planes.words.items) step
+        (λ b. kept b.members.table.items b.width b.planes.height b.layers b.planes.words.items) }
+    ensures back { let b = board in let r = result.0 in
+        LeadsBack (kept b.members.table.items b.width b.planes.height b.layers b.planes.words.items) step
+        → stepped (kept r.members.table.items r.width r.planes.height r.layers r.planes.words.items) result.1
+        (λ b. kept b.members.table.items b.width b.planes.height b.layers b.planes.words.items)
+        ≡ kept b.members.table.items b.width b.planes.height b.layers b.planes.words.items }
+{
+    match step {
+        BoardStep::Rows(rows) => {
+            let mut board = board;
+            board.change_rows(&rows);
+            (board, BoardStep::Rows(rows))
+        }
+        BoardStep::Whole(other) => (other, BoardStep::Whole(board)),
+    }
+}
+
+impl<W: ColumnWords> History<RowBoard<W>> for RowHistory<W> {
+    ghost boards = { λ h. h.boards };
+
+    ghost ready = { λ h. h.ready };
+
+    fn try_new(alloc: Global) -> Result<RowHistory<W>, Memory> {
+        let steps = HeapCircularBuffer::with_capacity(alloc, HISTORY_LIMIT - 1)?;
+        Ok(RowHistory {
+            alloc,
+            latest: None,
+            steps,
+            ready: None,
+        })
+    }
+
+    fn latest(&self) -> Option<&RowBoard<W>> {
+        match &self.latest {
+            None => None,
+            Some(board) => Some(board),
+        }
+    }
+
+    fn make_ready(&mut self, board: &RowBoard<W>) -> Result<(), Memory> {
+        let step = match &self.latest {
+            None => BoardStep::Whole(board.try_copy(self.alloc)?),
+            Some(latest) => step_to(self.alloc, latest, board)?,
+        };
+        self.ready = Some(step);
+        Ok(())
+    }
+
+    fn enter(&mut self) {
+        let Some(step) = self.ready.take() else {
+            return;
+        };
+        let Some(latest) = self.latest.take() else {
+            self.latest = first_board(step);
+            return;
+        };
+        let (board, back) = taken(latest, step);
+        self.latest = Some(board);
+        self.steps.push_back(back);
+    }
+
+    fn go_back(&mut self) {
+        self.ready = None;
+        let Some(latest) = self.latest.take() else {
+            return;
+        };
+        let Some(step) = self.steps.pop_back() else {
+            return;
+        };
+        let (board, _forth) = taken(latest, step);
+        self.latest = Some(board);
+    }
+
+    fn clear(&mut self) {
+        self.ready = None;
+        self.latest = None;
+        self.steps.clear();
+    }
+}

@@ -1,0 +1,57 @@
+//! What takes memory, before anything of a session changes.
+
+ghost use Rattle.std.specs.Prelude.{◌≡◌, ◌++◌, OnErr, OnOk};
+ghost use Rattle.ps_session.specs.Nexts.{IsReadyFor};
+
+use crate::nexts::Next;
+use ps_board::{Board, History};
+use ps_model::Memory;
+use ps_screen::OutputText;
+use ps_stage::{HistoryChange, Location, PlayedLevel, Stage};
+
+/// Makes the board of a location ready to enter the history, where it enters it before what comes next.
+///
+/// # Errors
+///
+/// `Memory`, and the history has the boards that it had.
+fn make_ready<B: Board, H: History<B>>(
+    history: &mut H,
+    location: &Location<PlayedLevel<B>>,
+    next: &Next<PlayedLevel<B>>,
+) -> Result<(), Memory>
+    ensures boards { H.boards history.new ≡ H.boards history.old }
+    ensures ready { OnOk result (IsReadyFor (H.ready history.new) location.now next.now) }
+{
+    let Next::Goes(_, HistoryChange::Adds) = next else {
+        return Ok(());
+    };
+    match location {
+        Location::Playing(level) => history.make_ready(level.board()),
+        Location::Waiting(level, _) => history.make_ready(level.board()),
+        Location::AtMessage(_) => Ok(()),
+        Location::Ended(_) => Ok(()),
+    }
+}
+
+/// Makes the board of a location ready to enter the history, where it enters it before what comes next, and adds the
+/// text of the stage to the output.
+///
+/// # Errors
+///
+/// `Memory`: the output is as before, and the history has the boards that it had.
+pub fn prepare<B: Board, H: History<B>>(
+    stage: &mut Stage<'_, B>,
+    location: &Location<PlayedLevel<B>>,
+    history: &mut H,
+    next: &Next<PlayedLevel<B>>,
+    output: &mut OutputText,
+) -> Result<(), Memory>
+    ensures game { stage.new.game ≡ stage.old.game }
+    ensures boards { H.boards history.new ≡ H.boards history.old }
+    ensures ready { OnOk result (IsReadyFor (H.ready history.new) location.now next.now) }
+    ensures moved { OnOk result (output.new ≡ output.old ++ stage.old.text) }
+    ensures kept { OnErr result (output.new ≡ output.old) }
+{
+    make_ready(history, location, next)?;
+    stage.move_text(output)
+}
