@@ -88,12 +88,36 @@ pub taken_gone : (set left : List Bool) (k : ℕ) → set_columns set ≡ k ∷ 
 taken_gone set left k is = let first = first_in set k (set_columns left) is in
     sym (listed left k first.1) ∙ listed_once set k (set_columns left) is
 
+-- and no smaller one is in the set
+least_by : (f : ℕ → Bool) (a n k x : ℕ) (ks : List ℕ) (here : Bool) → f a ≡ here → filter f (range_with_len a n) ≡ k ∷ ks →
+    a ≤ x → x < k → f x ≡ false
+least_by f a zero k x ks here e is from less = absurd (cc)
+least_by f a (suc n) k x ks true e is from less =
+    let same : a ∷ filter f (range_with_len (a + 1) n) ≡ k ∷ ks =
+    ap (λ (b : Bool). cond b (a ∷ filter f (range_with_len (a + 1) n)) (filter f (range_with_len (a + 1) n))) (sym e)
+    ∙ is in
+    let first : a ≡ k = cc in
+    absurd (omega (arith, first, from, less))
+least_by f a (suc n) k x ks false e is from less = elim (cases_eq x a) [
+  | inl same ↦ ap f same ∙ e
+  | inr other ↦
+      least_by f (a + 1) n k x ks (f (a + 1)) refl
+      (ap (λ (b : Bool). cond b (a ∷ filter f (range_with_len (a + 1) n)) (filter f (range_with_len (a + 1) n))) (sym e)
+      ∙ is) (omega (arith, from, other)) less
+]
+
+pub first_least : (columns : List Bool) (k x : ℕ) (ks : List ℕ) → set_columns columns ≡ k ∷ ks → x < k →
+    column_at columns x ≡ false
+unfolding set_columns
+first_least columns k x ks is less = least_by (column_at columns) 0 SIDE_LIMIT k x ks (column_at columns 0) refl is
+    (omega arith) less
+
 -- the numbers left are below a count ----------------------------------------------------------------------------------
 
 pub record AreBelow (count : ℕ) (left : List Bool) : Type 0 where
   pub at : (x : ℕ) → x < SIDE_LIMIT → count ≤ x → column_at left x ≡ false
 
-in_both : (set below left : List Bool) (count x : ℕ) → below ≡ columns_below count → left ≡ both_columns set below →
+pub in_both : (set below left : List Bool) (count x : ℕ) → below ≡ columns_below count → left ≡ both_columns set below →
     x < SIDE_LIMIT → column_at left x ≡ (column_at set x && nat_lt x count)
 in_both set below left count x b e low =
     ap (λ (cs : List Bool). column_at cs x) e

@@ -121,10 +121,10 @@ impl<B: Board> CellSet<B> {
         self.rows[row as usize].has(column)
     }
 
-    /// Whether a column has a cell of the set.
-    pub fn has_column(&self, column: u32) -> bool
-        ensures { result ≡ column_at (columns_in self.now) column }
+    /// The columns that have a cell of the set.
+    pub fn columns(&self) -> Columns<B::Words>
+        ensures { result ≡ columns_in self.now }
     {
-        self.columns.has(column)
+        self.columns
     }
 }

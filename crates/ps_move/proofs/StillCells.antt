@@ -1,5 +1,5 @@
 -- Cells that need no visit: nothing in them is about to do something.
-use Rattle.std.proofs.Common.{◌≡◌, ◌∙◌, ℕ, ◌+◌, ◌*◌, ◌<◌, suc, zero, ◌||◌, inl, inr, Bool, true, false, None, List, length, get_or, refl, subst, sym, ap, arith}
+use Rattle.std.proofs.Common.{◌≡◌, ◌∙◌, ℕ, ◌+◌, ◌-◌, ◌*◌, ◌<◌, ◌≤◌, suc, zero, ◌||◌, inl, inr, Bool, true, false, None, List, length, get_or, refl, subst, sym, ap, arith}
 use Rattle.std.specs.List.{list_any}
 use Rattle.std.proofs.lemmas.Bool.{cases_lt}
 use Rattle.std.proofs.lemmas.List.{get_or_past}
@@ -60,6 +60,26 @@ column_still g cells column shape still across none =
     let low : column < SIDE_LIMIT = omega (arith, across, shape.columns) in
     let end : (column + 1) * g.height ≡ column * g.height + g.height = omega arith in
     rw end (cells_still g (column * g.height) g.height (λ row layer down. still column row layer across down (cell_out cells column row low none)))
+
+-- columns that are still, one behind the other
+pub columns_still : (g : Grid) (cells : List (List Bool)) (from count : ℕ) → IsGrid g → IsStillBeside g cells → from + count ≤ g.width →
+    ((column : ℕ) → from ≤ column → column < from + count → column_at (columns_in cells) column ≡ false) → IsPart false g g (from * g.height, 0) ((from + count) * g.height, 0)
+columns_still g cells from zero shape still across none =
+    let same : from + zero ≡ from = omega arith in rw same (part_none g (from * g.height, 0))
+columns_still g cells from (suc count) shape still across none =
+    let next : from + suc count ≡ from + count + 1 = omega arith in
+    rw next (part_then false false g g g (from * g.height, 0) ((from + count) * g.height, 0) ((from + count + 1) * g.height, 0)
+    (columns_still g cells from count shape still (omega (arith, across)) (λ column low high. none column low (omega (arith, high))))
+    (column_still g cells (from + count) shape still (omega (arith, across)) (none (from + count) (omega arith) (omega arith))))
+
+-- those between two columns
+pub columns_between : (g : Grid) (cells : List (List Bool)) (from to : ℕ) → IsGrid g → IsStillBeside g cells → from ≤ to → to ≤ g.width →
+    ((column : ℕ) → from ≤ column → column < to → column_at (columns_in cells) column ≡ false) → IsPart false g g (from * g.height, 0) (to * g.height, 0)
+columns_between g cells from to shape still up across none =
+    let count : ℕ = to - from in
+    let end : from + count ≡ to = omega (arith, up) in
+    let E : ℕ → Type 0 = λ last. IsPart false g g (from * g.height, 0) (last * g.height, 0) in
+    subst E end (columns_still g cells from count shape still (omega (arith, end, across)) (λ column low high. none column low (omega (arith, high, end))))
 
 -- beside these cells everything stays still
 pub still_then : (went : Bool) (old new : Grid) (first last : ℕ × ℕ) (cells : List (List Bool)) → IsPart went old new first last → IsStillBeside old cells → IsStillBeside new cells

@@ -13,7 +13,7 @@ ghost use Rattle.ps_model.specs.declared.limits.TheConstants.{LAYER_LIMIT, SIDE_
 ghost use Rattle.ps_move.specs.Visits.{way, visited, going_count};
 ghost use Rattle.ps_move.specs.Parts.{IsPart, IsStillBeside};
 
-use ps_board::{Board, CellSet, Direction, LayerId, Motion};
+use ps_board::{Board, CellSet, Columns, Direction, LayerId, Motion};
 use std::marker::Model;
 
 /// How a movement went. A contract sees the number of its passes.
@@ -68,7 +68,7 @@ pub fn slide<B: Board>(board: &mut B, moving: &mut CellSet<B>) -> Slid
 }
 
 /// Visits those cells in which an object may be about to do something, in the order of their numbers, and tells
-/// whether any object went. In no other cell an object may be.
+/// whether any object went. In no other cell an object may be, so that columns without one are passed over.
 fn pass<B: Board>(board: &mut B, moving: &CellSet<B>) -> bool
     requires still { IsStillBeside (B.grid board.old) moving.now }
     ensures shape { IsGrid (B.grid board.old) }
@@ -78,8 +78,9 @@ fn pass<B: Board>(board: &mut B, moving: &CellSet<B>) -> bool
     ensures table { B.table board.new ≡ B.table board.old }
 {
     let (width, _) = board.size();
+    let mut left = moving.columns().both(Columns::below(width));
     let mut went = false;
-    for column in 0..width {
+    while let Some(column) = left.take_first() {
         went |= visit_column(board, column, moving);
     }
     went
@@ -95,9 +96,6 @@ fn visit_column<B: Board>(board: &mut B, column: u32, moving: &CellSet<B>) -> bo
     ensures table { B.table board.new ≡ B.table board.old }
 {
     let (_, height) = board.size();
-    if !moving.has_column(column) {
-        return false;
-    }
     let mut went = false;
     for row in 0..height {
         went |= visit_row(board, column, row, moving);
