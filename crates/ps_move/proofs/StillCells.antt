@@ -13,10 +13,10 @@ use Rattle.ps_model.specs.board.Grid.{Grid, IsGrid, cell_at, slot_at}
 use Rattle.ps_model.specs.board.Movement.{aim_of}
 use Rattle.ps_board.specs.ColumnSets.{column_at}
 use Rattle.ps_board.specs.CellSets.{IsSetOf, columns_in}
-use Rattle.ps_board.specs.RowsOfGrids.{is_moving}
+use Rattle.ps_board.specs.RowsOfGrids.{PassOnlyOn, is_moving}
 use Rattle.ps_board.proofs.CellLaws.{cell_out}
 use Rattle.ps_move.specs.Visits.{way, if_bare}
-use Rattle.ps_move.specs.Parts.{IsPart, IsStillBeside}
+use Rattle.ps_move.specs.Parts.{IsPart, IsStillBeside, IsStillOutside}
 use Rattle.ps_move.proofs.Parts.{part_none, part_then, part_stays, part_cell}
 
 -- what is still has no target
@@ -81,6 +81,25 @@ columns_between g cells from to shape still up across none =
     let E : ℕ → Type 0 = λ last. IsPart false g g (from * g.height, 0) (last * g.height, 0) in
     subst E end (columns_still g cells from count shape still (omega (arith, end, across)) (λ column low high. none column low (omega (arith, high, end))))
 
+-- rows of a column that are still, between two rows
+pub rows_between : (g : Grid) (rows : List Bool) (column from to : ℕ) → IsStillOutside g rows → column < g.width → from ≤ to → to ≤ g.height →
+    ((row : ℕ) → from ≤ row → row < to → column_at rows row ≡ false) → IsPart false g g (column * g.height + from, 0) (column * g.height + to, 0)
+rows_between g rows column from to still across up down none =
+    let count : ℕ = to - from in
+    let end : column * g.height + from + count ≡ column * g.height + to = omega (arith, up) in
+    let E : ℕ → Type 0 = λ last. IsPart false g g (column * g.height + from, 0) (last, 0) in
+    subst E end (cells_still g (column * g.height + from) count (λ row layer low.
+    let inside : from + row < to = omega (arith, low, up) in
+    let under : from + row < g.height = omega (arith, inside, down) in
+    let place : column * g.height + (from + row) ≡ column * g.height + from + row = omega arith in
+    let S : ℕ → Type 0 = λ cell. is_moving (slot_at g cell layer) ≡ false in
+    subst S place (still column (from + row) layer across under (none (from + row) (omega arith) inside))))
+
+-- outside of these rows everything stays still
+pub outside_then : (went : Bool) (old new : Grid) (first last : ℕ × ℕ) (rows : List Bool) → IsPart went old new first last → IsStillOutside old rows → IsStillOutside new rows
+outside_then went old new first last rows part still = λ column row layer across down out.
+    rw part.height (part.still (column * old.height + row) layer (still column row layer (rw (← part.width) across) (rw (← part.height) down) out))
+
 -- beside these cells everything stays still
 pub still_then : (went : Bool) (old new : Grid) (first last : ℕ × ℕ) (cells : List (List Bool)) → IsPart went old new first last → IsStillBeside old cells → IsStillBeside new cells
 still_then went old new first last cells part still = λ column row layer across down out.
@@ -113,3 +132,8 @@ slot_still slots layer true e none = elim (cases_lt layer (length slots)) [
 pub movers_still : (g : Grid) (cells : List (List Bool)) → IsSetOf (list_any is_moving) g cells → IsStillBeside g cells
 movers_still g cells told = λ column row layer across down out.
     slot_still (cell_at g (column * g.height + row)) layer (is_moving (slot_at g (column * g.height + row) layer)) refl (sym (told column row across down) ∙ out)
+
+-- outside of the rows in which something moves
+pub rows_still : (g : Grid) (rows : List Bool) → PassOnlyOn is_moving g rows → IsStillOutside g rows
+rows_still g rows told = λ column row layer across down out.
+    slot_still (cell_at g (column * g.height + row)) layer (is_moving (slot_at g (column * g.height + row) layer)) refl (told row down out column across)

@@ -1,6 +1,7 @@
 -- The parts of a movement.
 use Rattle.std.specs.Prelude.{◌≡◌, ℕ, ◌+◌, ◌*◌, ◌<◌, ◌≤◌, ◌||◌, Bool, false, cond, List}
 use Rattle.ps_model.specs.board.Grid.{Grid, IsGrid, slot_at}
+use Rattle.ps_board.specs.ColumnSets.{column_at}
 use Rattle.ps_board.specs.CellSets.{cell_in}
 use Rattle.ps_board.specs.RowsOfGrids.{is_moving}
 use Rattle.ps_move.specs.Visits.{going_count}
@@ -18,6 +19,12 @@ pub record IsPart (went : Bool) (old new : Grid) (first last : ℕ × ℕ) : Typ
   pub fewer : going_count new + cond went 1 0 ≤ going_count old
   pub same : went ≡ false → new ≡ old
   pub still : (cell layer : ℕ) → is_moving (slot_at old cell layer) ≡ false → is_moving (slot_at new cell layer) ≡ false
+
+-- outside of the rows of a set no object is about to do something
+abbrev pub IsStillOutside : Grid → List Bool → Type 0
+IsStillOutside g rows =
+    (column row layer : ℕ) → column < g.width → row < g.height → column_at rows row ≡ false →
+    is_moving (slot_at g (column * g.height + row) layer) ≡ false
 
 -- beside the cells of a set no object is about to do something
 abbrev pub IsStillBeside : Grid → List (List Bool) → Type 0

@@ -11,7 +11,7 @@ ghost use Rattle.ps_model.specs.board.Movement.{slid};
 ghost use Rattle.ps_model.specs.board.WeakMovement.{IsWeaklySlid};
 ghost use Rattle.ps_model.specs.declared.limits.TheConstants.{LAYER_LIMIT, SIDE_LIMIT};
 ghost use Rattle.ps_move.specs.Visits.{way, visited, going_count};
-ghost use Rattle.ps_move.specs.Parts.{IsPart, IsStillBeside};
+ghost use Rattle.ps_move.specs.Parts.{IsPart, IsStillBeside, IsStillOutside};
 
 use ps_board::{Board, CellSet, Columns, Direction, LayerId, Motion};
 use std::marker::Model;
@@ -59,8 +59,9 @@ pub fn slide<B: Board>(board: &mut B, moving: &mut CellSet<B>) -> Slid
     ensures table { B.table board.new ≡ B.table board.old }
 {
     moving.set_moving(board);
+    let rows = board.rows_moving_any();
     let mut passes = 1;
-    while pass(board, moving) {
+    while pass(board, moving, &rows) {
         passes += 1;
     }
     board.clear_moves();
@@ -68,36 +69,46 @@ pub fn slide<B: Board>(board: &mut B, moving: &mut CellSet<B>) -> Slid
 }
 
 /// Visits those cells in which an object may be about to do something, in the order of their numbers, and tells
-/// whether any object went. In no other cell an object may be, so that columns without one are passed over.
-fn pass<B: Board>(board: &mut B, moving: &CellSet<B>) -> bool
+/// whether any object went. In no other cell an object may be, nor in any but these rows, so that columns without one
+/// are passed over, and in each column other rows.
+fn pass<B: Board>(board: &mut B, moving: &CellSet<B>, rows: &Columns<B::Words>) -> bool
     requires still { IsStillBeside (B.grid board.old) moving.now }
+    requires outside { IsStillOutside (B.grid board.old) rows.now }
     ensures shape { IsGrid (B.grid board.old) }
     ensures part { let old = B.grid board.old in
         IsPart result old (B.grid board.new) (0, 0) (old.width * old.height, 0) }
     ensures still { IsStillBeside (B.grid board.new) moving.now }
+    ensures outside { IsStillOutside (B.grid board.new) rows.now }
     ensures table { B.table board.new ≡ B.table board.old }
 {
     let (width, _) = board.size();
     let mut left = moving.columns().both(Columns::below(width));
     let mut went = false;
     while let Some(column) = left.take_first() {
-        went |= visit_column(board, column, moving);
+        went |= visit_column(board, column, moving, rows);
     }
     went
 }
 
 /// Visits those cells of a column in which an object may be about to do something, from the top, and tells whether any
 /// object went.
-fn visit_column<B: Board>(board: &mut B, column: u32, moving: &CellSet<B>) -> bool
+fn visit_column<B: Board>(
+    board: &mut B,
+    column: u32,
+    moving: &CellSet<B>,
+    rows: &Columns<B::Words>,
+) -> bool
     requires still { IsStillBeside (B.grid board.old) moving.now }
+    requires outside { IsStillOutside (B.grid board.old) rows.now }
     requires column { column < (B.grid board.old).width }
     ensures part { let old = B.grid board.old in
         IsPart result old (B.grid board.new) (column * old.height, 0) ((column + 1) * old.height, 0) }
     ensures table { B.table board.new ≡ B.table board.old }
 {
     let (_, height) = board.size();
+    let mut left = rows.both(Columns::below(height));
     let mut went = false;
-    for row in 0..height {
+    while let Some(row) = left.take_first() {
         went |= visit_row(board, column, row, moving);
     }
     went

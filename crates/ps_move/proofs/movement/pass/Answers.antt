@@ -10,7 +10,7 @@ use Rattle.ps_board.proofs.ColumnLaws.{first_in, none_in}
 use Rattle.ps_board.proofs.Taken.{below-init, below-more, first_least, in_both, taken_below, taken_gone, taken_out}
 use Rattle.ps_move.specs.Parts.{IsPart}
 use Rattle.ps_move.proofs.Parts.{part_none, part_then}
-use Rattle.ps_move.proofs.StillCells.{column_then, columns_between, still_then}
+use Rattle.ps_move.proofs.StillCells.{column_then, columns_between, outside_then, still_then}
 use Rattle.ps_move.proofs.movement.pass.Goals as goal
 
 pub loop-column-init : goal.loop-column-init
@@ -39,6 +39,14 @@ pub visit_column-went-requires-clause-column : goal.visit_column-went-requires-c
 visit_column-went-requires-clause-column g c =
     let was = c.loop-column.invariant.1 in
     rw was.part.width (taken_below c.loop-column.left c.take_first.new.self (g.B.Board.grid c.args.board.now).width c.in-Some.column c.in-Some.ensures.some was.below)
+
+pub visit_column-went-requires-clause-outside : goal.visit_column-went-requires-clause-outside
+visit_column-went-requires-clause-outside g c =
+    outside_then c.loop-column.went (g.B.Board.grid c.args.board.now) (g.B.Board.grid c.loop-column.board) _ _ c.args.rows.now c.loop-column.invariant.1.part c.requires.outside
+
+pub returns-clause-outside : goal.returns-clause-outside
+returns-clause-outside g c =
+    outside_then c.loop-column.went (g.B.Board.grid c.args.board.now) (g.B.Board.grid c.loop-column.board) _ _ c.args.rows.now c.loop-column.invariant.1.part c.requires.outside
 
 pub loop-column-preserved : goal.loop-column-preserved
 loop-column-preserved g c =
