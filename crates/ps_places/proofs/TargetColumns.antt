@@ -1,6 +1,6 @@
 -- Columns of a row of the board that have one of another set apart from them.
 use Rattle.std.proofs.Common.{◌≡◌, ◌∙◌, ℕ, zero, suc, ◌+◌, ◌-◌, ◌<◌, ◌≤◌, ◌||◌, ◌&&◌, inl, inr, Bool, true, false}
-use Rattle.std.proofs.Common.{not, cond, Option, List, [], ◌∷◌, filter, length, refl, sym, ap, ap₂, arith}
+use Rattle.std.proofs.Common.{not, cond, Option, List, [], ◌∷◌, length, refl, sym, ap, ap₂, arith}
 use Rattle.std.specs.Prelude.{nat_eq, nat_le, nat_lt, slice_index_or, slice_set}
 use Rattle.std.specs.List.{list_any, range_with_len}
 use Rattle.std.proofs.Math.Bool.{and-false, or-false, or_assoc}
@@ -12,6 +12,7 @@ use Rattle.ps_model.specs.board.Grid.{Grid}
 use Rattle.ps_laws.proofs.common.Truths.{same_tests}
 use Rattle.ps_board.specs.ColumnSets.{both_columns, column_at, columns_behind, columns_below}
 use Rattle.ps_board.specs.ColumnSets.{columns_without, either_columns, no_columns, set_columns, with_column}
+use Rattle.ps_board.proofs.Taken.{first_least}
 use Rattle.ps_board.proofs.ColumnLaws.{column_at-beyond, column_at-where, first_in, none_in}
 use Rattle.ps_match.proofs.Chosen.{any_none}
 use Rattle.ps_program.specs.declared.cells.CompiledCell.{CompiledCell}
@@ -22,7 +23,7 @@ use Rattle.ps_places.specs.Starts.{AreWhere, begins_down}
 use Rattle.ps_places.proofs.AnyOf.{any-found, any-here, all}
 use Rattle.ps_places.proofs.FoundDown.{below_edge, room_by}
 use Rattle.ps_places.proofs.LineSets.{none_has, with_below, with_here, with_other}
-use Rattle.ps_places.proofs.RowsTogether.{le_true, true_le}
+use Rattle.ps_places.proofs.RowsTogether.{le_true}
 
 -- reaching to the left ------------------------------------------------------------------------------------------------
 
@@ -99,29 +100,6 @@ reach-init set one e =
 
 -- and to the right ----------------------------------------------------------------------------------------------------
 
-least_by : (f : ℕ → Bool) (a n k o : ℕ) (ks : List ℕ) (here : Bool) → f a ≡ here →
-    filter f (range_with_len a n) ≡ k ∷ ks → a ≤ o → o < k → f o ≡ false
-least_by f a zero k o ks here e is low high = absurd (cc)
-least_by f a (suc n) k o ks true e is low high =
-    let same : a ∷ filter f (range_with_len (a + 1) n) ≡ k ∷ ks = ap (λ (b : Bool). cond b (a ∷ filter f
-    (range_with_len (a + 1) n)) (filter f (range_with_len (a + 1) n))) (sym e) ∙ is in
-    let first : a ≡ k = cc in
-    absurd (omega (arith, first, low, high))
-least_by f a (suc n) k o ks false e is low high = elim (cases_eq o a) [
-  | inl same ↦ ap f same ∙ e
-  | inr other ↦
-      least_by f (a + 1) n k o ks (f (a + 1)) refl
-      (ap (λ (b : Bool). cond b (a ∷ filter f (range_with_len (a + 1) n)) (filter f (range_with_len (a + 1) n)))
-      (sym e) ∙ is)
-      (omega (arith, low, other)) high
-]
-
-before_first : (set : List Bool) (first o : ℕ) (others : List ℕ) → set_columns set ≡ first ∷ others → o < first →
-    column_at set o ≡ false
-unfolding set_columns
-before_first set first o others is low = least_by (column_at set) 0 SIDE_LIMIT first o others
-    (column_at set 0) refl is (omega arith) low
-
 -- pairs ---------------------------------------------------------------------------------------------------------------
 
 reached : (set : List Bool) (from : ℕ) →
@@ -168,7 +146,7 @@ none_behind set size x first others is short =
       not_yet : (o : ℕ) (b : Bool) → nat_le (o + size) x ≡ b → (b && column_at set o) ≡ false
       not_yet o true t =
           let within : o + size ≤ x = grind (arith, nat_tests, t) in
-          before_first set first o others is (omega (arith, within, short))
+          first_least set first o others is (omega (arith, within, short))
       not_yet o false t = refl
 
 some_behind : (set : List Bool) (size x first : ℕ) (others : List ℕ) → set_columns set ≡ first ∷ others →

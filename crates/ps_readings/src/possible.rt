@@ -29,8 +29,8 @@ fn some_is_on(layer: LayerId, claims: &[Claim]) -> bool
     false
 }
 
-/// Whether no two of the claims are on one layer. There are at most `LAYER_LIMIT` layers, so that of more claims two are
-/// on one: it ends after at most one pass over the claims for each layer, and one more.
+/// Whether no two of the claims are on one layer. There are at most `LAYER_LIMIT` layers, so that of more claims two
+/// are on one: it ends after at most one pass over the claims for each layer, and one more.
 fn are_apart(claims: &[Claim]) -> bool
     ensures { result ≡ are_apart claims.now }
 {
