@@ -4,7 +4,7 @@ use ps_model::FaultKind;
 
 /// The sentence of each cause of refusal. docs/LANGUAGE.md has the same sentences; `tools/check_explanations` compares
 /// them.
-const EXPLANATIONS: [(FaultKind, &str); 44] = [
+const EXPLANATIONS: [(FaultKind, &str); 45] = [
     (FaultKind::NotUtf8, "The text isn't UTF-8."),
     (
         FaultKind::TooLong,
@@ -29,6 +29,10 @@ const EXPLANATIONS: [(FaultKind, &str); 44] = [
     (
         FaultKind::Impossible,
         "No reading of the rule is possible: each has two names of one layer in a cell of one side.",
+    ),
+    (
+        FaultKind::BadFlickscreen,
+        "A line of the prelude begins with `flickscreen`, but its second word is no size of rooms.",
     ),
     (
         FaultKind::BadObject,

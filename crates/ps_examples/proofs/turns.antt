@@ -1,5 +1,6 @@
 mod MovementRows
 mod WinRows
+mod RoomRows
 mod PushRows
 mod RoundRows
 mod PartRows

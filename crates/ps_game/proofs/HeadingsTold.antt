@@ -1,18 +1,20 @@
 -- The faults of headers and prelude are those that one pass tells.
-use Rattle.std.proofs.Common.{◌≡◌, ℕ, suc, ◌<◌, ◌≤◌, Bool, true, false, ◌&&◌, ◌||◌, List, [], ◌∷◌, ◌++◌, flat_map, Option, Some, None, append_assoc, refl, sym, ap, ap₂, ◌∙◌, arith}
+use Rattle.std.proofs.Common.{◌≡◌, ℕ, suc, ◌+◌, ◌-◌, ◌<◌, ◌≤◌, Bool, true, false, ◌&&◌, ◌||◌, List, [], ◌∷◌, ◌++◌, length, drop, flat_map, Option, Some, None, append_assoc, refl, sym, ap, ap₂, ◌∙◌, arith}
 use Rattle.std.specs.Prelude.{⊤, nat_lt, nat_le, cond, if◌then◌else◌}
 use Rattle.std.specs.List.{list_any}
 use Rattle.std.specs.Option.{option_or}
 use Rattle.std.proofs.lemmas.Bool.Decides.{nat_tests}
+use Rattle.std.proofs.lemmas.List.{drop_more}
 use Rattle.std.proofs.lemmas.List.Folds.{list_any-append}
 use Rattle.std.proofs.Math.Bool.{or-false}
 use Rattle.ps_model.specs.declared.texts.Section.{Section}
 use Rattle.ps_model.specs.declared.texts.Section.TheVariants.{Prelude}
 use Rattle.ps_model.specs.declared.faults.Fault.{Fault}
-use Rattle.ps_model.specs.declared.faults.FaultKind.TheVariants.{SectionOrder, Realtime}
+use Rattle.ps_model.specs.declared.faults.FaultKind.TheVariants.{SectionOrder, Realtime, BadFlickscreen}
 use Rattle.ps_model.specs.text.Faults.{when, first_fault}
 use Rattle.ps_model.specs.text.Lines.{Line, lines_of}
-use Rattle.ps_model.specs.text.Sections.{rank, header_lines, is_out_of_order, is_real_time, heading_faults_of}
+use Rattle.ps_model.specs.text.LineNumbers.{no_line, line_at}
+use Rattle.ps_model.specs.text.Sections.{rank, header_lines, is_out_of_order, is_real_time, is_without_size, heading_faults_of}
 use Rattle.ps_laws.proofs.common.LinesInOrder.{AreInOrder, in_order}
 use Rattle.ps_game.specs.Headings.{is_late_header, fault_by, heading_fault, place_below, headings_told}
 
@@ -90,10 +92,12 @@ late_by above number section seen line lines s o =
     and_by line.is_header (is_out_of_order (seen ++ header_lines (line ∷ lines)) line) (nat_le (rank line.section) above) (late_is above number section seen line lines s o)
 
 -- the first of a line's faults, or else of those behind
-first_of : (late real : Bool) (number : ℕ) (others : List Fault) → first_fault ((when late SectionOrder number ++ when real Realtime number) ++ others) ≡ option_or (fault_by late real number) (first_fault others)
-first_of true real number others = refl
-first_of false true number others = refl
-first_of false false number others = refl
+first_of : (late real sizeless : Bool) (number : ℕ) (others : List Fault) →
+    first_fault ((when late SectionOrder number ++ (when real Realtime number ++ when sizeless BadFlickscreen number)) ++ others) ≡ option_or (fault_by late real sizeless number) (first_fault others)
+first_of true real sizeless number others = refl
+first_of false true sizeless number others = refl
+first_of false false true number others = refl
+first_of false false false number others = refl
 
 most_next : (above place now : ℕ) → above < now → (nat_le place above || (nat_le place now || false)) ≡ nat_le place now
 most_next above place now h = most_by place above now (nat_le place above) (nat_le place now) refl refl h
@@ -118,9 +122,9 @@ or_by : (fault : Option Fault) (first second : Option Fault) → (fault ≡ None
 or_by None first second e = e refl
 or_by (Some fault) first second e = refl
 
-pub not_late : (late real : Bool) (number : ℕ) → fault_by late real number ≡ None → late ≡ false
-not_late true real number e = absurd (let h = e in cc)
-not_late false real number e = refl
+pub not_late : (late real sizeless : Bool) (number : ℕ) → fault_by late real sizeless number ≡ None → late ≡ false
+not_late true real sizeless number e = absurd (let h = e in cc)
+not_late false real sizeless number e = refl
 
 -- the first fault of lines, below headers that are told
 told_from : (number above : ℕ) (section : Section) (seen lines : List Line) → AreInOrder number section lines → AreSeen number above seen →
@@ -129,15 +133,26 @@ told_from number above section seen [] o s = refl
 told_from number above section seen (line ∷ lines) o s =
     let headers : List Line = seen ++ header_lines (line ∷ lines) in
     let late : line.is_header && is_out_of_order headers line ≡ is_late_header above line = late_by above number section seen line lines s o in
-    let first : first_fault (flat_map (heading_faults_of headers) (line ∷ lines)) ≡ option_or (fault_by (line.is_header && is_out_of_order headers line) (is_real_time line) line.number) (first_fault (flat_map (heading_faults_of headers) lines)) =
-    first_of (line.is_header && is_out_of_order headers line) (is_real_time line) line.number (flat_map (heading_faults_of headers) lines) in
+    let first : first_fault (flat_map (heading_faults_of headers) (line ∷ lines)) ≡ option_or (fault_by (line.is_header && is_out_of_order headers line) (is_real_time line) (is_without_size line) line.number) (first_fault (flat_map (heading_faults_of headers) lines)) =
+    first_of (line.is_header && is_out_of_order headers line) (is_real_time line) (is_without_size line) line.number (flat_map (heading_faults_of headers) lines) in
     let here : first_fault (flat_map (heading_faults_of headers) (line ∷ lines)) ≡ option_or (heading_fault above line) (first_fault (flat_map (heading_faults_of headers) lines)) =
-    first ∙ ap (λ (late : Bool). option_or (fault_by late (is_real_time line) line.number) (first_fault (flat_map (heading_faults_of headers) lines))) late in
+    first ∙ ap (λ (late : Bool). option_or (fault_by late (is_real_time line) (is_without_size line) line.number) (first_fault (flat_map (heading_faults_of headers) lines))) late in
     here ∙ or_by (heading_fault above line) (first_fault (flat_map (heading_faults_of headers) lines)) (headings_told (place_below above line) lines)
     (λ none. ap (λ (headers : List Line). first_fault (flat_map (heading_faults_of headers) lines)) (parted_by seen line lines line.is_header)
     ∙ told_from (suc number) (place_below above line) line.section (if line.is_header then seen ++ line ∷ [] else seen) lines o.1.1
-    (seen_next number above seen line line.is_header o.0 (not_late (is_late_header above line) (is_real_time line) line.number none) s))
+    (seen_next number above seen line line.is_header o.0 (not_late (is_late_header above line) (is_real_time line) (is_without_size line) line.number none) s))
 
 -- the first fault of headers and prelude, line by line
 pub headings-told : (text : List ℕ) → first_fault (flat_map (heading_faults_of (header_lines (lines_of text))) (lines_of text)) ≡ headings_told 0 (lines_of text)
 headings-told text = told_from 1 0 Prelude [] (lines_of text) (in_order text) (record { early = tt; most = λ place h. none_at_zero place h })
+
+-- a line without a fault leaves it to those below it
+pub told_below : (text : List ℕ) (line above below : ℕ) → 1 ≤ line → line ≤ length (lines_of text) → heading_fault above (line_at text line) ≡ None →
+    below ≡ place_below above (line_at text line) → headings_told below (drop (line + 1 - 1) (lines_of text)) ≡ headings_told above (drop (line - 1) (lines_of text))
+told_below text line above below one within none e =
+    let lines : List Line = lines_of text in
+    let here : Line = line_at text line in
+    let place : line + 1 - 1 ≡ line - 1 + 1 = omega arith in
+    let whole : headings_told above (drop (line - 1) lines) ≡ option_or (heading_fault above here) (headings_told (place_below above here) (drop (line - 1 + 1) lines)) =
+    ap (headings_told above) (drop_more lines (line - 1) no_line (omega arith)) in
+    rw (place, e) (sym (whole ∙ ap (λ (fault : Option Fault). option_or fault (headings_told (place_below above here) (drop (line - 1 + 1) lines))) none))

@@ -1,3 +1,4 @@
+pub mod FewDigits
 pub mod HeadingsTold
 pub mod ImpossibleRules
 pub mod LineSteps

@@ -11,7 +11,7 @@ use Rattle.ps_model.specs.declared.texts.Section.TheVariants.{Prelude}
 use Rattle.ps_model.specs.declared.faults.Fault.{Fault}
 use Rattle.ps_model.specs.text.Lines.{Line, lines_of}
 use Rattle.ps_model.specs.text.LineNumbers.{lines_between}
-use Rattle.ps_model.specs.text.Sections.{rank, is_of, is_real_time, section_lines, header_lines, header_number, has_section}
+use Rattle.ps_model.specs.text.Sections.{rank, is_of, is_real_time, is_without_size, section_lines, header_lines, header_number, has_section}
 use Rattle.ps_laws.proofs.common.LinesInOrder.{IsBelow, AreInOrder, in_order}
 use Rattle.ps_game.specs.Headings.{is_late_header, heading_fault, place_below, headings_told}
 use Rattle.ps_game.specs.SectionPlaces.{stands_above, boundary}
@@ -58,7 +58,7 @@ rising_from : (number : ℕ) (above : Section) (lines : List Line) → AreInOrde
 rising_from number above [] o e = tt
 rising_from number above (line ∷ lines) o e =
     let parts = not_told (heading_fault (rank above) line) (headings_told (place_below (rank above) line) lines) e in
-    let late : is_late_header (rank above) line ≡ false = not_late (is_late_header (rank above) line) (is_real_time line) line.number parts.0 in
+    let late : is_late_header (rank above) line ≡ false = not_late (is_late_header (rank above) line) (is_real_time line) (is_without_size line) line.number parts.0 in
     let place : place_below (rank above) line ≡ rank line.section = place_by above line line.is_header refl o.1.0 in (
       next_by above line line.is_header refl o.1.0 late,
       rising_from (suc number) line.section lines o.1.1 (ap (λ (n : ℕ). headings_told n lines) (sym place) ∙ parts.1),

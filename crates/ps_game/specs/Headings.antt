@@ -2,23 +2,25 @@
 use Rattle.std.specs.Prelude.{ℕ, nat_le, Bool, true, false, ◌&&◌, Option, None, Some, List, [], ◌∷◌, if◌then◌else◌}
 use Rattle.std.specs.Option.{option_or}
 use Rattle.ps_model.specs.declared.faults.Fault.{Fault}
-use Rattle.ps_model.specs.declared.faults.FaultKind.TheVariants.{SectionOrder, Realtime}
+use Rattle.ps_model.specs.declared.faults.FaultKind.TheVariants.{SectionOrder, Realtime, BadFlickscreen}
 use Rattle.ps_model.specs.text.Lines.{Line}
-use Rattle.ps_model.specs.text.Sections.{rank, is_real_time}
+use Rattle.ps_model.specs.text.Sections.{rank, is_real_time, is_without_size}
 
 -- a header is out of order where its section has no later place than the last one above
 abbrev pub is_late_header : ℕ → Line → Bool
 is_late_header above line = line.is_header && nat_le (rank line.section) above
 
--- the fault of the line of a number, which is a late header or asks for real time, or does neither
-abbrev pub fault_by : Bool → Bool → ℕ → Option Fault
-fault_by true real number = Some (record { kind = SectionOrder; line = number })
-fault_by false true number = Some (record { kind = Realtime; line = number })
-fault_by false false number = None
+-- the fault of the line of a number, which is a late header, or asks for real time, or for rooms without a size, or does
+-- none of these
+abbrev pub fault_by : Bool → Bool → Bool → ℕ → Option Fault
+fault_by true real sizeless number = Some (record { kind = SectionOrder; line = number })
+fault_by false true sizeless number = Some (record { kind = Realtime; line = number })
+fault_by false false true number = Some (record { kind = BadFlickscreen; line = number })
+fault_by false false false number = None
 
 -- the first fault of a line, below headers of which the last one's section has that place
 abbrev pub heading_fault : ℕ → Line → Option Fault
-heading_fault above line = fault_by (is_late_header above line) (is_real_time line) line.number
+heading_fault above line = fault_by (is_late_header above line) (is_real_time line) (is_without_size line) line.number
 
 -- the place of the last section above the next line
 abbrev pub place_below : ℕ → Line → ℕ

@@ -4,11 +4,12 @@ ghost use Rattle.std.specs.Prelude.{◌≡◌, nat_lt, IfOk, slice_index_or, [],
 ghost use Rattle.std.specs.Str.{bytes_eq};
 ghost use Rattle.ps_model.specs.text.Lines.{lines_of, folded};
 ghost use Rattle.ps_model.specs.text.LineNumbers.{HasLine, line_at};
-ghost use Rattle.ps_model.specs.text.Sections.{rank, is_real_time};
+ghost use Rattle.ps_model.specs.text.Sections.{rank, is_real_time, is_without_size};
 ghost use Rattle.ps_model.specs.text.Preludes.{begins_with};
 ghost use Rattle.ps_text.specs.WordViews.{text_of};
 ghost use Rattle.ps_game.specs.Headings.{is_late_header, fault_by, heading_fault, headings_told, place_below};
 
+use crate::flickscreen::second_size;
 use ps_model::{Cut, Fault, FaultKind, Memory, Section};
 use ps_text::{Source, Word, same_name, words};
 use std::alloc::Global;
@@ -66,6 +67,21 @@ fn asks_for_real_time(alloc: Global, source: &Source, line: u32) -> Result<bool,
     begins_with(alloc, source, line, "realtime_interval")
 }
 
+/// Whether the line stands in the prelude and asks for rooms, but writes no size.
+fn is_without_size(alloc: Global, source: &Source, line: u32) -> Result<bool, Memory>
+    requires { HasLine source.now line }
+    ensures { IfOk result (λ told. told ≡ is_without_size (line_at source.now line)) }
+{
+    if comes_before(Section::Prelude, source.section(line)) {
+        return Ok(false);
+    }
+    let words = words(alloc, source, line, Cut::Blanks)?;
+    if !is_first(&words, "flickscreen") {
+        return Ok(false);
+    }
+    Ok(second_size(&words).is_none())
+}
+
 /// Whether the line is a header of a section that comes no later than the one above.
 fn is_late_header(source: &Source, line: u32, above: Section) -> bool
     requires { HasLine source.now line }
@@ -74,9 +90,9 @@ fn is_late_header(source: &Source, line: u32, above: Section) -> bool
     source.is_header(line) && rank(source.section(line)) <= rank(above)
 }
 
-/// The fault of a line that is a late header, or asks for real time.
-fn fault_of(late: bool, real: bool, line: u32) -> Option<Fault>
-    ensures { result ≡ fault_by late real line }
+/// The fault of a line that is a late header, or asks for real time, or for rooms without a size.
+fn fault_of(late: bool, real: bool, sizeless: bool, line: u32) -> Option<Fault>
+    ensures { result ≡ fault_by late real sizeless line }
 {
     if late {
         return Some(Fault {
@@ -87,6 +103,12 @@ fn fault_of(late: bool, real: bool, line: u32) -> Option<Fault>
     if real {
         return Some(Fault {
             kind: FaultKind::Realtime,
+            line,
+        });
+    }
+    if sizeless {
+        return Some(Fault {
+            kind: FaultKind::BadFlickscreen,
             line,
         });
     }
@@ -105,7 +127,8 @@ fn heading_fault(
 {
     let late = is_late_header(source, line, above);
     let real = asks_for_real_time(alloc, source, line)?;
-    Ok(fault_of(late, real, line))
+    let sizeless = is_without_size(alloc, source, line)?;
+    Ok(fault_of(late, real, sizeless, line))
 }
 
 /// The last section above the line below.
@@ -120,7 +143,7 @@ fn section_below(source: &Source, line: u32, above: Section) -> Section
 }
 
 /// The first fault of headers and prelude, line by line: a header that repeats or follows a later section's, or a line
-/// of the prelude that asks for real time.
+/// of the prelude that asks for real time, or for rooms without a size.
 pub fn first_heading_fault(alloc: Global, source: &Source) -> Result<Option<Fault>, Memory>
     ensures { IfOk result (λ fault. fault ≡ headings_told 0 (lines_of source.now)) }
 {

@@ -3,6 +3,7 @@
 #![tactic(auto)]
 
 mod counts;
+mod flickscreen;
 mod game;
 mod headings;
 mod occurrences;

@@ -6,3 +6,4 @@ pub mod EqualKeys
 pub mod EqualRuns
 pub mod AlikeScripts
 pub mod SessionBoards
+pub mod RoomFrames

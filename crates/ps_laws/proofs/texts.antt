@@ -11,6 +11,7 @@ pub mod RulesOfNames
 pub mod WholeParts
 pub mod WrittenCells
 pub mod RulesInParts
+pub mod SizedRooms
 pub mod GameLaws
 pub mod OneGame
 pub mod HeldFaults

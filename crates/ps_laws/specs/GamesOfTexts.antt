@@ -1,8 +1,11 @@
 -- What every game of a text is: its names are bounded, it has an object and a layer, its rules speak of its own objects
--- alone, each of its levels is loaded as a grid of the game, and each of its turns keeps such grids.
-use Rattle.std.specs.Prelude.{◌≡◌, ℕ, ◌<◌, ◌≤◌, Option, Some, List, [], All, ⊤}
+-- alone, each of its levels is loaded as a grid of the game, its rooms are sized, and each of its turns keeps such grids.
+use Rattle.std.specs.Prelude.{◌≡◌, ℕ, ◌<◌, ◌≤◌, false, Option, Some, None, List, [], All, ⊤, codes}
 use Rattle.ps_model.specs.declared.play.Input.{Input}
-use Rattle.ps_model.specs.text.Lines.{Line}
+use Rattle.ps_model.specs.declared.texts.Section.TheVariants.{Prelude}
+use Rattle.ps_model.specs.text.Lines.{Line, lines_of}
+use Rattle.ps_model.specs.text.Preludes.{is_set}
+use Rattle.ps_model.specs.text.Sections.{section_lines}
 use Rattle.ps_model.specs.declared.limits.TheConstants.{SIDE_LIMIT}
 use Rattle.ps_model.specs.names.Names.{Names, object_count}
 use Rattle.ps_model.specs.names.NamesRead.{names_read}
@@ -13,6 +16,7 @@ use Rattle.ps_model.specs.meaning.GameRules.{IsLineOf}
 use Rattle.ps_model.specs.board.Levels.{Level, loaded}
 use Rattle.ps_model.specs.session.LevelLines.{Entry, MessageEntry, LevelEntry, entries_read}
 use Rattle.ps_model.specs.session.GameLevels.{IsLevelOf, IsEntryOf, IsEntryWithinLimits}
+use Rattle.ps_model.specs.session.RoomSizes.{HasRoomSize}
 use Rattle.ps_model.specs.board.GameGrids.{IsGridOf}
 use Rattle.ps_model.specs.board.Grid.{Grid, IsGrid}
 use Rattle.ps_model.specs.game.Games.{Game, game}
@@ -84,6 +88,18 @@ GameLevelsAreGrids = (text : List ℕ) (read : Game) → game text ≡ Some read
 -- the sides of each level of a game are within the limits
 abbrev pub GameLevelsAreWithinLimits : Type 0
 GameLevelsAreWithinLimits = (text : List ℕ) (read : Game) → game text ≡ Some read → All IsEntryWithinLimits read.entries
+
+-- rooms ------------------------------------------------------------------------------------------------------------------
+
+-- if a game has rooms, their size is within the limits
+abbrev pub GameRoomsAreSized : Type 0
+GameRoomsAreSized = (text : List ℕ) (read : Game) → game text ≡ Some read → HasRoomSize read.options
+
+-- a game of which no line of the prelude begins with `flickscreen` has none
+abbrev pub GamesWithoutRooms : Type 0
+GamesWithoutRooms =
+    (text : List ℕ) (read : Game) → game text ≡ Some read → is_set (section_lines (lines_of text) Prelude) (codes "flickscreen") ≡ false →
+    read.options.flickscreen ≡ None
 
 -- grids ------------------------------------------------------------------------------------------------------------------
 

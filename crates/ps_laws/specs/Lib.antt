@@ -21,3 +21,4 @@ pub mod AgainTurns
 pub mod SessionBoards
 pub mod AlikeScripts
 pub mod RunsNotAllowed
+pub mod RoomFrames

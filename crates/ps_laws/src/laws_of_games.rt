@@ -3,7 +3,7 @@ ghost use Rattle.ps_laws.specs.GamesOfTexts.{NamesReadAreBounded, GamesAreBounde
 ghost use Rattle.ps_laws.specs.GamesOfTexts.{GamesHaveObjects, RulesReadAreOfNames, GameRulesAreOfNames};
 ghost use Rattle.ps_laws.specs.GamesOfTexts.{LoadedLevelsAreGrids, EntriesReadAreOfNames, GameEntriesAreOfNames};
 ghost use Rattle.ps_laws.specs.GamesOfTexts.{GameLevelsAreGrids, GameLevelsAreWithinLimits, GridsOfGamesAreGrids};
-ghost use Rattle.ps_laws.specs.GamesOfTexts.{GameTurnsKeepAll};
+ghost use Rattle.ps_laws.specs.GamesOfTexts.{GameRoomsAreSized, GamesWithoutRooms, GameTurnsKeepAll};
 ghost use Rattle.ps_laws.specs.WholeRows.{RulesReadAreWhole, GameRulesAreWhole};
 
 /// Names of lines without faults are bounded, and so are the names of every game.
@@ -39,6 +39,12 @@ pub fn levels_are_of_games()
     ensures games { GameEntriesAreOfNames }
     ensures grids { GameLevelsAreGrids }
     ensures limits { GameLevelsAreWithinLimits }
+{}
+
+/// If a game has rooms, their size is within the limits; a game whose prelude doesn't ask for rooms has none.
+pub fn rooms_are_sized()
+    ensures sized { GameRoomsAreSized }
+    ensures without { GamesWithoutRooms }
 {}
 
 /// A grid of a game is a grid, if its sides are within the limits.

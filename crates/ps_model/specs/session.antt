@@ -1,9 +1,11 @@
 pub mod LevelLines
 pub mod LevelFaults
 pub mod GameLevels
+pub mod RoomSizes
 pub mod Sessions
 pub mod StartSteps
 pub mod KeySteps
 pub mod Keys
 pub mod HeldKeys
 pub mod Frames
+pub mod Rooms

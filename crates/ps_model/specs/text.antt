@@ -8,5 +8,6 @@ pub mod Faults
 pub mod Refusals
 pub mod Reads
 pub mod Sections
+pub mod WrittenSizes
 pub mod Preludes
 pub mod OptionSteps

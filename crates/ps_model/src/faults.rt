@@ -22,6 +22,8 @@ pub enum FaultKind {
     TooManyReadings,
     /// `GM5`: every reading of a rule is impossible.
     Impossible,
+    /// `GM6`: a line of the prelude asks for rooms, but writes no size.
+    BadFlickscreen,
     /// `NA1`: an object without a good name line, colours or sprite.
     BadObject,
     /// `NA2`: a name is declared again.
@@ -118,6 +120,7 @@ impl FaultKind {
             FaultKind::Realtime => "GM3 Realtime",
             FaultKind::TooManyReadings => "GM4 TooManyReadings",
             FaultKind::Impossible => "GM5 Impossible",
+            FaultKind::BadFlickscreen => "GM6 BadFlickscreen",
             FaultKind::BadObject => "NA1 BadObject",
             FaultKind::Twice => "NA2 Twice",
             FaultKind::MixedAndOr => "NA3 MixedAndOr",

@@ -13,6 +13,7 @@ mod options;
 mod pieces;
 mod play;
 mod refusal;
+mod rooms;
 mod rules;
 mod texts;
 
@@ -29,5 +30,6 @@ pub use options::Options;
 pub use pieces::{Direction, LayerId, Motion, ObjectId, Slot};
 pub use play::{Ending, Input, Key};
 pub use refusal::Refusal;
+pub use rooms::{Room, RoomSize, Window};
 pub use rules::{MovementWord, Part, Quantifier};
 pub use texts::{Cut, Joiner, ObjectStage, Section, Span};

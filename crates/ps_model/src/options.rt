@@ -1,5 +1,7 @@
 //! The options of a game.
 
+use crate::rooms::RoomSize;
+
 /// The options of a game, each set by a line of the prelude that begins with its name.
 #[derive(Clone, Copy, PartialEq, Eq, Debug)]
 pub struct Options {
@@ -14,4 +16,6 @@ pub struct Options {
     pub require_player_movement: bool,
     /// `run_rules_on_level_start`: a level begins with a turn without a key.
     pub run_rules_on_level_start: bool,
+    /// `flickscreen`: the size of rooms, which no session shows yet.
+    pub flickscreen: Option<RoomSize>,
 }

@@ -16,8 +16,6 @@ mod row_history;
 mod row_scan;
 mod sameness;
 mod scanning;
-#[cfg(test)]
-mod tests;
 
 pub use ps_board::{Board, History};
 pub use ps_match::{Columns, Rooms, Scan};

@@ -15,10 +15,14 @@ flat_map_range_more f a (suc n) j e =
     rw s (ap (λ xs. f a ++ xs) (flat_map_range_more f (a + 1) n j t) ∙ sym (append_assoc (f a) (flat_map f (range_with_len (a + 1) n)) (f j)))
 
 -- a text that grows by one more
+pub text_more_from : {X : Type 0} (f : ℕ → List X) (a n j : ℕ) (before text more : List X) → a + n ≡ j →
+    text ≡ before ++ flat_map f (range_with_len a n) → more ≡ text ++ f j → more ≡ before ++ flat_map f (range_with_len a (n + 1))
+text_more_from f a n j before text more at so_far is =
+    is ∙ ap (λ t. t ++ f j) so_far ∙ append_assoc before (flat_map f (range_with_len a n)) (f j) ∙ ap (λ t. before ++ t) (sym (flat_map_range_more f a n j at))
+
 pub text_more : {X : Type 0} (f : ℕ → List X) (n : ℕ) (before text more : List X) →
     text ≡ before ++ flat_map f (range_with_len 0 n) → more ≡ text ++ f n → more ≡ before ++ flat_map f (range_with_len 0 (n + 1))
-text_more f n before text more so_far is =
-    is ∙ ap (λ t. t ++ f n) so_far ∙ append_assoc before (flat_map f (range_with_len 0 n)) (f n) ∙ ap (λ t. before ++ t) (sym (flat_map_range_more f 0 n n (omega arith)))
+text_more f n before text more so_far is = text_more_from f 0 n n before text more (omega arith) so_far is
 
 -- the first glyph for equal objects among equal glyphs
 pub found_same : (glyphs others : List Glyph) (objects those : List ObjectId) → glyphs ≡ others → objects ≡ those →

@@ -1,5 +1,5 @@
 -- Plain rows are rows of a frame, and rows of a frame with as many bytes as columns, and a line feed, are plain.
-use Rattle.std.proofs.Common.{◌≡◌, ◌∙◌, ℕ, suc, zero, ◌+◌, ◌*◌, ◌<◌, ◌≤◌, ◌&&◌, Bool, true, false, List, [], ◌∷◌, ◌++◌, length, length-take, get_or, take, drop, append_assoc, refl, sym, ap, ap₂, arith}
+use Rattle.std.proofs.Common.{◌≡◌, ◌∙◌, ℕ, suc, zero, ◌+◌, ◌-◌, ◌*◌, ◌<◌, ◌≤◌, ◌&&◌, Bool, true, false, List, [], ◌∷◌, ◌++◌, length, length-take, get_or, take, drop, append_assoc, refl, sym, ap, ap₂, arith}
 use Rattle.std.specs.Prelude.{encode_utf8, codes, nat_lt, replicate}
 use Rattle.std.specs.List.{flat_map, range_with_len}
 use Rattle.std.proofs.Math.Bool.{and-true}
@@ -120,6 +120,19 @@ plain_part names g row start text plain =
     (sym (from_each (column_bytes names g row) 0 g.width part (omega (arith, long)) (λ k low.
     let here : 0 + k ≡ k = omega arith in
     ap (column_bytes names g row) here ∙ plain.each k low ∙ ap (λ (b : ℕ). b ∷ []) (sym (of_part start (g.width + 1) text k (omega (arith, low)))))))
+
+-- and some of its columns are part of it
+pub plain_columns : (names : Names) (g : Grid) (row start : ℕ) (text : List ℕ) (first count : ℕ) → first + count ≤ g.width → IsPlainRow names g row start text →
+    take count (drop (start + first) text) ≡ flat_map (column_bytes names g row) (range_with_len first count)
+plain_columns names g row start text first count within plain =
+    let rest : List ℕ = drop (start + first) text in
+    let long : length rest ≡ length text - (start + first) = length-drop (start + first) text in
+    sym (from_each (column_bytes names g row) first count rest (omega (arith, long, plain.long, within))
+    (λ k low.
+    let place : start + (first + k) ≡ start + first + k = omega arith in
+    plain.each (first + k) (omega (arith, low, within))
+    ∙ ap (λ (i : ℕ). get_or text i 0 ∷ []) place
+    ∙ ap (λ (b : ℕ). b ∷ []) (sym (get_or-drop (start + first) text k 0))))
 
 -- so a text that is no more than a plain row is the row
 pub of_plain : (names : Names) (g : Grid) (row : ℕ) (text : List ℕ) → length text ≡ g.width + 1 → IsPlainRow names g row 0 text → text ≡ frame_row names g row

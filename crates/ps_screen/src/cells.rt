@@ -11,17 +11,17 @@ use ps_model::{LayerId, Memory, ObjectId};
 use ps_names::Names;
 use std::alloc::Global;
 
-/// Room for the objects of one cell: all of them, and those above the background layer.
+/// Space for the objects of one cell: all of them, and those above the background layer.
 #[derive(Drop)]
-pub struct Room {
+pub struct CellSpace {
     objects: Vec<ObjectId>,
     above: Vec<ObjectId>,
 }
 
-impl Room {
-    /// Room that grows when it is used.
-    pub fn new(alloc: Global) -> Room {
-        Room {
+impl CellSpace {
+    /// Space that grows when it is used.
+    pub fn new(alloc: Global) -> CellSpace {
+        CellSpace {
             objects: Vec::new(alloc),
             above: Vec::new(alloc),
         }
@@ -38,15 +38,15 @@ pub fn cell_character<B: Board>(
     ground: LayerId,
     board: &B,
     cell: u32,
-    room: &mut Room,
+    space: &mut CellSpace,
 ) -> Result<char, Memory>
     requires ground { ground.0 ≡ background_layer names.now }
     requires cell { cell < cell_count (B.grid board.now) }
     requires shape { IsGrid (B.grid board.now) }
     ensures { IfOk result (λ character. character ≡ shown_character names.now (cell_at (B.grid board.now) cell)) }
 {
-    gather_objects(board, cell, &mut room.objects)?;
-    objects_character(names, ground, &room.objects, &mut room.above)
+    gather_objects(board, cell, &mut space.objects)?;
+    objects_character(names, ground, &space.objects, &mut space.above)
 }
 
 /// Gathers the objects of a cell, the lowest layer first, in place of what `objects` held.

@@ -6,7 +6,7 @@ ghost use Rattle.ps_model.specs.session.Frames.{frame};
 ghost use Rattle.ps_board.specs.Rows.{DifferOnlyOn};
 ghost use Rattle.ps_screen.specs.FrameTexts.{IsTextOf};
 
-use crate::cells::Room;
+use crate::cells::CellSpace;
 use crate::output_text::OutputText;
 use crate::plain_frames::{draw_frame, patch_frame};
 use crate::rows::{draw_rows, patch_rows};
@@ -35,7 +35,7 @@ pub fn draw_text<B: Board>(
     names: &Names,
     ground: LayerId,
     board: &B,
-    room: &mut Room,
+    space: &mut CellSpace,
     kept: Option<FrameText>,
 ) -> Result<FrameText, Memory>
     requires { ground.0 ≡ background_layer names.now }
@@ -46,10 +46,10 @@ pub fn draw_text<B: Board>(
         Some(FrameText::Rows(_texts)) => OutputText::new(alloc),
         None => OutputText::new(alloc),
     };
-    if draw_frame(names, ground, board, room, &mut whole)? {
+    if draw_frame(names, ground, board, space, &mut whole)? {
         return Ok(FrameText::Whole(whole));
     }
-    let rows = draw_rows(alloc, names, ground, board, room)?;
+    let rows = draw_rows(alloc, names, ground, board, space)?;
     Ok(FrameText::Rows(rows))
 }
 
@@ -66,7 +66,7 @@ pub fn patch_text<B: Board>(
     shown: &B,
     board: &B,
     rows: Columns<B::Words>,
-    room: &mut Room,
+    space: &mut CellSpace,
     kept: FrameText,
 ) -> Result<FrameText, Memory>
     requires ground { ground.0 ≡ background_layer names.now }
@@ -81,16 +81,16 @@ pub fn patch_text<B: Board>(
     match kept {
         FrameText::Whole(text) => {
             let mut whole = text;
-            if patch_frame(names, ground, shown, board, rows, room, &mut whole)? {
+            if patch_frame(names, ground, shown, board, rows, space, &mut whole)? {
                 return Ok(FrameText::Whole(whole));
             }
-            let texts = draw_rows(alloc, names, ground, board, room)?;
+            let texts = draw_rows(alloc, names, ground, board, space)?;
             Ok(FrameText::Rows(texts))
         }
         FrameText::Rows(texts) => {
             let mut texts = texts;
             let drawn = texts.as_mut_slice();
-            patch_rows(names, ground, shown, board, rows, room, drawn)?;
+            patch_rows(names, ground, shown, board, rows, space, drawn)?;
             Ok(FrameText::Rows(texts))
         }
     }

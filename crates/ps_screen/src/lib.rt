@@ -11,10 +11,14 @@ mod output_text;
 mod patching;
 mod picture;
 mod plain_frames;
+mod rooms;
 mod rows;
+mod windows;
 
 pub use output_text::OutputText;
 pub use picture::Picture;
 pub use ps_board::Board;
-pub use ps_model::Memory;
+pub use ps_model::{Memory, Room, RoomSize};
 pub use ps_names::Names;
+pub use ps_turn::TurnGame;
+pub use rooms::room_of;

@@ -98,6 +98,19 @@ impl OutputText {
         Ok(())
     }
 
+    /// Adds a row of a frame, which has these bytes.
+    ///
+    /// # Errors
+    ///
+    /// `Memory`, and the bytes may have been added without the line feed behind them.
+    pub fn add_row(&mut self, bytes: &[u8]) -> Result<(), Memory>
+        ensures added { OnOk result (self.new ≡ self.old ++ (bytes.now ++ codes "\n")) }
+        ensures front { OnErr result (take (length self.old) self.new ≡ self.old) }
+    {
+        self.add(bytes)?;
+        self.add(b"\n")
+    }
+
     /// Adds a character, in UTF-8.
     ///
     /// # Errors

@@ -9,7 +9,7 @@ ghost use Rattle.ps_board.specs.ColumnSets.{column_at};
 ghost use Rattle.ps_board.specs.Rows.{AreAlike};
 ghost use Rattle.ps_screen.specs.PlainRows.{AreDrawn, IsOutside, IsPlainRow};
 
-use crate::cells::{Room, cell_character};
+use crate::cells::{CellSpace, cell_character};
 use crate::output_text::OutputText;
 use ps_board::{Board, ColumnWords, Columns};
 use ps_model::{LayerId, Memory};
@@ -83,7 +83,7 @@ pub fn patch_columns<B: Board>(
     ground: LayerId,
     board: &B,
     row: u32,
-    room: &mut Room,
+    space: &mut CellSpace,
     columns: Columns<B::Words>,
     start: u32,
     text: &mut OutputText,
@@ -101,7 +101,7 @@ pub fn patch_columns<B: Board>(
     let (_width, height) = board.size();
     let mut left = columns;
     while let Some(column) = left.take_first() {
-        let character = cell_character(names, ground, board, column * height + row, room)?;
+        let character = cell_character(names, ground, board, column * height + row, space)?;
         let Some(byte) = one_byte(character) else {
             return Ok(false);
         };

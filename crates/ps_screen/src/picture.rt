@@ -3,14 +3,17 @@
 ghost use Rattle.std.specs.Prelude.{◌≡◌, ◌++◌, IfOk, IfSome, OnOk, OnErr};
 ghost use Rattle.ps_model.specs.board.Levels.{background_layer};
 ghost use Rattle.ps_model.specs.session.Frames.{frame};
+ghost use Rattle.ps_model.specs.session.Rooms.{frame_in, room_window, window_frame};
 ghost use Rattle.ps_screen.specs.FrameTexts.{IsTextOf};
 
-use crate::cells::Room;
+use crate::cells::CellSpace;
 use crate::frame_texts::{FrameText, add_text, draw_text, patch_text};
 use crate::meanings::ground_layer;
 use crate::output_text::OutputText;
+use crate::rooms::room_window;
+use crate::windows::add_window;
 use ps_board::Board;
-use ps_model::{LayerId, Memory};
+use ps_model::{LayerId, Memory, Room, RoomSize};
 use ps_names::Names;
 use std::alloc::Global;
 use std::marker::Model;
@@ -29,7 +32,7 @@ pub struct Picture<'g, B: Board> {
     alloc: Global,
     names: &'g Names,
     ground: LayerId,
-    room: Room,
+    space: CellSpace,
     last: Option<LastFrame<B>>,
 }
 
@@ -56,7 +59,7 @@ impl<'g, B: Board> Picture<'g, B> {
             alloc,
             names,
             ground: ground_layer(names),
-            room: Room::new(alloc),
+            space: CellSpace::new(alloc),
             last: None,
         }
     }
@@ -77,11 +80,73 @@ impl<'g, B: Board> Picture<'g, B> {
             self.ground,
             self.last.take(),
             board,
-            &mut self.room,
+            &mut self.space,
         )?;
         let added = add_text(self.names, board, &last.text, output);
         self.last = Some(last);
         added
+    }
+
+    /// Adds a frame of a room of a board to an output: its rows from the top, as far as the board goes, then an empty
+    /// line. What is made anew is what has changed of the whole board.
+    ///
+    /// # Errors
+    ///
+    /// `Memory`, and the output is as before.
+    pub fn show_room(
+        &mut self,
+        board: &B,
+        size: RoomSize,
+        room: Room,
+        output: &mut OutputText,
+    ) -> Result<(), Memory>
+        ensures names { self.new ≡ self.old }
+        ensures shown { OnOk result (output.new ≡ output.old
+            ++ window_frame self.old (B.grid board.now) (room_window size room (B.grid board.now))) }
+        ensures kept { OnErr result (output.new ≡ output.old) }
+    {
+        let last = redraw(
+            self.alloc,
+            self.names,
+            self.ground,
+            self.last.take(),
+            board,
+            &mut self.space,
+        )?;
+        let window = room_window(board, size, room);
+        let added = add_window(
+            self.names,
+            self.ground,
+            board,
+            window,
+            &last.text,
+            &mut self.space,
+            output,
+        );
+        self.last = Some(last);
+        added
+    }
+
+    /// Adds a frame to an output: of a room, where the game has rooms, and else of the whole board.
+    ///
+    /// # Errors
+    ///
+    /// `Memory`, and the output is as before.
+    pub fn show_in(
+        &mut self,
+        board: &B,
+        size: Option<RoomSize>,
+        room: Room,
+        output: &mut OutputText,
+    ) -> Result<(), Memory>
+        ensures names { self.new ≡ self.old }
+        ensures shown { OnOk result (output.new ≡ output.old ++ frame_in size self.old (B.grid board.now) room) }
+        ensures kept { OnErr result (output.new ≡ output.old) }
+    {
+        match size {
+            Some(size) => self.show_room(board, size, room, output),
+            None => self.show(board, output),
+        }
     }
 }
 
@@ -97,7 +162,7 @@ fn redraw<B: Board>(
     ground: LayerId,
     last: Option<LastFrame<B>>,
     board: &B,
-    room: &mut Room,
+    space: &mut CellSpace,
 ) -> Result<LastFrame<B>, Memory>
     requires ground { ground.0 ≡ background_layer names.now }
     requires last { IfSome last (λ last. IsTextOf names.now (B.grid last.board) last.text) }
@@ -105,17 +170,17 @@ fn redraw<B: Board>(
     ensures kept { IfOk result (λ last. IsTextOf names.now (B.grid last.board) last.text) }
 {
     let Some(last) = last else {
-        return draw(alloc, names, ground, None, board, room);
+        return draw(alloc, names, ground, None, board, space);
     };
     let LastFrame {
         text,
         board: mut before,
     } = last;
     if !board.is_alike(&before) {
-        return draw(alloc, names, ground, Some(text), board, room);
+        return draw(alloc, names, ground, Some(text), board, space);
     }
     let rows = board.rows_differing(&before);
-    let text = patch_text(alloc, names, ground, &before, board, rows, room, text)?;
+    let text = patch_text(alloc, names, ground, &before, board, rows, space, text)?;
     board.copy_rows(&mut before, &rows);
     Ok(LastFrame {
         text,
@@ -134,13 +199,13 @@ fn draw<B: Board>(
     ground: LayerId,
     kept: Option<FrameText>,
     board: &B,
-    room: &mut Room,
+    space: &mut CellSpace,
 ) -> Result<LastFrame<B>, Memory>
     requires { ground.0 ≡ background_layer names.now }
     ensures text { IfOk result (λ last. IsTextOf names.now (B.grid board.now) last.text) }
     ensures kept { IfOk result (λ last. IsTextOf names.now (B.grid last.board) last.text) }
 {
-    let text = draw_text(alloc, names, ground, board, room, kept)?;
+    let text = draw_text(alloc, names, ground, board, space, kept)?;
     let board = board.try_copy(alloc)?;
     Ok(LastFrame { text, board })
 }

@@ -6,7 +6,7 @@ ghost use Rattle.ps_model.specs.board.Levels.{background_layer};
 ghost use Rattle.ps_board.specs.Rows.{DifferOnlyOn};
 ghost use Rattle.ps_screen.specs.PlainFrames.{IsBlankFrame, IsPlainFrame};
 
-use crate::cells::Room;
+use crate::cells::CellSpace;
 use crate::output_text::OutputText;
 use crate::patching::{add_blank_row, patch_columns};
 use ps_board::{Board, Columns};
@@ -23,7 +23,7 @@ pub fn draw_frame<B: Board>(
     names: &Names,
     ground: LayerId,
     board: &B,
-    room: &mut Room,
+    space: &mut CellSpace,
     text: &mut OutputText,
 ) -> Result<bool, Memory>
     requires { ground.0 ≡ background_layer names.now }
@@ -34,7 +34,7 @@ pub fn draw_frame<B: Board>(
     let columns = Columns::below(width);
     for row in 0..height {
         let start = row * (width + 1);
-        let plain = patch_columns(names, ground, board, row, room, columns, start, text)?;
+        let plain = patch_columns(names, ground, board, row, space, columns, start, text)?;
         if !plain {
             return Ok(false);
         }
@@ -54,7 +54,7 @@ pub fn patch_frame<B: Board>(
     shown: &B,
     board: &B,
     rows: Columns<B::Words>,
-    room: &mut Room,
+    space: &mut CellSpace,
     text: &mut OutputText,
 ) -> Result<bool, Memory>
     requires ground { ground.0 ≡ background_layer names.now }
@@ -72,7 +72,7 @@ pub fn patch_frame<B: Board>(
     while let Some(row) = left.take_first() {
         let differing = board.differing(shown, row).both(columns);
         let start = row * (width + 1);
-        let plain = patch_columns(names, ground, board, row, room, differing, start, text)?;
+        let plain = patch_columns(names, ground, board, row, space, differing, start, text)?;
         if !plain {
             return Ok(false);
         }

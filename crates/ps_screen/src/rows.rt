@@ -6,7 +6,7 @@ ghost use Rattle.ps_model.specs.session.Frames.{frame_row};
 ghost use Rattle.ps_board.specs.Rows.{DifferOnlyOn};
 ghost use Rattle.ps_screen.specs.KeptRows.{AreRowsOf};
 
-use crate::cells::{Room, cell_character};
+use crate::cells::{CellSpace, cell_character};
 use crate::output_text::OutputText;
 use crate::patching::{add_blank_row, patch_columns};
 use ps_board::{Board, Columns};
@@ -24,7 +24,7 @@ pub fn draw_rows<B: Board>(
     names: &Names,
     ground: LayerId,
     board: &B,
-    room: &mut Room,
+    space: &mut CellSpace,
 ) -> Result<Vec<OutputText>, Memory>
     requires { ground.0 ≡ background_layer names.now }
     ensures { IfOk result (λ texts. AreRowsOf names.now (B.grid board.now) texts.items) }
@@ -33,7 +33,7 @@ pub fn draw_rows<B: Board>(
     let mut texts = Vec::new(alloc);
     for row in 0..height {
         let mut text = OutputText::new(alloc);
-        draw_row(names, ground, board, row, room, &mut text)?;
+        draw_row(names, ground, board, row, space, &mut text)?;
         texts.push(text)?;
     }
     Ok(texts)
@@ -51,7 +51,7 @@ pub fn patch_rows<B: Board>(
     shown: &B,
     board: &B,
     rows: Columns<B::Words>,
-    room: &mut Room,
+    space: &mut CellSpace,
     texts: &mut [OutputText],
 ) -> Result<(), Memory>
     requires ground { ground.0 ≡ background_layer names.now }
@@ -67,7 +67,7 @@ pub fn patch_rows<B: Board>(
     let mut left = rows.both(Columns::below(height));
     while let Some(row) = left.take_first() {
         let text = &mut texts[row as usize];
-        patch_row(names, ground, shown, board, row, room, text)?;
+        patch_row(names, ground, shown, board, row, space, text)?;
     }
     Ok(())
 }
@@ -84,7 +84,7 @@ fn patch_row<B: Board>(
     shown: &B,
     board: &B,
     row: u32,
-    room: &mut Room,
+    space: &mut CellSpace,
     text: &mut OutputText,
 ) -> Result<(), Memory>
     requires ground { ground.0 ≡ background_layer names.now }
@@ -102,13 +102,13 @@ fn patch_row<B: Board>(
         return Ok(());
     }
     if text.bytes().len() != width as usize + 1 {
-        return draw_row(names, ground, board, row, room, text);
+        return draw_row(names, ground, board, row, space, text);
     }
-    let plain = patch_columns(names, ground, board, row, room, differing, 0, text)?;
+    let plain = patch_columns(names, ground, board, row, space, differing, 0, text)?;
     if plain {
         return Ok(());
     }
-    draw_row(names, ground, board, row, room, text)
+    draw_row(names, ground, board, row, space, text)
 }
 
 /// Makes a text a row of a board's frame: cells with the same objects by one look for a glyph, if each is of one byte.
@@ -117,7 +117,7 @@ fn draw_row<B: Board>(
     ground: LayerId,
     board: &B,
     row: u32,
-    room: &mut Room,
+    space: &mut CellSpace,
     text: &mut OutputText,
 ) -> Result<(), Memory>
     requires ground { ground.0 ≡ background_layer names.now }
@@ -128,12 +128,12 @@ fn draw_row<B: Board>(
     text.clear();
     add_blank_row(text, width)?;
     let columns = Columns::below(width);
-    let plain = patch_columns(names, ground, board, row, room, columns, 0, text)?;
+    let plain = patch_columns(names, ground, board, row, space, columns, 0, text)?;
     if plain {
         return Ok(());
     }
     text.clear();
-    add_row(names, ground, board, row, room, text)
+    add_row(names, ground, board, row, space, text)
 }
 
 /// Adds a row of a frame.
@@ -142,7 +142,7 @@ fn add_row<B: Board>(
     ground: LayerId,
     board: &B,
     row: u32,
-    room: &mut Room,
+    space: &mut CellSpace,
     output: &mut OutputText,
 ) -> Result<(), Memory>
     requires ground { ground.0 ≡ background_layer names.now }
@@ -151,7 +151,7 @@ fn add_row<B: Board>(
 {
     let (width, height) = board.size();
     for column in 0..width {
-        let character = cell_character(names, ground, board, column * height + row, room)?;
+        let character = cell_character(names, ground, board, column * height + row, space)?;
         output.add_character(character)?;
     }
     output.add(b"\n")

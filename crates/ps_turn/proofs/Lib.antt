@@ -4,3 +4,4 @@ mod Stayed
 mod Sweeps
 mod CellsChanged
 mod WhereObjectsStand
+mod FirstCells

@@ -1,3 +1,4 @@
 pub mod RowsOfCells
 pub mod States
 pub mod Sweeps
+pub mod FirstCells

@@ -4,6 +4,7 @@
 //! takes no memory for boards; without memory, and where a turn is blocked or restarts, both are equal again.
 #![tactic(auto)]
 
+mod first_player;
 mod inputs;
 mod meanings;
 mod outcomes;
@@ -15,6 +16,7 @@ mod standing;
 mod turns;
 mod winning;
 
+pub use first_player::first_player_cell;
 pub use inputs::{give_motion, motion_for};
 pub use outcomes::{DoneTurn, Turned};
 pub use ps_board::Board;

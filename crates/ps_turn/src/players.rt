@@ -12,7 +12,7 @@ use crate::turns::TurnGame;
 use ps_board::{Board, Columns};
 
 /// The columns of a row in whose cells a Player stands.
-fn player_columns<B: Board>(game: &TurnGame<'_>, board: &B, row: u32) -> Columns<B::Words>
+pub fn player_columns<B: Board>(game: &TurnGame<'_>, board: &B, row: u32) -> Columns<B::Words>
     requires { row < (B.grid board.now).height }
     ensures { result ≡ row_cells (has_player game.now.names) (B.grid board.now) row }
 {

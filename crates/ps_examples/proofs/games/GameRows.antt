@@ -56,7 +56,7 @@ unfolding chars is_utf8 encode utf8_valid_len
 wins = refl
 
 prelude : option_map {U = List ℕ × Options} (λ read. (read.title, read.options)) (game (codes "noundo\n" ++ base_text (codes "P")))
-    ≡ Some (codes "T", record { no_action = false; no_undo = true; no_restart = false; require_player_movement = false; run_rules_on_level_start = false })
+    ≡ Some (codes "T", record { no_action = false; no_undo = true; no_restart = false; require_player_movement = false; run_rules_on_level_start = false; flickscreen = None })
 unfolding chars is_utf8 encode utf8_valid_len
 prelude = refl
 

@@ -532,11 +532,19 @@ win_before_again : written (base_game (codes "[ B ] -> [ C ]\n[ action Player ] 
 unfolding chars digits is_utf8 utf8_valid_len encode group program_run all_start_turns all_key_turns turn opening_step
 win_before_again = refl
 
--- DECISIONS.md: to come ------------------------------------------------------------------------------------------------------
+-- DECISIONS.md: rooms ---------------------------------------------------------------------------------------------------------
 
-no_rooms_yet : written (changed 1 1 (codes "title T\nflickscreen 3 x 1\n") (base_game [] [] (codes "P\n"))) [] ≡ Some (codes "= T\n# level 1\nP\n\n* end of keys\n")
-unfolding chars digits is_utf8 utf8_valid_len encode group program_run all_start_turns all_key_turns turn opening_step
-no_rooms_yet = refl
+one_word : refused (changed 1 1 (codes "title T\nflickscreen 3 x 1\n") (base_game [] [] (codes "P\n"))) ≡ Some (record { kind = kind.BadFlickscreen; line = 2 })
+unfolding chars is_utf8 utf8_valid_len encode
+one_word = refl
+
+whole_line : map (λ line. refused (changed 1 1 (codes "title T\n" ++ line) (base_game [] [] (codes "P\n")))) (codes "flickscreen 003X1 wide\n" ∷ codes "flickscreens 3\n" ∷ []) ≡ replicate 2 None
+unfolding chars is_utf8 utf8_valid_len encode
+whole_line = refl
+
+none_bad : refused (changed 1 1 (codes "flickscreen 3x1\nflickscreen 3\n") (base_game [] [] (codes "P\n"))) ≡ Some (record { kind = kind.BadFlickscreen; line = 2 })
+unfolding chars is_utf8 utf8_valid_len encode
+none_bad = refl
 
 -- LANGUAGE.md, faults: the text ----------------------------------------------------------------------------------------------
 
@@ -577,6 +585,10 @@ readings_in_one_direction = refl
 impossible : refused (changed 30 1 (codes "[ Player Wall ] -> [ Player ]\n") the_game) ≡ Some (record { kind = kind.Impossible; line = 30 })
 unfolding chars is_utf8 utf8_valid_len encode
 impossible = refl
+
+bad_flickscreen : refused (changed 2 0 (codes "flickscreen 3 x 1\n") the_game) ≡ Some (record { kind = kind.BadFlickscreen; line = 2 })
+unfolding chars is_utf8 utf8_valid_len encode
+bad_flickscreen = refl
 
 -- LANGUAGE.md, faults: names -------------------------------------------------------------------------------------------------
 

@@ -47,11 +47,6 @@ play_077 : written (codes "title T" ++ ((13 ∷ []) ++ (codes "\nnoaction" ++ ((
 unfolding chars digits is_utf8 utf8_valid_len encode group program_run all_start_turns all_key_turns turn opening_step
 play_077 = refl
 
-play_083 : written (codes "title x (c) y" ++ ((13 ∷ []) ++ (codes "\nnoaction" ++ ((13 ∷ []) ++ (codes "\nflickscreen 0x1\nOBJECTS" ++ ((13 ∷ []) ++ (codes "\n" ++ ((13 ∷ []) ++ (codes "\nBackground  2" ++ ((13 ∷ []) ++ (codes "\n#fff" ++ ((13 ∷ []) ++ (codes "\n93161" ++ ((13 ∷ []) ++ (codes "\n67838" ++ ((13 ∷ []) ++ (codes "\n33875" ++ ((13 ∷ []) ++ (codes "\n.9642" ++ ((13 ∷ []) ++ (codes "\n9.904" ++ ((13 ∷ []) ++ (codes "\n" ++ ((13 ∷ []) ++ (codes "\nPlayerA  *" ++ ((13 ∷ []) ++ (codes "\ngreen" ++ ((13 ∷ []) ++ (codes "\n" ++ ((13 ∷ []) ++ (codes "\nPlayerB" ++ ((13 ∷ []) ++ (codes "\ntransparent" ++ ((13 ∷ []) ++ (codes "\n77.15" ++ ((13 ∷ []) ++ (codes "\n7809." ++ ((13 ∷ []) ++ (codes "\n00002" ++ ((13 ∷ []) ++ (codes "\n12928" ++ ((13 ∷ []) ++ (codes "\n05.75" ++ ((13 ∷ []) ++ (codes "\n" ++ ((13 ∷ []) ++ (codes "\nGhost" ++ ((13 ∷ []) ++ (codes "\nblue" ++ ((13 ∷ []) ++ (codes "\n" ++ ((13 ∷ []) ++ (codes "\nWater\t~" ++ ((13 ∷ []) ++ (codes "\ngreen" ++ ((13 ∷ []) ++ (codes "\n" ++ ((13 ∷ []) ++ (codes "\n=========" ++ ((13 ∷ []) ++ (codes "\nLEGEND" ++ ((13 ∷ []) ++ (codes "\n=====" ++ ((13 ∷ []) ++ (codes "\nPlayer = PlayerA or PlayerB" ++ ((13 ∷ []) ++ (codes "\nP0 = Player or Water or Water" ++ ((13 ∷ []) ++ (codes "\nP1 = Ghost or Water or PlayerB" ++ ((13 ∷ []) ++ (codes "\nG0= Water and PlayerB" ++ ((13 ∷ []) ++ (codes "\nm = PlayerA and PlayerB and Ghost" ++ ((13 ∷ []) ++ (codes "\nG2=Water and Ghost and PlayerB" ++ ((13 ∷ []) ++ (codes "\n9 = Ghost" ++ ((13 ∷ []) ++ (codes "\ncOlLisIONLAYeRS" ++ ((13 ∷ []) ++ (codes "\nBackground" ++ ((13 ∷ []) ++ (codes "\nPlayerB" ++ ((13 ∷ []) ++ (codes "\nGhost" ++ ((13 ∷ []) ++ (codes "\nPlayerA" ++ ((13 ∷ []) ++ (codes "\nWater" ++ ((13 ∷ []) ++ (codes "\nRULES" ++ ((13 ∷ []) ++ (codes "\n" ++ ((13 ∷ []) ++ (codes "\n[ > Player | Ghost ] -> [ > Player | > Ghost ]" ++ ((13 ∷ []) ++ (codes "\n=====" ++ ((13 ∷ []) ++ (codes "\nWINCONDITIONS" ++ ((13 ∷ []) ++ (codes "\n====" ++ ((13 ∷ []) ++ (codes "\n=" ++ ((13 ∷ []) ++ (codes "\nLEVELS" ++ ((13 ∷ []) ++ (codes "\n===" ++ ((13 ∷ []) ++ (codes "\n" ++ ((13 ∷ []) ++ (codes "\n22m" ++ ((13 ∷ []) ++ (codes "\n" ++ ((13 ∷ []) ++ (codes "\nmessage  A (b) c" ++ ((13 ∷ []) ++ (codes "\n" ++ ((13 ∷ []) ++ (codes "\nm2*292" ++ ((13 ∷ []) ++ (codes "\n~~~m92" ++ ((13 ∷ []) ++ (codes "\n29~*2*" ++ ((13 ∷ []) ++ (codes "\n~22m22" ++ ((13 ∷ []) ++ (codes "\n2229*2" ++ ((13 ∷ []) ++ (codes "\n292*92" ++ ((13 ∷ []) ++ (codes "\n" ++ ((13 ∷ []) ++ (codes "\n~222~" ++ ((13 ∷ []) ++ (codes "\n222mm" ++ ((13 ∷ []) ++ (codes "\n299*9" ++ ((13 ∷ []) ++ (codes "\n92*2~" ++ ((13 ∷ []) ++ (codes "\n2922~" ++ ((13 ∷ []) ++ (codes "\n2229*" ++ ((13 ∷ []) ++ (codes "\n" ++ ((13 ∷ []) ++ (codes "\n"))))))))))))))))))))))))))))))))))))))))))))))))))))))))))))))))))))))))))))))))))))))))))))))))))))))))))))))))))))))))))))))))))))))))))))))))))) (codes "wdxzd" ++ ((27 ∷ []) ++ (codes "[Bwda" ++ ((27 ∷ [])))))
-    ≡ Some (codes "= x\n# level 1\n22m\n\n22m\n\n22m\n\n22m\n\n22m\n\n22m\n\n22m\n\n22m\n\n2*9\n\n* end of keys\n")
-unfolding chars digits is_utf8 utf8_valid_len encode group program_run all_start_turns all_key_turns turn opening_step
-play_083 = refl
-
 play_084 : written (codes "title x (c) y\nOBJECTS\nBackground\t6 (message hi)\ntransparent\nPlayer  /\nlight-blue 12\nup1  a\n#fff\n80987\n.2252\n1515.\n48109\n11152\n\nD\t`\nred\n\nC\t!\nred\n\nWater\ngreen\n\nWall\t|\n#fff\n\nagain2 O\ntransparent\n.3908\n79522\n150.3\n67395\n02949\nLEGEND\n? = Water\nq = Background\nS2 = up1\nCOLLISIONLAYERS\nBackground\nC, Water, up1, D, again2, Wall, Player\nRULES\n[q Wall] -> [  ]\n+ [ Wall | horizontal C | ... | ^Background | perpendicular ? no Player ] -> [  |  | ... | ^Background | no Player ]\n+ ORTHogoNAL [ VerTiCAL ? ] -> [  ]\nWINCONDITIONS\nLEVELS\n/q\na6\n6/\n\n") (codes "sQkd" ++ ((27 ∷ []) ++ (codes "[1;5Cdd")))
     ≡ Some (codes "= x\n# level 1\n/6\na6\n6/\n\n/6\na6\n6/\n\n6/\na6\n6/\n\n6/\na6\n6/\n\n6/\na6\n6/\n\n* end of keys\n")
 unfolding chars digits is_utf8 utf8_valid_len encode group program_run all_start_turns all_key_turns turn opening_step
@@ -66,11 +61,6 @@ play_089 : written (codes "title T\n====\nOBJECTS\n=\n\nbaCkgRoUnd /\nred\n.2264
     ≡ Some (codes "= T\n# level 1\n" ++ ((195 ∷ 169 ∷ []) ++ (codes "//////\n///////\n\n" ++ ((195 ∷ 169 ∷ []) ++ (codes "//////\n///////\n\n" ++ ((195 ∷ 169 ∷ []) ++ (codes "//////\n///////\n\n" ++ ((195 ∷ 169 ∷ []) ++ (codes "//////\n///////\n\n* quit\n")))))))))
 unfolding chars digits is_utf8 utf8_valid_len encode group program_run all_start_turns all_key_turns turn opening_step
 play_089 = refl
-
-play_092 : written (codes "title A  Long Title " ++ ((13 ∷ []) ++ (codes "\nflickscreen 0x1\nnoundo" ++ ((13 ∷ []) ++ (codes "\nrun_rules_on_level_start" ++ ((13 ∷ []) ++ (codes "\n========" ++ ((13 ∷ []) ++ (codes "\nOBJECTS" ++ ((13 ∷ []) ++ (codes "\n=" ++ ((13 ∷ []) ++ (codes "\n" ++ ((13 ∷ []) ++ (codes "\nBackground  " ++ ((229 ∷ 173 ∷ 151 ∷ 13 ∷ []) ++ (codes "\ngreen" ++ ((13 ∷ []) ++ (codes "\nPlayer 5" ++ ((13 ∷ []) ++ (codes "\nlight-blue 12" ++ ((13 ∷ []) ++ (codes "\n" ++ ((13 ∷ []) ++ (codes "\nD " ++ ((195 ∷ 169 ∷ 13 ∷ []) ++ (codes "\nlight-blue 12" ++ ((13 ∷ []) ++ (codes "\ngem  *" ++ ((13 ∷ []) ++ (codes "\n#fff" ++ ((13 ∷ []) ++ (codes "\n19131" ++ ((13 ∷ []) ++ (codes "\n0.940" ++ ((13 ∷ []) ++ (codes "\n00350" ++ ((13 ∷ []) ++ (codes "\n49246" ++ ((13 ∷ []) ++ (codes "\n00087" ++ ((13 ∷ []) ++ (codes "\n" ++ ((13 ∷ []) ++ (codes "\nGoal" ++ ((13 ∷ []) ++ (codes "\ngreen" ++ ((13 ∷ []) ++ (codes "\n" ++ ((13 ∷ []) ++ (codes "\nKey j" ++ ((13 ∷ []) ++ (codes "\n#fff" ++ ((13 ∷ []) ++ (codes "\n" ++ ((13 ∷ []) ++ (codes "\nup1  8 ( )" ++ ((13 ∷ []) ++ (codes "\ntransparent" ++ ((13 ∷ []) ++ (codes "\n" ++ ((13 ∷ []) ++ (codes "\nv2  2" ++ ((13 ∷ []) ++ (codes "\n#fff" ++ ((13 ∷ []) ++ (codes "\n" ++ ((13 ∷ []) ++ (codes "\n========" ++ ((13 ∷ []) ++ (codes "\nLEGEND" ++ ((13 ∷ []) ++ (codes "\n==" ++ ((13 ∷ []) ++ (codes "\n4 = Goal and v2 and Gem" ++ ((13 ∷ []) ++ (codes "\nl = v2" ++ ((13 ∷ []) ++ (codes "\n- = GEM AND KEY" ++ ((13 ∷ []) ++ (codes "\nG0 =D and up1" ++ ((13 ∷ []) ++ (codes "\n========" ++ ((13 ∷ []) ++ (codes "\nCOLLISIONLAYERS" ++ ((13 ∷ []) ++ (codes "\n=========" ++ ((13 ∷ []) ++ (codes "\n" ++ ((13 ∷ []) ++ (codes "\nBackground" ++ ((13 ∷ []) ++ (codes "\nv2" ++ ((13 ∷ []) ++ (codes "\nGem" ++ ((13 ∷ []) ++ (codes "\nKey up1 Goal" ++ ((13 ∷ []) ++ (codes "\nD, Player" ++ ((13 ∷ []) ++ (codes "\n=======" ++ ((13 ∷ []) ++ (codes "\nRULES" ++ ((13 ∷ []) ++ (codes "\n====" ++ ((13 ∷ []) ++ (codes "\n" ++ ((13 ∷ []) ++ (codes "\nWINCONDITIONS" ++ ((13 ∷ []) ++ (codes "\nAll 4" ++ ((13 ∷ []) ++ (codes "\nAny D" ++ ((13 ∷ []) ++ (codes "\nLEVELS" ++ ((13 ∷ []) ++ (codes "\n" ++ ((195 ∷ 169 ∷ []) ++ (codes "*" ++ ((229 ∷ 173 ∷ 151 ∷ []) ++ (codes "4jl" ++ ((195 ∷ 169 ∷ 229 ∷ 173 ∷ 151 ∷ 13 ∷ []) ++ (codes "\n5" ++ ((195 ∷ 169 ∷ []) ++ (codes "5jj" ++ ((195 ∷ 169 ∷ []) ++ (codes "j2" ++ ((13 ∷ []) ++ (codes "\n" ++ ((229 ∷ 173 ∷ 151 ∷ 229 ∷ 173 ∷ 151 ∷ []) ++ (codes "5" ++ ((229 ∷ 173 ∷ 151 ∷ []) ++ (codes "l" ++ ((229 ∷ 173 ∷ 151 ∷ []) ++ (codes "54" ++ ((13 ∷ []) ++ (codes "\n" ++ ((13 ∷ []) ++ (codes "\n"))))))))))))))))))))))))))))))))))))))))))))))))))))))))))))))))))))))))))))))))))))))))))))))))))))))))))))))))))))))))))))))))))))))))))) (codes "szzxdxxdzxxr")
-    ≡ Some (codes "= A  Long Title\n# level 1\nD*" ++ ((229 ∷ 173 ∷ 151 ∷ []) ++ (codes "4j2D" ++ ((229 ∷ 173 ∷ 151 ∷ []) ++ (codes "\n5D5jjDj2\n" ++ ((229 ∷ 173 ∷ 151 ∷ 229 ∷ 173 ∷ 151 ∷ []) ++ (codes "5" ++ ((229 ∷ 173 ∷ 151 ∷ []) ++ (codes "2" ++ ((229 ∷ 173 ∷ 151 ∷ []) ++ (codes "54\n\nD*" ++ ((229 ∷ 173 ∷ 151 ∷ []) ++ (codes "4j2D" ++ ((229 ∷ 173 ∷ 151 ∷ []) ++ (codes "\n" ++ ((229 ∷ 173 ∷ 151 ∷ []) ++ (codes "D5jjDj2\n5" ++ ((229 ∷ 173 ∷ 151 ∷ []) ++ (codes "5" ++ ((229 ∷ 173 ∷ 151 ∷ []) ++ (codes "2" ++ ((229 ∷ 173 ∷ 151 ∷ []) ++ (codes "54\n\n* level 1 done\n* the end\n")))))))))))))))))))))))
-unfolding chars digits is_utf8 utf8_valid_len encode group program_run all_start_turns all_key_turns turn opening_step
-play_092 = refl
 
 play_098 : written ((239 ∷ 187 ∷ 191 ∷ []) ++ (codes "title A  Long Title \nrequire_player_movement\nOBJECTS\nBackground  " ++ ((195 ∷ 169 ∷ []) ++ (codes "\n#fff\n\nPlayer 6\n#fff\n\nD\n#fff\n33135\n.2336\n19965\n95787\n09089\n\nGem g\ngreen\n44359\n6..9.\n65466\n1.152\n77592\n\nWall\nlight-blue 12\n\nv2  i (c)\ntransparent\n43574\n4234.\n51007\n06132\n.8209\nKey  ;\nlight-blue 12\n5875.\n84373\n44210\n15970\n31.56\n\nagain2\t7 (message hi)\nred\n.0483\n38392\n66126\n11443\n28697\n\n=\nLEGEND\n=====\nv = D\nt = Wall\nCOLLISIONLAYERS\n\nBackground\nPlayer\nv2\nagain2 Key\nGem, D, Wall\nRULES\n[ > Player | v2 ] -> [ > Player | > v2 ]\n+ [Key|Gem] -> [ action Key | Gem ]\nWINCONDITIONS\nAny Key on t\n========\nLEVELS\n==\nmessage  fin \n\n" ++ ((195 ∷ 169 ∷ 195 ∷ 169 ∷ []) ++ (codes "i\n" ++ ((195 ∷ 169 ∷ 195 ∷ 169 ∷ 195 ∷ 169 ∷ []) ++ (codes "\n6" ++ ((195 ∷ 169 ∷ 195 ∷ 169 ∷ []) ++ (codes "\n" ++ ((195 ∷ 169 ∷ 195 ∷ 169 ∷ 195 ∷ 169 ∷ []) ++ (codes "\nv" ++ ((195 ∷ 169 ∷ []) ++ (codes "6\n\n")))))))))))))) (codes "zxzxddxdwwzx")
     ≡ Some (codes "= A  Long Title\n! fin\n# level 1\n" ++ ((195 ∷ 169 ∷ 195 ∷ 169 ∷ []) ++ (codes "i\n" ++ ((195 ∷ 169 ∷ 195 ∷ 169 ∷ 195 ∷ 169 ∷ []) ++ (codes "\n6" ++ ((195 ∷ 169 ∷ 195 ∷ 169 ∷ []) ++ (codes "\n" ++ ((195 ∷ 169 ∷ 195 ∷ 169 ∷ 195 ∷ 169 ∷ []) ++ (codes "\nD" ++ ((195 ∷ 169 ∷ []) ++ (codes "6\n\n" ++ ((195 ∷ 169 ∷ 195 ∷ 169 ∷ []) ++ (codes "i\n" ++ ((195 ∷ 169 ∷ 195 ∷ 169 ∷ 195 ∷ 169 ∷ []) ++ (codes "\n6" ++ ((195 ∷ 169 ∷ 195 ∷ 169 ∷ []) ++ (codes "\n" ++ ((195 ∷ 169 ∷ 195 ∷ 169 ∷ 195 ∷ 169 ∷ []) ++ (codes "\nD" ++ ((195 ∷ 169 ∷ []) ++ (codes "6\n\n" ++ ((195 ∷ 169 ∷ 195 ∷ 169 ∷ []) ++ (codes "i\n" ++ ((195 ∷ 169 ∷ 195 ∷ 169 ∷ 195 ∷ 169 ∷ []) ++ (codes "\n6" ++ ((195 ∷ 169 ∷ 195 ∷ 169 ∷ []) ++ (codes "\n" ++ ((195 ∷ 169 ∷ 195 ∷ 169 ∷ 195 ∷ 169 ∷ []) ++ (codes "\nD" ++ ((195 ∷ 169 ∷ []) ++ (codes "6\n\n" ++ ((195 ∷ 169 ∷ 195 ∷ 169 ∷ []) ++ (codes "i\n" ++ ((195 ∷ 169 ∷ 195 ∷ 169 ∷ 195 ∷ 169 ∷ []) ++ (codes "\n" ++ ((195 ∷ 169 ∷ []) ++ (codes "6" ++ ((195 ∷ 169 ∷ []) ++ (codes "\n" ++ ((195 ∷ 169 ∷ 195 ∷ 169 ∷ 195 ∷ 169 ∷ []) ++ (codes "\nD" ++ ((195 ∷ 169 ∷ []) ++ (codes "6\n\n" ++ ((195 ∷ 169 ∷ 195 ∷ 169 ∷ []) ++ (codes "i\n" ++ ((195 ∷ 169 ∷ 195 ∷ 169 ∷ 195 ∷ 169 ∷ []) ++ (codes "\n" ++ ((195 ∷ 169 ∷ 195 ∷ 169 ∷ []) ++ (codes "6\n" ++ ((195 ∷ 169 ∷ 195 ∷ 169 ∷ 195 ∷ 169 ∷ []) ++ (codes "\nD" ++ ((195 ∷ 169 ∷ []) ++ (codes "6\n\n" ++ ((195 ∷ 169 ∷ 195 ∷ 169 ∷ []) ++ (codes "i\n" ++ ((195 ∷ 169 ∷ 195 ∷ 169 ∷ 195 ∷ 169 ∷ []) ++ (codes "\n" ++ ((195 ∷ 169 ∷ 195 ∷ 169 ∷ []) ++ (codes "6\n" ++ ((195 ∷ 169 ∷ 195 ∷ 169 ∷ 195 ∷ 169 ∷ []) ++ (codes "\nD" ++ ((195 ∷ 169 ∷ []) ++ (codes "6\n\n" ++ ((195 ∷ 169 ∷ 195 ∷ 169 ∷ []) ++ (codes "i\n" ++ ((195 ∷ 169 ∷ 195 ∷ 169 ∷ 195 ∷ 169 ∷ []) ++ (codes "\n" ++ ((195 ∷ 169 ∷ 195 ∷ 169 ∷ []) ++ (codes "6\n" ++ ((195 ∷ 169 ∷ 195 ∷ 169 ∷ 195 ∷ 169 ∷ []) ++ (codes "\nD" ++ ((195 ∷ 169 ∷ []) ++ (codes "6\n\n" ++ ((195 ∷ 169 ∷ 195 ∷ 169 ∷ []) ++ (codes "i\n" ++ ((195 ∷ 169 ∷ 195 ∷ 169 ∷ []) ++ (codes "6\n" ++ ((195 ∷ 169 ∷ 195 ∷ 169 ∷ 195 ∷ 169 ∷ []) ++ (codes "\n" ++ ((195 ∷ 169 ∷ 195 ∷ 169 ∷ []) ++ (codes "6\nD" ++ ((195 ∷ 169 ∷ 195 ∷ 169 ∷ []) ++ (codes "\n\n" ++ ((195 ∷ 169 ∷ 195 ∷ 169 ∷ []) ++ (codes "i\n" ++ ((195 ∷ 169 ∷ 195 ∷ 169 ∷ 195 ∷ 169 ∷ []) ++ (codes "\n" ++ ((195 ∷ 169 ∷ 195 ∷ 169 ∷ []) ++ (codes "6\n" ++ ((195 ∷ 169 ∷ 195 ∷ 169 ∷ 195 ∷ 169 ∷ []) ++ (codes "\nD" ++ ((195 ∷ 169 ∷ 195 ∷ 169 ∷ []) ++ (codes "\n\n" ++ ((195 ∷ 169 ∷ 195 ∷ 169 ∷ []) ++ (codes "i\n" ++ ((195 ∷ 169 ∷ 195 ∷ 169 ∷ []) ++ (codes "6\n" ++ ((195 ∷ 169 ∷ 195 ∷ 169 ∷ 195 ∷ 169 ∷ []) ++ (codes "\n" ++ ((195 ∷ 169 ∷ 195 ∷ 169 ∷ []) ++ (codes "6\nD" ++ ((195 ∷ 169 ∷ 195 ∷ 169 ∷ []) ++ (codes "\n\n" ++ ((195 ∷ 169 ∷ 195 ∷ 169 ∷ []) ++ (codes "i\n" ++ ((195 ∷ 169 ∷ 195 ∷ 169 ∷ []) ++ (codes "6\n" ++ ((195 ∷ 169 ∷ 195 ∷ 169 ∷ 195 ∷ 169 ∷ []) ++ (codes "\n" ++ ((195 ∷ 169 ∷ 195 ∷ 169 ∷ []) ++ (codes "6\nD" ++ ((195 ∷ 169 ∷ 195 ∷ 169 ∷ []) ++ (codes "\n\n* end of keys\n")))))))))))))))))))))))))))))))))))))))))))))))))))))))))))))))))))))))))))))))))))))))))))))))))))))))))))))))))

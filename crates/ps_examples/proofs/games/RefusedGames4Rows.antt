@@ -1,5 +1,5 @@
 -- Small games as other programs play them, evaluated: written by tools/rows_from_games.
-use Rattle.std.proofs.Common.{◌≡◌, refl, Some}
+use Rattle.std.proofs.Common.{◌≡◌, [], ◌∷◌, ◌++◌, refl, Some}
 use Rattle.std.specs.Prelude.{codes}
 use Rattle.std.specs.Str.{chars, is_utf8}
 use Rattle.std.specs.Str.Lossy.{utf8_valid_len}
@@ -72,3 +72,13 @@ odd_fault_088 : refused (codes "title T\nOBJECTS\nBackground .\ngreen\nWall #\nb
     ≡ Some (record { kind = kind.BadLine; line = 34 })
 unfolding chars digits is_utf8 utf8_valid_len encode group program_run all_start_turns all_key_turns turn opening_step
 odd_fault_088 = refl
+
+play_083 : refused (codes "title x (c) y" ++ ((13 ∷ []) ++ (codes "\nnoaction" ++ ((13 ∷ []) ++ (codes "\nflickscreen 0x1\nOBJECTS" ++ ((13 ∷ []) ++ (codes "\n" ++ ((13 ∷ []) ++ (codes "\nBackground  2" ++ ((13 ∷ []) ++ (codes "\n#fff" ++ ((13 ∷ []) ++ (codes "\n93161" ++ ((13 ∷ []) ++ (codes "\n67838" ++ ((13 ∷ []) ++ (codes "\n33875" ++ ((13 ∷ []) ++ (codes "\n.9642" ++ ((13 ∷ []) ++ (codes "\n9.904" ++ ((13 ∷ []) ++ (codes "\n" ++ ((13 ∷ []) ++ (codes "\nPlayerA  *" ++ ((13 ∷ []) ++ (codes "\ngreen" ++ ((13 ∷ []) ++ (codes "\n" ++ ((13 ∷ []) ++ (codes "\nPlayerB" ++ ((13 ∷ []) ++ (codes "\ntransparent" ++ ((13 ∷ []) ++ (codes "\n77.15" ++ ((13 ∷ []) ++ (codes "\n7809." ++ ((13 ∷ []) ++ (codes "\n00002" ++ ((13 ∷ []) ++ (codes "\n12928" ++ ((13 ∷ []) ++ (codes "\n05.75" ++ ((13 ∷ []) ++ (codes "\n" ++ ((13 ∷ []) ++ (codes "\nGhost" ++ ((13 ∷ []) ++ (codes "\nblue" ++ ((13 ∷ []) ++ (codes "\n" ++ ((13 ∷ []) ++ (codes "\nWater\t~" ++ ((13 ∷ []) ++ (codes "\ngreen" ++ ((13 ∷ []) ++ (codes "\n" ++ ((13 ∷ []) ++ (codes "\n=========" ++ ((13 ∷ []) ++ (codes "\nLEGEND" ++ ((13 ∷ []) ++ (codes "\n=====" ++ ((13 ∷ []) ++ (codes "\nPlayer = PlayerA or PlayerB" ++ ((13 ∷ []) ++ (codes "\nP0 = Player or Water or Water" ++ ((13 ∷ []) ++ (codes "\nP1 = Ghost or Water or PlayerB" ++ ((13 ∷ []) ++ (codes "\nG0= Water and PlayerB" ++ ((13 ∷ []) ++ (codes "\nm = PlayerA and PlayerB and Ghost" ++ ((13 ∷ []) ++ (codes "\nG2=Water and Ghost and PlayerB" ++ ((13 ∷ []) ++ (codes "\n9 = Ghost" ++ ((13 ∷ []) ++ (codes "\ncOlLisIONLAYeRS" ++ ((13 ∷ []) ++ (codes "\nBackground" ++ ((13 ∷ []) ++ (codes "\nPlayerB" ++ ((13 ∷ []) ++ (codes "\nGhost" ++ ((13 ∷ []) ++ (codes "\nPlayerA" ++ ((13 ∷ []) ++ (codes "\nWater" ++ ((13 ∷ []) ++ (codes "\nRULES" ++ ((13 ∷ []) ++ (codes "\n" ++ ((13 ∷ []) ++ (codes "\n[ > Player | Ghost ] -> [ > Player | > Ghost ]" ++ ((13 ∷ []) ++ (codes "\n=====" ++ ((13 ∷ []) ++ (codes "\nWINCONDITIONS" ++ ((13 ∷ []) ++ (codes "\n====" ++ ((13 ∷ []) ++ (codes "\n=" ++ ((13 ∷ []) ++ (codes "\nLEVELS" ++ ((13 ∷ []) ++ (codes "\n===" ++ ((13 ∷ []) ++ (codes "\n" ++ ((13 ∷ []) ++ (codes "\n22m" ++ ((13 ∷ []) ++ (codes "\n" ++ ((13 ∷ []) ++ (codes "\nmessage  A (b) c" ++ ((13 ∷ []) ++ (codes "\n" ++ ((13 ∷ []) ++ (codes "\nm2*292" ++ ((13 ∷ []) ++ (codes "\n~~~m92" ++ ((13 ∷ []) ++ (codes "\n29~*2*" ++ ((13 ∷ []) ++ (codes "\n~22m22" ++ ((13 ∷ []) ++ (codes "\n2229*2" ++ ((13 ∷ []) ++ (codes "\n292*92" ++ ((13 ∷ []) ++ (codes "\n" ++ ((13 ∷ []) ++ (codes "\n~222~" ++ ((13 ∷ []) ++ (codes "\n222mm" ++ ((13 ∷ []) ++ (codes "\n299*9" ++ ((13 ∷ []) ++ (codes "\n92*2~" ++ ((13 ∷ []) ++ (codes "\n2922~" ++ ((13 ∷ []) ++ (codes "\n2229*" ++ ((13 ∷ []) ++ (codes "\n" ++ ((13 ∷ []) ++ (codes "\n")))))))))))))))))))))))))))))))))))))))))))))))))))))))))))))))))))))))))))))))))))))))))))))))))))))))))))))))))))))))))))))))))))))))))))))))))))
+    ≡ Some (record { kind = kind.BadFlickscreen; line = 3 })
+unfolding chars digits is_utf8 utf8_valid_len encode group program_run all_start_turns all_key_turns turn opening_step
+play_083 = refl
+
+play_092 : refused (codes "title A  Long Title " ++ ((13 ∷ []) ++ (codes "\nflickscreen 0x1\nnoundo" ++ ((13 ∷ []) ++ (codes "\nrun_rules_on_level_start" ++ ((13 ∷ []) ++ (codes "\n========" ++ ((13 ∷ []) ++ (codes "\nOBJECTS" ++ ((13 ∷ []) ++ (codes "\n=" ++ ((13 ∷ []) ++ (codes "\n" ++ ((13 ∷ []) ++ (codes "\nBackground  " ++ ((229 ∷ 173 ∷ 151 ∷ 13 ∷ []) ++ (codes "\ngreen" ++ ((13 ∷ []) ++ (codes "\nPlayer 5" ++ ((13 ∷ []) ++ (codes "\nlight-blue 12" ++ ((13 ∷ []) ++ (codes "\n" ++ ((13 ∷ []) ++ (codes "\nD " ++ ((195 ∷ 169 ∷ 13 ∷ []) ++ (codes "\nlight-blue 12" ++ ((13 ∷ []) ++ (codes "\ngem  *" ++ ((13 ∷ []) ++ (codes "\n#fff" ++ ((13 ∷ []) ++ (codes "\n19131" ++ ((13 ∷ []) ++ (codes "\n0.940" ++ ((13 ∷ []) ++ (codes "\n00350" ++ ((13 ∷ []) ++ (codes "\n49246" ++ ((13 ∷ []) ++ (codes "\n00087" ++ ((13 ∷ []) ++ (codes "\n" ++ ((13 ∷ []) ++ (codes "\nGoal" ++ ((13 ∷ []) ++ (codes "\ngreen" ++ ((13 ∷ []) ++ (codes "\n" ++ ((13 ∷ []) ++ (codes "\nKey j" ++ ((13 ∷ []) ++ (codes "\n#fff" ++ ((13 ∷ []) ++ (codes "\n" ++ ((13 ∷ []) ++ (codes "\nup1  8 ( )" ++ ((13 ∷ []) ++ (codes "\ntransparent" ++ ((13 ∷ []) ++ (codes "\n" ++ ((13 ∷ []) ++ (codes "\nv2  2" ++ ((13 ∷ []) ++ (codes "\n#fff" ++ ((13 ∷ []) ++ (codes "\n" ++ ((13 ∷ []) ++ (codes "\n========" ++ ((13 ∷ []) ++ (codes "\nLEGEND" ++ ((13 ∷ []) ++ (codes "\n==" ++ ((13 ∷ []) ++ (codes "\n4 = Goal and v2 and Gem" ++ ((13 ∷ []) ++ (codes "\nl = v2" ++ ((13 ∷ []) ++ (codes "\n- = GEM AND KEY" ++ ((13 ∷ []) ++ (codes "\nG0 =D and up1" ++ ((13 ∷ []) ++ (codes "\n========" ++ ((13 ∷ []) ++ (codes "\nCOLLISIONLAYERS" ++ ((13 ∷ []) ++ (codes "\n=========" ++ ((13 ∷ []) ++ (codes "\n" ++ ((13 ∷ []) ++ (codes "\nBackground" ++ ((13 ∷ []) ++ (codes "\nv2" ++ ((13 ∷ []) ++ (codes "\nGem" ++ ((13 ∷ []) ++ (codes "\nKey up1 Goal" ++ ((13 ∷ []) ++ (codes "\nD, Player" ++ ((13 ∷ []) ++ (codes "\n=======" ++ ((13 ∷ []) ++ (codes "\nRULES" ++ ((13 ∷ []) ++ (codes "\n====" ++ ((13 ∷ []) ++ (codes "\n" ++ ((13 ∷ []) ++ (codes "\nWINCONDITIONS" ++ ((13 ∷ []) ++ (codes "\nAll 4" ++ ((13 ∷ []) ++ (codes "\nAny D" ++ ((13 ∷ []) ++ (codes "\nLEVELS" ++ ((13 ∷ []) ++ (codes "\n" ++ ((195 ∷ 169 ∷ []) ++ (codes "*" ++ ((229 ∷ 173 ∷ 151 ∷ []) ++ (codes "4jl" ++ ((195 ∷ 169 ∷ 229 ∷ 173 ∷ 151 ∷ 13 ∷ []) ++ (codes "\n5" ++ ((195 ∷ 169 ∷ []) ++ (codes "5jj" ++ ((195 ∷ 169 ∷ []) ++ (codes "j2" ++ ((13 ∷ []) ++ (codes "\n" ++ ((229 ∷ 173 ∷ 151 ∷ 229 ∷ 173 ∷ 151 ∷ []) ++ (codes "5" ++ ((229 ∷ 173 ∷ 151 ∷ []) ++ (codes "l" ++ ((229 ∷ 173 ∷ 151 ∷ []) ++ (codes "54" ++ ((13 ∷ []) ++ (codes "\n" ++ ((13 ∷ []) ++ (codes "\n")))))))))))))))))))))))))))))))))))))))))))))))))))))))))))))))))))))))))))))))))))))))))))))))))))))))))))))))))))))))))))))))))))))))))))
+    ≡ Some (record { kind = kind.BadFlickscreen; line = 2 })
+unfolding chars digits is_utf8 utf8_valid_len encode group program_run all_start_turns all_key_turns turn opening_step
+play_092 = refl

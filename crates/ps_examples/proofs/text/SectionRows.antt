@@ -1,14 +1,16 @@
 -- Sections, headers and preludes, worked by hand.
-use Rattle.std.proofs.Common.{◌≡◌, ℕ, List, [], ◌∷◌, map, refl, Option, Some, None, true, false, Bool}
+use Rattle.std.proofs.Common.{◌≡◌, ℕ, List, [], ◌∷◌, ◌++◌, map, replicate, refl, Option, Some, None, true, false, Bool}
 use Rattle.std.specs.Prelude.{codes}
 use Rattle.ps_model.specs.declared.texts.Section.{Section}
 use Rattle.ps_model.specs.declared.texts.Section.TheVariants.{Prelude, Objects, Legend, Sounds, Layers, Rules, Wins, Levels}
 use Rattle.ps_model.specs.declared.faults.Fault.{Fault}
 use Rattle.ps_model.specs.declared.faults.FaultKind.{FaultKind}
-use Rattle.ps_model.specs.declared.faults.FaultKind.TheVariants.{SectionOrder, NoSection, Realtime}
+use Rattle.ps_model.specs.declared.faults.FaultKind.TheVariants.{SectionOrder, NoSection, Realtime, BadFlickscreen}
 use Rattle.ps_model.specs.text.Faults.{first_fault}
 use Rattle.ps_model.specs.text.Lines.{lines_of}
 use Rattle.ps_model.specs.declared.options.Options.{Options}
+use Rattle.ps_model.specs.declared.rooms.RoomSize.{RoomSize}
+use Rattle.ps_model.specs.text.WrittenSizes.{size_of_word}
 use Rattle.ps_model.specs.text.Preludes.{options_of, title_of}
 use Rattle.ps_model.specs.text.Sections.{section_lines, header_number, heading_faults}
 
@@ -105,6 +107,58 @@ several_options = refl
 -- not as a longer word, nor as another than the first, nor behind a title, nor in a comment, nor below the prelude
 no_options : options (codes "noactions\nx noundo\ntitle noundo\n(norestart)\nzoomscreen 3x3\nOBJECTS\nnorestart\n") ≡ false ∷ false ∷ false ∷ false ∷ false ∷ []
 no_options = refl
+
+-- rooms ------------------------------------------------------------------------------------------------------------------
+
+abbrev sized : ℕ → ℕ → Option RoomSize
+sized width height = Some (record { width = width; height = height })
+
+-- one to three digits each, and `x` in either case
+sizes : map size_of_word (codes "3x1" ∷ codes "003X1" ∷ codes "1x256" ∷ codes "256X256" ∷ codes "10x020" ∷ [])
+    ≡ sized 3 1 ∷ sized 3 1 ∷ sized 1 256 ∷ sized 256 256 ∷ sized 10 20 ∷ []
+sizes = refl
+
+-- not without two sides, nor with a third one
+other_sides : map size_of_word ([] ∷ codes "3" ∷ codes "x" ∷ codes "3x" ∷ codes "x3" ∷ codes "3x1x2" ∷ codes "3xx1" ∷ codes "3x1x" ∷ []) ≡ replicate 8 None
+other_sides = refl
+
+-- nor with a side of no column, or over the limit, or over three digits, or of other characters
+other_words : map size_of_word (codes "0x1" ∷ codes "1x000" ∷ codes "257x1" ∷ codes "1x257" ∷ codes "1234x1" ∷ codes "0003x1" ∷ codes "1x0001" ∷ codes "3*1" ∷ codes "+3x1" ∷ codes "-3x1" ∷ codes "3x1," ∷ codes "3x0A" ∷ [])
+    ≡ replicate 12 None
+other_words = refl
+
+abbrev rooms : List ℕ → Option RoomSize
+rooms text = let set : Options = options_of (section_lines (lines_of text) Prelude) in set.flickscreen
+
+-- the first line counts, in any case of letters, with other words behind and comments beside it
+first_rooms : map rooms (codes "flickscreen 3x1" ∷ codes "\n (x) FlickScreen\t(y) 003X1 (z) 4x4\nflickscreen 2x2\nOBJECTS" ∷ []) ≡ sized 3 1 ∷ sized 3 1 ∷ []
+first_rooms = refl
+
+-- not as a longer word, nor as another than the first, nor behind a title, nor in a comment, nor below the prelude
+no_rooms : rooms (codes "flickscreens 2x2\nx flickscreen 2x2\ntitle flickscreen 2x2\n(flickscreen 2x2)\nzoomscreen 2x2\nOBJECTS\nflickscreen 2x2\n") ≡ None
+no_rooms = refl
+
+-- a prelude of these lines
+abbrev first_of_prelude : List ℕ → Option Fault
+first_of_prelude prelude = first (prelude ++ codes "OBJECTS\nCOLLISIONLAYERS\nLEVELS\nP")
+
+-- a size is the second word, and is there
+no_size : map first_of_prelude (codes "flickscreen\n" ∷ codes "flickscreen 3 x 1\n" ∷ codes "Flickscreen (3x1) \n" ∷ codes "flickscreen 3(x)1\n" ∷ codes "flickscreen x 3x1\n" ∷ codes "flickscreen 0x1\r\n" ∷ [])
+    ≡ replicate 6 (at_line 1 BadFlickscreen)
+no_size = refl
+
+-- no line that asks for rooms may be without one, behind one with a size neither
+later_size : first_of_prelude (codes "flickscreen 3x1\n\nflickscreen 2x2\nflickscreen 3\nflickscreen\n") ≡ at_line 4 BadFlickscreen
+later_size = refl
+
+-- line by line with real time and headers out of order, and before a missing section
+size_by_line : map first (codes "flickscreen\nrealtime_interval 1" ∷ codes "realtime_interval 1\nflickscreen" ∷ codes "flickscreen\nLEVELS\nOBJECTS" ∷ [])
+    ≡ at_line 1 BadFlickscreen ∷ at_line 1 Realtime ∷ at_line 1 BadFlickscreen ∷ []
+size_by_line = refl
+
+-- what isn't looked at
+no_bad_size : first_of_prelude (codes "flickscreens 0\nx flickscreen 0\ntitle flickscreen 0\n(flickscreen 0)\nflickscreen 3x1 0x0\nzoomscreen 0\n") ≡ None
+no_bad_size = refl
 
 -- titles -----------------------------------------------------------------------------------------------------------------
 

@@ -4,7 +4,8 @@ use Rattle.std.specs.Fmt.{decimal}
 use Rattle.ps_model.specs.declared.faults.Fault.{Fault}
 use Rattle.ps_model.specs.declared.faults.FaultKind.{FaultKind}
 use Rattle.ps_model.specs.declared.faults.FaultKind.TheVariants.{NotUtf8, TooLong, SectionOrder, NoSection, Realtime}
-use Rattle.ps_model.specs.declared.faults.FaultKind.TheVariants.{TooManyReadings, Impossible, BadObject, Twice}
+use Rattle.ps_model.specs.declared.faults.FaultKind.TheVariants.{TooManyReadings, Impossible, BadFlickscreen}
+use Rattle.ps_model.specs.declared.faults.FaultKind.TheVariants.{BadObject, Twice}
 use Rattle.ps_model.specs.declared.faults.FaultKind.TheVariants.{MixedAndOr, UnknownName, Cycle, AggregateInProperty}
 use Rattle.ps_model.specs.declared.faults.FaultKind.TheVariants.{PropertyInAggregate, AggregateInLayer, NoLayer}
 use Rattle.ps_model.specs.declared.faults.FaultKind.TheVariants.{NoBackground, NoPlayer, BadBackground, BadPlayer}
@@ -24,6 +25,7 @@ words_of NoSection = codes "GM2 NoSection"
 words_of Realtime = codes "GM3 Realtime"
 words_of TooManyReadings = codes "GM4 TooManyReadings"
 words_of Impossible = codes "GM5 Impossible"
+words_of BadFlickscreen = codes "GM6 BadFlickscreen"
 words_of BadObject = codes "NA1 BadObject"
 words_of Twice = codes "NA2 Twice"
 words_of MixedAndOr = codes "NA3 MixedAndOr"

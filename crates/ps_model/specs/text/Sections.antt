@@ -8,10 +8,10 @@ use Rattle.ps_model.specs.declared.texts.Section.{Section}
 use Rattle.ps_model.specs.declared.texts.Section.TheVariants.{Prelude, Objects, Legend, Sounds, Layers, Rules, Wins}
 use Rattle.ps_model.specs.declared.texts.Section.TheVariants.{Levels}
 use Rattle.ps_model.specs.declared.faults.Fault.{Fault}
-use Rattle.ps_model.specs.declared.faults.FaultKind.TheVariants.{SectionOrder, NoSection, Realtime}
+use Rattle.ps_model.specs.declared.faults.FaultKind.TheVariants.{SectionOrder, NoSection, Realtime, BadFlickscreen}
 use Rattle.ps_model.specs.text.Lines.{Line}
 use Rattle.ps_model.specs.text.Faults.{when}
-use Rattle.ps_model.specs.text.Preludes.{asks_for_real_time}
+use Rattle.ps_model.specs.text.Preludes.{asks_for_real_time, is_bad_flickscreen}
 
 -- the place of a section among the sections
 abbrev pub rank : Section → ℕ
@@ -54,6 +54,10 @@ is_out_of_order headers header = list_any (λ above. nat_lt above.number header.
 abbrev pub is_real_time : Line → Bool
 is_real_time line = is_of Prelude line && asks_for_real_time line
 
+-- rooms without a size, GM6: a line of the prelude asks for them, but writes no size
+abbrev pub is_without_size : Line → Bool
+is_without_size line = is_of Prelude line && is_bad_flickscreen line
+
 -- a section is missing, GM2: one of the three that must be there
 abbrev pub is_without_section : List Line → Bool
 is_without_section headers = not (list_all (has_section headers) (Objects ∷ Layers ∷ Levels ∷ []))
@@ -61,7 +65,8 @@ is_without_section headers = not (list_all (has_section headers) (Objects ∷ La
 -- the faults of a line as a header or as a line of the prelude, among these headers
 abbrev pub heading_faults_of : List Line → Line → List Fault
 heading_faults_of headers line =
-    when (line.is_header && is_out_of_order headers line) SectionOrder line.number ++ when (is_real_time line) Realtime line.number
+    when (line.is_header && is_out_of_order headers line) SectionOrder line.number
+    ++ (when (is_real_time line) Realtime line.number ++ when (is_without_size line) BadFlickscreen line.number)
 
 -- the faults of headers and prelude, line by line; then a missing section, at the last line of the text
 abbrev pub heading_faults : List Line → List Fault

@@ -1,0 +1,13 @@
+use Rattle.std.proofs.Common.{rules, ◌≡◌, ◌∙◌, arith, None}
+use Rattle.ps_model.specs.text.LineNumbers.{line_at}
+use Rattle.ps_model.specs.text.Sections.{rank}
+use Rattle.ps_game.specs.Headings.{heading_fault}
+use Rattle.ps_game.proofs.HeadingsTold.{told_below}
+use Rattle.ps_game.proofs.headings.first_heading_fault.Goals as goal
+
+pub loop-line-preserved : goal.loop-line-preserved
+loop-line-preserved c =
+    let text = c.args.source.now in
+    let above = rank c.loop-line.above in
+    let none : heading_fault above (line_at text c.loop-line.line) ≡ None = search rules in
+    told_below text c.loop-line.line above (rank c.section_below-above.result) (omega arith) (omega arith) none c.section_below-above.ensures ∙ c.loop-line.invariant

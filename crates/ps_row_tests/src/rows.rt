@@ -1,0 +1,177 @@
+//! Rows written on both kinds of boards, which must tell and show the same.
+
+use ps_rows::RowBoard;
+use ps_board::{Board, Columns, ListBoard, OneWord};
+use ps_match::Scan;
+use ps_model::{
+    Direction, LayerId, LayerWrite, LayeredObject, Memory, Motion, ObjectId, ObjectWrite,
+};
+use ps_program::CellWrite;
+use ps_text::List;
+use std::alloc::Global;
+use std::process::Abort;
+use std::test::Fail;
+
+const RIGHT: Motion = Motion::Going(Direction::Right);
+
+/// Three objects: two on the higher of two layers, and one on the lower.
+const OWN_LAYERS: [LayerId; 3] = [LayerId(1), LayerId(0), LayerId(1)];
+
+const HIGHER: LayerId = LayerId(1);
+
+/// A write of the higher layer, from which one object goes, if one is named.
+fn write_of(
+    alloc: Global,
+    gone: Option<ObjectId>,
+    object: ObjectWrite,
+    motion: Option<Motion>,
+) -> Result<CellWrite, Memory> {
+    let mut lost = Vec::new(alloc);
+    if let Some(object) = gone {
+        lost.push(LayeredObject {
+            object,
+            layer: HIGHER,
+        })?;
+    }
+    let mut layers = Vec::new(alloc);
+    layers.push(LayerWrite {
+        layer: HIGHER,
+        object,
+        motion,
+    })?;
+    Ok(CellWrite {
+        gone: List::from_vec(lost),
+        layers: List::from_vec(layers),
+    })
+}
+
+/// Writes the first three columns of the lower of two rows, where an object acts, another rests, and none stands; in
+/// the fourth column an object rests.
+fn write_row(rt: &impl Abort, alloc: Global, write: &CellWrite, changes: bool) -> Result<(), Fail> {
+    let mut rows = RowBoard::<OneWord>::try_empty(alloc, 4, 2, 2, &OWN_LAYERS)?;
+    let mut list = ListBoard::try_empty(alloc, 4, 2, 2, &OWN_LAYERS)?;
+    rows.put(1, HIGHER, Some(ObjectId(0)), Motion::Acting);
+    list.put(1, HIGHER, Some(ObjectId(0)), Motion::Acting);
+    rows.put(3, HIGHER, Some(ObjectId(2)), Motion::Still);
+    list.put(3, HIGHER, Some(ObjectId(2)), Motion::Still);
+    rows.put(7, HIGHER, Some(ObjectId(0)), Motion::Still);
+    list.put(7, HIGHER, Some(ObjectId(0)), Motion::Still);
+    assert_eq!(rt; rows.rewrite(write, 1, &Columns::below(3)), changes);
+    assert_eq!(rt; list.rewrite(write, 1, &Columns::below(3)), changes);
+    for cell in 0..8u32 {
+        assert_eq!(rt; rows.object(cell, HIGHER), list.object(cell, HIGHER));
+        assert_eq!(rt; rows.motion(cell, HIGHER), list.motion(cell, HIGHER));
+    }
+    assert!(rt; !rows.rewrite(write, 1, &Columns::none()));
+    Ok(())
+}
+
+#[test]
+fn a_cell_is_written_and_no_other_one(rt: HostRuntime) -> Result<(), Fail> {
+    let mut rows = RowBoard::<OneWord>::try_empty(rt.alloc(), 4, 2, 2, &OWN_LAYERS)?;
+    let mut list = ListBoard::try_empty(rt.alloc(), 4, 2, 2, &OWN_LAYERS)?;
+    let put = ObjectWrite::Put(ObjectId(2));
+    let write = write_of(rt.alloc(), None, put, Some(RIGHT))?;
+    assert!(&rt; !rows.write(&write, 8, false));
+    assert!(&rt; rows.write(&write, 8, true));
+    assert!(&rt; rows.write(&write, 5, false));
+    assert!(&rt; list.write(&write, 5, false));
+    assert!(&rt; !rows.write(&write, 5, false));
+    assert!(&rt; rows.write(&write, 5, true));
+    for cell in 0..8u32 {
+        assert_eq!(&rt; rows.object(cell, HIGHER), list.object(cell, HIGHER));
+        assert_eq!(&rt; rows.motion(cell, HIGHER), list.motion(cell, HIGHER));
+    }
+    Ok(())
+}
+
+#[test]
+fn an_object_is_put_with_a_motion(rt: HostRuntime) -> Result<(), Fail> {
+    let put = ObjectWrite::Put(ObjectId(0));
+    write_row(
+        &rt,
+        rt.alloc(),
+        &write_of(rt.alloc(), None, put, Some(RIGHT))?,
+        true,
+    )
+}
+
+#[test]
+fn an_object_is_put_and_keeps_the_motion_there(rt: HostRuntime) -> Result<(), Fail> {
+    let put = ObjectWrite::Put(ObjectId(2));
+    write_row(
+        &rt,
+        rt.alloc(),
+        &write_of(rt.alloc(), None, put, None)?,
+        true,
+    )
+}
+
+#[test]
+fn an_object_goes_and_takes_its_motion_along(rt: HostRuntime) -> Result<(), Fail> {
+    let gone = Some(ObjectId(0));
+    write_row(
+        &rt,
+        rt.alloc(),
+        &write_of(rt.alloc(), gone, ObjectWrite::Leave, None)?,
+        true,
+    )
+}
+
+#[test]
+fn what_stands_is_moved_and_nothing_else(rt: HostRuntime) -> Result<(), Fail> {
+    let gone = Some(ObjectId(0));
+    write_row(
+        &rt,
+        rt.alloc(),
+        &write_of(rt.alloc(), gone, ObjectWrite::Leave, Some(RIGHT))?,
+        true,
+    )?;
+    write_row(
+        &rt,
+        rt.alloc(),
+        &write_of(rt.alloc(), None, ObjectWrite::Leave, Some(RIGHT))?,
+        true,
+    )
+}
+
+#[test]
+fn a_layer_is_cleared(rt: HostRuntime) -> Result<(), Fail> {
+    write_row(
+        &rt,
+        rt.alloc(),
+        &write_of(rt.alloc(), None, ObjectWrite::Clear, None)?,
+        true,
+    )
+}
+
+#[test]
+fn nothing_written_changes_nothing(rt: HostRuntime) -> Result<(), Fail> {
+    write_row(
+        &rt,
+        rt.alloc(),
+        &write_of(rt.alloc(), None, ObjectWrite::Leave, None)?,
+        false,
+    )
+}
+
+#[test]
+fn an_object_that_goes_and_is_put_again_changes_nothing(rt: HostRuntime) -> Result<(), Fail> {
+    let mut board = RowBoard::<OneWord>::try_empty(rt.alloc(), 4, 2, 2, &OWN_LAYERS)?;
+    board.put(3, HIGHER, Some(ObjectId(2)), Motion::Still);
+    let put = ObjectWrite::Put(ObjectId(2));
+    let write = write_of(rt.alloc(), Some(ObjectId(2)), put, None)?;
+    let second = Columns::none().with(1, true);
+    assert!(&rt; !board.rewrite(&write, 1, &second));
+    assert!(&rt; board.rewrite(&write, 0, &second));
+    Ok(())
+}
+
+#[test]
+fn what_has_no_room_is_not_put(rt: HostRuntime) -> Result<(), Fail> {
+    let mut board = RowBoard::<OneWord>::try_empty(rt.alloc(), 4, 2, 2, &OWN_LAYERS)?;
+    let put = ObjectWrite::Put(ObjectId(1));
+    let write = write_of(rt.alloc(), None, put, None)?;
+    assert!(&rt; !board.rewrite(&write, 1, &Columns::all()));
+    Ok(())
+}
