@@ -1,12 +1,12 @@
 //! Rows written on both kinds of boards, which must tell and show the same.
 
-use ps_rows::RowBoard;
 use ps_board::{Board, Columns, ListBoard, OneWord};
 use ps_match::Scan;
 use ps_model::{
     Direction, LayerId, LayerWrite, LayeredObject, Memory, Motion, ObjectId, ObjectWrite,
 };
 use ps_program::CellWrite;
+use ps_rows::RowBoard;
 use ps_text::List;
 use std::alloc::Global;
 use std::process::Abort;
