@@ -17,3 +17,4 @@ mod RefusedGames3Rows
 mod RefusedGames4Rows
 mod CornerRows
 mod RunRows
+mod RoomGamesRows

@@ -6,7 +6,7 @@ use Rattle.std.specs.Prelude.{None, List, [], ◌∷◌, length, ⊤}
 use Rattle.ps_model.specs.declared.limits.TheConstants.{AGAIN_LIMIT}
 use Rattle.ps_model.specs.board.Grid.{Grid}
 use Rattle.ps_model.specs.board.Turns.{Script, Done, Outcome, Blocked, Restarted, Finished, turn}
-use Rattle.ps_model.specs.session.Sessions.{Play, Playing, Step, quietly, after, shown, with_turn}
+use Rattle.ps_model.specs.session.Sessions.{Play, Playing, Step, quietly, after, seen, shown, with_turn}
 use Rattle.ps_model.specs.session.StartSteps.{start_told, start_turns, all_start_turns, restarted}
 use Rattle.ps_model.specs.session.KeySteps.{key_told, key_turns, all_key_turns}
 
@@ -49,7 +49,7 @@ abbrev pub turns_told : (Play → Done → ℕ → (Play → Step) → Step) →
     Step
 turns_told told stop script [] left play = stop left play
 turns_told told stop script (done ∷ others) left play =
-    let next : Play = with_turn play done in after (shown script next) (told next done (left - 1) (turns_told told stop script others (left - 1)))
+    let next : Play = seen script (with_turn play done) in after (shown script next) (told next done (left - 1) (turns_told told stop script others (left - 1)))
 
 -- what comes of an again turn of a key that doesn't count: nothing, but that a restart restarts the level
 abbrev pub key_stopped : Script → Play → Outcome → Step

@@ -1,13 +1,16 @@
--- Frames of rooms: the whole board among them, and that a room which is seen shows where the Player is.
+-- Frames of rooms: the whole board among them, that a room which is seen shows where the Player is, and which rooms a
+-- session shows.
 use Rattle.std.specs.Prelude.{◌≡◌, ℕ, ◌+◌, ◌*◌, ◌/◌, ◌%◌, ◌<◌, ◌≤◌, Some, None}
 use Rattle.ps_model.specs.declared.rooms.RoomSize.{RoomSize}
 use Rattle.ps_model.specs.declared.rooms.Room.{Room}
 use Rattle.ps_model.specs.declared.rooms.Window.{Window}
 use Rattle.ps_model.specs.names.Names.{Names}
 use Rattle.ps_model.specs.board.Grid.{Grid}
+use Rattle.ps_model.specs.board.Turns.{Script}
 use Rattle.ps_model.specs.session.Frames.{frame}
 use Rattle.ps_model.specs.session.RoomSizes.{IsRoomSize}
 use Rattle.ps_model.specs.session.Rooms.{first_player_cell, room_after, room_seen, room_window, room_frame, whole_board, window_frame}
+use Rattle.ps_model.specs.session.Sessions.{Play, seen, shown}
 
 -- the whole board -------------------------------------------------------------------------------------------------------
 
@@ -39,3 +42,14 @@ abbrev pub SeenRoomsShowPlayers : Type 0
 SeenRoomsShowPlayers =
     (names : Names) (size : RoomSize) (g : Grid) (last : Room) (cell : ℕ) → 0 < g.height → IsRoomSize size → first_player_cell names g ≡ Some cell →
     IsIn (room_window size (room_seen names size g last) g) (cell / g.height) (cell % g.height)
+
+-- sessions --------------------------------------------------------------------------------------------------------------
+
+-- a game without rooms shows the whole board of a level, and leaves the level's room as it is
+abbrev pub SessionsWithoutRooms : Type 0
+SessionsWithoutRooms =
+    (script : Script) (play : Play) → script.options.flickscreen ≡ None → (shown script play ≡ frame script.names play.board) × (seen script play ≡ play)
+
+-- a board that is shown once more is shown in the same room
+abbrev pub SeenRoomsStay : Type 0
+SeenRoomsStay = (script : Script) (play : Play) → seen script (seen script play) ≡ seen script play

@@ -10,7 +10,7 @@ use Rattle.ps_model.specs.session.Frames.{written_line}
 use Rattle.ps_model.specs.declared.held.Held.{Held}
 use Rattle.ps_model.specs.session.HeldKeys.{held, bytes_of, key_behind}
 use Rattle.ps_model.specs.session.Keys.{keys_of}
-use Rattle.ps_model.specs.session.Sessions.{Play, Playing, Step, after, shown}
+use Rattle.ps_model.specs.session.Sessions.{Play, Playing, Step, after, seen, shown}
 use Rattle.ps_model.specs.session.StartSteps.{start_turn_by, start_turns, all_start_turns, enter}
 use Rattle.ps_model.specs.session.KeySteps.{key_turn_by, key_turns, all_key_turns, with_board_in_history_if, key_done, turn_taken}
 use Rattle.ps_model.specs.session.KeySteps.{undone, key_step}
@@ -63,11 +63,11 @@ EmptyTextAddsNothing = (step : Step) → after [] step ≡ step
 
 -- undo -------------------------------------------------------------------------------------------------------------------
 
--- undo goes back to the latest board, and leaves the history those before it
+-- undo goes back to the latest board, with the room that is seen there, and leaves the history those before it
 abbrev pub UndoTakesLatest : Type 0
 UndoTakesLatest =
     (script : Script) (play : Play) (earlier : List Grid) (latest : Grid) → play.history ≡ earlier ++ latest ∷ [] →
-    let back : Play = record { entry = play.entry; board = latest; history = earlier; restart_board = play.restart_board } in
+    let back : Play = seen script (record { entry = play.entry; board = latest; history = earlier; restart_board = play.restart_board; room = play.room }) in
     undone script play ≡ record { session = Playing back; text = shown script back }
 
 -- without a history it writes the frame alone

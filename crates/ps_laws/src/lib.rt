@@ -30,7 +30,7 @@ pub use laws_of_grids::{
     rules_keep_cells, runs_keep_grids, sections_keep_grids, settling_keeps_grids,
     slides_keep_grids, turns_keep_grids,
 };
-pub use laws_of_rooms::{frames_of_whole_boards, rooms_show_players};
+pub use laws_of_rooms::{frames_of_whole_boards, rooms_in_sessions, rooms_show_players};
 pub use laws_of_rules::{
     alike_programs, alike_rounds, equal_meanings, idle_rules, settling, turning_round,
 };

@@ -3,6 +3,7 @@
 ghost use Rattle.std.specs.Prelude.{◌≡◌, ℕ, List, Some, false};
 ghost use Rattle.ps_model.specs.declared.limits.TheConstants.{SIDE_LIMIT};
 ghost use Rattle.ps_model.specs.game.Games.{Game as GameRead, game as game_in};
+ghost use Rattle.ps_model.specs.session.RoomSizes.{HasRoomSize};
 ghost use Rattle.ps_model.specs.game.Headline.{RunsRightly, IsTrueOfText};
 ghost use Rattle.ps_rulebook.specs.PlayedGames.{AreCompiled, parts_of};
 ghost use Rattle.ps_run.specs.Answering.{answer_of};
@@ -82,7 +83,8 @@ fn run_on<'g, V: ColumnWords, I: ByteReader, W: ByteWriter>(
 
 /// What a session plays of a game.
 fn parts_of_game(game: &Game) -> SessionGame<'_>
-    requires { ArePlayable game.now.names game.now.entries }
+    requires playable { ArePlayable game.now.names game.now.entries }
+    requires rooms { HasRoomSize game.now.options }
     ensures parts { result ≡ parts_of game.entry.now }
     ensures fit { EntriesFit SIDE_LIMIT result.entries }
 {
@@ -107,6 +109,7 @@ fn run_compiled<I: ByteReader, W: ByteWriter>(
     requires heard { (I.state reader.old).has_failed ≡ false }
     requires well { (W.state writer.old).has_failed ≡ false }
     requires playable { ArePlayable game.now.names game.now.entries }
+    requires rooms { HasRoomSize game.now.options }
     ensures rightly { (text : List ℕ) → game_in text ≡ Some game.now
         → AreCompiled game.now.names game.now.rules compiled.now.plain compiled.now.late
         → RunsRightly text (I.state reader.old) (I.state reader.new) (W.state writer.old) (W.state writer.new)

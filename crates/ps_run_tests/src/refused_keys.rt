@@ -2,6 +2,7 @@
 //! when it is tried again, what it does where nothing is refused. As the tests run by themselves nothing is refused;
 //! `tools/refuse_growths` plays them with each growth refused in turn.
 
+ghost use Rattle.ps_model.specs.session.RoomSizes.{HasRoomSize};
 ghost use Rattle.ps_stage.specs.Playable.{ArePlayable};
 
 use crate::games::NAMES;
@@ -82,7 +83,8 @@ fn expect_programs_again(
     opening: &str,
     steps: &[Step<'_>],
 )
-    requires { ArePlayable game.now.names game.now.entries }
+    requires playable { ArePlayable game.now.names game.now.entries }
+    requires rooms { HasRoomSize game.now.options }
 {
     let title = game.title.as_str();
     let parts = SessionGame::new(title, game.options, &game.names, &game.entries, &game.wins);

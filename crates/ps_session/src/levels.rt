@@ -84,11 +84,12 @@ fn undoes<B: Board, H: History<B>>(
     ensures table { IfOk result (λ next. ComesOnTable (B.table_for stage.old.game.names.layers) next) }
 {
     let Some(latest) = history.latest() else {
-        stage.show(level.board())?;
+        stage.show(level.board(), level.room())?;
         return Ok(Next::Stands(None));
     };
-    stage.show(latest)?;
-    let back = stage.level_at(level, latest)?;
+    let room = stage.room_after(latest, level.room());
+    stage.show(latest, room)?;
+    let back = stage.level_at(level, latest, room)?;
     Ok(Next::Undoes(back))
 }
 

@@ -3,11 +3,11 @@ use Rattle.std.proofs.Common.{◌≡◌, ◌∙◌, List, Bool, true, false, ref
 use Rattle.ps_model.specs.declared.limits.TheConstants.{AGAIN_LIMIT}
 use Rattle.ps_model.specs.board.Grid.{Grid}
 use Rattle.ps_model.specs.board.Turns.{Script, Finished}
-use Rattle.ps_model.specs.session.Frames.{frame}
-use Rattle.ps_model.specs.session.Sessions.{Play, after, with_turn}
-use Rattle.ps_model.specs.session.KeySteps.{key_told, all_key_turns, with_board_in_history_if, turn_taken}
+use Rattle.ps_model.specs.session.Sessions.{Play, with_turn}
+use Rattle.ps_model.specs.session.KeySteps.{all_key_turns, with_board_in_history_if, turn_taken}
 use Rattle.ps_turn.specs.States.{done_shown}
 use Rattle.ps_turn.specs.declared.outcomes.DoneTurn.{DoneTurn}
+use Rattle.ps_stage.specs.KeysShown.{key_shown}
 use Rattle.ps_stage.specs.Locations.{history_behind, history_change_if}
 use Rattle.ps_stage.specs.Standings.{Standing, play_of, with_done}
 
@@ -20,10 +20,9 @@ next_play level history done g false = refl
 -- a done turn is told of that level
 pub done_taken : (script : Script) (level next : Standing) (history : List Grid) (done : DoneTurn) → next ≡ with_done level done next.board →
     turn_taken script (play_of history level) (Finished (done_shown done next.board))
-    ≡ after (frame script.names next.board)
-    (key_told script (play_of (history_behind (history_change_if done.changed) history level.board) next) (done_shown done next.board) AGAIN_LIMIT (all_key_turns script))
+    ≡ key_shown script (play_of (history_behind (history_change_if done.changed) history level.board) next) (done_shown done next.board) AGAIN_LIMIT (all_key_turns script)
 done_taken script level next history done e =
     let behind : List Grid = history_behind (history_change_if done.changed) history level.board in
     let same : with_turn (with_board_in_history_if done.changed (play_of history level)) (done_shown done next.board) ≡ play_of behind next =
     next_play level history done next.board done.changed ∙ sym (ap (play_of behind) e) in
-    ap (λ (p : Play). after (frame script.names p.board) (key_told script p (done_shown done next.board) AGAIN_LIMIT (all_key_turns script))) same
+    ap (λ (p : Play). key_shown script p (done_shown done next.board) AGAIN_LIMIT (all_key_turns script)) same

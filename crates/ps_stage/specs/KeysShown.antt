@@ -2,8 +2,9 @@
 use Rattle.std.specs.Prelude.{ℕ, List, ◌≡◌, ⊤}
 use Rattle.ps_model.specs.board.Turns as model
 use Rattle.ps_model.specs.board.Turns.{Script}
-use Rattle.ps_model.specs.session.Sessions.{Play, Step, after}
+use Rattle.ps_model.specs.session.Sessions.{Play, Step, after, seen, shown}
 use Rattle.ps_model.specs.session.StartSteps.{level_done, restarted}
+use Rattle.ps_model.specs.session.KeySteps.{key_told}
 use Rattle.ps_turn.specs.States.{done_shown}
 use Rattle.ps_stage.specs.Standings.{Standing, with_done}
 use Rattle.ps_stage.specs.StepsShown.{came, stands}
@@ -13,6 +14,11 @@ use Rattle.ps_stage.specs.declared.locations.KeyTold.{KeyTold}
 use Rattle.ps_stage.specs.declared.locations.KeyTold.TheVariants.{Ends, GoesOn}
 use Rattle.ps_stage.specs.declared.levels.Tried.{Tried}
 use Rattle.ps_stage.specs.declared.levels.Tried.TheVariants.{Blocked, Restarted, Done}
+
+-- a done turn of a key, of which this level came: its frame, of the room that is seen, and what follows
+abbrev pub key_shown : Script → Play → model.Done → ℕ → (Play → Step) → Step
+key_shown script play done left again_turns =
+    let next : Play = seen script play in after (shown script next) (key_told script next done left again_turns)
 
 -- how the turns of a key end: the level stands, is done, or restarts
 abbrev pub key_end_step : Script → KeyEnd → Play → List ℕ → Step

@@ -1,12 +1,14 @@
 -- A level that is played and a game that is played, as contracts see them.
 use Rattle.std.specs.Prelude.{ℕ, if◌then◌else◌, List, Option}
 use Rattle.ps_model.specs.declared.options.Options.{Options}
+use Rattle.ps_model.specs.declared.rooms.Room.{Room}
 use Rattle.ps_model.specs.names.Names.{Names}
 use Rattle.ps_model.specs.board.Grid.{Grid}
 use Rattle.ps_model.specs.board.Programs.{Section}
 use Rattle.ps_model.specs.board.Turns.{Script}
 use Rattle.ps_model.specs.board.Wins.{Win}
 use Rattle.ps_model.specs.session.LevelLines.{Entry}
+use Rattle.ps_model.specs.session.Rooms.{room_after}
 use Rattle.ps_model.specs.session.Sessions.{Play, Session}
 use Rattle.ps_turn.specs.States.{TurnParts}
 use Rattle.ps_turn.specs.declared.outcomes.DoneTurn.{DoneTurn}
@@ -46,6 +48,7 @@ pub record Standing : Type 0 where
   pub table : Option (List ℕ)
   pub board : Grid
   pub restart_board : Grid
+  pub room : Room
 
 -- with this history
 abbrev pub play_of : List Grid → Standing → Play
@@ -54,6 +57,17 @@ play_of history level = record {
   board = level.board;
   history = history;
   restart_board = level.restart_board;
+  room = level.room;
+}
+
+-- the level with the room that its board's next frame shows
+abbrev pub seen_level : SessionParts → Standing → Standing
+seen_level parts level = record {
+  entry = level.entry;
+  table = level.table;
+  board = level.board;
+  restart_board = level.restart_board;
+  room = room_after parts.options.flickscreen parts.names level.board level.room;
 }
 
 -- the level behind a done turn that came to this grid
@@ -63,6 +77,7 @@ with_done level done g = record {
   table = level.table;
   board = g;
   restart_board = if done.checkpoint then g else level.restart_board;
+  room = level.room;
 }
 
 -- a session and the game that it is of

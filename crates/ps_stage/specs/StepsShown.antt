@@ -2,10 +2,9 @@
 use Rattle.std.specs.Prelude.{ℕ, Bool, true, false, ◌||◌, Option, Some, None, List}
 use Rattle.ps_model.specs.board.Grid.{Grid}
 use Rattle.ps_model.specs.session.Sessions as model
-use Rattle.ps_model.specs.session.Sessions.{Play, Step, after, quietly}
+use Rattle.ps_model.specs.board.Turns.{Script}
+use Rattle.ps_model.specs.session.Sessions.{Play, Step, after, quietly, seen, shown}
 use Rattle.ps_model.specs.session.StartSteps.{start_told}
-use Rattle.ps_model.specs.session.Frames.{frame}
-use Rattle.ps_model.specs.names.Names.{Names}
 use Rattle.ps_turn.specs.declared.outcomes.Turned.{Turned}
 use Rattle.ps_turn.specs.declared.outcomes.Turned.TheVariants.{Blocked, Restarted, Done}
 use Rattle.ps_turn.specs.declared.outcomes.DoneTurn.{DoneTurn}
@@ -50,9 +49,10 @@ abbrev pub told_step : StartTold → Play → List ℕ → (Play → Step) → S
 told_step (Stops pending) play text again_turns = came (stands pending play) text
 told_step GoesOn play text again_turns = after text (again_turns play)
 
--- the start behind a done turn, of which this level came: a frame and what follows, if the turn changed the board
-abbrev pub start_shown : Names → Play → DoneTurn → ℕ → (Play → Step) → Step
-start_shown names play done left again_turns = elim done.changed [
+-- the start behind a done turn, of which this level came: a frame, of the room that is seen, and what follows, if the
+-- turn changed the board
+abbrev pub start_shown : Script → Play → DoneTurn → ℕ → (Play → Step) → Step
+start_shown script play done left again_turns = elim done.changed [
   | false ↦ quietly (model.Playing play)
-  | true ↦ after (frame names play.board) (start_told play done.message done.again left again_turns)
+  | true ↦ let next : Play = seen script play in after (shown script next) (start_told next done.message done.again left again_turns)
 ]

@@ -3,11 +3,11 @@
 ghost use Rattle.std.specs.Prelude.{◌≡◌, IfOk, List};
 ghost use Rattle.ps_model.specs.board.Grid.{Grid};
 ghost use Rattle.ps_model.specs.declared.limits.TheConstants.{AGAIN_LIMIT};
-ghost use Rattle.ps_model.specs.session.Frames.{frame};
+ghost use Rattle.ps_model.specs.session.Rooms.{frame_in};
 ghost use Rattle.ps_model.specs.session.Sessions.{Play, after};
-ghost use Rattle.ps_model.specs.session.KeySteps.{blocked, key_told, all_key_turns, gone_on, input_taken};
+ghost use Rattle.ps_model.specs.session.KeySteps.{blocked, all_key_turns, gone_on, input_taken};
 ghost use Rattle.ps_turn.specs.States.{done_shown};
-ghost use Rattle.ps_stage.specs.KeysShown.{key_end_step};
+ghost use Rattle.ps_stage.specs.KeysShown.{key_end_step, key_shown};
 ghost use Rattle.ps_stage.specs.Locations.{change_shown, history_behind, history_change_if, GoesOnTable};
 ghost use Rattle.ps_stage.specs.Standings.{Standing, script_for, play_of};
 ghost use Rattle.ps_stage.specs.StepsShown.{came, stands, pending_shown};
@@ -42,10 +42,12 @@ impl<'g, B: Board> Stage<'g, B> {
     ) -> Result<Option<Pending>, Memory>
         ensures game { self.new.game ≡ self.old.game }
         ensures told { IfOk result (λ pending. (play : Play)
-            → after self.old.text (after (frame self.old.game.names level.now.board) (blocked play message.now))
+            → after self.old.text (after
+            (frame_in self.old.game.options.flickscreen self.old.game.names level.now.board level.now.room)
+            (blocked play message.now))
             ≡ came (stands pending play) self.new.text) }
     {
-        self.show(level.board())?;
+        self.show(level.board(), level.room())?;
         let Some(message) = message else {
             return Ok(None);
         };
@@ -100,10 +102,10 @@ impl<'g, B: Board> Stage<'g, B> {
         ensures late { R.meant rules.new.late ≡ R.meant rules.old.late }
         ensures table { level.new.table ≡ level.old.table }
         ensures came { IfOk result (λ end. (history : List Grid)
-            → after self.old.text (after (frame self.old.game.names level.old.board)
-            (key_told (script_for B.table_for self.old.game (R.meant rules.old.plain) (R.meant rules.old.late))
+            → after self.old.text
+            (key_shown (script_for B.table_for self.old.game (R.meant rules.old.plain) (R.meant rules.old.late))
             (play_of history level.old) (done_shown done.now level.old.board) AGAIN_LIMIT
-            (all_key_turns (script_for B.table_for self.old.game (R.meant rules.old.plain) (R.meant rules.old.late)))))
+            (all_key_turns (script_for B.table_for self.old.game (R.meant rules.old.plain) (R.meant rules.old.late))))
             ≡ key_end_step (script_for B.table_for self.old.game (R.meant rules.old.plain) (R.meant rules.old.late)) end
             (play_of history level.new) self.new.text) }
     {
@@ -131,11 +133,11 @@ impl<'g, B: Board> Stage<'g, B> {
         ensures late { R.meant rules.new.late ≡ R.meant rules.old.late }
         ensures table { IfOk result (λ change. GoesOnTable (B.table_for self.old.game.names.layers) change) }
         ensures came { IfOk result (λ change. (history : List Grid) (first : Standing)
-            → after self.old.text (after (frame self.old.game.names level.board)
-            (key_told (script_for B.table_for self.old.game (R.meant rules.old.plain) (R.meant rules.old.late))
+            → after self.old.text
+            (key_shown (script_for B.table_for self.old.game (R.meant rules.old.plain) (R.meant rules.old.late))
             (play_of (history_behind (history_change_if done.now.changed) history first.board) level)
             (done_shown done.now level.board) AGAIN_LIMIT
-            (all_key_turns (script_for B.table_for self.old.game (R.meant rules.old.plain) (R.meant rules.old.late)))))
+            (all_key_turns (script_for B.table_for self.old.game (R.meant rules.old.plain) (R.meant rules.old.late))))
             ≡ came (change_shown history first change) self.new.text) }
     {
         let history_change = history_change_if(done.changed);

@@ -4,13 +4,17 @@ ghost use Rattle.std.specs.Prelude.{◌≡◌, true};
 ghost use Rattle.ps_levels.specs.EntriesShown.{entries_shown};
 ghost use Rattle.ps_levels.specs.WinsShown.{wins_shown};
 ghost use Rattle.ps_model.specs.declared.limits.TheConstants.{SIDE_LIMIT};
+ghost use Rattle.ps_model.specs.session.RoomSizes.{HasRoomSize};
+ghost use Rattle.ps_model.specs.session.Rooms.{room_after};
 ghost use Rattle.ps_stage.specs.Playable.{ArePlayable, EntriesFit};
 ghost use Rattle.ps_stage.specs.Standings.{turn_parts};
 
 use crate::fits::entries_fit;
+use ps_board::Board;
 use ps_levels::{Entry, Win};
-use ps_model::Options;
+use ps_model::{Options, Room};
 use ps_names::Names;
+use ps_screen::room_of;
 use ps_turn::TurnGame;
 use std::marker::Model;
 
@@ -27,6 +31,7 @@ pub struct SessionGame<'g> {
 impl<'g> Model for SessionGame<'g> {
     ghost use Rattle.std.specs.Prelude.{◌≡◌};
     ghost use Rattle.ps_levels.specs.EntriesShown.{entries_shown};
+    ghost use Rattle.ps_model.specs.session.RoomSizes.{HasRoomSize};
     ghost use Rattle.ps_stage.specs.Playable.{ArePlayable};
     ghost use Rattle.ps_stage.specs.Standings.{SessionParts};
 
@@ -41,11 +46,12 @@ impl<'g> Model for SessionGame<'g> {
     } };
 
     ghost invariant = { λ g. ArePlayable g.names.now (entries_shown g.entries.now)
-        × ((g.turns.names ≡ g.names.now) × (g.turns.options ≡ g.options)) };
+        × ((g.turns.names ≡ g.names.now) × ((g.turns.options ≡ g.options) × HasRoomSize g.options)) };
 }
 
 impl<'g> SessionGame<'g> {
-    /// The game of these parts. The sides of its levels are those of a board.
+    /// The game of these parts. The sides of its levels are those of a board, and so are those of its rooms, if it has
+    /// rooms.
     pub fn new(
         title: &'g str,
         options: Options,
@@ -53,7 +59,8 @@ impl<'g> SessionGame<'g> {
         entries: &'g [Entry],
         wins: &'g [Win],
     ) -> SessionGame<'g>
-        requires { ArePlayable names.now (entries_shown entries.now) }
+        requires playable { ArePlayable names.now (entries_shown entries.now) }
+        requires rooms { HasRoomSize options }
         ensures title { result.title ≡ title.entry.now }
         ensures options { result.options ≡ options }
         ensures names { result.names ≡ names.entry.now }
@@ -104,6 +111,16 @@ impl<'g> SessionGame<'g> {
         ensures { result.now ≡ turn_parts self.now }
     {
         &self.turns
+    }
+
+    /// The room that the next frame of a board shows, where the last one showed a room. No memory is taken.
+    pub fn room_after<B: Board>(&self, board: &B, last: Room) -> Room
+        ensures { result ≡ room_after self.now.options.flickscreen self.now.names (B.grid board.now) last }
+    {
+        match self.options.flickscreen {
+            Some(size) => room_of(&self.turns, board, size, last),
+            None => last,
+        }
     }
 
     /// The entries.

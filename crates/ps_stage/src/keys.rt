@@ -2,13 +2,13 @@
 
 ghost use Rattle.std.specs.Prelude.{◌≡◌, IfOk, suc, List, None};
 ghost use Rattle.ps_model.specs.board.Grid.{Grid};
+ghost use Rattle.ps_model.specs.board.Programs.{Section};
 ghost use Rattle.ps_model.specs.board.Turns.{Script};
-ghost use Rattle.ps_model.specs.session.Frames.{frame};
 ghost use Rattle.ps_model.specs.session.Sessions.{Play, Step, after};
 ghost use Rattle.ps_model.specs.session.KeySteps.{key_pending, key_told, key_turns, all_key_turns};
 ghost use Rattle.ps_turn.specs.States.{done_shown};
-ghost use Rattle.ps_stage.specs.KeysShown.{key_end_step, key_told_step};
-ghost use Rattle.ps_stage.specs.Standings.{script_for, play_of};
+ghost use Rattle.ps_stage.specs.KeysShown.{key_end_step, key_shown, key_told_step};
+ghost use Rattle.ps_stage.specs.Standings.{script_for, script_of, play_of};
 ghost use Rattle.ps_stage.specs.StepsShown.{pending_shown};
 
 use crate::levels::{Counting, PlayedLevel};
@@ -57,17 +57,19 @@ impl<'g, B: Board> Stage<'g, B> {
     /// Shows the board behind a done turn of a key, and tells what comes behind the frame.
     pub(crate) fn tell_key_turn(
         &mut self,
-        level: &PlayedLevel<B>,
+        level: &mut PlayedLevel<B>,
         done: &DoneTurn,
         left: u32,
     ) -> Result<KeyTold, Memory>
         ensures game { self.new.game ≡ self.old.game }
-        ensures told { IfOk result (λ told. (script : Script) (play : Play) (turns : Play → Step)
-            → after self.old.text (after (frame self.old.game.names level.now.board)
-            (key_told script play (done_shown done.now level.now.board) left turns))
-            ≡ key_told_step script told play self.new.text turns) }
+        ensures table { level.new.table ≡ level.old.table }
+        ensures told { IfOk result (λ told. (history : List Grid) (plain late : List Section) (turns : Play → Step)
+            → after self.old.text (key_shown (script_of self.old.game plain late) (play_of history level.old)
+            (done_shown done.now level.old.board) left turns)
+            ≡ key_told_step (script_of self.old.game plain late) told (play_of history level.new) self.new.text
+            turns) }
     {
-        self.show(level.board())?;
+        self.show_level(level)?;
         self.tell_key(done, left)
     }
 

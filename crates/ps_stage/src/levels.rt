@@ -4,10 +4,11 @@ ghost use Rattle.std.specs.Prelude.{◌≡◌, IfOk, IfSome, OnErr, Some, false,
 ghost use Rattle.ps_model.specs.board.Grid.{Grid};
 ghost use Rattle.ps_model.specs.board.Levels.{loaded};
 ghost use Rattle.ps_model.specs.board.Turns.{turn};
+ghost use Rattle.ps_model.specs.session.StartSteps.{first_room};
 ghost use Rattle.ps_turn.specs.States.{HaveSameSides, outcome_shown, is_done};
 ghost use Rattle.ps_stage.specs.KeysShown.{IsNext, tried_outcome};
 ghost use Rattle.ps_stage.specs.Playable.{IsPlayable, LevelFits};
-ghost use Rattle.ps_stage.specs.Standings.{script_for, with_done};
+ghost use Rattle.ps_stage.specs.Standings.{script_for, seen_level, with_done};
 ghost use Rattle.ps_stage.specs.StepsShown.{counts, taken};
 
 use crate::entries::EntryNumber;
@@ -16,7 +17,7 @@ use crate::loading::load;
 use crate::spares::SpareBoards;
 use ps_board::Board;
 use ps_levels::Level;
-use ps_model::{Input, Memory};
+use ps_model::{Input, Memory, Room};
 use ps_names::Names;
 use ps_text::Text;
 use ps_turn::{DoneTurn, Rules, TurnRules, Turned, turn};
@@ -25,15 +26,16 @@ use std::marker::Model;
 use std::mem;
 use std::rc::Rc;
 
-/// A level that is played: its entry, its board, and the board that a restart goes back to, which the levels behind
-/// its turns share until a checkpoint. Turns work on a board of their own, which shows the same between them, if there
-/// is one.
+/// A level that is played: its entry, its board, the board that a restart goes back to, which the levels behind its
+/// turns share until a checkpoint, and the room that the last frame showed. Turns work on a board of their own, which
+/// shows the same between them, if there is one.
 #[derive(Drop)]
 pub struct PlayedLevel<B: Board> {
     entry: EntryNumber,
     board: B,
     spare: Option<B>,
     restart_board: Rc<B, Global>,
+    room: Room,
 }
 
 impl<B: Board> Model for PlayedLevel<B> {
@@ -47,6 +49,7 @@ impl<B: Board> Model for PlayedLevel<B> {
       table = B.table l.board;
       board = B.grid l.board;
       restart_board = B.grid l.restart_board.value;
+      room = l.room;
     } };
 
     ghost invariant = { λ l. IfSome l.spare (λ spare. B.grid spare ≡ B.grid l.board)
@@ -158,7 +161,7 @@ fn boards_beside<B: Board>(
     Ok((spare, restart_board))
 }
 
-/// A level of these boards: the first is copied, and the second shared.
+/// A level of these boards: the first is copied, and the second shared. The last frame showed that room.
 ///
 /// # Errors
 ///
@@ -169,12 +172,14 @@ fn level_of<B: Board>(
     entry: EntryNumber,
     board: &B,
     restart_board: &Rc<B, Global>,
+    room: Room,
 ) -> Result<PlayedLevel<B>, Memory>
     requires { B.table restart_board.now.value ≡ B.table board.now }
     ensures entry { IfOk result (λ level. level.entry ≡ entry) }
     ensures table { IfOk result (λ level. level.table ≡ B.table board.now) }
     ensures board { IfOk result (λ level. level.board ≡ B.grid board.now) }
     ensures restart_board { IfOk result (λ level. level.restart_board ≡ B.grid restart_board.now.value) }
+    ensures room { IfOk result (λ level. level.room ≡ room) }
 {
     let copy = spares.copy_of(alloc, board)?;
     match boards_beside(alloc, spares, board, restart_board) {
@@ -183,6 +188,7 @@ fn level_of<B: Board>(
             board: copy,
             spare: Some(spare),
             restart_board,
+            room,
         }),
         Err(Memory) => {
             spares.keep(copy);
@@ -262,6 +268,7 @@ impl<B: Board> PlayedLevel<B> {
         ensures table { IfOk result (λ played. played.table ≡ B.table_for names.now.layers) }
         ensures board { IfOk result (λ played. played.board ≡ loaded names.now level.now) }
         ensures restart_board { IfOk result (λ played. played.restart_board ≡ loaded names.now level.now) }
+        ensures room { IfOk result (λ played. played.room ≡ first_room) }
     {
         let board: B = load(alloc, names, level)?;
         let spare = spares.copy_of(alloc, &board)?;
@@ -272,6 +279,7 @@ impl<B: Board> PlayedLevel<B> {
             board,
             spare: Some(spare),
             restart_board,
+            room: Room { x: 0, y: 0 },
         })
     }
 
@@ -293,10 +301,11 @@ impl<B: Board> PlayedLevel<B> {
             self.entry.copied(),
             &self.board,
             &self.restart_board,
+            self.room,
         )
     }
 
-    /// The level with a board that the history had.
+    /// The level with a board that the history had. The last frame showed that room.
     ///
     /// # Errors
     ///
@@ -306,12 +315,14 @@ impl<B: Board> PlayedLevel<B> {
         alloc: Global,
         spares: &mut SpareBoards<B>,
         other: &B,
+        room: Room,
     ) -> Result<PlayedLevel<B>, Memory>
         requires { B.table other.now ≡ self.now.table }
         ensures entry { IfOk result (λ copy. copy.entry ≡ self.now.entry) }
         ensures table { IfOk result (λ copy. copy.table ≡ self.now.table) }
         ensures board { IfOk result (λ copy. copy.board ≡ B.grid other.now) }
         ensures restart_board { IfOk result (λ copy. copy.restart_board ≡ self.now.restart_board) }
+        ensures room { IfOk result (λ copy. copy.room ≡ room) }
     {
         level_of(
             alloc,
@@ -319,10 +330,11 @@ impl<B: Board> PlayedLevel<B> {
             self.entry.copied(),
             other,
             &self.restart_board,
+            room,
         )
     }
 
-    /// The level at the board that a restart goes back to.
+    /// The level at the board that a restart goes back to. The room stays.
     ///
     /// # Errors
     ///
@@ -336,8 +348,9 @@ impl<B: Board> PlayedLevel<B> {
         ensures table { IfOk result (λ copy. copy.table ≡ self.now.table) }
         ensures board { IfOk result (λ copy. copy.board ≡ self.now.restart_board) }
         ensures restart_board { IfOk result (λ copy. copy.restart_board ≡ self.now.restart_board) }
+        ensures room { IfOk result (λ copy. copy.room ≡ self.now.room) }
     {
-        self.with_board(alloc, spares, &self.restart_board)
+        self.with_board(alloc, spares, &self.restart_board, self.room)
     }
 
     /// The place of its entry.
@@ -353,6 +366,20 @@ impl<B: Board> PlayedLevel<B> {
         ensures table { B.table result.now ≡ self.now.table }
     {
         &self.board
+    }
+
+    /// The room that the last frame showed.
+    pub fn room(&self) -> Room
+        ensures { result ≡ self.now.room }
+    {
+        self.room
+    }
+
+    /// It has the room that the next frame of its board shows. No memory is taken.
+    pub(crate) fn see(&mut self, game: &SessionGame<'_>)
+        ensures { self.new ≡ seen_level game.now self.old }
+    {
+        self.room = game.room_after(&self.board, self.room);
     }
 
     /// Its board, and the one for turns, are there to be used again.
@@ -463,6 +490,7 @@ impl<B: Board> PlayedLevel<B> {
                     board: spare,
                     spare: Some(copy),
                     restart_board,
+                    room: self.room,
                 };
                 Ok(Tried::Done(next, done))
             }

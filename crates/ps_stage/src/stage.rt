@@ -2,7 +2,8 @@
 
 ghost use Rattle.std.specs.Prelude.{◌≡◌, ◌++◌, [], OnErr, OnOk, IfOk, codes};
 ghost use Rattle.ps_model.specs.game.Outputs.{quit_line};
-ghost use Rattle.ps_model.specs.session.Frames.{frame, written_line};
+ghost use Rattle.ps_model.specs.session.Frames.{written_line};
+ghost use Rattle.ps_model.specs.session.Rooms.{frame_in, room_after};
 ghost use Rattle.ps_levels.specs.EntriesShown.{entries_shown};
 ghost use Rattle.ps_stage.specs.Playable.{ArePlayable, EntriesFit};
 
@@ -11,7 +12,7 @@ use crate::levels::PlayedLevel;
 use crate::spares::SpareBoards;
 use ps_board::Board;
 use ps_levels::Entry;
-use ps_model::Memory;
+use ps_model::{Memory, Room};
 use ps_screen::{OutputText, Picture};
 use std::alloc::Global;
 use std::marker::Model;
@@ -118,16 +119,25 @@ impl<'g, B: Board> Stage<'g, B> {
         self.text.add(b"* quit\n")
     }
 
-    /// Adds a frame.
+    /// The room that the next frame of a board shows, where the last one showed a room. No memory is taken.
+    pub fn room_after(&self, board: &B, last: Room) -> Room
+        ensures { result ≡ room_after self.now.game.options.flickscreen self.now.game.names (B.grid board.now) last }
+    {
+        self.game.room_after(board, last)
+    }
+
+    /// Adds a frame, of this room where the game has rooms.
     ///
     /// # Errors
     ///
     /// `Memory`.
-    pub fn show(&mut self, board: &B) -> Result<(), Memory>
+    pub fn show(&mut self, board: &B, room: Room) -> Result<(), Memory>
         ensures game { self.new.game ≡ self.old.game }
-        ensures shown { OnOk result (self.new.text ≡ self.old.text ++ frame self.old.game.names (B.grid board.now)) }
+        ensures shown { OnOk result (self.new.text ≡ self.old.text
+            ++ frame_in self.old.game.options.flickscreen self.old.game.names (B.grid board.now) room) }
     {
-        self.picture.show(board, &mut self.text)
+        let size = self.game.options().flickscreen;
+        self.picture.show_in(board, size, room, &mut self.text)
     }
 
     /// Keeps the boards of a level that nobody plays any more, to be used again. No memory is taken.
@@ -137,20 +147,26 @@ impl<'g, B: Board> Stage<'g, B> {
         level.give_back(&mut self.spares);
     }
 
-    /// A level with a board that the history had.
+    /// A level with a board that the history had, of which the last frame showed that room.
     ///
     /// # Errors
     ///
     /// `Memory`.
-    pub fn level_at(&mut self, level: &PlayedLevel<B>, board: &B) -> Result<PlayedLevel<B>, Memory>
+    pub fn level_at(
+        &mut self,
+        level: &PlayedLevel<B>,
+        board: &B,
+        room: Room,
+    ) -> Result<PlayedLevel<B>, Memory>
         requires { B.table board.now ≡ level.now.table }
         ensures stage { self.new ≡ self.old }
         ensures entry { IfOk result (λ back. back.entry ≡ level.now.entry) }
         ensures table { IfOk result (λ back. back.table ≡ level.now.table) }
         ensures board { IfOk result (λ back. back.board ≡ B.grid board.now) }
         ensures restart_board { IfOk result (λ back. back.restart_board ≡ level.now.restart_board) }
+        ensures room { IfOk result (λ back. back.room ≡ room) }
     {
-        level.with_board(self.alloc, &mut self.spares, board)
+        level.with_board(self.alloc, &mut self.spares, board, room)
     }
 
     /// Adds the line of a message.

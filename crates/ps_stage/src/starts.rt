@@ -4,10 +4,11 @@ ghost use Rattle.std.specs.Prelude.{◌≡◌, IfOk, OnOk, suc, List, None};
 ghost use Rattle.std.specs.Option.{option_or};
 ghost use Rattle.ps_model.specs.declared.limits.TheConstants.{AGAIN_LIMIT};
 ghost use Rattle.ps_model.specs.board.Grid.{Grid};
+ghost use Rattle.ps_model.specs.board.Programs.{Section};
 ghost use Rattle.ps_model.specs.session.Sessions.{Play, Step, after, shown};
 ghost use Rattle.ps_model.specs.session.StartSteps.{start_pending, start_told, start_turns, all_start_turns};
 ghost use Rattle.ps_model.specs.session.StartSteps.{started, start_step};
-ghost use Rattle.ps_stage.specs.Standings.{script_for, play_of};
+ghost use Rattle.ps_stage.specs.Standings.{script_for, script_of, seen_level, play_of};
 ghost use Rattle.ps_stage.specs.StepsShown.{told_step, start_shown, came, stands, pending_shown};
 
 use crate::levels::{Counting, PlayedLevel};
@@ -70,22 +71,35 @@ impl<'g, B: Board> Stage<'g, B> {
         Ok(StartTold::Stops(None))
     }
 
+    /// Shows a level with the room that is seen there.
+    pub(crate) fn show_level(&mut self, level: &mut PlayedLevel<B>) -> Result<(), Memory>
+        ensures game { self.new.game ≡ self.old.game }
+        ensures level { level.new ≡ seen_level self.old.game level.old }
+        ensures shown { OnOk result ((history : List Grid) (plain late : List Section) → self.new.text
+            ≡ self.old.text ++ shown (script_of self.old.game plain late) (play_of history level.new)) }
+    {
+        level.see(&self.game);
+        self.show(level.board(), level.room())
+    }
+
     /// Shows the board behind a done turn of a start, if the turn changed it, and tells what comes behind the frame.
     fn tell_start_turn(
         &mut self,
-        level: &PlayedLevel<B>,
+        level: &mut PlayedLevel<B>,
         done: &DoneTurn,
         left: u32,
     ) -> Result<StartTold, Memory>
         ensures game { self.new.game ≡ self.old.game }
-        ensures told { IfOk result (λ told. (history : List Grid) (turns : Play → Step)
-            → after self.old.text (start_shown self.old.game.names (play_of history level.now) done.now left turns)
-            ≡ told_step told (play_of history level.now) self.new.text turns) }
+        ensures table { level.new.table ≡ level.old.table }
+        ensures told { IfOk result (λ told. (history : List Grid) (plain late : List Section) (turns : Play → Step)
+            → after self.old.text
+            (start_shown (script_of self.old.game plain late) (play_of history level.old) done.now left turns)
+            ≡ told_step told (play_of history level.new) self.new.text turns) }
     {
         if !done.changed {
             return Ok(StartTold::Stops(None));
         }
-        self.show(level.board())?;
+        self.show_level(level)?;
         self.tell_start(&done.message, done.again, left)
     }
 
@@ -193,7 +207,7 @@ impl<'g, B: Board> Stage<'g, B> {
             (play_of history level.old) message.now again)
             ≡ came (stands pending (play_of history level.new)) self.new.text) }
     {
-        self.show(level.board())?;
+        self.show_level(level)?;
         match self.tell_start(message, again, AGAIN_LIMIT)? {
             StartTold::Stops(pending) => Ok(pending),
             StartTold::GoesOn => {

@@ -53,7 +53,7 @@ unfolding chars digits is_utf8 utf8_valid_len encode group program_run all_start
 odd_play_019 = refl
 
 odd_play_026 : written (codes "title T\nflickscreen 1x256 z\nOBJECTS\nBackground .\ngreen\nWall #\nbrown\nPlayer P\nwhite\nCrate *\norange\nTarget O\nblue\nA\nred\nB\npink\nC\ngray\nD\nblack\nLEGEND\n@ = Crate and Target\nAT = A or Target\nAB = A or B\nAC=A or C\nX = A\nBD = B or D or AB\nCOLLISIONLAYERS\nBackground\nTarget\nPlayer, Wall, Crate\nA B C D\nRULES\nWINCONDITIONS\nLEVELS\n#P*O.\n") (codes "saw")
-    ≡ Some (codes "= T\n# level 1\n#P*O.\n\n#P*O.\n\n#P*O.\n\n#P*O.\n\n* end of keys\n")
+    ≡ Some (codes "= T\n# level 1\nP\n\nP\n\nP\n\nP\n\n* end of keys\n")
 unfolding chars digits is_utf8 utf8_valid_len encode group program_run all_start_turns all_key_turns turn opening_step
 odd_play_026 = refl
 

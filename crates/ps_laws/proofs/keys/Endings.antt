@@ -12,7 +12,7 @@ use Rattle.ps_model.specs.declared.limits.TheConstants.{AGAIN_LIMIT}
 use Rattle.ps_model.specs.session.LevelLines.{Entry, MessageEntry, LevelEntry}
 use Rattle.ps_model.specs.session.Keys.{keys_of}
 use Rattle.ps_model.specs.board.Turns.{Script, Done, Outcome, Blocked, Restarted, Finished, turn}
-use Rattle.ps_model.specs.session.Sessions.{Play, Pending, Nothing, LevelDone, KeyAgain, StartAgain, Session, Playing, Waiting, AtMessage, Ended, Step, with_board_in_history, with_turn}
+use Rattle.ps_model.specs.session.Sessions.{Play, Pending, Nothing, LevelDone, KeyAgain, StartAgain, Session, Playing, Waiting, AtMessage, Ended, Step, seen, with_board_in_history, with_turn}
 use Rattle.ps_model.specs.session.StartSteps.{start_pending, start_told, start_counted, start_turn_by, start_turns, all_start_turns, started, started_by, start_step, entered, enter, fresh, restarted}
 use Rattle.ps_model.specs.session.KeySteps.{key_pending, key_told, key_counted, key_turn_by, key_turns, all_key_turns, turn_taken, back_at, undone, unless_ignored, key_in_level, input_taken, gone_on, key_at_level_message, key_at_entry, key_step}
 use Rattle.ps_model.specs.game.Outputs.{Output, output, opening_step, ending_of, end_of_keys_line}
@@ -49,7 +49,7 @@ of_start_told play None true left turns own = own play
 of_start_counted : (script : Script) (play : Play) (done : Done) (left : ℕ) (turns : Play → Step) → ((p : Play) → IsOwn (turns p).session) → (changed : Bool) → done.changed ≡ changed →
     IsOwn (start_counted script play done left turns).session
 of_start_counted script play done left turns own false e = rw (e, start_counted) (in_play play)
-of_start_counted script play done left turns own true e = rw (e, start_counted) (of_start_told (with_turn play done) done.message done.again left turns own)
+of_start_counted script play done left turns own true e = rw (e, start_counted) (of_start_told (seen script (with_turn play done)) done.message done.again left turns own)
 
 of_start_turn : (script : Script) (play : Play) (left : ℕ) (turns : Play → Step) → ((p : Play) → IsOwn (turns p).session) → (outcome : Outcome) →
     IsOwn (start_turn_by script play left turns outcome).session
@@ -66,7 +66,7 @@ unfolding all_start_turns
 of_all_start_turns script play = of_start_turns script AGAIN_LIMIT play
 
 of_started : (script : Script) (play : Play) (message : Option (List ℕ)) (again : Bool) → IsOwn (started script play message again).session
-of_started script play message again = of_start_told play message again AGAIN_LIMIT (all_start_turns script) (of_all_start_turns script)
+of_started script play message again = of_start_told (seen script play) message again AGAIN_LIMIT (all_start_turns script) (of_all_start_turns script)
 
 of_started_by : (script : Script) (play : Play) (message : Option (List ℕ)) (outcome : Outcome) → IsOwn (started_by script play message outcome).session
 of_started_by script play message (Blocked own) = of_started script play (option_or own message) false
@@ -100,7 +100,7 @@ of_key_told script play done left turns own None false false m w a = rw (m, w, a
 of_key_counted : (script : Script) (play : Play) (done : Done) (left : ℕ) (turns : Play → Step) → ((p : Play) → IsOwn (turns p).session) → (counts : Bool) → (done.changed || done.win) ≡ counts →
     IsOwn (key_counted script play done left turns).session
 of_key_counted script play done left turns own false e = rw (e, key_counted) (in_play play)
-of_key_counted script play done left turns own true e = rw (e, key_counted) (of_key_told script (with_turn play done) done left turns own done.message done.win done.again refl refl refl)
+of_key_counted script play done left turns own true e = rw (e, key_counted) (of_key_told script (seen script (with_turn play done)) done left turns own done.message done.win done.again refl refl refl)
 
 of_key_turn : (script : Script) (play : Play) (left : ℕ) (turns : Play → Step) → ((p : Play) → IsOwn (turns p).session) → (outcome : Outcome) →
     IsOwn (key_turn_by script play left turns outcome).session
@@ -123,7 +123,7 @@ of_turn_taken script play (Restarted message) = of_restarted script (with_board_
 of_turn_taken script play (Finished done) = of_key_told script _ done AGAIN_LIMIT (all_key_turns script) (of_all_key_turns script) done.message done.win done.again refl refl refl
 
 of_undone : (script : Script) (play : Play) → IsOwn (undone script play).session
-of_undone script play = in_play (back_at play (slice_get play.history (length play.history - 1)))
+of_undone script play = in_play (back_at script play (slice_get play.history (length play.history - 1)))
 
 of_unless_ignored : (ignored : Bool) (play : Play) (key : Play → Step) → ((p : Play) → IsOwn (key p).session) → IsOwn (unless_ignored ignored play key).session
 of_unless_ignored true play key own = in_play play

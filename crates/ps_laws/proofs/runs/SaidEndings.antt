@@ -11,7 +11,7 @@ use Rattle.ps_model.specs.declared.play.Key.TheVariants.{Move, Undo, Restart, Qu
 use Rattle.ps_model.specs.declared.limits.TheConstants.{AGAIN_LIMIT}
 use Rattle.ps_model.specs.session.LevelLines.{Entry, MessageEntry, LevelEntry}
 use Rattle.ps_model.specs.board.Turns.{Script, Done, Outcome, Blocked, Restarted, Finished, turn}
-use Rattle.ps_model.specs.session.Sessions.{Play, Pending, Nothing, LevelDone, KeyAgain, StartAgain, Session, Playing, Waiting, AtMessage, Ended, Step, quietly, after, waiting, message_line, shown, done_line, level_line, with_board_in_history, with_turn}
+use Rattle.ps_model.specs.session.Sessions.{Play, Pending, Nothing, LevelDone, KeyAgain, StartAgain, Session, Playing, Waiting, AtMessage, Ended, Step, quietly, after, waiting, message_line, seen, shown, done_line, level_line, with_board_in_history, with_turn}
 use Rattle.ps_model.specs.session.StartSteps.{start_pending, start_told, start_counted, start_turn_by, start_turns, all_start_turns, started, started_by, start_step, entered, enter, fresh, restarted}
 use Rattle.ps_model.specs.session.KeySteps.{key_pending, key_told, key_counted, key_turn_by, key_turns, all_key_turns, with_board_in_history_if, key_done, turn_taken, back_at, undone, unless_ignored, key_in_level, input_taken, gone_on, key_at_level_message, key_at_entry, key_step}
 use Rattle.ps_model.specs.game.Outputs.{ending_of}
@@ -47,7 +47,8 @@ of_start_counted : (script : Script) (play : Play) (done : Done) (left : ℕ) (t
     IsSaid (start_counted script play done left turns)
 of_start_counted script play done left turns said false e = rw (e, start_counted) (in_play play [])
 of_start_counted script play done left turns said true e =
-    rw (e, start_counted) (of_after (shown script (with_turn play done)) (start_told (with_turn play done) done.message done.again left turns) (of_start_told (with_turn play done) done.message done.again left turns said))
+    let next : Play = seen script (with_turn play done) in
+    rw (e, start_counted) (of_after (shown script next) (start_told next done.message done.again left turns) (of_start_told next done.message done.again left turns said))
 
 of_start_turn : (script : Script) (play : Play) (left : ℕ) (turns : Play → Step) → ((p : Play) → IsSaid (turns p)) → (outcome : Outcome) →
     IsSaid (start_turn_by script play left turns outcome)
@@ -65,7 +66,8 @@ of_all_start_turns script play = of_start_turns script AGAIN_LIMIT play
 
 of_started : (script : Script) (play : Play) (message : Option (List ℕ)) (again : Bool) → IsSaid (started script play message again)
 of_started script play message again =
-    of_after (shown script play) (start_told play message again AGAIN_LIMIT (all_start_turns script)) (of_start_told play message again AGAIN_LIMIT (all_start_turns script) (of_all_start_turns script))
+    let next : Play = seen script play in
+    of_after (shown script next) (start_told next message again AGAIN_LIMIT (all_start_turns script)) (of_start_told next message again AGAIN_LIMIT (all_start_turns script) (of_all_start_turns script))
 
 of_started_by : (script : Script) (play : Play) (message : Option (List ℕ)) (outcome : Outcome) → IsSaid (started_by script play message outcome)
 of_started_by script play message (Blocked own) = of_started script play (option_or own message) false
@@ -104,7 +106,8 @@ of_key_counted : (script : Script) (play : Play) (done : Done) (left : ℕ) (tur
     IsSaid (key_counted script play done left turns)
 of_key_counted script play done left turns said false e = rw (e, key_counted) (in_play play [])
 of_key_counted script play done left turns said true e =
-    rw (e, key_counted) (of_after (shown script (with_turn play done)) (key_told script (with_turn play done) done left turns) (of_key_told script (with_turn play done) done left turns said done.message done.win done.again refl refl refl))
+    let next : Play = seen script (with_turn play done) in
+    rw (e, key_counted) (of_after (shown script next) (key_told script next done left turns) (of_key_told script next done left turns said done.message done.win done.again refl refl refl))
 
 of_key_turn : (script : Script) (play : Play) (left : ℕ) (turns : Play → Step) → ((p : Play) → IsSaid (turns p)) → (outcome : Outcome) →
     IsSaid (key_turn_by script play left turns outcome)
@@ -122,7 +125,8 @@ of_all_key_turns script play = of_key_turns script AGAIN_LIMIT play
 
 of_key_done : (script : Script) (play : Play) (done : Done) → IsSaid (key_done script play done)
 of_key_done script play done =
-    of_after (shown script (with_turn play done)) (key_told script (with_turn play done) done AGAIN_LIMIT (all_key_turns script)) (of_key_told script (with_turn play done) done AGAIN_LIMIT (all_key_turns script) (of_all_key_turns script) done.message done.win done.again refl refl refl)
+    let next : Play = seen script (with_turn play done) in
+    of_after (shown script next) (key_told script next done AGAIN_LIMIT (all_key_turns script)) (of_key_told script next done AGAIN_LIMIT (all_key_turns script) (of_all_key_turns script) done.message done.win done.again refl refl refl)
 
 of_turn_taken : (script : Script) (play : Play) (outcome : Outcome) → IsSaid (turn_taken script play outcome)
 of_turn_taken script play (Blocked None) = of_after (shown script play) (quietly (Playing play)) (in_play play [])
@@ -132,7 +136,7 @@ of_turn_taken script play (Finished done) = of_key_done script (with_board_in_hi
 
 of_undone : (script : Script) (play : Play) → IsSaid (undone script play)
 of_undone script play =
-    let back : Play = back_at play (slice_get play.history (length play.history - 1)) in in_play back (shown script back)
+    let back : Play = back_at script play (slice_get play.history (length play.history - 1)) in in_play back (shown script back)
 
 of_unless_ignored : (ignored : Bool) (play : Play) (key : Play → Step) → ((p : Play) → IsSaid (key p)) → IsSaid (unless_ignored ignored play key)
 of_unless_ignored true play key said = in_play play []

@@ -4,7 +4,7 @@ use Rattle.std.specs.Prelude.{◌⊎◌, is_none, not, ◌&&◌}
 use Rattle.ps_model.specs.declared.limits.TheConstants.{AGAIN_LIMIT}
 use Rattle.ps_model.specs.board.Grid.{Grid}
 use Rattle.ps_model.specs.board.Turns.{Script, Done, Outcome, Blocked, Restarted, Finished, turn}
-use Rattle.ps_model.specs.session.Sessions.{Play, Step, after, shown, with_turn}
+use Rattle.ps_model.specs.session.Sessions.{Play, Step, after, seen, shown, with_turn}
 use Rattle.ps_model.specs.session.StartSteps.{start_told, start_counted, start_turn_by, start_turns, all_start_turns}
 use Rattle.ps_model.specs.session.KeySteps.{key_told, key_counted, key_turn_by, key_turns, all_key_turns}
 use Rattle.ps_laws.specs.AgainTurns.{counts_for_key, goes_on_for_key, counts_for_start, goes_on_for_start, Follow, IsLongest, turns_told, key_stop, start_stop, told_at_start, KeyTurnsAreLongest, StartTurnsAreLongest, AllKeyTurnsAreLongest, AllStartTurnsAreLongest}
@@ -19,7 +19,7 @@ record Repeat (counts goes_on : Done → Bool) (told : Play → Done → ℕ →
   restarting : (left : ℕ) (play : Play) (message : Option (List ℕ)) → turn script None play.board ≡ Restarted message → turns (suc left) play ≡ stop (suc left) play
   idle : (left : ℕ) (play : Play) (done : Done) → turn script None play.board ≡ Finished done → counts done ≡ false → turns (suc left) play ≡ stop (suc left) play
   counted : (left : ℕ) (play : Play) (done : Done) → turn script None play.board ≡ Finished done → counts done ≡ true →
-      turns (suc left) play ≡ after (shown script (with_turn play done)) (told (with_turn play done) done left (turns left))
+      turns (suc left) play ≡ after (shown script (seen script (with_turn play done))) (told (seen script (with_turn play done)) done left (turns left))
   cut : (done : Done) (play : Play) (left : ℕ) (first second : Play → Step) → goes_on done ≡ false → told play done left first ≡ told play done left second
   onwards : (done : Done) (play : Play) (left : ℕ) (again_turns : Play → Step) → goes_on done ≡ true → told play done left again_turns ≡ again_turns play
 
@@ -48,8 +48,8 @@ module _ (counts goes_on : Done → Bool) (told : Play → Done → ℕ → (Pla
     done ∷ [],
     record { follow = (e, counting, inl refl, tt); few = omega arith; longest = no_longer },
     r.counted left play done e counting
-        ∙ ap (after (shown script (with_turn play done))) (r.cut done (with_turn play done) left (turns left) (stop left) ends)
-        ∙ ap (λ (n : ℕ). after (shown script (with_turn play done)) (told (with_turn play done) done n (turns_told told stop script [] n))) (fewer left),
+        ∙ ap (after (shown script (seen script (with_turn play done)))) (r.cut done (seen script (with_turn play done)) left (turns left) (stop left) ends)
+        ∙ ap (λ (n : ℕ). after (shown script (seen script (with_turn play done))) (told (seen script (with_turn play done)) done n (turns_told told stop script [] n))) (fewer left),
   ) where
     alone : (first : Done) (others : List Done) → done ≡ first → (others ≡ []) ⊎ (goes_on first ≡ true) → length (first ∷ others) ≤ 1
     alone first others same (inl nothing) = let empty : length others ≡ 0 = ap (λ (l : List Done). length l) nothing in omega (arith, empty)
@@ -61,13 +61,13 @@ module _ (counts goes_on : Done → Bool) (told : Play → Done → ℕ → (Pla
 
   -- a turn behind which another is due comes before those of the rest
   further : (left : ℕ) (play : Play) (done : Done) → turn script None play.board ≡ Finished done → counts done ≡ true → goes_on done ≡ true →
-      IsTold left (with_turn play done) → IsTold (suc left) play
+      IsTold left (seen script (with_turn play done)) → IsTold (suc left) play
   further left play done e counting on (dones, rest, is) = (
     done ∷ dones,
     record { follow = (e, counting, inr on, rest.follow); few = omega (arith, rest.few); longest = no_longer },
     r.counted left play done e counting
-        ∙ ap (after (shown script (with_turn play done))) (r.onwards done (with_turn play done) left (turns left) on ∙ is ∙ sym (r.onwards done (with_turn play done) left (turns_told told stop script dones left) on))
-        ∙ ap (λ (n : ℕ). after (shown script (with_turn play done)) (told (with_turn play done) done n (turns_told told stop script dones n))) (fewer left),
+        ∙ ap (after (shown script (seen script (with_turn play done)))) (r.onwards done (seen script (with_turn play done)) left (turns left) on ∙ is ∙ sym (r.onwards done (seen script (with_turn play done)) left (turns_told told stop script dones left) on))
+        ∙ ap (λ (n : ℕ). after (shown script (seen script (with_turn play done))) (told (seen script (with_turn play done)) done n (turns_told told stop script dones n))) (fewer left),
   ) where
     no_longer : (others : List Done) → Follow counts goes_on script play.board others → length others ≤ suc left → length others ≤ suc (length dones)
     no_longer [] h few = omega arith
@@ -78,7 +78,7 @@ module _ (counts goes_on : Done → Bool) (told : Play → Done → ℕ → (Pla
         omega (arith, short)
 
   by_counting : (left : ℕ) (play : Play) (done : Done) (counting on : Bool) → turn script None play.board ≡ Finished done → counts done ≡ counting → goes_on done ≡ on →
-      IsTold left (with_turn play done) → IsTold (suc left) play
+      IsTold left (seen script (with_turn play done)) → IsTold (suc left) play
   by_counting left play done false on e c g rest =
       none (suc left) play (r.idle left play done e c)
       (λ first is counting some. let clash : false ≡ true = sym c ∙ ap counts (first_is play.board done first e is) ∙ counting in absurd (cc clash))
@@ -90,7 +90,7 @@ module _ (counts goes_on : Done → Bool) (told : Play → Done → ℕ → (Pla
       none (suc left) play (r.blocked left play message e) (λ first is counting some. let clash : Blocked message ≡ Finished first = sym e ∙ is in absurd (cc clash))
   by_outcome left play (Restarted message) e rest =
       none (suc left) play (r.restarting left play message e) (λ first is counting some. let clash : Restarted message ≡ Finished first = sym e ∙ is in absurd (cc clash))
-  by_outcome left play (Finished done) e rest = by_counting left play done (counts done) (goes_on done) e refl refl (rest (with_turn play done))
+  by_outcome left play (Finished done) e rest = by_counting left play done (counts done) (goes_on done) e refl refl (rest (seen script (with_turn play done)))
 
   all_told : (limit : ℕ) (play : Play) → IsTold limit play
   all_told zero play = none 0 play (r.none_left play) (λ first is counting some. absurd (omega (arith, some)))

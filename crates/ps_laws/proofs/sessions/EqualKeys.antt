@@ -9,12 +9,12 @@ use Rattle.ps_model.specs.declared.play.Key.TheVariants.{Move, Undo, Restart, Qu
 use Rattle.ps_model.specs.board.Grid.{Grid}
 use Rattle.ps_model.specs.board.Programs.{Section}
 use Rattle.ps_model.specs.board.Turns.{Script, Done, Outcome, Blocked, Restarted, Finished, turn}
-use Rattle.ps_model.specs.session.Sessions.{Play, Pending, Nothing, LevelDone, KeyAgain, StartAgain, Session, Playing, Waiting, AtMessage, Ended, Step, after, shown, with_board_in_history, with_turn}
+use Rattle.ps_model.specs.session.Sessions.{Play, Pending, Nothing, LevelDone, KeyAgain, StartAgain, Session, Playing, Waiting, AtMessage, Ended, Step, after, seen, shown, with_board_in_history, with_turn}
 use Rattle.ps_model.specs.session.StartSteps.{level_done, restarted}
 use Rattle.ps_model.specs.session.KeySteps.{key_told, key_counted, key_turn_by, key_turns, all_key_turns, with_board_in_history_if, turn_taken, input_taken, undone, unless_ignored, key_in_level, gone_on, key_at_level_message, key_at_entry, key_step}
 use Rattle.ps_laws.specs.SessionBoards.{AreBoards, AreBoardsIn, HasBoard}
 use Rattle.ps_laws.specs.AlikeScripts.{EqualSteps}
-use Rattle.ps_laws.proofs.sessions.EqualSteps.{with_rules, EqualTurns, FromLevels, after-equal, by_outcome, with_turn-boards, with_board_in_history-boards, with_board_in_history_if-boards, back_at-boards}
+use Rattle.ps_laws.proofs.sessions.EqualSteps.{with_rules, EqualTurns, FromLevels, after-equal, by_outcome, with_turn-boards, seen-boards, with_board_in_history-boards, with_board_in_history_if-boards, back_at-boards}
 use Rattle.ps_laws.proofs.sessions.EqualStarts.{start_turns-equal, enter-equal, level_done-equal, restarted-equal}
 
 module _ (IsSuch : Grid → Type 0) (a : Script) (plain late : List Section) (both : EqualTurns IsSuch a (with_rules a plain late)) where
@@ -46,7 +46,7 @@ module _ (IsSuch : Grid → Type 0) (a : Script) (plain late : List Section) (bo
   counted : (play : Play) (done : Done) (left : ℕ) (f g : Play → Step) (counts : Bool) → (done.changed || done.win) ≡ counts → FromLevels IsSuch f g → AreBoards IsSuch play → IsSuch done.board →
       EqualSteps IsSuch (key_counted a play done left f) (key_counted b play done left g)
   counted play done left f g false e each h board = rw (e, key_counted) (record { equal = refl; boards = h })
-  counted play done left f g true e each h board = rw (e, key_counted) (framed (with_turn play done) done left f g each (with_turn-boards IsSuch play done h board))
+  counted play done left f g true e each h board = rw (e, key_counted) (framed (seen a (with_turn play done)) done left f g each (seen-boards IsSuch a (with_turn play done) (with_turn-boards IsSuch play done h board)))
 
   turn_by : (play : Play) (left : ℕ) (f g : Play → Step) → FromLevels IsSuch f g → AreBoards IsSuch play → (outcome : Outcome) → HasBoard IsSuch outcome →
       EqualSteps IsSuch (key_turn_by a play left f outcome) (key_turn_by b play left g outcome)
@@ -72,8 +72,8 @@ module _ (IsSuch : Grid → Type 0) (a : Script) (plain late : List Section) (bo
   taken play h (Restarted message) board = restarted_too message (with_board_in_history play) (with_board_in_history-boards IsSuch play h)
   taken play h (Finished done) board =
       let kept : Play = with_board_in_history_if done.changed play in
-      framed (with_turn kept done) done AGAIN_LIMIT (all_key_turns a) (all_key_turns b) all_key_turns-equal
-      (with_turn-boards IsSuch kept done (with_board_in_history_if-boards IsSuch done.changed play h) board)
+      framed (seen a (with_turn kept done)) done AGAIN_LIMIT (all_key_turns a) (all_key_turns b) all_key_turns-equal
+      (seen-boards IsSuch a (with_turn kept done) (with_turn-boards IsSuch kept done (with_board_in_history_if-boards IsSuch done.changed play h) board))
 
   input_taken-equal : (play : Play) (input : Input) → AreBoards IsSuch play → EqualSteps IsSuch (input_taken a play input) (input_taken b play input)
   input_taken-equal play input h =
@@ -82,7 +82,7 @@ module _ (IsSuch : Grid → Type 0) (a : Script) (plain late : List Section) (bo
   -- keys ------------------------------------------------------------------------------------------------------------------
 
   undone-equal : (play : Play) → AreBoards IsSuch play → EqualSteps IsSuch (undone a play) (undone b play)
-  undone-equal play h = record { equal = refl; boards = back_at-boards IsSuch play (slice_get play.history (length play.history - 1)) refl h }
+  undone-equal play h = record { equal = refl; boards = back_at-boards IsSuch a play (slice_get play.history (length play.history - 1)) refl h }
 
   ignored_or : (ignored : Bool) (play : Play) (f g : Play → Step) → FromLevels IsSuch f g → AreBoards IsSuch play → EqualSteps IsSuch (unless_ignored ignored play f) (unless_ignored ignored play g)
   ignored_or true play f g each h = record { equal = refl; boards = h }

@@ -7,12 +7,12 @@ use Rattle.ps_model.specs.board.Grid.{Grid}
 use Rattle.ps_model.specs.board.Programs.{Section}
 use Rattle.ps_model.specs.board.Turns.{Script, Done, Outcome, Blocked, Restarted, Finished, turn}
 use Rattle.ps_model.specs.session.LevelLines.{Entry, MessageEntry, LevelEntry}
-use Rattle.ps_model.specs.session.Sessions.{Play, Step, shown, level_line, done_line, with_board, with_turn}
+use Rattle.ps_model.specs.session.Sessions.{Play, Step, seen, shown, level_line, done_line, with_board, with_turn}
 use Rattle.ps_model.specs.session.StartSteps.{start_told, start_counted, start_turn_by, start_turns, all_start_turns, started, started_by, start_step, fresh, entered, enter, level_done, restarted}
 use Rattle.ps_laws.specs.SessionBoards.{AreBoards, HasBoard}
 use Rattle.ps_laws.specs.AlikeScripts.{EqualSteps}
 use Rattle.ps_laws.proofs.common.Everywhere.{All-slice_get}
-use Rattle.ps_laws.proofs.sessions.EqualSteps.{with_rules, LoadsAs, EqualTurns, FromLevels, after-equal, by_outcome, with_turn-boards, with_restart_board-boards}
+use Rattle.ps_laws.proofs.sessions.EqualSteps.{with_rules, LoadsAs, EqualTurns, FromLevels, after-equal, by_outcome, with_turn-boards, seen-boards, with_restart_board-boards}
 
 module _ (IsSuch : Grid → Type 0) (a : Script) (plain late : List Section) (both : EqualTurns IsSuch a (with_rules a plain late)) where
   -- the script with other rules
@@ -31,9 +31,9 @@ module _ (IsSuch : Grid → Type 0) (a : Script) (plain late : List Section) (bo
       EqualSteps IsSuch (start_counted a play done left f) (start_counted b play done left g)
   counted play done left f g false e each h board = rw (e, start_counted) (record { equal = refl; boards = h })
   counted play done left f g true e each h board =
-      let next : Play = with_turn play done in
+      let next : Play = seen a (with_turn play done) in
       rw (e, start_counted) (after-equal IsSuch (shown a next) (start_told next done.message done.again left f) (start_told next done.message done.again left g)
-      (told done.message done.again left f g each next (with_turn-boards IsSuch play done h board)))
+      (told done.message done.again left f g each next (seen-boards IsSuch a (with_turn play done) (with_turn-boards IsSuch play done h board))))
 
   turn_by : (play : Play) (left : ℕ) (f g : Play → Step) → FromLevels IsSuch f g → AreBoards IsSuch play → (outcome : Outcome) → HasBoard IsSuch outcome →
       EqualSteps IsSuch (start_turn_by a play left f outcome) (start_turn_by b play left g outcome)
@@ -55,8 +55,9 @@ module _ (IsSuch : Grid → Type 0) (a : Script) (plain late : List Section) (bo
 
   started-equal : (message : Option (List ℕ)) (again : Bool) (play : Play) → AreBoards IsSuch play → EqualSteps IsSuch (started a play message again) (started b play message again)
   started-equal message again play h =
-      after-equal IsSuch (shown a play) (start_told play message again AGAIN_LIMIT (all_start_turns a)) (start_told play message again AGAIN_LIMIT (all_start_turns b))
-      (told message again AGAIN_LIMIT (all_start_turns a) (all_start_turns b) all_start_turns-equal play h)
+      let next : Play = seen a play in
+      after-equal IsSuch (shown a next) (start_told next message again AGAIN_LIMIT (all_start_turns a)) (start_told next message again AGAIN_LIMIT (all_start_turns b))
+      (told message again AGAIN_LIMIT (all_start_turns a) (all_start_turns b) all_start_turns-equal next (seen-boards IsSuch a play h))
 
   started_by-equal : (play : Play) (message : Option (List ℕ)) → AreBoards IsSuch play → (outcome : Outcome) → HasBoard IsSuch outcome →
       EqualSteps IsSuch (started_by a play message outcome) (started_by b play message outcome)

@@ -10,7 +10,7 @@ use Rattle.ps_model.specs.board.Levels.{loaded}
 use Rattle.ps_model.specs.board.Programs.{Section}
 use Rattle.ps_model.specs.board.Turns.{Script, Done, Outcome, turn}
 use Rattle.ps_model.specs.session.LevelLines.{Entry, MessageEntry, LevelEntry}
-use Rattle.ps_model.specs.session.Sessions.{Play, Step, after, with_board_in_history, with_turn, with_board}
+use Rattle.ps_model.specs.session.Sessions.{Play, Step, after, seen, with_board_in_history, with_turn, with_board}
 use Rattle.ps_model.specs.session.KeySteps.{with_board_in_history_if, back_at}
 use Rattle.ps_laws.specs.SessionBoards.{AreBoards, AreBoardsIn, HasBoard}
 use Rattle.ps_laws.specs.AlikeScripts.{EqualOutcomes, EqualSteps}
@@ -69,9 +69,12 @@ module _ (IsSuch : Grid → Type 0) where
   with_board_in_history_if-boards true play h = with_board_in_history-boards play h
   with_board_in_history_if-boards false play h = h
 
-  pub back_at-boards : (play : Play) (found : Option Grid) → slice_get play.history (length play.history - 1) ≡ found → AreBoards IsSuch play → AreBoards IsSuch (back_at play found)
-  back_at-boards play None e h = h
-  back_at-boards play (Some latest) e h = record {
+  pub seen-boards : (script : Script) (play : Play) → AreBoards IsSuch play → AreBoards IsSuch (seen script play)
+  seen-boards script play h = record { board = h.board; history = h.history; restart_board = h.restart_board }
+
+  pub back_at-boards : (script : Script) (play : Play) (found : Option Grid) → slice_get play.history (length play.history - 1) ≡ found → AreBoards IsSuch play → AreBoards IsSuch (back_at script play found)
+  back_at-boards script play None e h = h
+  back_at-boards script play (Some latest) e h = record {
     board = All-slice_get IsSuch play.history (length play.history - 1) latest h.history e;
     history = All-take IsSuch (length play.history - 1) play.history h.history;
     restart_board = h.restart_board;

@@ -8,11 +8,13 @@ use Rattle.ps_model.specs.declared.rooms.Room.{Room}
 use Rattle.ps_model.specs.declared.rooms.Window.{Window}
 use Rattle.ps_model.specs.names.Names.{Names}
 use Rattle.ps_model.specs.board.Grid.{Grid, cell_at, cell_count}
-use Rattle.ps_model.specs.board.Turns.{has_player}
+use Rattle.ps_model.specs.board.Turns.{Script, has_player}
 use Rattle.ps_model.specs.session.Frames.{frame}
 use Rattle.ps_model.specs.session.RoomSizes.{IsRoomSize}
-use Rattle.ps_model.specs.session.Rooms.{first_player_cell, room_at, room_of_cell, room_seen, room_window, room_frame, part_length, part_start, whole_board, window_frame}
-use Rattle.ps_laws.specs.RoomFrames.{IsIn, WholeBoardsHaveFrames, FramesWithoutRooms, FramesOfLargeRooms, SeenRoomsShowPlayers}
+use Rattle.ps_model.specs.session.Rooms.{first_player_cell, frame_in, room_after, room_at, room_of_cell, room_seen, room_window, room_frame, part_length, part_start, whole_board, window_frame}
+use Rattle.ps_model.specs.session.Sessions.{Play, seen, shown}
+use Rattle.ps_model.specs.session.StartSteps.{first_room}
+use Rattle.ps_laws.specs.RoomFrames.{IsIn, WholeBoardsHaveFrames, FramesWithoutRooms, FramesOfLargeRooms, SeenRoomsShowPlayers, SessionsWithoutRooms, SeenRoomsStay}
 
 pub whole_boards : WholeBoardsHaveFrames
 whole_boards names g = refl
@@ -44,9 +46,6 @@ in_first : (n size : ℕ) → n < size → n / size ≡ 0
 in_first n size low =
     let less : n / size < 1 = div_below n size 1 (omega (arith, low)) (omega (arith, low)) in
     omega (arith, less)
-
-abbrev first_room : Room
-first_room = record { x = 0; y = 0 }
 
 large_by : (size : RoomSize) (g : Grid) (found : Option ℕ) → 0 < g.height → g.width ≤ size.width → g.height ≤ size.height → ((cell : ℕ) → found ≡ Some cell → cell < cell_count g) →
     unwrap_or (option_map (room_of_cell size g.height) found) first_room ≡ first_room
@@ -90,3 +89,28 @@ pub seen_rooms : SeenRoomsShowPlayers
 seen_rooms names size g last cell some sized is =
     let room : room_seen names size g last ≡ room_of_cell size g.height cell = ap (λ (found : Option ℕ). unwrap_or (option_map (room_of_cell size g.height) found) last) is in
     rw room (seen_in size g cell some sized (player_on_board names g cell is))
+
+-- sessions --------------------------------------------------------------------------------------------------------------
+
+-- the level with another room
+abbrev in_room : Play → Room → Play
+in_room play room = record { entry = play.entry; board = play.board; history = play.history; restart_board = play.restart_board; room = room }
+
+pub sessions_without_rooms : SessionsWithoutRooms
+sessions_without_rooms script play none = (
+  ap (λ (size : Option RoomSize). frame_in size script.names play.board play.room) none,
+  ap (λ (size : Option RoomSize). in_room play (room_after size script.names play.board play.room)) none,
+)
+
+-- a room that is found is found again, and one that isn't stays
+same_room : (size : RoomSize) (height : ℕ) (found : Option ℕ) (last : Room) →
+    unwrap_or (option_map (room_of_cell size height) found) (unwrap_or (option_map (room_of_cell size height) found) last) ≡ unwrap_or (option_map (room_of_cell size height) found) last
+same_room size height None last = refl
+same_room size height (Some cell) last = refl
+
+room_after_itself : (size : Option RoomSize) (names : Names) (g : Grid) (last : Room) → room_after size names g (room_after size names g last) ≡ room_after size names g last
+room_after_itself None names g last = refl
+room_after_itself (Some size) names g last = same_room size g.height (first_player_cell names g) last
+
+pub seen_rooms_stay : SeenRoomsStay
+seen_rooms_stay script play = ap (in_room play) (room_after_itself script.options.flickscreen script.names play.board play.room)

@@ -6,10 +6,10 @@ use Rattle.std.proofs.lemmas.List.{append-nil, length-append}
 use Rattle.ps_model.specs.declared.play.Key.{Key}
 use Rattle.ps_model.specs.declared.held.Held.{Held}
 use Rattle.ps_model.specs.board.Grid.{Grid}
-use Rattle.ps_model.specs.board.Turns.{turn}
+use Rattle.ps_model.specs.board.Turns.{Script, turn}
 use Rattle.ps_model.specs.session.Keys.{keys_of}
 use Rattle.ps_model.specs.session.HeldKeys.{held, bytes_of, key_behind}
-use Rattle.ps_model.specs.session.Sessions.{Play, Session, Playing, Step, shown}
+use Rattle.ps_model.specs.session.Sessions.{Play, Session, Playing, Step, seen, shown}
 use Rattle.ps_model.specs.session.StartSteps.{start_turn_by, start_turns, all_start_turns}
 use Rattle.ps_model.specs.session.KeySteps.{key_turn_by, key_turns, all_key_turns, key_done, back_at, key_step}
 use Rattle.ps_model.specs.game.Outputs.{opening_step, texts_of_keys}
@@ -54,24 +54,24 @@ last_of (board ∷ earlier) latest = last_of earlier latest
 one_fewer : (earlier : List Grid) (latest : Grid) → length (earlier ++ latest ∷ []) - 1 ≡ length earlier
 one_fewer earlier latest = let long : length (earlier ++ latest ∷ []) ≡ length earlier + 1 = length-append earlier (latest ∷ []) in omega (arith, long)
 
-back_at-latest : (play : Play) (earlier : List Grid) (latest : Grid) → play.history ≡ earlier ++ latest ∷ [] →
-    back_at play (slice_get play.history (length play.history - 1)) ≡ record { entry = play.entry; board = latest; history = earlier; restart_board = play.restart_board }
-back_at-latest play earlier latest e =
+back_at-latest : (script : Script) (play : Play) (earlier : List Grid) (latest : Grid) → play.history ≡ earlier ++ latest ∷ [] →
+    back_at script play (slice_get play.history (length play.history - 1)) ≡ seen script (record { entry = play.entry; board = latest; history = earlier; restart_board = play.restart_board; room = play.room })
+back_at-latest script play earlier latest e =
     let boards : List Grid = earlier ++ latest ∷ [] in
     let count : length play.history - 1 ≡ length earlier = ap (λ (l : List Grid). length l - 1) e ∙ one_fewer earlier latest in
     let found : slice_get play.history (length play.history - 1) ≡ Some latest = ap₂ (λ (l : List Grid) (n : ℕ). slice_get l n) e count ∙ last_of earlier latest in
     let left : take (length play.history - 1) play.history ≡ earlier = ap₂ (λ (n : ℕ) (l : List Grid). take n l) count e ∙ take-append_seam earlier (latest ∷ []) in
-    ap (back_at play) found
-    ∙ ap (λ (l : List Grid). let back : Play = record { entry = play.entry; board = latest; history = l; restart_board = play.restart_board } in back) left
+    ap (back_at script play) found
+    ∙ ap (λ (l : List Grid). let back : Play = seen script (record { entry = play.entry; board = latest; history = l; restart_board = play.restart_board; room = play.room }) in back) left
 
 pub undo_takes_latest : UndoTakesLatest
 undo_takes_latest script play earlier latest e =
-    ap (λ (back : Play). let step : Step = record { session = Playing back; text = shown script back } in step) (back_at-latest play earlier latest e)
+    ap (λ (back : Play). let step : Step = record { session = Playing back; text = shown script back } in step) (back_at-latest script play earlier latest e)
 
 pub undo_of_nothing : UndoOfNothing
 undo_of_nothing script play e =
     let found : slice_get play.history (length play.history - 1) ≡ None = ap (λ (l : List Grid). slice_get l (length l - 1)) e in
-    ap (λ (back : Play). let step : Step = record { session = Playing back; text = shown script back } in step) (ap (back_at play) found)
+    ap (λ (back : Play). let step : Step = record { session = Playing back; text = shown script back } in step) (ap (back_at script play) found)
 
 -- runs -------------------------------------------------------------------------------------------------------------------
 

@@ -1,7 +1,7 @@
 -- A level: for each cell, in columns from the left and each column from the top, the objects that its character shows;
 -- and the grid that it is loaded as.
 use Rattle.std.specs.Prelude.{ℕ, nat_eq, Bool, if◌then◌else◌, Option, Some, None, unwrap_or, List, [], ◌∷◌, ◌++◌, map}
-use Rattle.std.specs.Prelude.{find, fold, replicate, slice_set, slice_index_or, codes}
+use Rattle.std.specs.Prelude.{find, fold, replicate, slice_set, slice_index_or}
 use Rattle.std.specs.Prelude.{encode_utf8}
 use Rattle.std.specs.Char.{to_ascii_lowercase}
 use Rattle.std.specs.List.{list_any, flat_map}

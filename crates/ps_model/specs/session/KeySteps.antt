@@ -12,7 +12,7 @@ use Rattle.ps_model.specs.declared.limits.TheConstants.{AGAIN_LIMIT}
 use Rattle.ps_model.specs.board.Grid.{Grid}
 use Rattle.ps_model.specs.board.Turns.{Script, Done, Outcome, Blocked, Restarted, Finished, turn}
 use Rattle.ps_model.specs.session.Sessions.{Play, Pending, Nothing, LevelDone, KeyAgain, StartAgain, Session, Playing}
-use Rattle.ps_model.specs.session.Sessions.{Waiting, AtMessage, Ended, Step, quietly, after, waiting, shown}
+use Rattle.ps_model.specs.session.Sessions.{Waiting, AtMessage, Ended, Step, quietly, after, waiting, seen, shown}
 use Rattle.ps_model.specs.session.Sessions.{with_board_in_history, with_turn}
 use Rattle.ps_model.specs.session.StartSteps.{start_turns, enter, level_done, restarted}
 
@@ -40,7 +40,7 @@ key_told script next done left again_turns = elim done.message [
 abbrev pub key_counted : Script → Play → Done → ℕ → (Play → Step) → Step
 key_counted script play done left again_turns = elim (done.changed || done.win) [
   | false ↦ quietly (Playing play)
-  | true ↦ let next : Play = with_turn play done in after (shown script next) (key_told script next done left again_turns)
+  | true ↦ let next : Play = seen script (with_turn play done) in after (shown script next) (key_told script next done left again_turns)
 ]
 
 -- an again turn of a key by its outcome: a blocked one doesn't count, nor does one that neither changed the board nor
@@ -72,9 +72,9 @@ with_board_in_history_if false play = play
 -- a done turn of a key, in a level whose history is already as it will be: the new board, its frame, and what follows
 abbrev pub key_done : Script → Play → Done → Step
 key_done script play done =
-    let next : Play = with_turn play done in after (shown script next) (key_told script next done AGAIN_LIMIT (all_key_turns script))
+    let next : Play = seen script (with_turn play done) in after (shown script next) (key_told script next done AGAIN_LIMIT (all_key_turns script))
 
--- what comes of a key's own turn
+-- what comes of a key's own turn; a blocked one leaves board and room, and shows them once more
 abbrev pub turn_taken : Script → Play → Outcome → Step
 turn_taken script play (Blocked message) = after (shown script play) (blocked play message)
 turn_taken script play (Restarted message) = restarted script (with_board_in_history play) message
@@ -86,19 +86,21 @@ turn_taken script play (Finished done) = key_done script (with_board_in_history_
 abbrev pub input_taken : Script → Play → Input → Step
 input_taken script play input = turn_taken script play (turn script (Some input) play.board)
 
--- the level back at the latest board of its history, which leaves the history; where there is none, as it is
-abbrev pub back_at : Play → Option Grid → Play
-back_at play None = play
-back_at play (Some latest) = record {
+-- the level back at the latest board of its history, which leaves the history, and with the room that is seen there;
+-- where there is none, as it is
+abbrev pub back_at : Script → Play → Option Grid → Play
+back_at script play None = play
+back_at script play (Some latest) = seen script (record {
   entry = play.entry;
   board = latest;
   history = take (length play.history - 1) play.history;
   restart_board = play.restart_board;
-}
+  room = play.room;
+})
 
 -- the level back at the latest board; a frame shows it, also where it is as it was
 abbrev pub undone : Script → Play → Step
-undone script play = let back : Play = back_at play (slice_get play.history (length play.history - 1)) in record { session = Playing back; text = shown script back }
+undone script play = let back : Play = back_at script play (slice_get play.history (length play.history - 1)) in record { session = Playing back; text = shown script back }
 
 -- quitting ends the run
 abbrev pub quit : Step

@@ -8,16 +8,19 @@ use Rattle.ps_model.specs.declared.limits.TheConstants.{HISTORY_LIMIT}
 use Rattle.std.specs.Fmt.{decimal}
 use Rattle.ps_model.specs.board.Grid.{Grid}
 use Rattle.ps_model.specs.session.LevelLines.{Entry, MessageEntry, LevelEntry}
-use Rattle.ps_model.specs.session.Frames.{written_line, frame}
+use Rattle.ps_model.specs.declared.rooms.Room.{Room}
+use Rattle.ps_model.specs.session.Frames.{written_line}
+use Rattle.ps_model.specs.session.Rooms.{room_after, frame_in}
 use Rattle.ps_model.specs.board.Turns.{Script, Done}
 
 -- a level that is played: its place among the entries; its board; the boards that undo goes back to, the latest last;
--- and the board that a restart goes back to
+-- the board that a restart goes back to; and the room that the last frame showed
 pub record Play : Type 0 where
   pub entry : ℕ
   pub board : Grid
   pub history : List Grid
   pub restart_board : Grid
+  pub room : Room
 
 -- what a level's message goes on with once it is dismissed: nothing; the end of the level; or so many more again turns,
 -- those of a key or those of the start of a level
@@ -54,9 +57,19 @@ after text step = record { session = step.session; text = text ++ step.text }
 abbrev pub message_line : List ℕ → List ℕ
 message_line text = written_line (codes "! ") text
 
--- the frame of a level that is played
+-- the level with the room that its board's next frame shows
+abbrev pub seen : Script → Play → Play
+seen script play = record {
+  entry = play.entry;
+  board = play.board;
+  history = play.history;
+  restart_board = play.restart_board;
+  room = room_after script.options.flickscreen script.names play.board play.room;
+}
+
+-- the frame of a level that is played: of the room that is seen, where the game has rooms
 abbrev pub shown : Script → Play → List ℕ
-shown script play = frame script.names play.board
+shown script play = frame_in script.options.flickscreen script.names play.board play.room
 
 -- the entry is a level
 abbrev pub is_level : Entry → Bool
@@ -88,11 +101,18 @@ with_board_in_history play = record {
   board = play.board;
   history = kept (play.history ++ play.board ∷ []);
   restart_board = play.restart_board;
+  room = play.room;
 }
 
 -- the level with that board
 abbrev pub with_board : Play → Grid → Play
-with_board play board = record { entry = play.entry; board = board; history = play.history; restart_board = play.restart_board }
+with_board play board = record {
+  entry = play.entry;
+  board = board;
+  history = play.history;
+  restart_board = play.restart_board;
+  room = play.room;
+}
 
 -- the level with the board of a done turn; a restart goes back to it too, where the turn sets a checkpoint
 abbrev pub with_turn : Play → Done → Play
@@ -101,6 +121,7 @@ with_turn play done = record {
   board = done.board;
   history = play.history;
   restart_board = if done.checkpoint then done.board else play.restart_board;
+  room = play.room;
 }
 
 -- a level whose message waits

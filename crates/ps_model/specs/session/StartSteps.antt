@@ -4,13 +4,14 @@ use Rattle.std.specs.Prelude.{ℕ, zero, suc, Bool, true, false, Option, Some, N
 use Rattle.std.specs.Option.{option_or}
 use Rattle.ps_model.specs.declared.play.Ending.TheVariants.{TheEnd}
 use Rattle.ps_model.specs.declared.limits.TheConstants.{AGAIN_LIMIT}
+use Rattle.ps_model.specs.declared.rooms.Room.{Room}
 use Rattle.ps_model.specs.board.Grid.{Grid}
 use Rattle.ps_model.specs.board.Levels.{Level, loaded}
 use Rattle.ps_model.specs.session.LevelLines.{Entry, MessageEntry, LevelEntry}
 use Rattle.ps_model.specs.board.Turns.{Script, Done, Outcome, Blocked, Restarted, Finished, turn}
 use Rattle.ps_model.specs.session.Sessions.{Play, Pending, Nothing, StartAgain, Playing, AtMessage, Ended, Step}
-use Rattle.ps_model.specs.session.Sessions.{quietly, after, waiting, message_line, shown, level_line, done_line}
-use Rattle.ps_model.specs.session.Sessions.{with_board, with_turn}
+use Rattle.ps_model.specs.session.Sessions.{quietly, after, waiting, message_line, seen, shown, level_line}
+use Rattle.ps_model.specs.session.Sessions.{done_line, with_board, with_turn}
 
 -- what the turn of a start leaves to come: its again turns, if it is to come again
 abbrev pub start_pending : Bool → ℕ → Pending
@@ -29,7 +30,7 @@ start_told play None true left again_turns = again_turns play
 abbrev pub start_counted : Script → Play → Done → ℕ → (Play → Step) → Step
 start_counted script play done left again_turns = elim done.changed [
   | false ↦ quietly (Playing play)
-  | true ↦ let next : Play = with_turn play done in after (shown script next) (start_told next done.message done.again left again_turns)
+  | true ↦ let next : Play = seen script (with_turn play done) in after (shown script next) (start_told next done.message done.again left again_turns)
 ]
 
 -- an again turn of a start by its outcome: a blocked and a restarting one don't count, nor does one that left the board
@@ -52,7 +53,7 @@ all_start_turns script play = start_turns script AGAIN_LIMIT play
 -- a level from its first frame on, with a message or without one, and with again turns or without
 abbrev pub started : Script → Play → Option (List ℕ) → Bool → Step
 started script play message again =
-    after (shown script play) (start_told play message again AGAIN_LIMIT (all_start_turns script))
+    let next : Play = seen script play in after (shown script next) (start_told next message again AGAIN_LIMIT (all_start_turns script))
 
 -- the start by its own turn: a blocked or restarting one leaves the board; its message comes before one from before
 abbrev pub started_by : Script → Play → Option (List ℕ) → Outcome → Step
@@ -68,11 +69,15 @@ start_step script play message = elim script.options.run_rules_on_level_start [
   | false ↦ started script play message false
 ]
 
+-- the room before the first frame of a level
+abbrev pub first_room : Room
+first_room = record { x = 0; y = 0 }
+
 -- a level at its start: as it is loaded, and without a history
 abbrev pub fresh : Script → ℕ → Level → Play
 fresh script entry level =
     let board : Grid = loaded script.names level in
-    record { entry = entry; board = board; history = []; restart_board = board }
+    record { entry = entry; board = board; history = []; restart_board = board; room = first_room }
 
 -- an entry begins: a message waits, a level starts; behind the last entry is the end
 abbrev pub entered : Script → ℕ → Option Entry → Step

@@ -5,6 +5,7 @@ use Rattle.ps_model.specs.meaning.Compiled.{CompiledSection}
 use Rattle.ps_model.specs.game.Games.{Game, game}
 use Rattle.ps_laws.proofs.texts.BoundedNames.{game-bounded}
 use Rattle.ps_laws.proofs.texts.ObjectsThere.{game-has}
+use Rattle.ps_laws.proofs.texts.SizedRooms.{game-rooms}
 use Rattle.ps_rulebook.specs.PlayedGames.{AreCompiled}
 use Rattle.ps_run.proofs.Rightly.{stops_reading, wants_memory}
 use Rattle.ps_run.proofs.text_run.run.Goals as goal
@@ -30,6 +31,9 @@ run_compiled-requires-clause-playable g c =
       some_object = omega arith;
       sized = c.in-Ok.ensures.sized;
     }
+
+pub run_compiled-requires-clause-rooms : goal.run_compiled-requires-clause-rooms
+run_compiled-requires-clause-rooms g c = game-rooms c.args.text.now c.in-Ok.game c.in-Ok.ensures.read.0
 
 pub returns-clause-rightly : goal.returns-clause-rightly
 returns-clause-rightly g c =
