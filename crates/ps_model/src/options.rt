@@ -16,6 +16,6 @@ pub struct Options {
     pub require_player_movement: bool,
     /// `run_rules_on_level_start`: a level begins with a turn without a key.
     pub run_rules_on_level_start: bool,
-    /// `flickscreen`: the size of rooms, which no session shows yet.
+    /// `flickscreen`: the size of the rooms of which each frame shows one; without it a frame shows the whole board.
     pub flickscreen: Option<RoomSize>,
 }
