@@ -1,6 +1,6 @@
 //! The start of a level, at which its first frame is written, and of each restart.
 
-ghost use Rattle.std.specs.Prelude.{◌≡◌, IfOk, OnOk, suc, List, None};
+ghost use Rattle.std.specs.Prelude.{◌≡◌, ◌++◌, IfOk, OnOk, suc, List, None};
 ghost use Rattle.std.specs.Option.{option_or};
 ghost use Rattle.ps_model.specs.declared.limits.TheConstants.{AGAIN_LIMIT};
 ghost use Rattle.ps_model.specs.board.Grid.{Grid};
