@@ -4,3 +4,4 @@ mod KeyChanges
 mod OwnRooms
 mod PartLoaded
 mod Scripts
+mod ShownLevels

@@ -70,7 +70,8 @@ impl<'g, B: Board> Stage<'g, B> {
             turns) }
     {
         self.show_level(level)?;
-        self.tell_key(done, left)
+        let told = self.tell_key(done, left)?;
+        Ok(told)
     }
 
     /// One again turn of a key: one that is blocked, or neither changed the board nor won, is as if not run, and ends

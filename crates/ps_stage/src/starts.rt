@@ -100,7 +100,8 @@ impl<'g, B: Board> Stage<'g, B> {
             return Ok(StartTold::Stops(None));
         }
         self.show_level(level)?;
-        self.tell_start(&done.message, done.again, left)
+        let told = self.tell_start(&done.message, done.again, left)?;
+        Ok(told)
     }
 
     /// One again turn of a start: one that leaves the board as it was is as if not run, and ends them.
@@ -133,7 +134,10 @@ impl<'g, B: Board> Stage<'g, B> {
         match turned {
             Turned::Blocked(_) => Ok(StartTold::Stops(None)),
             Turned::Restarted(_) => Ok(StartTold::Stops(None)),
-            Turned::Done(done) => self.tell_start_turn(level, &done, left),
+            Turned::Done(done) => {
+                let told = self.tell_start_turn(level, &done, left)?;
+                Ok(told)
+            }
         }
     }
 
