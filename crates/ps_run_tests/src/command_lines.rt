@@ -95,7 +95,7 @@ fn obey(rt: &(impl Abort + AllocGlobal), words: &[&str]) -> Outcome {
     }
 }
 
-/// What was done for a command line that asks for something.
+/// What a command line has asked for, as what was done for it tells.
 fn done_for(outcome: &Outcome) -> Option<Asked<'_>> {
     let opened = outcome.kept.opened.as_str();
     let printed = outcome.kept.printed.as_str();
@@ -117,7 +117,7 @@ fn done_for(outcome: &Outcome) -> Option<Asked<'_>> {
     }
 }
 
-/// Whether nothing was done for a command line, but that was told what is wrong with it, or the help or version.
+/// Whether nothing was done for a command line but to tell what is wrong with it, or help or the version.
 fn is_other(outcome: &Outcome) -> bool {
     let printed = outcome.kept.printed.as_str();
     let complained = outcome.kept.complained.as_str();
@@ -125,8 +125,9 @@ fn is_other(outcome: &Outcome) -> bool {
     if !idle || !outcome.screen.bytes().is_empty() {
         return false;
     }
+    let helps = printed.contains("Usage: ps_play") || printed.starts_with("ps_play ");
     match outcome.status {
-        0 => !printed.is_empty() && complained.is_empty(),
+        0 => helps && complained.is_empty(),
         2 => printed.is_empty() && complained.ends_with("try '--help'.\n"),
         _ => false,
     }
