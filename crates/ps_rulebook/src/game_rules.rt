@@ -2,12 +2,11 @@
 
 ghost use Rattle.std.specs.Prelude.{◌≡◌, IfOk, vec_len};
 ghost use Rattle.ps_engine.specs.Rooms.{SectionsHaveRooms};
-ghost use Rattle.ps_program.specs.ProgramShown.{sections_shown};
 
 use crate::queues::{lent, owned};
 use ps_engine::{RoomFor, Scan, rooms_for, run_program};
 use ps_model::Memory;
-use ps_program::{CompiledSection, Program};
+use ps_program::CompiledSection;
 use ps_turn::{Queue, Rules};
 use std::alloc::Global;
 
@@ -24,11 +23,13 @@ pub struct GameRules<'p, 'r, B: Scan> {
 }
 
 impl<'p, 'r, B: Scan> GameRules<'p, 'r, B> {
-    /// The rules of a program. `Memory` if there is no room for what their runs need.
-    pub fn try_new(alloc: Global, program: &'p Program<'r>) -> Result<GameRules<'p, 'r, B>, Memory>
-        ensures { IfOk result (λ rules. sections_shown rules.sections.now ≡ program.entry.now) }
+    /// The rules of these sections. `Memory` if there is no room for what their runs need.
+    pub fn try_new(
+        alloc: Global,
+        sections: &'p [CompiledSection<'r>],
+    ) -> Result<GameRules<'p, 'r, B>, Memory>
+        ensures { IfOk result (λ rules. rules.sections.now ≡ sections.entry.now) }
     {
-        let sections = program.sections();
         let rooms = rooms_for(alloc, sections)?;
         Ok(GameRules {
             alloc,

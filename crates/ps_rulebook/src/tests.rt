@@ -1,7 +1,7 @@
 //! Programs of one rule on a board of one cell: the commands of a run come into the queue of a turn, and of two
 //! messages the first stays.
 
-use crate::{CompiledPrograms, ListBoard, Rules, rules_of_turns};
+use crate::{CompiledPrograms, ListBoard, Rules, rules_of_sections};
 use ps_board::Board;
 use ps_model::Memory;
 use ps_program::{
@@ -75,7 +75,7 @@ fn the_first_message_stays(rt: HostRuntime) -> Result<(), Fail> {
     let plain_commands = won_with(alloc, "plain")?;
     let late_commands = won_with(alloc, "late")?;
     let programs = programs_of(alloc, &plain_commands, &late_commands)?;
-    let mut rules = rules_of_turns(alloc, &programs)?;
+    let mut rules = rules_of_sections(alloc, programs.plain.sections(), programs.late.sections())?;
     let mut board = ListBoard::try_empty(alloc, 1, 1, 1, &[])?;
     let mut queue = Queue::new();
     rules.plain.run(&mut board, &mut queue)?;
