@@ -1,5 +1,5 @@
 mod AgainTurns
-mod EntriesFound
+pub mod EntriesFound
 mod KeyChanges
 mod OwnRooms
 mod PartLoaded

@@ -83,7 +83,10 @@ impl<'g, B: Board> Stage<'g, B> {
             KeyEnd::Won => {
                 let location = self.level_done(rules, &level);
                 self.keep_level(level);
-                Ok(Change::Goes(location?, HistoryChange::Clears))
+                match location {
+                    Ok(location) => Ok(Change::Goes(location, HistoryChange::Clears)),
+                    Err(stop) => Err(stop),
+                }
             }
             KeyEnd::Restarts(message) => {
                 let location = self.restart(rules, &level, message);
@@ -201,8 +204,10 @@ impl<'g, B: Board> Stage<'g, B> {
                 Ok(Change::Goes(location, HistoryChange::Adds))
             }
             Tried::Done(next, done) => {
-                let change = self.follow_key(rules, next, &done)?;
-                Ok(change)
+                match self.follow_key(rules, next, &done) {
+                    Ok(change) => Ok(change),
+                    Err(stop) => Err(stop),
+                }
             }
         }
     }
@@ -237,14 +242,18 @@ impl<'g, B: Board> Stage<'g, B> {
         match pending {
             Pending::Nothing => Ok(Change::Stays(None)),
             Pending::LevelDone => {
-                let location = self.level_done(rules, level)?;
-                Ok(Change::Goes(location, HistoryChange::Clears))
+                match self.level_done(rules, level) {
+                    Ok(location) => Ok(Change::Goes(location, HistoryChange::Clears)),
+                    Err(stop) => Err(stop),
+                }
             }
             Pending::KeyAgain(left) => {
                 let mut next = level.try_copy(self.alloc, &mut self.spares)?;
                 let end = self.key_turns(rules, &mut next, left)?;
-                let change = self.finish_key(rules, next, end, HistoryChange::Keeps)?;
-                Ok(change)
+                match self.finish_key(rules, next, end, HistoryChange::Keeps) {
+                    Ok(change) => Ok(change),
+                    Err(stop) => Err(stop),
+                }
             }
             Pending::StartAgain(left) => {
                 let mut next = level.try_copy(self.alloc, &mut self.spares)?;

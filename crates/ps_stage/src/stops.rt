@@ -1,5 +1,7 @@
 //! Why a step stops before it is whole.
 
+ghost use Rattle.std.specs.Prelude.{◌≡◌};
+
 use ps_model::Memory;
 
 /// Why a step didn't come to its end.
