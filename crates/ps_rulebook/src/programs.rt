@@ -21,8 +21,8 @@ pub fn rules_of_sections<'p, 'r, B: Scan>(
     plain: &'p [CompiledSection<'r>],
     late: &'p [CompiledSection<'r>],
 ) -> Result<TurnRules<B, GameRules<'p, 'r, B>>, Memory>
-    ensures plain { IfOk result (λ rules. rules.plain.sections.now ≡ plain.entry.now) }
-    ensures late { IfOk result (λ rules. rules.late.sections.now ≡ late.entry.now) }
+    ensures plain { IfOk result (λ rules. rules.plain ≡ plain.entry.now) }
+    ensures late { IfOk result (λ rules. rules.late ≡ late.entry.now) }
 {
     Ok(TurnRules {
         plain: GameRules::try_new(alloc, plain)?,

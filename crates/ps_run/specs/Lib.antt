@@ -3,3 +3,4 @@ pub mod GamesInPlay
 pub mod Played
 pub mod Runs
 pub mod Answering
+pub mod SizedPlays

@@ -1,13 +1,13 @@
 //! A run of a game by rules.
 
 ghost use Rattle.std.specs.Prelude.{◌≡◌, ◌≢◌, Err, false, true};
+ghost use Rattle.ps_model.specs.declared.limits.TheConstants.{SIDE_LIMIT};
 ghost use Rattle.ps_stage.specs.Playable.{EntriesFit};
 ghost use Rattle.ps_run.specs.GamesInPlay.{script_on};
 ghost use Rattle.ps_run.specs.Runs.{ComesOrStops};
 
 use crate::faults::RunFault;
 use crate::game_play::GamePlay;
-use crate::keyed_play::KeyedPlay;
 use crate::play::{Play, write_output};
 use ps_devices::{ByteReader, ByteWriter};
 use ps_keys::Keys;
@@ -24,22 +24,22 @@ use std::alloc::Global;
 ///
 /// `Memory` where a growth was refused, `Read` where the reader failed or gave something `READ_LIMIT` times and the
 /// game hasn't ended, `Write` where the writer failed. No device is called after its failure.
-pub fn run_game<'g, 'p, 'r, S: KeyedPlay<'g, 'p, 'r>, I: ByteReader, W: ByteWriter>(
+pub fn run_game<'g, I: ByteReader, W: ByteWriter>(
     alloc: Global,
     game: SessionGame<'g>,
-    plain: &'p [CompiledSection<'r>],
-    late: &'p [CompiledSection<'r>],
+    plain: &'g [CompiledSection<'g>],
+    late: &'g [CompiledSection<'g>],
     reader: &mut I,
     writer: &mut W,
 ) -> Result<Ending, RunFault>
-    requires fit { EntriesFit S.most game.entries }
+    requires fit { EntriesFit SIDE_LIMIT game.entries }
     requires heard { (I.state reader.old).has_failed ≡ false }
     requires well { (W.state writer.old).has_failed ≡ false }
     ensures answers { let script = script_on game.entry plain.entry.now late.entry.now in
         ComesOrStops script (I.state reader.old) (I.state reader.new) (W.state writer.old) (W.state writer.new) result }
 {
     let mut output = OutputText::new(alloc);
-    let game = match GamePlay::<S>::start(alloc, game, plain, late, &mut output) {
+    let game = match GamePlay::start(alloc, game, plain, late, &mut output) {
         Ok(game) => game,
         Err(Memory) => return Err(RunFault::Memory),
     };

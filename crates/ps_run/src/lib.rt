@@ -1,15 +1,13 @@
 //! Plays games of PuzzleScript: a text and keys in, frames out.
 #![tactic(auto)]
 
-mod either_play;
 mod faults;
 mod game_play;
 mod game_run;
-mod keyed_play;
 mod laws;
 mod play;
 mod row_play;
-mod sized_words;
+mod sized_play;
 mod text_run;
 
 pub use faults::RunFault;

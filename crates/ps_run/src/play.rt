@@ -10,7 +10,6 @@ ghost use Rattle.ps_run.specs.Played.{HasTaken, HavePlayed, StopsAs, StopsAtText
 
 use crate::faults::{PieceFault, RunFault, fault_of_piece};
 use crate::game_play::GamePlay;
-use crate::keyed_play::KeyedPlay;
 use ps_devices::{ByteReader, ByteWriter, write_whole};
 use ps_keys::Keys;
 use ps_model::{CALL_LIMIT, Ending, Key, Memory, READ_LIMIT};
@@ -18,8 +17,8 @@ use ps_screen::OutputText;
 
 /// A game in play, what is held of an arrow that has begun, and the text that is made next.
 #[derive(Drop)]
-pub struct Play<'g, 'p, 'r, S: KeyedPlay<'g, 'p, 'r>> {
-    pub game: GamePlay<'g, 'p, 'r, S>,
+pub struct Play<'g> {
+    pub game: GamePlay<'g>,
     pub keys: Keys,
     pub output: OutputText,
 }
@@ -39,7 +38,7 @@ pub fn write_output<W: ByteWriter>(output: &OutputText, writer: &mut W) -> Resul
     }
 }
 
-impl<'g, 'p, 'r, S: KeyedPlay<'g, 'p, 'r>> Play<'g, 'p, 'r, S> {
+impl<'g> Play<'g> {
     /// Plays a key: makes its text whole, and then writes it.
     fn play_key<W: ByteWriter>(&mut self, key: Key, writer: &mut W) -> Result<(), PieceFault>
         requires { (W.state writer.old).has_failed ≡ false }

@@ -9,11 +9,8 @@ ghost use Rattle.ps_rulebook.specs.PlayedGames.{AreCompiled, parts_of};
 ghost use Rattle.ps_run.specs.Answering.{answer_of};
 ghost use Rattle.ps_stage.specs.Playable.{ArePlayable, EntriesFit};
 
-use crate::either_play::EitherPlay;
 use crate::faults::{RunFault, fault_of_refusal};
 use crate::game_run::run_game;
-use crate::row_play::RowPlay;
-use ps_board::{ManyWords, OneWord};
 use ps_compile::{CompiledPrograms, compile};
 use ps_devices::{ByteReader, ByteWriter};
 use ps_game::{Game, read_game};
@@ -55,15 +52,6 @@ pub fn run<I: ByteReader, W: ByteWriter>(
     run_compiled(alloc, &game, &compiled, reader, writer)
 }
 
-/// A game that is played on boards of rows, each level with as many words for a row as its longer side needs.
-type AnyPlay<'g, 'p, 'r> = EitherPlay<
-    RowPlay<'g, 'p, 'r, OneWord>,
-    EitherPlay<
-        RowPlay<'g, 'p, 'r, ManyWords<2>>,
-        EitherPlay<RowPlay<'g, 'p, 'r, ManyWords<3>>, RowPlay<'g, 'p, 'r, ManyWords<4>>>,
-    >,
->;
-
 /// What a session plays of a game.
 fn parts_of_game(game: &Game) -> SessionGame<'_>
     requires playable { ArePlayable game.now.names game.now.entries }
@@ -98,7 +86,7 @@ fn run_compiled<I: ByteReader, W: ByteWriter>(
         (answer_of result) }
     ensures true_of_text { (text : List ℕ) → game_in text ≡ Some game.now → IsTrueOfText text (answer_of result) }
 {
-    run_game::<AnyPlay<'_, '_, '_>, I, W>(
+    run_game(
         alloc,
         parts_of_game(game),
         compiled.plain.sections(),

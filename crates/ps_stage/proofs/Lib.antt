@@ -3,5 +3,5 @@ pub mod EntriesFound
 mod KeyChanges
 mod OwnRooms
 mod PartLoaded
-mod Scripts
+pub mod Scripts
 mod ShownLevels
