@@ -14,39 +14,32 @@ use ps_screen::OutputText;
 use ps_session::{SessionGame, Stop};
 use std::alloc::Global;
 use std::marker::Model;
+use std::mem;
 
-/// Does what a key does in a game that is played by these sections, and adds its text to the output. Where the key leads to
-/// a level for boards of another kind, the game goes on there.
+/// Goes on at an entry of a game that is played by these sections.
 ///
 /// # Errors
 ///
-/// `Memory`, and a part of the text may have been added. The game hasn't ended before.
-fn play_key<'g>(
+/// `Memory`.
+fn go_on<'g>(
     alloc: Global,
     game: &SessionGame<'g>,
     plain: &'g [CompiledSection<'g>],
     late: &'g [CompiledSection<'g>],
-    play: &mut SizedPlay<'g>,
-    key: Key,
+    entry: usize,
     output: &mut OutputText,
-) -> Result<(), Memory>
-    requires fit { EntriesFit SIDE_LIMIT game.now.entries }
-    requires own { script_in (play_in play.old) ≡ script_on game.now plain.now late.now }
-    ensures { IsTurned (play_in play.old) (play_in play.new) key output.old output.new result }
+) -> Result<SizedPlay<'g>, Memory>
+    requires { EntriesFit SIDE_LIMIT game.now.entries }
+    ensures { IfOk result (λ play.
+        HasBegun (script_on game.now plain.now late.now) entry (play_in play) output.old output.new) }
 {
-    let entry = match play.key(key, output) {
-        Ok(()) => return Ok(()),
-        Err(Stop::Memory) => return Err(Memory),
-        Err(Stop::Elsewhere(entry)) => entry,
-    };
-    let next = SizedPlay::start_at(alloc, game.copied(), plain, late, entry, output)?;
-    *play = next;
-    Ok(())
+    let play = SizedPlay::start_at(alloc, game.copied(), plain, late, entry, output)?;
+    Ok(play)
 }
 
 /// A game in play. Where a key leads to a level for boards of another kind, the game goes on there in a session of its
-/// own: each level begins without boards to undo, so nothing of the session before is needed.
-#[derive(Drop)]
+/// own: each level begins without boards to undo, so nothing of the session before is needed. It is ended by
+/// [`end`](GamePlay::end).
 pub struct GamePlay<'g> {
     alloc: Global,
     game: SessionGame<'g>,
@@ -113,15 +106,27 @@ impl<'g> GamePlay<'g> {
     pub fn key(&mut self, key: Key, output: &mut OutputText) -> Result<(), Memory>
         ensures { IsTurned self.old self.new key output.old output.new result }
     {
-        play_key(
-            self.alloc,
-            &self.game,
-            self.plain,
-            self.late,
-            &mut self.play,
-            key,
-            output,
-        )
+        let entry = match self.play.key(key, output) {
+            Ok(()) => return Ok(()),
+            Err(Stop::Memory) => return Err(Memory),
+            Err(Stop::Elsewhere(entry)) => entry,
+        };
+        let next = go_on(self.alloc, &self.game, self.plain, self.late, entry, output)?;
+        let before = mem::replace(&mut self.play, next);
+        before.end();
+        Ok(())
+    }
+
+    /// Ends it.
+    pub fn end(self) {
+        let GamePlay {
+            alloc: _alloc,
+            game: _game,
+            plain: _plain,
+            late: _late,
+            play,
+        } = self;
+        play.end();
     }
 
     /// How the game ended, if it has.

@@ -44,9 +44,17 @@ pub fn run_game<'g, I: ByteReader, W: ByteWriter>(
         Err(Memory) => return Err(RunFault::Memory),
     };
     if let Err(_) = write_output(&output, writer) {
+        game.end();
         return Err(RunFault::Write);
     }
     let keys = Keys::new();
     let mut play = Play { game, keys, output };
-    play.play(reader, writer)
+    let answer = play.play(reader, writer);
+    let Play {
+        game,
+        keys: _keys,
+        output: _output,
+    } = play;
+    game.end();
+    answer
 }

@@ -16,7 +16,6 @@ use ps_model::{CALL_LIMIT, Ending, Key, Memory, READ_LIMIT};
 use ps_screen::OutputText;
 
 /// A game in play, what is held of an arrow that has begun, and the text that is made next.
-#[derive(Drop)]
 pub struct Play<'g> {
     pub game: GamePlay<'g>,
     pub keys: Keys,

@@ -76,6 +76,9 @@ impl<'g, V: ColumnWords> RowPlay<'g, V> {
         Ok(())
     }
 
+    /// Ends it. What a session and its rules own is dropped here and nowhere else: dropping it is long to prove.
+    pub fn end(self) {}
+
     /// How the game ended, if it has.
     pub fn ending(&self) -> Option<Ending>
         ensures { result ≡ ending_of self.now.session }

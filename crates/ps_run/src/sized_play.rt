@@ -15,8 +15,8 @@ use ps_screen::OutputText;
 use ps_session::{BoardSides, SessionGame, Stop};
 use std::alloc::Global;
 
-/// A game that is played on boards whose rows are kept by as many words as the longer side of a level needs.
-#[derive(Drop)]
+/// A game that is played on boards whose rows are kept by as many words as the longer side of a level needs. It is ended
+/// by [`end`](SizedPlay::end).
 pub enum SizedPlay<'g> {
     One(RowPlay<'g, OneWord>),
     Two(RowPlay<'g, ManyWords<2>>),
@@ -85,6 +85,16 @@ impl<'g> SizedPlay<'g> {
             SizedPlay::Two(play) => play.key(key, output),
             SizedPlay::Three(play) => play.key(key, output),
             SizedPlay::Four(play) => play.key(key, output),
+        }
+    }
+
+    /// Ends it.
+    pub fn end(self) {
+        match self {
+            SizedPlay::One(play) => play.end(),
+            SizedPlay::Two(play) => play.end(),
+            SizedPlay::Three(play) => play.end(),
+            SizedPlay::Four(play) => play.end(),
         }
     }
 
