@@ -15,7 +15,7 @@ invariant-loop-call g l =
     let from : WriterState = g.W.ByteWriter.state l.fn.writer in
     let now : WriterState = g.W.ByteWriter.state l.writer in
     record {
-      script : script_in l.self.game ≡ script_in l.fn.self.game;
+      plays : script_in l.self.game ≡ script_in l.fn.self.game;
       heard : (g.I.ByteReader.state l.reader).has_failed ≡ false;
       well : (g.W.ByteWriter.state l.writer).has_failed ≡ false;
       stands : (before : WriterState) → HavePlayed script before from l.fn.self.game.session l.fn.self.keys []

@@ -12,7 +12,7 @@ invariant-loop-byte g l =
     let from : WriterState = g.W.ByteWriter.state l.fn.writer in
     let now : WriterState = g.W.ByteWriter.state l.writer in
     record {
-      script : script_in l.self.game ≡ script_in l.fn.self.game;
+      plays : script_in l.self.game ≡ script_in l.fn.self.game;
       well : (g.W.ByteWriter.state l.writer).has_failed ≡ false;
       played : (before : WriterState) (read : List ℕ) → HavePlayed script before from l.fn.self.game.session l.fn.self.keys read
           → HavePlayed script before now l.self.game.session l.self.keys (read ++ take l.byte-index l.piece);
