@@ -9,6 +9,3 @@ mod sizes;
 pub use checking::check;
 pub use faults::CheckFault;
 pub use ps_devices::ByteWriter;
-
-#[cfg(test)]
-mod tests;

@@ -6,8 +6,6 @@
 
 mod acts;
 mod command;
-#[cfg(test)]
-mod command_tests;
 mod explanations;
 mod stops;
 

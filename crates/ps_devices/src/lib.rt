@@ -10,6 +10,3 @@ mod traits;
 pub use from_std::FromStd;
 pub use in_memory::{MemoryReader, MemoryWriter};
 pub use traits::{ByteReader, ByteWriter, Failed, write_whole};
-
-#[cfg(test)]
-mod tests;

@@ -17,8 +17,3 @@ pub use programs::run_program;
 pub use ps_match::{ListBoard, Scan};
 pub use ps_places::RoomFor;
 pub use rooms::rooms_for;
-
-#[cfg(test)]
-mod tests;
-#[cfg(test)]
-mod writer_tests;

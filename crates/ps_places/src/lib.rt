@@ -17,6 +17,3 @@ mod ways;
 pub use candidates::rows_of_mask;
 pub use room::{RoomFor, RowRoom};
 pub use starts::find_starts;
-
-#[cfg(test)]
-mod tests;

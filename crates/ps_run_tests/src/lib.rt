@@ -1,12 +1,20 @@
-//! Tests of whole runs, by the public call `run`: runs with devices, and with memory, of their own. Games of which a
-//! text, keys and an output say all are played by `ps_cases`. They stand above the crate that they test, since a crate
-//! with tests is proved twice.
+//! Tests of runs and of what stands around them, by public calls: runs with devices, and with memory, of their own,
+//! devices by themselves, checks of texts, and command lines. Games of which a text, keys and an output say all are
+//! played by `ps_cases`. They stand above the crates that they test, since a crate with tests is proved twice.
 #![tactic(auto)]
 
+#[cfg(test)]
+mod checks;
+#[cfg(test)]
+mod command_lines;
+#[cfg(test)]
+mod device_calls;
 #[cfg(test)]
 mod devices;
 #[cfg(test)]
 mod games;
+#[cfg(test)]
+mod machine;
 #[cfg(test)]
 mod memory;
 mod playable;

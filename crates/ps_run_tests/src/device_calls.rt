@@ -3,7 +3,9 @@
 
 ghost use Rattle.std.specs.Prelude.{◌≡◌, false};
 
-use crate::{ByteReader, ByteWriter, Failed, FromStd, MemoryReader, MemoryWriter, write_whole};
+use ps_devices::{
+    ByteReader, ByteWriter, Failed, FromStd, MemoryReader, MemoryWriter, write_whole,
+};
 use ps_model::Memory;
 use std::alloc::Global;
 use std::io;

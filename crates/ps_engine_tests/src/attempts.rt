@@ -1,20 +1,19 @@
-//! Small rules on small boards; a dot is an empty cell. Letters stand on the lower layer, marks on the upper one.
+//! Small rules on small boards; a dot is an empty cell. Letters stand on the lower layer, marks on the upper one. Behind an
+//! attempt all letters are small.
 
 ghost use Rattle.std.specs.Prelude.{◌≡◌, All, IfOk, IfSome};
 ghost use Rattle.ps_program.specs.Axes.{LiesAlong};
 ghost use Rattle.ps_laws.specs.WholeRows.{HasCells};
 
-use crate::attempts::attempt;
-use crate::rooms::{rooms_for, rooms_of};
-use crate::{LentQueue, ListBoard, run_program};
+use crate::runs::{
+    cell_of, nothing, play_group, rule_in_place_of, rule_of, tells_change, tells_rest, winning,
+};
 use ps_board::Board;
+use ps_engine::ListBoard;
 use ps_model::{
     LayerId, LayerWrite, LayeredObject, Memory, Motion, ObjectId, ObjectWrite, SIDE_LIMIT,
 };
-use ps_program::{
-    Axis, CellMask, CellWrite, Commands, CompiledCell, CompiledRow, CompiledRule, CompiledSection,
-    PART_LIMIT,
-};
+use ps_program::{Axis, Commands, CompiledCell, CompiledRow, CompiledRule, PART_LIMIT};
 use ps_text::List;
 use std::alloc::Global;
 use std::process::Abort;
@@ -24,16 +23,8 @@ const LOWEST: LayerId = LayerId(0);
 
 const UPPER: LayerId = LayerId(1);
 
-fn nothing() -> Commands {
-    Commands {
-        cancel: false,
-        restart: false,
-        again: false,
-        checkpoint: false,
-        win: false,
-        message: None,
-    }
-}
+/// The letters of the rules here.
+const LETTERS: &[u8] = b"ABCD";
 
 /// Puts an object on a cell, if the letter isn't a dot.
 fn lay(board: &mut ListBoard, cell: u32, letter: u8) {
@@ -71,16 +62,24 @@ fn board_of_columns(alloc: Global, columns: &[[u8; 3]]) -> Result<ListBoard, Mem
     Ok(board)
 }
 
+/// The capital letter of an object, or a dot for none.
+fn letter_of(object: Option<ObjectId>) -> u8 {
+    match object {
+        Some(ObjectId(number)) if number < 128 => (number as u8).to_ascii_uppercase(),
+        Some(_) => b'?',
+        None => b'.',
+    }
+}
+
 /// A cell shows this letter on a layer.
 fn check_cell(rt: &impl Abort, board: &ListBoard, cell: u32, layer: LayerId, letter: u8) {
     let (width, height) = board.size();
     if cell < width * height && (layer.0 as u32) < board.layers() {
-        let wanted = if letter == b'.' {
-            None
-        } else {
-            Some(ObjectId(letter as u32))
-        };
-        assert_eq!(rt; board.object(cell, layer), wanted, "in cell {cell}");
+        assert_eq!(rt;
+            letter_of(board.object(cell, layer)),
+            letter,
+            "in cell {cell}"
+        );
     }
 }
 
@@ -133,27 +132,17 @@ fn cell(alloc: Global, left: u8, right: u8) -> Result<CompiledCell, Memory> {
         object,
         motion: None,
     })?;
-    let mask = CellMask {
-        needed: List::from_vec(needed),
-        barred: List::from_vec(Vec::new(alloc)),
-        one_of: List::from_vec(Vec::new(alloc)),
-        motions: List::from_vec(Vec::new(alloc)),
-    };
-    let write = CellWrite {
-        gone: List::from_vec(Vec::new(alloc)),
-        layers: List::from_vec(layers),
-    };
-    Ok(CompiledCell::new(mask, write))
+    Ok(cell_of(alloc, needed, Vec::new(alloc), layers))
 }
 
 /// The objects of letters on a layer.
-fn objects(alloc: Global, layer: LayerId, letters: &[u8]) -> Result<List<LayeredObject>, Memory> {
+fn objects(alloc: Global, layer: LayerId, letters: &[u8]) -> Result<Vec<LayeredObject>, Memory> {
     let mut all = Vec::new(alloc);
     for letter in letters {
         let object = ObjectId(*letter as u32);
         all.push(LayeredObject { object, layer })?;
     }
-    Ok(List::from_vec(all))
+    Ok(all)
 }
 
 /// A cell of a rule that needs an object, bars marks, and puts marks; no letter stays or goes by it.
@@ -166,17 +155,27 @@ fn marking(alloc: Global, left: u8, barred: &[u8], marks: &[u8]) -> Result<Compi
             motion: None,
         })?;
     }
-    let mask = CellMask {
-        needed: objects(alloc, LOWEST, &[left])?,
-        barred: objects(alloc, UPPER, barred)?,
-        one_of: List::from_vec(Vec::new(alloc)),
-        motions: List::from_vec(Vec::new(alloc)),
-    };
-    let write = CellWrite {
-        gone: List::from_vec(Vec::new(alloc)),
-        layers: List::from_vec(layers),
-    };
-    Ok(CompiledCell::new(mask, write))
+    let needed = objects(alloc, LOWEST, &[left])?;
+    Ok(cell_of(alloc, needed, objects(alloc, UPPER, barred)?, layers))
+}
+
+/// A cell of a rule that fits where the letter stands, or, for a dot, where no letter does, and that writes nothing.
+fn showing(alloc: Global, letter: u8) -> Result<CompiledCell, Memory> {
+    if letter == b'.' {
+        let barred = objects(alloc, LOWEST, LETTERS)?;
+        return Ok(cell_of(alloc, Vec::new(alloc), barred, Vec::new(alloc)));
+    }
+    let needed = objects(alloc, LOWEST, &[letter])?;
+    Ok(cell_of(alloc, needed, Vec::new(alloc), Vec::new(alloc)))
+}
+
+/// Cells of a rule that fit where these letters stand, and that write nothing.
+fn all_showing(alloc: Global, letters: &[u8]) -> Result<Vec<CompiledCell>, Memory> {
+    let mut cells = Vec::new(alloc);
+    for letter in letters {
+        cells.push(showing(alloc, *letter)?)?;
+    }
+    Ok(cells)
 }
 
 /// A part by its cells.
@@ -233,58 +232,94 @@ fn rule<'r>(
     CompiledRule::try_new(alloc, axis, List::from_vec(all), true, commands)
 }
 
-/// A board of one row behind an attempt of a rule of these rows, and whether it changed something.
+/// Plays a rule's attempt. The rules behind it in its group make all letters small, so that it fits nowhere in a second
+/// round.
+fn attempt_once<'r>(
+    alloc: Global,
+    rule: CompiledRule<'r>,
+    commands: &'r Commands,
+    board: &mut ListBoard,
+) -> Result<(), Memory> {
+    let mut rules = Vec::new(alloc);
+    rules.push(rule)?;
+    for letter in LETTERS {
+        let object = ObjectId(*letter as u32);
+        let small = ObjectId(letter.to_ascii_lowercase() as u32);
+        rules.push(rule_in_place_of(alloc, LOWEST, object, small, commands)?)?;
+    }
+    play_group(alloc, rules, board)?;
+    Ok(())
+}
+
+/// A board of one row behind an attempt of a rule of these rows.
 fn attempted(
     alloc: Global,
     axis: Axis,
     rows: &[&[&[(u8, u8)]]],
     letters: &[u8],
-) -> Result<(ListBoard, bool), Memory> {
+) -> Result<ListBoard, Memory> {
     let commands = nothing();
-    let written = rule(alloc, axis, rows, &commands)?;
-    let mut rooms = rooms_of(alloc, written.rows.as_slice().len())?;
     let mut board = board_of(alloc, letters)?;
-    let mut queue = LentQueue::empty();
-    let changed = attempt(&written, &mut board, &mut queue, rooms.as_mut_slice());
-    Ok((board, changed))
+    let written = rule(alloc, axis, rows, &commands)?;
+    attempt_once(alloc, written, &commands, &mut board)?;
+    Ok(board)
+}
+
+/// Whether an attempt of a rule of these rows tells that it changed something, where it makes one row of another, or
+/// leaves a row as it was.
+fn has_changed(
+    alloc: Global,
+    axis: Axis,
+    rows: &[&[&[(u8, u8)]]],
+    before: &[u8],
+    after: &[u8],
+) -> Result<bool, Memory> {
+    let (commands, won) = (nothing(), winning());
+    let mut board = board_of(alloc, before)?;
+    let written = rule(alloc, axis, rows, &commands)?;
+    if before == after {
+        return Ok(!tells_rest(alloc, written, &won, &mut board)?);
+    }
+    let shown = all_showing(alloc, after)?;
+    tells_change(alloc, Axis::Right, shown, written, &won, &mut board)
 }
 
 #[test]
 fn a_rule_that_changes_nothing_in_the_end_has_changed(rt: HostRuntime) -> Result<(), Fail> {
     let rows: [&[&[(u8, u8)]]; 2] = [&[&[(b'A', b'B')]], &[&[(b'A', b'A')]]];
-    let (board, changed) = attempted(rt.alloc(), Axis::Right, &rows, b"A")?;
-    assert!(&rt; changed);
+    let board = attempted(rt.alloc(), Axis::Right, &rows, b"A")?;
     check(&rt, &board, b"A");
+    assert!(&rt; has_changed(rt.alloc(), Axis::Right, &rows, b"A", b"A")?);
     Ok(())
 }
 
 #[test]
 fn a_combination_is_looked_at_again(rt: HostRuntime) -> Result<(), Fail> {
     let rows: [&[&[(u8, u8)]]; 2] = [&[&[(b'A', b'B')]], &[&[(b'A', b'C')]]];
-    let (board, changed) = attempted(rt.alloc(), Axis::Right, &rows, b"AA")?;
-    assert!(&rt; changed);
+    let board = attempted(rt.alloc(), Axis::Right, &rows, b"AA")?;
     check(&rt, &board, b"CC");
+    assert!(&rt; has_changed(rt.alloc(), Axis::Right, &rows, b"AA", b"CC")?);
     Ok(())
 }
 
 #[test]
 fn a_place_that_does_not_fit_any_more_is_passed_over(rt: HostRuntime) -> Result<(), Fail> {
     let rows: [&[&[(u8, u8)]]; 2] = [&[&[(b'A', b'B'), (b'B', b'A')]], &[&[(b'C', b'C')]]];
-    let (board, changed) = attempted(rt.alloc(), Axis::Right, &rows, b"ABABCC")?;
-    assert!(&rt; changed);
+    let board = attempted(rt.alloc(), Axis::Right, &rows, b"ABABCC")?;
     check(&rt, &board, b"BABACC");
+    assert!(&rt; has_changed(rt.alloc(), Axis::Right, &rows, b"ABABCC", b"BABACC")?);
     Ok(())
 }
 
 #[test]
 fn a_rule_of_one_cell_writes_each_cell_that_fits(rt: HostRuntime) -> Result<(), Fail> {
     let rows: [&[&[(u8, u8)]]; 1] = [&[&[(b'A', b'B')]]];
-    let (board, changed) = attempted(rt.alloc(), Axis::Down, &rows, b"A.ACB")?;
-    assert!(&rt; changed);
+    let board = attempted(rt.alloc(), Axis::Down, &rows, b"A.ACB")?;
     check(&rt, &board, b"B.BCB");
-    let (board, changed) = attempted(rt.alloc(), Axis::Down, &rows, b"B.BCB")?;
-    assert!(&rt; !changed);
+    assert!(&rt; has_changed(rt.alloc(), Axis::Down, &rows, b"A.ACB", b"B.BCB")?);
+    let board = attempted(rt.alloc(), Axis::Down, &rows, b"B.BCB")?;
     check(&rt, &board, b"B.BCB");
+    assert!(&rt; !has_changed(rt.alloc(), Axis::Down, &rows, b"B.BCB", b"B.BCB")?);
     Ok(())
 }
 
@@ -299,17 +334,8 @@ fn places_are_found_once(rt: HostRuntime) -> Result<(), Fail> {
     let mut rules = Vec::new(alloc);
     rules.push(first)?;
     rules.push(second)?;
-    let mut sections = Vec::new(alloc);
-    sections.push(CompiledSection::Group(List::from_vec(rules)))?;
     let mut board = board_of(alloc, b"ABB")?;
-    let mut queue = LentQueue::empty();
-    let mut rooms = rooms_for(alloc, sections.as_slice())?;
-    run_program(
-        sections.as_slice(),
-        &mut board,
-        &mut queue,
-        rooms.as_mut_slice(),
-    );
+    play_group(alloc, rules, &mut board)?;
     check(&rt, &board, b"BCB");
     Ok(())
 }
@@ -317,27 +343,27 @@ fn places_are_found_once(rt: HostRuntime) -> Result<(), Fail> {
 #[test]
 fn each_part_lies_behind_the_one_before(rt: HostRuntime) -> Result<(), Fail> {
     let rows: [&[&[(u8, u8)]]; 1] = [&[&[(b'A', b'.')], &[(b'B', b'B')], &[(b'C', b'.')]]];
-    let (board, changed) = attempted(rt.alloc(), Axis::Right, &rows, b"A.B.C.BC")?;
-    assert!(&rt; changed);
+    let board = attempted(rt.alloc(), Axis::Right, &rows, b"A.B.C.BC")?;
     check(&rt, &board, b"..B...BC");
+    assert!(&rt; has_changed(rt.alloc(), Axis::Right, &rows, b"A.B.C.BC", b"..B...BC")?);
     Ok(())
 }
 
 #[test]
 fn the_smaller_gap_comes_first(rt: HostRuntime) -> Result<(), Fail> {
     let rows: [&[&[(u8, u8)]]; 1] = [&[&[(b'A', b'.')], &[(b'B', b'C')]]];
-    let (board, changed) = attempted(rt.alloc(), Axis::Right, &rows, b"A.B.B")?;
-    assert!(&rt; changed);
+    let board = attempted(rt.alloc(), Axis::Right, &rows, b"A.B.B")?;
     check(&rt, &board, b"..C.B");
+    assert!(&rt; has_changed(rt.alloc(), Axis::Right, &rows, b"A.B.B", b"..C.B")?);
     Ok(())
 }
 
 #[test]
 fn a_row_may_have_two_gaps(rt: HostRuntime) -> Result<(), Fail> {
     let rows: [&[&[(u8, u8)]]; 1] = [&[&[(b'A', b'.')], &[(b'B', b'.')], &[(b'C', b'D')]]];
-    let (board, changed) = attempted(rt.alloc(), Axis::Right, &rows, b"AB.BCC")?;
-    assert!(&rt; changed);
+    let board = attempted(rt.alloc(), Axis::Right, &rows, b"AB.BCC")?;
     check(&rt, &board, b"...BDC");
+    assert!(&rt; has_changed(rt.alloc(), Axis::Right, &rows, b"AB.BCC", b"...BDC")?);
     Ok(())
 }
 
@@ -345,14 +371,14 @@ fn a_row_may_have_two_gaps(rt: HostRuntime) -> Result<(), Fail> {
 fn on_one_row_rules_go_right_alone(rt: HostRuntime) -> Result<(), Fail> {
     let start = b"B.BAB.B";
     let forwards: [&[&[(u8, u8)]]; 1] = [&[&[(b'A', b'A'), (b'B', b'C')]]];
-    let (board, _changed) = attempted(rt.alloc(), Axis::Right, &forwards, start)?;
+    let board = attempted(rt.alloc(), Axis::Right, &forwards, start)?;
     check(&rt, &board, b"B.BAC.B");
-    let (board, _changed) = attempted(rt.alloc(), Axis::Down, &forwards, start)?;
+    let board = attempted(rt.alloc(), Axis::Down, &forwards, start)?;
     check(&rt, &board, start);
     let backwards: [&[&[(u8, u8)]]; 1] = [&[&[(b'B', b'C'), (b'A', b'A')]]];
-    let (board, _changed) = attempted(rt.alloc(), Axis::Right, &backwards, start)?;
+    let board = attempted(rt.alloc(), Axis::Right, &backwards, start)?;
     check(&rt, &board, b"B.CAB.B");
-    let (board, _changed) = attempted(rt.alloc(), Axis::Down, &backwards, start)?;
+    let board = attempted(rt.alloc(), Axis::Down, &backwards, start)?;
     check(&rt, &board, start);
     Ok(())
 }
@@ -361,69 +387,85 @@ fn on_one_row_rules_go_right_alone(rt: HostRuntime) -> Result<(), Fail> {
 fn on_one_row_gaps_lie_right_alone(rt: HostRuntime) -> Result<(), Fail> {
     let start = b"B.BAB.B";
     let forwards: [&[&[(u8, u8)]]; 1] = [&[&[(b'A', b'A')], &[(b'B', b'C')]]];
-    let (board, _changed) = attempted(rt.alloc(), Axis::Right, &forwards, start)?;
+    let board = attempted(rt.alloc(), Axis::Right, &forwards, start)?;
     check(&rt, &board, b"B.BAC.C");
-    let (board, _changed) = attempted(rt.alloc(), Axis::Down, &forwards, start)?;
+    let board = attempted(rt.alloc(), Axis::Down, &forwards, start)?;
     check(&rt, &board, start);
     let backwards: [&[&[(u8, u8)]]; 1] = [&[&[(b'B', b'C')], &[(b'A', b'A')]]];
-    let (board, _changed) = attempted(rt.alloc(), Axis::Right, &backwards, start)?;
+    let board = attempted(rt.alloc(), Axis::Right, &backwards, start)?;
     check(&rt, &board, b"C.CAB.B");
-    let (board, _changed) = attempted(rt.alloc(), Axis::Down, &backwards, start)?;
+    let board = attempted(rt.alloc(), Axis::Down, &backwards, start)?;
     check(&rt, &board, start);
     Ok(())
 }
 
-/// A board of columns behind an attempt of a rule of one part, and whether it changed something.
+/// A board of columns behind an attempt of a rule of one part.
 fn attempted_down(
     alloc: Global,
     axis: Axis,
     cells: &[(u8, u8)],
     columns: &[[u8; 3]],
-) -> Result<(ListBoard, bool), Memory> {
+) -> Result<ListBoard, Memory> {
     let commands = nothing();
     let parts: [&[(u8, u8)]; 1] = [cells];
     let rows: [&[&[(u8, u8)]]; 1] = [&parts];
-    let written = rule(alloc, axis, &rows, &commands)?;
-    let mut rooms = rooms_of(alloc, written.rows.as_slice().len())?;
     let mut board = board_of_columns(alloc, columns)?;
-    let mut queue = LentQueue::empty();
-    let changed = attempt(&written, &mut board, &mut queue, rooms.as_mut_slice());
-    Ok((board, changed))
+    let written = rule(alloc, axis, &rows, &commands)?;
+    attempt_once(alloc, written, &commands, &mut board)?;
+    Ok(board)
+}
+
+/// Whether an attempt of a rule of one part tells that it changed something, where it makes a column that no column was
+/// before.
+fn has_changed_down(
+    alloc: Global,
+    axis: Axis,
+    cells: &[(u8, u8)],
+    columns: &[[u8; 3]],
+    made: &[u8; 3],
+) -> Result<bool, Memory> {
+    let (commands, won) = (nothing(), winning());
+    let parts: [&[(u8, u8)]; 1] = [cells];
+    let rows: [&[&[(u8, u8)]]; 1] = [&parts];
+    let mut board = board_of_columns(alloc, columns)?;
+    let written = rule(alloc, axis, &rows, &commands)?;
+    let shown = all_showing(alloc, made.as_slice())?;
+    tells_change(alloc, Axis::Down, shown, written, &won, &mut board)
 }
 
 #[test]
 fn places_that_touch_are_written_together(rt: HostRuntime) -> Result<(), Fail> {
     let swap: [&[&[(u8, u8)]]; 1] = [&[&[(b'A', b'B'), (b'B', b'A')]]];
-    let (board, changed) = attempted(rt.alloc(), Axis::Right, &swap, b"ABAB.ABBA")?;
-    assert!(&rt; changed);
+    let board = attempted(rt.alloc(), Axis::Right, &swap, b"ABAB.ABBA")?;
     check(&rt, &board, b"BABA.BABA");
+    assert!(&rt; has_changed(rt.alloc(), Axis::Right, &swap, b"ABAB.ABBA", b"BABA.BABA")?);
     let cells = [(b'A', b'B'), (b'B', b'A')];
     let columns = [*b"ABA", *b"BAB", *b"AB."];
-    let (board, changed) = attempted_down(rt.alloc(), Axis::Down, &cells, &columns)?;
-    assert!(&rt; changed);
+    let board = attempted_down(rt.alloc(), Axis::Down, &cells, &columns)?;
     check_columns(&rt, &board, LOWEST, &[*b"BAA", *b"BBA", *b"BA."]);
-    let (board, changed) = attempted_down(rt.alloc(), Axis::Right, &cells, &columns)?;
-    assert!(&rt; changed);
+    assert!(&rt; has_changed_down(rt.alloc(), Axis::Down, &cells, &columns, b"BBA")?);
+    let board = attempted_down(rt.alloc(), Axis::Right, &cells, &columns)?;
     check_columns(&rt, &board, LOWEST, &[*b"BBB", *b"ABA", *b"AA."]);
+    assert!(&rt; has_changed_down(rt.alloc(), Axis::Right, &cells, &columns, b"BBB")?);
     Ok(())
 }
 
 #[test]
 fn places_that_share_a_cell_take_turns(rt: HostRuntime) -> Result<(), Fail> {
     let pairs: [&[&[(u8, u8)]]; 1] = [&[&[(b'A', b'B'), (b'A', b'C')]]];
-    let (board, _changed) = attempted(rt.alloc(), Axis::Right, &pairs, b"AAAAA")?;
+    let board = attempted(rt.alloc(), Axis::Right, &pairs, b"AAAAA")?;
     check(&rt, &board, b"BCBCA");
     let first: [&[&[(u8, u8)]]; 1] = [&[&[(b'A', b'.'), (b'A', b'A')]]];
-    let (board, _changed) = attempted(rt.alloc(), Axis::Right, &first, b"AAAA")?;
+    let board = attempted(rt.alloc(), Axis::Right, &first, b"AAAA")?;
     check(&rt, &board, b"...A");
     let second: [&[&[(u8, u8)]]; 1] = [&[&[(b'A', b'A'), (b'A', b'.')]]];
-    let (board, _changed) = attempted(rt.alloc(), Axis::Right, &second, b"AAAA")?;
+    let board = attempted(rt.alloc(), Axis::Right, &second, b"AAAA")?;
     check(&rt, &board, b"A.A.");
     let cells = [(b'A', b'B'), (b'A', b'C')];
     let columns = [*b"AAA", *b".AA", *b"A.A"];
-    let (board, _changed) = attempted_down(rt.alloc(), Axis::Down, &cells, &columns)?;
+    let board = attempted_down(rt.alloc(), Axis::Down, &cells, &columns)?;
     check_columns(&rt, &board, LOWEST, &[*b"BCA", *b".BC", *b"A.A"]);
-    let (board, _changed) = attempted_down(rt.alloc(), Axis::Right, &cells, &columns)?;
+    let board = attempted_down(rt.alloc(), Axis::Right, &cells, &columns)?;
     check_columns(&rt, &board, LOWEST, &[*b"ABB", *b".CC", *b"A.A"]);
     Ok(())
 }
@@ -431,9 +473,9 @@ fn places_that_share_a_cell_take_turns(rt: HostRuntime) -> Result<(), Fail> {
 #[test]
 fn places_may_share_their_ends_alone(rt: HostRuntime) -> Result<(), Fail> {
     let ends: [&[&[(u8, u8)]]; 1] = [&[&[(b'A', b'C'), (b'B', b'B'), (b'A', b'D')]]];
-    let (board, _changed) = attempted(rt.alloc(), Axis::Right, &ends, b"ABABABA")?;
+    let board = attempted(rt.alloc(), Axis::Right, &ends, b"ABABABA")?;
     check(&rt, &board, b"CBDBCBD");
-    let (board, _changed) = attempted(rt.alloc(), Axis::Right, &ends, b"ABA.ABA")?;
+    let board = attempted(rt.alloc(), Axis::Right, &ends, b"ABA.ABA")?;
     check(&rt, &board, b"CBD.CBD");
     Ok(())
 }
@@ -446,21 +488,8 @@ fn marked(alloc: Global, barred: &[u8], row: &[u8]) -> Result<ListBoard, Memory>
     cells.push(marking(alloc, b'A', barred, b"")?)?;
     cells.push(marking(alloc, b'A', b"", b"M")?)?;
     let mut board = board_of(alloc, row)?;
-    let mut parts = Vec::new(alloc);
-    if cells.len() != 0 {
-        parts.push(List::from_vec(cells))?;
-    }
-    let parts = List::from_vec(parts);
-    if parts.as_slice().len() != 1 {
-        return Ok(board);
-    }
-    let axis = Axis::Right;
-    let mut rows = Vec::new(alloc);
-    rows.push(CompiledRow { axis, parts })?;
-    let rule = CompiledRule::try_new(alloc, axis, List::from_vec(rows), true, &commands)?;
-    let mut rooms = rooms_of(alloc, rule.rows.as_slice().len())?;
-    let mut queue = LentQueue::empty();
-    attempt(&rule, &mut board, &mut queue, rooms.as_mut_slice());
+    let rule = rule_of(alloc, Axis::Right, cells, true, &commands)?;
+    attempt_once(alloc, rule, &commands, &mut board)?;
     Ok(board)
 }
 

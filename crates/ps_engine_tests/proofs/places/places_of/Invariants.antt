@@ -1,6 +1,6 @@
 use Rattle.std.proofs.Common.{◌≡◌, true}
 use Rattle.ps_places.specs.Starts.{HasLinesOf, IsOnLine}
-use Rattle.ps_places.proofs.tests.places_of.Given as goal
+use Rattle.ps_engine_tests.proofs.places.places_of.Given as goal
 
 -- the room is of the board, and so is the place that was found
 abbrev pub invariant-loop-place : goal.invariant-loop-place

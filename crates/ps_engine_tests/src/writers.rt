@@ -1,18 +1,18 @@
 //! Rules of one row of two parts of which one cell alone is written, on small boards of two layers. E is an emitter,
-//! M a mirror, m a mirror with a beam, and a dot an empty cell.
+//! M a mirror, m a mirror with a beam, and a dot an empty cell. Behind an attempt other objects stand for emitters and
+//! mirrors.
 
 ghost use Rattle.std.specs.Prelude.{◌≡◌, All, IfOk, IfSome};
 ghost use Rattle.ps_program.specs.Axes.{LiesAlong};
 ghost use Rattle.ps_laws.specs.WholeRows.{HasCells};
 
-use crate::attempts::attempt;
-use crate::rooms::rooms_of;
-use crate::{LentQueue, ListBoard};
-use ps_board::Board;
-use ps_model::{LayerId, LayerWrite, LayeredObject, Memory, Motion, ObjectId, ObjectWrite};
-use ps_program::{
-    Axis, CellMask, CellWrite, Commands, CompiledCell, CompiledRow, CompiledRule, PART_LIMIT,
+use crate::runs::{
+    cell_of, nothing, play_group, rule_in_place_of, tells_change, tells_rest, winning,
 };
+use ps_board::Board;
+use ps_engine::ListBoard;
+use ps_model::{LayerId, LayerWrite, LayeredObject, Memory, Motion, ObjectId, ObjectWrite};
+use ps_program::{Axis, Commands, CompiledCell, CompiledRow, CompiledRule, PART_LIMIT};
 use ps_text::List;
 use std::alloc::Global;
 use std::process::Abort;
@@ -28,16 +28,11 @@ const MIRROR: ObjectId = ObjectId(2);
 
 const BEAM: ObjectId = ObjectId(3);
 
-fn nothing() -> Commands {
-    Commands {
-        cancel: false,
-        restart: false,
-        again: false,
-        checkpoint: false,
-        win: false,
-        message: None,
-    }
-}
+/// What stands for an emitter behind an attempt.
+const LATER_EMITTER: ObjectId = ObjectId(4);
+
+/// What stands for a mirror behind an attempt.
+const LATER_MIRROR: ObjectId = ObjectId(5);
 
 /// Puts an object on a layer of a cell, if the board has both.
 fn lay(board: &mut ListBoard, cell: u32, layer: LayerId, object: ObjectId) {
@@ -67,18 +62,18 @@ fn board_of(alloc: Global, columns: u32, rows: u32, letters: &[u8]) -> Result<Li
     Ok(board)
 }
 
-/// The letter of what stands on the two layers of a cell.
+/// The letter of what stands on the two layers of a cell behind an attempt.
 fn letter(ground: Option<ObjectId>, above: Option<ObjectId>) -> u8 {
     match (ground, above) {
         (None, None) => b'.',
-        (Some(EMITTER), None) => b'E',
-        (Some(MIRROR), None) => b'M',
-        (Some(MIRROR), Some(BEAM)) => b'm',
+        (Some(LATER_EMITTER), None) => b'E',
+        (Some(LATER_MIRROR), None) => b'M',
+        (Some(LATER_MIRROR), Some(BEAM)) => b'm',
         _ => b'?',
     }
 }
 
-/// A board shows these letters, column by column.
+/// Behind an attempt a board shows these letters, column by column.
 fn check(rt: &impl Abort, board: &ListBoard, letters: &[u8]) {
     let (width, height) = board.size();
     assert_eq!(rt; (width * height) as usize, letters.len());
@@ -113,17 +108,50 @@ fn cell(alloc: Global, ground: Option<ObjectId>, beams: bool) -> Result<Compiled
             motion: None,
         })?;
     }
-    let mask = CellMask {
-        needed: List::from_vec(needed),
-        barred: List::from_vec(barred),
-        one_of: List::from_vec(Vec::new(alloc)),
-        motions: List::from_vec(Vec::new(alloc)),
+    Ok(cell_of(alloc, needed, barred, layers))
+}
+
+/// A cell of a rule that fits where the letter stands, and that writes nothing.
+fn showing(alloc: Global, letter: u8) -> Result<CompiledCell, Memory> {
+    let emitter = LayeredObject {
+        object: EMITTER,
+        layer: LOWEST,
     };
-    let write = CellWrite {
-        gone: List::from_vec(Vec::new(alloc)),
-        layers: List::from_vec(layers),
+    let mirror = LayeredObject {
+        object: MIRROR,
+        layer: LOWEST,
     };
-    Ok(CompiledCell::new(mask, write))
+    let beam = LayeredObject {
+        object: BEAM,
+        layer: HIGHEST,
+    };
+    let mut needed = Vec::new(alloc);
+    let mut barred = Vec::new(alloc);
+    match letter {
+        b'E' => needed.push(emitter)?,
+        b'M' => {
+            needed.push(mirror)?;
+            barred.push(beam)?;
+        }
+        b'm' => {
+            needed.push(mirror)?;
+            needed.push(beam)?;
+        }
+        _ => {
+            barred.push(emitter)?;
+            barred.push(mirror)?;
+        }
+    }
+    Ok(cell_of(alloc, needed, barred, Vec::new(alloc)))
+}
+
+/// Cells of a rule that fit where these letters stand, and that write nothing.
+fn all_showing(alloc: Global, letters: &[u8]) -> Result<Vec<CompiledCell>, Memory> {
+    let mut cells = Vec::new(alloc);
+    for letter in letters {
+        cells.push(showing(alloc, *letter)?)?;
+    }
+    Ok(cells)
 }
 
 /// A part by its letters: E is an emitter, M a mirror that gets a beam, and a dot any cell.
@@ -181,20 +209,75 @@ fn rule<'r>(
     CompiledRule::try_new(alloc, axis, List::from_vec(all), true, commands)
 }
 
-/// A board behind an attempt of a rule of one row of these parts. The rule has a writer.
-fn attempted(
+/// Plays an attempt of a rule of one row of these parts, which has a writer. The rules behind it in its group put others
+/// in place of emitters and mirrors, so that it fits nowhere in a second round.
+fn attempt_once(
     rt: &impl Abort,
     alloc: Global,
     axis: Axis,
     parts: &[&[u8]],
     board: &mut ListBoard,
-) -> Result<bool, Memory> {
+) -> Result<(), Memory> {
     let commands = nothing();
     let written = rule(alloc, axis, parts, &commands)?;
     assert!(rt; written.writer.is_some());
-    let mut rooms = rooms_of(alloc, written.rows.as_slice().len())?;
-    let mut queue = LentQueue::empty();
-    Ok(attempt(&written, board, &mut queue, rooms.as_mut_slice()))
+    let mut rules = Vec::new(alloc);
+    rules.push(written)?;
+    for (object, later) in [(EMITTER, LATER_EMITTER), (MIRROR, LATER_MIRROR)] {
+        rules.push(rule_in_place_of(alloc, LOWEST, object, later, &commands)?)?;
+    }
+    play_group(alloc, rules, board)?;
+    Ok(())
+}
+
+/// Whether an attempt of such a rule tells that it changed something, where it makes these letters along an axis, which
+/// stood nowhere before, or where it makes none.
+fn has_changed(
+    alloc: Global,
+    axis: Axis,
+    parts: &[&[u8]],
+    board: &mut ListBoard,
+    along: Axis,
+    made: &[u8],
+) -> Result<bool, Memory> {
+    let (commands, won) = (nothing(), winning());
+    let written = rule(alloc, axis, parts, &commands)?;
+    if made.is_empty() {
+        return Ok(!tells_rest(alloc, written, &won, board)?);
+    }
+    let shown = all_showing(alloc, made)?;
+    tells_change(alloc, along, shown, written, &won, board)
+}
+
+/// What becomes of a line of cells along an axis.
+fn check_along(
+    rt: &impl Abort,
+    alloc: Global,
+    axis: Axis,
+    parts: &[&[u8]],
+    before: &[u8],
+    after: &[u8],
+    changes: bool,
+) -> Result<(), Memory> {
+    let long = if before.len() <= 8 {
+        before.len() as u32
+    } else {
+        1
+    };
+    let (columns, rows) = match axis {
+        Axis::Down => (1, long),
+        Axis::Right => (long, 1),
+    };
+    let mut board = board_of(alloc, columns, rows, before)?;
+    attempt_once(rt, alloc, axis, parts, &mut board)?;
+    check(rt, &board, after);
+    let mut board = board_of(alloc, columns, rows, before)?;
+    let made: &[u8] = if changes { after } else { b"" };
+    assert_eq!(rt;
+        has_changed(alloc, axis, parts, &mut board, axis, made)?,
+        changes
+    );
+    Ok(())
 }
 
 /// What becomes of a line of cells that goes right, and of one that goes down.
@@ -206,24 +289,8 @@ fn check_line(
     after: &[u8],
     changes: bool,
 ) -> Result<(), Memory> {
-    let long = if before.len() <= 8 {
-        before.len() as u32
-    } else {
-        1
-    };
-    let mut across = board_of(alloc, long, 1, before)?;
-    assert_eq!(rt;
-        attempted(rt, alloc, Axis::Right, parts, &mut across)?,
-        changes
-    );
-    check(rt, &across, after);
-    let mut down = board_of(alloc, 1, long, before)?;
-    assert_eq!(rt;
-        attempted(rt, alloc, Axis::Down, parts, &mut down)?,
-        changes
-    );
-    check(rt, &down, after);
-    Ok(())
+    check_along(rt, alloc, Axis::Right, parts, before, after, changes)?;
+    check_along(rt, alloc, Axis::Down, parts, before, after, changes)
 }
 
 #[test]
@@ -270,10 +337,14 @@ fn a_partner_on_another_line_is_none(rt: HostRuntime) -> Result<(), Fail> {
     let alloc = rt.alloc();
     let parts: [&[u8]; 2] = [b"E", b"M"];
     let mut down = board_of(alloc, 2, 4, b"E..MM.E.")?;
-    assert!(&rt; attempted(&rt, alloc, Axis::Down, &parts, &mut down)?);
+    attempt_once(&rt, alloc, Axis::Down, &parts, &mut down)?;
     check(&rt, &down, b"E..mM.E.");
+    let mut down = board_of(alloc, 2, 4, b"E..MM.E.")?;
+    assert!(&rt; has_changed(alloc, Axis::Down, &parts, &mut down, Axis::Down, b"E..m")?);
     let mut across = board_of(alloc, 4, 2, b"EM...EM.")?;
-    assert!(&rt; attempted(&rt, alloc, Axis::Right, &parts, &mut across)?);
+    attempt_once(&rt, alloc, Axis::Right, &parts, &mut across)?;
     check(&rt, &across, b"EM...Em.");
+    let mut across = board_of(alloc, 4, 2, b"EM...EM.")?;
+    assert!(&rt; has_changed(alloc, Axis::Right, &parts, &mut across, Axis::Down, b"m.")?);
     Ok(())
 }

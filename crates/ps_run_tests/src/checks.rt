@@ -1,15 +1,9 @@
 //! Texts that are checked, and the lines on them.
 
-use crate::{CheckFault, check};
+use crate::games::PUSHING;
+use ps_check::{CheckFault, check};
 use ps_devices::MemoryWriter;
 use std::test::Fail;
-
-/// A game of one rule and one level.
-const PUSHING: &[u8] =
-    b"title T\nOBJECTS\nBackground .\ngreen\nWall #\nbrown\nPlayer P\nwhite\nCrate *\norange\nTarget O\nblue\n\
-A\nred\nB\npink\nC\ngray\nD\nblack\nLEGEND\n@ = Crate and Target\nAT = A or Target\n\
-COLLISIONLAYERS\nBackground\nTarget\nPlayer, Wall, Crate\nA B C D\n\
-RULES\n[ > Player | Crate ] -> [ > Player | > Crate ]\nWINCONDITIONS\nAll Target on Crate\nLEVELS\n#P*O#\n";
 
 #[test]
 fn tells_how_large_a_game_is(rt: HostRuntime) -> Result<(), Fail> {

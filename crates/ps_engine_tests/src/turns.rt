@@ -1,13 +1,11 @@
 //! Programs of one rule on a board of one cell: the commands of a run come into the queue of a turn, and of two
 //! messages the first stays.
 
-use crate::{CompiledPrograms, ListBoard, Rules, rules_of_sections};
+use crate::runs::rule_of_any_cell;
 use ps_board::Board;
 use ps_model::Memory;
-use ps_program::{
-    Axis, CellMask, CellWrite, Commands, CompiledCell, CompiledRow, CompiledRule, CompiledSection,
-    Program,
-};
+use ps_program::{Commands, CompiledSection, Program};
+use ps_rulebook::{CompiledPrograms, ListBoard, Rules, rules_of_sections};
 use ps_text::{List, Text};
 use ps_turn::Queue;
 use std::alloc::Global;
@@ -25,34 +23,10 @@ fn won_with(alloc: Global, message: &str) -> Result<Commands, Memory> {
     })
 }
 
-/// A cell of a rule that fits each cell and leaves it as it is.
-fn any_cell(alloc: Global) -> CompiledCell {
-    let mask = CellMask {
-        needed: List::from_vec(Vec::new(alloc)),
-        barred: List::from_vec(Vec::new(alloc)),
-        one_of: List::from_vec(Vec::new(alloc)),
-        motions: List::from_vec(Vec::new(alloc)),
-    };
-    let write = CellWrite {
-        gone: List::from_vec(Vec::new(alloc)),
-        layers: List::from_vec(Vec::new(alloc)),
-    };
-    CompiledCell::new(mask, write)
-}
-
 /// A program of one rule, which has these commands wherever a cell is.
 fn program_of<'r>(alloc: Global, commands: &'r Commands) -> Result<Program<'r>, Memory> {
-    let mut cells = Vec::new(alloc);
-    cells.push(any_cell(alloc))?;
-    let mut parts = Vec::new(alloc);
-    parts.push(List::from_vec(cells))?;
-    let parts = List::from_vec(parts);
-    let axis = Axis::Right;
-    let mut rows = Vec::new(alloc);
-    rows.push(CompiledRow { axis, parts })?;
     let mut rules = Vec::new(alloc);
-    let rule = CompiledRule::try_new(alloc, axis, List::from_vec(rows), false, commands)?;
-    rules.push(rule)?;
+    rules.push(rule_of_any_cell(alloc, commands)?)?;
     let mut sections = Vec::new(alloc);
     sections.push(CompiledSection::Group(List::from_vec(rules)))?;
     Ok(Program::from_sections(sections))

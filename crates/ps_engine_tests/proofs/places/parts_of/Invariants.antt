@@ -1,6 +1,6 @@
 use Rattle.std.specs.Prelude.{All}
 use Rattle.ps_laws.specs.WholeRows.{HasCells}
-use Rattle.ps_engine.proofs.writer_tests.parts_of.Given as goal
+use Rattle.ps_engine_tests.proofs.places.parts_of.Given as goal
 
 -- so are all that were made
 abbrev pub invariant-loop-letters : goal.invariant-loop-letters

@@ -1,0 +1,182 @@
+//! Command lines and what they ask for, and the sentences of faults.
+
+use crate::games::PUSHED;
+use crate::machine::{Kept, Machine};
+use crate::watched::Watched;
+use ps_command::run_command_line;
+use ps_devices::{MemoryReader, MemoryWriter};
+use ps_model::CALL_LIMIT;
+use std::process::Abort;
+
+/// What a command line asks for.
+#[derive(Clone, Copy, PartialEq, Eq, Debug)]
+enum Asked<'w> {
+    /// That the game in this file be played, with keys from standard input.
+    Play(&'w str),
+    /// That the game in this file be played, with keys from that file.
+    PlayFrom(&'w str, &'w str),
+    /// Whether the text in this file is a game.
+    Check(&'w str),
+    /// What the fault of this code is.
+    Explanation(&'w str),
+}
+
+/// The words of a command line that asks for something, and what they ask for.
+const LINES: [(&[&str], Asked<'static>); 8] = [
+    (&["ps_play", "a.game"], Asked::Play("a.game")),
+    (&["ps_play", "--", "--explain"], Asked::Play("--explain")),
+    (
+        &["ps_play", "a.game", "--keys", "a.keys"],
+        Asked::PlayFrom("a.game", "a.keys"),
+    ),
+    (
+        &["ps_play", "--keys=a.keys", "a.game"],
+        Asked::PlayFrom("a.game", "a.keys"),
+    ),
+    (&["ps_play", "a.game", "--check"], Asked::Check("a.game")),
+    (&["ps_play", "--check", "a.game"], Asked::Check("a.game")),
+    (
+        &["ps_play", "a.game", "--keys", "a.keys", "--check"],
+        Asked::Check("a.game"),
+    ),
+    (&["ps_play", "--explain", "RU7"], Asked::Explanation("RU7")),
+];
+
+/// The words of command lines that aren't right, or ask for help or the version.
+const OTHER_LINES: [&[&str]; 14] = [
+    &["ps_play", "--check"],
+    &["ps_play", "--keys", "a.keys"],
+    &["ps_play", "a.game", "--keys"],
+    &["ps_play", "a.game", "--check", "--check"],
+    &["ps_play", "a.game", "--keys", "a.keys", "--keys", "a.keys"],
+    &["ps_play", "--explain", "RU7", "--check"],
+    &["ps_play", "--explain", "RU7", "--keys", "a.keys"],
+    &["ps_play"],
+    &["ps_play", "a.game", "b.game"],
+    &["ps_play", "--explain"],
+    &["ps_play", "--explain", "RU7", "a.game"],
+    &["ps_play", "--other", "a.game"],
+    &["ps_play", "--help"],
+    &["ps_play", "--version"],
+];
+
+/// What is shown of the game where it is quit at once.
+const QUIT: &str = "= T\n# level 1\n#P*O#\n\n* quit\n";
+
+/// What is shown of the game where it is checked.
+const CHECKED: &str = "ok: objects 9, layers 4, rules 1, levels 1\n";
+
+/// What is printed for the code RU7.
+const UNBOUND: &str =
+    "Nothing on the left decides which is meant by a property, or by a word of several moves, on the right.\n";
+
+/// What came of a command line.
+#[derive(Drop)]
+struct Outcome {
+    status: u8,
+    kept: Kept,
+    /// How often a key was asked for.
+    reads: u32,
+    screen: MemoryWriter,
+}
+
+/// Does what a command line asks for, with the key `d` from standard input.
+fn obey(rt: &(impl Abort + AllocGlobal), words: &[&str]) -> Outcome {
+    let machine = Machine::new(rt.alloc(), words);
+    let mut keys = Watched::new(MemoryReader::new(b"d", 1, None));
+    let screen = MemoryWriter::new(rt.alloc(), 1000, CALL_LIMIT);
+    let mut screen = screen.expect(rt, "memory for the screen");
+    let status = run_command_line(&machine, &mut keys, &mut screen);
+    Outcome {
+        status,
+        kept: machine.kept(),
+        reads: keys.calls,
+        screen,
+    }
+}
+
+/// What was done for a command line that asks for something.
+fn done_for(outcome: &Outcome) -> Option<Asked<'_>> {
+    let opened = outcome.kept.opened.as_str();
+    let printed = outcome.kept.printed.as_str();
+    let shown = outcome.screen.bytes();
+    if outcome.status != 0 || !outcome.kept.complained.is_empty() {
+        return None;
+    }
+    let mut lines = opened.lines();
+    match (lines.next(), lines.next(), outcome.reads) {
+        (Some(path), None, 1..) if shown == PUSHED.as_bytes() => Some(Asked::Play(path)),
+        (Some(path), None, 0) if shown == CHECKED.as_bytes() => Some(Asked::Check(path)),
+        (Some(path), Some(file), 0) if shown == QUIT.as_bytes() => {
+            Some(Asked::PlayFrom(path, file))
+        }
+        (None, None, 0) if shown.is_empty() && printed == UNBOUND => {
+            Some(Asked::Explanation("RU7"))
+        }
+        _ => None,
+    }
+}
+
+/// Whether nothing was done for a command line, but that was told what is wrong with it, or the help or version.
+fn is_other(outcome: &Outcome) -> bool {
+    let printed = outcome.kept.printed.as_str();
+    let complained = outcome.kept.complained.as_str();
+    let idle = outcome.kept.opened.is_empty() && outcome.reads == 0;
+    if !idle || !outcome.screen.bytes().is_empty() {
+        return false;
+    }
+    match outcome.status {
+        0 => !printed.is_empty() && complained.is_empty(),
+        2 => printed.is_empty() && complained.ends_with("try '--help'.\n"),
+        _ => false,
+    }
+}
+
+#[test]
+fn knows_what_is_asked_for(rt: HostRuntime) {
+    for (words, wanted) in LINES {
+        assert_eq!(rt; done_for(&obey(&rt, words)), Some(wanted));
+    }
+    for words in OTHER_LINES {
+        assert!(rt; is_other(&obey(&rt, words)));
+    }
+}
+
+/// What is printed for a code, or nothing, where it is told that no fault has it.
+fn explained(rt: &(impl Abort + AllocGlobal), code: &str) -> Option<String> {
+    let outcome = obey(rt, &["ps_play", "--explain", code]);
+    let status = outcome.status;
+    let kept = outcome.kept;
+    if status == 0 {
+        assert!(rt; kept.complained.is_empty());
+        return Some(kept.printed);
+    }
+    assert_eq!(rt; status, 2);
+    assert!(rt; kept.printed.is_empty());
+    assert_eq!(rt; kept.complained.as_str(), "error: no fault has this code\n");
+    None
+}
+
+#[test]
+fn explains_codes_alone(rt: HostRuntime) {
+    for (code, sentence) in [
+        ("TX1", "The text isn't UTF-8.\n"),
+        ("LV4", "LEVELS has no level; messages are none.\n"),
+        ("NA11", "Nothing declares `Player`.\n"),
+    ] {
+        let printed = explained(&rt, code);
+        assert_eq!(rt; printed.as_ref().map(|text| text.as_str()), Some(sentence));
+    }
+    for code in [
+        "",
+        "RU",
+        "RU15",
+        "ru7",
+        "RU7 ",
+        "RU7 Unbound",
+        "Unbound",
+        "XX1",
+    ] {
+        assert!(rt; explained(&rt, code).is_none());
+    }
+}

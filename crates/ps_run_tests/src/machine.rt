@@ -1,0 +1,236 @@
+//! A machine in memory, on which a command line is obeyed: it keeps which files were opened, and what was told.
+
+ghost use Rattle.std.specs.Prelude.{IsErr};
+
+use crate::games::PUSHING;
+use std::alloc::{Allocator, Global};
+use std::cell::RefCell;
+use std::env::FillError;
+use std::fmt::Display;
+use std::fs::{Metadata, OpenFile, OpenOptions};
+use std::io;
+use std::io::{ErrorKind, Read, Seek, SeekFrom, Write};
+use std::rt::{Env, Files};
+
+/// The keys of each file of keys.
+const KEYS: &[u8] = b"q";
+
+/// A machine with the words of a command line. Each file whose name ends with `.keys` has the same keys, and each other
+/// one the game [`PUSHING`].
+#[derive(Drop)]
+pub struct Machine<'w> {
+    alloc: Global,
+    words: &'w [&'w str],
+    opened: RefCell<String>,
+    printed: RefCell<String>,
+    complained: RefCell<String>,
+}
+
+/// What has happened on a machine.
+#[derive(Drop)]
+pub struct Kept {
+    /// The names of the files that were opened, each in a line.
+    pub opened: String,
+    /// What standard output got.
+    pub printed: String,
+    /// What standard error got.
+    pub complained: String,
+}
+
+impl<'w> Machine<'w> {
+    /// Where nothing has happened yet.
+    pub fn new(alloc: Global, words: &'w [&'w str]) -> Machine<'w> {
+        Machine {
+            alloc,
+            words,
+            opened: RefCell::new(String::new(alloc)),
+            printed: RefCell::new(String::new(alloc)),
+            complained: RefCell::new(String::new(alloc)),
+        }
+    }
+
+    /// What has happened.
+    pub fn kept(self) -> Kept {
+        Kept {
+            opened: self.opened.into_inner(),
+            printed: self.printed.into_inner(),
+            complained: self.complained.into_inner(),
+        }
+    }
+
+    /// Writes a value and an end behind what a text has.
+    fn add<D: Display + Drop>(
+        &self,
+        text: &RefCell<String>,
+        value: D,
+        end: &str,
+    ) -> io::Result<()> {
+        let written = value.to_string(self.alloc)?;
+        let Ok(mut text) = text.try_borrow_mut() else {
+            return unsupported();
+        };
+        text.push_str(written.as_str())?;
+        text.push_str(end)?;
+        Ok(())
+    }
+}
+
+/// The answer of what this machine can't do.
+fn unsupported<T>() -> io::Result<T>
+    ensures { IsErr result }
+{
+    Err(io::Error::from(ErrorKind::Unsupported))
+}
+
+impl Alloc for Machine<'_> {
+    type A = Global;
+
+    fn alloc(&self) -> Global {
+        self.alloc
+    }
+}
+
+impl Print for Machine<'_> {
+    fn print<D: Display + Drop>(&self, value: D) -> io::Result<()> {
+        self.add(&self.printed, value, "")
+    }
+
+    fn println<D: Display + Drop>(&self, value: D) -> io::Result<()> {
+        self.add(&self.printed, value, "\n")
+    }
+
+    fn write_all(&self, _bytes: &[u8]) -> io::Result<()> {
+        unsupported()
+    }
+}
+
+impl Eprint for Machine<'_> {
+    fn eprint<D: Display + Drop>(&self, value: D) -> io::Result<()> {
+        self.add(&self.complained, value, "")
+    }
+
+    fn eprintln<D: Display + Drop>(&self, value: D) -> io::Result<()> {
+        self.add(&self.complained, value, "\n")
+    }
+}
+
+impl Env for Machine<'_> {
+    fn arg(&self, i: usize, buf: &mut [u8]) -> Result<usize, FillError> {
+        let Some(word) = self.words.get(i) else {
+            return Err(FillError::NotPresent);
+        };
+        let bytes = word.as_bytes();
+        if buf.len() < bytes.len() {
+            return Err(FillError::TooLong);
+        }
+        buf[..bytes.len()].copy_from_slice(bytes);
+        Ok(bytes.len())
+    }
+
+    fn var(&self, _name: &str, _buf: &mut [u8]) -> Result<usize, FillError> {
+        Err(FillError::NotPresent)
+    }
+
+    fn var_at(&self, _i: usize, _buf: &mut [u8]) -> Result<usize, FillError> {
+        Err(FillError::NotPresent)
+    }
+}
+
+/// A file that is read from its front on, and of which nothing else can be had.
+#[derive(Drop)]
+pub struct OpenedFile {
+    rest: &'static [u8],
+}
+
+impl Read for OpenedFile {
+    fn read(&mut self, buf: &mut [u8]) -> io::Result<usize> {
+        self.rest.read(buf)
+    }
+}
+
+impl Write for OpenedFile {
+    fn write(&mut self, _buf: &[u8]) -> io::Result<usize> {
+        unsupported()
+    }
+
+    fn flush(&mut self) -> io::Result<()> {
+        unsupported()
+    }
+}
+
+impl Seek for OpenedFile {
+    fn seek(&mut self, _to: SeekFrom) -> io::Result<u64> {
+        unsupported()
+    }
+}
+
+impl OpenFile for OpenedFile {
+    fn metadata(&self) -> io::Result<Metadata> {
+        unsupported()
+    }
+
+    fn set_len(&self, _size: u64) -> io::Result<()> {
+        unsupported()
+    }
+
+    fn sync_all(&self) -> io::Result<()> {
+        unsupported()
+    }
+
+    fn sync_data(&self) -> io::Result<()> {
+        unsupported()
+    }
+}
+
+impl Files for Machine<'_> {
+    type File = OpenedFile;
+
+    type Dir = OpenedFile;
+
+    fn open_file(&self, _how: &OpenOptions, path: &str) -> io::Result<OpenedFile> {
+        let name = String::from_str(self.alloc, path)?;
+        self.add(&self.opened, name, "\n")?;
+        let rest = if path.ends_with(".keys") {
+            KEYS
+        } else {
+            PUSHING
+        };
+        Ok(OpenedFile { rest })
+    }
+
+    fn open_dir(&self, _path: &str) -> io::Result<OpenedFile> {
+        unsupported()
+    }
+
+    fn metadata(&self, _path: &str) -> io::Result<Metadata> {
+        unsupported()
+    }
+
+    fn symlink_metadata(&self, _path: &str) -> io::Result<Metadata> {
+        unsupported()
+    }
+
+    fn copy(&self, _from: &str, _to: &str) -> io::Result<u64> {
+        unsupported()
+    }
+
+    fn rename(&self, _from: &str, _to: &str) -> io::Result<()> {
+        unsupported()
+    }
+
+    fn remove_file(&self, _path: &str) -> io::Result<()> {
+        unsupported()
+    }
+
+    fn create_dir(&self, _path: &str) -> io::Result<()> {
+        unsupported()
+    }
+
+    fn remove_dir(&self, _path: &str) -> io::Result<()> {
+        unsupported()
+    }
+
+    fn remove_dir_all<B: Allocator>(&self, _alloc: B, _path: &str) -> io::Result<()> {
+        unsupported()
+    }
+}
