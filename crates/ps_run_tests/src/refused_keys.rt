@@ -9,7 +9,7 @@ use crate::games::NAMES;
 use crate::playable::playable_game;
 use ps_compile::{CompiledPrograms, compile};
 use ps_game::Game;
-use ps_model::{Ending, Input, Key, Memory};
+use ps_model::{Ending, Input, Key};
 use ps_rulebook::{OneWord, RowBoard, RowHistory, WORD_BITS, rules_of_sections};
 use ps_session::{BoardSides, OutputText, Phase, Session, SessionGame, Stop};
 use ps_turn::{Rules, TurnRules};
