@@ -5,7 +5,7 @@ use crate::runs::rule_of_any_cell;
 use ps_board::Board;
 use ps_model::Memory;
 use ps_program::{Commands, CompiledSection, Program};
-use ps_rulebook::{CompiledPrograms, ListBoard, Rules, rules_of_turns};
+use ps_rulebook::{CompiledPrograms, ListBoard, Rules, rules_of_sections};
 use ps_text::{List, Text};
 use ps_turn::Queue;
 use std::alloc::Global;
@@ -49,7 +49,7 @@ fn the_first_message_stays(rt: HostRuntime) -> Result<(), Fail> {
     let plain_commands = won_with(alloc, "plain")?;
     let late_commands = won_with(alloc, "late")?;
     let programs = programs_of(alloc, &plain_commands, &late_commands)?;
-    let mut rules = rules_of_turns(alloc, &programs)?;
+    let mut rules = rules_of_sections(alloc, programs.plain.sections(), programs.late.sections())?;
     let mut board = ListBoard::try_empty(alloc, 1, 1, 1, &[])?;
     let mut queue = Queue::new();
     rules.plain.run(&mut board, &mut queue)?;

@@ -1,3 +1,2 @@
 pub mod PlayedGames
 pub mod RowRooms
-pub mod LentPrograms

@@ -51,15 +51,6 @@ meant_of sections table = sections_meaning table sections
 abbrev pub played_by : (List ℕ → Option (List ℕ)) → Game → List CompiledSection → List CompiledSection → Script
 played_by table_for read plain late = script_for table_for (parts_of read) (meant_of plain) (meant_of late)
 
--- if the names and the lines are those of the game of a text, that game, played by these sections, has the runs of the
--- game
--- as it is written
-abbrev pub PlayAsWritten : Names → List RuleLine → List CompiledSection → List CompiledSection → Type 0
-PlayAsWritten names lines plain late =
-    (text : List ℕ) (read : Game) → game text ≡ Some read → names ≡ read.names → lines ≡ read.rules →
-    (table_for : List ℕ → Option (List ℕ)) → GivesRoom table_for →
-    SameRuns (played_by table_for read plain late) (script_of read)
-
 -- the law: a game that is played by programs compiled of its names and rules has the runs of the game as it is written
 abbrev pub CompiledGamesPlayAsWritten : Type 0
 CompiledGamesPlayAsWritten =

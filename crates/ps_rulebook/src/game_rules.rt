@@ -1,15 +1,14 @@
 //! A compiled program as the rules of one part of a turn.
 
-ghost use Rattle.std.specs.Prelude.{◌≡◌, IfOk, vec_len};
-ghost use Rattle.ps_engine.specs.Rooms.{SectionsHaveRooms};
-ghost use Rattle.ps_program.specs.ProgramShown.{sections_shown};
+ghost use Rattle.std.specs.Prelude.{◌≡◌, IfOk};
 
 use crate::queues::{lent, owned};
 use ps_engine::{RoomFor, Scan, rooms_for, run_program};
 use ps_model::Memory;
-use ps_program::{CompiledSection, Program};
+use ps_program::CompiledSection;
 use ps_turn::{Queue, Rules};
 use std::alloc::Global;
+use std::marker::Model;
 
 /// The rules of one part of a turn: the sections of a compiled program, lent, and what their runs need besides the
 /// board. It is made once, so that a run takes no memory but for a message.
@@ -20,15 +19,28 @@ pub struct GameRules<'p, 'r, B: Scan> {
     sections: &'p [CompiledSection<'r>],
     /// Room for the rows of a rule.
     rooms: Vec<RoomFor<B>>,
-    ghost enough: { SectionsHaveRooms (vec_len rooms) sections.now },
+}
+
+impl<'p, 'r, B: Scan> Model for GameRules<'p, 'r, B> {
+    ghost use Rattle.std.specs.Prelude.{List, vec_len};
+    ghost use Rattle.ps_engine.specs.Rooms.{SectionsHaveRooms};
+    ghost use Rattle.ps_program.specs.declared.program.CompiledSection.{CompiledSection};
+
+    ghost Value = { List CompiledSection };
+
+    ghost view = { λ r. r.sections.now };
+
+    ghost invariant = { λ r. SectionsHaveRooms (vec_len r.rooms) r.sections.now };
 }
 
 impl<'p, 'r, B: Scan> GameRules<'p, 'r, B> {
-    /// The rules of a program. `Memory` if there is no room for what their runs need.
-    pub fn try_new(alloc: Global, program: &'p Program<'r>) -> Result<GameRules<'p, 'r, B>, Memory>
-        ensures { IfOk result (λ rules. sections_shown rules.sections.now ≡ program.entry.now) }
+    /// The rules of these sections. `Memory` if there is no room for what their runs need.
+    pub fn try_new(
+        alloc: Global,
+        sections: &'p [CompiledSection<'r>],
+    ) -> Result<GameRules<'p, 'r, B>, Memory>
+        ensures { IfOk result (λ rules. rules ≡ sections.entry.now) }
     {
-        let sections = program.sections();
         let rooms = rooms_for(alloc, sections)?;
         Ok(GameRules {
             alloc,
@@ -41,7 +53,7 @@ impl<'p, 'r, B: Scan> GameRules<'p, 'r, B> {
 impl<'p, 'r, B: Scan> Rules<B> for GameRules<'p, 'r, B> {
     ghost use Rattle.ps_engine.specs.RulesInRoom.{sections_meaning};
 
-    ghost meant = { λ rules table. sections_meaning table rules.sections.now };
+    ghost meant = { λ rules table. sections_meaning table rules };
 
     fn run(&mut self, board: &mut B, queue: &mut Queue) -> Result<(), Memory> {
         let after = {

@@ -3,3 +3,7 @@ pub mod Telling
 pub mod Running
 pub mod Answering
 pub mod Rightly
+pub mod Scripts
+pub mod Keyed
+pub mod Opened
+pub mod Turned

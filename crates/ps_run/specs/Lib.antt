@@ -1,4 +1,6 @@
 pub mod Faults
+pub mod GamesInPlay
 pub mod Played
 pub mod Runs
 pub mod Answering
+pub mod SizedPlays

@@ -2,9 +2,12 @@
 #![tactic(auto)]
 
 mod faults;
+mod game_play;
 mod game_run;
 mod laws;
 mod play;
+mod row_play;
+mod sized_play;
 mod text_run;
 
 pub use faults::RunFault;

@@ -4,24 +4,20 @@ ghost use Rattle.std.specs.Prelude.{◌≡◌, ◌++◌, ◌∷◌, [], IfErr, O
 ghost use Rattle.ps_model.specs.session.KeySteps.{key_step};
 ghost use Rattle.ps_model.specs.game.Outputs.{ending_of, end_of_keys_line};
 ghost use Rattle.ps_model.specs.game.Tellings.{WriterState};
-ghost use Rattle.ps_stage.specs.Standings.{script_for};
+ghost use Rattle.ps_run.specs.GamesInPlay.{script_in};
 ghost use Rattle.ps_run.specs.Runs.{Comes};
 ghost use Rattle.ps_run.specs.Played.{HasTaken, HavePlayed, StopsAs, StopsAtText};
 
 use crate::faults::{PieceFault, RunFault, fault_of_piece};
-use ps_board::{Board, History};
+use crate::game_play::GamePlay;
 use ps_devices::{ByteReader, ByteWriter, write_whole};
 use ps_keys::Keys;
 use ps_model::{CALL_LIMIT, Ending, Key, Memory, READ_LIMIT};
 use ps_screen::OutputText;
-use ps_session::Session;
-use ps_turn::{Rules, TurnRules};
 
-/// A game in play: its session and its rules, what is held of an arrow that has begun, and the text that is made next.
-#[derive(Drop)]
-pub struct Play<'g, B: Board, H: History<B>, R> {
-    pub session: Session<'g, B, H>,
-    pub rules: TurnRules<B, R>,
+/// A game in play, what is held of an arrow that has begun, and the text that is made next.
+pub struct Play<'g> {
+    pub game: GamePlay<'g>,
     pub keys: Keys,
     pub output: OutputText,
 }
@@ -41,32 +37,27 @@ pub fn write_output<W: ByteWriter>(output: &OutputText, writer: &mut W) -> Resul
     }
 }
 
-impl<'g, B: Board, H: History<B>, R: Rules<B> + Drop> Play<'g, B, H, R> {
+impl<'g> Play<'g> {
     /// Plays a key: makes its text whole, and then writes it.
     fn play_key<W: ByteWriter>(&mut self, key: Key, writer: &mut W) -> Result<(), PieceFault>
         requires { (W.state writer.old).has_failed ≡ false }
-        ensures game { self.new.session.game ≡ self.old.session.game }
-        ensures plain { R.meant self.new.rules.plain ≡ R.meant self.old.rules.plain }
-        ensures late { R.meant self.new.rules.late ≡ R.meant self.old.rules.late }
+        ensures script { script_in self.new.game ≡ script_in self.old.game }
         ensures keys { self.new.keys ≡ self.old.keys }
-        ensures session { let script = script_for B.table_for self.old.session.game
-            (R.meant self.old.rules.plain) (R.meant self.old.rules.late) in
-            OnOk result (self.new.session.session ≡ (key_step script self.old.session.session key).session) }
-        ensures written { let script = script_for B.table_for self.old.session.game
-            (R.meant self.old.rules.plain) (R.meant self.old.rules.late) in
-            let text = (key_step script self.old.session.session key).text in
+        ensures session { let script = script_in self.old.game in
+            OnOk result (self.new.game.session ≡ (key_step script self.old.game.session key).session) }
+        ensures written { let script = script_in self.old.game in
+            let text = (key_step script self.old.game.session key).text in
             OnOk result (HasTaken (W.state writer.old) (W.state writer.new) text) }
-        ensures stops { let script = script_for B.table_for self.old.session.game
-            (R.meant self.old.rules.plain) (R.meant self.old.rules.late) in
-            let text = (key_step script self.old.session.session key).text in
+        ensures stops { let script = script_in self.old.game in
+            let text = (key_step script self.old.game.session key).text in
             IfErr result (λ fault. StopsAtText fault (W.state writer.old) (W.state writer.new) text) }
-        ensures unended { result ≡ Err PieceFault.Memory → ending_of self.old.session.session ≡ None }
+        ensures unended { result ≡ Err PieceFault.Memory → ending_of self.old.game.session ≡ None }
         ensures well { result ≢ Err PieceFault.Write → (W.state writer.new).has_failed ≡ false }
         ensures told { result ≡ Err PieceFault.Write → (W.state writer.new).has_failed ≡ true }
     {
         self.output.clear();
-        match self.session.key(&mut self.rules, key, &mut self.output) {
-            Ok(_phase) => write_output(&self.output, writer),
+        match self.game.key(key, &mut self.output) {
+            Ok(()) => write_output(&self.output, writer),
             Err(Memory) => Err(PieceFault::Memory),
         }
     }
@@ -74,19 +65,15 @@ impl<'g, B: Board, H: History<B>, R: Rules<B> + Drop> Play<'g, B, H, R> {
     /// Plays the key of a byte, if it brings one behind what is held.
     fn play_byte<W: ByteWriter>(&mut self, byte: u8, writer: &mut W) -> Result<(), PieceFault>
         requires { (W.state writer.old).has_failed ≡ false }
-        ensures game { self.new.session.game ≡ self.old.session.game }
-        ensures plain { R.meant self.new.rules.plain ≡ R.meant self.old.rules.plain }
-        ensures late { R.meant self.new.rules.late ≡ R.meant self.old.rules.late }
-        ensures played { let script = script_for B.table_for self.old.session.game
-            (R.meant self.old.rules.plain) (R.meant self.old.rules.late) in
+        ensures script { script_in self.new.game ≡ script_in self.old.game }
+        ensures played { let script = script_in self.old.game in
             OnOk result ((before : WriterState) (read : List ℕ)
-            → HavePlayed script before (W.state writer.old) self.old.session.session self.old.keys read
-            → HavePlayed script before (W.state writer.new) self.new.session.session self.new.keys
+            → HavePlayed script before (W.state writer.old) self.old.game.session self.old.keys read
+            → HavePlayed script before (W.state writer.new) self.new.game.session self.new.keys
             (read ++ byte ∷ [])) }
-        ensures stops { let script = script_for B.table_for self.old.session.game
-            (R.meant self.old.rules.plain) (R.meant self.old.rules.late) in
+        ensures stops { let script = script_in self.old.game in
             IfErr result (λ fault. (before : WriterState) (read : List ℕ)
-            → HavePlayed script before (W.state writer.old) self.old.session.session self.old.keys read
+            → HavePlayed script before (W.state writer.old) self.old.game.session self.old.keys read
             → StopsAs fault script before (W.state writer.new) read (byte ∷ [])) }
         ensures well { result ≢ Err PieceFault.Write → (W.state writer.new).has_failed ≡ false }
         ensures told { result ≡ Err PieceFault.Write → (W.state writer.new).has_failed ≡ true }
@@ -109,19 +96,15 @@ impl<'g, B: Board, H: History<B>, R: Rules<B> + Drop> Play<'g, B, H, R> {
         writer: &mut W,
     ) -> Result<(), PieceFault>
         requires { (W.state writer.old).has_failed ≡ false }
-        ensures game { self.new.session.game ≡ self.old.session.game }
-        ensures plain { R.meant self.new.rules.plain ≡ R.meant self.old.rules.plain }
-        ensures late { R.meant self.new.rules.late ≡ R.meant self.old.rules.late }
-        ensures played { let script = script_for B.table_for self.old.session.game
-            (R.meant self.old.rules.plain) (R.meant self.old.rules.late) in
+        ensures script { script_in self.new.game ≡ script_in self.old.game }
+        ensures played { let script = script_in self.old.game in
             OnOk result ((before : WriterState) (read : List ℕ)
-            → HavePlayed script before (W.state writer.old) self.old.session.session self.old.keys read
-            → HavePlayed script before (W.state writer.new) self.new.session.session self.new.keys
+            → HavePlayed script before (W.state writer.old) self.old.game.session self.old.keys read
+            → HavePlayed script before (W.state writer.new) self.new.game.session self.new.keys
             (read ++ piece.now)) }
-        ensures stops { let script = script_for B.table_for self.old.session.game
-            (R.meant self.old.rules.plain) (R.meant self.old.rules.late) in
+        ensures stops { let script = script_in self.old.game in
             IfErr result (λ fault. (before : WriterState) (read : List ℕ)
-            → HavePlayed script before (W.state writer.old) self.old.session.session self.old.keys read
+            → HavePlayed script before (W.state writer.old) self.old.game.session self.old.keys read
             → StopsAs fault script before (W.state writer.new) read piece.now) }
         ensures well { result ≢ Err PieceFault.Write → (W.state writer.new).has_failed ≡ false }
         ensures told { result ≡ Err PieceFault.Write → (W.state writer.new).has_failed ≡ true }
@@ -166,15 +149,14 @@ impl<'g, B: Board, H: History<B>, R: Rules<B> + Drop> Play<'g, B, H, R> {
         ensures heard { result ≢ Err RunFault.Read → (I.state reader.new).has_failed ≡ false }
         ensures well { result ≢ Err RunFault.Write → (W.state writer.new).has_failed ≡ false }
         ensures told { result ≡ Err RunFault.Write → (W.state writer.new).has_failed ≡ true }
-        ensures answers { let script = script_for B.table_for self.old.session.game
-            (R.meant self.old.rules.plain) (R.meant self.old.rules.late) in
+        ensures answers { let script = script_in self.old.game in
             (before : WriterState)
-            → HavePlayed script before (W.state writer.old) self.old.session.session self.old.keys []
+            → HavePlayed script before (W.state writer.old) self.old.game.session self.old.keys []
             → Comes script (I.state reader.old) (I.state reader.new) before (W.state writer.new) result }
     {
         let mut buffer = [0u8; CALL_LIMIT];
         for _call in 0..READ_LIMIT {
-            if let Some(ending) = self.session.ending() {
+            if let Some(ending) = self.game.ending() {
                 return Ok(ending);
             }
             let Ok(count) = reader.read_some(&mut buffer) else {
@@ -191,7 +173,7 @@ impl<'g, B: Board, H: History<B>, R: Rules<B> + Drop> Play<'g, B, H, R> {
                 return Err(fault_of_piece(fault));
             }
         }
-        match self.session.ending() {
+        match self.game.ending() {
             Some(ending) => Ok(ending),
             None => Err(RunFault::Read),
         }

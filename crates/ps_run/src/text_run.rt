@@ -11,12 +11,10 @@ ghost use Rattle.ps_stage.specs.Playable.{ArePlayable, EntriesFit};
 
 use crate::faults::{RunFault, fault_of_refusal};
 use crate::game_run::run_game;
-use ps_board::{ColumnWords, ManyWords, OneWord, WORD_BITS, WORDS_LIMIT};
 use ps_compile::{CompiledPrograms, compile};
 use ps_devices::{ByteReader, ByteWriter};
 use ps_game::{Game, read_game};
 use ps_model::Ending;
-use ps_rulebook::{GameRules, RowBoard, RowHistory, rules_of_turns};
 use ps_stage::SessionGame;
 use std::alloc::Global;
 
@@ -54,33 +52,6 @@ pub fn run<I: ByteReader, W: ByteWriter>(
     run_compiled(alloc, &game, &compiled, reader, writer)
 }
 
-/// Plays a game by its compiled programs, on boards that keep a set of columns by words of this kind.
-fn run_on<'g, V: ColumnWords, I: ByteReader, W: ByteWriter>(
-    alloc: Global,
-    parts: SessionGame<'g>,
-    compiled: &CompiledPrograms<'_>,
-    reader: &mut I,
-    writer: &mut W,
-) -> Result<Ending, RunFault>
-    requires fit { EntriesFit V.limit parts.entries }
-    requires heard { (I.state reader.old).has_failed ≡ false }
-    requires well { (W.state writer.old).has_failed ≡ false }
-    ensures rightly { (text : List ℕ) (read : GameRead) → game_in text ≡ Some read → parts.entry ≡ parts_of read
-        → AreCompiled read.names read.rules compiled.now.plain compiled.now.late
-        → RunsRightly text (I.state reader.old) (I.state reader.new) (W.state writer.old) (W.state writer.new)
-        (answer_of result) }
-    ensures true_of_text { (text : List ℕ) (read : GameRead) → game_in text ≡ Some read → parts.entry ≡ parts_of read
-        → IsTrueOfText text (answer_of result) }
-{
-    let rules = match rules_of_turns(alloc, compiled) {
-        Ok(rules) => rules,
-        Err(_) => return Err(RunFault::Memory),
-    };
-    run_game::<RowBoard<V>, RowHistory<V>, GameRules<'_, '_, RowBoard<V>>, I, W>(
-        alloc, parts, rules, reader, writer,
-    )
-}
-
 /// What a session plays of a game.
 fn parts_of_game(game: &Game) -> SessionGame<'_>
     requires playable { ArePlayable game.now.names game.now.entries }
@@ -97,8 +68,7 @@ fn parts_of_game(game: &Game) -> SessionGame<'_>
     )
 }
 
-/// Plays a game by its compiled programs, on boards whose rows have as many words as the widest and highest of its
-/// levels needs.
+/// Plays a game by its compiled programs.
 fn run_compiled<I: ByteReader, W: ByteWriter>(
     alloc: Global,
     game: &Game,
@@ -116,15 +86,12 @@ fn run_compiled<I: ByteReader, W: ByteWriter>(
         (answer_of result) }
     ensures true_of_text { (text : List ℕ) → game_in text ≡ Some game.now → IsTrueOfText text (answer_of result) }
 {
-    let parts = parts_of_game(game);
-    if parts.fits(WORD_BITS) {
-        return run_on::<OneWord, I, W>(alloc, parts, compiled, reader, writer);
-    }
-    if parts.fits(2 * WORD_BITS) {
-        return run_on::<ManyWords<2>, I, W>(alloc, parts, compiled, reader, writer);
-    }
-    if parts.fits(3 * WORD_BITS) {
-        return run_on::<ManyWords<3>, I, W>(alloc, parts, compiled, reader, writer);
-    }
-    run_on::<ManyWords<WORDS_LIMIT>, I, W>(alloc, parts, compiled, reader, writer)
+    run_game(
+        alloc,
+        parts_of_game(game),
+        compiled.plain.sections(),
+        compiled.late.sections(),
+        reader,
+        writer,
+    )
 }

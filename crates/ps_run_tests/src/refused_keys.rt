@@ -9,9 +9,9 @@ use crate::games::NAMES;
 use crate::playable::playable_game;
 use ps_compile::{CompiledPrograms, compile};
 use ps_game::Game;
-use ps_model::{Ending, Input, Key, Memory};
-use ps_rulebook::{OneWord, RowBoard, RowHistory, WORD_BITS, rules_of_turns};
-use ps_session::{OutputText, Phase, Session, SessionGame};
+use ps_model::{Ending, Input, Key};
+use ps_rulebook::{OneWord, RowBoard, RowHistory, WORD_BITS, rules_of_sections};
+use ps_session::{BoardSides, OutputText, Phase, Session, SessionGame, Stop};
 use ps_turn::{Rules, TurnRules};
 use std::alloc::Global;
 use std::process::Abort;
@@ -59,12 +59,12 @@ fn expect_session_again<'g, R: Rules<RowBoard<OneWord>> + Drop>(
         let (key, _, phase) = steps[number];
         let was = session.phase();
         let mut answer = session.key(rules, key, output);
-        if let Err(Memory) = answer {
+        if let Err(Stop::Memory) = answer {
             assert_eq!(rt; session.phase(), was);
             assert!(rt; are_texts(output.bytes(), opening, before));
             answer = session.key(rules, key, output);
         }
-        if let Err(Memory) = answer {
+        if let Err(Stop::Memory) = answer {
             assert_eq!(rt; session.phase(), was);
             assert!(rt; are_texts(output.bytes(), opening, before));
             assert!(rt; is_refused(rt.alloc()));
@@ -88,19 +88,29 @@ fn expect_programs_again(
 {
     let title = game.title.as_str();
     let parts = SessionGame::new(title, game.options, &game.names, &game.entries, &game.wins);
-    assert!(rt; parts.fits(WORD_BITS));
-    let Ok(mut rules) = rules_of_turns(rt.alloc(), programs) else {
+    assert!(rt; parts.side_at(0) <= WORD_BITS);
+    let sections = (programs.plain.sections(), programs.late.sections());
+    let Ok(mut rules) = rules_of_sections(rt.alloc(), sections.0, sections.1) else {
         return;
     };
     let mut output = OutputText::new(rt.alloc());
-    let started = Session::<RowBoard<OneWord>, RowHistory<OneWord>>::start(
+    if let Err(_) = output.add_line("= ", title) {
+        return;
+    }
+    let sides = BoardSides {
+        above: 0,
+        most: WORD_BITS,
+    };
+    let started = Session::<RowBoard<OneWord>, RowHistory<OneWord>>::start_at(
         rt.alloc(),
         parts,
+        sides,
         &mut rules,
+        0,
         &mut output,
     );
     let Ok(mut session) = started else {
-        assert!(rt; output.bytes().is_empty());
+        assert!(rt; are_texts(output.bytes(), "= T\n", &[]));
         return;
     };
     expect_session_again(rt, &mut session, &mut rules, &mut output, opening, steps);

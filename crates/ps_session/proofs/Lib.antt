@@ -2,4 +2,3 @@ mod Dismissed
 mod Heeded
 mod HistoryBoards
 mod IgnoredSteps
-mod Opened

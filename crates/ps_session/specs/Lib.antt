@@ -1,5 +1,6 @@
 pub mod Histories
 pub mod IgnoredKeys
+pub mod Left
 pub mod Nexts
 pub mod Phases
 pub mod Tables

@@ -1,12 +1,13 @@
 //! Keys in a level.
 
-ghost use Rattle.std.specs.Prelude.{◌≡◌, ℕ, [], true, IfOk, List, None, Ok, Option, Some};
+ghost use Rattle.std.specs.Prelude.{◌≡◌, ℕ, [], true, IfErr, IfOk, List, None, Ok, Option, Some};
 ghost use Rattle.ps_model.specs.board.Grid.{Grid};
 ghost use Rattle.ps_model.specs.board.Programs.{Section};
 ghost use Rattle.ps_model.specs.session.KeySteps.{input_taken, key_in_level, quit, undone};
 ghost use Rattle.ps_model.specs.session.Sessions.{with_board_in_history};
 ghost use Rattle.ps_model.specs.session.StartSteps.{restarted};
 ghost use Rattle.ps_stage.specs.Standings.{play_of, script_of, script_for, Standing};
+ghost use Rattle.ps_stage.specs.StepsShown.{IsStopped};
 ghost use Rattle.ps_stage.specs.declared.locations.Location.{Location as MeantLocation};
 ghost use Rattle.ps_stage.specs.declared.locations.Location.TheVariants.{Playing};
 ghost use Rattle.ps_session.specs.Histories.{AreOnTable, grids_of};
@@ -18,7 +19,7 @@ use crate::ignored::is_ignored_in_level;
 use crate::nexts::{Next, next_of};
 use ps_board::{Board, History};
 use ps_model::{Ending, Input, Key, Memory};
-use ps_stage::{HistoryChange, Location, PlayedLevel, Stage};
+use ps_stage::{HistoryChange, Location, PlayedLevel, Stage, Stop};
 use ps_turn::{Rules, TurnRules};
 
 /// The end that a player asks for.
@@ -41,13 +42,13 @@ pub fn quits<B: Board>(stage: &mut Stage<'_, B>) -> Result<Next<PlayedLevel<B>>,
 ///
 /// # Errors
 ///
-/// `Memory`, and the level is as before.
+/// `Memory` or `Elsewhere`, and the level is as before.
 fn moves<B: Board, R: Rules<B>>(
     stage: &mut Stage<'_, B>,
     rules: &mut TurnRules<B, R>,
     level: &mut PlayedLevel<B>,
     input: Input,
-) -> Result<Next<PlayedLevel<B>>, Memory>
+) -> Result<Next<PlayedLevel<B>>, Stop>
     requires empty { stage.old.text ≡ [] }
     requires table { level.old.table ≡ B.table_for stage.old.game.names.layers }
     ensures game { stage.new.game ≡ stage.old.game }
@@ -58,6 +59,10 @@ fn moves<B: Board, R: Rules<B>>(
         → input_taken (script_for B.table_for stage.old.game (R.meant rules.old.plain) (R.meant rules.old.late))
         (play_of history level.old) input
         ≡ next_step history (Playing level.old) (Some next) stage.new.text) }
+    ensures stopped { IfErr result (λ stop. (history : List Grid)
+        → IsStopped (script_for B.table_for stage.old.game (R.meant rules.old.plain) (R.meant rules.old.late)) stop
+        (input_taken (script_for B.table_for stage.old.game (R.meant rules.old.plain) (R.meant rules.old.late))
+        (play_of history level.old) input) stage.new.text) }
     ensures table { IfOk result (λ next. ComesOnTable (B.table_for stage.old.game.names.layers) next) }
 {
     let change = stage.take_input(rules, level, input)?;
@@ -122,14 +127,15 @@ fn restarts<B: Board, R: Rules<B>>(
 ///
 /// # Errors
 ///
-/// `Memory`, and the level is as before.
+/// `Memory`, or `Elsewhere` where the key ends the level and the next entry is a level for other boards; the level is as
+/// before.
 pub fn key_in_level<B: Board, H: History<B>, R: Rules<B>>(
     stage: &mut Stage<'_, B>,
     rules: &mut TurnRules<B, R>,
     level: &mut PlayedLevel<B>,
     history: &H,
     key: Key,
-) -> Result<Option<Next<PlayedLevel<B>>>, Memory>
+) -> Result<Option<Next<PlayedLevel<B>>>, Stop>
     requires empty { stage.old.text ≡ [] }
     requires table { level.old.table ≡ B.table_for stage.old.game.names.layers }
     requires boards { AreOnTable (B.table_for stage.old.game.names.layers) (H.boards history.now) }
@@ -141,6 +147,10 @@ pub fn key_in_level<B: Board, H: History<B>, R: Rules<B>>(
         key_in_level (script_for B.table_for stage.old.game (R.meant rules.old.plain) (R.meant rules.old.late))
         (play_of (grids_of (H.boards history.now)) level.old) key
         ≡ next_step (grids_of (H.boards history.now)) (Playing level.old) next stage.new.text) }
+    ensures stopped { IfErr result (λ stop.
+        IsStopped (script_for B.table_for stage.old.game (R.meant rules.old.plain) (R.meant rules.old.late)) stop
+        (key_in_level (script_for B.table_for stage.old.game (R.meant rules.old.plain) (R.meant rules.old.late))
+        (play_of (grids_of (H.boards history.now)) level.old) key) stage.new.text) }
     ensures table { IfOk result (λ next. AnswersOnTable (B.table_for stage.old.game.names.layers) next) }
     ensures ignored { is_ignored_in_level stage.old.game.options key ≡ true → result ≡ Ok None }
 {

@@ -2,7 +2,8 @@
 //!
 //! A key makes its text on the side and what comes next whole, makes the board that is left ready to enter the undo
 //! history, adds the text to the output, and only then changes the session, by steps that can't fail. So after want of
-//! memory session and output are as before the key.
+//! memory session and output are as before the key. A key that leads to a level for boards of another kind stops with
+//! `Elsewhere`: another session goes on there.
 #![tactic(auto)]
 
 mod commit;
@@ -20,6 +21,6 @@ pub use phase::Phase;
 pub use ps_board::{Board, History};
 pub use ps_model::{Ending, Key, Memory};
 pub use ps_screen::OutputText;
-pub use ps_stage::SessionGame;
+pub use ps_stage::{BoardSides, SessionGame, Stop};
 pub use ps_turn::{Rules, TurnRules};
 pub use session::Session;

@@ -1,9 +1,10 @@
 //! Keys wherever a player is.
 
-ghost use Rattle.std.specs.Prelude.{◌≡◌, [], true, IfOk, None, Ok};
+ghost use Rattle.std.specs.Prelude.{◌≡◌, [], true, IfErr, IfOk, None, Ok};
 ghost use Rattle.ps_model.specs.session.KeySteps.{key_step};
 ghost use Rattle.ps_stage.specs.Locations.{location_shown, IsOnTable};
 ghost use Rattle.ps_stage.specs.Standings.{script_for};
+ghost use Rattle.ps_stage.specs.StepsShown.{IsStopped};
 ghost use Rattle.ps_session.specs.Histories.{AreOnTable, grids_of};
 ghost use Rattle.ps_session.specs.IgnoredKeys.{is_ignored};
 ghost use Rattle.ps_session.specs.Nexts.{next_step};
@@ -13,22 +14,22 @@ use crate::levels::key_in_level;
 use crate::messages::{key_at_entry, key_at_level_message};
 use crate::nexts::Next;
 use ps_board::{Board, History};
-use ps_model::{Key, Memory};
-use ps_stage::{Location, PlayedLevel, Stage};
+use ps_model::Key;
+use ps_stage::{Location, PlayedLevel, Stage, Stop};
 use ps_turn::{Rules, TurnRules};
 
 /// What a key does; nothing, where it is ignored. The location stays as it is.
 ///
 /// # Errors
 ///
-/// `Memory`, and the location is as before.
+/// `Memory`, or `Elsewhere` where the key leads to a level for other boards; the location is as before.
 pub fn next_at<B: Board, H: History<B>, R: Rules<B>>(
     stage: &mut Stage<'_, B>,
     rules: &mut TurnRules<B, R>,
     location: &mut Location<PlayedLevel<B>>,
     history: &H,
     key: Key,
-) -> Result<Option<Next<PlayedLevel<B>>>, Memory>
+) -> Result<Option<Next<PlayedLevel<B>>>, Stop>
     requires empty { stage.old.text ≡ [] }
     requires table { IsOnTable (B.table_for stage.old.game.names.layers) location.old }
     requires boards { AreOnTable (B.table_for stage.old.game.names.layers) (H.boards history.now) }
@@ -40,6 +41,10 @@ pub fn next_at<B: Board, H: History<B>, R: Rules<B>>(
         key_step (script_for B.table_for stage.old.game (R.meant rules.old.plain) (R.meant rules.old.late))
         (location_shown (grids_of (H.boards history.now)) location.old) key
         ≡ next_step (grids_of (H.boards history.now)) location.old next stage.new.text) }
+    ensures stopped { IfErr result (λ stop.
+        IsStopped (script_for B.table_for stage.old.game (R.meant rules.old.plain) (R.meant rules.old.late)) stop
+        (key_step (script_for B.table_for stage.old.game (R.meant rules.old.plain) (R.meant rules.old.late))
+        (location_shown (grids_of (H.boards history.now)) location.old) key) stage.new.text) }
     ensures table { IfOk result (λ next. AnswersOnTable (B.table_for stage.old.game.names.layers) next) }
     ensures ignored { let here = location_shown (grids_of (H.boards history.now)) location.old in
         is_ignored stage.old.game.options here key ≡ true → result ≡ Ok None }

@@ -1,10 +1,10 @@
 //! Keys at a message.
 
-ghost use Rattle.std.specs.Prelude.{◌≡◌, [], true, IfOk, List, None, Ok};
+ghost use Rattle.std.specs.Prelude.{◌≡◌, [], true, IfErr, IfOk, List, None, Ok};
 ghost use Rattle.ps_model.specs.board.Grid.{Grid};
 ghost use Rattle.ps_model.specs.session.KeySteps.{key_at_entry, key_at_level_message};
 ghost use Rattle.ps_stage.specs.Standings.{play_of, script_for};
-ghost use Rattle.ps_stage.specs.StepsShown.{pending_shown};
+ghost use Rattle.ps_stage.specs.StepsShown.{IsStopped, pending_shown};
 ghost use Rattle.ps_stage.specs.declared.locations.Location.TheVariants.{AtMessage, Waiting};
 ghost use Rattle.ps_session.specs.IgnoredKeys.{is_ignored_at_message};
 ghost use Rattle.ps_session.specs.Nexts.{next_step};
@@ -14,22 +14,22 @@ use crate::ignored::is_ignored_at_message;
 use crate::levels::quits;
 use crate::nexts::{Next, next_of};
 use ps_board::Board;
-use ps_model::{Key, Memory};
-use ps_stage::{EntryNumber, HistoryChange, Pending, PlayedLevel, Stage};
+use ps_model::Key;
+use ps_stage::{EntryNumber, HistoryChange, Pending, PlayedLevel, Stage, Stop};
 use ps_turn::{Rules, TurnRules};
 
 /// What a key does in a level whose message waits; nothing, where it is ignored.
 ///
 /// # Errors
 ///
-/// `Memory`.
+/// `Memory`, or `Elsewhere` where the level is done and the next entry is a level for other boards.
 pub fn key_at_level_message<B: Board, R: Rules<B>>(
     stage: &mut Stage<'_, B>,
     rules: &mut TurnRules<B, R>,
     level: &PlayedLevel<B>,
     pending: Pending,
     key: Key,
-) -> Result<Option<Next<PlayedLevel<B>>>, Memory>
+) -> Result<Option<Next<PlayedLevel<B>>>, Stop>
     requires empty { stage.old.text ≡ [] }
     requires table { level.now.table ≡ B.table_for stage.old.game.names.layers }
     ensures game { stage.new.game ≡ stage.old.game }
@@ -40,6 +40,10 @@ pub fn key_at_level_message<B: Board, R: Rules<B>>(
         (script_for B.table_for stage.old.game (R.meant rules.old.plain) (R.meant rules.old.late))
         (play_of history level.now) (pending_shown pending) key
         ≡ next_step history (Waiting level.now pending) next stage.new.text) }
+    ensures stopped { IfErr result (λ stop. (history : List Grid)
+        → IsStopped (script_for B.table_for stage.old.game (R.meant rules.old.plain) (R.meant rules.old.late)) stop
+        (key_at_level_message (script_for B.table_for stage.old.game (R.meant rules.old.plain) (R.meant rules.old.late))
+        (play_of history level.now) (pending_shown pending) key) stage.new.text) }
     ensures table { IfOk result (λ next. AnswersOnTable (B.table_for stage.old.game.names.layers) next) }
     ensures ignored { is_ignored_at_message key ≡ true → result ≡ Ok None }
 {
@@ -58,13 +62,13 @@ pub fn key_at_level_message<B: Board, R: Rules<B>>(
 ///
 /// # Errors
 ///
-/// `Memory`.
+/// `Memory`, or `Elsewhere` where the next entry is a level for other boards.
 pub fn key_at_entry<B: Board, R: Rules<B>>(
     stage: &mut Stage<'_, B>,
     rules: &mut TurnRules<B, R>,
     entry: &EntryNumber,
     key: Key,
-) -> Result<Option<Next<PlayedLevel<B>>>, Memory>
+) -> Result<Option<Next<PlayedLevel<B>>>, Stop>
     requires empty { stage.old.text ≡ [] }
     ensures game { stage.new.game ≡ stage.old.game }
     ensures plain { R.meant rules.new.plain ≡ R.meant rules.old.plain }
@@ -73,6 +77,10 @@ pub fn key_at_entry<B: Board, R: Rules<B>>(
         → key_at_entry (script_for B.table_for stage.old.game (R.meant rules.old.plain) (R.meant rules.old.late))
         entry.now key
         ≡ next_step history (AtMessage entry.now) next stage.new.text) }
+    ensures stopped { IfErr result (λ stop.
+        IsStopped (script_for B.table_for stage.old.game (R.meant rules.old.plain) (R.meant rules.old.late)) stop
+        (key_at_entry (script_for B.table_for stage.old.game (R.meant rules.old.plain) (R.meant rules.old.late))
+        entry.now key) stage.new.text) }
     ensures table { IfOk result (λ next. AnswersOnTable (B.table_for stage.old.game.names.layers) next) }
     ensures ignored { is_ignored_at_message key ≡ true → result ≡ Ok None }
 {

@@ -1,11 +1,13 @@
 //! A session.
 
-ghost use Rattle.std.specs.Prelude.{◌≡◌, ◌++◌, true, IfOk, IsOk, OnErr, OnOk};
-ghost use Rattle.ps_model.specs.game.Outputs.{ending_of, opening_step};
+ghost use Rattle.std.specs.Prelude.{◌≡◌, ◌++◌, ◌≤◌, true, IfErr, IfOk, IsOk, OnErr, OnOk};
+ghost use Rattle.ps_model.specs.game.Outputs.{ending_of};
 ghost use Rattle.ps_model.specs.session.KeySteps.{key_step};
-ghost use Rattle.ps_stage.specs.Playable.{EntriesFit};
+ghost use Rattle.ps_model.specs.session.StartSteps.{enter};
+ghost use Rattle.ps_stage.specs.Sides.{side_at};
 ghost use Rattle.ps_stage.specs.Standings.{script_for};
 ghost use Rattle.ps_session.specs.IgnoredKeys.{is_ignored};
+ghost use Rattle.ps_session.specs.Left.{IsLeft};
 ghost use Rattle.ps_session.specs.Phases.{phase_of};
 
 use crate::commit::{commit, give_up};
@@ -15,7 +17,7 @@ use crate::ready::prepare;
 use ps_board::{Board, History};
 use ps_model::{Ending, Key, Memory};
 use ps_screen::OutputText;
-use ps_stage::{Location, PlayedLevel, SessionGame, Stage};
+use ps_stage::{BoardSides, Location, PlayedLevel, SessionGame, Stage, Stop};
 use ps_turn::{Rules, TurnRules};
 use std::alloc::Global;
 use std::marker::Model;
@@ -46,34 +48,34 @@ impl<'g, B: Board, H: History<B>> Model for Session<'g, B, H> {
 }
 
 impl<'g, B: Board, H: History<B>> Session<'g, B, H> {
-    /// Starts a game on boards that have room for its levels: adds its title to the output, and what its first entry
-    /// writes.
+    /// Starts a game at an entry, on boards for levels with such sides, which have room for that entry: adds to the output
+    /// what the entry writes.
     ///
     /// # Errors
     ///
     /// `Memory`, and the output is as before.
-    pub fn start<R: Rules<B>>(
+    pub fn start_at<R: Rules<B>>(
         alloc: Global,
         game: SessionGame<'g>,
+        sides: BoardSides,
         rules: &mut TurnRules<B, R>,
+        entry: usize,
         output: &mut OutputText,
     ) -> Result<Session<'g, B, H>, Memory>
-        requires { EntriesFit B.Words.limit game.entries }
+        requires sides { sides.most ≤ B.Words.limit }
+        requires room { side_at game.entries entry ≤ B.Words.limit }
         ensures game { IfOk result (λ session. session.game ≡ game.entry) }
         ensures session { IfOk result (λ session. session.session
-            ≡ (opening_step (script_for B.table_for game.entry (R.meant rules.old.plain)
-            (R.meant rules.old.late))).session) }
+            ≡ (enter (script_for B.table_for game.entry (R.meant rules.old.plain) (R.meant rules.old.late)) entry).session) }
         ensures written { OnOk result (output.new ≡ output.old
-            ++ (opening_step (script_for B.table_for game.entry (R.meant rules.old.plain)
-            (R.meant rules.old.late))).text) }
+            ++ (enter (script_for B.table_for game.entry (R.meant rules.old.plain) (R.meant rules.old.late)) entry).text) }
         ensures kept { OnErr result (output.new ≡ output.old) }
         ensures plain { R.meant rules.new.plain ≡ R.meant rules.old.plain }
         ensures late { R.meant rules.new.late ≡ R.meant rules.old.late }
     {
         let history = H::try_new(alloc)?;
-        let mut stage = Stage::new(alloc, game);
-        stage.tell_title()?;
-        let location = stage.enter(rules, 0)?;
+        let mut stage = Stage::new(alloc, game, sides);
+        let location = stage.begin(rules, entry)?;
         stage.move_text(output)?;
         Ok(Session {
             stage,
@@ -87,13 +89,15 @@ impl<'g, B: Board, H: History<B>> Session<'g, B, H> {
     ///
     /// # Errors
     ///
-    /// `Memory`: the session and the output are as before, and the same key may be tried again.
+    /// `Memory`: the session and the output are as before, and the same key may be tried again. `Elsewhere`: the key leads
+    /// to an entry that is a level for other boards. The session is as before, and the output has what the key writes
+    /// before that entry begins.
     pub fn key<R: Rules<B>>(
         &mut self,
         rules: &mut TurnRules<B, R>,
         key: Key,
         output: &mut OutputText,
-    ) -> Result<Phase, Memory>
+    ) -> Result<Phase, Stop>
         ensures game { self.new.game ≡ self.old.game }
         ensures phase { IfOk result (λ phase. phase ≡ phase_of self.new.session) }
         ensures session { OnOk result (self.new.session
@@ -103,21 +107,29 @@ impl<'g, B: Board, H: History<B>> Session<'g, B, H> {
             ++ (key_step (script_for B.table_for self.old.game (R.meant rules.old.plain) (R.meant rules.old.late))
             self.old.session key).text) }
         ensures same { OnErr result (self.new ≡ self.old) }
-        ensures kept { OnErr result (output.new ≡ output.old) }
+        ensures left { IfErr result (λ stop. IsLeft (script_for B.table_for self.old.game (R.meant rules.old.plain) (R.meant rules.old.late)) stop
+            (key_step (script_for B.table_for self.old.game (R.meant rules.old.plain) (R.meant rules.old.late))
+            self.old.session key) output.old output.new) }
         ensures ignored { is_ignored self.old.game.options self.old.session key ≡ true → IsOk result }
         ensures plain { R.meant rules.new.plain ≡ R.meant rules.old.plain }
         ensures late { R.meant rules.new.late ≡ R.meant rules.old.late }
     {
         self.stage.forget_text();
-        let next = next_at(
+        let found = next_at(
             &mut self.stage,
             rules,
             &mut self.location,
             &self.history,
             key,
-        )?;
-        let Some(next) = next else {
-            return Ok(self.phase());
+        );
+        let next = match found {
+            Ok(Some(next)) => next,
+            Ok(None) => return Ok(self.phase()),
+            Err(Stop::Memory) => return Err(Stop::Memory),
+            Err(Stop::Elsewhere(entry)) => {
+                self.stage.move_text(output)?;
+                return Err(Stop::Elsewhere(entry));
+            }
         };
         let done = prepare(
             &mut self.stage,
@@ -128,7 +140,7 @@ impl<'g, B: Board, H: History<B>> Session<'g, B, H> {
         );
         if let Err(Memory) = done {
             give_up(&mut self.stage, next);
-            return Err(Memory);
+            return Err(Stop::Memory);
         }
         commit(&mut self.stage, &mut self.location, &mut self.history, next);
         Ok(self.phase())

@@ -1,7 +1,7 @@
 mod AgainTurns
-mod EntriesFound
+pub mod EntriesFound
 mod KeyChanges
 mod OwnRooms
 mod PartLoaded
-mod Scripts
+pub mod Scripts
 mod ShownLevels

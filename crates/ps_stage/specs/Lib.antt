@@ -1,5 +1,6 @@
 pub mod KeysShown
 pub mod Locations
 pub mod Playable
+pub mod Sides
 pub mod Standings
 pub mod StepsShown

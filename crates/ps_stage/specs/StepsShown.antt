@@ -1,16 +1,18 @@
 -- What steps of the code tell, as steps of the definitions.
-use Rattle.std.specs.Prelude.{ℕ, Bool, true, false, ◌||◌, Option, Some, None, List}
+use Rattle.std.specs.Prelude.{◌≡◌, ℕ, ⊤, Bool, true, false, ◌||◌, Option, Some, None, List}
 use Rattle.ps_model.specs.board.Grid.{Grid}
 use Rattle.ps_model.specs.session.Sessions as model
 use Rattle.ps_model.specs.board.Turns.{Script}
 use Rattle.ps_model.specs.session.Sessions.{Play, Step, after, quietly, seen, shown}
-use Rattle.ps_model.specs.session.StartSteps.{start_told}
+use Rattle.ps_model.specs.session.StartSteps.{enter, start_told}
 use Rattle.ps_turn.specs.declared.outcomes.Turned.{Turned}
 use Rattle.ps_turn.specs.declared.outcomes.Turned.TheVariants.{Blocked, Restarted, Done}
 use Rattle.ps_turn.specs.declared.outcomes.DoneTurn.{DoneTurn}
 use Rattle.ps_stage.specs.declared.levels.Counting.{Counting}
 use Rattle.ps_stage.specs.declared.levels.Counting.TheVariants.{Always, IfChanged, IfChangedOrWon}
 use Rattle.ps_stage.specs.Standings.{Standing, with_done}
+use Rattle.ps_stage.specs.declared.stops.Stop.{Stop}
+use Rattle.ps_stage.specs.declared.stops.Stop.TheVariants.{Memory, Elsewhere}
 use Rattle.ps_stage.specs.declared.locations.Pending.{Pending}
 use Rattle.ps_stage.specs.declared.locations.Pending.TheVariants.{Nothing, LevelDone, KeyAgain, StartAgain}
 use Rattle.ps_stage.specs.declared.locations.StartTold.{StartTold}
@@ -56,3 +58,8 @@ start_shown script play done left again_turns = elim done.changed [
   | false ↦ quietly (model.Playing play)
   | true ↦ let next : Play = seen script play in after (shown script next) (start_told next done.message done.again left again_turns)
 ]
+
+-- a step that stopped with a text: where memory was wanting nothing is said; else what is left of it is that an entry begins
+abbrev pub IsStopped : Script → Stop → Step → List ℕ → Type 0
+IsStopped script Memory step text = ⊤
+IsStopped script (Elsewhere entry) step text = step ≡ after text (enter script entry)

@@ -1,6 +1,6 @@
 //! What comes of a key in a level: a turn with an input, and going on behind a message.
 
-ghost use Rattle.std.specs.Prelude.{◌≡◌, IfOk, List};
+ghost use Rattle.std.specs.Prelude.{◌≡◌, IfErr, IfOk, List};
 ghost use Rattle.ps_model.specs.board.Grid.{Grid};
 ghost use Rattle.ps_model.specs.declared.limits.TheConstants.{AGAIN_LIMIT};
 ghost use Rattle.ps_model.specs.session.Rooms.{frame_in};
@@ -10,13 +10,14 @@ ghost use Rattle.ps_turn.specs.States.{done_shown};
 ghost use Rattle.ps_stage.specs.KeysShown.{key_end_step, key_shown};
 ghost use Rattle.ps_stage.specs.Locations.{change_shown, history_behind, history_change_if, GoesOnTable};
 ghost use Rattle.ps_stage.specs.Standings.{Standing, script_for, play_of};
-ghost use Rattle.ps_stage.specs.StepsShown.{came, stands, pending_shown};
+ghost use Rattle.ps_stage.specs.StepsShown.{IsStopped, came, stands, pending_shown};
 
 use crate::entering::located;
 use crate::levels::{PlayedLevel, Tried};
 use crate::locations::{Change, HistoryChange, KeyEnd, KeyTold, Pending};
 use crate::stage::Stage;
 use crate::starts::again_limit;
+use crate::stops::Stop;
 use ps_board::Board;
 use ps_model::{Input, Memory};
 use ps_text::Text;
@@ -62,7 +63,7 @@ impl<'g, B: Board> Stage<'g, B> {
         level: PlayedLevel<B>,
         end: KeyEnd,
         history_change: HistoryChange,
-    ) -> Result<Change<PlayedLevel<B>>, Memory>
+    ) -> Result<Change<PlayedLevel<B>>, Stop>
         requires { level.table ≡ B.table_for self.old.game.names.layers }
         ensures game { self.new.game ≡ self.old.game }
         ensures plain { R.meant rules.new.plain ≡ R.meant rules.old.plain }
@@ -72,13 +73,20 @@ impl<'g, B: Board> Stage<'g, B> {
             → key_end_step (script_for B.table_for self.old.game (R.meant rules.old.plain) (R.meant rules.old.late))
             end (play_of (history_behind history_change history first.board) level) self.old.text
             ≡ came (change_shown history first change) self.new.text) }
+        ensures stopped { IfErr result (λ stop. (history : List Grid) (first : Standing)
+            → IsStopped (script_for B.table_for self.old.game (R.meant rules.old.plain) (R.meant rules.old.late)) stop
+            (key_end_step (script_for B.table_for self.old.game (R.meant rules.old.plain) (R.meant rules.old.late)) end
+            (play_of (history_behind history_change history first.board) level) self.old.text) self.new.text) }
     {
         match end {
             KeyEnd::Stops(pending) => Ok(Change::Goes(located(level, pending), history_change)),
             KeyEnd::Won => {
                 let location = self.level_done(rules, &level);
                 self.keep_level(level);
-                Ok(Change::Goes(location?, HistoryChange::Clears))
+                match location {
+                    Ok(location) => Ok(Change::Goes(location, HistoryChange::Clears)),
+                    Err(stop) => Err(stop),
+                }
             }
             KeyEnd::Restarts(message) => {
                 let location = self.restart(rules, &level, message);
@@ -126,7 +134,7 @@ impl<'g, B: Board> Stage<'g, B> {
         rules: &mut TurnRules<B, R>,
         mut level: PlayedLevel<B>,
         done: &DoneTurn,
-    ) -> Result<Change<PlayedLevel<B>>, Memory>
+    ) -> Result<Change<PlayedLevel<B>>, Stop>
         requires { level.table ≡ B.table_for self.old.game.names.layers }
         ensures game { self.new.game ≡ self.old.game }
         ensures plain { R.meant rules.new.plain ≡ R.meant rules.old.plain }
@@ -139,13 +147,21 @@ impl<'g, B: Board> Stage<'g, B> {
             (done_shown done.now level.board) AGAIN_LIMIT
             (all_key_turns (script_for B.table_for self.old.game (R.meant rules.old.plain) (R.meant rules.old.late))))
             ≡ came (change_shown history first change) self.new.text) }
+        ensures stopped { IfErr result (λ stop. (history : List Grid) (first : Standing)
+            → IsStopped (script_for B.table_for self.old.game (R.meant rules.old.plain) (R.meant rules.old.late)) stop
+            (after self.old.text (key_shown (script_for B.table_for self.old.game (R.meant rules.old.plain) (R.meant rules.old.late))
+            (play_of (history_behind (history_change_if done.now.changed) history first.board) level)
+            (done_shown done.now level.board) AGAIN_LIMIT (all_key_turns (script_for B.table_for self.old.game (R.meant rules.old.plain) (R.meant rules.old.late))))) self.new.text) }
     {
         let history_change = history_change_if(done.changed);
         match self.end_key(rules, &mut level, done) {
-            Ok(end) => self.finish_key(rules, level, end, history_change),
+            Ok(end) => {
+                let change = self.finish_key(rules, level, end, history_change)?;
+                Ok(change)
+            }
             Err(Memory) => {
                 self.keep_level(level);
-                Err(Memory)
+                Err(Stop::Memory)
             }
         }
     }
@@ -155,13 +171,14 @@ impl<'g, B: Board> Stage<'g, B> {
     ///
     /// # Errors
     ///
-    /// `Memory`, and a part of the text may have been made.
+    /// `Memory`, and a part of the text may have been made; `Elsewhere` where the level is done and the next entry is a
+    /// level for other boards, and what comes before it was made.
     pub fn take_input<R: Rules<B>>(
         &mut self,
         rules: &mut TurnRules<B, R>,
         level: &mut PlayedLevel<B>,
         input: Input,
-    ) -> Result<Change<PlayedLevel<B>>, Memory>
+    ) -> Result<Change<PlayedLevel<B>>, Stop>
         requires { level.old.table ≡ B.table_for self.old.game.names.layers }
         ensures level { level.new ≡ level.old }
         ensures game { self.new.game ≡ self.old.game }
@@ -172,6 +189,10 @@ impl<'g, B: Board> Stage<'g, B> {
             (input_taken (script_for B.table_for self.old.game (R.meant rules.old.plain) (R.meant rules.old.late))
             (play_of history level.old) input)
             ≡ came (change_shown history level.old change) self.new.text) }
+        ensures stopped { IfErr result (λ stop. (history : List Grid)
+            → IsStopped (script_for B.table_for self.old.game (R.meant rules.old.plain) (R.meant rules.old.late)) stop
+            (after self.old.text (input_taken (script_for B.table_for self.old.game (R.meant rules.old.plain) (R.meant rules.old.late))
+            (play_of history level.old) input)) self.new.text) }
     {
         match level.try_turn(self.alloc, &mut self.spares, &self.game, rules, input)? {
             Tried::Blocked(message) => {
@@ -183,8 +204,10 @@ impl<'g, B: Board> Stage<'g, B> {
                 Ok(Change::Goes(location, HistoryChange::Adds))
             }
             Tried::Done(next, done) => {
-                let change = self.follow_key(rules, next, &done)?;
-                Ok(change)
+                match self.follow_key(rules, next, &done) {
+                    Ok(change) => Ok(change),
+                    Err(stop) => Err(stop),
+                }
             }
         }
     }
@@ -194,13 +217,14 @@ impl<'g, B: Board> Stage<'g, B> {
     ///
     /// # Errors
     ///
-    /// `Memory`, and a part of the text may have been made.
+    /// `Memory`, and a part of the text may have been made; `Elsewhere` where the level is done and the next entry is a
+    /// level for other boards, and what comes before it was made.
     pub fn go_on<R: Rules<B>>(
         &mut self,
         rules: &mut TurnRules<B, R>,
         level: &PlayedLevel<B>,
         pending: Pending,
-    ) -> Result<Change<PlayedLevel<B>>, Memory>
+    ) -> Result<Change<PlayedLevel<B>>, Stop>
         requires { level.now.table ≡ B.table_for self.old.game.names.layers }
         ensures game { self.new.game ≡ self.old.game }
         ensures plain { R.meant rules.new.plain ≡ R.meant rules.old.plain }
@@ -210,17 +234,26 @@ impl<'g, B: Board> Stage<'g, B> {
             (gone_on (script_for B.table_for self.old.game (R.meant rules.old.plain) (R.meant rules.old.late))
             (play_of history level.now) (pending_shown pending))
             ≡ came (change_shown history level.now change) self.new.text) }
+        ensures stopped { IfErr result (λ stop. (history : List Grid)
+            → IsStopped (script_for B.table_for self.old.game (R.meant rules.old.plain) (R.meant rules.old.late)) stop
+            (after self.old.text (gone_on (script_for B.table_for self.old.game (R.meant rules.old.plain) (R.meant rules.old.late))
+            (play_of history level.now) (pending_shown pending))) self.new.text) }
     {
         match pending {
             Pending::Nothing => Ok(Change::Stays(None)),
             Pending::LevelDone => {
-                let location = self.level_done(rules, level)?;
-                Ok(Change::Goes(location, HistoryChange::Clears))
+                match self.level_done(rules, level) {
+                    Ok(location) => Ok(Change::Goes(location, HistoryChange::Clears)),
+                    Err(stop) => Err(stop),
+                }
             }
             Pending::KeyAgain(left) => {
                 let mut next = level.try_copy(self.alloc, &mut self.spares)?;
                 let end = self.key_turns(rules, &mut next, left)?;
-                self.finish_key(rules, next, end, HistoryChange::Keeps)
+                match self.finish_key(rules, next, end, HistoryChange::Keeps) {
+                    Ok(change) => Ok(change),
+                    Err(stop) => Err(stop),
+                }
             }
             Pending::StartAgain(left) => {
                 let mut next = level.try_copy(self.alloc, &mut self.spares)?;

@@ -1,6 +1,6 @@
 //! Entries as they begin, levels that are done, and restarts.
 
-ghost use Rattle.std.specs.Prelude.{◌≡◌, ◌<◌, ◌≤◌, IfOk, [], suc, take, filter, length, ℕ, Option, Some, List, ◌∷◌};
+ghost use Rattle.std.specs.Prelude.{◌≡◌, ◌<◌, ◌≤◌, IfErr, IfOk, [], suc, take, filter, length, ℕ, Option, Some, List, ◌∷◌};
 ghost use Rattle.ps_model.specs.board.Grid.{Grid};
 ghost use Rattle.ps_model.specs.session.LevelLines.{LevelEntry};
 ghost use Rattle.ps_model.specs.session.Sessions.{after, is_level, level_number};
@@ -8,13 +8,16 @@ ghost use Rattle.ps_model.specs.session.StartSteps.{entered, enter, level_done, 
 ghost use Rattle.ps_levels.specs.EntriesShown.{entry_shown, entries_shown};
 ghost use Rattle.ps_stage.specs.Playable.{IsPlayable, LevelFits};
 ghost use Rattle.ps_stage.specs.Standings.{script_of, script_for, play_of};
-ghost use Rattle.ps_stage.specs.StepsShown.{came, stands};
+ghost use Rattle.ps_stage.specs.Sides.{side_at};
+ghost use Rattle.ps_stage.specs.StepsShown.{IsStopped, came, stands};
 ghost use Rattle.ps_stage.specs.Locations.{location_shown, IsOnTable};
 
 use crate::entries::EntryNumber;
 use crate::levels::PlayedLevel;
 use crate::locations::{Location, Pending};
+use crate::sides::side_at;
 use crate::stage::Stage;
+use crate::stops::Stop;
 use ps_board::Board;
 use ps_levels::{Entry, Level};
 use ps_model::{Ending, Memory};
@@ -101,16 +104,18 @@ impl<'g, B: Board> Stage<'g, B> {
         Ok(located(played, pending))
     }
 
-    /// An entry begins: a message waits, a level starts; behind the last entry is the end.
+    /// An entry begins for which its boards have room: a message waits, a level starts; behind the last entry is the
+    /// end.
     ///
     /// # Errors
     ///
     /// `Memory`, and a part of the text may have been made.
-    pub fn enter<R: Rules<B>>(
+    pub fn begin<R: Rules<B>>(
         &mut self,
         rules: &mut TurnRules<B, R>,
         entry: usize,
     ) -> Result<Location<PlayedLevel<B>>, Memory>
+        requires { side_at self.old.game.entries entry ≤ B.Words.limit }
         ensures game { self.new.game ≡ self.old.game }
         ensures plain { R.meant rules.new.plain ≡ R.meant rules.old.plain }
         ensures late { R.meant rules.new.late ≡ R.meant rules.old.late }
@@ -138,16 +143,46 @@ impl<'g, B: Board> Stage<'g, B> {
         }
     }
 
+    /// An entry begins, unless it is a level for other boards.
+    ///
+    /// # Errors
+    ///
+    /// `Memory`, and a part of the text may have been made; `Elsewhere`, and nothing was made.
+    pub fn enter<R: Rules<B>>(
+        &mut self,
+        rules: &mut TurnRules<B, R>,
+        entry: usize,
+    ) -> Result<Location<PlayedLevel<B>>, Stop>
+        ensures game { self.new.game ≡ self.old.game }
+        ensures plain { R.meant rules.new.plain ≡ R.meant rules.old.plain }
+        ensures late { R.meant rules.new.late ≡ R.meant rules.old.late }
+        ensures table { IfOk result (λ location. IsOnTable (B.table_for self.old.game.names.layers) location) }
+        ensures came { IfOk result (λ location. after self.old.text
+            (enter (script_for B.table_for self.old.game (R.meant rules.old.plain) (R.meant rules.old.late)) entry)
+            ≡ came (location_shown [] location) self.new.text) }
+        ensures stopped { IfErr result (λ stop.
+            IsStopped (script_for B.table_for self.old.game (R.meant rules.old.plain) (R.meant rules.old.late)) stop
+            (after self.old.text
+            (enter (script_for B.table_for self.old.game (R.meant rules.old.plain) (R.meant rules.old.late)) entry))
+            self.new.text) }
+    {
+        if !self.sides.has(side_at(self.entries(), entry)) {
+            return Err(Stop::Elsewhere(entry));
+        }
+        let location = self.begin(rules, entry)?;
+        Ok(location)
+    }
+
     /// A level is done: its closing line, and the next entry begins.
     ///
     /// # Errors
     ///
-    /// `Memory`, and a part of the text may have been made.
+    /// `Memory`, and a part of the text may have been made; `Elsewhere`, and the closing line was.
     pub fn level_done<R: Rules<B>>(
         &mut self,
         rules: &mut TurnRules<B, R>,
         level: &PlayedLevel<B>,
-    ) -> Result<Location<PlayedLevel<B>>, Memory>
+    ) -> Result<Location<PlayedLevel<B>>, Stop>
         ensures game { self.new.game ≡ self.old.game }
         ensures plain { R.meant rules.new.plain ≡ R.meant rules.old.plain }
         ensures late { R.meant rules.new.late ≡ R.meant rules.old.late }
@@ -156,6 +191,11 @@ impl<'g, B: Board> Stage<'g, B> {
             (level_done (script_for B.table_for self.old.game (R.meant rules.old.plain) (R.meant rules.old.late))
             (play_of history level.now))
             ≡ came (location_shown [] location) self.new.text) }
+        ensures stopped { IfErr result (λ stop. (history : List Grid)
+            → IsStopped (script_for B.table_for self.old.game (R.meant rules.old.plain) (R.meant rules.old.late)) stop
+            (after self.old.text
+            (level_done (script_for B.table_for self.old.game (R.meant rules.old.plain) (R.meant rules.old.late))
+            (play_of history level.now))) self.new.text) }
     {
         let entry = level.entry();
         let number = level_number(self.entries(), &entry);

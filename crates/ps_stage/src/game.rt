@@ -1,15 +1,16 @@
 //! A game as a session plays it.
 
-ghost use Rattle.std.specs.Prelude.{◌≡◌, true};
+ghost use Rattle.std.specs.Prelude.{◌≡◌};
 ghost use Rattle.ps_levels.specs.EntriesShown.{entries_shown};
 ghost use Rattle.ps_levels.specs.WinsShown.{wins_shown};
 ghost use Rattle.ps_model.specs.declared.limits.TheConstants.{SIDE_LIMIT};
 ghost use Rattle.ps_model.specs.session.RoomSizes.{HasRoomSize};
 ghost use Rattle.ps_model.specs.session.Rooms.{room_after};
 ghost use Rattle.ps_stage.specs.Playable.{ArePlayable, EntriesFit};
+ghost use Rattle.ps_stage.specs.Sides.{side_at};
 ghost use Rattle.ps_stage.specs.Standings.{turn_parts};
 
-use crate::fits::entries_fit;
+use crate::sides::side_at;
 use ps_board::Board;
 use ps_levels::{Entry, Win};
 use ps_model::{Options, Room};
@@ -99,11 +100,24 @@ impl<'g> SessionGame<'g> {
         self.names
     }
 
-    /// Whether the sides of each of its levels are no longer than that.
-    pub fn fits(&self, side: u32) -> bool
-        ensures { result ≡ true → EntriesFit side self.now.entries }
+    /// The same game.
+    pub fn copied(&self) -> SessionGame<'g>
+        ensures { result ≡ self.now }
     {
-        entries_fit(self.entries, side)
+        SessionGame {
+            title: self.title,
+            options: self.options,
+            names: self.names,
+            entries: self.entries,
+            turns: self.turns.copied(),
+        }
+    }
+
+    /// The longer side of the level at a place among the entries; 0 for a message, and behind the last entry.
+    pub fn side_at(&self, place: usize) -> u32
+        ensures { result ≡ side_at self.now.entries place }
+    {
+        side_at(self.entries, place)
     }
 
     /// What its turns look at.

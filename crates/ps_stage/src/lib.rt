@@ -9,15 +9,16 @@
 mod changes;
 mod entering;
 mod entries;
-mod fits;
 mod game;
 mod keys;
 mod levels;
 mod loading;
 mod locations;
+mod sides;
 mod spares;
 mod stage;
 mod starts;
+mod stops;
 
 pub use entries::EntryNumber;
 pub use game::SessionGame;
@@ -26,4 +27,6 @@ pub use locations::{Change, HistoryChange, Location, Pending};
 pub use ps_board::Board;
 pub use ps_model::{Ending, Input, Memory, Options};
 pub use ps_turn::{Rules, TurnRules};
+pub use sides::BoardSides;
 pub use stage::Stage;
+pub use stops::Stop;

@@ -1,14 +1,15 @@
 //! A game with the text that is made on the side.
 
-ghost use Rattle.std.specs.Prelude.{◌≡◌, ◌++◌, [], OnErr, OnOk, IfOk, codes};
+ghost use Rattle.std.specs.Prelude.{◌≡◌, ◌++◌, ◌≤◌, [], OnErr, OnOk, IfOk, codes};
 ghost use Rattle.ps_model.specs.game.Outputs.{quit_line};
 ghost use Rattle.ps_model.specs.session.Frames.{written_line};
 ghost use Rattle.ps_model.specs.session.Rooms.{frame_in, room_after};
 ghost use Rattle.ps_levels.specs.EntriesShown.{entries_shown};
-ghost use Rattle.ps_stage.specs.Playable.{ArePlayable, EntriesFit};
+ghost use Rattle.ps_stage.specs.Playable.{ArePlayable};
 
 use crate::game::SessionGame;
 use crate::levels::PlayedLevel;
+use crate::sides::BoardSides;
 use crate::spares::SpareBoards;
 use ps_board::Board;
 use ps_levels::Entry;
@@ -23,27 +24,28 @@ use std::marker::Model;
 pub struct Stage<'g, B: Board> {
     pub(crate) alloc: Global,
     pub(crate) game: SessionGame<'g>,
+    /// Which levels its boards are for.
+    pub(crate) sides: BoardSides,
     picture: Picture<'g, B>,
     pub(crate) spares: SpareBoards<B>,
     pub(crate) text: OutputText,
 }
 
 impl<'g, B: Board> Model for Stage<'g, B> {
-    ghost use Rattle.std.specs.Prelude.{◌≡◌};
-    ghost use Rattle.ps_stage.specs.Playable.{EntriesFit};
+    ghost use Rattle.std.specs.Prelude.{◌≡◌, ◌≤◌};
     ghost use Rattle.ps_stage.specs.Standings.{StageValue};
 
     ghost Value = { StageValue };
 
     ghost view = { λ s. record { game = s.game; text = s.text } };
 
-    ghost invariant = { λ s. (s.picture ≡ s.game.names) × EntriesFit B.Words.limit s.game.entries };
+    ghost invariant = { λ s. (s.picture ≡ s.game.names) × (s.sides.most ≤ B.Words.limit) };
 }
 
 impl<'g, B: Board> Stage<'g, B> {
-    /// A game without a text, on boards that have room for its levels.
-    pub fn new(alloc: Global, game: SessionGame<'g>) -> Stage<'g, B>
-        requires { EntriesFit B.Words.limit game.entries }
+    /// A game without a text, on boards for levels with such sides.
+    pub fn new(alloc: Global, game: SessionGame<'g>, sides: BoardSides) -> Stage<'g, B>
+        requires { sides.most ≤ B.Words.limit }
         ensures game { result.game ≡ game.entry }
         ensures text { result.text ≡ [] }
     {
@@ -51,6 +53,7 @@ impl<'g, B: Board> Stage<'g, B> {
         Stage {
             alloc,
             game,
+            sides,
             picture,
             spares: SpareBoards::none(),
             text: OutputText::new(alloc),
@@ -90,7 +93,6 @@ impl<'g, B: Board> Stage<'g, B> {
     pub(crate) fn entries(&self) -> &'g [Entry]
         ensures entries { entries_shown result.now ≡ self.now.game.entries }
         ensures playable { ArePlayable self.now.game.names self.now.game.entries }
-        ensures fit { EntriesFit B.Words.limit self.now.game.entries }
     {
         self.game.entries()
     }

@@ -45,6 +45,18 @@ impl<'g> Model for TurnGame<'g> {
 }
 
 impl<'g> TurnGame<'g> {
+    /// The same game.
+    pub fn copied(&self) -> TurnGame<'g>
+        ensures { result ≡ self.now }
+    {
+        TurnGame {
+            names: self.names,
+            options: self.options,
+            wins: self.wins,
+            players: self.players,
+        }
+    }
+
     /// The parts of a game.
     pub fn new(names: &'g Names, options: Options, wins: &'g [Win]) -> TurnGame<'g>
         ensures names { result.names ≡ names.entry.now }

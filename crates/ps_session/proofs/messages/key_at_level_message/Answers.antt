@@ -26,6 +26,7 @@ returns g c =
           ∙ ap (λ (text : List ℕ). after text (gone_on script play (pending_shown c.args.pending))) (sym c.requires.empty)
           ∙ c.in_ok-change.ensures.came history
           ∙ ap (λ (session : Session). came session c.go_on.new.self.text) (sym (c.next_of.ensures.waiting history c.args.level.now c.args.pending));
+      stopped = tt;
       table = c.next_of.ensures.table _ c.in_ok-change.ensures.table;
       ignored = λ e. absurd (true≢false (sym e ∙ heeded));
     }

@@ -8,9 +8,7 @@ use Rattle.ps_run.proofs.play.Play.play.Goals as goal
 
 pub loop-call-init : goal.loop-call-init
 loop-call-init g c = record {
-  game = refl;
-  plain = refl;
-  late = refl;
+  plays = refl;
   heard = c.requires.heard;
   well = c.requires.well;
   stands = λ before started. runs.none_asked _ _ before _ _ _ started;
@@ -49,7 +47,7 @@ returns-in-Err-clause-answers g c = λ before started.
 pub returns-in-Err-play_piece-clause-answers : goal.returns-in-Err-play_piece-clause-answers
 returns-in-Err-play_piece-clause-answers g c = λ before started.
     let counted = one_call _ _ _ c.in-Ok.ensures.counted c.in-Ok.ensures.worn in
-    let stops = rw (c.loop-call.invariant.game, c.loop-call.invariant.plain, c.loop-call.invariant.late, c.split_at.ensures.front) at c.in-Err-play_piece.ensures.stops in
+    let stops = rw (c.loop-call.invariant.plays, c.split_at.ensures.front) at c.in-Err-play_piece.ensures.stops in
     let long : length (take c.in-Ok.count c.read_some.new.buffer) ≡ c.in-Ok.count = rw (← c.split_at.ensures.front) c.split_at.ensures.front_len in
     rw c.fault_of_piece-in-Err-play_piece.ensures
     (runs.piece_unwritten c.in-Err-play_piece.fault _ _ _ _ before _ _ _ _ _ (take c.in-Ok.count c.read_some.new.buffer) c.requires.heard (c.in-Ok.ensures.well ∙ c.loop-call.invariant.heard)
@@ -60,15 +58,13 @@ returns-in-Err-play_piece-clause-answers g c = λ before started.
 pub loop-call-preserved : goal.loop-call-preserved
 loop-call-preserved g c =
     let counted = one_call _ _ _ c.in-Ok.ensures.counted c.in-Ok.ensures.worn in
-    let plays = rw (c.loop-call.invariant.game, c.loop-call.invariant.plain, c.loop-call.invariant.late, c.split_at.ensures.front) at c.in_default-play_piece.ensures.played in
+    let plays = rw (c.loop-call.invariant.plays, c.split_at.ensures.front) at c.in_default-play_piece.ensures.played in
     let long : length (take c.in-Ok.count c.read_some.new.buffer) ≡ c.in-Ok.count = rw (← c.split_at.ensures.front) c.split_at.ensures.front_len in
     let size : length c.loop-call.buffer ≡ CALL_LIMIT = search rules in
     let some : 1 ≤ c.in-Ok.count = omega (arith, c.if-count-eq0.false) in
     let short : c.in-Ok.count ≤ CALL_LIMIT = omega (arith, c.in-Ok.ensures.count, size) in
     record {
-      game = c.in_default-play_piece.ensures.game ∙ c.loop-call.invariant.game;
-      plain = c.in_default-play_piece.ensures.plain ∙ c.loop-call.invariant.plain;
-      late = c.in_default-play_piece.ensures.late ∙ c.loop-call.invariant.late;
+      plays = c.in_default-play_piece.ensures.script ∙ c.loop-call.invariant.plays;
       heard = c.in-Ok.ensures.well ∙ c.loop-call.invariant.heard;
       well = c.in_default-play_piece.ensures.well (λ e. cc);
       stands = λ before started.

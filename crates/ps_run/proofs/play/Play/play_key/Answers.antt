@@ -10,11 +10,11 @@ returns-in-Ok-clause-written g c =
     let before = g.W.ByteWriter.state c.args.writer.now in
     let now =
     g.W.ByteWriter.state c.write_output.new.writer in
-    text_taken c.write_output.result before now c.key.new.output c.clear.new.self _ c.in-Ok.ensures.written c.clear.ensures c.write_output.ensures.written
+    text_taken c.write_output.result before now c.key.new.output c.clear.new.self _ c.in-Ok.ensures.text c.clear.ensures c.write_output.ensures.written
 
 pub returns-in-Ok-clause-stops : goal.returns-in-Ok-clause-stops
 returns-in-Ok-clause-stops g c =
     let before = g.W.ByteWriter.state c.args.writer.now in
     let now =
     g.W.ByteWriter.state c.write_output.new.writer in
-    text_stopped c.write_output.result before now c.key.new.output c.clear.new.self _ c.in-Ok.ensures.written c.clear.ensures c.write_output.ensures.stops
+    text_stopped c.write_output.result before now c.key.new.output c.clear.new.self _ c.in-Ok.ensures.text c.clear.ensures c.write_output.ensures.stops

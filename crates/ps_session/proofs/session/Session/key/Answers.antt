@@ -11,10 +11,9 @@ invariant_of-self-2 g c =
     let table : Option (List ℕ) = g.B.Board.table_for c.self.inside.stage.game.names.layers in
     let game : c.commit.new.stage.game ≡ c.self.inside.stage.game =
     ap (λ (stage : StageValue). stage.game) c.commit.ensures.stage ∙ c.prepare-done.ensures.game
-    ∙ c.in_ok-next.ensures.game ∙ c.forget_text.ensures.game in
-    let here : IsOnTable table c.next_at.new.location = rw c.in_ok-next.ensures.same c.self.invariant.0 in
-    let answers : AnswersOnTable table c.in_ok-next.next =
-    rw (← c.forget_text.ensures.game) c.in_ok-next.ensures.table in
-    let comes : AnswersOnTable table (Some c.in-Some.next) = subst (AnswersOnTable table) c.in-Some.is answers in
+    ∙ c.in-Ok-Some.ensures.game ∙ c.forget_text.ensures.game in
+    let here : IsOnTable table c.next_at-found.new.location = rw c.in-Ok-Some.ensures.same c.self.invariant.0 in
+    let answers : AnswersOnTable table c.in-Ok-Some.field-0 = rw (← c.forget_text.ensures.game) c.in-Ok-Some.ensures.table in
+    let comes : AnswersOnTable table (Some c.in-Ok-Some.next) = subst (AnswersOnTable table) c.in-Ok-Some.field-0-is answers in
     let before : AreOnTable table (g.H.History.boards c.prepare-done.new.history) = rw c.prepare-done.ensures.boards c.self.invariant.1 in
     rw game (c.commit.ensures.location table here comes, c.commit.ensures.boards table before here)

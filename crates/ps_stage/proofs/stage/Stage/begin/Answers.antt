@@ -8,7 +8,7 @@ use Rattle.ps_levels.specs.declared.levels.Entry.{Entry}
 use Rattle.ps_levels.specs.EntriesShown.{entry_shown}
 use Rattle.ps_stage.specs.Standings.{script_for}
 use Rattle.ps_stage.proofs.EntriesFound.{entry_found, fits_at, playable_at}
-use Rattle.ps_stage.proofs.stage.Stage.enter.Goals as goal
+use Rattle.ps_stage.proofs.stage.Stage.begin.Goals as goal
 
 pub enter_level-requires-clause-playable : goal.enter_level-requires-clause-playable
 enter_level-requires-clause-playable g c =
@@ -20,8 +20,7 @@ pub enter_level-requires-clause-fits : goal.enter_level-requires-clause-fits
 enter_level-requires-clause-fits g c =
     let within : c.args.entry < length c.entries-entries.result.now = omega arith in
     fits_at _ c.entries-entries.result.now c.args.self.now.game.entries c.args.entry _ c.in-Level.level
-    c.entries-entries.ensures.entries within c.index-entries-entry.is (ap entry_shown c.in-Level.is)
-    c.entries-entries.ensures.fit
+    c.entries-entries.ensures.entries within c.index-entries-entry.is (ap entry_shown c.in-Level.is) c.requires
 
 pub returns-in_ok-tell-in-Message-clause-came : goal.returns-in_ok-tell-in-Message-clause-came
 returns-in_ok-tell-in-Message-clause-came g c =

@@ -1,0 +1,25 @@
+-- Scripts of games that are played by sections of their rules.
+use Rattle.std.proofs.Common.{◌≡◌, ◌∙◌, ℕ, List, Option, Some, refl, sym}
+use Rattle.ps_model.specs.board.Turns.{Script}
+use Rattle.ps_program.specs.declared.program.CompiledSection.{CompiledSection}
+use Rattle.ps_stage.specs.Standings.{SessionParts, script_for}
+use Rattle.ps_stage.proofs.Scripts.{same_script}
+use Rattle.ps_rulebook.specs.PlayedGames.{meant_of}
+use Rattle.ps_run.specs.GamesInPlay.{script_on}
+
+-- boards of rows keep the table of their game
+abbrev pub own_table : List ℕ → Option (List ℕ)
+own_table layers = Some layers
+
+pub script_is : (game : SessionParts) (plain late : List CompiledSection) →
+    script_on game plain late ≡ script_for own_table game (meant_of plain) (meant_of late)
+unfolding script_on
+script_is game plain late = refl
+
+-- sections that mean the same make the same script
+pub script_same : (game game' : SessionParts) (plain late plain' late' : List CompiledSection) → game' ≡ game →
+    meant_of plain' ≡ meant_of plain → meant_of late' ≡ meant_of late → script_on game' plain' late' ≡ script_on game plain late
+script_same game game' plain late plain' late' g p l =
+    script_is game' plain' late'
+    ∙ same_script own_table game game' (meant_of plain) (meant_of late) (meant_of plain') (meant_of late') g p l
+    ∙ sym (script_is game plain late)

@@ -1,0 +1,10 @@
+-- A game that is played on boards of one kind or another, whichever they are.
+use Rattle.ps_run.specs.GamesInPlay.{GameInPlay}
+use Rattle.ps_run.specs.declared.sized_play.SizedPlay.{SizedPlay}
+use Rattle.ps_run.specs.declared.sized_play.SizedPlay.TheVariants.{One, Two, Three, Four}
+
+abbrev pub play_in : SizedPlay → GameInPlay
+play_in (One play) = play
+play_in (Two play) = play
+play_in (Three play) = play
+play_in (Four play) = play

@@ -1,0 +1,138 @@
+//! A game in play, each level on boards of the kind that it asks for.
+
+ghost use Rattle.std.specs.Prelude.{◌≡◌, ◌++◌, IfOk};
+ghost use Rattle.ps_model.specs.declared.limits.TheConstants.{SIDE_LIMIT};
+ghost use Rattle.ps_model.specs.game.Outputs.{ending_of, opening_step};
+ghost use Rattle.ps_stage.specs.Playable.{EntriesFit};
+ghost use Rattle.ps_run.specs.GamesInPlay.{HasBegun, IsTurned, script_in, script_on};
+ghost use Rattle.ps_run.specs.SizedPlays.{play_in};
+
+use crate::sized_play::SizedPlay;
+use ps_model::{Ending, Key, Memory};
+use ps_program::CompiledSection;
+use ps_screen::OutputText;
+use ps_session::{SessionGame, Stop};
+use std::alloc::Global;
+use std::marker::Model;
+use std::mem;
+
+/// Goes on at an entry of a game that is played by these sections.
+///
+/// # Errors
+///
+/// `Memory`.
+fn go_on<'g>(
+    alloc: Global,
+    game: &SessionGame<'g>,
+    plain: &'g [CompiledSection<'g>],
+    late: &'g [CompiledSection<'g>],
+    entry: usize,
+    output: &mut OutputText,
+) -> Result<SizedPlay<'g>, Memory>
+    requires { EntriesFit SIDE_LIMIT game.now.entries }
+    ensures { IfOk result (λ play.
+        HasBegun (script_on game.now plain.now late.now) entry (play_in play) output.old output.new) }
+{
+    let play = SizedPlay::start_at(alloc, game.copied(), plain, late, entry, output)?;
+    Ok(play)
+}
+
+/// A game in play. Where a key leads to a level for boards of another kind, the game goes on there in a session of its
+/// own: each level begins without boards to undo, so nothing of the session before is needed. It is ended by
+/// [`end`](GamePlay::end).
+pub struct GamePlay<'g> {
+    alloc: Global,
+    game: SessionGame<'g>,
+    plain: &'g [CompiledSection<'g>],
+    late: &'g [CompiledSection<'g>],
+    play: SizedPlay<'g>,
+}
+
+impl<'g> Model for GamePlay<'g> {
+    ghost use Rattle.std.specs.Prelude.{◌≡◌};
+    ghost use Rattle.ps_stage.specs.Playable.{EntriesFit};
+    ghost use Rattle.ps_run.specs.GamesInPlay.{GameInPlay, script_in, script_on};
+    ghost use Rattle.ps_run.specs.SizedPlays.{play_in};
+    ghost use Rattle.ps_model.specs.declared.limits.TheConstants.{SIDE_LIMIT};
+
+    ghost Value = { GameInPlay };
+
+    ghost view = { λ p. record {
+      game = p.game;
+      plain = p.plain.now;
+      late = p.late.now;
+      session = (play_in p.play).session;
+    } };
+
+    ghost invariant = { λ p. (script_in (play_in p.play) ≡ script_on p.game p.plain.now p.late.now)
+        × EntriesFit SIDE_LIMIT p.game.entries };
+}
+
+impl<'g> GamePlay<'g> {
+    /// Starts a game of which each level has boards with room for it: adds its title to the output, and what its first
+    /// entry writes.
+    ///
+    /// # Errors
+    ///
+    /// `Memory`.
+    pub fn start(
+        alloc: Global,
+        game: SessionGame<'g>,
+        plain: &'g [CompiledSection<'g>],
+        late: &'g [CompiledSection<'g>],
+        output: &mut OutputText,
+    ) -> Result<GamePlay<'g>, Memory>
+        requires { EntriesFit SIDE_LIMIT game.entries }
+        ensures script { IfOk result (λ play. script_in play ≡ script_on game.entry plain.entry.now late.entry.now) }
+        ensures session { IfOk result (λ play. play.session ≡ (opening_step (script_in play)).session) }
+        ensures written { IfOk result (λ play. output.new ≡ output.old ++ (opening_step (script_in play)).text) }
+    {
+        output.add_line("= ", game.title())?;
+        let play = SizedPlay::start_at(alloc, game.copied(), plain, late, 0, output)?;
+        Ok(GamePlay {
+            alloc,
+            game,
+            plain,
+            late,
+            play,
+        })
+    }
+
+    /// Does what a key does, and adds its text to the output.
+    ///
+    /// # Errors
+    ///
+    /// `Memory`, and a part of the text may have been added. The game hasn't ended before.
+    pub fn key(&mut self, key: Key, output: &mut OutputText) -> Result<(), Memory>
+        ensures { IsTurned self.old self.new key output.old output.new result }
+    {
+        let entry = match self.play.key(key, output) {
+            Ok(()) => return Ok(()),
+            Err(Stop::Memory) => return Err(Memory),
+            Err(Stop::Elsewhere(entry)) => entry,
+        };
+        let next = go_on(self.alloc, &self.game, self.plain, self.late, entry, output)?;
+        let before = mem::replace(&mut self.play, next);
+        before.end();
+        Ok(())
+    }
+
+    /// Ends it.
+    pub fn end(self) {
+        let GamePlay {
+            alloc: _alloc,
+            game: _game,
+            plain: _plain,
+            late: _late,
+            play,
+        } = self;
+        play.end();
+    }
+
+    /// How the game ended, if it has.
+    pub fn ending(&self) -> Option<Ending>
+        ensures { result ≡ ending_of self.now.session }
+    {
+        self.play.ending()
+    }
+}

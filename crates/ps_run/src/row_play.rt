@@ -1,0 +1,88 @@
+//! A game that is played on boards of rows of one kind.
+
+ghost use Rattle.std.specs.Prelude.{◌≡◌, ◌≤◌, IfOk};
+ghost use Rattle.ps_model.specs.game.Outputs.{ending_of};
+ghost use Rattle.ps_stage.specs.Sides.{side_at};
+ghost use Rattle.ps_run.specs.GamesInPlay.{HasBegun, IsKeyed, script_on};
+
+use ps_board::ColumnWords;
+use ps_model::{Ending, Key, Memory};
+use ps_program::CompiledSection;
+use ps_rulebook::{GameRules, RowBoard, RowHistory, rules_of_sections};
+use ps_screen::OutputText;
+use ps_session::{BoardSides, Session, SessionGame, Stop};
+use ps_turn::TurnRules;
+use std::alloc::Global;
+use std::marker::Model;
+
+/// A session on boards whose rows are kept by words of this kind, with the rules of a game on such boards.
+#[derive(Drop)]
+pub struct RowPlay<'g, V: ColumnWords> {
+    session: Session<'g, RowBoard<V>, RowHistory<V>>,
+    rules: TurnRules<RowBoard<V>, GameRules<'g, 'g, RowBoard<V>>>,
+}
+
+impl<'g, V: ColumnWords> Model for RowPlay<'g, V> {
+    ghost use Rattle.ps_run.specs.GamesInPlay.{GameInPlay};
+
+    ghost Value = { GameInPlay };
+
+    ghost view = { λ p. record {
+      game = p.session.game;
+      plain = p.rules.plain;
+      late = p.rules.late;
+      session = p.session.session;
+    } };
+}
+
+impl<'g, V: ColumnWords> RowPlay<'g, V> {
+    /// Starts a game at an entry for which its boards have room, with the sections of its rules: adds what the entry
+    /// writes to the output. Its boards are for levels with such sides.
+    ///
+    /// # Errors
+    ///
+    /// `Memory`.
+    pub fn start_at(
+        alloc: Global,
+        game: SessionGame<'g>,
+        plain: &'g [CompiledSection<'g>],
+        late: &'g [CompiledSection<'g>],
+        sides: BoardSides,
+        entry: usize,
+        output: &mut OutputText,
+    ) -> Result<RowPlay<'g, V>, Memory>
+        requires sides { sides.most ≤ V.limit }
+        requires room { side_at game.entries entry ≤ V.limit }
+        ensures { IfOk result (λ play.
+            HasBegun (script_on game.entry plain.entry.now late.entry.now) entry play output.old output.new) }
+    {
+        let mut rules = rules_of_sections(alloc, plain, late)?;
+        let session = Session::start_at(alloc, game, sides, &mut rules, entry, output)?;
+        Ok(RowPlay { session, rules })
+    }
+
+    /// Does what a key does, and adds its text to the output.
+    ///
+    /// # Errors
+    ///
+    /// `Memory`, and the output is as before; `Elsewhere` where the key leads to an entry that is a level for other
+    /// boards, and the output has what comes before that. The game hasn't ended before.
+    pub fn key(&mut self, key: Key, output: &mut OutputText) -> Result<(), Stop>
+        ensures { IsKeyed self.old self.new key output.old output.new result }
+    {
+        if let Err(stop) = self.session.key(&mut self.rules, key, output) {
+            return Err(stop);
+        }
+        Ok(())
+    }
+
+    /// Ends it. What a session and its rules own is dropped here and nowhere else: dropping it is long to prove.
+    pub fn end(self) {}
+
+    /// How the game ended, if it has.
+    pub fn ending(&self) -> Option<Ending>
+        ensures { result ≡ ending_of self.now.session }
+    {
+        self.session.ending()
+    }
+}
