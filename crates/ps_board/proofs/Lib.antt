@@ -15,7 +15,8 @@ pub mod MovedWords
 pub mod HighWords
 pub mod FirstOfWords
 pub mod PassedColumns
-mod Differing
+pub mod Differing
 pub mod OneColumn
 pub mod AllRows
 pub mod CellLaws
+mod SlotCopies

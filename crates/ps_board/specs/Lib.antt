@@ -10,3 +10,4 @@ pub mod Joinings
 pub mod RowsOfGrids
 pub mod Rows
 pub mod Histories
+pub mod SlotCopies

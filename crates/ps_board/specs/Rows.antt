@@ -21,6 +21,10 @@ DifferOnlyIn columns first second row = (column : ℕ) → column < first.width 
 abbrev pub DifferOnlyOn : List Bool → Grid → Grid → Type 0
 DifferOnlyOn rows first second = (row : ℕ) → row < first.height → column_at rows row ≡ false → HaveSameRow first second row
 
+-- each row has whose number is in a set
+abbrev pub AgreeOn : List Bool → Grid → Grid → Type 0
+AgreeOn rows first second = (row : ℕ) → row < first.height → column_at rows row ≡ true → HaveSameRow first second row
+
 -- the cells of a row whose columns are in a set have the same objects as the one of a column
 abbrev pub AreAlike : List Bool → Grid → ℕ → ℕ → Type 0
 AreAlike columns g row column = (x : ℕ) → x < g.width → column_at columns x ≡ true →

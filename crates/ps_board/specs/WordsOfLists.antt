@@ -1,5 +1,5 @@
 -- Several words are known by the columns of their bits.
-use Rattle.std.proofs.Common.{◌≡◌, ◌∙◌, ℕ, ◌+◌, ◌-◌, ◌*◌, ◌/◌, ◌%◌, ◌^◌, ◌<◌, ◌≤◌, suc, zero, map, sym, ap, ap₂}
+use Rattle.std.proofs.Common.{◌≡◌, ◌∙◌, ℕ, ◌+◌, ◌-◌, ◌*◌, ◌%◌, ◌^◌, ◌<◌, ◌≤◌, suc, zero, map, sym, ap, ap₂}
 use Rattle.std.proofs.Common.{List, ◌∷◌, take, drop, arith, Bool, true, false, refl}
 use Rattle.std.specs.Prelude.{nat_lt}
 use Rattle.std.specs.List.{range_with_len}

@@ -10,7 +10,7 @@ ghost use Rattle.ps_model.specs.meaning.Compiled.{slot_holds};
 ghost use Rattle.ps_board.specs.Rooms.{HasRoom, HaveRoom, layer_numbers};
 ghost use Rattle.ps_board.specs.ColumnSets.{column_at};
 ghost use Rattle.ps_board.specs.RowsOfGrids.{PassOnlyOn, is_moving, row_holders, row_movers};
-ghost use Rattle.ps_board.specs.Rows.{AreAlike, DifferOnlyIn, DifferOnlyOn};
+ghost use Rattle.ps_board.specs.Rows.{AgreeOn, AreAlike, DifferOnlyIn, DifferOnlyOn};
 
 use crate::columns::Columns;
 use crate::words::ColumnWords;
@@ -174,15 +174,18 @@ pub trait Board: Drop {
         requires table { table other.now ≡ table self.now }
         ensures { DifferOnlyOn result (grid self.now) (grid other.now) };
 
-    /// Makes another board of the same size, with as many layers and the same room, show what this one does, at rest.
-    /// Outside of these rows the other board shows the same objects already.
+    /// Makes these rows of another board of the same size, with as many layers and the same room, show the same objects
+    /// as here. Its other rows keep their objects. What is about to move there may come to rest.
     fn copy_rows(&self, other: &mut Self, rows: &Columns<Self::Words>)
         requires width { (grid other.old).width ≡ (grid self.now).width }
         requires height { (grid other.old).height ≡ (grid self.now).height }
         requires layers { (grid other.old).layers ≡ (grid self.now).layers }
         requires table { table other.old ≡ table self.now }
-        requires same { DifferOnlyOn rows.now (grid self.now) (grid other.old) }
-        ensures grid { grid other.new ≡ at_rest (grid self.now) }
+        ensures copied { AgreeOn rows.now (grid self.now) (grid other.new) }
+        ensures left { DifferOnlyOn rows.now (grid other.old) (grid other.new) }
+        ensures width { (grid other.new).width ≡ (grid self.now).width }
+        ensures height { (grid other.new).height ≡ (grid self.now).height }
+        ensures layers { (grid other.new).layers ≡ (grid self.now).layers }
         ensures table { table other.new ≡ table self.now };
 }
 

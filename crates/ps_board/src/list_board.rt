@@ -10,7 +10,7 @@ ghost use Rattle.ps_model.specs.session.Frames.{objects_in};
 use crate::board::Board;
 use crate::columns::Columns;
 use crate::many_words::{ManyWords, WORDS_LIMIT};
-use crate::slots::{is_moving, same_slots, slot_holds};
+use crate::slots::{copy_slots, is_moving, same_slots, slot_holds};
 use ps_model::{LayerId, Memory, Motion, ObjectId, Slot};
 use std::alloc::Global;
 
@@ -245,9 +245,10 @@ impl Board for ListBoard {
         Columns::below(self.height)
     }
 
-    /// The whole board is copied.
-    fn copy_rows(&self, other: &mut ListBoard, _rows: &Columns<ManyWords<WORDS_LIMIT>>) {
-        self.copy_into(other);
-        other.clear_moves();
+    /// Motions are copied too.
+    fn copy_rows(&self, other: &mut ListBoard, rows: &Columns<ManyWords<WORDS_LIMIT>>) {
+        let (layers, height) = (self.layers as usize, self.height as usize);
+        let others = other.slots.as_mut_slice();
+        copy_slots(self.slots.as_slice(), layers, height, rows, others);
     }
 }

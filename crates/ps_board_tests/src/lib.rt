@@ -1,5 +1,5 @@
-//! Tests of boards and of their movement, by public calls. They stand above the crates that they test, since a crate with
-//! tests is proved twice.
+//! Tests of boards and of their movement, by public calls. They stand above the crates that they test, since a crate
+//! with tests is proved twice.
 #![tactic(auto)]
 
 #[cfg(test)]

@@ -18,7 +18,7 @@ use Rattle.ps_model.specs.board.Movement.{is_number}
 use Rattle.ps_model.specs.board.Turns.{same_cells}
 use Rattle.ps_model.specs.meaning.Fitting.{same_motion}
 use Rattle.ps_model.specs.names.Names.{same_object}
-use Rattle.ps_laws.proofs.common.SameThings.{same_cell-own, same_motion-true, same_object-true}
+use Rattle.ps_laws.proofs.common.SameThings.{same_cells-own, same_cells-true}
 use Rattle.ps_rows.specs.Planes.{has_cell, row_of}
 use Rattle.ps_rows.specs.Members.{on_layer}
 use Rattle.ps_rows.specs.Showing.{numbered, motions_from, motion_plane, motion_planes, object_shown, motion_shown}
@@ -196,35 +196,6 @@ same_moves table width height layers first second layer on shown showing same = 
 
 -- boards --------------------------------------------------------------------------------------------------------------
 
-cells_itself : (cells : List (List Slot)) → same_cells cells cells ≡ true
-cells_itself [] = refl
-cells_itself (cell ∷ cells) = rw (same_cell-own cell) (cells_itself cells)
-
-pub slot_known : (first second : Slot) → same_slot first second ≡ true → first ≡ second
-slot_known Bare Bare h = refl
-slot_known Bare (Holds object motion) h = absurd (false≢true h)
-slot_known (Holds object motion) Bare h = absurd (false≢true h)
-slot_known (Holds object motion) (Holds other moving) h =
-    let parts = and_parts (same_object object other) (same_motion motion moving) h in
-    ap₂ (λ (o : ObjectId) (m : Motion). let slot : Slot = Holds o m in slot) (same_object-true object other parts.0)
-    (same_motion-true motion moving parts.1)
-
-cell_known : (first second : List Slot) → same_cell first second ≡ true → first ≡ second
-cell_known [] [] h = refl
-cell_known [] (y ∷ ys) h = absurd (false≢true h)
-cell_known (x ∷ xs) [] h = absurd (false≢true h)
-cell_known (x ∷ xs) (y ∷ ys) h =
-    let parts = and_parts (same_slot x y) (same_cell xs ys) h in
-    ap₂ (λ (z : Slot) (zs : List Slot). z ∷ zs) (slot_known x y parts.0) (cell_known xs ys parts.1)
-
-cells_known : (first second : List (List Slot)) → same_cells first second ≡ true → first ≡ second
-cells_known [] [] h = refl
-cells_known [] (y ∷ ys) h = absurd (false≢true h)
-cells_known (x ∷ xs) [] h = absurd (false≢true h)
-cells_known (x ∷ xs) (y ∷ ys) h =
-    let parts = and_parts (same_cell x y) (same_cells xs ys) h in
-    ap₂ (λ (z : List Slot) (zs : List (List Slot)). z ∷ zs) (cell_known x y parts.0) (cells_known xs ys parts.1)
-
 -- what two boards of the same size for the same game show
 abbrev pub shown_same : List ℕ → ℕ → ℕ → ℕ → List (List Bool) → List (List Bool) → Bool
 shown_same table width height layers first second =
@@ -240,7 +211,7 @@ board_same table width height layers first second same =
     (sym (tabled_same (cell_shown table layers height first) (cell_shown table layers height second) (width * height)
     (λ cell inside. tabled_same (slot_shown table height first cell) (slot_shown table height second cell) layers
     (λ layer on. same layer on cell inside))))
-    ∙ cells_itself (cells_shown table layers height first (width * height)))
+    ∙ same_cells-own (cells_shown table layers height first (width * height)))
 
 layer_of_board : (table : List ℕ) (width height layers : ℕ) (first second : List (List Bool)) (layer : ℕ) → layer < layers →
     cells_shown table layers height first (width * height) ≡ cells_shown table layers height second (width * height) →
@@ -260,7 +231,7 @@ board_other table width height layers first second layer told on fails tells =
           absurd (false≢true
           (sym fails
           ∙ tells (layer_of_board table width height layers first second layer on
-          (cells_known (cells_shown table layers height first (width * height))
+          (same_cells-true (cells_shown table layers height first (width * height))
           (cells_shown table layers height second (width * height)) h))))
       | inr h ↦ sym h
     ]

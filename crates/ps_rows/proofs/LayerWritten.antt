@@ -19,7 +19,8 @@ use Rattle.ps_rows.specs.Members.{on_layer}
 use Rattle.ps_rows.specs.RowChanges.{AreRowsLeft, Change, IsLayerWritten, bit_after}
 use Rattle.ps_rows.specs.Showing.{numbered, motion_plane, motion_planes, motions_from, object_shown, motion_shown, slot_shown, grid_shown, AreObjectsShown, AreMotionsShown}
 use Rattle.ps_rows.specs.SlotsWritten.{AreSlotsLeft, AreSlotsWritten, IsLayerChange, in_columns, slot_if, slot_number}
-use Rattle.ps_rows.proofs.Alike.{column_read, five_motion, slot_known}
+use Rattle.ps_laws.proofs.common.SameThings.{same_slot-true}
+use Rattle.ps_rows.proofs.Alike.{column_read, five_motion}
 use Rattle.ps_rows.proofs.LayerChanges.{number_shown}
 use Rattle.ps_rows.proofs.Listed.{find_listed, find_object, find_same}
 use Rattle.ps_rows.proofs.Moves.{first_motion-is, five_false, five_high, five_true, plane_high, plane_low}
@@ -196,7 +197,7 @@ module _ (table : List ℕ) (width height layers : ℕ) (words written : List (L
           let sure : chosen c ≡ true = ap₂ (λ (a b : Bool). a && b) (eq-eqb (c % height) row e) here in
           let same : same_slot (slot c layer) (after layer (slot c layer)) ≡ true =
           ap (λ (s : Slot). same_slot s (after layer s)) (sym read) ∙ all c layer inside on sure (eq-eqb layer layer refl) in
-          rw here (sym (slot_known (slot c layer) (after layer (slot c layer)) same))
+          rw here (sym (same_slot-true (slot c layer) (after layer (slot c layer)) same))
       | inr none ↦ rw none refl
     ]
 

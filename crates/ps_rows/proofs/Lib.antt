@@ -28,7 +28,6 @@ pub mod RowsDiffering
 pub mod Unlike
 pub mod SameWords
 pub mod RowCopies
-pub mod OwnObjects
 pub mod CopiesShown
 pub mod OneCell
 pub mod RowDifferences

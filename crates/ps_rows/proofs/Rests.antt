@@ -25,7 +25,7 @@ use Rattle.ps_rows.proofs.Listed.{find_same, find_object, find_listed}
 use Rattle.ps_rows.proofs.MemberRanges.{listed_member}
 use Rattle.ps_rows.proofs.Moves.{plane_low, not_still, first_motion-is}
 use Rattle.ps_rows.proofs.Tables.{tabled_at, tabled_same, tabled_alike}
-use Rattle.ps_board.specs.ColumnSets.{no_columns}
+use Rattle.ps_board.specs.ColumnSets.{column_at, no_columns}
 
 -- reading ----------------------------------------------------------------------------------------------------------------
 
@@ -105,17 +105,18 @@ module _ (table : List ℕ) (layers height cells : ℕ) (words : List (List Bool
   front : length (take start words) ≡ start
   front = length-take-le start words within
 
+  -- the rows of the planes of all objects stay
+  pub row_kept : (o row : ℕ) → o < length table → row < height → row_of rested (o * height + row) ≡ row_of words (o * height + row)
+  row_kept o row below under =
+      let next : height * (o + 1) ≤ height * length table = mul-le-mul_left height (let next : o + 1 ≤ length table = omega arith in next) in
+      let place : o * height + row < start = omega arith in
+      let long : o * height + row < length (take start words) = rw front place in
+      get_or_append_left (take start words) (replicate (length words - start) no_columns) no_columns (o * height + row) long
+      ∙ get_or-take start words (o * height + row) no_columns place
+
   kept : (c o : ℕ) → o < length table → has_cell height rested c o ≡ has_cell height words c o
   unfolding has_cell
-  kept c o below =
-      let row : c % height < height = mod_below c height some in
-      let next : height * (o + 1) ≤ height * length table = mul-le-mul_left height (let next : o + 1 ≤ length table = omega arith in next) in
-      let place : o * height + c % height < start = omega arith in
-      let long : o * height + c % height < length (take start words) = rw front place in
-      let word : row_of rested (o * height + c % height) ≡ row_of words (o * height + c % height) =
-      get_or_append_left (take start words) (replicate (length words - start) no_columns) no_columns (o * height + c % height) long
-      ∙ get_or-take start words (o * height + c % height) no_columns place in
-      rw word refl
+  kept c o below = ap (λ (word : List Bool). column_at word (c / height)) (row_kept o (c % height) below (mod_below c height some))
 
   cleared : (c q : ℕ) → length table ≤ q → has_cell height rested c q ≡ false
   unfolding has_cell

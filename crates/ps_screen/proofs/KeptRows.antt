@@ -2,13 +2,10 @@
 use Rattle.std.proofs.Common.{◌≡◌, ℕ, zero, suc, ◌+◌, ◌*◌, ◌<◌, ◌≤◌, Bool, List, [], ◌∷◌, ◌++◌, map, refl, sym, ap, ap₂, ◌∙◌, arith}
 use Rattle.std.specs.Prelude.{encode_utf8, codes}
 use Rattle.std.specs.List.{flat_map, range_with_len}
-use Rattle.std.proofs.Math.ListN.{get_or-map}
 use Rattle.std.proofs.lemmas.List.{same_lists, get_or_default}
 use Rattle.std.proofs.lemmas.List.FromFn.{length-map-range_with_len, get_or-map-range_with_len}
 use Rattle.ps_model.specs.declared.pieces.ObjectId.{ObjectId}
-use Rattle.ps_model.specs.declared.pieces.Slot.{Slot}
-use Rattle.ps_model.specs.declared.pieces.Slot.TheVariants.{Bare, Holds}
-use Rattle.ps_model.specs.board.Grid.{Grid, at_rest, cell_at, slot_at_rest}
+use Rattle.ps_model.specs.board.Grid.{Grid, cell_at}
 use Rattle.ps_model.specs.names.Names.{Names}
 use Rattle.ps_model.specs.session.Frames.{objects_in, character_of, glyph_of_objects, frame, frame_row, shown_character}
 use Rattle.ps_model.specs.declared.limits.TheConstants.{SIDE_LIMIT}
@@ -18,11 +15,11 @@ use Rattle.ps_board.proofs.ColumnLaws.{none_in}
 use Rattle.ps_screen.specs.KeptRows.{AreRowsOf}
 
 -- two functions that agree on a range
-flat_map_same : {X : Type 0} (f g : ℕ → List X) (a n : ℕ) → ((k : ℕ) → k < a + n → f k ≡ g k) → flat_map f (range_with_len a n) ≡ flat_map g (range_with_len a n)
+pub flat_map_same : {X : Type 0} (f g : ℕ → List X) (a n : ℕ) → ((k : ℕ) → a ≤ k → k < a + n → f k ≡ g k) → flat_map f (range_with_len a n) ≡ flat_map g (range_with_len a n)
 flat_map_same f g a zero agree = refl
 flat_map_same f g a (suc n) agree =
-    let here : a < a + suc n = omega arith in
-    ap₂ (λ (x y : List _). x ++ y) (agree a here) (flat_map_same f g (a + 1) n (λ k h. let below : k < a + suc n = omega arith in agree k below))
+    ap₂ (λ (x y : List _). x ++ y) (agree a (omega arith) (omega arith))
+    (flat_map_same f g (a + 1) n (λ k least below. agree k (omega (arith, least)) (omega (arith, below))))
 
 -- what a cell with the same objects is written as
 pub same_character : (names : Names) (g h : Grid) (a b : ℕ) → objects_in (cell_at g a) ≡ objects_in (cell_at h b) →
@@ -35,10 +32,18 @@ same_frame_row names g h row wide high same =
     ap (λ (text : List ℕ). text ++ codes "\n")
     (ap (λ (n : ℕ). flat_map (λ column. encode_utf8 (shown_character names (cell_at h (column * h.height + row)))) (range_with_len 0 n)) wide
     ∙ flat_map_same (λ column. encode_utf8 (shown_character names (cell_at h (column * h.height + row)))) (λ column. encode_utf8 (shown_character names (cell_at g (column * g.height + row)))) 0 g.width
-    (λ column inside.
+    (λ column least inside.
     let below : column < g.width = omega arith in
     ap (λ (n : ℕ). encode_utf8 (shown_character names (cell_at h (column * n + row)))) high
     ∙ sym (same_character names g h (column * g.height + row) (column * g.height + row) (same column below))))
+
+-- a row has the same objects in two grids, whichever is the first
+pub same_back : (g h : Grid) (row : ℕ) → h.width ≡ g.width → h.height ≡ g.height → HaveSameRow g h row → HaveSameRow h g row
+same_back g h row wide high same = λ column inside. rw high (sym (same column (omega (arith, inside, wide))))
+
+-- and in a third
+pub same_on : (g h k : Grid) (row : ℕ) → h.width ≡ g.width → h.height ≡ g.height → HaveSameRow g h row → HaveSameRow h k row → HaveSameRow g k row
+same_on g h k row wide high first second = λ column inside. first column inside ∙ (rw high at (second column (omega (arith, inside, wide))))
 
 -- no column that differs
 pub none_differs : (columns : List Bool) (g h : Grid) (row : ℕ) → g.width ≤ SIDE_LIMIT → set_columns columns ≡ [] → DifferOnlyIn columns g h row → HaveSameRow g h row
@@ -68,25 +73,4 @@ rows_drawn names g texts is =
     record {
       long = length-map-range_with_len (frame_row names g) 0 g.height;
       each = λ row under. get_or-map-range_with_len (frame_row names g) 0 g.height row row [] under (omega arith);
-    }
-
--- objects at rest are the same objects
-same_at_rest : (cell : List Slot) → objects_in (map slot_at_rest cell) ≡ objects_in cell
-same_at_rest [] = refl
-same_at_rest (Bare ∷ cell) = same_at_rest cell
-same_at_rest (Holds object motion ∷ cell) = ap (λ (objects : List ObjectId). object ∷ objects) (same_at_rest cell)
-
-cell_at_rest : (g : Grid) (n : ℕ) → cell_at (at_rest g) n ≡ map slot_at_rest (cell_at g n)
-cell_at_rest g n = get_or-map (map slot_at_rest) g.cells n []
-
--- so the rows of a board at rest show the same
-pub same_row_at_rest : (g : Grid) (row : ℕ) → HaveSameRow (at_rest g) g row
-same_row_at_rest g row = λ column inside. ap objects_in (cell_at_rest g (column * g.height + row)) ∙ same_at_rest (cell_at g (column * g.height + row))
-
--- and they are written the same
-pub rows_at_rest : (names : Names) (g : Grid) (texts : List (List ℕ)) → AreRowsOf names g texts → AreRowsOf names (at_rest g) texts
-rows_at_rest names g texts rows =
-    record {
-      long = rows.long;
-      each = λ row under. rows.each row under ∙ same_frame_row names (at_rest g) g row refl refl (same_row_at_rest g row);
     }

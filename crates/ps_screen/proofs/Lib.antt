@@ -6,3 +6,4 @@ mod Painting
 mod PlainFrames
 mod PlainRows
 mod Taken
+mod WindowFrames

@@ -7,15 +7,14 @@ use Rattle.std.proofs.Math.ListN.{get_or-append}
 use Rattle.std.proofs.lemmas.Bool.{cases_eq, cases_lt}
 use Rattle.std.proofs.lemmas.List.{drop-drop, length-append, length-replicate}
 use Rattle.std.proofs.lemmas.Nat.{mul-add-lt}
-use Rattle.ps_model.specs.board.Grid.{Grid, at_rest}
+use Rattle.ps_model.specs.board.Grid.{Grid}
 use Rattle.ps_model.specs.names.Names.{Names}
 use Rattle.ps_model.specs.session.Frames.{frame, frame_row}
 use Rattle.ps_model.specs.declared.limits.TheConstants.{SIDE_LIMIT}
 use Rattle.ps_board.specs.ColumnSets.{columns_below}
 use Rattle.ps_screen.specs.PlainFrames.{IsBlankFrame, IsPlainFrame, row_start}
 use Rattle.ps_screen.specs.PlainRows.{AreDrawn, IsOutside, IsPlainRow}
-use Rattle.ps_screen.proofs.KeptRows.{same_row_at_rest}
-use Rattle.ps_screen.proofs.PlainRows.{at_end, cut_last, none_drawn, plain_part, same_plain}
+use Rattle.ps_screen.proofs.PlainRows.{at_end, cut_last, none_drawn, plain_part}
 
 -- a row ends before the next ones begin
 pub ends_before : (width row other : ℕ) → row < other → row_start width row + width < row_start width other
@@ -41,7 +40,7 @@ last_end width height row below = inr (let ends = ends_before width row height b
 -- the frame ------------------------------------------------------------------------------------------------------------
 
 -- the rows from one on are the part of the text from its start on
-rows_part : (names : Names) (g : Grid) (text : List ℕ) → ((row : ℕ) → row < g.height → IsPlainRow names g row (row_start g.width row) text) → (a n : ℕ) → a + n ≤ g.height →
+pub rows_part : (names : Names) (g : Grid) (text : List ℕ) → ((row : ℕ) → row < g.height → IsPlainRow names g row (row_start g.width row) text) → (a n : ℕ) → a + n ≤ g.height →
     flat_map (frame_row names g) (range_with_len a n) ≡ take (n * (g.width + 1)) (drop (a * (g.width + 1)) text)
 rows_part names g text each a zero within = let none : 0 * (g.width + 1) ≡ 0 = omega arith in rw none refl
 rows_part names g text each a (suc n) within =
@@ -62,15 +61,6 @@ plain_frame names g text plain =
     cut_last text (g.height * (g.width + 1)) 10 plain.long plain.end
     ∙ ap (λ (t : List ℕ). t ++ codes "\n")
     (sym (rows_part names g text plain.each 0 g.height (omega arith) ∙ ap (λ (m : ℕ). take (g.height * (g.width + 1)) (drop m text)) none))
-
--- a frame of a board at rest is the same
-pub plain_at_rest : (names : Names) (g : Grid) (text : List ℕ) → IsPlainFrame names g text → IsPlainFrame names (at_rest g) text
-plain_at_rest names g text plain =
-    record {
-      long = plain.long;
-      each = λ row under. same_plain names (at_rest g) g row (row_start g.width row) text refl refl (same_row_at_rest g row) (plain.each row under);
-      end = plain.end;
-    }
 
 -- a plain frame has the line feeds of one, and with them and its rows it is one
 pub has_ends : (names : Names) (g : Grid) (text : List ℕ) → IsPlainFrame names g text → IsBlankFrame g.width g.height text

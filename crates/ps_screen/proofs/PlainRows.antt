@@ -169,6 +169,11 @@ within_width columns width x low has =
     let under : nat_lt x width ≡ true = sym (column_at-where (λ y. nat_lt y width) x low) ∙ both.1 in
     grind (arith, nat_tests)
 
+-- a column of both is one of the first
+pub one_of_both : (columns others : List Bool) (x : ℕ) → x < SIDE_LIMIT → column_at (both_columns columns others) x ≡ true → column_at columns x ≡ true
+one_of_both columns others x low has =
+    (and_parts (column_at columns x) (column_at others x) (sym (column_at-where (λ y. column_at columns y && column_at others y) x low) ∙ has)).0
+
 pub out_of_both : (columns : List Bool) (width x : ℕ) → x < SIDE_LIMIT → x < width → column_at (both_columns columns (columns_below width)) x ≡ false → column_at columns x ≡ false
 out_of_both columns width x low under none =
     let below : column_at (columns_below width) x ≡ true = column_at-where (λ y. nat_lt y width) x low ∙ lt-ltb x width under in

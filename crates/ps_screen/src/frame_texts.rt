@@ -1,10 +1,9 @@
 //! The text of a frame, as a picture keeps it.
 
-ghost use Rattle.std.specs.Prelude.{◌≡◌, ◌++◌, IfOk, OnErr, OnOk};
+ghost use Rattle.std.specs.Prelude.{◌≡◌, ◌++◌, IfOk, IfSome, OnErr, OnOk};
 ghost use Rattle.ps_model.specs.board.Levels.{background_layer};
 ghost use Rattle.ps_model.specs.session.Frames.{frame};
-ghost use Rattle.ps_board.specs.Rows.{DifferOnlyOn};
-ghost use Rattle.ps_screen.specs.FrameTexts.{IsTextOf};
+ghost use Rattle.ps_screen.specs.FrameTexts.{IsPatched, IsTextOf};
 
 use crate::cells::CellSpace;
 use crate::output_text::OutputText;
@@ -53,14 +52,13 @@ pub fn draw_text<B: Board>(
     Ok(FrameText::Rows(rows))
 }
 
-/// The text of a board's frame, made of that of another board alike, which shows the same objects outside of these
-/// rows.
+/// The text of a board's frame, with these rows as another board alike shows them; nothing, where it is kept whole and
+/// one of its characters would be of more than one byte.
 ///
 /// # Errors
 ///
 /// `Memory`.
 pub fn patch_text<B: Board>(
-    alloc: Global,
     names: &Names,
     ground: LayerId,
     shown: &B,
@@ -68,30 +66,29 @@ pub fn patch_text<B: Board>(
     rows: Columns<B::Words>,
     space: &mut CellSpace,
     kept: FrameText,
-) -> Result<FrameText, Memory>
+) -> Result<Option<FrameText>, Memory>
     requires ground { ground.0 ≡ background_layer names.now }
     requires width { (B.grid shown.now).width ≡ (B.grid board.now).width }
     requires height { (B.grid shown.now).height ≡ (B.grid board.now).height }
     requires layers { (B.grid shown.now).layers ≡ (B.grid board.now).layers }
     requires table { B.table shown.now ≡ B.table board.now }
-    requires rows { DifferOnlyOn rows (B.grid board.now) (B.grid shown.now) }
     requires kept { IsTextOf names.now (B.grid shown.now) kept }
-    ensures { IfOk result (λ text. IsTextOf names.now (B.grid board.now) text) }
+    ensures { IfOk result (λ made. IfSome made (λ text.
+        IsPatched names.now rows (B.grid board.now) (B.grid shown.now) text)) }
 {
     match kept {
         FrameText::Whole(text) => {
             let mut whole = text;
             if patch_frame(names, ground, shown, board, rows, space, &mut whole)? {
-                return Ok(FrameText::Whole(whole));
+                return Ok(Some(FrameText::Whole(whole)));
             }
-            let texts = draw_rows(alloc, names, ground, board, space)?;
-            Ok(FrameText::Rows(texts))
+            Ok(None)
         }
         FrameText::Rows(texts) => {
             let mut texts = texts;
             let drawn = texts.as_mut_slice();
             patch_rows(names, ground, shown, board, rows, space, drawn)?;
-            Ok(FrameText::Rows(texts))
+            Ok(Some(FrameText::Rows(texts)))
         }
     }
 }

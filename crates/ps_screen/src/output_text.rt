@@ -1,6 +1,6 @@
 //! What is to be written: bytes gathered before they go out.
 
-ghost use Rattle.std.specs.Prelude.{◌≡◌, ◌<◌, ◌≤◌, [], ◌++◌, OnOk, OnErr, encode_utf8, length, take, codes};
+ghost use Rattle.std.specs.Prelude.{◌≡◌, ◌<◌, ◌≤◌, ◌-◌, [], ◌++◌, OnOk, OnErr, encode_utf8, length, take, codes};
 ghost use Rattle.std.specs.Prelude.{slice_set};
 ghost use Rattle.std.specs.Fmt.{decimal};
 ghost use Rattle.std.specs.List.{flat_map};
@@ -98,17 +98,21 @@ impl OutputText {
         Ok(())
     }
 
-    /// Adds a row of a frame, which has these bytes.
+    /// Adds a row of a frame: these bytes but the last one, and a line feed in place of that.
     ///
     /// # Errors
     ///
-    /// `Memory`, and the bytes may have been added without the line feed behind them.
+    /// `Memory`, and the bytes are as before.
     pub fn add_row(&mut self, bytes: &[u8]) -> Result<(), Memory>
-        ensures added { OnOk result (self.new ≡ self.old ++ (bytes.now ++ codes "\n")) }
-        ensures front { OnErr result (take (length self.old) self.new ≡ self.old) }
+        requires { 0 < length bytes.now }
+        ensures added { OnOk result
+            (self.new ≡ self.old ++ (take (length bytes.now - 1) bytes.now ++ codes "\n")) }
+        ensures kept { OnErr result (self.new ≡ self.old) }
     {
         self.add(bytes)?;
-        self.add(b"\n")
+        let last = self.text.len() - 1;
+        self.text[last] = b'\n';
+        Ok(())
     }
 
     /// Adds a character, in UTF-8.

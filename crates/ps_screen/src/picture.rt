@@ -5,15 +5,16 @@ ghost use Rattle.ps_model.specs.board.Levels.{background_layer};
 ghost use Rattle.ps_model.specs.session.Frames.{frame};
 ghost use Rattle.ps_model.specs.session.Rooms.{frame_in, room_window, window_frame};
 ghost use Rattle.ps_screen.specs.FrameTexts.{IsTextOf};
+ghost use Rattle.ps_screen.specs.Windows.{AgreeInWindow, IsWindowOf};
 
 use crate::cells::CellSpace;
 use crate::frame_texts::{FrameText, add_text, draw_text, patch_text};
 use crate::meanings::ground_layer;
 use crate::output_text::OutputText;
-use crate::rooms::room_window;
+use crate::rooms::{room_window, rows_to_draw, whole_board};
 use crate::windows::add_window;
 use ps_board::Board;
-use ps_model::{LayerId, Memory, Room, RoomSize};
+use ps_model::{LayerId, Memory, Room, RoomSize, Window};
 use ps_names::Names;
 use std::alloc::Global;
 use std::marker::Model;
@@ -80,15 +81,16 @@ impl<'g, B: Board> Picture<'g, B> {
             self.ground,
             self.last.take(),
             board,
+            whole_board(board),
             &mut self.space,
         )?;
-        let added = add_text(self.names, board, &last.text, output);
+        let added = add_text(self.names, &last.board, &last.text, output);
         self.last = Some(last);
         added
     }
 
     /// Adds a frame of a room of a board to an output: its rows from the top, as far as the board goes, then an empty
-    /// line. What is made anew is what has changed of the whole board.
+    /// line. What is made anew is what has changed of the room's rows since they were shown.
     ///
     /// # Errors
     ///
@@ -105,19 +107,20 @@ impl<'g, B: Board> Picture<'g, B> {
             ++ window_frame self.old (B.grid board.now) (room_window size room (B.grid board.now))) }
         ensures kept { OnErr result (output.new ≡ output.old) }
     {
+        let window = room_window(board, size, room);
         let last = redraw(
             self.alloc,
             self.names,
             self.ground,
             self.last.take(),
             board,
+            window,
             &mut self.space,
         )?;
-        let window = room_window(board, size, room);
         let added = add_window(
             self.names,
             self.ground,
-            board,
+            &last.board,
             window,
             &last.text,
             &mut self.space,
@@ -150,8 +153,8 @@ impl<'g, B: Board> Picture<'g, B> {
     }
 }
 
-/// The text of a board's frame, and a board with the same frame. If a text of another board alike was kept, takes over
-/// what shows the same, and gives that board, which has what changed then.
+/// A board that shows what another one does in the rows of a part of it, and its frame's text. What was kept is taken
+/// over, where its board is alike, and what differs in these rows is drawn.
 ///
 /// # Errors
 ///
@@ -162,12 +165,16 @@ fn redraw<B: Board>(
     ground: LayerId,
     last: Option<LastFrame<B>>,
     board: &B,
+    window: Window,
     space: &mut CellSpace,
 ) -> Result<LastFrame<B>, Memory>
     requires ground { ground.0 ≡ background_layer names.now }
+    requires window { IsWindowOf (B.grid board.now) window }
     requires last { IfSome last (λ last. IsTextOf names.now (B.grid last.board) last.text) }
-    ensures text { IfOk result (λ last. IsTextOf names.now (B.grid board.now) last.text) }
-    ensures kept { IfOk result (λ last. IsTextOf names.now (B.grid last.board) last.text) }
+    ensures text { IfOk result (λ last. IsTextOf names.now (B.grid last.board) last.text) }
+    ensures shown { IfOk result (λ last. AgreeInWindow window (B.grid board.now) (B.grid last.board)) }
+    ensures width { IfOk result (λ last. (B.grid last.board).width ≡ (B.grid board.now).width) }
+    ensures height { IfOk result (λ last. (B.grid last.board).height ≡ (B.grid board.now).height) }
 {
     let Some(last) = last else {
         return draw(alloc, names, ground, None, board, space);
@@ -179,8 +186,10 @@ fn redraw<B: Board>(
     if !board.is_alike(&before) {
         return draw(alloc, names, ground, Some(text), board, space);
     }
-    let rows = board.rows_differing(&before);
-    let text = patch_text(alloc, names, ground, &before, board, rows, space, text)?;
+    let rows = rows_to_draw(board, &before, window);
+    let Some(text) = patch_text(names, ground, &before, board, rows, space, text)? else {
+        return draw(alloc, names, ground, None, board, space);
+    };
     board.copy_rows(&mut before, &rows);
     Ok(LastFrame {
         text,
@@ -202,8 +211,8 @@ fn draw<B: Board>(
     space: &mut CellSpace,
 ) -> Result<LastFrame<B>, Memory>
     requires { ground.0 ≡ background_layer names.now }
-    ensures text { IfOk result (λ last. IsTextOf names.now (B.grid board.now) last.text) }
-    ensures kept { IfOk result (λ last. IsTextOf names.now (B.grid last.board) last.text) }
+    ensures text { IfOk result (λ last. IsTextOf names.now (B.grid last.board) last.text) }
+    ensures board { IfOk result (λ last. B.grid last.board ≡ B.grid board.now) }
 {
     let text = draw_text(alloc, names, ground, board, space, kept)?;
     let board = board.try_copy(alloc)?;

@@ -3,8 +3,7 @@
 
 ghost use Rattle.std.specs.Prelude.{◌≡◌, IfOk, OnOk, true};
 ghost use Rattle.ps_model.specs.board.Levels.{background_layer};
-ghost use Rattle.ps_board.specs.Rows.{DifferOnlyOn};
-ghost use Rattle.ps_screen.specs.PlainFrames.{IsBlankFrame, IsPlainFrame};
+ghost use Rattle.ps_screen.specs.PlainFrames.{IsBlankFrame, IsPatchedFrame, IsPlainFrame};
 
 use crate::cells::CellSpace;
 use crate::output_text::OutputText;
@@ -42,8 +41,8 @@ pub fn draw_frame<B: Board>(
     Ok(true)
 }
 
-/// Makes a text, the plain frame of one board, that of another board alike, which shows the same objects outside of
-/// these rows, and answers whether each character of it is of one byte. Where not, the text is of no use.
+/// Makes these rows of a text, the plain frame of one board, those of another board alike, and answers whether each
+/// character of them is of one byte. Where not, the text is of no use.
 ///
 /// # Errors
 ///
@@ -62,9 +61,9 @@ pub fn patch_frame<B: Board>(
     requires height { (B.grid shown.now).height ≡ (B.grid board.now).height }
     requires layers { (B.grid shown.now).layers ≡ (B.grid board.now).layers }
     requires table { B.table shown.now ≡ B.table board.now }
-    requires rows { DifferOnlyOn rows (B.grid board.now) (B.grid shown.now) }
     requires text { IsPlainFrame names.now (B.grid shown.now) text.old }
-    ensures { IfOk result (λ plain. plain ≡ true → IsPlainFrame names.now (B.grid board.now) text.new) }
+    ensures { IfOk result (λ plain. plain ≡ true
+        → IsPatchedFrame names.now rows (B.grid board.now) (B.grid shown.now) text.new) }
 {
     let (width, height) = board.size();
     let columns = Columns::below(width);

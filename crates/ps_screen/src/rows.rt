@@ -3,8 +3,7 @@
 ghost use Rattle.std.specs.Prelude.{◌≡◌, ◌++◌, ◌<◌, IfOk, OnOk};
 ghost use Rattle.ps_model.specs.board.Levels.{background_layer};
 ghost use Rattle.ps_model.specs.session.Frames.{frame_row};
-ghost use Rattle.ps_board.specs.Rows.{DifferOnlyOn};
-ghost use Rattle.ps_screen.specs.KeptRows.{AreRowsOf};
+ghost use Rattle.ps_screen.specs.KeptRows.{ArePatchedRows, AreRowsOf};
 
 use crate::cells::{CellSpace, cell_character};
 use crate::output_text::OutputText;
@@ -39,8 +38,8 @@ pub fn draw_rows<B: Board>(
     Ok(texts)
 }
 
-/// Makes these texts, the rows of the frame of one board, those of another board alike, which shows the same objects
-/// outside of these rows: takes over what shows the same, and draws the rest.
+/// Makes these rows of texts, the rows of the frame of one board, those of another board alike: takes over what shows
+/// the same, and draws the rest.
 ///
 /// # Errors
 ///
@@ -59,9 +58,8 @@ pub fn patch_rows<B: Board>(
     requires height { (B.grid shown.now).height ≡ (B.grid board.now).height }
     requires layers { (B.grid shown.now).layers ≡ (B.grid board.now).layers }
     requires table { B.table shown.now ≡ B.table board.now }
-    requires rows { DifferOnlyOn rows (B.grid board.now) (B.grid shown.now) }
     requires texts { AreRowsOf names.now (B.grid shown.now) texts.old }
-    ensures { OnOk result (AreRowsOf names.now (B.grid board.now) texts.new) }
+    ensures { OnOk result (ArePatchedRows names.now rows (B.grid board.now) (B.grid shown.now) texts.new) }
 {
     let (_, height) = board.size();
     let mut left = rows.both(Columns::below(height));

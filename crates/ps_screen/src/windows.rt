@@ -33,7 +33,7 @@ fn stretch(text: &[u8], start: usize, count: usize) -> &[u8]
 ///
 /// # Errors
 ///
-/// `Memory`, and some of the bytes may have been added.
+/// `Memory`, and the output is as before.
 fn add_plain_part<B: Board>(
     names: &Names,
     board: &B,
@@ -46,10 +46,10 @@ fn add_plain_part<B: Board>(
     requires window { IsWindowOf (B.grid board.now) window }
     requires text { IsPlainRow names.now (B.grid board.now) row start text.now }
     ensures added { OnOk result (output.new ≡ output.old ++ window_row names.now (B.grid board.now) window row) }
-    ensures front { OnErr result (take (length output.old) output.new ≡ output.old) }
+    ensures kept { OnErr result (output.new ≡ output.old) }
 {
     let first = start as usize + window.first_column as usize;
-    output.add_row(stretch(text, first, window.columns as usize))
+    output.add_row(stretch(text, first, window.columns as usize + 1))
 }
 
 /// Draws the columns of a part of a board of a row.
@@ -112,6 +112,32 @@ fn add_part<B: Board>(
     draw_part(names, ground, board, row, window, space, output)
 }
 
+/// Adds the frame of a part of a board that has all its columns, by the plain frame of the whole board: there its rows
+/// stand one after the other.
+///
+/// # Errors
+///
+/// `Memory`, and its rows may have been added.
+fn add_whole_rows<B: Board>(
+    names: &Names,
+    board: &B,
+    window: Window,
+    text: &[u8],
+    output: &mut OutputText,
+) -> Result<(), Memory>
+    requires window { IsWindowOf (B.grid board.now) window }
+    requires columns { window.columns ≡ (B.grid board.now).width }
+    requires text { IsPlainFrame names.now (B.grid board.now) text.now }
+    ensures added { OnOk result (output.new ≡ output.old ++ window_frame names.now (B.grid board.now) window) }
+    ensures front { OnErr result (take (length output.old) output.new ≡ output.old) }
+{
+    let (_width, _height) = board.size();
+    let bytes_of_row = window.columns as usize + 1;
+    let start = window.first_row as usize * bytes_of_row;
+    output.add(stretch(text, start, window.rows as usize * bytes_of_row))?;
+    output.add(b"\n")
+}
+
 /// Adds the frame of a part of a board, by the plain frame of the whole board.
 ///
 /// # Errors
@@ -130,6 +156,9 @@ fn add_plain_window<B: Board>(
     ensures front { OnErr result (take (length output.old) output.new ≡ output.old) }
 {
     let (width, _height) = board.size();
+    if window.columns == width {
+        return add_whole_rows(names, board, window, text.bytes(), output);
+    }
     for step in 0..window.rows {
         let row = window.first_row + step;
         let start = row * (width + 1);

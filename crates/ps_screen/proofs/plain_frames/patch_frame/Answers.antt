@@ -5,8 +5,8 @@ use Rattle.ps_board.proofs.ColumnLaws.{none_in}
 use Rattle.ps_board.proofs.Taken.{was_in}
 use Rattle.ps_screen.specs.PlainFrames.{row_start}
 use Rattle.ps_screen.specs.PlainRows.{IsPlainRow}
-use Rattle.ps_screen.proofs.PlainFrames.{ends_stay, frame_drawn, has_ends, row_of, row_stays, row_written}
-use Rattle.ps_screen.proofs.PlainRows.{drawn_but, out_of_both, same_plain, within_width}
+use Rattle.ps_screen.proofs.PlainFrames.{ends_stay, has_ends, row_of, row_stays, row_written}
+use Rattle.ps_screen.proofs.PlainRows.{drawn_but, one_of_both, out_of_both, within_width}
 use Rattle.ps_screen.proofs.Taken.{first_gone, first_was_in, not_left}
 use Rattle.ps_screen.proofs.plain_frames.patch_frame.Goals as goal
 
@@ -21,10 +21,10 @@ loop-row-init g c =
     record {
       ends = rw (← c.requires.width, ← c.requires.height) (has_ends c.args.names.now before c.args.text.now c.requires.text);
       within = λ row small has. within_width c.args.rows after.height row small (ap (λ (set : List Bool). column_at set row) (sym made) ∙ has);
-      drawn = λ row under none.
-          same_plain c.args.names.now after before row (row_start after.width row) c.args.text.now c.requires.width c.requires.height
-          (c.requires.rows row under (out_of_both c.args.rows after.height row (omega (arith, under, low)) under (ap (λ (set : List Bool). column_at set row) (sym made) ∙ none)))
-          (was row under);
+      wanted = λ row small has. one_of_both c.args.rows (columns_below after.height) row small (ap (λ (set : List Bool). column_at set row) (sym made) ∙ has);
+      drawn = λ row under none on.
+          absurd (false≢true (sym (out_of_both c.args.rows after.height row (omega (arith, under, low)) under (ap (λ (set : List Bool). column_at set row) (sym made) ∙ none)) ∙ on));
+      kept = λ row under off. was row under;
       left = λ row under has. was row under;
     }
 
@@ -76,12 +76,17 @@ loop-row-preserved g c =
     record {
       ends = ends_stay after.width after.height first text drawn under wrote c.loop-row.invariant.ends;
       within = λ row small has. c.loop-row.invariant.within row small (was_in c.loop-row.left c.take_first.new.self first row c.in-Some.ensures.some small has);
-      drawn = λ row below none. elim (cases_eq row first) [
+      wanted = λ row small has. c.loop-row.invariant.wanted row small (was_in c.loop-row.left c.take_first.new.self first row c.in-Some.ensures.some small has);
+      drawn = λ row below none on. elim (cases_eq row first) [
         | inl e ↦ rw e plain
         | inr apart ↦ elim (not_left c.loop-row.left c.take_first.new.self first row c.in-Some.ensures.some (omega (arith, below, low)) none) [
           | inl e ↦ absurd (apart e)
-          | inr gone ↦ row_stays c.args.names.now after after first row text drawn refl apart wrote (c.loop-row.invariant.drawn row below gone)
+          | inr gone ↦ row_stays c.args.names.now after after first row text drawn refl apart wrote (c.loop-row.invariant.drawn row below gone on)
         ]
+      ];
+      kept = λ row below off. elim (cases_eq row first) [
+        | inl e ↦ absurd (false≢true (sym off ∙ ap (column_at c.args.rows) e ∙ c.loop-row.invariant.wanted first c.in-Some.ensures.within own))
+        | inr apart ↦ row_stays c.args.names.now after before first row text drawn c.requires.width apart wrote (c.loop-row.invariant.kept row below off)
       ];
       left = λ row below has. elim (cases_eq row first) [
         | inl e ↦ absurd (false≢true (sym (first_gone c.loop-row.left c.take_first.new.self first c.in-Some.ensures.some c.in-Some.ensures.within) ∙ ap (column_at c.take_first.new.self) (sym e) ∙ has))
@@ -93,6 +98,9 @@ loop-row-preserved g c =
 
 pub returns : goal.returns
 returns g c = λ plain.
-    let after = g.B.Board.grid c.args.board.now in
-    frame_drawn c.args.names.now after c.loop-row.text c.loop-row.invariant.ends
-    (λ row under. c.loop-row.invariant.drawn row under (none_in c.loop-row.left row (c.in_default.ensures.none refl) (omega (arith, under, c.size-width.ensures.shape.rows))))
+    record {
+      long = c.loop-row.invariant.ends.long;
+      drawn = λ row under. c.loop-row.invariant.drawn row under (none_in c.loop-row.left row (c.in_default.ensures.none refl) (omega (arith, under, c.size-width.ensures.shape.rows)));
+      kept = c.loop-row.invariant.kept;
+      end = c.loop-row.invariant.ends.end;
+    }

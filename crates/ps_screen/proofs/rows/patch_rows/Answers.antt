@@ -4,8 +4,7 @@ use Rattle.std.proofs.lemmas.List.{get_or-set_other, get_or-set_same, get_or_def
 use Rattle.ps_board.specs.ColumnSets.{both_columns, column_at, columns_below}
 use Rattle.ps_board.proofs.ColumnLaws.{none_in}
 use Rattle.ps_board.proofs.Taken.{was_in}
-use Rattle.ps_screen.proofs.KeptRows.{same_frame_row}
-use Rattle.ps_screen.proofs.PlainRows.{out_of_both, within_width}
+use Rattle.ps_screen.proofs.PlainRows.{one_of_both, out_of_both, within_width}
 use Rattle.ps_screen.proofs.Taken.{first_gone, first_was_in, not_left}
 use Rattle.ps_screen.proofs.rows.patch_rows.Goals as goal
 
@@ -19,10 +18,10 @@ loop-row-init g c =
     record {
       long = c.requires.texts.long ∙ c.requires.height;
       within = λ row small has. within_width c.args.rows after.height row small (ap (λ (set : List Bool). column_at set row) (sym made) ∙ has);
-      drawn = λ row under none.
-          c.requires.texts.each row (rw c.requires.height under)
-          ∙ same_frame_row c.args.names.now after before row c.requires.width c.requires.height
-          (c.requires.rows row under (out_of_both c.args.rows after.height row (omega (arith, under, low)) under (ap (λ (set : List Bool). column_at set row) (sym made) ∙ none)));
+      wanted = λ row small has. one_of_both c.args.rows (columns_below after.height) row small (ap (λ (set : List Bool). column_at set row) (sym made) ∙ has);
+      drawn = λ row under none on.
+          absurd (false≢true (sym (out_of_both c.args.rows after.height row (omega (arith, under, low)) under (ap (λ (set : List Bool). column_at set row) (sym made) ∙ none)) ∙ on));
+      kept = λ row under off. c.requires.texts.each row (rw c.requires.height under);
       left = λ row under has. c.requires.texts.each row under;
     }
 
@@ -56,12 +55,17 @@ loop-row-preserved g c =
     record {
       long = length-set texts first c.patch_row.new.text ∙ c.loop-row.invariant.long;
       within = λ row small has. c.loop-row.invariant.within row small (was_in c.loop-row.left c.take_first.new.self first row c.in-Some.ensures.some small has);
-      drawn = λ row below none. elim (cases_eq row first) [
+      wanted = λ row small has. c.loop-row.invariant.wanted row small (was_in c.loop-row.left c.take_first.new.self first row c.in-Some.ensures.some small has);
+      drawn = λ row below none on. elim (cases_eq row first) [
         | inl e ↦ rw e (get_or-set_same texts first c.patch_row.new.text [] inside ∙ c.in_ok-patch_row.ensures)
         | inr apart ↦ elim (not_left c.loop-row.left c.take_first.new.self first row c.in-Some.ensures.some (omega (arith, below, low)) none) [
           | inl e ↦ absurd (apart e)
-          | inr gone ↦ get_or-set_other texts first row c.patch_row.new.text [] apart ∙ c.loop-row.invariant.drawn row below gone
+          | inr gone ↦ get_or-set_other texts first row c.patch_row.new.text [] apart ∙ c.loop-row.invariant.drawn row below gone on
         ]
+      ];
+      kept = λ row below off. elim (cases_eq row first) [
+        | inl e ↦ absurd (false≢true (sym off ∙ ap (column_at c.args.rows) e ∙ c.loop-row.invariant.wanted first c.in-Some.ensures.within own))
+        | inr apart ↦ get_or-set_other texts first row c.patch_row.new.text [] apart ∙ c.loop-row.invariant.kept row below off
       ];
       left = λ row below has. elim (cases_eq row first) [
         | inl e ↦ absurd (false≢true (sym (first_gone c.loop-row.left c.take_first.new.self first c.in-Some.ensures.some c.in-Some.ensures.within) ∙ ap (column_at c.take_first.new.self) (sym e) ∙ has))
@@ -75,5 +79,6 @@ pub returns : goal.returns
 returns g c =
     record {
       long = c.loop-row.invariant.long;
-      each = λ row under. c.loop-row.invariant.drawn row under (none_in c.loop-row.left row (c.in_default.ensures.none refl) (omega (arith, under, c.size-height.ensures.shape.rows)));
+      drawn = λ row under. c.loop-row.invariant.drawn row under (none_in c.loop-row.left row (c.in_default.ensures.none refl) (omega (arith, under, c.size-height.ensures.shape.rows)));
+      kept = c.loop-row.invariant.kept;
     }

@@ -4,13 +4,15 @@ use Rattle.ps_model.specs.declared.limits.TheConstants.{SIDE_LIMIT}
 use Rattle.ps_board.specs.ColumnSets.{column_at, set_columns}
 use Rattle.ps_screen.proofs.rows.patch_rows.Given as goal
 
--- the rows that aren't left are those of the new frame, and the others still those of the last
+-- the rows of the set that aren't left are drawn, and all others are still those of the frame from before
 abbrev pub invariant-loop-row : goal.invariant-loop-row
 invariant-loop-row g l =
     record {
       long : length l.texts ≡ (g.B.Board.grid l.board).height;
       within : (row : ℕ) → row < SIDE_LIMIT → column_at l.left row ≡ true → row < (g.B.Board.grid l.board).height;
-      drawn : (row : ℕ) → row < (g.B.Board.grid l.board).height → column_at l.left row ≡ false → get_or l.texts row [] ≡ frame_row l.names (g.B.Board.grid l.board) row;
+      wanted : (row : ℕ) → row < SIDE_LIMIT → column_at l.left row ≡ true → column_at l.fn.rows row ≡ true;
+      kept : (row : ℕ) → row < (g.B.Board.grid l.board).height → column_at l.fn.rows row ≡ false → get_or l.texts row [] ≡ frame_row l.names (g.B.Board.grid l.shown) row;
+      drawn : (row : ℕ) → row < (g.B.Board.grid l.board).height → column_at l.left row ≡ false → column_at l.fn.rows row ≡ true → get_or l.texts row [] ≡ frame_row l.names (g.B.Board.grid l.board) row;
       left : (row : ℕ) → row < (g.B.Board.grid l.shown).height → column_at l.left row ≡ true → get_or l.texts row [] ≡ frame_row l.names (g.B.Board.grid l.shown) row;
     }
 

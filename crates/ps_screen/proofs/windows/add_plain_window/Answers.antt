@@ -8,7 +8,7 @@ add_plain_part-requires-clause-text g c =
     let grid = g.B.Board.grid c.args.board.now in
     let row : ℕ = c.args.window.first_row + c.loop-step.step in
     let under : row < grid.height = omega (arith, c.loop-step-test.true, c.requires.window.rows) in
-    rw (c.bytes.ensures, c.size-width.ensures.width) (c.requires.text.each row under)
+    rw (c.bytes-in-loop-step.ensures, c.size-width.ensures.width) (c.requires.text.each row under)
 
 pub loop-step-preserved : goal.loop-step-preserved
 loop-step-preserved g c =

@@ -1,10 +1,9 @@
 use Rattle.std.proofs.Common.{◌≡◌, ◌∙◌, ◌*◌, ℕ, List, length, refl, sym, subst, Bool}
 use Rattle.std.proofs.lemmas.Option.{same_Some}
-use Rattle.ps_board.specs.Rows.{DifferOnlyOn}
 use Rattle.ps_rows.specs.PlaneCopies.{AreRowsOf}
-use Rattle.ps_rows.specs.Showing.{AreMotionsShown, AreObjectsShown, cleared_from, grid_shown, motions_from}
+use Rattle.ps_rows.specs.Showing.{AreMotionsShown, AreObjectsShown, cleared_from, motions_from}
 use Rattle.ps_rows.proofs.Alike.{other_objects, other_whole}
-use Rattle.ps_rows.proofs.CopiesShown.{grid_copied, objects_copied}
+use Rattle.ps_rows.proofs.CopiesShown.{objects_copied, rows_copied, rows_left}
 use Rattle.ps_rows.proofs.Rests.{rested_motions, rested_objects}
 use Rattle.ps_rows.proofs.row_board.RowBoardBoard.copy_rows.Goals as goal
 
@@ -69,8 +68,8 @@ invariant_of-other-clause-motions g c =
     (sym c.requires.width) layered in
     subst (λ (h : ℕ). M o.members.table.items o.layers o.width h c.clear_from.new.self.words.items) (sym high) wide
 
-pub returns-clause-grid : goal.returns-clause-grid
-returns-clause-grid g c =
+pub returns-clause-copied : goal.returns-clause-copied
+returns-clause-copied g c =
     let b = c.args.self.now in
     let o = c.args.other.now in
     let table : List ℕ = b.members.table.items in
@@ -85,12 +84,30 @@ returns-clause-grid g c =
     sym c.copy_rows.new.other.words.ok.0 ∙ c.copy_rows.ensures.count
     ∙ other_whole table o.members.table.items b.layers o.layers height o.planes.height o.planes.words.len tables
     c.requires.layers c.requires.height o.whole in
-    let same : DifferOnlyOn c.args.rows.now (grid_shown table b.width height b.layers b.planes.words.items)
-    (grid_shown table b.width height b.layers o.planes.words.items) =
-    rw (tables, c.requires.width, c.requires.height, c.requires.layers) at c.requires.same in
     let so : c.clear_from.new.self.words.items ≡ cleared_from (length table * height) copied =
     c.clear_from.ensures.words ∙ rw (c.copy_rows.ensures.height, c.count-objects.ensures.value) refl in
     rw (c.clear_from.ensures.height, c.copy_rows.ensures.height, tables, c.requires.width, c.requires.layers)
-    (grid_copied table height c.args.rows.now b.planes.words.items o.planes.words.items copied b.planes.some_row are b.width
-    b.layers same (sym b.planes.words.ok.0 ∙ b.whole) whole
+    (rows_copied table height c.args.rows.now b.planes.words.items o.planes.words.items copied b.planes.some_row are b.width b.layers b.columns whole
+    c.clear_from.new.self.words.items so)
+
+pub returns-clause-left : goal.returns-clause-left
+returns-clause-left g c =
+    let b = c.args.self.now in
+    let o = c.args.other.now in
+    let table : List ℕ = b.members.table.items in
+    let height : ℕ = b.planes.height in
+    let copied : List (List Bool) = c.copy_rows.new.other.words.items in
+    let tables : o.members.table.items ≡ table = same_Some o.members.table.items table c.requires.table in
+    let P : ℕ →
+    Type 0 = λ count. AreRowsOf height 0 count c.args.rows.now b.planes.words.items o.planes.words.items copied in
+    let are : AreRowsOf height 0 (length table) c.args.rows.now b.planes.words.items o.planes.words.items copied =
+    subst P c.count-objects.ensures.value c.copy_rows.ensures.words in
+    let whole : length copied ≡ motions_from table b.layers * height =
+    sym c.copy_rows.new.other.words.ok.0 ∙ c.copy_rows.ensures.count
+    ∙ other_whole table o.members.table.items b.layers o.layers height o.planes.height o.planes.words.len tables
+    c.requires.layers c.requires.height o.whole in
+    let so : c.clear_from.new.self.words.items ≡ cleared_from (length table * height) copied =
+    c.clear_from.ensures.words ∙ rw (c.copy_rows.ensures.height, c.count-objects.ensures.value) refl in
+    rw (c.clear_from.ensures.height, c.copy_rows.ensures.height, tables, c.requires.width, c.requires.height, c.requires.layers)
+    (rows_left table height c.args.rows.now b.planes.words.items o.planes.words.items copied b.planes.some_row are b.width b.layers b.columns whole
     c.clear_from.new.self.words.items so)
