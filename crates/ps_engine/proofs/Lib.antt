@@ -21,3 +21,4 @@ pub mod Sleeping
 pub mod RowsAsleep
 pub mod Forgetting
 pub mod RoomsForgetting
+pub mod ComingBack

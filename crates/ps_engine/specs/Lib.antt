@@ -4,3 +4,4 @@ pub mod RulesInRoom
 pub mod OneCell
 pub mod Rooms
 pub mod Writing
+pub mod Watching

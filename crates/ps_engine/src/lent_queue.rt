@@ -1,6 +1,6 @@
 //! The commands that are queued in a turn.
 
-ghost use Rattle.std.specs.Prelude.{◌≡◌};
+ghost use Rattle.std.specs.Prelude.{◌≡◌, option_map, true};
 ghost use Rattle.ps_model.specs.rules.SourceRules.{no_commands};
 ghost use Rattle.ps_model.specs.board.Attempts.{both, queued};
 ghost use Rattle.ps_rules.specs.RulesShown.{commands_shown};
@@ -36,6 +36,18 @@ impl<'r> Model for LentQueue<'r> {
     } };
 }
 
+/// Whether two messages have the same text, if there are any.
+fn same_message(first: Option<&Text>, second: Option<&Text>) -> bool
+    ensures { result ≡ true
+        → option_map (λ text. text.now) first.entry ≡ option_map (λ text. text.now) second.entry }
+{
+    match (first, second) {
+        (None, None) => true,
+        (Some(text), Some(other)) => text.as_str() == other.as_str(),
+        (None, Some(_)) | (Some(_), None) => false,
+    }
+}
+
 impl<'r> LentQueue<'r> {
     /// A queue without commands.
     pub fn empty() -> LentQueue<'r>
@@ -49,6 +61,32 @@ impl<'r> LentQueue<'r> {
             win: false,
             message: None,
         }
+    }
+
+    /// A queue of the same commands.
+    pub fn copy(&self) -> LentQueue<'r>
+        ensures { result ≡ self.now }
+    {
+        LentQueue {
+            cancel: self.cancel,
+            restart: self.restart,
+            again: self.again,
+            checkpoint: self.checkpoint,
+            win: self.win,
+            message: self.message,
+        }
+    }
+
+    /// Whether another queue has the same commands.
+    pub fn is_same(&self, other: &LentQueue<'_>) -> bool
+        ensures { result ≡ true → self.now ≡ other.now }
+    {
+        self.cancel == other.cancel
+            && self.restart == other.restart
+            && self.again == other.again
+            && self.checkpoint == other.checkpoint
+            && self.win == other.win
+            && same_message(self.message, other.message)
     }
 
     /// The queue of a rule's commands alone.

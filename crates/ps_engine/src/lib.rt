@@ -3,6 +3,7 @@
 
 mod asking;
 mod attempts;
+mod kept_board;
 mod lent_queue;
 mod one_cell;
 mod one_part;
@@ -10,6 +11,8 @@ mod programs;
 mod rooms;
 mod rounds;
 mod walking;
+mod watch;
+mod watching;
 mod writing;
 
 pub use lent_queue::LentQueue;
@@ -17,3 +20,4 @@ pub use programs::run_program;
 pub use ps_match::{ListBoard, Scan};
 pub use ps_places::RoomFor;
 pub use rooms::rooms_for;
+pub use watch::KeptBoards;

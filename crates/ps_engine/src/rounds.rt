@@ -1,6 +1,6 @@
 //! Rounds, groups, and passes of a loop's body.
 
-ghost use Rattle.std.specs.Prelude.{◌≡◌, length};
+ghost use Rattle.std.specs.Prelude.{◌≡◌, IfOk, length};
 ghost use Rattle.ps_model.specs.board.Attempts.{Result as Meant, State};
 ghost use Rattle.ps_model.specs.board.Programs.{group, pass, round};
 ghost use Rattle.ps_engine.specs.RulesInRoom.{groups_meaning, rules_meaning};
@@ -8,9 +8,11 @@ ghost use Rattle.ps_engine.specs.Rooms.{GroupsHaveRooms, HaveRooms};
 ghost use Rattle.ps_match.specs.InRoom.{sides_of};
 
 use crate::attempts::attempt;
+use crate::kept_board::KeptBoard;
 use crate::lent_queue::LentQueue;
+use crate::watch::Watch;
 use ps_match::Scan;
-use ps_model::ROUND_LIMIT;
+use ps_model::{Memory, ROUND_LIMIT};
 use ps_places::RoomFor;
 use ps_program::CompiledRule;
 use ps_text::List;
@@ -44,25 +46,28 @@ pub fn play_group<'r, B: Scan>(
     board: &mut B,
     queue: &mut LentQueue<'r>,
     rooms: &mut [RoomFor<B>],
-) -> bool
+    kept: &mut KeptBoard<B>,
+) -> Result<bool, Memory>
     requires { HaveRooms (length rooms.old) rules.now }
     ensures group { let before : State = record { grid = B.grid board.old; queue = queue.old } in
         let after : State = record { grid = B.grid board.new; queue = queue.new } in
-        record { state = after; changed = result }
-        ≡ group (rules_meaning (B.table board.old) rules.now) before }
+        IfOk result (λ changed. record { state = after; changed = changed }
+        ≡ group (rules_meaning (B.table board.old) rules.now) before) }
     ensures table { B.table board.new ≡ B.table board.old }
     ensures sides { sides_of (B.grid board.new) ≡ sides_of (B.grid board.old) }
     ensures rooms { length rooms.new ≡ length rooms.old }
 {
+    let mut watch = Watch::new();
     let mut changed = false;
-    for _round in 0..ROUND_LIMIT {
-        let again = round(rules, board, queue, rooms);
-        if !again {
-            return changed;
+    let mut left = ROUND_LIMIT;
+    while 0 < left {
+        if !round(rules, board, queue, rooms) {
+            return Ok(changed);
         }
         changed = true;
+        left = watch.step(left - 1, board, queue, kept)?;
     }
-    changed
+    Ok(changed)
 }
 
 /// A pass of a loop's body: its groups in order. Answers whether one changed something.
@@ -71,19 +76,21 @@ pub fn pass<'r, B: Scan>(
     board: &mut B,
     queue: &mut LentQueue<'r>,
     rooms: &mut [RoomFor<B>],
-) -> bool
+    kept: &mut KeptBoard<B>,
+) -> Result<bool, Memory>
     requires { GroupsHaveRooms (length rooms.old) groups.now }
     ensures pass { let before : State = record { grid = B.grid board.old; queue = queue.old } in
         let after : State = record { grid = B.grid board.new; queue = queue.new } in
-        record { state = after; changed = result }
-        ≡ pass (groups_meaning (B.table board.old) groups.now) before }
+        IfOk result (λ changed. record { state = after; changed = changed }
+        ≡ pass (groups_meaning (B.table board.old) groups.now) before) }
     ensures table { B.table board.new ≡ B.table board.old }
     ensures sides { sides_of (B.grid board.new) ≡ sides_of (B.grid board.old) }
     ensures rooms { length rooms.new ≡ length rooms.old }
 {
     let mut changed = false;
     for rules in groups {
-        changed |= play_group(rules.as_slice(), board, queue, rooms);
+        let more = play_group(rules.as_slice(), board, queue, rooms, kept)?;
+        changed |= more;
     }
-    changed
+    Ok(changed)
 }

@@ -1,5 +1,5 @@
-//! Small rules on small boards; a dot is an empty cell. Letters stand on the lower layer, marks on the upper one. Behind an
-//! attempt all letters are small.
+//! Small rules on small boards; a dot is an empty cell. Letters stand on the lower layer, marks on the upper one.
+//! Behind an attempt all letters are small.
 
 ghost use Rattle.std.specs.Prelude.{◌≡◌, All, IfOk, IfSome};
 ghost use Rattle.ps_program.specs.Axes.{LiesAlong};

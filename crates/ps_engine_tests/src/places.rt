@@ -1,5 +1,5 @@
-//! Places that were worked out by hand; a dot is an empty cell. Letters stand on the lower of two layers. On the upper one
-//! each cell of a row puts a mark, the number of its part, so that a place is seen by the marks that it puts.
+//! Places that were worked out by hand; a dot is an empty cell. Letters stand on the lower of two layers. On the upper
+//! one each cell of a row puts a mark, the number of its part, so that a place is seen by the marks that it puts.
 
 ghost use Rattle.std.specs.Prelude.{◌<◌, All, IfOk, IfSome};
 ghost use Rattle.ps_laws.specs.WholeRows.{HasCells};
@@ -164,8 +164,8 @@ struct Found {
     first: Vec<Place>,
 }
 
-/// Counts a place of a row, which is seen by its marks on a copy of the board; of many places the first alone are looked
-/// at.
+/// Counts a place of a row, which is seen by its marks on a copy of the board; of many places the first alone are
+/// looked at.
 fn note<B: Scan>(
     alloc: Global,
     found: &mut Found,

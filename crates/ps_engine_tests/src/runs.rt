@@ -3,7 +3,7 @@
 
 ghost use Rattle.std.specs.Prelude.{◌≡◌, ◌<◌, IfOk, vec_len};
 
-use ps_engine::{LentQueue, ListBoard, rooms_for, run_program};
+use ps_engine::{KeptBoards, LentQueue, ListBoard, rooms_for, run_program};
 use ps_model::{LayerId, LayerWrite, LayeredObject, Memory, ObjectId, ObjectWrite};
 use ps_program::{
     Axis, CellMask, CellWrite, Commands, CompiledCell, CompiledRow, CompiledRule, CompiledSection,
@@ -118,12 +118,19 @@ pub fn play_group(
     sections.push(CompiledSection::Group(List::from_vec(rules)))?;
     let mut rooms = rooms_for(alloc, sections.as_slice())?;
     let mut queue = LentQueue::empty();
-    run_program(sections.as_slice(), board, &mut queue, rooms.as_mut_slice());
+    let mut kept = KeptBoards::new(alloc);
+    run_program(
+        sections.as_slice(),
+        board,
+        &mut queue,
+        rooms.as_mut_slice(),
+        &mut kept,
+    )?;
     Ok(queue.win)
 }
 
-/// Whether a rule's attempt that changes the board tells so: then its group has a second round, and what the board shows
-/// there, in cells that it showed nowhere before, is seen by a rule of the group that stands before it.
+/// Whether a rule's attempt that changes the board tells so: then its group has a second round, and what the board
+/// shows there, in cells that it showed nowhere before, is seen by a rule of the group that stands before it.
 pub fn tells_change<'r>(
     alloc: Global,
     axis: Axis,
@@ -160,6 +167,13 @@ pub fn tells_rest<'r>(
     sections.push(CompiledSection::Group(List::from_vec(behind)))?;
     let mut rooms = rooms_for(alloc, sections.as_slice())?;
     let mut queue = LentQueue::empty();
-    run_program(sections.as_slice(), board, &mut queue, rooms.as_mut_slice());
+    let mut kept = KeptBoards::new(alloc);
+    run_program(
+        sections.as_slice(),
+        board,
+        &mut queue,
+        rooms.as_mut_slice(),
+        &mut kept,
+    )?;
     Ok(queue.win)
 }

@@ -209,8 +209,8 @@ fn rule<'r>(
     CompiledRule::try_new(alloc, axis, List::from_vec(all), true, commands)
 }
 
-/// Plays an attempt of a rule of one row of these parts, which has a writer. The rules behind it in its group put others
-/// in place of emitters and mirrors, so that it fits nowhere in a second round.
+/// Plays an attempt of a rule of one row of these parts, which has a writer. The rules behind it in its group put
+/// others in place of emitters and mirrors, so that it fits nowhere in a second round.
 fn attempt_once(
     rt: &impl Abort,
     alloc: Global,

@@ -3,7 +3,7 @@
 ghost use Rattle.std.specs.Prelude.{◌≡◌, IfOk};
 
 use crate::queues::{lent, owned};
-use ps_engine::{RoomFor, Scan, rooms_for, run_program};
+use ps_engine::{KeptBoards, RoomFor, Scan, rooms_for, run_program};
 use ps_model::Memory;
 use ps_program::CompiledSection;
 use ps_turn::{Queue, Rules};
@@ -11,7 +11,8 @@ use std::alloc::Global;
 use std::marker::Model;
 
 /// The rules of one part of a turn: the sections of a compiled program, lent, and what their runs need besides the
-/// board. It is made once, so that a run takes no memory but for a message.
+/// board. It is made once, so that a run takes no memory but for a message, and, where a group makes many rounds for
+/// the first time, or a loop many passes, for a board that is kept.
 #[derive(Drop)]
 pub struct GameRules<'p, 'r, B: Scan> {
     /// Where the message of a run takes memory from.
@@ -19,6 +20,8 @@ pub struct GameRules<'p, 'r, B: Scan> {
     sections: &'p [CompiledSection<'r>],
     /// Room for the rows of a rule.
     rooms: Vec<RoomFor<B>>,
+    /// For rounds and passes that come back.
+    kept: KeptBoards<B>,
 }
 
 impl<'p, 'r, B: Scan> Model for GameRules<'p, 'r, B> {
@@ -46,6 +49,7 @@ impl<'p, 'r, B: Scan> GameRules<'p, 'r, B> {
             alloc,
             sections,
             rooms,
+            kept: KeptBoards::new(alloc),
         })
     }
 }
@@ -58,7 +62,8 @@ impl<'p, 'r, B: Scan> Rules<B> for GameRules<'p, 'r, B> {
     fn run(&mut self, board: &mut B, queue: &mut Queue) -> Result<(), Memory> {
         let after = {
             let mut during = lent(queue);
-            run_program(self.sections, board, &mut during, self.rooms.as_mut_slice());
+            let rooms = self.rooms.as_mut_slice();
+            run_program(self.sections, board, &mut during, rooms, &mut self.kept)?;
             owned(self.alloc, during)?
         };
         *queue = after;

@@ -1,7 +1,7 @@
 //! The compiled programs of a game as the rules of its turns.
 //!
-//! [`rules_of_sections`] lends the programs of a game to its turns. A game that is played by them has the runs of the game
-//! as it is written, on each kind of board that gives every object room on its own layer.
+//! [`rules_of_sections`] lends the programs of a game to its turns. A game that is played by them has the runs of the
+//! game as it is written, on each kind of board that gives every object room on its own layer.
 #![tactic(auto)]
 
 mod boards;

@@ -1,22 +1,25 @@
-use Rattle.std.proofs.Common.{◌≡◌}
+use Rattle.std.proofs.Common.{◌≡◌, ℕ}
 use Rattle.ps_match.specs.InRoom.{sides_of}
 use Rattle.ps_model.specs.board.Attempts.{State}
-use Rattle.ps_model.specs.board.Programs.{looped}
+use Rattle.ps_model.specs.board.Programs.{Progress, looped}
 use Rattle.ps_engine.specs.RulesInRoom.{groups_meaning}
+use Rattle.ps_engine.proofs.ComingBack.{Keeps}
 use Rattle.ps_engine.proofs.programs.play_loop.Given as goal
 
--- what is left of the loop comes to the same
-abbrev pub invariant-loop-repeats : goal.invariant-loop-repeats
-invariant-loop-repeats g l =
+-- what is left of the loop comes to the same, and what the watch keeps has come here
+abbrev pub invariant-loop-again : goal.invariant-loop-again
+invariant-loop-again g l =
     let before : State = record { grid = g.B.Board.grid l.fn.board; queue = l.fn.queue } in
     let now : State = record { grid = g.B.Board.grid l.board; queue = l.queue } in
     let table = g.B.Board.table l.fn.board in
+    let run : ℕ → State → Progress = looped (groups_meaning table l.groups) in
     record {
-      looped : looped (groups_meaning table l.groups) l.left now ≡ looped (groups_meaning table l.groups) l.fn.repeats before;
+      looped : run l.left now ≡ run l.fn.repeats before;
       table : g.B.Board.table l.board ≡ table;
       sides : sides_of (g.B.Board.grid l.board) ≡ sides_of (g.B.Board.grid l.fn.board);
+      keeps : Keeps run l.watch l.kept.of_passes now;
     }
 
 -- the repeats that are left
-abbrev pub decreases-loop-repeats : goal.decreases-loop-repeats
-decreases-loop-repeats g l = l.left
+abbrev pub decreases-loop-again : goal.decreases-loop-again
+decreases-loop-again g l = l.left

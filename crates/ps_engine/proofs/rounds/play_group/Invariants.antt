@@ -1,19 +1,25 @@
-use Rattle.std.proofs.Common.{◌≡◌, ◌-◌}
+use Rattle.std.proofs.Common.{◌≡◌, ℕ, true}
 use Rattle.ps_match.specs.InRoom.{sides_of}
-use Rattle.ps_model.specs.declared.limits.TheConstants.{ROUND_LIMIT}
-use Rattle.ps_model.specs.board.Attempts.{State}
+use Rattle.ps_model.specs.board.Attempts.{Result, State}
 use Rattle.ps_model.specs.board.Programs.{group, settled}
 use Rattle.ps_engine.specs.RulesInRoom.{rules_meaning}
+use Rattle.ps_engine.proofs.ComingBack.{Keeps}
 use Rattle.ps_engine.proofs.rounds.play_group.Given as goal
 
--- the rounds that are left are those of the group
-abbrev pub invariant-loop-round : goal.invariant-loop-round
-invariant-loop-round g l =
+-- the rounds that are left are those of the group, and what the watch keeps has come here
+abbrev pub invariant-loop-left : goal.invariant-loop-left
+invariant-loop-left g l =
     let before : State = record { grid = g.B.Board.grid l.fn.board; queue = l.fn.queue } in
     let now : State = record { grid = g.B.Board.grid l.board; queue = l.queue } in
     let table = g.B.Board.table l.fn.board in
+    let run : ℕ → State → Result = λ n state. settled (rules_meaning table l.rules) n true state in
     record {
-      group : settled (rules_meaning table l.rules) (ROUND_LIMIT - l._round) l.changed now ≡ group (rules_meaning table l.rules) before;
+      group : settled (rules_meaning table l.rules) l.left l.changed now ≡ group (rules_meaning table l.rules) before;
       table : g.B.Board.table l.board ≡ table;
       sides : sides_of (g.B.Board.grid l.board) ≡ sides_of (g.B.Board.grid l.fn.board);
+      keeps : Keeps run l.watch l.kept now;
     }
+
+-- the rounds that are left
+abbrev pub decreases-loop-left : goal.decreases-loop-left
+decreases-loop-left g l = l.left
