@@ -1,22 +1,28 @@
--- Runs that aren't right, whatever the game: what a run may answer leaves no room for them. Each law says of one of them
+-- Runs that aren't right, whatever the game: what a run may answer leaves no room for them. Each law says of one of
+-- them
 -- that it isn't allowed.
 use Rattle.std.specs.Prelude.{◌≡◌, ◌≢◌, ℕ, ◌+◌, ◌<◌, ◌≤◌, true, false, Some, List, [], ◌∷◌, ◌++◌, length, ◌⊎◌}
 use Rattle.std.specs.List.{concat}
 use Rattle.ps_model.specs.declared.play.Ending.TheVariants.{EndOfKeys}
 use Rattle.ps_model.specs.declared.limits.TheConstants.{READ_LIMIT, CALL_LIMIT}
 use Rattle.ps_model.specs.board.Turns.{Script}
-use Rattle.ps_model.specs.game.Outputs.{output}
-use Rattle.ps_model.specs.game.Tellings.{ReaderState, WriterState, Call, Gives, Unasked, Asked, Told, Tells, read, all_bytes, has_failing_call}
-use Rattle.ps_model.specs.game.Headline.{Answer, WantsMemory, CannotRead, CannotWrite, Answers, IsFront, RunsRightly, IsTrueOfText, script_of_text, texts_of}
+use Rattle.ps_model.specs.session.Keys.{keys_of}
+use Rattle.ps_model.specs.game.Outputs.{front, output}
+use Rattle.ps_model.specs.game.Tellings.{ReaderState, WriterState, Call, Gives, Unasked, Asked, Told, Tells, read}
+use Rattle.ps_model.specs.game.Tellings.{all_bytes, has_failing_call}
+use Rattle.ps_model.specs.game.Headline.{Answer, WantsMemory, CannotRead, CannotWrite, Answers, GaveNothing, IsFront}
+use Rattle.ps_model.specs.game.Headline.{RunsRightly}
+use Rattle.ps_model.specs.game.Headline.{IsTrueOfText, script_of_text, texts_of}
 
--- reading behind the ending -----------------------------------------------------------------------------------------------
+-- reading behind the ending -------------------------------------------------------------------------------------------
 
 -- the keys that were read had ended the game, and the run called the reader once more: it isn't allowed, whether that
 -- call gave bytes or failed, and whatever the run answered
 abbrev pub NoCallBehindEnding : Type 0
 NoCallBehindEnding =
     (text : List ℕ) (told : Told) (answer : Answer) (script : Script) (earlier : List (List ℕ)) (last : Call) →
-    script_of_text text ≡ Some script → told.reading ≡ Asked earlier last → (output script (concat earlier)).ending ≢ EndOfKeys →
+    script_of_text text ≡ Some script → told.reading ≡ Asked earlier last →
+    (output script (concat earlier)).ending ≢ EndOfKeys →
     Answers text told answer → ⊥
 
 -- the game had ended with what was read, and the run answers that it can't read: not even if its last call was the last
@@ -24,15 +30,35 @@ NoCallBehindEnding =
 abbrev pub NoReadFaultBehindEnding : Type 0
 NoReadFaultBehindEnding =
     (text : List ℕ) (told : Told) (script : Script) →
-    script_of_text text ≡ Some script → (output script (read told.reading)).ending ≢ EndOfKeys → Answers text told CannotRead → ⊥
+    script_of_text text ≡ Some script → (output script (read told.reading)).ending ≢ EndOfKeys →
+    Answers text told CannotRead → ⊥
 
 -- the game had ended and its whole output is written, and the run answers that it wants memory
 abbrev pub NoWantBehindEnding : Type 0
 NoWantBehindEnding =
     (text : List ℕ) (told : Told) (script : Script) →
-    script_of_text text ≡ Some script → told.wrote ≡ (output script (all_bytes told)).written → Answers text told WantsMemory → ⊥
+    script_of_text text ≡ Some script → told.wrote ≡ (output script (all_bytes told)).written →
+    Answers text told WantsMemory → ⊥
 
--- calls -------------------------------------------------------------------------------------------------------------------
+-- something is written, what was read brings no key, no call gave nothing, and the run answers that it wants memory: so
+-- neither does one that has called no reader, nor one that has read bytes alone which are no keys
+abbrev pub NoWantWithoutKey : Type 0
+NoWantWithoutKey =
+    (text : List ℕ) (told : Told) → told.wrote ≢ [] → keys_of (read told.reading) ≡ [] →
+    (GaveNothing told.reading → ⊥) → Answers text told WantsMemory → ⊥
+
+-- the texts of all keys that were read are written, each of which has something, no call gave nothing, and the run
+-- answers
+-- that it wants memory
+abbrev pub NoWantBehindAllKeys : Type 0
+NoWantBehindAllKeys =
+    (text : List ℕ) (told : Told) (script : Script) →
+    script_of_text text ≡ Some script → told.wrote ≢ [] → told.wrote ≡ texts_of script (read told.reading) →
+    ((keys : ℕ) → keys < length (keys_of (read told.reading)) →
+    front script (read told.reading) keys ≢ texts_of script (read told.reading)) →
+    (GaveNothing told.reading → ⊥) → Answers text told WantsMemory → ⊥
+
+-- calls ---------------------------------------------------------------------------------------------------------------
 
 -- the run made more calls than it may
 abbrev pub NoMoreCalls : Type 0
@@ -52,24 +78,31 @@ NoCallBehindEnd =
     (text : List ℕ) (told : Told) (answer : Answer) (before behind : List (List ℕ)) (last : Call) →
     told.reading ≡ Asked (before ++ [] ∷ behind) last → Answers text told answer → ⊥
 
--- a call of the reader had room for fewer bytes than a run asks for at a time, or for more: so no run asks for a byte at a
+-- a call of the reader had room for fewer bytes than a run asks for at a time, or for more: so no run asks for a byte
+-- at a
 -- time, not even one that stops at the last call that it makes, and none asks for 5,000 and tells of two calls
 abbrev pub NoOddSizedCall : Type 0
 NoOddSizedCall =
-    (text : List ℕ) (reader_before reader_after : ReaderState) (writer_before writer_after : WriterState) (answer : Answer) →
-    reader_before.odd_sized_calls < reader_after.odd_sized_calls → RunsRightly text reader_before reader_after writer_before writer_after answer → ⊥
+    (text : List ℕ) (reader_before reader_after : ReaderState) (writer_before writer_after : WriterState)
+    (answer : Answer) →
+    reader_before.odd_sized_calls < reader_after.odd_sized_calls →
+    RunsRightly text reader_before reader_after writer_before writer_after answer → ⊥
 
--- two calls of the reader gave nothing: however the bytes of the others are cut into pieces, one of the two was behind the
+-- two calls of the reader gave nothing: however the bytes of the others are cut into pieces, one of the two was behind
+-- the
 -- end of the keys, or had no room
 abbrev pub NoSecondEmptyCall : Type 0
 NoSecondEmptyCall =
-    (text : List ℕ) (reader_before reader_after : ReaderState) (writer_before writer_after : WriterState) (answer : Answer) →
-    reader_before.empty_calls + 1 < reader_after.empty_calls → RunsRightly text reader_before reader_after writer_before writer_after answer → ⊥
+    (text : List ℕ) (reader_before reader_after : ReaderState) (writer_before writer_after : WriterState)
+    (answer : Answer) →
+    reader_before.empty_calls + 1 < reader_after.empty_calls →
+    RunsRightly text reader_before reader_after writer_before writer_after answer → ⊥
 
 -- a call of the reader gave nothing, and the last one gave bytes, or failed
 abbrev pub NoCallBehindEmptyOne : Type 0
 NoCallBehindEmptyOne =
-    (text : List ℕ) (reader_before reader_after : ReaderState) (writer_before writer_after : WriterState) (answer : Answer) →
+    (text : List ℕ) (reader_before reader_after : ReaderState) (writer_before writer_after : WriterState)
+    (answer : Answer) →
     reader_before.empty_calls < reader_after.empty_calls → (0 < reader_after.last) ⊎ (reader_after.has_failed ≡ true) →
     RunsRightly text reader_before reader_after writer_before writer_after answer → ⊥
 
@@ -77,9 +110,10 @@ NoCallBehindEmptyOne =
 abbrev pub ReadsWhatWasThere : Type 0
 ReadsWhatWasThere =
     (reader_before reader_after : ReaderState) (writer_before writer_after : WriterState) (told : Told) (had : List ℕ) →
-    reader_before.remaining ≡ Some had → (IsFront (read told.reading) had → ⊥) → Tells reader_before reader_after writer_before writer_after told → ⊥
+    reader_before.remaining ≡ Some had → (IsFront (read told.reading) had → ⊥) →
+    Tells reader_before reader_after writer_before writer_after told → ⊥
 
--- failures ----------------------------------------------------------------------------------------------------------------
+-- failures ------------------------------------------------------------------------------------------------------------
 
 -- the reader failed, and the run answers otherwise
 abbrev pub ReadFaultIsTold : Type 0
@@ -104,34 +138,42 @@ NoWriteFaultUnfailed = (text : List ℕ) (told : Told) → told.writer_failed �
 -- a device had failed before the run
 abbrev pub NoRunOnFailedDevices : Type 0
 NoRunOnFailedDevices =
-    (text : List ℕ) (reader_before reader_after : ReaderState) (writer_before writer_after : WriterState) (answer : Answer) →
-    (reader_before.has_failed ≡ true) ⊎ (writer_before.has_failed ≡ true) → RunsRightly text reader_before reader_after writer_before writer_after answer → ⊥
+    (text : List ℕ) (reader_before reader_after : ReaderState) (writer_before writer_after : WriterState)
+    (answer : Answer) →
+    (reader_before.has_failed ≡ true) ⊎ (writer_before.has_failed ≡ true) →
+    RunsRightly text reader_before reader_after writer_before writer_after answer → ⊥
 
--- writing -----------------------------------------------------------------------------------------------------------------
+-- writing -------------------------------------------------------------------------------------------------------------
 
--- the reader wasn't called, and the run has written all that is written before a key, or more, and answers that it can't
+-- the reader wasn't called, and the run has written all that is written before a key, or more, and answers that it
+-- can't
 -- write
 abbrev pub NoWritingUnasked : Type 0
 NoWritingUnasked =
     (text : List ℕ) (told : Told) (script : Script) →
-    script_of_text text ≡ Some script → told.reading ≡ Unasked → IsFront (texts_of script []) told.wrote → Answers text told CannotWrite → ⊥
+    script_of_text text ≡ Some script → told.reading ≡ Unasked → IsFront (texts_of script []) told.wrote →
+    Answers text told CannotWrite → ⊥
 
 -- a write was handed no byte
 abbrev pub NoEmptyWrite : Type 0
 NoEmptyWrite =
-    (text : List ℕ) (reader_before reader_after : ReaderState) (writer_before writer_after : WriterState) (answer : Answer) →
-    writer_before.empty_calls < writer_after.empty_calls → RunsRightly text reader_before reader_after writer_before writer_after answer → ⊥
+    (text : List ℕ) (reader_before reader_after : ReaderState) (writer_before writer_after : WriterState)
+    (answer : Answer) →
+    writer_before.empty_calls < writer_after.empty_calls →
+    RunsRightly text reader_before reader_after writer_before writer_after answer → ⊥
 
 -- what a run that can't write has written isn't a front of the output of all bytes
 abbrev pub WritesFronts : Type 0
 WritesFronts =
     (text : List ℕ) (told : Told) (script : Script) →
-    script_of_text text ≡ Some script → (IsFront told.wrote (output script (all_bytes told)).written → ⊥) → Answers text told CannotWrite → ⊥
+    script_of_text text ≡ Some script → (IsFront told.wrote (output script (all_bytes told)).written → ⊥) →
+    Answers text told CannotWrite → ⊥
 
--- texts -------------------------------------------------------------------------------------------------------------------
+-- texts ---------------------------------------------------------------------------------------------------------------
 
 -- whatever the devices tell, a right answer is true of the text
 abbrev pub AnswersAreTrueOfTexts : Type 0
 AnswersAreTrueOfTexts =
-    (text : List ℕ) (reader_before reader_after : ReaderState) (writer_before writer_after : WriterState) (answer : Answer) →
+    (text : List ℕ) (reader_before reader_after : ReaderState) (writer_before writer_after : WriterState)
+    (answer : Answer) →
     RunsRightly text reader_before reader_after writer_before writer_after answer → IsTrueOfText text answer

@@ -9,6 +9,7 @@ ghost use Rattle.ps_laws.specs.Fronts.{FrontGrows, FrontOfOutput, FrontInPieces,
 ghost use Rattle.ps_laws.specs.Fronts.{OutputOfUnended, OutputOnceEnded, EndIsQuiet, EndStays, EndsOtherwise};
 ghost use Rattle.ps_laws.specs.Fronts.{WrittenByEnding};
 ghost use Rattle.ps_laws.specs.RunsNotAllowed.{NoCallBehindEnding, NoReadFaultBehindEnding, NoWantBehindEnding};
+ghost use Rattle.ps_laws.specs.RunsNotAllowed.{NoWantBehindAllKeys, NoWantWithoutKey};
 ghost use Rattle.ps_laws.specs.RunsNotAllowed.{NoMoreCalls, NoLongCall, NoCallBehindEnd, ReadsWhatWasThere};
 ghost use Rattle.ps_laws.specs.RunsNotAllowed.{NoOddSizedCall, NoSecondEmptyCall, NoCallBehindEmptyOne, NoEmptyWrite};
 ghost use Rattle.ps_laws.specs.RunsNotAllowed.{ReadFaultIsTold, WriteFaultIsTold, NoReadFaultUnasked};
@@ -69,11 +70,14 @@ pub fn ends_of_output()
 
 /// Runs that aren't allowed, whatever the game: calls of the reader behind the ending, behind its end, too many or too
 /// long, or with room for more or fewer bytes than a run asks for; writes of nothing; answers that tell of a failure
-/// that wasn't, or don't tell of one that was; and writing what isn't to be written.
+/// that wasn't, or don't tell of one that was; wanting memory where nothing was to be made; and writing what isn't to
+/// be written.
 pub fn runs_not_allowed()
     ensures no_call_behind_ending { NoCallBehindEnding }
     ensures no_read_fault_behind_ending { NoReadFaultBehindEnding }
     ensures no_want_behind_ending { NoWantBehindEnding }
+    ensures no_want_without_key { NoWantWithoutKey }
+    ensures no_want_behind_all_keys { NoWantBehindAllKeys }
     ensures no_more_calls { NoMoreCalls }
     ensures no_long_call { NoLongCall }
     ensures no_call_behind_end { NoCallBehindEnd }

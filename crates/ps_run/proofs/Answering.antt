@@ -78,6 +78,7 @@ stops a b same told so =
       writer_is_well = so.writer_is_well;
       keys = length (keys_of so.behind);
       enough = omega arith;
+      wanting = so.wanting;
       goes_on = ap (λ (keys : List Key). (output_of_keys b start.session (ending_of start.session) keys).ending) first ∙ same_going_on a b same so.behind so.goes_on;
       wrote = so.wrote ∙ (same.whole_fronts so.behind ∙ (whole_is b so.behind ∙ ap (λ (keys : List Key). start.text ++ texts_of_keys b start.session keys) (all_keys so.behind ∙ sym first)));
     }

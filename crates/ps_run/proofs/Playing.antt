@@ -2,7 +2,7 @@
 use Rattle.std.proofs.Common.{◌≡◌, ◌∙◌, ℕ, zero, suc, ◌+◌, ◌<◌, ◌≤◌, ◌-◌, List, [], ◌∷◌, ◌++◌, length, take, drop}
 use Rattle.std.proofs.Common.{get_or, Option, Some, None, refl, sym, subst, ap, append_assoc, append-nil, arith, Result}
 use Rattle.std.proofs.Common.{Ok, Err}
-use Rattle.std.specs.Prelude.{OnOk, IfErr}
+use Rattle.std.specs.Prelude.{OnOk, IfErr, option_to_list}
 use Rattle.std.proofs.lemmas.Grind.{common_steps}
 use Rattle.std.proofs.lemmas.List.{take-append-drop, length-append}
 use Rattle.ps_model.specs.declared.held.Held.{Held}
@@ -17,7 +17,7 @@ use Rattle.ps_model.specs.game.Outputs.{texts_of_keys, ending_of}
 use Rattle.ps_model.specs.game.Tellings.{WriterState}
 use Rattle.ps_laws.specs.Fronts.{session_of, whole_front}
 use Rattle.ps_laws.proofs.keys.Fronts.{front_in_pieces}
-use Rattle.ps_laws.proofs.keys.KeysInPieces.{read_byte_by_byte}
+use Rattle.ps_laws.proofs.keys.KeysInPieces.{keys_of-append, read_byte_by_byte}
 use Rattle.ps_laws.proofs.sessions.SessionSteps.{silent_bytes, keys_write}
 use Rattle.ps_devices.specs.Devices.{Grows}
 use Rattle.ps_devices.proofs.Pieces.{grows_twice}
@@ -119,11 +119,15 @@ pub byte_stops :
     StopsAs fault script before later read (byte ∷ [])
 byte_stops Memory script before now later session kept read byte key brings unended stops played =
     let same : read ++ take 0 (byte ∷ []) ≡ read = append-nil read in
+    let one : length (keys_of (read ++ byte ∷ [])) ≡ length (keys_of read) + 1 =
+    ap length (sym (read_byte_by_byte read byte kept played.held).0 ∙ ap (λ (k : Option Key). keys_of read ++ option_to_list k) brings)
+    ∙ length-append (keys_of read) (key ∷ []) in
     record {
       was_well = played.was_well;
       count = 0;
       wrote = rw same (taken_no_more before now later (whole_front script read) played.wrote stops.0 stops.1 stops.2);
       goes_on = rw same (ap ending_of (sym played.session) ∙ unended refl);
+      wanting = rw same (omega (arith, one));
     }
 byte_stops Write script before now later session kept read byte key brings unended stops played =
     let wrote = keys_write script read byte kept key played.held brings in
@@ -174,6 +178,13 @@ part_of_piece read piece i (suc count) within = (
     one_byte zero byte = refl
     one_byte (suc count) byte = refl
 
+-- bytes bring no more keys than they do with others behind them
+fewer_keys : (first second : List ℕ) → length (keys_of first) ≤ length (keys_of (first ++ second))
+fewer_keys first second =
+    let parts : length (keys_of (first ++ second)) ≡ length (keys_of first) + length (keys_of (keys.held first ++ second)) =
+    ap length (keys_of-append first second) ∙ length-append (keys_of first) (keys_of (keys.held first ++ second)) in
+    omega (arith, parts)
+
 -- a piece that stops at one of its bytes
 pub piece_stops :
     (fault : PieceFault) (script : Script) (before now : WriterState) (read piece : List ℕ) (i : ℕ) → i < length piece →
@@ -186,6 +197,14 @@ piece_stops Memory script before now read piece i within stops =
       count = part.0;
       wrote = rw (← part.1) stops.wrote;
       goes_on = rw (← part.1) stops.goes_on;
+      wanting = rw (← part.1)
+          (let upto : length (keys_of ((read ++ take i piece) ++ get_or piece i 0 ∷ [])) ≡ length (keys_of (read ++ take (i + 1) piece)) =
+          ap (λ bytes. length (keys_of bytes)) (piece_to read piece i within) in
+          let all = fewer_keys (read ++ take (i + 1) piece) (drop (i + 1) piece) in
+          let whole : length (keys_of ((read ++ take (i + 1) piece) ++ drop (i + 1) piece)) ≡ length (keys_of (read ++ piece)) =
+          ap (λ bytes. length (keys_of bytes)) (append_assoc read (take (i + 1) piece) (drop (i + 1) piece)
+          ∙ ap (λ bytes. read ++ bytes) (take-append-drop (i + 1) piece)) in
+          omega (arith, stops.wanting, upto, all, whole));
     }
 piece_stops Write script before now read piece i within stops =
     let rest : (read ++ take (i + 1) piece) ++ drop (i + 1) piece ≡ read ++ piece =

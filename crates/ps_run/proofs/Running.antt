@@ -318,6 +318,7 @@ keys_ended_unwritten piece.Memory script had mid has before now later session ke
         enough = ([], sym same ∙ sym (append-nil (concat pieces)));
         within = ([], joined ∙ sym (append-nil bytes));
         goes_on = on;
+        wanting = inr refl;
         wrote = refl;
       };
     }
@@ -412,6 +413,7 @@ piece_unwritten piece.Memory script had mid has before now later session kept co
               ∙ sym (append_assoc bytes (take stopped.count given) (drop stopped.count given)),
         );
         goes_on = tells.goes_on script behind stopped.goes_on;
+        wanting = inl (rw same stopped.wanting);
         wrote = refl;
       };
     }

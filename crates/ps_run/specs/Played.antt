@@ -1,8 +1,9 @@
 -- How far a run has come with the bytes that it has read.
-use Rattle.std.specs.Prelude.{◌≡◌, ℕ, ◌+◌, ◌≤◌, Bool, false, Option, None, List, ◌++◌, length, take}
+use Rattle.std.specs.Prelude.{◌≡◌, ℕ, ◌+◌, ◌<◌, ◌≤◌, Bool, false, Option, None, List, ◌++◌, length, take}
 use Rattle.ps_model.specs.declared.held.Held.{Held}
 use Rattle.ps_model.specs.board.Turns.{Script}
 use Rattle.ps_model.specs.session.HeldKeys as keys
+use Rattle.ps_model.specs.session.Keys.{keys_of}
 use Rattle.ps_model.specs.session.Sessions.{Session}
 use Rattle.ps_model.specs.game.Headline.{IsFront, IsCutOff}
 use Rattle.ps_model.specs.game.Outputs.{ending_of}
@@ -30,13 +31,14 @@ pub record HavePlayed (script : Script) (before now : WriterState) (current : Se
   pub held : keys.bytes_of kept ≡ keys.held read
   pub wrote : HasTaken before now (whole_front script read)
 
--- memory was refused at a byte of a piece: the texts of the keys before it are written, and nothing else; the game went on
--- behind them
+-- memory was refused at a byte of a piece that brings a key: the texts of the keys before it are written, and nothing else; the
+-- game went on behind them
 pub record WantsMemory (script : Script) (before now : WriterState) (read piece : List ℕ) : Type 0 where
   pub was_well : before.has_failed ≡ false
   pub count : ℕ
   pub wrote : HasTaken before now (whole_front script (read ++ take count piece))
   pub goes_on : ending_of (session_of script (read ++ take count piece)) ≡ None
+  pub wanting : length (keys_of (read ++ take count piece)) < length (keys_of (read ++ piece))
 
 -- the writer failed at a text of a piece: what it took has the texts of the keys before the piece, and is cut off from those
 -- of all its keys

@@ -1,12 +1,13 @@
 -- How a run of a script comes to its answer.
-use Rattle.std.specs.Prelude.{◌≡◌, ℕ, ◌+◌, ◌≤◌, ◌⊎◌, ⊤, List, [], ◌++◌, length, Result, Ok, Err}
+use Rattle.std.specs.Prelude.{◌≡◌, ℕ, ◌+◌, ◌<◌, ◌≤◌, ◌⊎◌, ⊤, List, [], ◌++◌, length, Result, Ok, Err}
 use Rattle.std.specs.List.{All, concat}
 use Rattle.ps_model.specs.declared.limits.TheConstants.{READ_LIMIT}
 use Rattle.ps_model.specs.declared.held.Held.{Held}
 use Rattle.ps_model.specs.declared.play.Ending.{Ending}
 use Rattle.ps_model.specs.board.Turns.{Script}
+use Rattle.ps_model.specs.session.Keys.{keys_of}
 use Rattle.ps_model.specs.session.Sessions.{Session}
-use Rattle.ps_model.specs.game.Headline.{IsFront, IsPiece, GoesOn, ReadsInTurn, ReaderIsWell, WriterIsWell, EndsAsMeant, CannotReadRightly, CannotWriteRightly}
+use Rattle.ps_model.specs.game.Headline.{IsFront, IsPiece, GaveNothing, GoesOn, ReadsInTurn, ReaderIsWell, WriterIsWell, EndsAsMeant, CannotReadRightly, CannotWriteRightly}
 use Rattle.ps_model.specs.game.Tellings.{ReaderState, WriterState, Gives, Fails, ReaderCalls, Unasked, Asked, Told, Tells, read, read_before, last_behind}
 use Rattle.ps_laws.specs.Fronts.{whole_front}
 use Rattle.ps_devices.specs.Devices.{Loses}
@@ -45,7 +46,7 @@ pub record Stands (script : Script) (had has : ReaderState) (before now : Writer
   pub played : HavePlayed script before now session kept (read reading)
 
 -- memory was refused in play: the texts of the keys of some bytes are written, whole; of all that were read before the last
--- call, and perhaps of some that it gave. The game went on behind them
+-- call, and perhaps of some that it gave. The game went on behind them, and more keys were read, or the last call gave nothing
 pub record StopsInPlay (script : Script) (told : Told) : Type 0 where
   pub reads : ReadsInTurn script told.reading told.left
   pub reader_is_well : ReaderIsWell told
@@ -54,6 +55,7 @@ pub record StopsInPlay (script : Script) (told : Told) : Type 0 where
   pub enough : IsFront (read_before told.reading) behind
   pub within : IsFront behind (read told.reading)
   pub goes_on : GoesOn script behind
+  pub wanting : (length (keys_of behind) < length (keys_of (read told.reading))) ⊎ GaveNothing told.reading
   pub wrote : told.wrote ≡ whole_front script behind
 
 -- what is so by the answer

@@ -1,6 +1,6 @@
 //! A game that is played on boards of the kind that a level asks for.
 
-ghost use Rattle.std.specs.Prelude.{◌≡◌, ◌*◌, ◌≤◌, IfOk};
+ghost use Rattle.std.specs.Prelude.{◌≡◌, ◌*◌, ◌-◌, ◌≤◌, IfOk};
 ghost use Rattle.ps_model.specs.declared.limits.TheConstants.{SIDE_LIMIT};
 ghost use Rattle.ps_model.specs.game.Outputs.{ending_of};
 ghost use Rattle.ps_stage.specs.Sides.{side_at};
@@ -15,8 +15,8 @@ use ps_screen::OutputText;
 use ps_session::{BoardSides, SessionGame, Stop};
 use std::alloc::Global;
 
-/// A game that is played on boards whose rows are kept by as many words as the longer side of a level needs. It is ended
-/// by [`end`](SizedPlay::end).
+/// A game that is played on boards whose rows are kept by as many words as the longer side of a level needs. It is
+/// ended by [`end`](SizedPlay::end).
 pub enum SizedPlay<'g> {
     One(RowPlay<'g, OneWord>),
     Two(RowPlay<'g, ManyWords<2>>),
@@ -27,7 +27,8 @@ pub enum SizedPlay<'g> {
 /// The longer sides of levels whose rows are kept by so many words, and by no fewer.
 fn sides_of(words: u32) -> BoardSides
     requires { words ≤ 4 }
-    ensures { result.most ≡ words * WORD_BITS }
+    ensures above { result.above ≡ words * WORD_BITS - WORD_BITS }
+    ensures most { result.most ≡ words * WORD_BITS }
 {
     let most = words * WORD_BITS;
     BoardSides {

@@ -1,6 +1,6 @@
 -- Whole runs that are right, worked by hand: the reader gives a byte at a call, or all that it has; the writer takes all,
 -- or fails within a frame; memory is refused before anything is written, or behind a frame.
-use Rattle.std.proofs.Common.{◌≡◌, ℕ, inl, inr, List, [], ◌∷◌, refl, Some, true, false, arith}
+use Rattle.std.proofs.Common.{◌<◌, ◌≡◌, ℕ, inl, inr, List, [], ◌∷◌, refl, Some, true, false, arith}
 use Rattle.std.specs.Prelude.{codes}
 use Rattle.std.specs.Str.{chars, is_utf8}
 use Rattle.std.specs.Str.Lossy.{utf8_valid_len}
@@ -171,6 +171,7 @@ behind_a_frame = inr (
     keys = 1;
     enough = omega arith;
     goes_on = refl;
+    wanting = inl (let fewer : 1 < 2 = omega arith in fewer);
     wrote = refl;
   },
 )

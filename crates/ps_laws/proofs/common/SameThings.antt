@@ -1,6 +1,6 @@
 -- Objects, motions, slots and cells: what passes a test for being the same is the same, and each is the same as itself.
-use Rattle.std.proofs.Common.{◌≡◌, ℕ, zero, suc, true, Option, Some, None, List, [], ◌∷◌, refl, sym, ◌∙◌, ap}
-use Rattle.std.proofs.lemmas.Bool.{eqb-true, eq-eqb, false≢true}
+use Rattle.std.proofs.Common.{◌≡◌, ℕ, zero, suc, true, Option, Some, None, List, [], ◌∷◌, refl, sym, ◌∙◌, ap, ap₂}
+use Rattle.std.proofs.lemmas.Bool.{and_parts, eqb-true, eq-eqb, false≢true}
 use Rattle.ps_model.specs.declared.pieces.Direction.TheVariants.{Up, Down, Left, Right}
 use Rattle.ps_model.specs.declared.pieces.Motion.{Motion}
 use Rattle.ps_model.specs.declared.pieces.Motion.TheVariants.{Still, Going, Acting}
@@ -10,7 +10,9 @@ use Rattle.ps_model.specs.declared.pieces.Slot.TheVariants.{Bare, Holds}
 use Rattle.ps_model.specs.names.Names.{same_object}
 use Rattle.ps_model.specs.meaning.Fitting.{motion_number, same_motion}
 use Rattle.ps_model.specs.board.Attempts.{same_slot, same_cell}
+use Rattle.ps_model.specs.board.Grid.{Grid}
 use Rattle.ps_model.specs.board.Movement.{is_number}
+use Rattle.ps_model.specs.board.Turns.{same_cells}
 
 -- numbers that may be absent
 pub is_number-true : (o : Option ℕ) (t : ℕ) → is_number o t ≡ true → o ≡ Some t
@@ -49,7 +51,8 @@ motion_of-number Acting = refl
 
 pub same_motion-true : (first second : Motion) → same_motion first second ≡ true → first ≡ second
 same_motion-true first second e =
-    sym (motion_of-number first) ∙ ap motion_of (eqb-true (motion_number first) (motion_number second) e) ∙ motion_of-number second
+    sym (motion_of-number first) ∙ ap motion_of (eqb-true (motion_number first) (motion_number second) e)
+    ∙ motion_of-number second
 
 -- slots and cells
 pub same_slot-own : (slot : Slot) → same_slot slot slot ≡ true
@@ -60,3 +63,43 @@ same_slot-own (Holds object motion) =
 pub same_cell-own : (cell : List Slot) → same_cell cell cell ≡ true
 same_cell-own [] = refl
 same_cell-own (slot ∷ slots) = rw (same_slot-own slot) (same_cell-own slots)
+
+pub same_cells-own : (cells : List (List Slot)) → same_cells cells cells ≡ true
+same_cells-own [] = refl
+same_cells-own (cell ∷ cells) = rw (same_cell-own cell) (same_cells-own cells)
+
+pub same_slot-true : (first second : Slot) → same_slot first second ≡ true → first ≡ second
+same_slot-true Bare Bare h = refl
+same_slot-true Bare (Holds object motion) h = absurd (false≢true h)
+same_slot-true (Holds object motion) Bare h = absurd (false≢true h)
+same_slot-true (Holds object motion) (Holds other moving) h =
+    let parts = and_parts (same_object object other) (same_motion motion moving) h in
+    ap₂ (λ (o : ObjectId) (m : Motion). let slot : Slot = Holds o m in slot) (same_object-true object other parts.0)
+    (same_motion-true motion moving parts.1)
+
+pub same_cell-true : (first second : List Slot) → same_cell first second ≡ true → first ≡ second
+same_cell-true [] [] h = refl
+same_cell-true [] (y ∷ ys) h = absurd (false≢true h)
+same_cell-true (x ∷ xs) [] h = absurd (false≢true h)
+same_cell-true (x ∷ xs) (y ∷ ys) h =
+    let parts = and_parts (same_slot x y) (same_cell xs ys) h in
+    ap₂ (λ (z : Slot) (zs : List Slot). z ∷ zs) (same_slot-true x y parts.0) (same_cell-true xs ys parts.1)
+
+pub same_cells-true : (first second : List (List Slot)) → same_cells first second ≡ true → first ≡ second
+same_cells-true [] [] h = refl
+same_cells-true [] (y ∷ ys) h = absurd (false≢true h)
+same_cells-true (x ∷ xs) [] h = absurd (false≢true h)
+same_cells-true (x ∷ xs) (y ∷ ys) h =
+    let parts = and_parts (same_cell x y) (same_cells xs ys) h in
+    ap₂ (λ (z : List Slot) (zs : List (List Slot)). z ∷ zs) (same_cell-true x y parts.0) (same_cells-true xs ys parts.1)
+
+-- grids
+abbrev grid_of : ℕ → ℕ → ℕ → List (List Slot) → Grid
+grid_of width height layers cells = record { width = width; height = height; layers = layers; cells = cells }
+
+-- those of one size whose cells are the same
+pub same_grid : (g h : Grid) → g.width ≡ h.width → g.height ≡ h.height → g.layers ≡ h.layers →
+    same_cells g.cells h.cells ≡ true → g ≡ h
+same_grid g h wide high layered same =
+    ap₂ (λ (width height : ℕ). grid_of width height g.layers g.cells) wide high
+    ∙ ap₂ (grid_of h.width h.height) layered (same_cells-true g.cells h.cells same)

@@ -117,7 +117,8 @@ pub record StopsAtOnce (told : Told) : Type 0 where
   pub writer_is_well : WriterIsWell told
 
 -- memory was refused in play: what was written is the opening and the texts of so many keys, whole, and not fewer than
--- were read before the last call; the game went on behind them
+-- were read before the last call; the game went on behind them, and more was to be made: the text of a key that was
+-- read, or, where the last call gave nothing, the line that says so
 pub record StopsForMemory (script : Script) (told : Told) : Type 0 where
   pub reads : ReadsInTurn script told.reading told.left
   pub reader_is_well : ReaderIsWell told
@@ -125,6 +126,7 @@ pub record StopsForMemory (script : Script) (told : Told) : Type 0 where
   pub keys : ℕ
   pub enough : length (keys_of (read_before told.reading)) ≤ keys
   pub goes_on : ending_behind script (read told.reading) keys ≡ EndOfKeys
+  pub wanting : (keys < length (keys_of (read told.reading))) ⊎ GaveNothing told.reading
   pub wrote : told.wrote ≡ front script (read told.reading) keys
 
 -- memory was refused at once, or in play
