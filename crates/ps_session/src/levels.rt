@@ -127,8 +127,8 @@ fn restarts<B: Board, R: Rules<B>>(
 ///
 /// # Errors
 ///
-/// `Memory`, or `Elsewhere` where the key ends the level and the next entry is a level for other boards; the level is as
-/// before.
+/// `Memory`, or `Elsewhere` where the key ends the level and the next entry is a level for other boards; the level is
+/// as before.
 pub fn key_in_level<B: Board, H: History<B>, R: Rules<B>>(
     stage: &mut Stage<'_, B>,
     rules: &mut TurnRules<B, R>,

@@ -48,8 +48,8 @@ impl<'g, B: Board, H: History<B>> Model for Session<'g, B, H> {
 }
 
 impl<'g, B: Board, H: History<B>> Session<'g, B, H> {
-    /// Starts a game at an entry, on boards for levels with such sides, which have room for that entry: adds to the output
-    /// what the entry writes.
+    /// Starts a game at an entry, on boards for levels with such sides, which have room for that entry: adds to the
+    /// output what the entry writes.
     ///
     /// # Errors
     ///
@@ -66,9 +66,11 @@ impl<'g, B: Board, H: History<B>> Session<'g, B, H> {
         requires room { side_at game.entries entry ≤ B.Words.limit }
         ensures game { IfOk result (λ session. session.game ≡ game.entry) }
         ensures session { IfOk result (λ session. session.session
-            ≡ (enter (script_for B.table_for game.entry (R.meant rules.old.plain) (R.meant rules.old.late)) entry).session) }
+            ≡ (enter (script_for B.table_for game.entry (R.meant rules.old.plain) (R.meant rules.old.late))
+            entry).session) }
         ensures written { OnOk result (output.new ≡ output.old
-            ++ (enter (script_for B.table_for game.entry (R.meant rules.old.plain) (R.meant rules.old.late)) entry).text) }
+            ++ (enter (script_for B.table_for game.entry (R.meant rules.old.plain) (R.meant rules.old.late))
+            entry).text) }
         ensures kept { OnErr result (output.new ≡ output.old) }
         ensures plain { R.meant rules.new.plain ≡ R.meant rules.old.plain }
         ensures late { R.meant rules.new.late ≡ R.meant rules.old.late }
@@ -89,9 +91,9 @@ impl<'g, B: Board, H: History<B>> Session<'g, B, H> {
     ///
     /// # Errors
     ///
-    /// `Memory`: the session and the output are as before, and the same key may be tried again. `Elsewhere`: the key leads
-    /// to an entry that is a level for other boards. The session is as before, and the output has what the key writes
-    /// before that entry begins.
+    /// `Memory`: the session and the output are as before, and the same key may be tried again. `Elsewhere`: the key
+    /// leads to an entry that is a level for other boards. The session is as before, and the output has what the key
+    /// writes before that entry begins.
     pub fn key<R: Rules<B>>(
         &mut self,
         rules: &mut TurnRules<B, R>,
@@ -107,7 +109,8 @@ impl<'g, B: Board, H: History<B>> Session<'g, B, H> {
             ++ (key_step (script_for B.table_for self.old.game (R.meant rules.old.plain) (R.meant rules.old.late))
             self.old.session key).text) }
         ensures same { OnErr result (self.new ≡ self.old) }
-        ensures left { IfErr result (λ stop. IsLeft (script_for B.table_for self.old.game (R.meant rules.old.plain) (R.meant rules.old.late)) stop
+        ensures left { IfErr result (λ stop. IsLeft
+            (script_for B.table_for self.old.game (R.meant rules.old.plain) (R.meant rules.old.late)) stop
             (key_step (script_for B.table_for self.old.game (R.meant rules.old.plain) (R.meant rules.old.late))
             self.old.session key) output.old output.new) }
         ensures ignored { is_ignored self.old.game.options self.old.session key ≡ true → IsOk result }

@@ -149,9 +149,12 @@ impl<'g, B: Board> Stage<'g, B> {
             ≡ came (change_shown history first change) self.new.text) }
         ensures stopped { IfErr result (λ stop. (history : List Grid) (first : Standing)
             → IsStopped (script_for B.table_for self.old.game (R.meant rules.old.plain) (R.meant rules.old.late)) stop
-            (after self.old.text (key_shown (script_for B.table_for self.old.game (R.meant rules.old.plain) (R.meant rules.old.late))
+            (after self.old.text
+            (key_shown (script_for B.table_for self.old.game (R.meant rules.old.plain) (R.meant rules.old.late))
             (play_of (history_behind (history_change_if done.now.changed) history first.board) level)
-            (done_shown done.now level.board) AGAIN_LIMIT (all_key_turns (script_for B.table_for self.old.game (R.meant rules.old.plain) (R.meant rules.old.late))))) self.new.text) }
+            (done_shown done.now level.board) AGAIN_LIMIT
+            (all_key_turns (script_for B.table_for self.old.game (R.meant rules.old.plain) (R.meant rules.old.late)))))
+            self.new.text) }
     {
         let history_change = history_change_if(done.changed);
         match self.end_key(rules, &mut level, done) {
@@ -191,8 +194,10 @@ impl<'g, B: Board> Stage<'g, B> {
             ≡ came (change_shown history level.old change) self.new.text) }
         ensures stopped { IfErr result (λ stop. (history : List Grid)
             → IsStopped (script_for B.table_for self.old.game (R.meant rules.old.plain) (R.meant rules.old.late)) stop
-            (after self.old.text (input_taken (script_for B.table_for self.old.game (R.meant rules.old.plain) (R.meant rules.old.late))
-            (play_of history level.old) input)) self.new.text) }
+            (after self.old.text
+            (input_taken (script_for B.table_for self.old.game (R.meant rules.old.plain) (R.meant rules.old.late))
+            (play_of history level.old) input))
+            self.new.text) }
     {
         match level.try_turn(self.alloc, &mut self.spares, &self.game, rules, input)? {
             Tried::Blocked(message) => {
@@ -236,8 +241,10 @@ impl<'g, B: Board> Stage<'g, B> {
             ≡ came (change_shown history level.now change) self.new.text) }
         ensures stopped { IfErr result (λ stop. (history : List Grid)
             → IsStopped (script_for B.table_for self.old.game (R.meant rules.old.plain) (R.meant rules.old.late)) stop
-            (after self.old.text (gone_on (script_for B.table_for self.old.game (R.meant rules.old.plain) (R.meant rules.old.late))
-            (play_of history level.now) (pending_shown pending))) self.new.text) }
+            (after self.old.text
+            (gone_on (script_for B.table_for self.old.game (R.meant rules.old.plain) (R.meant rules.old.late))
+            (play_of history level.now) (pending_shown pending)))
+            self.new.text) }
     {
         match pending {
             Pending::Nothing => Ok(Change::Stays(None)),

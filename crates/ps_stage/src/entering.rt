@@ -1,6 +1,7 @@
 //! Entries as they begin, levels that are done, and restarts.
 
-ghost use Rattle.std.specs.Prelude.{◌≡◌, ◌<◌, ◌≤◌, IfErr, IfOk, [], suc, take, filter, length, ℕ, Option, Some, List, ◌∷◌};
+ghost use Rattle.std.specs.Prelude.{◌≡◌, ◌<◌, ◌≤◌, IfErr, IfOk, suc, ℕ, Option, Some};
+ghost use Rattle.std.specs.Prelude.{List, [], ◌∷◌, filter, length, take};
 ghost use Rattle.ps_model.specs.board.Grid.{Grid};
 ghost use Rattle.ps_model.specs.session.LevelLines.{LevelEntry};
 ghost use Rattle.ps_model.specs.session.Sessions.{after, is_level, level_number};

@@ -445,7 +445,7 @@ impl<B: Board> PlayedLevel<B> {
 
     /// Tries a turn with an input. The level stays as it is; where the turn is done, the level behind it has the board
     /// that the turn came to, and one copy of it is made. A turn that isn't done takes no memory for boards, unless the
-    /// level behind an earlier one was given away and none of the spare boards is alike.
+    /// level behind an earlier one was given away and none of the spare boards is alike, or its rules keep one.
     ///
     /// # Errors
     ///
