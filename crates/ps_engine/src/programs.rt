@@ -26,7 +26,12 @@ struct Left {
     stopped: bool,
 }
 
-/// A loop with so many repeats left: a pass, and a repeat while the last pass changed something.
+/// A loop with so many repeats left: a pass, and a repeat while the last pass changed something, without whole periods
+/// where passes come back.
+///
+/// # Errors
+///
+/// `Memory`, where there are many passes and no board alike is kept, or as for a group; some of them have been made.
 fn play_loop<'r, B: Scan>(
     groups: &[List<CompiledRule<'r>>],
     repeats: u32,
@@ -65,6 +70,10 @@ fn play_loop<'r, B: Scan>(
 }
 
 /// A section with so many repeats left.
+///
+/// # Errors
+///
+/// `Memory`, as for a group or a loop.
 fn play_section<'r, B: Scan>(
     section: &CompiledSection<'r>,
     repeats: u32,
@@ -98,6 +107,10 @@ fn play_section<'r, B: Scan>(
 
 /// The sections of a program in order, until a loop would need one more repeat than are allowed for all loops
 /// together.
+///
+/// # Errors
+///
+/// `Memory`, as for a section; those before it have been played.
 fn play_sections<'r, B: Scan>(
     sections: &[CompiledSection<'r>],
     board: &mut B,

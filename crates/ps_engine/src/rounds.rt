@@ -40,7 +40,12 @@ fn round<'r, B: Scan>(
     changed
 }
 
-/// A group: rounds until one changes nothing, as many as are allowed. Answers whether one changed something.
+/// A group: rounds until one changes nothing, as many as are allowed, without whole periods where they come back.
+/// Answers whether one changed something.
+///
+/// # Errors
+///
+/// `Memory`, where there are many rounds and no board alike is kept; some of them have been made.
 pub fn play_group<'r, B: Scan>(
     rules: &[CompiledRule<'r>],
     board: &mut B,
@@ -71,6 +76,10 @@ pub fn play_group<'r, B: Scan>(
 }
 
 /// A pass of a loop's body: its groups in order. Answers whether one changed something.
+///
+/// # Errors
+///
+/// `Memory`, as for a group; a part of the pass has been made.
 pub fn pass<'r, B: Scan>(
     groups: &[List<CompiledRule<'r>>],
     board: &mut B,
