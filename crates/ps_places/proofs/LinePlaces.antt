@@ -16,7 +16,8 @@ use Rattle.ps_places.specs.Lines.{cell_on, line_cells, line_count, line_long}
 use Rattle.ps_places.specs.RowPlaces.{way_cells}
 use Rattle.ps_places.proofs.LineWays.{cells_of_way, line_from}
 use Rattle.ps_places.proofs.Ranges.{agree_from, flat_map-agree, map-range-agree, map-range-shift}
-use Rattle.ps_places.proofs.Ranges.{range_lists-agree, ranges_apart}
+use Rattle.ps_laws.proofs.common.Lists.{range_lists-agree}
+use Rattle.ps_places.proofs.Ranges.{ranges_apart}
 
 -- the cells of a line by position
 pub line_cells-are : (axis : Axis) (height line position size : ℕ) →

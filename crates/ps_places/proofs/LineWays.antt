@@ -14,7 +14,8 @@ use Rattle.ps_laws.proofs.common.Stages.{map-flat_map}
 use Rattle.ps_board.specs.ColumnSets.{set_columns}
 use Rattle.ps_places.specs.Ways.{positions_from, ways_from}
 use Rattle.ps_places.proofs.Ranges.{agree_from, both_ends, drop-map-range, filter-flat_map, lists_passing}
-use Rattle.ps_places.proofs.Ranges.{passing_from, range_lists-agree}
+use Rattle.ps_laws.proofs.common.Lists.{range_lists-agree}
+use Rattle.ps_places.proofs.Ranges.{passing_from}
 
 -- the line's cells from a position on
 abbrev pub line_from : (ℕ → ℕ) → ℕ → ℕ → List ℕ

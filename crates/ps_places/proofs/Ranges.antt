@@ -76,14 +76,6 @@ agree_from f h a b (suc n) e =
     (agree_from f h (a + 1) (b + 1) n (λ y low. let s : a + 1 + y ≡ a + suc y = omega arith in let t : b + suc y
     ≡ b + 1 + y = omega arith in ap f s ∙ e (suc y) (omega arith) ∙ ap h t))
 
--- lists that are the same for each index
-pub range_lists-agree : {X : Type 0} (f h : ℕ → List X) (a n : ℕ) → ((i : ℕ) → a ≤ i → i < a + n → f i ≡ h i) →
-    flat_map f (range_with_len a n) ≡ flat_map h (range_with_len a n)
-range_lists-agree f h a zero e = refl
-range_lists-agree f h a (suc n) e =
-    ap₂ (λ (xs ys : List _). xs ++ ys) (e a (omega arith) (omega arith))
-    (range_lists-agree f h (a + 1) n (λ i low high. e i (omega arith) (omega arith)))
-
 -- what passes a test
 passing : {X : Type 0} (test : X → Bool) (x : X) (xs ys : List X) (b : Bool) →
     cond b (x ∷ (xs ++ ys)) (xs ++ ys) ≡ cond b (x ∷ xs) xs ++ ys

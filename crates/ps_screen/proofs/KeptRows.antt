@@ -9,17 +9,11 @@ use Rattle.ps_model.specs.board.Grid.{Grid, cell_at}
 use Rattle.ps_model.specs.names.Names.{Names}
 use Rattle.ps_model.specs.session.Frames.{objects_in, character_of, glyph_of_objects, frame, frame_row, shown_character}
 use Rattle.ps_model.specs.declared.limits.TheConstants.{SIDE_LIMIT}
+use Rattle.ps_laws.proofs.common.Lists.{range_lists-agree}
 use Rattle.ps_board.specs.ColumnSets.{set_columns}
 use Rattle.ps_board.specs.Rows.{DifferOnlyIn, HaveSameRow}
 use Rattle.ps_board.proofs.ColumnLaws.{none_in}
 use Rattle.ps_screen.specs.KeptRows.{AreRowsOf}
-
--- two functions that agree on a range
-pub flat_map_same : {X : Type 0} (f g : ℕ → List X) (a n : ℕ) → ((k : ℕ) → a ≤ k → k < a + n → f k ≡ g k) → flat_map f (range_with_len a n) ≡ flat_map g (range_with_len a n)
-flat_map_same f g a zero agree = refl
-flat_map_same f g a (suc n) agree =
-    ap₂ (λ (x y : List _). x ++ y) (agree a (omega arith) (omega arith))
-    (flat_map_same f g (a + 1) n (λ k least below. agree k (omega (arith, least)) (omega (arith, below))))
 
 -- what a cell with the same objects is written as
 pub same_character : (names : Names) (g h : Grid) (a b : ℕ) → objects_in (cell_at g a) ≡ objects_in (cell_at h b) →
@@ -31,7 +25,7 @@ pub same_frame_row : (names : Names) (g h : Grid) (row : ℕ) → h.width ≡ g.
 same_frame_row names g h row wide high same =
     ap (λ (text : List ℕ). text ++ codes "\n")
     (ap (λ (n : ℕ). flat_map (λ column. encode_utf8 (shown_character names (cell_at h (column * h.height + row)))) (range_with_len 0 n)) wide
-    ∙ flat_map_same (λ column. encode_utf8 (shown_character names (cell_at h (column * h.height + row)))) (λ column. encode_utf8 (shown_character names (cell_at g (column * g.height + row)))) 0 g.width
+    ∙ range_lists-agree (λ column. encode_utf8 (shown_character names (cell_at h (column * h.height + row)))) (λ column. encode_utf8 (shown_character names (cell_at g (column * g.height + row)))) 0 g.width
     (λ column least inside.
     let below : column < g.width = omega arith in
     ap (λ (n : ℕ). encode_utf8 (shown_character names (cell_at h (column * n + row)))) high

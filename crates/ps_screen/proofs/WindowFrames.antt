@@ -15,7 +15,8 @@ use Rattle.ps_board.specs.Rows.{HaveSameRow}
 use Rattle.ps_screen.specs.PlainFrames.{IsPlainFrame}
 use Rattle.ps_screen.specs.PlainRows.{column_bytes}
 use Rattle.ps_screen.specs.Windows.{AgreeInWindow, IsWindowOf}
-use Rattle.ps_screen.proofs.KeptRows.{flat_map_same, same_character}
+use Rattle.ps_laws.proofs.common.Lists.{range_lists-agree}
+use Rattle.ps_screen.proofs.KeptRows.{same_character}
 use Rattle.ps_screen.proofs.PlainFrames.{rows_part}
 
 -- what shows the same is written the same -----------------------------------------------------------------------------
@@ -25,7 +26,7 @@ same_window_row : (names : Names) (g h : Grid) (window : Window) (row : ℕ) →
     window_row names h window row ≡ window_row names g window row
 same_window_row names g h window row high within same =
     ap (λ (text : List ℕ). text ++ codes "\n")
-    (flat_map_same (column_bytes names h row) (column_bytes names g row) window.first_column window.columns
+    (range_lists-agree (column_bytes names h row) (column_bytes names g row) window.first_column window.columns
     (λ column least inside.
     ap (λ (n : ℕ). encode_utf8 (shown_character names (cell_at h (column * n + row)))) high
     ∙ sym (same_character names g h (column * g.height + row) (column * g.height + row)
@@ -35,7 +36,7 @@ pub same_window_frame : (names : Names) (g h : Grid) (window : Window) → h.hei
     AgreeInWindow window g h → window_frame names h window ≡ window_frame names g window
 same_window_frame names g h window high within same =
     ap (λ (text : List ℕ). text ++ codes "\n")
-    (flat_map_same (window_row names h window) (window_row names g window) window.first_row window.rows
+    (range_lists-agree (window_row names h window) (window_row names g window) window.first_row window.rows
     (λ row least below. same_window_row names g h window row high within.columns (same row least below)))
 
 -- a frame of the whole board

@@ -1,6 +1,8 @@
--- Lists: parts of an empty one, tests of some element, what a filter leaves, and a write beside.
-use Rattle.std.proofs.Common.{◌≡◌, ◌≢◌, ℕ, zero, suc, Bool, false, ◌||◌, List, [], ◌∷◌, ◌++◌, map, filter, flat_map, slice_get, slice_set, refl, ◌∙◌, ap}
-use Rattle.std.specs.List.{list_any}
+-- Lists: parts of an empty one, tests of some element, what a filter leaves, a write beside, and lists for the numbers of a
+-- range.
+use Rattle.std.proofs.Common.{◌≡◌, ◌≢◌, ◌+◌, ◌<◌, ◌≤◌, ℕ, zero, suc, Bool, false, ◌||◌, List, [], ◌∷◌, ◌++◌, map, filter}
+use Rattle.std.proofs.Common.{flat_map, slice_get, slice_set, refl, ◌∙◌, ap, ap₂, arith}
+use Rattle.std.specs.List.{list_any, range_with_len}
 use Rattle.std.proofs.lemmas.List.Folds.{list_any-append}
 
 -- a list that is empty has empty parts
@@ -34,3 +36,11 @@ read_other (y ∷ ys) zero zero x n = absurd (n refl)
 read_other (y ∷ ys) zero (suc j) x n = refl
 read_other (y ∷ ys) (suc i) zero x n = refl
 read_other (y ∷ ys) (suc i) (suc j) x n = read_other ys i j x (λ e. n (ap suc e))
+
+-- lists that are the same for each number of a range
+pub range_lists-agree : {X : Type 0} (f h : ℕ → List X) (a n : ℕ) → ((i : ℕ) → a ≤ i → i < a + n → f i ≡ h i) →
+    flat_map f (range_with_len a n) ≡ flat_map h (range_with_len a n)
+range_lists-agree f h a zero e = refl
+range_lists-agree f h a (suc n) e =
+    ap₂ (λ (xs ys : List _). xs ++ ys) (e a (omega arith) (omega arith))
+    (range_lists-agree f h (a + 1) n (λ i low high. e i (omega arith) (omega arith)))
