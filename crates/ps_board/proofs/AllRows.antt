@@ -7,7 +7,8 @@ use Rattle.ps_board.specs.ColumnSets.{column_at, columns_below}
 use Rattle.ps_board.proofs.ColumnLaws.{column_at-where}
 
 -- no row of the board is outside of them
-pub none_outside : (height : ℕ) (rows : List Bool) → height ≤ SIDE_LIMIT → rows ≡ columns_below height → (row : ℕ) → row < height → column_at rows row ≡ false → ⊥
+pub none_outside : (height : ℕ) (rows : List Bool) → height ≤ SIDE_LIMIT → rows ≡ columns_below height → (row : ℕ) →
+    row < height → column_at rows row ≡ false → ⊥
 none_outside height rows low all row under none =
     let within : row < SIDE_LIMIT = omega (arith, under, low) in
     let here : column_at rows row ≡ nat_lt row height =

@@ -9,16 +9,21 @@ use Rattle.ps_board.proofs.ColumnLaws.{column_at-where}
 in_single : (columns : List Bool) (column x : ℕ) → columns ≡ with_column no_columns column true → x < SIDE_LIMIT →
     column_at columns x ≡ (if nat_eq x column then true else column_at no_columns x)
 in_single columns column x is low =
-    ap (λ (set : List Bool). column_at set x) is ∙ column_at-where (λ y. if nat_eq y column then true else column_at no_columns y) x low
+    ap (λ (set : List Bool). column_at set x) is
+    ∙ column_at-where (λ y. if nat_eq y column then true else column_at no_columns y) x low
 
-pub has_own : (columns : List Bool) (column : ℕ) → columns ≡ with_column no_columns column true → column < SIDE_LIMIT → column_at columns column ≡ true
+pub has_own : (columns : List Bool) (column : ℕ) → columns ≡ with_column no_columns column true → column < SIDE_LIMIT →
+    column_at columns column ≡ true
 has_own columns column is low =
-    in_single columns column column is low ∙ ap (λ (b : Bool). if b then true else column_at no_columns column) (eq-eqb column column refl)
+    in_single columns column column is low ∙ ap (λ (b : Bool).
+    if b then true else column_at no_columns column) (eq-eqb column column refl)
 
-pub only_own : (columns : List Bool) (column x : ℕ) → columns ≡ with_column no_columns column true → x < SIDE_LIMIT → column_at columns x ≡ true → x ≡ column
+pub only_own : (columns : List Bool) (column x : ℕ) → columns ≡ with_column no_columns column true → x < SIDE_LIMIT →
+    column_at columns x ≡ true → x ≡ column
 only_own columns column x is low has = elim (cases_eq x column) [
   | inl e ↦ e
   | inr apart ↦ absurd (false≢true
-      (sym (in_single columns column x is low ∙ ap (λ (b : Bool). if b then true else column_at no_columns x) (ne_eqb x column apart)
+      (sym (in_single columns column x is low ∙ ap (λ (b : Bool).
+      if b then true else column_at no_columns x) (ne_eqb x column apart)
       ∙ column_at-where (λ y. false) x low) ∙ has))
 ]

@@ -1,5 +1,6 @@
 -- A set of columns made column by column.
-use Rattle.std.proofs.Common.{◌≡◌, ◌≢◌, ◌∙◌, ℕ, ◌+◌, ◌*◌, ◌<◌, ◌≤◌, ◌&&◌, Bool, true, false, None, List, length, refl, sym, ap, arith}
+use Rattle.std.proofs.Common.{◌≡◌, ◌≢◌, ◌∙◌, ℕ, ◌+◌, ◌*◌, ◌<◌, ◌≤◌, ◌&&◌, Bool, true, false, None, List, length, refl}
+use Rattle.std.proofs.Common.{sym, ap, arith}
 use Rattle.std.specs.Prelude.{nat_eq, nat_lt, if◌then◌else◌, slice_get}
 use Rattle.std.proofs.lemmas.Bool.Decides.{nat_tests}
 use Rattle.std.proofs.lemmas.Option.{slice_get_past}
@@ -14,7 +15,8 @@ abbrev pub scanned : (ℕ → Bool) → ℕ → List Bool
 scanned holds count = columns_where (λ x. nat_lt x count && holds x)
 
 pub scanned-none : (holds : ℕ → Bool) → no_columns ≡ scanned holds 0
-scanned-none holds = columns-agree (λ x. false) (λ x. nat_lt x 0 && holds x) (λ x low. let none : nat_lt x 0 ≡ false = grind (arith, nat_tests) in rw none refl)
+scanned-none holds = columns-agree (λ x. false) (λ x. nat_lt x 0 && holds x) (λ x low. let none : nat_lt x 0 ≡ false =
+    grind (arith, nat_tests) in rw none refl)
 
 lt_same : (x count : ℕ) (low : Bool) → nat_lt x count ≡ low → x ≢ count → nat_lt x (count + 1) ≡ low
 lt_same x count true t other = grind (arith, nat_tests)
@@ -28,23 +30,30 @@ one_more holds count x b true t e low =
     rw here (e ∙ ap holds (sym is))
 one_more holds count x b false t e low =
     let other : x ≢ count = grind (arith, nat_tests) in
-    column_at-where (λ y. nat_lt y count && holds y) x low ∙ ap (λ (b : Bool). b && holds x) (sym (lt_same x count (nat_lt x count) refl other))
+    column_at-where (λ y. nat_lt y count && holds y) x low
+    ∙ ap (λ (b : Bool). b && holds x) (sym (lt_same x count (nat_lt x count) refl other))
 
-pub scanned-more : (holds : ℕ → Bool) (columns : List Bool) (count : ℕ) (b : Bool) → columns ≡ scanned holds count → b ≡ holds count →
+pub scanned-more : (holds : ℕ → Bool) (columns : List Bool) (count : ℕ) (b : Bool) → columns ≡ scanned holds count →
+    b ≡ holds count →
     with_column columns count b ≡ scanned holds (count + 1)
 scanned-more holds columns count b is e =
-    rw is (columns-agree (λ x. if nat_eq x count then b else column_at (scanned holds count) x) (λ x. nat_lt x (count + 1) && holds x)
+    rw is (columns-agree (λ x. if nat_eq x count then b else column_at (scanned holds count) x) (λ x.
+    nat_lt x (count + 1) && holds x)
     (λ x low. one_more holds count x b (nat_eq x count) refl e low))
 
-all_by : (holds : ℕ → Bool) (count x : ℕ) (passed : Bool) → nat_lt x count ≡ passed → (count ≤ x → holds x ≡ false) → (passed && holds x) ≡ holds x
+all_by : (holds : ℕ → Bool) (count x : ℕ) (passed : Bool) → nat_lt x count ≡ passed → (count ≤ x → holds x ≡ false) →
+    (passed && holds x) ≡ holds x
 all_by holds count x true t none = refl
 all_by holds count x false t none = sym (none (grind (arith, nat_tests)))
 
-pub scanned-all : (holds : ℕ → Bool) (count : ℕ) → ((x : ℕ) → count ≤ x → holds x ≡ false) → scanned holds count ≡ columns_where holds
-scanned-all holds count none = columns-agree (λ x. nat_lt x count && holds x) holds (λ x low. all_by holds count x (nat_lt x count) refl (none x))
+pub scanned-all : (holds : ℕ → Bool) (count : ℕ) → ((x : ℕ) → count ≤ x → holds x ≡ false) →
+    scanned holds count ≡ columns_where holds
+scanned-all holds count none = columns-agree (λ x. nat_lt x count && holds x) holds (λ x low.
+    all_by holds count x (nat_lt x count) refl (none x))
 
 -- no cell beyond the last column
-pub no_cell : (g : Grid) (row x : ℕ) → length g.cells ≡ g.width * g.height → g.width ≤ x → slice_get g.cells (x * g.height + row) ≡ None
+pub no_cell : (g : Grid) (row x : ℕ) → length g.cells ≡ g.width * g.height → g.width ≤ x →
+    slice_get g.cells (x * g.height + row) ≡ None
 no_cell g row x many far =
     let across : g.width * g.height ≤ x * g.height = mul-le-mul_right g.height far in
     let past : length g.cells ≤ x * g.height + row = omega (arith, many, across) in

@@ -1,5 +1,6 @@
 -- Cells with the same slots have the same objects.
-use Rattle.std.proofs.Common.{◌≡◌, ◌&&◌, ℕ, ◌+◌, ◌*◌, ◌-◌, ◌<◌, ◌≤◌, zero, suc, true, List, [], ◌∷◌, take, drop, get_or, refl, ap, ap₂, ◌∙◌, arith}
+use Rattle.std.proofs.Common.{◌≡◌, ◌&&◌, ℕ, ◌+◌, ◌*◌, ◌-◌, ◌<◌, ◌≤◌, zero, suc, true, List, [], ◌∷◌, take, drop, get_or}
+use Rattle.std.proofs.Common.{refl, ap, ap₂, ◌∙◌, arith}
 use Rattle.std.specs.Simd.{first_chunks}
 use Rattle.std.proofs.lemmas.Bool.{and_parts, eqb-true, false≢true}
 use Rattle.std.proofs.lemmas.List.{drop-drop}
@@ -27,10 +28,12 @@ same_objects (Holds object motion ∷ xs) (Bare ∷ ys) h = absurd (false≢true
 same_objects (Holds object motion ∷ xs) (Holds other moving ∷ ys) h =
     let parts = and_parts (same_object object other && same_motion motion moving) (same_cell xs ys) h in
     let heads = and_parts (same_object object other) (same_motion motion moving) parts.0 in
-    ap₂ (λ (o : ObjectId) (os : List ObjectId). o ∷ os) (ap object_of (eqb-true object.0 other.0 heads.0)) (same_objects xs ys parts.1)
+    ap₂ (λ (o : ObjectId) (os : List ObjectId).
+    o ∷ os) (ap object_of (eqb-true object.0 other.0 heads.0)) (same_objects xs ys parts.1)
 
 -- the slots of a cell in the flat list
-pub chunk_at : {X : Type 0} (n k i : ℕ) (xs d : List X) → i < k → get_or (first_chunks n k xs) i d ≡ take n (drop (i * n) xs)
+pub chunk_at : {X : Type 0} (n k i : ℕ) (xs d : List X) → i < k →
+    get_or (first_chunks n k xs) i d ≡ take n (drop (i * n) xs)
 chunk_at n zero i xs d h = absurd (omega arith)
 chunk_at n (suc k) zero xs d h = let z : 0 * n ≡ 0 = omega arith in rw z refl
 chunk_at n (suc k) (suc i) xs d h =

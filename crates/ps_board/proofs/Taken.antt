@@ -89,7 +89,8 @@ taken_gone set left k is = let first = first_in set k (set_columns left) is in
     sym (listed left k first.1) ∙ listed_once set k (set_columns left) is
 
 -- and no smaller one is in the set
-least_by : (f : ℕ → Bool) (a n k x : ℕ) (ks : List ℕ) (here : Bool) → f a ≡ here → filter f (range_with_len a n) ≡ k ∷ ks →
+least_by : (f : ℕ → Bool) (a n k x : ℕ) (ks : List ℕ) (here : Bool) → f a ≡ here →
+    filter f (range_with_len a n) ≡ k ∷ ks →
     a ≤ x → x < k → f x ≡ false
 least_by f a zero k x ks here e is from less = absurd (cc)
 least_by f a (suc n) k x ks true e is from less =

@@ -16,4 +16,5 @@ columns_in cells = columns_where (λ x. list_any (λ columns. column_at columns 
 -- of the cells of a grid those are in the set that pass a test
 abbrev pub IsSetOf : (List Slot → Bool) → Grid → List (List Bool) → Type 0
 IsSetOf passes g cells =
-    (column row : ℕ) → column < g.width → row < g.height → cell_in cells column row ≡ passes (cell_at g (column * g.height + row))
+    (column row : ℕ) → column < g.width → row < g.height →
+    cell_in cells column row ≡ passes (cell_at g (column * g.height + row))

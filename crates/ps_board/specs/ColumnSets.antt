@@ -1,6 +1,7 @@
 -- A set of columns of one row of a board, as a list of truth values: value x tells whether column x is in the set.
 -- There are as many values as a board has columns at most.
-use Rattle.std.specs.Prelude.{ℕ, ◌+◌, ◌-◌, ◌*◌, ◌^◌, nat_eq, nat_le, nat_lt, if◌then◌else◌, ◌&&◌, ◌||◌, not, Bool, false, List, [], ◌∷◌, map, filter, slice_get, slice_index_or}
+use Rattle.std.specs.Prelude.{ℕ, ◌+◌, ◌-◌, ◌*◌, ◌^◌, nat_eq, nat_le, nat_lt, if◌then◌else◌, ◌&&◌, ◌||◌, not, Bool}
+use Rattle.std.specs.Prelude.{false, List, [], ◌∷◌, map, filter, slice_get, slice_index_or}
 use Rattle.std.specs.List.{range_with_len}
 use Rattle.std.specs.Int.{bit_at}
 use Rattle.ps_model.specs.declared.limits.TheConstants.{SIDE_LIMIT}

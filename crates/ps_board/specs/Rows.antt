@@ -15,11 +15,13 @@ HaveSameRow first second row = (column : ℕ) → column < first.width → HaveS
 
 -- each cell of the row has whose column isn't in a set
 abbrev pub DifferOnlyIn : List Bool → Grid → Grid → ℕ → Type 0
-DifferOnlyIn columns first second row = (column : ℕ) → column < first.width → column_at columns column ≡ false → HaveSameCell first second row column
+DifferOnlyIn columns first second row = (column : ℕ) → column < first.width → column_at columns column ≡ false →
+    HaveSameCell first second row column
 
 -- each row has whose number isn't in a set
 abbrev pub DifferOnlyOn : List Bool → Grid → Grid → Type 0
-DifferOnlyOn rows first second = (row : ℕ) → row < first.height → column_at rows row ≡ false → HaveSameRow first second row
+DifferOnlyOn rows first second = (row : ℕ) → row < first.height → column_at rows row ≡ false →
+    HaveSameRow first second row
 
 -- each row has whose number is in a set
 abbrev pub AgreeOn : List Bool → Grid → Grid → Type 0

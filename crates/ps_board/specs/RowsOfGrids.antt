@@ -1,4 +1,5 @@
--- Rows of a grid, layer by layer: the columns in which something holds of the slot there. No column beyond the width is in such a
+-- Rows of a grid, layer by layer: the columns in which something holds of the slot there. No column beyond the width is
+-- in such a
 -- set, since there the slot is bare.
 use Rattle.std.specs.Prelude.{◌≡◌, ◌<◌, ℕ, ◌+◌, ◌*◌, Bool, false, not, List}
 use Rattle.std.specs.List.{list_any}
@@ -29,4 +30,5 @@ row_holders g object layer row = row_slots (slot_holds object) g layer row
 -- on the rows whose numbers aren't in a set no slot passes a test
 abbrev pub PassOnlyOn : (Slot → Bool) → Grid → List Bool → Type 0
 PassOnlyOn passes g rows =
-    (row : ℕ) → row < g.height → column_at rows row ≡ false → (x : ℕ) → x < g.width → list_any passes (cell_at g (x * g.height + row)) ≡ false
+    (row : ℕ) → row < g.height → column_at rows row ≡ false → (x : ℕ) → x < g.width →
+    list_any passes (cell_at g (x * g.height + row)) ≡ false

@@ -1,4 +1,5 @@
--- Compiled programs of the rules that can do something, all facing down or right: what is compiled of a game. A rule that
+-- Compiled programs of the rules that can do something, all facing down or right: what is compiled of a game. A rule
+-- that
 -- faces up or left is turned round; of several rules that are the same each stays.
 use Rattle.std.specs.Prelude.{Bool, true, false, not, if◌then◌else◌, List, map, filter}
 use Rattle.ps_model.specs.declared.pieces.Direction.{Direction}
@@ -13,7 +14,7 @@ use Rattle.ps_model.specs.meaning.CompiledRules.{compiled_rules}
 use Rattle.ps_model.specs.board.RulePrograms.{program_by}
 use Rattle.ps_compile.specs.IdleRules.{is_idle}
 
--- rules ----------------------------------------------------------------------------------------------------------------------
+-- rules ---------------------------------------------------------------------------------------------------------------
 
 -- up or left
 abbrev pub faces_back : Direction → Bool
@@ -42,7 +43,7 @@ compact rules = filter is_busy (map rule_forwards rules)
 abbrev pub compact_rules : Names → SourceRule → List CompiledRule
 compact_rules names rule = compact (compiled_rules names rule)
 
--- programs -------------------------------------------------------------------------------------------------------------------
+-- programs ------------------------------------------------------------------------------------------------------------
 
 -- the program of a part of a turn
 abbrev pub compact_program : Names → Part → List RuleLine → List CompiledSection

@@ -1,5 +1,6 @@
 -- The next combination in which each row of a rule fits.
-use Rattle.std.proofs.Common.{◌≡◌, ◌∙◌, ℕ, suc, zero, ◌<◌, ◌≤◌, ◌&&◌, inl, inr, Bool, true, false, Option, Some, List, [], ◌∷◌, ◌++◌, length, map, refl, sym, ap, ap₂, arith}
+use Rattle.std.proofs.Common.{◌≡◌, ◌∙◌, ℕ, suc, zero, ◌<◌, ◌≤◌, ◌&&◌, inl, inr, Bool, true, false, Option, Some, List}
+use Rattle.std.proofs.Common.{[], ◌∷◌, ◌++◌, length, map, refl, sym, ap, ap₂, arith}
 use Rattle.std.specs.Prelude.{slice_get}
 use Rattle.std.proofs.lemmas.Bool.{cases_eq}
 use Rattle.std.proofs.Math.Bool.{and-false}
@@ -12,17 +13,21 @@ use Rattle.ps_program.specs.declared.cells.CompiledCell.{CompiledCell}
 use Rattle.ps_program.specs.declared.rows.CompiledRow.{CompiledRow}
 use Rattle.ps_places.specs.Room.{Room}
 use Rattle.ps_places.specs.Lines.{part_meaning}
-use Rattle.ps_places.specs.RowPlaces.{all_places, cells_meaning, parts_meaning, place_at, place_fits, places_behind, row_meaning}
+use Rattle.ps_places.specs.RowPlaces.{all_places, cells_meaning, parts_meaning, place_at, place_fits, places_behind}
+use Rattle.ps_places.specs.RowPlaces.{row_meaning}
 use Rattle.ps_places.specs.Starts.{HaveSameStarts}
 use Rattle.ps_places.specs.Ways.{from_first}
 use Rattle.ps_engine.specs.Choices.{Choice, behind, behind_from, choice_of, choices_of, chosen, spread}
 use Rattle.ps_engine.specs.Choosing.{AreLeft, AreStarted, FitFrom, HaveStartsOf, LacksPlace, OfEach, rows_meaning}
-use Rattle.ps_engine.proofs.Sought.{AreBoth, found_or, from_first-append, front_fits, front_none, front_off, spread_first, spread_from, spread_none, spread_off, spread_same}
+use Rattle.ps_engine.proofs.Sought.{AreBoth, found_or, from_first-append, front_fits, front_none, front_off}
+use Rattle.ps_engine.proofs.Sought.{spread_first, spread_from, spread_none, spread_off, spread_same}
 
 -- the cells of a row, as they are meant
-pub cells_in-meant : (table : Option (List ℕ)) (parts : List (List CompiledCell)) → cells_in (parts_meaning table parts) ≡ cells_meaning table parts
+pub cells_in-meant : (table : Option (List ℕ)) (parts : List (List CompiledCell)) →
+    cells_in (parts_meaning table parts) ≡ cells_meaning table parts
 cells_in-meant table [] = refl
-cells_in-meant table (part ∷ parts) = ap (λ (ms : List CellMeaning). part_meaning table part ++ ms) (cells_in-meant table parts)
+cells_in-meant table (part ∷ parts) = ap (λ (ms : List CellMeaning).
+    part_meaning table part ++ ms) (cells_in-meant table parts)
 
 -- a test before others
 both_tests : (a b : Bool) → (elim a [ true ↦ b | false ↦ false ]) ≡ (a && b)
@@ -30,7 +35,8 @@ both_tests true b = refl
 both_tests false b = refl
 
 -- a list of which each element is known
-pub same_elements : {X : Type 0} (xs ys : List X) → length xs ≡ length ys → ((k : ℕ) → slice_get xs k ≡ slice_get ys k) → xs ≡ ys
+pub same_elements : {X : Type 0} (xs ys : List X) → length xs ≡ length ys →
+    ((k : ℕ) → slice_get xs k ≡ slice_get ys k) → xs ≡ ys
 same_elements [] [] long same = refl
 same_elements [] (y ∷ ys) long same = absurd (omega arith)
 same_elements (x ∷ xs) [] long same = absurd (omega arith)
@@ -51,17 +57,20 @@ module _ (g : Grid) (table : Option (List ℕ)) where
   choices rows rooms = choices_of g.height rows rooms
 
   -- rows fit where the first and the others do
-  pub first_and_others : (row : CompiledRow) (rows : List CompiledRow) → AreBoth (row_fits row) (fits rows) (fits (row ∷ rows))
+  pub first_and_others : (row : CompiledRow) (rows : List CompiledRow) →
+      AreBoth (row_fits row) (fits rows) (fits (row ∷ rows))
   first_and_others row rows p rest =
       both_tests (fits_along g (cells_in (row_meaning table row)) p) (fits rows rest)
       ∙ ap (λ (ms : List CellMeaning). fits_along g ms p && fits rows rest) (cells_in-meant table row.parts)
 
-  others_behind : {P : CompiledRow → Room → Type 0} (n : ℕ) (row : CompiledRow) (rows : List CompiledRow) (room : Room) (rooms : List Room) →
+  others_behind : {P : CompiledRow → Room → Type 0} (n : ℕ) (row : CompiledRow) (rows : List CompiledRow) (room : Room)
+      (rooms : List Room) →
       OfEach (λ k. suc n ≤ k) (row ∷ rows) (room ∷ rooms) P → OfEach (λ k. n ≤ k) rows rooms P
   others_behind n row rows room rooms all = λ k r m low is there. all (suc k) r m (omega arith) is there
 
   -- the rows fit at the places that are chosen, if each does
-  pub chosen_fits : (rows : List CompiledRow) (rooms : List Room) → length rows ≤ length rooms → FitFrom g table rows rooms 0 → fits rows (chosen (choices rows rooms)) ≡ true
+  pub chosen_fits : (rows : List CompiledRow) (rooms : List Room) → length rows ≤ length rooms →
+      FitFrom g table rows rooms 0 → fits rows (chosen (choices rows rooms)) ≡ true
   chosen_fits [] rooms long each = refl
   chosen_fits (row ∷ rows) [] long each = absurd (omega arith)
   chosen_fits (row ∷ rows) (room ∷ rooms) long each =
@@ -70,7 +79,8 @@ module _ (g : Grid) (table : Option (List ℕ)) where
       (chosen_fits rows rooms (omega arith) (λ k r m low is there. each (suc k) r m (omega arith) is there))
 
   -- and not where one doesn't
-  chosen_off : (n : ℕ) (rows : List CompiledRow) (rooms : List Room) (row : CompiledRow) (room : Room) → slice_get rows n ≡ Some row → slice_get rooms n ≡ Some room →
+  chosen_off : (n : ℕ) (rows : List CompiledRow) (rooms : List Room) (row : CompiledRow) (room : Room) →
+      slice_get rows n ≡ Some row → slice_get rooms n ≡ Some room →
       row_fits row (place_at g.height row room) ≡ false → fits rows (chosen (choices rows rooms)) ≡ false
   chosen_off n [] rooms row room is there off = absurd (cc)
   chosen_off n (r ∷ rows) [] row room is there off = absurd (cc)
@@ -78,7 +88,8 @@ module _ (g : Grid) (table : Option (List ℕ)) where
       let e : r ≡ row = cc in
       let d : m ≡ room = cc in
       first_and_others r rows (place_at g.height r m) (chosen (choices rows rooms))
-      ∙ ap (λ (b : Bool). b && fits rows (chosen (choices rows rooms))) (ap₂ (λ (x : CompiledRow) (y : Room). row_fits x (place_at g.height x y)) e d ∙ off)
+      ∙ ap (λ (b : Bool). b && fits rows (chosen (choices rows rooms)))
+      (ap₂ (λ (x : CompiledRow) (y : Room). row_fits x (place_at g.height x y)) e d ∙ off)
   chosen_off (suc n) (r ∷ rows) (m ∷ rooms) row room is there off =
       first_and_others r rows (place_at g.height r m) (chosen (choices rows rooms))
       ∙ ap (λ (b : Bool). row_fits r (place_at g.height r m) && b) (chosen_off n rows rooms row room is there off)
@@ -99,8 +110,10 @@ module _ (g : Grid) (table : Option (List ℕ)) where
   first_of_fitting rows rooms row room = first_by rows rooms row room (row_fits row (place_at g.height row room)) refl
 
   -- where a row doesn't fit at its place, no combination that keeps it can be applied
-  pub unfit_passed : (n : ℕ) (rows : List CompiledRow) (rooms : List Room) (row : CompiledRow) (room : Room) → slice_get rows n ≡ Some row → slice_get rooms n ≡ Some room →
-      row_fits row (place_at g.height row room) ≡ false → from_first (fits rows) (behind (choices rows rooms)) ≡ from_first (fits rows) (behind_from n (choices rows rooms))
+  pub unfit_passed : (n : ℕ) (rows : List CompiledRow) (rooms : List Room) (row : CompiledRow) (room : Room) →
+      slice_get rows n ≡ Some row → slice_get rooms n ≡ Some room →
+      row_fits row (place_at g.height row room) ≡ false →
+      from_first (fits rows) (behind (choices rows rooms)) ≡ from_first (fits rows) (behind_from n (choices rows rooms))
   unfit_passed zero rows rooms row room is there off = refl
   unfit_passed (suc n) [] rooms row room is there off = refl
   unfit_passed (suc n) (r ∷ rows) [] row room is there off = refl
@@ -110,12 +123,17 @@ module _ (g : Grid) (table : Option (List ℕ)) where
       let both : AreBoth (row_fits r) (fits rows) (fits (r ∷ rows)) = first_and_others r rows in
       from_first-append (fits (r ∷ rows)) (map (λ place. place ∷ chosen others) c.later) (spread c.all (behind others))
       ∙ ap (λ (cs : List (List (List ℕ))). found_or (fits (r ∷ rows)) cs (spread c.all (behind others)))
-      (front_off (row_fits r) (fits rows) (fits (r ∷ rows)) both c.later (chosen others) (chosen_off n rows rooms row room is there off))
-      ∙ spread_same (row_fits r) (fits rows) (fits (r ∷ rows)) both c.all (behind others) (behind_from n others) (unfit_passed n rows rooms row room is there off)
+      (front_off (row_fits r) (fits rows) (fits (r ∷ rows)) both c.later (chosen others)
+      (chosen_off n rows rooms row room is there off))
+      ∙ spread_same (row_fits r) (fits rows) (fits (r ∷ rows)) both c.all (behind others) (behind_from n others)
+      (unfit_passed n rows rooms row room is there off)
 
   -- where a row fits at no place behind its own, the next one is sought for a slower row
-  spent_passed : (n : ℕ) (rows : List CompiledRow) (rooms : List Room) (row : CompiledRow) (room : Room) → slice_get rows n ≡ Some row → slice_get rooms n ≡ Some room →
-      from_first (row_fits row) (places_behind g.height row room) ≡ [] → from_first (fits rows) (behind_from n (choices rows rooms)) ≡ from_first (fits rows) (behind_from (suc n) (choices rows rooms))
+  spent_passed : (n : ℕ) (rows : List CompiledRow) (rooms : List Room) (row : CompiledRow) (room : Room) →
+      slice_get rows n ≡ Some row → slice_get rooms n ≡ Some room →
+      from_first (row_fits row) (places_behind g.height row room) ≡ [] →
+      from_first (fits rows) (behind_from n (choices rows rooms)) ≡ from_first (fits rows)
+      (behind_from (suc n) (choices rows rooms))
   spent_passed zero [] rooms row room is there none = refl
   spent_passed (suc n) [] rooms row room is there none = refl
   spent_passed zero (r ∷ rows) [] row room is there none = refl
@@ -125,61 +143,80 @@ module _ (g : Grid) (table : Option (List ℕ)) where
       let d : m ≡ room = cc in
       let c : Choice = choice_of g.height r m in
       let others : List Choice = choices rows rooms in
-      let here : from_first (row_fits r) c.later ≡ [] = ap₂ (λ (x : CompiledRow) (y : Room). from_first (row_fits x) (places_behind g.height x y)) e d ∙ none in
+      let here : from_first (row_fits r) c.later ≡ [] =
+      ap₂ (λ (x : CompiledRow) (y : Room). from_first (row_fits x) (places_behind g.height x y)) e d ∙ none in
       from_first-append (fits (r ∷ rows)) (map (λ place. place ∷ chosen others) c.later) (spread c.all (behind others))
       ∙ ap (λ (cs : List (List (List ℕ))). found_or (fits (r ∷ rows)) cs (spread c.all (behind others)))
       (front_none (row_fits r) (fits rows) (fits (r ∷ rows)) (first_and_others r rows) c.later (chosen others) here)
   spent_passed (suc n) (r ∷ rows) (m ∷ rooms) row room is there none =
       let others : List Choice = choices rows rooms in
-      spread_same (row_fits r) (fits rows) (fits (r ∷ rows)) (first_and_others r rows) (all_places g.height r m) (behind_from n others) (behind_from (suc n) others)
+      spread_same (row_fits r) (fits rows) (fits (r ∷ rows)) (first_and_others r rows) (all_places g.height r m)
+      (behind_from n others) (behind_from (suc n) others)
       (spent_passed n rows rooms row room is there none)
 
-  pub spent_next : (n m : ℕ) (rows : List CompiledRow) (rooms : List Room) (row : CompiledRow) (room : Room) → slice_get rows n ≡ Some row → slice_get rooms n ≡ Some room →
-      from_first (row_fits row) (places_behind g.height row room) ≡ [] → m ≡ suc n → from_first (fits rows) (behind_from n (choices rows rooms)) ≡ from_first (fits rows) (behind_from m (choices rows rooms))
+  pub spent_next : (n m : ℕ) (rows : List CompiledRow) (rooms : List Room) (row : CompiledRow) (room : Room) →
+      slice_get rows n ≡ Some row → slice_get rooms n ≡ Some room →
+      from_first (row_fits row) (places_behind g.height row room) ≡ [] → m ≡ suc n →
+      from_first (fits rows) (behind_from n (choices rows rooms)) ≡ from_first (fits rows)
+      (behind_from m (choices rows rooms))
   spent_next n m rows rooms row room is there none next =
-      spent_passed n rows rooms row room is there none ∙ ap (λ (k : ℕ). from_first (fits rows) (behind_from k (choices rows rooms))) (sym next)
+      spent_passed n rows rooms row room is there none
+      ∙ ap (λ (k : ℕ). from_first (fits rows) (behind_from k (choices rows rooms))) (sym next)
 
   -- there is no row any more
-  pub no_row_left : (n : ℕ) (rows : List CompiledRow) (rooms : List Room) → length rows ≤ n → behind_from n (choices rows rooms) ≡ []
+  pub no_row_left : (n : ℕ) (rows : List CompiledRow) (rooms : List Room) → length rows ≤ n →
+      behind_from n (choices rows rooms) ≡ []
   no_row_left zero [] rooms high = refl
   no_row_left (suc n) [] rooms high = refl
   no_row_left zero (row ∷ rows) rooms high = absurd (omega arith)
   no_row_left (suc n) (row ∷ rows) [] high = refl
-  no_row_left (suc n) (row ∷ rows) (room ∷ rooms) high = ap (spread (all_places g.height row room)) (no_row_left n rows rooms (omega arith))
+  no_row_left (suc n) (row ∷ rows) (room ∷ rooms) high =
+      ap (spread (all_places g.height row room)) (no_row_left n rows rooms (omega arith))
 
   -- the faster rows have no place at which they all fit
-  pub none_found : (n : ℕ) (rows : List CompiledRow) (rooms : List Room) → LacksPlace g table rows rooms n → from_first (fits rows) (behind_from n (choices rows rooms)) ≡ []
-  none_found n rows rooms lack = at lack.number n rows rooms lack.row lack.room lack.low lack.row_is lack.room_is lack.none where
-    at : (k n : ℕ) (rows : List CompiledRow) (rooms : List Room) (row : CompiledRow) (room : Room) → k < n → slice_get rows k ≡ Some row → slice_get rooms k ≡ Some room →
-        from_first (row_fits row) (all_places g.height row room) ≡ [] → from_first (fits rows) (behind_from n (choices rows rooms)) ≡ []
-    at k zero rows rooms row room low is there none = absurd (omega arith)
-    at k (suc n) [] rooms row room low is there none = refl
-    at k (suc n) (r ∷ rows) [] row room low is there none = refl
-    at zero (suc n) (r ∷ rows) (m ∷ rooms) row room low is there none =
-        let e : r ≡ row = cc in
-        let d : m ≡ room = cc in
-        spread_none (row_fits r) (fits rows) (fits (r ∷ rows)) (first_and_others r rows) (all_places g.height r m) (behind_from n (choices rows rooms))
-        (ap₂ (λ (x : CompiledRow) (y : Room). from_first (row_fits x) (all_places g.height x y)) e d ∙ none)
-    at (suc k) (suc n) (r ∷ rows) (m ∷ rooms) row room low is there none =
-        spread_off (row_fits r) (fits rows) (fits (r ∷ rows)) (first_and_others r rows) (all_places g.height r m) (behind_from n (choices rows rooms))
-        (at k n rows rooms row room (omega arith) is there none)
+  pub none_found : (n : ℕ) (rows : List CompiledRow) (rooms : List Room) → LacksPlace g table rows rooms n →
+      from_first (fits rows) (behind_from n (choices rows rooms)) ≡ []
+  none_found n rows rooms lack = at lack.number n rows rooms lack.row lack.room lack.low lack.row_is lack.room_is
+      lack.none where
+        at : (k n : ℕ) (rows : List CompiledRow) (rooms : List Room) (row : CompiledRow) (room : Room) → k < n →
+            slice_get rows k ≡ Some row → slice_get rooms k ≡ Some room →
+            from_first (row_fits row) (all_places g.height row room) ≡ [] →
+            from_first (fits rows) (behind_from n (choices rows rooms)) ≡ []
+        at k zero rows rooms row room low is there none = absurd (omega arith)
+        at k (suc n) [] rooms row room low is there none = refl
+        at k (suc n) (r ∷ rows) [] row room low is there none = refl
+        at zero (suc n) (r ∷ rows) (m ∷ rooms) row room low is there none =
+            let e : r ≡ row = cc in
+            let d : m ≡ room = cc in
+            spread_none (row_fits r) (fits rows) (fits (r ∷ rows)) (first_and_others r rows) (all_places g.height r m)
+            (behind_from n (choices rows rooms))
+            (ap₂ (λ (x : CompiledRow) (y : Room). from_first (row_fits x) (all_places g.height x y)) e d ∙ none)
+        at (suc k) (suc n) (r ∷ rows) (m ∷ rooms) row room low is there none =
+            spread_off (row_fits r) (fits rows) (fits (r ∷ rows)) (first_and_others r rows) (all_places g.height r m)
+            (behind_from n (choices rows rooms))
+            (at k n rows rooms row room (omega arith) is there none)
 
   -- the same starts, the same places
-  pub same_places : (row : CompiledRow) (before after : Room) → HaveSameStarts before after → all_places g.height row after ≡ all_places g.height row before
+  pub same_places : (row : CompiledRow) (before after : Room) → HaveSameStarts before after →
+      all_places g.height row after ≡ all_places g.height row before
   same_places row before after same =
       let lines : after.lines ≡ before.lines = same.lines in
       let starts : after.starts ≡ before.starts = same.starts in
       rw (lines, starts) refl
 
   -- the next combination
-  pub goes_on : (n : ℕ) (rows : List CompiledRow) (old new : List Room) (row : CompiledRow) (before after : Room) → length rows ≤ length old → length new ≡ length old →
+  pub goes_on : (n : ℕ) (rows : List CompiledRow) (old new : List Room) (row : CompiledRow) (before after : Room) →
+      length rows ≤ length old → length new ≡ length old →
       slice_get rows n ≡ Some row → slice_get old n ≡ Some before → slice_get new n ≡ Some after →
-      from_first (row_fits row) (places_behind g.height row before) ≡ place_at g.height row after ∷ places_behind g.height row after →
-      AreStarted g table rows new n → AreLeft old new (suc n) → HaveStartsOf old new → FitFrom g table rows old (suc n) →
+      from_first (row_fits row) (places_behind g.height row before) ≡ place_at g.height row after ∷ places_behind
+      g.height row after →
+      AreStarted g table rows new n → AreLeft old new (suc n) → HaveStartsOf old new →
+      FitFrom g table rows old (suc n) →
       from_first (fits rows) (behind_from n (choices rows old)) ≡ chosen (choices rows new) ∷ behind (choices rows new)
   goes_on n [] old new row before after long even is was now next started left same slower = absurd (cc)
   goes_on n (r ∷ rows) [] new row before after long even is was now next started left same slower = absurd (omega arith)
-  goes_on n (r ∷ rows) (m ∷ old) [] row before after long even is was now next started left same slower = absurd (omega arith)
+  goes_on n (r ∷ rows) (m ∷ old) [] row before after long even is was now next started left same slower =
+      absurd (omega arith)
   goes_on zero (r ∷ rows) (m ∷ old) (o ∷ new) row before after long even is was now next started left same slower =
       let e : r ≡ row = cc in
       let d : m ≡ before = cc in
@@ -188,31 +225,43 @@ module _ (g : Grid) (table : Option (List ℕ)) where
       let others : List Choice = choices rows old in
       let c : Choice = choice_of g.height r m in
       let both : AreBoth (row_fits r) (fits rows) (fits (r ∷ rows)) = first_and_others r rows in
-      let found : from_first (row_fits r) c.later ≡ place_at g.height r o ∷ places_behind g.height r o = rw (e, d, f) next in
-      let stay : fits rows (chosen others) ≡ true = chosen_fits rows old (omega arith) (λ k x y low there room. slower (suc k) x y (omega arith) there room) in
+      let found : from_first (row_fits r) c.later ≡ place_at g.height r o ∷ places_behind g.height r o =
+      rw (e, d, f) next in
+      let stay : fits rows (chosen others) ≡ true =
+      chosen_fits rows old (omega arith) (λ k x y low there room. slower (suc k) x y (omega arith) there room) in
       from_first-append (fits (r ∷ rows)) (map (λ place. place ∷ chosen others) c.later) (spread c.all (behind others))
       ∙ ap (λ (cs : List (List (List ℕ))). found_or (fits (r ∷ rows)) cs (spread c.all (behind others)))
-      (front_fits (row_fits r) (fits rows) (fits (r ∷ rows)) both c.later (chosen others) stay ∙ ap (map (λ place. place ∷ chosen others)) found)
-      ∙ ap (λ (ps : List (List ℕ)). map (λ place. place ∷ chosen others) (place_at g.height r o ∷ places_behind g.height r o) ++ spread ps (behind others)) (sym (same_places r m o (same.each 0 m o refl refl)))
+      (front_fits (row_fits r) (fits rows) (fits (r ∷ rows)) both c.later (chosen others) stay
+      ∙ ap (map (λ place. place ∷ chosen others)) found)
+      ∙ ap (λ (ps : List (List ℕ)). map (λ place.
+      place ∷ chosen others) (place_at g.height r o ∷ places_behind g.height r o) ++ spread ps (behind others))
+      (sym (same_places r m o (same.each 0 m o refl refl)))
       ∙ ap (λ (ms : List Room). chosen (choices (r ∷ rows) (o ∷ ms)) ∷ behind (choices (r ∷ rows) (o ∷ ms))) (sym rest)
   goes_on (suc n) (r ∷ rows) (m ∷ old) (o ∷ new) row before after long even is was now next started left same slower =
       let others : List Choice = choices rows new in
       let both : AreBoth (row_fits r) (fits rows) (fits (r ∷ rows)) = first_and_others r rows in
       let alike : all_places g.height r o ≡ all_places g.height r m = same_places r m o (same.each 0 m o refl refl) in
       let again = started 0 r o (omega arith) refl refl in
-      let first : from_first (row_fits r) (all_places g.height r m) ≡ place_at g.height r o ∷ places_behind g.height r o = ap (from_first (row_fits r)) (sym alike) ∙ again.found in
-      spread_first (row_fits r) (fits rows) (fits (r ∷ rows)) both (place_at g.height r o) (places_behind g.height r o) (all_places g.height r m) (behind_from n (choices rows old)) first
-      ∙ ap (spread_from (row_fits r) (fits rows) (fits (r ∷ rows)) both (place_at g.height r o ∷ places_behind g.height r o) (all_places g.height r m))
+      let first : from_first (row_fits r) (all_places g.height r m) ≡ place_at g.height r o ∷ places_behind g.height r
+      o = ap (from_first (row_fits r)) (sym alike) ∙ again.found in
+      spread_first (row_fits r) (fits rows) (fits (r ∷ rows)) both (place_at g.height r o) (places_behind g.height r o)
+      (all_places g.height r m) (behind_from n (choices rows old)) first
+      ∙ ap (spread_from (row_fits r) (fits rows) (fits (r ∷ rows)) both
+      (place_at g.height r o ∷ places_behind g.height r o) (all_places g.height r m))
       (goes_on n rows old new row before after (omega arith) (omega arith) is was now next
       (λ k x y low there room. started (suc k) x y (omega arith) there room)
       (λ k low. left (suc k) (omega arith))
       (record { long = omega arith; each = λ k x y there room. same.each (suc k) x y there room })
       (λ k x y low there room. slower (suc k) x y (omega arith) there room))
-      ∙ ap (λ (ps : List (List ℕ)). map (λ place. place ∷ chosen others) (place_at g.height r o ∷ places_behind g.height r o) ++ spread ps (behind others)) (sym alike)
+      ∙ ap (λ (ps : List (List ℕ)). map (λ place.
+      place ∷ chosen others) (place_at g.height r o ∷ places_behind g.height r o) ++ spread ps (behind others))
+      (sym alike)
 
   -- one row more fits at its place
-  pub fit_more : (n m : ℕ) (rows : List CompiledRow) (rooms : List Room) (row : CompiledRow) (room : Room) → slice_get rows n ≡ Some row → slice_get rooms n ≡ Some room →
-      row_fits row (place_at g.height row room) ≡ true → m ≡ suc n → FitFrom g table rows rooms m → FitFrom g table rows rooms n
+  pub fit_more : (n m : ℕ) (rows : List CompiledRow) (rooms : List Room) (row : CompiledRow) (room : Room) →
+      slice_get rows n ≡ Some row → slice_get rooms n ≡ Some room →
+      row_fits row (place_at g.height row room) ≡ true → m ≡ suc n → FitFrom g table rows rooms m →
+      FitFrom g table rows rooms n
   fit_more n m rows rooms row room is there good next more k r o low own here = elim (cases_eq k n) [
     | inl same ↦
         let e : r ≡ row = same_Some _ _ (sym own ∙ ap (slice_get rows) same ∙ is) in

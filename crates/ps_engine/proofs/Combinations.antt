@@ -1,5 +1,6 @@
 -- The combinations of a rule's places, where the first place of each row is chosen.
-use Rattle.std.proofs.Common.{◌≡◌, ◌∙◌, ℕ, suc, zero, ◌<◌, ◌≤◌, inl, inr, Bool, true, false, Option, Some, List, [], ◌∷◌, ◌++◌, length, map, filter, get_or, refl, sym, ap, ap₂, arith}
+use Rattle.std.proofs.Common.{◌≡◌, ◌∙◌, ℕ, suc, zero, ◌<◌, ◌≤◌, inl, inr, Bool, true, false, Option, Some, List, []}
+use Rattle.std.proofs.Common.{◌∷◌, ◌++◌, length, map, filter, get_or, refl, sym, ap, ap₂, arith}
 use Rattle.std.specs.Prelude.{All, slice_get, slice_set}
 use Rattle.std.specs.List.{flat_map}
 use Rattle.std.proofs.lemmas.Bool.{cases_eq}
@@ -23,10 +24,11 @@ use Rattle.ps_engine.proofs.Choosing.{cells_in-meant, chosen_fits, same_places}
 use Rattle.ps_engine.proofs.RoomsChanged.{get_other, get_same}
 use Rattle.ps_engine.proofs.Sought.{first_is, found_or, from_first-append, from_first-yes}
 
--- of elements that are all of a kind the first is of the kind ----------------------------------------------------------
+-- of elements that are all of a kind the first is of the kind ---------------------------------------------------------
 
 module _ {X : Type 0} (kind : X → Bool) where
-  kept_by : (x : X) (xs : List X) (b : Bool) → kind x ≡ b → from_first kind (filter kind xs) ≡ filter kind xs → from_first kind (filter kind (x ∷ xs)) ≡ filter kind (x ∷ xs)
+  kept_by : (x : X) (xs : List X) (b : Bool) → kind x ≡ b → from_first kind (filter kind xs) ≡ filter kind xs →
+      from_first kind (filter kind (x ∷ xs)) ≡ filter kind (x ∷ xs)
   kept_by x xs true e rest = rw e (from_first-yes kind x (filter kind xs) e)
   kept_by x xs false e rest = rw e rest
 
@@ -35,36 +37,45 @@ module _ {X : Type 0} (kind : X → Bool) where
   kept_all (x ∷ xs) = kept_by x xs (kind x) refl (kept_all xs)
 
   joined : (xs ys : List X) → from_first kind xs ≡ xs → from_first kind ys ≡ ys → from_first kind (xs ++ ys) ≡ xs ++ ys
-  joined xs ys first others = from_first-append kind xs ys ∙ ap (λ (zs : List X). found_or kind zs ys) first ∙ same xs where
-    same : (zs : List X) → found_or kind zs ys ≡ zs ++ ys
-    same [] = others
-    same (z ∷ zs) = refl
+  joined xs ys first others = from_first-append kind xs ys ∙ ap (λ (zs : List X). found_or kind zs ys) first
+      ∙ same xs where
+        same : (zs : List X) → found_or kind zs ys ≡ zs ++ ys
+        same [] = others
+        same (z ∷ zs) = refl
 
-  pub all_of_kind : {Y : Type 0} (f : Y → List X) (ys : List Y) → from_first kind (flat_map (λ y. filter kind (f y)) ys) ≡ flat_map (λ y. filter kind (f y)) ys
+  pub all_of_kind : {Y : Type 0} (f : Y → List X) (ys : List Y) →
+      from_first kind (flat_map (λ y. filter kind (f y)) ys) ≡ flat_map (λ y. filter kind (f y)) ys
   all_of_kind f [] = refl
-  all_of_kind f (y ∷ ys) = joined (filter kind (f y)) (flat_map (λ z. filter kind (f z)) ys) (kept_all (f y)) (all_of_kind f ys)
+  all_of_kind f (y ∷ ys) = joined (filter kind (f y)) (flat_map (λ z. filter kind (f z)) ys) (kept_all (f y))
+      (all_of_kind f ys)
 
 -- where a list has no place, there is no combination
 no_spread : (rests : List (List (List ℕ))) → spread [] rests ≡ []
 no_spread [] = refl
 no_spread (rest ∷ rests) = no_spread rests
 
-pub no_combination : (places : List (List (List ℕ))) (i : ℕ) (d : List (List ℕ)) → i < length places → get_or places i d ≡ [] → combinations places ≡ []
+pub no_combination : (places : List (List (List ℕ))) (i : ℕ) (d : List (List ℕ)) → i < length places →
+    get_or places i d ≡ [] → combinations places ≡ []
 no_combination [] i d h e = absurd (omega arith)
 no_combination (places ∷ others) zero d h e = rw e (no_spread (combinations others))
 no_combination (places ∷ others) (suc i) d h e = ap (spread places) (no_combination others i d (omega arith) e)
 
-pub get-shown_twice : {P X Y : Type 0} (f : P → X) (h : X → Y) (xs : List P) (k : ℕ) (x : P) (d : Y) → k < length xs → x ≡ get_or xs k x → get_or (map h (map f xs)) k d ≡ h (f x)
+pub get-shown_twice : {P X Y : Type 0} (f : P → X) (h : X → Y) (xs : List P) (k : ℕ) (x : P) (d : Y) → k < length xs →
+    x ≡ get_or xs k x → get_or (map h (map f xs)) k d ≡ h (f x)
 get-shown_twice f h [] k x d low e = absurd (omega arith)
 get-shown_twice f h (y ∷ xs) zero x d low e = ap (λ z. h (f z)) (sym e)
 get-shown_twice f h (y ∷ xs) (suc k) x d low e = get-shown_twice f h xs k x d (omega arith) e
 
 module _ (g : Grid) (table : Option (List ℕ)) where
   -- the places of a row at the start all fit
-  pub all_fit_there : (direction : Direction) (row : CompiledRow) → from_first (place_fits g table row.parts) (places g direction (row_meaning table row)) ≡ places g direction (row_meaning table row)
+  pub all_fit_there : (direction : Direction) (row : CompiledRow) →
+      from_first (place_fits g table row.parts) (places g direction (row_meaning table row)) ≡ places g direction
+      (row_meaning table row)
   all_fit_there direction row =
-      ap (λ (ms : List CellMeaning). from_first (fits_along g ms) (places g direction (row_meaning table row))) (sym (cells_in-meant table row.parts))
-      ∙ all_of_kind (fits_along g (cells_in (row_meaning table row))) (stretches g direction (map length (row_meaning table row))) (search_order g direction)
+      ap (λ (ms : List CellMeaning). from_first (fits_along g ms) (places g direction (row_meaning table row)))
+      (sym (cells_in-meant table row.parts))
+      ∙ all_of_kind (fits_along g (cells_in (row_meaning table row)))
+      (stretches g direction (map length (row_meaning table row))) (search_order g direction)
 
   -- a row's places are found, and the first is chosen
   pub record HasFirst (row : CompiledRow) (room : Room) : Type 0 where
@@ -75,61 +86,82 @@ module _ (g : Grid) (table : Option (List ℕ)) where
     pub place : IsPlaced g row room
 
   -- the combination of the first places, and those behind it
-  pub all_combinations : (axis : Axis) (rows : List CompiledRow) (rooms : List Room) → All (LiesAlong axis) rows → length rows ≤ length rooms → OfEach (λ k. 0 ≤ k) rows rooms HasFirst →
-      combinations (map (places g (direction_of axis)) (rows_meaning table rows)) ≡ chosen (choices_of g.height rows rooms) ∷ behind (choices_of g.height rows rooms)
+  pub all_combinations : (axis : Axis) (rows : List CompiledRow) (rooms : List Room) → All (LiesAlong axis) rows →
+      length rows ≤ length rooms → OfEach (λ k. 0 ≤ k) rows rooms HasFirst →
+      combinations (map (places g (direction_of axis)) (rows_meaning table rows)) ≡ chosen
+      (choices_of g.height rows rooms) ∷ behind (choices_of g.height rows rooms)
   all_combinations axis [] rooms along long each = refl
   all_combinations axis (row ∷ rows) [] along long each = absurd (omega arith)
   all_combinations axis (row ∷ rows) (room ∷ rooms) along long each =
       let here = each 0 row room (omega arith) refl refl in
       let others : List Choice = choices_of g.height rows rooms in
       let lies : row.axis ≡ axis = along 0 row (omega arith) in
-      let own : places g (direction_of axis) (row_meaning table row) ≡ place_at g.height row room ∷ places_behind g.height row room =
+      let own : places g (direction_of axis) (row_meaning table row) ≡ place_at g.height row room ∷ places_behind
+      g.height row room =
       ap (λ (a : Axis). places g (direction_of a) (row_meaning table row)) (sym lies) ∙ here.places ∙ here.first in
-      ap₂ spread own (all_combinations axis rows rooms (λ k d low. along (suc k) d (omega (arith, low))) (omega arith) (λ k r o low is there. each (suc k) r o (omega arith) is there))
-      ∙ ap (λ (ps : List (List ℕ)). map (λ place. place ∷ chosen others) (place_at g.height row room ∷ places_behind g.height row room) ++ spread ps (behind others)) (sym here.first)
+      ap₂ spread own (all_combinations axis rows rooms (λ k d low.
+      along (suc k) d (omega (arith, low))) (omega arith) (λ k r o low is there.
+      each (suc k) r o (omega arith) is there))
+      ∙ ap (λ (ps : List (List ℕ)). map (λ place.
+      place ∷ chosen others) (place_at g.height row room ∷ places_behind g.height row room) ++ spread ps
+      (behind others)) (sym here.first)
 
   -- a row without a place
-  pub none_of_row : (row : CompiledRow) (axis : Axis) (rows : List CompiledRow) (n : ℕ) → All (LiesAlong axis) rows → n < length rows → row ≡ get_or rows n row →
+  pub none_of_row : (row : CompiledRow) (axis : Axis) (rows : List CompiledRow) (n : ℕ) → All (LiesAlong axis) rows →
+      n < length rows → row ≡ get_or rows n row →
       row_places g table row ≡ [] → combinations (map (places g (direction_of axis)) (rows_meaning table rows)) ≡ []
   none_of_row row axis rows n along low is none =
       let lies : row.axis ≡ axis = ap (λ (r : CompiledRow). r.axis) is ∙ along n row low in
       let at : List (List (List CellMeaning)) = rows_meaning table rows in
-      let within : n < length (map (places g (direction_of axis)) at) = rw (length-map at (places g (direction_of axis)), length-map rows (row_meaning table)) low in
+      let within : n < length (map (places g (direction_of axis)) at) =
+      rw (length-map at (places g (direction_of axis)), length-map rows (row_meaning table)) low in
       no_combination (map (places g (direction_of axis)) at) n [] within
       (get-shown_twice (row_meaning table) (places g (direction_of axis)) rows n row [] low is
       ∙ ap (λ (a : Axis). places g (direction_of a) (row_meaning table row)) (sym lies) ∙ none)
 
   -- the first place is chosen among those that were found
-  module _ (row : CompiledRow) (found : Room) (places_are : places g (direction_of row.axis) (row_meaning table row) ≡ all_places g.height row found) where
-    sought : from_first (place_fits g table row.parts) (all_places g.height row found) ≡ places g (direction_of row.axis) (row_meaning table row)
+  module _ (row : CompiledRow) (found : Room) (places_are : places g (direction_of row.axis) (row_meaning table row) ≡
+      all_places g.height row found) where
+    sought : from_first (place_fits g table row.parts) (all_places g.height row found) ≡ places g
+        (direction_of row.axis) (row_meaning table row)
     sought = ap (from_first (place_fits g table row.parts)) (sym places_are) ∙ all_fit_there (direction_of row.axis) row
 
-    pub is_first : (room : Room) → HasLinesOf g row found → HaveSameStarts found room → IsChosenOf g table row (all_places g.height row found) room → HasFirst row room
+    pub is_first : (room : Room) → HasLinesOf g row found → HaveSameStarts found room →
+        IsChosenOf g table row (all_places g.height row found) room → HasFirst row room
     is_first room lines starts chosen =
-        let alike : all_places g.height row room ≡ all_places g.height row found = same_places g table row found room starts in
+        let alike : all_places g.height row room ≡ all_places g.height row found =
+        same_places g table row found room starts in
         record {
           places = places_are ∙ sym alike;
           first = alike ∙ sym places_are ∙ sym sought ∙ chosen.found;
-          fits = first_is (place_fits g table row.parts) (all_places g.height row found) (place_at g.height row room) (places_behind g.height row room) chosen.found;
+          fits = first_is (place_fits g table row.parts) (all_places g.height row found) (place_at g.height row room)
+              (places_behind g.height row room) chosen.found;
           lines = record { at = λ line there. lines.at line (rw (← starts.lines) there) };
           place = chosen.place;
         }
 
-    pub none_first : (axis : Axis) (rows : List CompiledRow) (n : ℕ) → All (LiesAlong axis) rows → n < length rows → row ≡ get_or rows n row →
-        from_first (place_fits g table row.parts) (all_places g.height row found) ≡ [] → combinations (map (places g (direction_of axis)) (rows_meaning table rows)) ≡ []
+    pub none_first : (axis : Axis) (rows : List CompiledRow) (n : ℕ) → All (LiesAlong axis) rows → n < length rows →
+        row ≡ get_or rows n row →
+        from_first (place_fits g table row.parts) (all_places g.height row found) ≡ [] →
+        combinations (map (places g (direction_of axis)) (rows_meaning table rows)) ≡ []
     none_first axis rows n along low is none = none_of_row row axis rows n along low is (sym sought ∙ none)
 
-  pub first_more : (rows : List CompiledRow) (rooms : List Room) (n m : ℕ) (row : CompiledRow) (room : Room) → m ≡ suc n → slice_get rows n ≡ Some row → n < length rooms →
-      HasFirst row room → OfEach (λ k. k < n) rows rooms HasFirst → OfEach (λ k. k < m) rows (slice_set rooms n room) HasFirst
+  pub first_more : (rows : List CompiledRow) (rooms : List Room) (n m : ℕ) (row : CompiledRow) (room : Room) →
+      m ≡ suc n → slice_get rows n ≡ Some row → n < length rooms →
+      HasFirst row room → OfEach (λ k. k < n) rows rooms HasFirst →
+      OfEach (λ k. k < m) rows (slice_set rooms n room) HasFirst
   first_more rows rooms n m row room next is low here all k r o less own there = elim (cases_eq k n) [
     | inl e ↦
         let d : r ≡ row = same_Some _ _ (sym own ∙ ap (slice_get rows) e ∙ is) in
-        let f : o ≡ room = same_Some _ _ (sym there ∙ ap (slice_get (slice_set rooms n room)) e ∙ get_same rooms n (get_or rooms n room) room (slice_get-get_or rooms n room low)) in
+        let f : o ≡ room = same_Some _ _ (sym there ∙ ap (slice_get (slice_set rooms n room)) e
+        ∙ get_same rooms n (get_or rooms n room) room (slice_get-get_or rooms n room low)) in
         rw (d, f) here
     | inr other ↦ all k r o (omega (arith, less, next, other)) own (sym (get_other rooms n k room other) ∙ there)
   ]
 
   -- all rows fit at their first places
-  pub first_fits : (rows : List CompiledRow) (rooms : List Room) → length rows ≤ length rooms → OfEach (λ k. 0 ≤ k) rows rooms HasFirst →
+  pub first_fits : (rows : List CompiledRow) (rooms : List Room) → length rows ≤ length rooms →
+      OfEach (λ k. 0 ≤ k) rows rooms HasFirst →
       all_fit g (rows_meaning table rows) (chosen (choices_of g.height rows rooms)) ≡ true
-  first_fits rows rooms long each = chosen_fits g table rows rooms long (λ k r o low is there. (each k r o low is there).fits)
+  first_fits rows rooms long each = chosen_fits g table rows rooms long (λ k r o low is there.
+      (each k r o low is there).fits)

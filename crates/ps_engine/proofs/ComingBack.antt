@@ -82,4 +82,5 @@ module _ {R : Type 0} (run : ℕ → State → R) where
       Keeps before kept now → AreLeft before kept next.grid next.queue left rest → run rest next ≡ run left next
   rest_is before kept now next left rest step so (inl all) = ap (λ (n : ℕ). run n next) all
   rest_is before kept now next left rest step so (inr (period, (back, is))) =
-      ap (λ (n : ℕ). run n next) is ∙ rest_of_steps period left next (leads_back before kept now next period step so back)
+      ap (λ (n : ℕ). run n next) is ∙ rest_of_steps period left next
+      (leads_back before kept now next period step so back)

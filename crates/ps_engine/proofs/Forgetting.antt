@@ -1,5 +1,6 @@
 -- Places at which a row doesn't fit may be forgotten: combinations with them don't fit.
-use Rattle.std.proofs.Common.{◌≡◌, ◌∙◌, ℕ, Bool, true, false, List, [], ◌∷◌, ◌++◌, map, filter, cond, refl, sym, ap, ap₂}
+use Rattle.std.proofs.Common.{◌≡◌, ◌∙◌, ℕ, Bool, true, false, List, [], ◌∷◌, ◌++◌, map, filter, cond, refl, sym, ap}
+use Rattle.std.proofs.Common.{ap₂}
 use Rattle.std.specs.Prelude.{⊤}
 use Rattle.std.proofs.lemmas.List.Elements.{filter-append}
 use Rattle.ps_model.specs.board.Grid.{Grid}
@@ -29,7 +30,8 @@ abbrev FitEach : Grid → List (List CellMeaning) → List (List (List CellMeani
     List (List ℕ) → Type 0
 FitEach g row rows rest fit places =
     filter (all_fit g (row ∷ rows))
-    (map (λ place. place ∷ rest) places) ≡ cond fit (map (λ place. place ∷ rest) (filter (fits_along g (cells_in row)) places)) []
+    (map (λ place. place ∷ rest) places) ≡ cond fit
+    (map (λ place. place ∷ rest) (filter (fits_along g (cells_in row)) places)) []
 
 taken : {X : Type 0} (test : Bool) (x : X) (xs : List X) → test ≡ true → cond test (x ∷ xs) xs ≡ x ∷ xs
 taken test x xs e = ap (λ (b : Bool). cond b (x ∷ xs) xs) e
@@ -45,14 +47,18 @@ with_one g row rows rest true true e place places h others =
     taken (all_fit g (row ∷ rows) (place ∷ rest))
     (place ∷ rest) _ (ap (λ (b : Bool). and_then b (all_fit g rows rest)) h ∙ e)
     ∙ ap (λ (xs : List (List (List ℕ))). (place ∷ rest) ∷ xs) others
-    ∙ ap (λ (b : Bool). map (λ place. place ∷ rest) (cond b (place ∷ filter (fits_along g (cells_in row)) places) (filter (fits_along g (cells_in row)) places))) (sym h)
+    ∙ ap (λ (b : Bool). map (λ place. place ∷ rest)
+    (cond b (place ∷ filter (fits_along g (cells_in row)) places) (filter (fits_along g (cells_in row)) places)))
+    (sym h)
 with_one g row rows rest false true e place places h others =
     passed (all_fit g (row ∷ rows) (place ∷ rest))
     (place ∷ rest) _ (ap (λ (b : Bool). and_then b (all_fit g rows rest)) h ∙ e) ∙ others
 with_one g row rows rest true false e place places h others =
     passed (all_fit g (row ∷ rows) (place ∷ rest))
     (place ∷ rest) _ (ap (λ (b : Bool). and_then b (all_fit g rows rest)) h) ∙ others
-    ∙ ap (λ (b : Bool). map (λ place. place ∷ rest) (cond b (place ∷ filter (fits_along g (cells_in row)) places) (filter (fits_along g (cells_in row)) places))) (sym h)
+    ∙ ap (λ (b : Bool). map (λ place. place ∷ rest)
+    (cond b (place ∷ filter (fits_along g (cells_in row)) places) (filter (fits_along g (cells_in row)) places)))
+    (sym h)
 with_one g row rows rest false false e place places h others =
     passed (all_fit g (row ∷ rows) (place ∷ rest))
     (place ∷ rest) _ (ap (λ (b : Bool). and_then b (all_fit g rows rest)) h) ∙ others
@@ -62,11 +68,13 @@ with_each : (g : Grid) (row : List (List CellMeaning)) (rows : List (List (List 
 with_each g row rows rest true e [] = refl
 with_each g row rows rest false e [] = refl
 with_each g row rows rest fit e (place ∷ places) =
-    with_one g row rows rest fit (fits_along g (cells_in row) place) e place places refl (with_each g row rows rest fit e places)
+    with_one g row rows rest fit (fits_along g (cells_in row) place) e place places refl
+    (with_each g row rows rest fit e places)
 
 -- with each of the others
 spread_of : (places : List (List ℕ)) (rest : List (List ℕ)) (rests : List (List (List ℕ))) (fit : Bool) →
-    cond fit (map (λ place. place ∷ rest) places) [] ++ spread places rests ≡ spread places (cond fit (rest ∷ rests) rests)
+    cond fit (map (λ place. place ∷ rest) places) [] ++ spread places rests ≡ spread places
+    (cond fit (rest ∷ rests) rests)
 spread_of places rest rests true = refl
 spread_of places rest rests false = refl
 
@@ -102,8 +110,12 @@ same_behind g (row ∷ rows) (old ∷ choices) (new ∷ others) same =
     filter-append (all_fit g (row ∷ rows)) (map (λ place. place ∷ chosen others) new.later)
     (spread new.all (behind others))
     ∙ ap₂ (λ (xs ys : List (List (List ℕ))). xs ++ ys)
-    (ap₂ (λ (later : List (List ℕ)) (rest : List (List ℕ)). filter (all_fit g (row ∷ rows)) (map (λ place. place ∷ rest) later)) same.0.later (same_chosen g rows choices others same.1))
+    (ap₂ (λ (later : List (List ℕ)) (rest : List (List ℕ)).
+    filter (all_fit g (row ∷ rows)) (map (λ place. place ∷ rest) later)) same.0.later
+    (same_chosen g rows choices others same.1))
     (spread_fitting g row rows new.all (behind others)
-    ∙ ap₂ (λ (places : List (List ℕ)) (rests : List (List (List ℕ))). spread places rests) same.0.fitting (same_behind g rows choices others same.1)
+    ∙ ap₂ (λ (places : List (List ℕ)) (rests : List (List (List ℕ))).
+    spread places rests) same.0.fitting (same_behind g rows choices others same.1)
     ∙ sym (spread_fitting g row rows old.all (behind choices)))
-    ∙ sym (filter-append (all_fit g (row ∷ rows)) (map (λ place. place ∷ chosen choices) old.later) (spread old.all (behind choices)))
+    ∙ sym (filter-append (all_fit g (row ∷ rows)) (map (λ place. place ∷ chosen choices) old.later)
+    (spread old.all (behind choices)))

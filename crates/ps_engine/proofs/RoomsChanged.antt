@@ -1,5 +1,6 @@
 -- One room of several changed.
-use Rattle.std.proofs.Common.{◌≡◌, ◌≢◌, ◌∙◌, ℕ, suc, zero, ◌≤◌, inl, inr, Option, Some, None, List, [], ◌∷◌, length, refl, sym, ap, arith}
+use Rattle.std.proofs.Common.{◌≡◌, ◌≢◌, ◌∙◌, ℕ, suc, zero, ◌≤◌, inl, inr, Option, Some, None, List, [], ◌∷◌, length}
+use Rattle.std.proofs.Common.{refl, sym, ap, arith}
 use Rattle.std.specs.Prelude.{slice_get, slice_set}
 use Rattle.std.proofs.lemmas.Bool.{cases_eq, cases_lt}
 use Rattle.std.proofs.lemmas.List.{length-set}
@@ -16,7 +17,8 @@ use Rattle.ps_places.specs.Lines.{line_count}
 use Rattle.ps_places.specs.Ways.{from_first}
 use Rattle.ps_places.specs.Starts.{HasLinesOf, HaveSameStarts}
 use Rattle.ps_engine.specs.Choices.{behind, behind_from, choices_of, chosen}
-use Rattle.ps_engine.specs.Choosing.{AreLeft, ArePlaced, AreStarted, FitFrom, HaveLinesOf, HaveStartsOf, IsChosenOf, IsPlaced, LacksPlace, rows_meaning}
+use Rattle.ps_engine.specs.Choosing.{AreLeft, ArePlaced, AreStarted, FitFrom, HaveLinesOf, HaveStartsOf, IsChosenOf}
+use Rattle.ps_engine.specs.Choosing.{IsPlaced, LacksPlace, rows_meaning}
 use Rattle.ps_engine.proofs.Choosing.{goes_on, same_places}
 use Rattle.ps_engine.proofs.Rewriting.{same_height}
 
@@ -36,28 +38,34 @@ module _ {X : Type 0} where
 pub starts_as_they_are : (rooms : List Room) → HaveStartsOf rooms rooms
 starts_as_they_are rooms = record {
   long = refl;
-  each = λ k before after was now. let e : after ≡ before = same_Some _ _ (sym now ∙ was) in rw e (record { lines = refl; starts = refl });
+  each = λ k before after was now. let e : after ≡ before = same_Some _ _ (sym now ∙ was) in
+      rw e (record { lines = refl; starts = refl });
 }
 
 module _ (old rooms : List Room) (n : ℕ) (before after : Room) where
-  pub starts_more : HaveStartsOf old rooms → slice_get rooms n ≡ Some before → HaveSameStarts before after → HaveStartsOf old (slice_set rooms n after)
+  pub starts_more : HaveStartsOf old rooms → slice_get rooms n ≡ Some before → HaveSameStarts before after →
+      HaveStartsOf old (slice_set rooms n after)
   starts_more so there same = record { long = length-set rooms n after ∙ so.long; each = at } where
-    at : (k : ℕ) (first last : Room) → slice_get old k ≡ Some first → slice_get (slice_set rooms n after) k ≡ Some last → HaveSameStarts first last
+    at : (k : ℕ) (first last : Room) → slice_get old k ≡ Some first →
+        slice_get (slice_set rooms n after) k ≡ Some last → HaveSameStarts first last
     at k first last was now = elim (cases_eq k n) [
       | inl here ↦
-          let e : last ≡ after = same_Some _ _ (sym now ∙ ap (slice_get (slice_set rooms n after)) here ∙ get_same rooms n before after there) in
+          let e : last ≡ after = same_Some _ _ (sym now ∙ ap (slice_get (slice_set rooms n after)) here
+          ∙ get_same rooms n before after there) in
           let kept = so.each k first before was (ap (slice_get rooms) here ∙ there) in
           rw e (record { lines = same.lines ∙ kept.lines; starts = same.starts ∙ kept.starts })
       | inr other ↦ so.each k first last was (sym (get_other rooms n k after other) ∙ now)
     ]
 
   pub left_more : (m : ℕ) → m ≡ suc n → AreLeft old rooms n → AreLeft old (slice_set rooms n after) m
-  left_more m next left k low = get_other rooms n k after (λ e. absurd (omega (arith, e, next, low))) ∙ left k (omega (arith, next, low))
+  left_more m next left k low = get_other rooms n k after (λ e. absurd (omega (arith, e, next, low)))
+      ∙ left k (omega (arith, next, low))
 
 pub left_as_they_are : (rooms : List Room) (n : ℕ) → AreLeft rooms rooms n
 left_as_they_are rooms n k low = refl
 
-pub none_there : (old new : List Room) (k : ℕ) (room : Room) → length new ≡ length old → slice_get new k ≡ Some room → slice_get old k ≡ None → ⊥
+pub none_there : (old new : List Room) (k : ℕ) (room : Room) → length new ≡ length old → slice_get new k ≡ Some room →
+    slice_get old k ≡ None → ⊥
 none_there [] [] k room long there was = absurd (cc)
 none_there [] (y ∷ new) k room long there was = absurd (omega arith)
 none_there (x ∷ old) [] k room long there was = absurd (cc)
@@ -76,12 +84,15 @@ starts_on a b c first then = record { long = then.long ∙ first.long; each = ea
     at None mid = absurd (none_there b c k z then.long now mid)
 
 module _ (g : Grid) (table : Option (List ℕ)) (rows : List CompiledRow) where
-  pub started_more : (rooms : List Room) (n m : ℕ) (row : CompiledRow) (before after : Room) → m ≡ suc n → slice_get rows n ≡ Some row → slice_get rooms n ≡ Some before →
-      HaveSameStarts before after → IsChosenOf g table row (all_places g.height row before) after → AreStarted g table rows rooms n → AreStarted g table rows (slice_set rooms n after) m
+  pub started_more : (rooms : List Room) (n m : ℕ) (row : CompiledRow) (before after : Room) → m ≡ suc n →
+      slice_get rows n ≡ Some row → slice_get rooms n ≡ Some before →
+      HaveSameStarts before after → IsChosenOf g table row (all_places g.height row before) after →
+      AreStarted g table rows rooms n → AreStarted g table rows (slice_set rooms n after) m
   started_more rooms n m row before after next is there same chosen so k r o low own here = elim (cases_eq k n) [
     | inl e ↦
         let d : r ≡ row = same_Some _ _ (sym own ∙ ap (slice_get rows) e ∙ is) in
-        let f : o ≡ after = same_Some _ _ (sym here ∙ ap (slice_get (slice_set rooms n after)) e ∙ get_same rooms n before after there) in
+        let f : o ≡ after = same_Some _ _ (sym here ∙ ap (slice_get (slice_set rooms n after)) e
+        ∙ get_same rooms n before after there) in
         rw (d, f, same_places g table row before after same) chosen
     | inr other ↦ so k r o (omega (arith, low, next, other)) own (sym (get_other rooms n k after other) ∙ here)
   ]
@@ -96,7 +107,8 @@ module _ (g : Grid) (table : Option (List ℕ)) (rows : List CompiledRow) where
     at None was = absurd (none_there old new k room same.long there was)
 
   -- one of the first so many rows lacks a place still
-  pub lacks_before : (old new : List Room) (n : ℕ) → HaveStartsOf old new → LacksPlace g table rows new n → LacksPlace g table rows old n
+  pub lacks_before : (old new : List Room) (n : ℕ) → HaveStartsOf old new → LacksPlace g table rows new n →
+      LacksPlace g table rows old n
   lacks_before old new n same lack = at (slice_get old lack.number) refl where
     at : (o : Option Room) → slice_get old lack.number ≡ o → LacksPlace g table rows old n
     at (Some before) was =
@@ -113,8 +125,10 @@ module _ (g : Grid) (table : Option (List ℕ)) (rows : List CompiledRow) where
         }
     at None was = absurd (none_there old new lack.number lack.room same.long lack.room_is was)
 
-  module _ (old rooms new : List Room) (n : ℕ) (row : CompiledRow) (before after : Room) (is : slice_get rows n ≡ Some row) (there : slice_get rooms n ≡ Some before)
-      (left : AreLeft old rooms n) (so : HaveStartsOf old rooms) (same : HaveSameStarts before after) (again : HaveStartsOf (slice_set rooms n after) new)
+  module _ (old rooms new : List Room) (n : ℕ) (row : CompiledRow) (before after : Room)
+      (is : slice_get rows n ≡ Some row) (there : slice_get rooms n ≡ Some before)
+      (left : AreLeft old rooms n) (so : HaveStartsOf old rooms) (same : HaveSameStarts before after)
+      (again : HaveStartsOf (slice_set rooms n after) new)
       (stay : AreLeft (slice_set rooms n after) new n) where
     was_there : slice_get old n ≡ Some before
     was_there = sym (left n (omega arith)) ∙ there
@@ -129,11 +143,15 @@ module _ (g : Grid) (table : Option (List ℕ)) (rows : List CompiledRow) where
     all_starts = starts_on old (slice_set rooms n after) new (starts_more old rooms n before after so there same) again
 
     -- the next combination, where the faster rows start again
-    pub next_found : length rows ≤ length old → from_first (place_fits g table row.parts) (places_behind g.height row before) ≡ place_at g.height row after ∷ places_behind g.height row after →
+    pub next_found : length rows ≤ length old →
+        from_first (place_fits g table row.parts) (places_behind g.height row before) ≡ place_at g.height row after ∷
+        places_behind g.height row after →
         AreStarted g table rows new n → FitFrom g table rows old (suc n) →
-        from_first (all_fit g (rows_meaning table rows)) (behind_from n (choices_of g.height rows old)) ≡ chosen (choices_of g.height rows new) ∷ behind (choices_of g.height rows new)
+        from_first (all_fit g (rows_meaning table rows)) (behind_from n (choices_of g.height rows old)) ≡ chosen
+        (choices_of g.height rows new) ∷ behind (choices_of g.height rows new)
     next_found long found started slower =
-        goes_on g table n rows old new row before after long (all_starts.long) is was_there is_there found started all_left all_starts slower
+        goes_on g table n rows old new row before after long (all_starts.long) is was_there is_there found started
+        all_left all_starts slower
 
     pub next_placed : ArePlaced g rows old → IsPlaced g row after → AreStarted g table rows new n → ArePlaced g rows new
     next_placed lines line started k r o low own here = elim (cases_lt k n) [
@@ -152,12 +170,14 @@ same_lines : (g h : Grid) (axis : Axis) → sides_of g ≡ sides_of h → line_c
 same_lines g h Down same = ap (λ (s : ℕ × ℕ × ℕ). s.0) (sym same)
 same_lines g h Right same = sym (same_height g h same)
 
-pub lines_there : (g h : Grid) (rows : List CompiledRow) (rooms : List Room) → sides_of g ≡ sides_of h → HaveLinesOf h rows rooms → HaveLinesOf g rows rooms
+pub lines_there : (g h : Grid) (rows : List CompiledRow) (rooms : List Room) → sides_of g ≡ sides_of h →
+    HaveLinesOf h rows rooms → HaveLinesOf g rows rooms
 lines_there g h rows rooms same lines k row room low is there =
     let own = lines k row room low is there in
     record { at = λ line on. rw (← same_lines g h row.axis same) (own.at line on) }
 
-pub placed_there : (g h : Grid) (rows : List CompiledRow) (rooms : List Room) → sides_of g ≡ sides_of h → ArePlaced h rows rooms → ArePlaced g rows rooms
+pub placed_there : (g h : Grid) (rows : List CompiledRow) (rooms : List Room) → sides_of g ≡ sides_of h →
+    ArePlaced h rows rooms → ArePlaced g rows rooms
 placed_there g h rows rooms same places k row room low is there =
     let own = places k row room low is there in
     record { on_line = rw (← same_lines g h row.axis same) own.on_line; spaced = own.spaced }

@@ -1,5 +1,7 @@
--- Rows that are told to let each other sleep do, on each board: a write without what has no room wakes no more than the whole.
-use Rattle.std.proofs.Common.{◌≡◌, ℕ, Bool, true, false, ◌||◌, not, Option, Some, None, List, [], ◌∷◌, map, filter, refl}
+-- Rows that are told to let each other sleep do, on each board: a write without what has no room wakes no more than the
+-- whole.
+use Rattle.std.proofs.Common.{◌≡◌, ℕ, Bool, true, false, ◌||◌, not, Option, Some, None, List, [], ◌∷◌, map, filter}
+use Rattle.std.proofs.Common.{refl}
 use Rattle.std.specs.Prelude.{All}
 use Rattle.std.specs.List.{list_all}
 use Rattle.std.proofs.lemmas.Bool.{and_parts, not_from_true}
@@ -14,7 +16,8 @@ use Rattle.ps_board.specs.Runnable.{has_room_for}
 use Rattle.ps_program.specs.declared.cells.CompiledCell.{CompiledCell}
 use Rattle.ps_program.specs.declared.rows.CompiledRow.{CompiledRow}
 use Rattle.ps_program.specs.CellsShown.{mask_shown, write_shown}
-use Rattle.ps_program.specs.Keeping.{comes_not, frees, gives_not, is_rest, keeps_one, lets_sleep, motion_comes_not, puts_not, stays}
+use Rattle.ps_program.specs.Keeping.{comes_not, frees, gives_not, is_rest, keeps_one, lets_sleep, motion_comes_not}
+use Rattle.ps_program.specs.Keeping.{puts_not, stays}
 use Rattle.ps_program.specs.Sleeping.{cell_lets_sleep, cell_sleeps, row_lets_sleep, row_sleeps, rows_sleep}
 use Rattle.ps_program.proofs.KeepingCells.{lets-sleep}
 use Rattle.ps_match.specs.InRoom.{write_in_room}
@@ -43,7 +46,8 @@ module _ (keep : LayerWrite → Bool) (write : CellWrite) where
   motion_still : (test : MotionTest) → motion_comes_not write test ≡ true → motion_comes_not fewer_writes test ≡ true
   motion_still test all =
       let free : Bool = not (is_rest test.motion) || not (frees write test.layer) in
-      both_said free (list_all (gives_not test) write.layers) free (list_all (gives_not test) (filter keep write.layers))
+      both_said free (list_all (gives_not test) write.layers) free
+      (list_all (gives_not test) (filter keep write.layers))
       (λ e. e) (all_of_kept (gives_not test) keep write.layers) all
 
   fewer_sleep : (mask : CellMask) → lets_sleep write mask ≡ true → lets_sleep fewer_writes mask ≡ true
@@ -72,7 +76,8 @@ cell_asleep table writing asking e = λ cell off.
     let mask : CellMask = mask_shown asking.mask in
     let still : lets_sleep (write_in_room table write) mask ≡ true =
     in_room_sleeps table write mask (twice_not (lets_sleep write mask) e) in
-    lets-sleep (write_in_room table write) mask (not_from_true (lets_sleep (write_in_room table write) mask) still) cell off
+    lets-sleep (write_in_room table write) mask (not_from_true (lets_sleep (write_in_room table write) mask) still)
+    cell off
 
 -- all elements of a list, made into others; all cells of some parts
 pub all_made : {X Y : Type 0} (test : X → Bool) (f : X → Y) (P : Y → Type 0) (xs : List X) →
@@ -100,7 +105,8 @@ cell_wakes_none : (table : Option (List ℕ)) (rows : List CompiledRow) (cell : 
 cell_wakes_none table rows cell lets =
     all_made (row_sleeps (write_shown cell.write)) (row_meaning table)
     (λ other. All (Sleeps (cell_meaning table cell)) (cells_in other)) rows
-    (λ row asleep. all_in_parts table (cell_sleeps (write_shown cell.write)) (Sleeps (cell_meaning table cell)) row.parts
+    (λ row asleep. all_in_parts table (cell_sleeps (write_shown cell.write)) (Sleeps (cell_meaning table cell))
+    row.parts
     (λ asking e. cell_asleep table cell asking e) asleep) lets
 
 row_wakes_none : (table : Option (List ℕ)) (rows : List CompiledRow) (row : CompiledRow) →

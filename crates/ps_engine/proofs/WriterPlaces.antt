@@ -375,7 +375,8 @@ module _ (g : Grid) (table : Option (List ℕ)) (axis : Axis) (first second : Li
     reached_is n low = ap (λ (b : Bool). nat_le steps (position_of axis g.height n) && b) (sym (kept_is n low))
 
     any_target : (n : ℕ) → n < g.width * g.height →
-        list_any (λ place. nat_eq n (target_of (length before) place)) all ≡ is_written axis g.height steps rows starts n
+        list_any (λ place. nat_eq n (target_of (length before) place)) all ≡ is_written axis g.height steps rows starts
+        n
     any_target n low =
         ap (λ (k : ℕ). list_any (λ place. nat_eq n (target_of k place)) all) long_is
         ∙ targets-are g table axis first second grid some more leads steps n within low ∙ reached_is n low
@@ -394,7 +395,7 @@ module _ (g : Grid) (table : Option (List ℕ)) (axis : Axis) (first second : Li
         (is_written axis g.height steps rows starts)
         (λ n low. any_target n (rw (← grid.cells) low))
 
-    -- whether there is a place ------------------------------------------------------------------------------------------
+    -- whether there is a place ----------------------------------------------------------------------------------------
 
     no_target : (n : ℕ) → set_columns rows ≡ [] → n < g.width * g.height →
         is_written axis g.height steps rows starts n ≡ false

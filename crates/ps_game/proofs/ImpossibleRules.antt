@@ -10,14 +10,16 @@ use Rattle.ps_model.specs.rules.ReadingFaults.{impossible_rules}
 
 -- the fault of a rule, and of those behind it
 abbrev first_told : Names → SourceRule → List SourceRule → Bool → Option Fault
-first_told names rule rules possible = first_fault (when (not possible) Impossible rule.line ++ impossible_rules names rules)
+first_told names rule rules possible = first_fault
+    (when (not possible) Impossible rule.line ++ impossible_rules names rules)
 
 -- an impossible rule is told, whatever comes behind it
 pub told_here : (names : Names) (rule : SourceRule) (rules all : List SourceRule) (first : Option Fault) →
     all ≡ rule ∷ rules → has_possible names rule ≡ false → first_fault (impossible_rules names all) ≡ first →
     Some (record { kind = Impossible; line = rule.line }) ≡ first
 told_here names rule rules all first e none before =
-    sym (ap (first_told names rule rules) none) ∙ sym (ap (λ (rs : List SourceRule). first_fault (impossible_rules names rs)) e)
+    sym (ap (first_told names rule rules) none)
+    ∙ sym (ap (λ (rs : List SourceRule). first_fault (impossible_rules names rs)) e)
     ∙ before
 
 -- a rule that is possible leaves it to those behind it
@@ -25,5 +27,6 @@ pub told_behind : (names : Names) (rule : SourceRule) (rules all : List SourceRu
     all ≡ rule ∷ rules → has_possible names rule ≡ true → first_fault (impossible_rules names all) ≡ first →
     first_fault (impossible_rules names rules) ≡ first
 told_behind names rule rules all first e some before =
-    sym (ap (first_told names rule rules) some) ∙ sym (ap (λ (rs : List SourceRule). first_fault (impossible_rules names rs)) e)
+    sym (ap (first_told names rule rules) some)
+    ∙ sym (ap (λ (rs : List SourceRule). first_fault (impossible_rules names rs)) e)
     ∙ before

@@ -1,4 +1,5 @@
--- What looking for the game of a text answers: the game, where the text has one, or its first fault; or that memory was refused.
+-- What looking for the game of a text answers: the game, where the text has one, or its first fault; or that memory was
+-- refused.
 use Rattle.std.specs.Prelude.{◌≡◌, List, Option, Some, Result, IfOk, IfErr}
 use Rattle.ps_model.specs.declared.faults.Fault.{Fault}
 use Rattle.ps_model.specs.declared.refusal.Refusal.{Refusal}

@@ -10,7 +10,7 @@ use Rattle.ps_model.specs.session.Sessions.{Play, Playing, Step, quietly, after,
 use Rattle.ps_model.specs.session.StartSteps.{start_told, start_turns, all_start_turns, restarted}
 use Rattle.ps_model.specs.session.KeySteps.{key_told, key_turns, all_key_turns}
 
--- lists of turns ---------------------------------------------------------------------------------------------------------
+-- lists of turns ------------------------------------------------------------------------------------------------------
 
 -- a turn of a key counts if it changed the board or won
 abbrev pub counts_for_key : Done → Bool
@@ -33,15 +33,18 @@ goes_on_for_start done = is_none done.message && done.again
 abbrev pub Follow : (Done → Bool) → (Done → Bool) → Script → Grid → List Done → Type 0
 Follow counts goes_on script board [] = ⊤
 Follow counts goes_on script board (done ∷ others) =
-    (turn script None board ≡ Finished done) × (counts done ≡ true) × ((others ≡ []) ⊎ (goes_on done ≡ true)) × Follow counts goes_on script done.board others
+    (turn script None board ≡ Finished done) × (counts done ≡ true) × ((others ≡ []) ⊎ (goes_on done ≡ true)) × Follow
+    counts goes_on script done.board others
 
 -- they are no more than so many, and no such list is longer
-pub record IsLongest (counts goes_on : Done → Bool) (script : Script) (limit : ℕ) (board : Grid) (dones : List Done) : Type 0 where
+pub record IsLongest (counts goes_on : Done → Bool) (script : Script) (limit : ℕ) (board : Grid) (dones : List Done) :
+    Type 0 where
   pub follow : Follow counts goes_on script board dones
   pub few : length dones ≤ limit
-  pub longest : (others : List Done) → Follow counts goes_on script board others → length others ≤ limit → length others ≤ length dones
+  pub longest : (others : List Done) → Follow counts goes_on script board others → length others ≤ limit →
+      length others ≤ length dones
 
--- what they bring --------------------------------------------------------------------------------------------------------
+-- what they bring -----------------------------------------------------------------------------------------------------
 
 -- what turns bring, of which so many are left: each its frame and what is told behind it, and the last what comes where
 -- they stop
@@ -49,7 +52,8 @@ abbrev pub turns_told : (Play → Done → ℕ → (Play → Step) → Step) →
     Step
 turns_told told stop script [] left play = stop left play
 turns_told told stop script (done ∷ others) left play =
-    let next : Play = seen script (with_turn play done) in after (shown script next) (told next done (left - 1) (turns_told told stop script others (left - 1)))
+    let next : Play = seen script (with_turn play done) in
+    after (shown script next) (told next done (left - 1) (turns_told told stop script others (left - 1)))
 
 -- what comes of an again turn of a key that doesn't count: nothing, but that a restart restarts the level
 abbrev pub key_stopped : Script → Play → Outcome → Step
@@ -70,7 +74,7 @@ start_stop left play = quietly (Playing play)
 abbrev pub told_at_start : Play → Done → ℕ → (Play → Step) → Step
 told_at_start play done left again_turns = start_told play done.message done.again left again_turns
 
--- laws -------------------------------------------------------------------------------------------------------------------
+-- laws ----------------------------------------------------------------------------------------------------------------
 
 -- the again turns of a key are those of the longest list
 abbrev pub KeyTurnsAreLongest : Type 0

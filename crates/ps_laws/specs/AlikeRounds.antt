@@ -15,7 +15,7 @@ use Rattle.ps_model.specs.meaning.TurnedRound.{forwards}
 use Rattle.ps_laws.specs.KeptGrids.{Keeps}
 use Rattle.ps_laws.specs.IdleRules.{IsIdle}
 
--- alike --------------------------------------------------------------------------------------------------------------------
+-- alike ---------------------------------------------------------------------------------------------------------------
 
 -- two lists of rules are alike on a game: from each of its grids their rounds come to the same, and to a grid of the
 -- game
@@ -27,7 +27,7 @@ Alike names a b = (state : State) → IsGridOf names state.grid → EqualResults
 abbrev pub AlikeSection : Names → Section → Section → Type 0
 AlikeSection names a b = GroupByGroup (Alike names) a b
 
--- what is alike --------------------------------------------------------------------------------------------------------------
+-- what is alike -------------------------------------------------------------------------------------------------------
 
 -- rules whose cells keep the cells of the game are alike with themselves
 abbrev pub KeptAreAlike : Type 0
@@ -52,7 +52,8 @@ AppendedAreAlike =
 
 -- so do lists of lists that are alike one by one, joined: whatever stands for each rule of a group stands for the group
 abbrev pub JoinedAreAlike : Type 0
-JoinedAreAlike = (names : Names) (a b : List (List RuleMeaning)) → AllZip (Alike names) a b → Alike names (flat_map (λ rules. rules) a) (flat_map (λ rules. rules) b)
+JoinedAreAlike = (names : Names) (a b : List (List RuleMeaning)) → AllZip (Alike names) a b →
+    Alike names (flat_map (λ rules. rules) a) (flat_map (λ rules. rules) b)
 
 -- lists that are alike stay so where the rules of the first are turned to face down or right
 abbrev pub ForwardsAreAlike : Type 0
@@ -61,9 +62,10 @@ ForwardsAreAlike = (names : Names) (a b : List RuleMeaning) → Alike names a b 
 -- and where a rule that does nothing stands before the first
 abbrev pub IdleIsLeftOut : Type 0
 IdleIsLeftOut =
-    (names : Names) (rule : RuleMeaning) (a b : List RuleMeaning) → IsIdle names rule → Alike names a b → Alike names (rule ∷ a) b
+    (names : Names) (rule : RuleMeaning) (a b : List RuleMeaning) → IsIdle names rule → Alike names a b →
+    Alike names (rule ∷ a) b
 
--- what is made of it ---------------------------------------------------------------------------------------------------------
+-- what is made of it --------------------------------------------------------------------------------------------------
 
 -- the groups of rules that are alike are equal
 abbrev pub AlikeGroups : Type 0
@@ -73,23 +75,27 @@ AlikeGroups = (names : Names) (a b : List RuleMeaning) → Alike names a b → (
 -- the passes of groups that are alike one by one are equal
 abbrev pub AlikePasses : Type 0
 AlikePasses =
-    (names : Names) (a b : List (List RuleMeaning)) → AllZip (Alike names) a b → (state : State) → IsGridOf names state.grid →
+    (names : Names) (a b : List (List RuleMeaning)) → AllZip (Alike names) a b → (state : State) →
+    IsGridOf names state.grid →
     EqualResults names (pass a state) (pass b state)
 
 -- and so are the loops over them, with as many repeats left
 abbrev pub AlikeLoops : Type 0
 AlikeLoops =
-    (names : Names) (a b : List (List RuleMeaning)) → AllZip (Alike names) a b → (repeats : ℕ) (state : State) → IsGridOf names state.grid →
+    (names : Names) (a b : List (List RuleMeaning)) → AllZip (Alike names) a b → (repeats : ℕ) (state : State) →
+    IsGridOf names state.grid →
     EqualProgress names (looped a repeats state) (looped b repeats state)
 
 -- two sections that are alike are equal
 abbrev pub AlikeSections : Type 0
 AlikeSections =
-    (names : Names) (a b : Section) → AlikeSection names a b → (repeats : ℕ) (state : State) → IsGridOf names state.grid →
+    (names : Names) (a b : Section) → AlikeSection names a b → (repeats : ℕ) (state : State) →
+    IsGridOf names state.grid →
     EqualProgress names (section_run a repeats state) (section_run b repeats state)
 
 -- and so are two programs that are alike section by section
 abbrev pub AlikePrograms : Type 0
 AlikePrograms =
-    (names : Names) (a b : List Section) → AllZip (AlikeSection names) a b → (state : State) → IsGridOf names state.grid →
+    (names : Names) (a b : List Section) → AllZip (AlikeSection names) a b → (state : State) →
+    IsGridOf names state.grid →
     EqualStates names (program_run a state) (program_run b state)

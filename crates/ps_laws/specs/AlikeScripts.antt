@@ -21,7 +21,7 @@ use Rattle.ps_laws.specs.GamesOfTexts.{LoadsAsGrid}
 use Rattle.ps_laws.specs.Fronts.{session_of, whole_front}
 use Rattle.ps_laws.specs.SessionBoards.{AreBoardsIn, HasBoard}
 
--- alike ------------------------------------------------------------------------------------------------------------------
+-- alike ---------------------------------------------------------------------------------------------------------------
 
 -- two programs run alike on a game: from each of its grids they come to the same, and to a grid of the game
 abbrev pub RunAlike : Names → List Section → List Section → Type 0
@@ -50,7 +50,7 @@ script_by read plain late = record {
   wins = read.wins;
 }
 
--- equal ------------------------------------------------------------------------------------------------------------------
+-- equal ---------------------------------------------------------------------------------------------------------------
 
 -- two outcomes are equal, and their board, if they have one, is such a grid
 pub record EqualOutcomes (IsSuch : Grid → Type 0) (a b : Outcome) : Type 0 where
@@ -70,7 +70,7 @@ pub record SameRuns (a b : Script) : Type 0 where
   pub whole_fronts : (bytes : List ℕ) → whole_front a bytes ≡ whole_front b bytes
   pub sessions : (bytes : List ℕ) → session_of a bytes ≡ session_of b bytes
 
--- laws -------------------------------------------------------------------------------------------------------------------
+-- laws ----------------------------------------------------------------------------------------------------------------
 
 -- the turns of scripts that are alike are equal on each grid of the game
 abbrev pub AlikeTurns : Type 0
@@ -80,12 +80,14 @@ AlikeTurns = (a b : Script) → AlikeScripts a b → (input : Option Input) (g :
 -- so are the openings, if each level is loaded as a grid of the game
 abbrev pub AlikeOpenings : Type 0
 AlikeOpenings =
-    (a b : Script) → AlikeScripts a b → All (LoadsAsGrid a.names) a.entries → EqualSteps (IsGridOf a.names) (opening_step a) (opening_step b)
+    (a b : Script) → AlikeScripts a b → All (LoadsAsGrid a.names) a.entries →
+    EqualSteps (IsGridOf a.names) (opening_step a) (opening_step b)
 
 -- and so is what each key does in a session whose boards are grids of the game
 abbrev pub AlikeKeys : Type 0
 AlikeKeys =
-    (a b : Script) → AlikeScripts a b → All (LoadsAsGrid a.names) a.entries → (session : Session) (key : Key) → AreBoardsIn (IsGridOf a.names) session →
+    (a b : Script) → AlikeScripts a b → All (LoadsAsGrid a.names) a.entries → (session : Session) (key : Key) →
+    AreBoardsIn (IsGridOf a.names) session →
     EqualSteps (IsGridOf a.names) (key_step a session key) (key_step b session key)
 
 -- so they have the same runs
@@ -95,11 +97,13 @@ AlikeRuns = (a b : Script) → AlikeScripts a b → All (LoadsAsGrid a.names) a.
 -- the game of a text has the runs of each script that is alike with its own, whose rules are as they are written
 abbrev pub AlikeGames : Type 0
 AlikeGames =
-    (text : List ℕ) (read : Game) → game text ≡ Some read → (script : Script) → AlikeScripts script (script_of read) → SameRuns script (script_of read)
+    (text : List ℕ) (read : Game) → game text ≡ Some read → (script : Script) → AlikeScripts script (script_of read) →
+    SameRuns script (script_of read)
 
 -- so has a game that is played by other programs than those of its rules, if they run alike with these
 abbrev pub AlikeProgramsOfGames : Type 0
 AlikeProgramsOfGames =
     (text : List ℕ) (read : Game) → game text ≡ Some read → (plain late : List Section) →
-    RunAlike read.names plain (program_of read.names Plain read.rules) → RunAlike read.names late (program_of read.names Late read.rules) →
+    RunAlike read.names plain (program_of read.names Plain read.rules) →
+    RunAlike read.names late (program_of read.names Late read.rules) →
     SameRuns (script_by read plain late) (script_of read)

@@ -1,4 +1,5 @@
--- What compiled rules of a game are: their rows are whole, and what a write puts is an object of the game, which it puts
+-- What compiled rules of a game are: their rows are whole, and what a write puts is an object of the game, which it
+-- puts
 -- on that object's own layer.
 use Rattle.std.specs.Prelude.{◌≡◌, ℕ, ◌<◌, List, All, ⊤}
 use Rattle.ps_model.specs.declared.rules.Part.{Part}
@@ -36,7 +37,7 @@ pub record IsCompiledRuleOf (names : Names) (rule : CompiledRule) : Type 0 where
 abbrev pub IsSectionOf : Names → CompiledSection → Type 0
 IsSectionOf names section = EachGroup (All (IsCompiledRuleOf names)) section
 
--- the laws -----------------------------------------------------------------------------------------------------------------
+-- the laws ------------------------------------------------------------------------------------------------------------
 
 -- the compiled rules of a game's rule with whole rows are compiled rules of the game
 abbrev pub CompiledRulesAreOfGames : Type 0

@@ -25,11 +25,13 @@ IsOnOneLayer names (Without objects) = ⊤
 -- so they do in what an item of a rule asks, on the left and on the right, under every reading
 abbrev pub LeftsAreOnOneLayer : Type 0
 LeftsAreOnOneLayer =
-    (names : Names) (rule : SourceRule) (reading : Reading) (item : Item) → IsOnOneLayer names (wanted_left names rule reading item)
+    (names : Names) (rule : SourceRule) (reading : Reading) (item : Item) →
+    IsOnOneLayer names (wanted_left names rule reading item)
 
 abbrev pub RightsAreOnOneLayer : Type 0
 RightsAreOnOneLayer =
-    (names : Names) (rule : SourceRule) (cell : CellPair) (reading : Reading) (item : Item) → IsOnOneLayer names (wanted_right names rule cell reading item)
+    (names : Names) (rule : SourceRule) (cell : CellPair) (reading : Reading) (item : Item) →
+    IsOnOneLayer names (wanted_right names rule cell reading item)
 
 -- a mask fits the cells that have what is asked, be they of the game or not
 abbrev pub MasksFit : Type 0
@@ -47,5 +49,6 @@ WritesRewrite =
 -- a compiled cell and its source agree, where the source keeps the cells of the game
 abbrev pub CompiledCellsAgree : Type 0
 CompiledCellsAgree =
-    (names : Names) (left right : List Wanted) (rewrites : Bool) → All (IsOnOneLayer names) left → KeepsCells names (meaning_by names left right) →
+    (names : Names) (left right : List Wanted) (rewrites : Bool) → All (IsOnOneLayer names) left →
+    KeepsCells names (meaning_by names left right) →
     AgreeOn names rewrites (meaning_of_cell (cell_by names left right)) (meaning_by names left right)

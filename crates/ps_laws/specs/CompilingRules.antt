@@ -19,8 +19,10 @@ use Rattle.ps_model.specs.meaning.CompiledRules.{compiled_cell, rule_by, compile
 -- the compiled cell of a game's cell agrees with what that means, under each reading that chooses objects of the game
 abbrev pub RuleCellsAgree : Type 0
 RuleCellsAgree =
-    (names : Names) (rule : SourceRule) (reading : Reading) (cell : CellPair) (rewrites : Bool) → IsReadingOf names reading → IsPairOf names cell →
-    AgreeOn names rewrites (meaning_of_cell (compiled_cell names rule reading cell)) (cell_meaning names rule reading cell)
+    (names : Names) (rule : SourceRule) (reading : Reading) (cell : CellPair) (rewrites : Bool) →
+    IsReadingOf names reading → IsPairOf names cell →
+    AgreeOn names rewrites (meaning_of_cell (compiled_cell names rule reading cell))
+    (cell_meaning names rule reading cell)
 
 -- the compiled rule of a game's rule and such a reading is like what these mean
 abbrev pub ReadingsCompile : Type 0
@@ -31,7 +33,8 @@ ReadingsCompile =
 -- the compiled rules of a game's rule are like what it means, one by one
 abbrev pub RulesCompile : Type 0
 RulesCompile =
-    (names : Names) (rule : SourceRule) → IsRuleOf names rule → AllZip (SameRule names) (map meaning_of_rule (compiled_rules names rule)) (meanings names rule)
+    (names : Names) (rule : SourceRule) → IsRuleOf names rule →
+    AllZip (SameRule names) (map meaning_of_rule (compiled_rules names rule)) (meanings names rule)
 
 -- the compiled program of a game's rules is like their program, section by section
 abbrev pub ProgramsCompile : Type 0
@@ -42,5 +45,7 @@ ProgramsCompile =
 -- so both come to the same on each grid of the game
 abbrev pub CompiledProgramsRunAlike : Type 0
 CompiledProgramsRunAlike =
-    (names : Names) (part : Part) (lines : List RuleLine) → All (IsLineOf names) lines → (state : State) → IsGridOf names state.grid →
-    EqualStates names (program_run (meaning_of_program (compiled_program names part lines)) state) (program_run (program_of names part lines) state)
+    (names : Names) (part : Part) (lines : List RuleLine) → All (IsLineOf names) lines → (state : State) →
+    IsGridOf names state.grid →
+    EqualStates names (program_run (meaning_of_program (compiled_program names part lines)) state)
+    (program_run (program_of names part lines) state)

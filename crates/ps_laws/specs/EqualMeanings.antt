@@ -13,7 +13,7 @@ use Rattle.ps_model.specs.board.Programs.{Section, Progress, round, group, pass,
 use Rattle.ps_model.specs.board.Programs.{program_run}
 use Rattle.ps_laws.specs.EachGroup.{GroupByGroup}
 
--- alike --------------------------------------------------------------------------------------------------------------------
+-- alike ---------------------------------------------------------------------------------------------------------------
 
 -- two cells of rules agree on all cells of the game: they fit the same ones; and where their rules rewrite cells, they
 -- make the same of each, whether it fits or not, and what they make of it is again a cell of the game
@@ -38,7 +38,7 @@ SameGroup names a b = AllZip (SameRule names) a b
 abbrev pub SameSection : Names → Section → Section → Type 0
 SameSection names a b = GroupByGroup (SameGroup names) a b
 
--- equal --------------------------------------------------------------------------------------------------------------------
+-- equal ---------------------------------------------------------------------------------------------------------------
 
 -- two results are equal, and their grid is one of the game
 pub record EqualResults (names : Names) (a b : Result) : Type 0 where
@@ -55,7 +55,7 @@ pub record EqualStates (names : Names) (a b : State) : Type 0 where
   pub equal : a ≡ b
   pub grid : IsGridOf names a.grid
 
--- the laws -----------------------------------------------------------------------------------------------------------------
+-- the laws ------------------------------------------------------------------------------------------------------------
 
 -- the attempts of two rules that are alike are equal
 abbrev pub EqualAttempts : Type 0
@@ -77,23 +77,27 @@ EqualGroups =
 -- the passes of two loops that are alike are equal
 abbrev pub EqualPasses : Type 0
 EqualPasses =
-    (names : Names) (a b : List (List RuleMeaning)) → AllZip (SameGroup names) a b → (state : State) → IsGridOf names state.grid →
+    (names : Names) (a b : List (List RuleMeaning)) → AllZip (SameGroup names) a b → (state : State) →
+    IsGridOf names state.grid →
     EqualResults names (pass a state) (pass b state)
 
 -- and so are the loops, with as many repeats left
 abbrev pub EqualLoops : Type 0
 EqualLoops =
-    (names : Names) (a b : List (List RuleMeaning)) → AllZip (SameGroup names) a b → (repeats : ℕ) (state : State) → IsGridOf names state.grid →
+    (names : Names) (a b : List (List RuleMeaning)) → AllZip (SameGroup names) a b → (repeats : ℕ) (state : State) →
+    IsGridOf names state.grid →
     EqualProgress names (looped a repeats state) (looped b repeats state)
 
 -- two sections that are alike are equal
 abbrev pub EqualSections : Type 0
 EqualSections =
-    (names : Names) (a b : Section) → SameSection names a b → (repeats : ℕ) (state : State) → IsGridOf names state.grid →
+    (names : Names) (a b : Section) → SameSection names a b → (repeats : ℕ) (state : State) →
+    IsGridOf names state.grid →
     EqualProgress names (section_run a repeats state) (section_run b repeats state)
 
 -- and so are two programs that are alike section by section
 abbrev pub EqualPrograms : Type 0
 EqualPrograms =
-    (names : Names) (a b : List Section) → AllZip (SameSection names) a b → (state : State) → IsGridOf names state.grid →
+    (names : Names) (a b : List Section) → AllZip (SameSection names) a b → (state : State) →
+    IsGridOf names state.grid →
     EqualStates names (program_run a state) (program_run b state)

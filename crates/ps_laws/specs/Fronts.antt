@@ -15,7 +15,8 @@ use Rattle.ps_model.specs.game.Outputs.{output, opening_step, ending_of, end_of_
 -- the session behind keys
 abbrev pub session_after : Script → Session → List Key → Session
 session_after script session [] = session
-session_after script session (key ∷ keys) = let step : Step = key_step script session key in session_after script step.session keys
+session_after script session (key ∷ keys) = let step : Step = key_step script session key in
+    session_after script step.session keys
 
 -- the session behind the bytes
 abbrev pub session_of : Script → List ℕ → Session
@@ -25,12 +26,13 @@ session_of script bytes = session_after script (opening_step script).session (ke
 unfoldable pub whole_front : Script → List ℕ → List ℕ
 whole_front script bytes = front script bytes (length (keys_of bytes))
 
--- laws -----------------------------------------------------------------------------------------------------------------
+-- laws ----------------------------------------------------------------------------------------------------------------
 
 -- the front of more keys goes on from the front of fewer
 abbrev pub FrontGrows : Type 0
 FrontGrows =
-    (script : Script) (bytes : List ℕ) (few many : ℕ) → few ≤ many → IsFront (front script bytes few) (front script bytes many)
+    (script : Script) (bytes : List ℕ) (few many : ℕ) → few ≤ many →
+    IsFront (front script bytes few) (front script bytes many)
 
 -- where the run has ended behind the keys, the front of all keys is the output, and that ending is its ending
 abbrev pub OutputOfEnded : Type 0
@@ -51,7 +53,8 @@ EndsOtherwise = (script : Script) (bytes : List ℕ) → ending_of (session_of s
 -- run writes no more than the texts of its keys
 abbrev pub WrittenByEnding : Type 0
 WrittenByEnding = (script : Script) (bytes : List ℕ) →
-    ((output script bytes).ending ≡ EndOfKeys → (output script bytes).written ≡ whole_front script bytes ++ end_of_keys_line)
+    ((output script bytes).ending ≡ EndOfKeys →
+    (output script bytes).written ≡ whole_front script bytes ++ end_of_keys_line)
     × ((output script bytes).ending ≢ EndOfKeys → (output script bytes).written ≡ whole_front script bytes)
 
 -- each front is a front of the output
@@ -73,13 +76,16 @@ EndStays = (script : Script) (ending : Ending) (keys : List Key) →
 -- second brings behind what is held of the first; and so is the session
 abbrev pub FrontInPieces : Type 0
 FrontInPieces = (script : Script) (first second : List ℕ) →
-    (whole_front script (first ++ second) ≡ whole_front script first ++ texts_of_keys script (session_of script first) (keys_of (held first ++ second)))
-    × (session_of script (first ++ second) ≡ session_after script (session_of script first) (keys_of (held first ++ second)))
+    (whole_front script (first ++ second) ≡ whole_front script first ++ texts_of_keys script (session_of script first)
+    (keys_of (held first ++ second)))
+    × (session_of script (first ++ second) ≡ session_after script (session_of script first)
+    (keys_of (held first ++ second)))
 
 -- what is written for the bytes so far is a front of the output, whatever bytes come behind them
 abbrev pub FrontOfMore : Type 0
 FrontOfMore =
-    (script : Script) (first second : List ℕ) → IsFront (whole_front script first) (output script (first ++ second)).written
+    (script : Script) (first second : List ℕ) →
+    IsFront (whole_front script first) (output script (first ++ second)).written
 
 -- and once the run has ended it is the output
 abbrev pub OutputOnceEnded : Type 0

@@ -1,5 +1,6 @@
 -- What every game of a text is: its names are bounded, it has an object and a layer, its rules speak of its own objects
--- alone, each of its levels is loaded as a grid of the game, its rooms are sized, and each of its turns keeps such grids.
+-- alone, each of its levels is loaded as a grid of the game, its rooms are sized, and each of its turns keeps such
+-- grids.
 use Rattle.std.specs.Prelude.{◌≡◌, ℕ, ◌<◌, ◌≤◌, false, Option, Some, None, List, [], All, ⊤, codes}
 use Rattle.ps_model.specs.declared.play.Input.{Input}
 use Rattle.ps_model.specs.declared.texts.Section.TheVariants.{Prelude}
@@ -24,12 +25,13 @@ use Rattle.ps_model.specs.board.Turns.{script_of, turn}
 use Rattle.ps_laws.specs.KeptGrids.{IsOutcomeOf}
 use Rattle.ps_laws.specs.SameSides.{HasSides}
 
--- names ------------------------------------------------------------------------------------------------------------------
+-- names ---------------------------------------------------------------------------------------------------------------
 
 -- names of lines without faults are bounded
 abbrev pub NamesReadAreBounded : Type 0
 NamesReadAreBounded =
-    (header : ℕ) (object_lines legend_lines layer_lines : List Line) → name_faults header object_lines legend_lines layer_lines ≡ [] →
+    (header : ℕ) (object_lines legend_lines layer_lines : List Line) →
+    name_faults header object_lines legend_lines layer_lines ≡ [] →
     AreBounded (names_read object_lines legend_lines layer_lines)
 
 -- so are the names of a game
@@ -43,14 +45,15 @@ HasObject names = (0 < object_count names) × (0 < names.layer_count)
 -- lines without faults of names declare an object, and a layer
 abbrev pub NamesReadHaveObjects : Type 0
 NamesReadHaveObjects =
-    (header : ℕ) (object_lines legend_lines layer_lines : List Line) → name_faults header object_lines legend_lines layer_lines ≡ [] →
+    (header : ℕ) (object_lines legend_lines layer_lines : List Line) →
+    name_faults header object_lines legend_lines layer_lines ≡ [] →
     HasObject (names_read object_lines legend_lines layer_lines)
 
 -- so a game has an object, and a layer
 abbrev pub GamesHaveObjects : Type 0
 GamesHaveObjects = (text : List ℕ) (read : Game) → game text ≡ Some read → HasObject read.names
 
--- rules ------------------------------------------------------------------------------------------------------------------
+-- rules ---------------------------------------------------------------------------------------------------------------
 
 -- rules that are read, with names that are bounded, speak of objects of the game alone
 abbrev pub RulesReadAreOfNames : Type 0
@@ -61,7 +64,7 @@ RulesReadAreOfNames =
 abbrev pub GameRulesAreOfNames : Type 0
 GameRulesAreOfNames = (text : List ℕ) (read : Game) → game text ≡ Some read → All (IsLineOf read.names) read.rules
 
--- levels -----------------------------------------------------------------------------------------------------------------
+-- levels --------------------------------------------------------------------------------------------------------------
 
 -- a level of a game is loaded as a grid of the game
 abbrev pub LoadedLevelsAreGrids : Type 0
@@ -70,7 +73,8 @@ LoadedLevelsAreGrids = (names : Names) (level : Level) → IsLevelOf names level
 -- entries that are read, with names that are bounded and of which one is an object, are of the game
 abbrev pub EntriesReadAreOfNames : Type 0
 EntriesReadAreOfNames =
-    (names : Names) (lines : List Line) → AreBounded names → 0 < object_count names → All (IsEntryOf names) (entries_read names lines)
+    (names : Names) (lines : List Line) → AreBounded names → 0 < object_count names →
+    All (IsEntryOf names) (entries_read names lines)
 
 -- so are the entries of a game
 abbrev pub GameEntriesAreOfNames : Type 0
@@ -89,7 +93,7 @@ GameLevelsAreGrids = (text : List ℕ) (read : Game) → game text ≡ Some read
 abbrev pub GameLevelsAreWithinLimits : Type 0
 GameLevelsAreWithinLimits = (text : List ℕ) (read : Game) → game text ≡ Some read → All IsEntryWithinLimits read.entries
 
--- rooms ------------------------------------------------------------------------------------------------------------------
+-- rooms ---------------------------------------------------------------------------------------------------------------
 
 -- if a game has rooms, their size is within the limits
 abbrev pub GameRoomsAreSized : Type 0
@@ -98,10 +102,11 @@ GameRoomsAreSized = (text : List ℕ) (read : Game) → game text ≡ Some read 
 -- a game of which no line of the prelude begins with `flickscreen` has none
 abbrev pub GamesWithoutRooms : Type 0
 GamesWithoutRooms =
-    (text : List ℕ) (read : Game) → game text ≡ Some read → is_set (section_lines (lines_of text) Prelude) (codes "flickscreen") ≡ false →
+    (text : List ℕ) (read : Game) → game text ≡ Some read →
+    is_set (section_lines (lines_of text) Prelude) (codes "flickscreen") ≡ false →
     read.options.flickscreen ≡ None
 
--- grids ------------------------------------------------------------------------------------------------------------------
+-- grids ---------------------------------------------------------------------------------------------------------------
 
 -- a grid of a game is a grid, if its sides are within the limits
 abbrev pub GridsOfGamesAreGrids : Type 0
@@ -109,7 +114,7 @@ GridsOfGamesAreGrids =
     (text : List ℕ) (read : Game) → game text ≡ Some read → (g : Grid) → IsGridOf read.names g →
     0 < g.width → g.width ≤ SIDE_LIMIT → 0 < g.height → g.height ≤ SIDE_LIMIT → IsGrid g
 
--- turns ------------------------------------------------------------------------------------------------------------------
+-- turns ---------------------------------------------------------------------------------------------------------------
 
 -- a turn of a game makes of each grid of the game one of the game, with the same sides
 abbrev pub GameTurnsKeepAll : Type 0

@@ -36,19 +36,22 @@ abbrev pub LeavesAll : Names → CellMeaning → Type 0
 LeavesAll names meaning =
     (cell : List Slot) → IsCellOf names cell → meaning.fits cell ≡ true → meaning.rewritten cell ≡ cell
 
--- the laws -----------------------------------------------------------------------------------------------------------------
+-- the laws ------------------------------------------------------------------------------------------------------------
 
 -- where one cell of a rule fits no cell of the board, nothing is done by an attempt
 abbrev pub NowhereIsNothing : Type 0
 NowhereIsNothing =
-    (rule : RuleMeaning) (meaning : CellMeaning) → IsCellIn rule meaning → (state : State) → FitsNowhere state.grid meaning → attempt rule state ≡ nothing_done state
+    (rule : RuleMeaning) (meaning : CellMeaning) → IsCellIn rule meaning → (state : State) →
+    FitsNowhere state.grid meaning → attempt rule state ≡ nothing_done state
 
 -- a rule of which one cell fits no cell of the game does nothing on it
 abbrev pub FittingNoneIsIdle : Type 0
 FittingNoneIsIdle =
-    (names : Names) (rule : RuleMeaning) (meaning : CellMeaning) → IsCellIn rule meaning → FitsNone names meaning → IsIdle names rule
+    (names : Names) (rule : RuleMeaning) (meaning : CellMeaning) → IsCellIn rule meaning → FitsNone names meaning →
+    IsIdle names rule
 
 -- a rule without commands whose cells leave all that they fit as it is does nothing
 abbrev pub LeavingAllIsIdle : Type 0
 LeavingAllIsIdle =
-    (names : Names) (rule : RuleMeaning) → rule.commands ≡ no_commands → All (All (All (LeavesAll names))) rule.rows → IsIdle names rule
+    (names : Names) (rule : RuleMeaning) → rule.commands ≡ no_commands → All (All (All (LeavesAll names))) rule.rows →
+    IsIdle names rule

@@ -40,17 +40,19 @@ IsOutcomeOf names (Blocked message) = ⊤
 IsOutcomeOf names (Restarted message) = ⊤
 IsOutcomeOf names (Finished done) = IsGridOf names done.board
 
--- what keeps grids, whatever rules there are ----------------------------------------------------------------------------
+-- what keeps grids, whatever rules there are --------------------------------------------------------------------------
 
 -- an attempt of a rule whose cells keep the cells of a game keeps each grid of the game
 abbrev pub AttemptsKeepGrids : Type 0
 AttemptsKeepGrids =
-    (names : Names) (rule : RuleMeaning) (state : State) → Keeps names rule → IsGridOf names state.grid → IsGridOf names (attempt rule state).state.grid
+    (names : Names) (rule : RuleMeaning) (state : State) → Keeps names rule → IsGridOf names state.grid →
+    IsGridOf names (attempt rule state).state.grid
 
 -- so does a round of such rules: their attempts in order
 abbrev pub RoundsKeepGrids : Type 0
 RoundsKeepGrids =
-    (names : Names) (rules : List RuleMeaning) (state : State) → All (Keeps names) rules → IsGridOf names state.grid → IsGridOf names (round rules state).state.grid
+    (names : Names) (rules : List RuleMeaning) (state : State) → All (Keeps names) rules → IsGridOf names state.grid →
+    IsGridOf names (round rules state).state.grid
 
 -- so do rounds until one changes nothing, however many there may be
 abbrev pub SettlingKeepsGrids : Type 0
@@ -61,12 +63,14 @@ SettlingKeepsGrids =
 -- so does a group of such rules
 abbrev pub GroupsKeepGrids : Type 0
 GroupsKeepGrids =
-    (names : Names) (rules : List RuleMeaning) (state : State) → All (Keeps names) rules → IsGridOf names state.grid → IsGridOf names (group rules state).state.grid
+    (names : Names) (rules : List RuleMeaning) (state : State) → All (Keeps names) rules → IsGridOf names state.grid →
+    IsGridOf names (group rules state).state.grid
 
 -- so does a pass of groups of such rules
 abbrev pub PassesKeepGrids : Type 0
 PassesKeepGrids =
-    (names : Names) (body : List (List RuleMeaning)) (state : State) → All (All (Keeps names)) body → IsGridOf names state.grid → IsGridOf names (pass body state).state.grid
+    (names : Names) (body : List (List RuleMeaning)) (state : State) → All (All (Keeps names)) body →
+    IsGridOf names state.grid → IsGridOf names (pass body state).state.grid
 
 -- so does a loop over such groups, with however many repeats left
 abbrev pub LoopsKeepGrids : Type 0
@@ -78,18 +82,21 @@ LoopsKeepGrids =
 abbrev pub SectionsKeepGrids : Type 0
 SectionsKeepGrids =
     (names : Names) (section : Section) (repeats : ℕ) (state : State) →
-    KeepsInSection names section → IsGridOf names state.grid → IsGridOf names (section_run section repeats state).state.grid
+    KeepsInSection names section → IsGridOf names state.grid →
+    IsGridOf names (section_run section repeats state).state.grid
 
 -- so do sections one after the other, with however many repeats left
 abbrev pub RunsKeepGrids : Type 0
 RunsKeepGrids =
     (names : Names) (sections : List Section) (repeats : ℕ) (state : State) →
-    All (KeepsInSection names) sections → IsGridOf names state.grid → IsGridOf names (sections_run sections repeats state).grid
+    All (KeepsInSection names) sections → IsGridOf names state.grid →
+    IsGridOf names (sections_run sections repeats state).grid
 
 -- so does a run of a program of such rules
 abbrev pub ProgramsKeepGrids : Type 0
 ProgramsKeepGrids =
-    (names : Names) (sections : List Section) (state : State) → All (KeepsInSection names) sections → IsGridOf names state.grid → IsGridOf names (program_run sections state).grid
+    (names : Names) (sections : List Section) (state : State) → All (KeepsInSection names) sections →
+    IsGridOf names state.grid → IsGridOf names (program_run sections state).grid
 
 -- the movement keeps each grid of a game: objects stay on their layers
 abbrev pub SlidesKeepGrids : Type 0
@@ -107,10 +114,11 @@ InputsKeepGrids =
 -- a turn of a script whose rules keep the cells of a game makes of each grid of the game one of the game
 abbrev pub TurnsKeepGrids : Type 0
 TurnsKeepGrids =
-    (script : Script) (input : Option Input) (g : Grid) → All (KeepsInSection script.names) script.plain → All (KeepsInSection script.names) script.late →
+    (script : Script) (input : Option Input) (g : Grid) → All (KeepsInSection script.names) script.plain →
+    All (KeepsInSection script.names) script.late →
     IsGridOf script.names g → IsOutcomeOf script.names (turn script input g)
 
--- what a game's own rules keep -------------------------------------------------------------------------------------------
+-- what a game's own rules keep ----------------------------------------------------------------------------------------
 
 -- the readings of a rule whose objects are all of the game choose objects of the game
 abbrev pub ReadingsAreOfGames : Type 0
@@ -121,7 +129,8 @@ ReadingsAreOfGames =
 -- game, be it possible or not
 abbrev pub RuleCellsKeepCells : Type 0
 RuleCellsKeepCells =
-    (names : Names) (rule : SourceRule) (reading : Reading) (cell : CellPair) → IsReadingOf names reading → IsPairOf names cell → KeepsCells names (cell_meaning names rule reading cell)
+    (names : Names) (rule : SourceRule) (reading : Reading) (cell : CellPair) → IsReadingOf names reading →
+    IsPairOf names cell → KeepsCells names (cell_meaning names rule reading cell)
 
 -- whatever a rule means whose objects are all of the game keeps the cells of the game
 abbrev pub RulesKeepCells : Type 0
@@ -130,9 +139,11 @@ RulesKeepCells = (names : Names) (rule : SourceRule) → IsRuleOf names rule →
 -- so does each section of both programs of such rules
 abbrev pub RuleProgramsKeepCells : Type 0
 RuleProgramsKeepCells =
-    (names : Names) (part : Part) (lines : List RuleLine) → All (IsLineOf names) lines → All (KeepsInSection names) (program_of names part lines)
+    (names : Names) (part : Part) (lines : List RuleLine) → All (IsLineOf names) lines →
+    All (KeepsInSection names) (program_of names part lines)
 
 -- a turn of a game whose rules are of its names makes of each grid of the game one of the game
 abbrev pub GameTurnsKeepGrids : Type 0
 GameTurnsKeepGrids =
-    (game : Game) (input : Option Input) (g : Grid) → All (IsLineOf game.names) game.rules → IsGridOf game.names g → IsOutcomeOf game.names (turn (script_of game) input g)
+    (game : Game) (input : Option Input) (g : Grid) → All (IsLineOf game.names) game.rules → IsGridOf game.names g →
+    IsOutcomeOf game.names (turn (script_of game) input g)

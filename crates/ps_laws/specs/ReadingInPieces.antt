@@ -27,14 +27,17 @@ KeysInPieces =
 -- of it
 abbrev pub ReadPieceByPiece : Type 0
 ReadPieceByPiece = (read piece kept : List ℕ) → kept ≡ held read →
-    (keys_of read ++ keys_of (before_held (kept ++ piece)) ≡ keys_of (read ++ piece)) × (held (kept ++ piece) ≡ held (read ++ piece))
+    (keys_of read ++ keys_of (before_held (kept ++ piece)) ≡ keys_of (read ++ piece)) ×
+    (held (kept ++ piece) ≡ held (read ++ piece))
 
 -- the same byte by byte
 abbrev pub ReadByteByByte : Type 0
 ReadByteByByte = (read : List ℕ) (byte : ℕ) (kept : Held) → bytes_of kept ≡ held read →
-    (keys_of read ++ option_to_list (key_behind kept byte) ≡ keys_of (read ++ byte ∷ [])) × (bytes_of (held_behind kept byte) ≡ held (read ++ byte ∷ []))
+    (keys_of read ++ option_to_list (key_behind kept byte) ≡ keys_of (read ++ byte ∷ [])) ×
+    (bytes_of (held_behind kept byte) ≡ held (read ++ byte ∷ []))
 
 -- one byte behind what is held, whatever comes behind it
 abbrev pub OneByteMore : Type 0
 OneByteMore = (kept : Held) (byte : ℕ) (others : List ℕ) →
-    keys_of (bytes_of kept ++ byte ∷ others) ≡ option_to_list (key_behind kept byte) ++ keys_of (bytes_of (held_behind kept byte) ++ others)
+    keys_of (bytes_of kept ++ byte ∷ others) ≡ option_to_list (key_behind kept byte) ++ keys_of
+    (bytes_of (held_behind kept byte) ++ others)

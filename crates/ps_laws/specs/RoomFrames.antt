@@ -9,10 +9,11 @@ use Rattle.ps_model.specs.board.Grid.{Grid}
 use Rattle.ps_model.specs.board.Turns.{Script}
 use Rattle.ps_model.specs.session.Frames.{frame}
 use Rattle.ps_model.specs.session.RoomSizes.{IsRoomSize}
-use Rattle.ps_model.specs.session.Rooms.{first_player_cell, room_after, room_seen, room_window, room_frame, whole_board, window_frame}
+use Rattle.ps_model.specs.session.Rooms.{first_player_cell, room_after, room_seen, room_window, room_frame, whole_board}
+use Rattle.ps_model.specs.session.Rooms.{window_frame}
 use Rattle.ps_model.specs.session.Sessions.{Play, seen, shown}
 
--- the whole board -------------------------------------------------------------------------------------------------------
+-- the whole board -----------------------------------------------------------------------------------------------------
 
 -- the part of a board that is all of it has the board's frame
 abbrev pub WholeBoardsHaveFrames : Type 0
@@ -28,7 +29,7 @@ FramesOfLargeRooms =
     (names : Names) (size : RoomSize) (g : Grid) → 0 < g.height → g.width ≤ size.width → g.height ≤ size.height →
     room_frame (Some size) names g (record { x = 0; y = 0 }) ≡ frame names g
 
--- rooms that are seen ---------------------------------------------------------------------------------------------------
+-- rooms that are seen -------------------------------------------------------------------------------------------------
 
 -- the cell in a column and a row is in a part of a board
 pub record IsIn (window : Window) (column row : ℕ) : Type 0 where
@@ -40,15 +41,17 @@ pub record IsIn (window : Window) (column row : ℕ) : Type 0 where
 -- the first cell in which an object of Player stands is in the room that is seen
 abbrev pub SeenRoomsShowPlayers : Type 0
 SeenRoomsShowPlayers =
-    (names : Names) (size : RoomSize) (g : Grid) (last : Room) (cell : ℕ) → 0 < g.height → IsRoomSize size → first_player_cell names g ≡ Some cell →
+    (names : Names) (size : RoomSize) (g : Grid) (last : Room) (cell : ℕ) → 0 < g.height → IsRoomSize size →
+    first_player_cell names g ≡ Some cell →
     IsIn (room_window size (room_seen names size g last) g) (cell / g.height) (cell % g.height)
 
--- sessions --------------------------------------------------------------------------------------------------------------
+-- sessions ------------------------------------------------------------------------------------------------------------
 
 -- a game without rooms shows the whole board of a level, and leaves the level's room as it is
 abbrev pub SessionsWithoutRooms : Type 0
 SessionsWithoutRooms =
-    (script : Script) (play : Play) → script.options.flickscreen ≡ None → (shown script play ≡ frame script.names play.board) × (seen script play ≡ play)
+    (script : Script) (play : Play) → script.options.flickscreen ≡ None →
+    (shown script play ≡ frame script.names play.board) × (seen script play ≡ play)
 
 -- a board that is shown once more is shown in the same room
 abbrev pub SeenRoomsStay : Type 0

@@ -35,7 +35,8 @@ RoundsKeepSides = (rules : List RuleMeaning) (state : State) → SameSides state
 -- so do rounds until one changes nothing, however many there may be
 abbrev pub SettlingKeepsSides : Type 0
 SettlingKeepsSides =
-    (rules : List RuleMeaning) (rounds : ℕ) (changed : Bool) (state : State) → SameSides state.grid (settled rules rounds changed state).state.grid
+    (rules : List RuleMeaning) (rounds : ℕ) (changed : Bool) (state : State) →
+    SameSides state.grid (settled rules rounds changed state).state.grid
 
 -- so does a group
 abbrev pub GroupsKeepSides : Type 0
@@ -48,17 +49,20 @@ PassesKeepSides = (body : List (List RuleMeaning)) (state : State) → SameSides
 -- so does a loop over groups, with however many repeats left
 abbrev pub LoopsKeepSides : Type 0
 LoopsKeepSides =
-    (body : List (List RuleMeaning)) (repeats : ℕ) (state : State) → SameSides state.grid (looped body repeats state).state.grid
+    (body : List (List RuleMeaning)) (repeats : ℕ) (state : State) →
+    SameSides state.grid (looped body repeats state).state.grid
 
 -- so does a section
 abbrev pub SectionsKeepSides : Type 0
 SectionsKeepSides =
-    (section : Section) (repeats : ℕ) (state : State) → SameSides state.grid (section_run section repeats state).state.grid
+    (section : Section) (repeats : ℕ) (state : State) →
+    SameSides state.grid (section_run section repeats state).state.grid
 
 -- so do sections one after the other, with however many repeats left
 abbrev pub RunsKeepSides : Type 0
 RunsKeepSides =
-    (sections : List Section) (repeats : ℕ) (state : State) → SameSides state.grid (sections_run sections repeats state).grid
+    (sections : List Section) (repeats : ℕ) (state : State) →
+    SameSides state.grid (sections_run sections repeats state).grid
 
 -- so does a run of a program
 abbrev pub ProgramsKeepSides : Type 0

@@ -13,7 +13,7 @@ use Rattle.ps_model.specs.game.Games.{Game, game}
 use Rattle.ps_model.specs.game.Outputs.{opening_step}
 use Rattle.ps_laws.specs.Fronts.{session_of}
 
--- boards -----------------------------------------------------------------------------------------------------------------
+-- boards --------------------------------------------------------------------------------------------------------------
 
 -- all boards of a level that is played are such grids
 pub record AreBoards (IsSuch : Grid → Type 0) (play : Play) : Type 0 where
@@ -41,20 +41,23 @@ pub record IsBoardOf (names : Names) (g : Grid) : Type 0 where
   pub some_row : 0 < g.height
   pub rows : g.height ≤ SIDE_LIMIT
 
--- laws -------------------------------------------------------------------------------------------------------------------
+-- laws ----------------------------------------------------------------------------------------------------------------
 
 -- all boards of the opening of a game are grids of the game, with sides within the limits
 abbrev pub OpeningsHaveBoards : Type 0
 OpeningsHaveBoards =
-    (text : List ℕ) (read : Game) → game text ≡ Some read → AreBoardsIn (IsBoardOf read.names) (opening_step (script_of read)).session
+    (text : List ℕ) (read : Game) → game text ≡ Some read →
+    AreBoardsIn (IsBoardOf read.names) (opening_step (script_of read)).session
 
 -- each key keeps that so
 abbrev pub KeysKeepBoards : Type 0
 KeysKeepBoards =
-    (text : List ℕ) (read : Game) → game text ≡ Some read → (session : Session) (key : Key) → AreBoardsIn (IsBoardOf read.names) session →
+    (text : List ℕ) (read : Game) → game text ≡ Some read → (session : Session) (key : Key) →
+    AreBoardsIn (IsBoardOf read.names) session →
     AreBoardsIn (IsBoardOf read.names) (key_step (script_of read) session key).session
 
 -- and so it is behind whatever bytes
 abbrev pub SessionsHaveBoards : Type 0
 SessionsHaveBoards =
-    (text : List ℕ) (read : Game) → game text ≡ Some read → (bytes : List ℕ) → AreBoardsIn (IsBoardOf read.names) (session_of (script_of read) bytes)
+    (text : List ℕ) (read : Game) → game text ≡ Some read → (bytes : List ℕ) →
+    AreBoardsIn (IsBoardOf read.names) (session_of (script_of read) bytes)

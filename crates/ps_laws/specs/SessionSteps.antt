@@ -12,17 +12,19 @@ use Rattle.ps_model.specs.session.HeldKeys.{held, bytes_of, key_behind}
 use Rattle.ps_model.specs.session.Keys.{keys_of}
 use Rattle.ps_model.specs.session.Sessions.{Play, Playing, Step, after, seen, shown}
 use Rattle.ps_model.specs.session.StartSteps.{start_turn_by, start_turns, all_start_turns, enter}
-use Rattle.ps_model.specs.session.KeySteps.{key_turn_by, key_turns, all_key_turns, with_board_in_history_if, key_done, turn_taken}
+use Rattle.ps_model.specs.session.KeySteps.{key_turn_by, key_turns, all_key_turns, with_board_in_history_if, key_done}
+use Rattle.ps_model.specs.session.KeySteps.{turn_taken}
 use Rattle.ps_model.specs.session.KeySteps.{undone, key_step}
 use Rattle.ps_model.specs.game.Outputs.{opening_step, texts_of_keys}
 use Rattle.ps_laws.specs.Fronts.{session_of, whole_front}
 
--- turns ------------------------------------------------------------------------------------------------------------------
+-- turns ---------------------------------------------------------------------------------------------------------------
 
 -- a turn has the outcome of the state that its programs and its movement lead to
 abbrev pub TurnsAreOutcomes : Type 0
 TurnsAreOutcomes =
-    (script : Script) (input : Option Input) (g : Grid) → turn script input g ≡ outcome_of script input g (played script input g)
+    (script : Script) (input : Option Input) (g : Grid) →
+    turn script input g ≡ outcome_of script input g (played script input g)
 
 -- the again turns of a key are as many as the limit at most
 abbrev pub KeyTurnsAreLimited : Type 0
@@ -51,7 +53,7 @@ DoneWithHistory =
     (script : Script) (play kept : Play) (done : Done) → with_board_in_history_if done.changed play ≡ kept →
     turn_taken script play (Finished done) ≡ key_done script kept done
 
--- texts ------------------------------------------------------------------------------------------------------------------
+-- texts ---------------------------------------------------------------------------------------------------------------
 
 -- a text behind a text is the two joined
 abbrev pub TextsJoin : Type 0
@@ -61,20 +63,28 @@ TextsJoin = (first second : List ℕ) (step : Step) → after first (after secon
 abbrev pub EmptyTextAddsNothing : Type 0
 EmptyTextAddsNothing = (step : Step) → after [] step ≡ step
 
--- undo -------------------------------------------------------------------------------------------------------------------
+-- undo ----------------------------------------------------------------------------------------------------------------
 
 -- undo goes back to the latest board, with the room that is seen there, and leaves the history those before it
 abbrev pub UndoTakesLatest : Type 0
 UndoTakesLatest =
     (script : Script) (play : Play) (earlier : List Grid) (latest : Grid) → play.history ≡ earlier ++ latest ∷ [] →
-    let back : Play = seen script (record { entry = play.entry; board = latest; history = earlier; restart_board = play.restart_board; room = play.room }) in
+    let back : Play = seen script (record {
+      entry = play.entry;
+      board = latest;
+      history = earlier;
+      restart_board =
+          play.restart_board;
+      room = play.room;
+    }) in
     undone script play ≡ record { session = Playing back; text = shown script back }
 
 -- without a history it writes the frame alone
 abbrev pub UndoOfNothing : Type 0
-UndoOfNothing = (script : Script) (play : Play) → play.history ≡ [] → undone script play ≡ record { session = Playing play; text = shown script play }
+UndoOfNothing = (script : Script) (play : Play) → play.history ≡ [] →
+    undone script play ≡ record { session = Playing play; text = shown script play }
 
--- runs -------------------------------------------------------------------------------------------------------------------
+-- runs ----------------------------------------------------------------------------------------------------------------
 
 -- the opening is the title, and what the first entry brings
 abbrev pub OpeningsAreEntered : Type 0
@@ -84,17 +94,22 @@ OpeningsAreEntered =
 -- the front of all keys is the text of the opening, and those of the keys
 abbrev pub FrontsAreTexts : Type 0
 FrontsAreTexts = (script : Script) (bytes : List ℕ) →
-    whole_front script bytes ≡ (opening_step script).text ++ texts_of_keys script (opening_step script).session (keys_of bytes)
+    whole_front script bytes ≡ (opening_step script).text ++ texts_of_keys script (opening_step script).session
+    (keys_of bytes)
 
 -- a byte that brings no key behind what is held writes nothing, and leaves the session
 abbrev pub SilentBytesWriteNothing : Type 0
 SilentBytesWriteNothing =
-    (script : Script) (read : List ℕ) (byte : ℕ) (kept : Held) → bytes_of kept ≡ held read → key_behind kept byte ≡ None →
-    (whole_front script (read ++ byte ∷ []) ≡ whole_front script read) × (session_of script (read ++ byte ∷ []) ≡ session_of script read)
+    (script : Script) (read : List ℕ) (byte : ℕ) (kept : Held) → bytes_of kept ≡ held read →
+    key_behind kept byte ≡ None →
+    (whole_front script (read ++ byte ∷ []) ≡ whole_front script read) ×
+    (session_of script (read ++ byte ∷ []) ≡ session_of script read)
 
 -- a byte that brings a key does what the key does
 abbrev pub KeysWriteTheirTexts : Type 0
 KeysWriteTheirTexts =
-    (script : Script) (read : List ℕ) (byte : ℕ) (kept : Held) (key : Key) → bytes_of kept ≡ held read → key_behind kept byte ≡ Some key →
-    (whole_front script (read ++ byte ∷ []) ≡ whole_front script read ++ (key_step script (session_of script read) key).text)
+    (script : Script) (read : List ℕ) (byte : ℕ) (kept : Held) (key : Key) → bytes_of kept ≡ held read →
+    key_behind kept byte ≡ Some key →
+    (whole_front script (read ++ byte ∷ []) ≡ whole_front script read ++
+    (key_step script (session_of script read) key).text)
     × (session_of script (read ++ byte ∷ []) ≡ (key_step script (session_of script read) key).session)

@@ -32,7 +32,8 @@ pub record Settles (rules : List RuleMeaning) (limit : ℕ) (state : State) (res
   -- the last round is the limit's, or changes nothing
   pub ended : (rounds ≡ limit) ⊎ (changes rounds (round rules) state ≡ false)
   -- the result tells of a change exactly where one of the rounds changes something
-  pub changed : (result.changed ≡ true) ↔ ((number : ℕ) × (1 ≤ number) × (number ≤ rounds) × (changes number (round rules) state ≡ true))
+  pub changed : (result.changed ≡ true) ↔ ((number : ℕ) × (1 ≤ number) × (number ≤ rounds) ×
+      (changes number (round rules) state ≡ true))
 
 -- the progress is that of passes which are made until one changes nothing, or until none of so many repeats is left;
 -- each pass but the first is a repeat
@@ -58,4 +59,5 @@ GroupsSettle = (rules : List RuleMeaning) (state : State) → Settles rules ROUN
 -- a loop makes its passes, however many repeats are left
 abbrev pub LoopsPass : Type 0
 LoopsPass =
-    (body : List (List RuleMeaning)) (repeats : ℕ) (state : State) → Passes body repeats state (looped body repeats state)
+    (body : List (List RuleMeaning)) (repeats : ℕ) (state : State) →
+    Passes body repeats state (looped body repeats state)

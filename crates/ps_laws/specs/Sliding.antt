@@ -15,11 +15,13 @@ ChainsSlide = (g : Grid) (layer links cell : ℕ) → slides_within g layer link
 
 -- the cells of a place are cells of the board
 abbrev pub PlacesLieOnBoards : Type 0
-PlacesLieOnBoards = (g : Grid) (direction : Direction) (row : List (List CellMeaning)) → IsGrid g → All (All (λ cell. cell < cell_count g)) (places g direction row)
+PlacesLieOnBoards = (g : Grid) (direction : Direction) (row : List (List CellMeaning)) → IsGrid g →
+    All (All (λ cell. cell < cell_count g)) (places g direction row)
 
 -- a place has a cell of the board for each cell of the row
 abbrev pub PlacesAreWhole : Type 0
-PlacesAreWhole = (g : Grid) (direction : Direction) (row : List (List CellMeaning)) → All (λ place. length place ≡ length (cells_in row)) (places g direction row)
+PlacesAreWhole = (g : Grid) (direction : Direction) (row : List (List CellMeaning)) →
+    All (λ place. length place ≡ length (cells_in row)) (places g direction row)
 
 -- how many steps on from its end each cell of a line stands, for parts of these lengths with these gaps between them
 abbrev pub steps_of : List ℕ → List ℕ → ℕ → List ℕ
@@ -41,4 +43,5 @@ IsStraight g direction sizes place = (end : ℕ) × (gaps : List ℕ) × (place 
 -- the places of a row are straight lines, with gaps between its parts alone
 abbrev pub PlacesAreStraight : Type 0
 PlacesAreStraight =
-    (g : Grid) (direction : Direction) (row : List (List CellMeaning)) → All (IsStraight g direction (map length row)) (places g direction row)
+    (g : Grid) (direction : Direction) (row : List (List CellMeaning)) →
+    All (IsStraight g direction (map length row)) (places g direction row)

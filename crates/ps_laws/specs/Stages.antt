@@ -12,7 +12,7 @@ use Rattle.ps_model.specs.meaning.Occurrences.{left_items}
 use Rattle.ps_model.specs.meaning.Readings.{Reading, one_of_each, directions_of, move_choices, member_choices}
 use Rattle.ps_model.specs.meaning.Readings.{all_move_choices, all_member_choices, readings, reading_count}
 
--- lists of choices -----------------------------------------------------------------------------------------------------
+-- lists of choices ----------------------------------------------------------------------------------------------------
 
 -- each list made so far is split by the items of one more: each item in turn behind it
 abbrev pub split_by : {A : Type 0} → List A → List (List A) → List (List A)
@@ -23,7 +23,7 @@ abbrev pub split_all : {A : Type 0} → List (List A) → List (List A) → List
 split_all [] made = made
 split_all (items ∷ others) made = split_all others (split_by items made)
 
--- readings in the making -----------------------------------------------------------------------------------------------
+-- readings in the making ----------------------------------------------------------------------------------------------
 
 -- a rule in one direction, of which nothing else is chosen
 abbrev pub in_direction : Direction → Reading
@@ -31,10 +31,20 @@ in_direction direction = record { direction = direction; moves = []; members = [
 
 -- one more move is chosen, and one more member
 abbrev pub with_move : Reading → ℕ × Motion → Reading
-with_move reading move = record { direction = reading.direction; moves = reading.moves ++ move ∷ []; members = reading.members }
+with_move reading move = record {
+  direction = reading.direction;
+  moves = reading.moves ++ move ∷ [];
+  members =
+      reading.members;
+}
 
 abbrev pub with_member : Reading → ℕ × ObjectId → Reading
-with_member reading member = record { direction = reading.direction; moves = reading.moves; members = reading.members ++ member ∷ [] }
+with_member reading member = record {
+  direction = reading.direction;
+  moves = reading.moves;
+  members =
+      reading.members ++ member ∷ [];
+}
 
 -- one reading is split by the choices of an occurrence; without choices it stays as it is
 abbrev pub split_reading : {A : Type 0} → (Reading → A → Reading) → Option (List A) → Reading → List Reading
@@ -44,31 +54,35 @@ split_reading with (Some choices) reading = map (with reading) choices
 -- the moves' stage: the readings made so far are split by the moves of one occurrence after the other
 abbrev pub split_by_moves : List Item → List Reading → List Reading
 split_by_moves [] made = made
-split_by_moves (item ∷ items) made = split_by_moves items (flat_map (λ reading. split_reading with_move (move_choices reading.direction item) reading) made)
+split_by_moves (item ∷ items) made = split_by_moves items
+    (flat_map (λ reading. split_reading with_move (move_choices reading.direction item) reading) made)
 
 -- the members' stage: the readings made so far are split by the members of one occurrence after the other
 abbrev pub split_by_members : Names → SourceRule → List Item → List Reading → List Reading
 split_by_members names rule [] made = made
 split_by_members names rule (item ∷ items) made =
-    split_by_members names rule items (flat_map (λ reading. split_reading with_member (member_choices names rule item) reading) made)
+    split_by_members names rule items (flat_map (λ reading.
+    split_reading with_member (member_choices names rule item) reading) made)
 
 -- the readings of a rule, stage by stage
 abbrev pub staged_readings : Names → SourceRule → List Reading
 staged_readings names rule =
-    split_by_members names rule (left_items rule) (split_by_moves (left_items rule) (map in_direction (directions_of rule)))
+    split_by_members names rule (left_items rule)
+    (split_by_moves (left_items rule) (map in_direction (directions_of rule)))
 
 -- the readings in one direction, one choice in the other: each choice of moves is split by all members
 abbrev pub nested_readings_in : Names → SourceRule → Direction → List Reading
 nested_readings_in names rule direction =
     let members_chosen : List (List (ℕ × ObjectId)) = split_all (all_member_choices names rule) ([] ∷ []) in
     let moves_chosen : List (List (ℕ × Motion)) = split_all (all_move_choices rule direction) ([] ∷ []) in
-    flat_map (λ moves. map (λ members. record { direction = direction; moves = moves; members = members }) members_chosen) moves_chosen
+    flat_map (λ moves. map (λ members. record { direction = direction; moves = moves; members = members })
+    members_chosen) moves_chosen
 
 -- the readings of a rule, each direction by itself, and in it each choice of moves by itself
 abbrev pub nested_readings : Names → SourceRule → List Reading
 nested_readings names rule = flat_map (nested_readings_in names rule) (directions_of rule)
 
--- laws -----------------------------------------------------------------------------------------------------------------
+-- laws ----------------------------------------------------------------------------------------------------------------
 
 -- splitting all that is made so far by one occurrence after the other makes one of each, in order
 abbrev pub OneByOne : Type 0 → Type 0
@@ -77,7 +91,8 @@ OneByOne A = (choices : List (List A)) → split_all choices ([] ∷ []) ≡ one
 -- one of each of all lists is one of each of the first lists, and behind each of these one of each of the others
 abbrev pub InTwoStages : Type 0 → Type 0
 InTwoStages A = (first second : List (List A)) →
-    one_of_each (first ++ second) ≡ flat_map (λ front. map (λ behind. front ++ behind) (one_of_each second)) (one_of_each first)
+    one_of_each (first ++ second) ≡ flat_map (λ front.
+    map (λ behind. front ++ behind) (one_of_each second)) (one_of_each first)
 
 -- both hold of moves, and of members
 abbrev pub MovesOneByOne : Type 0

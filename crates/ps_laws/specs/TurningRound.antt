@@ -13,7 +13,8 @@ use Rattle.ps_model.specs.meaning.TurnedRound.{row_turned, turned_round, forward
 -- a row turned round has the same places in the opposite direction, each read backwards, in the same order
 abbrev pub PlacesTurned : Type 0
 PlacesTurned =
-    (g : Grid) (direction : Direction) (row : List (List CellMeaning)) → places g (opposite direction) (row_turned row) ≡ map reverse (places g direction row)
+    (g : Grid) (direction : Direction) (row : List (List CellMeaning)) →
+    places g (opposite direction) (row_turned row) ≡ map reverse (places g direction row)
 
 -- an attempt of a rule turned round comes to the same
 abbrev pub AttemptsTurned : Type 0
@@ -39,14 +40,17 @@ PassesForwards =
 -- a loop over such groups, with as many repeats left
 abbrev pub LoopsForwards : Type 0
 LoopsForwards =
-    (body : List (List RuleMeaning)) (repeats : ℕ) (state : State) → looped (map (map forwards) body) repeats state ≡ looped body repeats state
+    (body : List (List RuleMeaning)) (repeats : ℕ) (state : State) →
+    looped (map (map forwards) body) repeats state ≡ looped body repeats state
 
 -- a section of them
 abbrev pub SectionsForwards : Type 0
 SectionsForwards =
-    (section : Section) (repeats : ℕ) (state : State) → section_run (section_forwards section) repeats state ≡ section_run section repeats state
+    (section : Section) (repeats : ℕ) (state : State) →
+    section_run (section_forwards section) repeats state ≡ section_run section repeats state
 
 -- and a program of such sections
 abbrev pub ProgramsForwards : Type 0
 ProgramsForwards =
-    (sections : List Section) (state : State) → program_run (map section_forwards sections) state ≡ program_run sections state
+    (sections : List Section) (state : State) →
+    program_run (map section_forwards sections) state ≡ program_run sections state

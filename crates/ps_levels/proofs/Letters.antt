@@ -1,5 +1,6 @@
 -- A character's bytes once its letter is folded.
-use Rattle.std.proofs.Common.{◌≡◌, ℕ, ◌<◌, ◌≤◌, ◌⊎◌, inl, inr, Bool, true, false, cond, List, [], ◌∷◌, map, ap, ◌∙◌, arith}
+use Rattle.std.proofs.Common.{◌≡◌, ℕ, ◌<◌, ◌≤◌, ◌⊎◌, inl, inr, Bool, true, false, cond, List, [], ◌∷◌, map, ap, ◌∙◌}
+use Rattle.std.proofs.Common.{arith}
 use Rattle.std.specs.Prelude.{nat_lt}
 use Rattle.std.specs.Char.{to_ascii_lowercase}
 use Rattle.std.specs.Str.{str_to_ascii_lowercase}
@@ -10,12 +11,14 @@ use Rattle.std.proofs.lemmas.Bool.{cases_lt}
 use Rattle.ps_text.proofs.NamedWords.{high_stays}
 
 two : (a b : ℕ) → 128 ≤ a → 128 ≤ b → map to_ascii_lowercase (a ∷ b ∷ []) ≡ a ∷ b ∷ []
-two a b h i = ap (λ (x : ℕ). x ∷ to_ascii_lowercase b ∷ []) (high_stays a h) ∙ ap (λ (x : ℕ). a ∷ x ∷ []) (high_stays b i)
+two a b h i = ap (λ (x : ℕ). x ∷ to_ascii_lowercase b ∷ []) (high_stays a h)
+    ∙ ap (λ (x : ℕ). a ∷ x ∷ []) (high_stays b i)
 
 more : (a : ℕ) (bs : List ℕ) → 128 ≤ a → map to_ascii_lowercase bs ≡ bs → map to_ascii_lowercase (a ∷ bs) ≡ a ∷ bs
 more a bs h e = ap (λ (x : ℕ). x ∷ map to_ascii_lowercase bs) (high_stays a h) ∙ ap (λ (xs : List ℕ). a ∷ xs) e
 
-by_tests : (y z : Bool) (two' three four : List ℕ) → map to_ascii_lowercase two' ≡ two' → map to_ascii_lowercase three ≡ three → map to_ascii_lowercase four ≡ four →
+by_tests : (y z : Bool) (two' three four : List ℕ) → map to_ascii_lowercase two' ≡ two' →
+    map to_ascii_lowercase three ≡ three → map to_ascii_lowercase four ≡ four →
     map to_ascii_lowercase (cond y two' (cond z three four)) ≡ cond y two' (cond z three four)
 by_tests true z two' three four e f g = e
 by_tests false true two' three four e f g = f

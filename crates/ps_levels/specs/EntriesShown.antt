@@ -21,4 +21,5 @@ is_level_entry (model.LevelEntry level) = true
 
 -- the rows of the level that begins at the first of the lines between two numbers
 abbrev pub level_lines : List ℕ → ℕ → ℕ → model.EntryLines
-level_lines text first end = model.LevelRows (line_at text first) (take_while model.is_row (lines_between text (first + 1) end))
+level_lines text first end = model.LevelRows (line_at text first)
+    (take_while model.is_row (lines_between text (first + 1) end))

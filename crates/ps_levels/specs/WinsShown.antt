@@ -11,11 +11,21 @@ use Rattle.ps_levels.specs.declared.wins.WinWords.{WinWords}
 
 -- a win condition by its names
 abbrev pub words_shown : WinWords → WinText
-words_shown words = record { quantifier = words.quantifier; subject = words.subject.now; place = option_map (λ name. name.now) words.place }
+words_shown words = record {
+  quantifier = words.quantifier;
+  subject = words.subject.now;
+  place =
+      option_map (λ name. name.now) words.place;
+}
 
 -- a win condition
 abbrev pub win_shown : Win → model.Win
-win_shown win = record { quantifier = win.quantifier; subject = meaning_shown win.subject; place = option_map meaning_shown win.place }
+win_shown win = record {
+  quantifier = win.quantifier;
+  subject = meaning_shown win.subject;
+  place =
+      option_map meaning_shown win.place;
+}
 
 abbrev pub wins_shown : List Win → List model.Win
 wins_shown wins = map win_shown wins

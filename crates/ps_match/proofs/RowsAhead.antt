@@ -20,7 +20,8 @@ in_room columns limit x low near =
 
 pub row-in-room : (g : Grid) (becomes : List Slot → List Slot) (row limit : ℕ) (columns moved : List Bool) → IsGrid g →
     g.width ≤ limit → moved ≡ both_columns (columns_below limit) columns →
-    rewritten_where g becomes (is_on_row g.height row moved) ≡ rewritten_where g becomes (is_on_row g.height row columns)
+    rewritten_where g becomes (is_on_row g.height row moved) ≡ rewritten_where g becomes
+    (is_on_row g.height row columns)
 row-in-room g becomes row limit columns moved grid room is =
     where-agree g becomes (is_on_row g.height row moved) (is_on_row g.height row columns)
     (λ n low.

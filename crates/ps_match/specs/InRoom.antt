@@ -4,7 +4,8 @@ use Rattle.ps_model.specs.declared.pieces.Slot.{Slot}
 use Rattle.ps_model.specs.declared.pieces.Slot.TheVariants.{Bare, Holds}
 use Rattle.ps_model.specs.declared.compiled.LayerWrite.{LayerWrite}
 use Rattle.ps_model.specs.meaning.RuleMeanings.{CellMeaning}
-use Rattle.ps_model.specs.meaning.Compiled.{CellMask, CellWrite, CompiledCell, mask_fits, cell_written, slot_written, slot_freed, write_on}
+use Rattle.ps_model.specs.meaning.Compiled.{CellMask, CellWrite, CompiledCell, mask_fits, cell_written, slot_written}
+use Rattle.ps_model.specs.meaning.Compiled.{slot_freed, write_on}
 use Rattle.ps_model.specs.board.Grid.{Grid}
 use Rattle.ps_board.specs.Rooms.{HasRoom}
 use Rattle.ps_board.specs.Runnable.{has_room_for}
@@ -12,7 +13,11 @@ use Rattle.ps_board.specs.Runnable.{has_room_for}
 -- a write without what has no room
 abbrev pub write_in_room : Option (List ℕ) → CellWrite → CellWrite
 write_in_room None write = write
-write_in_room (Some layers) write = record { gone = write.gone; layers = filter (has_room_for (Some layers)) write.layers }
+write_in_room (Some layers) write = record {
+  gone = write.gone;
+  layers =
+      filter (has_room_for (Some layers)) write.layers;
+}
 
 -- a compiled cell whose write is so
 abbrev pub cell_in_room : Option (List ℕ) → CompiledCell → CompiledCell

@@ -5,4 +5,5 @@ use Rattle.ps_model.specs.meaning.Compiled.{CellWrite}
 
 -- an object goes from the layer, or the layer is written
 abbrev pub touches : CellWrite → ℕ → Bool
-touches write layer = list_any (λ each. nat_eq (each.layer).0 layer) write.gone || list_any (λ each. nat_eq (each.layer).0 layer) write.layers
+touches write layer = list_any (λ each. nat_eq (each.layer).0 layer) write.gone || list_any (λ each.
+    nat_eq (each.layer).0 layer) write.layers

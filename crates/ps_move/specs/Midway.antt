@@ -1,4 +1,5 @@
--- A movement that has begun: some objects went to their targets and are at rest there, and the others stand where they stood,
+-- A movement that has begun: some objects went to their targets and are at rest there, and the others stand where they
+-- stood,
 -- each with its motion.
 use Rattle.std.specs.Prelude.{◌≡◌, ℕ, Bool, true, false}
 use Rattle.ps_model.specs.declared.pieces.ObjectId.{ObjectId}
@@ -26,5 +27,6 @@ pub record IsMidway (before now : Grid) : Type 0 where
       slot_at before first layer ≡ Holds one motion → slot_at before second layer ≡ Holds other motion' →
       landing before goes layer first ≡ landing before goes layer second → first ≡ second
   pub comes : (layer cell : ℕ) (object : ObjectId) (motion : Motion) → slot_at now cell layer ≡ Holds object motion →
-      (from : ℕ) × (was : Motion) × (slot_at before from layer ≡ Holds object was) × (landing before goes layer from ≡ cell)
+      (from : ℕ) × (was : Motion) × (slot_at before from layer ≡ Holds object was) ×
+      (landing before goes layer from ≡ cell)
   pub as_often : (layer : ℕ) (object : ObjectId) → count_of now layer object ≡ count_of before layer object

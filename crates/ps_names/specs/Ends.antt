@@ -8,7 +8,8 @@ use Rattle.ps_names.specs.MeaningSteps.{behind_synonym}
 
 -- behind so many synonyms stands a mention
 abbrev pub StandsBehind : List LegendName → Mention → ℕ → Mention → Type 0
-StandsBehind legend mention passed last = (most : ℕ) → meaning_behind legend (passed + most) mention ≡ meaning_behind legend most last
+StandsBehind legend mention passed last = (most : ℕ) →
+    meaning_behind legend (passed + most) mention ≡ meaning_behind legend most last
 
 -- behind so many synonyms stands a mention that is none
 pub record EndsAt (legend : List LegendName) (mention : Mention) (passed : ℕ) (last : Mention) : Type 0 where

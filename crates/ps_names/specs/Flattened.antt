@@ -25,15 +25,17 @@ all_spoken by_line mentions = flat_map (spoken by_line) mentions
 -- how many mentions stand on the lines from a place on that aren't listed
 abbrev pub room_from : List Mention → ℕ → List LegendName → ℕ
 room_from listed place [] = 0
-room_from listed place (name ∷ others) = cond (list_any (same_mention (OfLine place)) listed) 0 (length name.mentions) + room_from listed (suc place) others
+room_from listed place (name ∷ others) = cond (list_any (same_mention (OfLine place)) listed) 0 (length name.mentions)
+    + room_from listed (suc place) others
 
 abbrev pub spoken_by : List (List ObjectId) → ℕ → List ObjectId
 spoken_by lists line = slice_index_or lists line []
 
 -- the line of a place mentions only lines of lower levels, and speaks of what these speak of
-pub record IsFlatAt (levels : List ℕ) (lists : List (List ObjectId)) (place : ℕ) (mentions : List Mention) : Type 0 where
-  pub strict : are_below levels (level levels place) mentions ≡ true
-  pub merges : spoken_by lists place ≡ merged [] (all_spoken (spoken_by lists) mentions)
+pub record IsFlatAt (levels : List ℕ) (lists : List (List ObjectId)) (place : ℕ) (mentions : List Mention) : Type 0
+  where
+    pub strict : are_below levels (level levels place) mentions ≡ true
+    pub merges : spoken_by lists place ≡ merged [] (all_spoken (spoken_by lists) mentions)
 
 abbrev pub IsFlat : List LegendName → List ℕ → List (List ObjectId) → Type 0
 IsFlat legend levels lists = (place : ℕ) → IsFlatAt levels lists place (mentions_of legend (OfLine place))

@@ -42,4 +42,9 @@ mentions_of_names known = map mention_of known
 
 -- an entry of the code's table
 abbrev pub named_shown : String Global × NameDetails → Named
-named_shown entry = record { name = string_bytes entry.0; character = entry.1.character; mention = mention_shown entry.1.mention }
+named_shown entry = record {
+  name = string_bytes entry.0;
+  character = entry.1.character;
+  mention =
+      mention_shown entry.1.mention;
+}

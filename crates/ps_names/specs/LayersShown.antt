@@ -17,7 +17,11 @@ abbrev pub named_by : List (Named × Option model.Meaning) → List (List ℕ) �
 named_by table words = map (λ word. lookup (bytes_eq (folded word)) (entries_with table)) words
 
 abbrev pub layer_shown : Layer → layers.Layer
-layer_shown layer = record { line = layer.line; named = map (λ m. option_map (λ m. meaning_shown m.now) m) layer.named.items }
+layer_shown layer = record {
+  line = layer.line;
+  named =
+      map (λ m. option_map (λ m. meaning_shown m.now) m) layer.named.items;
+}
 
 abbrev pub layers_shown : List Layer → List layers.Layer
 layers_shown layers = map layer_shown layers

@@ -1,5 +1,6 @@
 -- The names of the legend as the code keeps them, and what they reach.
-use Rattle.std.specs.Prelude.{ℕ, zero, suc, Bool, true, false, Option, List, [], ◌∷◌, ◌++◌, map, reverse, slice_set, slice_index_or}
+use Rattle.std.specs.Prelude.{ℕ, zero, suc, Bool, true, false, Option, List, [], ◌∷◌, ◌++◌, map, reverse, slice_set}
+use Rattle.std.specs.Prelude.{slice_index_or}
 use Rattle.std.specs.Str.{bytes_eq}
 use Rattle.std.specs.Map.{lookup}
 use Rattle.ps_model.specs.declared.pieces.ObjectId.{ObjectId}
@@ -13,7 +14,14 @@ use Rattle.ps_names.specs.Known.{Named, mentions_of_names, mentions_shown}
 
 abbrev pub name_shown : LegendName → model.LegendName
 name_shown name =
-    record { line = name.line; name = name.name.now; joiner = name.joiner; mentions = mentions_shown name.mentions.items; all_declared = name.all_declared }
+    record {
+      line = name.line;
+      name = name.name.now;
+      joiner = name.joiner;
+      mentions =
+          mentions_shown name.mentions.items;
+      all_declared = name.all_declared;
+    }
 
 abbrev pub legend_shown : List LegendName → List model.LegendName
 legend_shown legend = map name_shown legend

@@ -14,7 +14,12 @@ abbrev pub side_shown : RightSide → model.RightSide
 side_shown side = record { joiner = side.joiner; mentions = map (λ n. n.now) side.names.items }
 
 abbrev pub declaration_shown : Declaration → model.Declaration
-declaration_shown declaration = record { line = declaration.line; name = declaration.name.now; right = side_shown declaration.right }
+declaration_shown declaration = record {
+  line = declaration.line;
+  name = declaration.name.now;
+  right =
+      side_shown declaration.right;
+}
 
 abbrev pub declarations_shown : List Declaration → List model.Declaration
 declarations_shown declarations = map declaration_shown declarations

@@ -4,7 +4,8 @@ use Rattle.ps_model.specs.declared.texts.Joiner.{Joiner}
 use Rattle.ps_model.specs.declared.texts.Joiner.TheVariants.{Alone, And, Or}
 use Rattle.ps_model.specs.declared.faults.Fault.{Fault}
 use Rattle.ps_model.specs.names.Names as model
-use Rattle.ps_model.specs.names.Meanings.{LegendName, Mention, OfObject, OfLine, objects_of, meaning_behind, meaning_of_mention}
+use Rattle.ps_model.specs.names.Meanings.{LegendName, Mention, OfObject, OfLine, objects_of, meaning_behind}
+use Rattle.ps_model.specs.names.Meanings.{meaning_of_mention}
 use Rattle.ps_model.specs.names.DeclarationFaults.{faults_of_legend_name}
 use Rattle.ps_names.specs.declared.meaning.Meaning.{Meaning}
 use Rattle.ps_names.specs.Shown.{meaning_shown}
@@ -24,7 +25,8 @@ alone Or mentions = None
 -- what a synonym is one for; a mention of another kind is none
 abbrev pub behind_synonym : List LegendName → Mention → Option Mention
 behind_synonym legend (OfObject object) = None
-behind_synonym legend (OfLine place) = option_and_then (λ name. alone name.joiner name.mentions) (slice_get legend place)
+behind_synonym legend (OfLine place) = option_and_then (λ name.
+    alone name.joiner name.mentions) (slice_get legend place)
 
 -- what an aggregate or a property stands for
 abbrev pub joined_meaning : List LegendName → Joiner → LegendName → Option model.Meaning
@@ -45,4 +47,5 @@ meaning_at legend numbered = meaning_behind legend (length legend) (OfLine numbe
 
 -- the faults of the legend line of a place by what it names
 abbrev pub faults_at : List LegendName → List (Option model.Meaning) → ℕ × LegendName → List Fault
-faults_at legend meanings numbered = faults_of_legend_name legend numbered.0 numbered.1 (map (meaning_of_mention meanings) numbered.1.mentions)
+faults_at legend meanings numbered = faults_of_legend_name legend numbered.0 numbered.1
+    (map (meaning_of_mention meanings) numbered.1.mentions)

@@ -14,7 +14,13 @@ abbrev pub layer_numbers_shown : List LayerId → List ℕ
 layer_numbers_shown layers = map (λ layer. layer.0) layers
 
 abbrev pub names_shown : List (Named × Option model.Meaning) → List ℕ → ℕ → List Glyph → model.Names
-names_shown table layers layer_count glyphs = record { entries = entries_with table; layers = layers; layer_count = layer_count; glyphs = glyphs_shown glyphs }
+names_shown table layers layer_count glyphs = record {
+  entries = entries_with table;
+  layers = layers;
+  layer_count =
+      layer_count;
+  glyphs = glyphs_shown glyphs;
+}
 
 -- what holds of names as the code keeps them, with the objects of Player and of Background beside them
 pub record AreKept (names : model.Names) (players backgrounds : List ObjectId) : Type 0 where

@@ -20,7 +20,8 @@ use Rattle.ps_names.specs.Wholes.{no_layers, missing, faults_of_lines, lines_of_
 
 -- the names that objects and legend lines declare
 abbrev pub known_of : List ObjectText → List WrittenLine → List Named
-known_of objects lines = map named_object (object_names objects) ++ map named_line (enumerate_from 0 (declarations lines))
+known_of objects lines = map named_object (object_names objects) ++ map named_line
+    (enumerate_from 0 (declarations lines))
 
 -- the names of the legend
 abbrev pub legend_of : List ObjectText → List WrittenLine → List LegendName
@@ -40,16 +41,20 @@ declared_of objects lines = (known_of objects lines, legend_with (legend_of obje
 
 -- the faults of OBJECTS and LEGEND line by line
 abbrev pub declaring_faults : List ObjectText → List WrittenLine → List Fault
-declaring_faults objects lines = object_faults 0 [] objects ++ (form_faults (folded_names objects) lines ++ legend_faults (legend_of objects lines))
+declaring_faults objects lines = object_faults 0 [] objects ++
+    (form_faults (folded_names objects) lines ++ legend_faults (legend_of objects lines))
 
 -- the layer of each of so many objects, if one names it, and how many layers there are
 abbrev pub layering_of : ℕ → List Layer → List (Option ℕ) × ℕ
 layering_of count layers = (layers_found count layers, length layers)
 
 -- the faults of the whole
-abbrev pub faults_of_whole : ℕ → List ObjectText → List (Option ℕ) → List LegendName → List (Option Meaning) → List (List ℕ × Meaning) → List ℕ → List Fault
+abbrev pub faults_of_whole : ℕ → List ObjectText → List (Option ℕ) → List LegendName → List (Option Meaning) →
+    List (List ℕ × Meaning) → List ℕ → List Fault
 faults_of_whole header objects places legend meanings entries layers =
     no_layers objects places
     ++ (missing header entries
-    ++ (faults_of_lines (is_bad_background layers (lookup (bytes_eq (codes "background")) entries)) BadBackground (lines_of_name legend (codes "background"))
-    ++ (faults_of_lines (is_aggregate (lookup (bytes_eq (codes "player")) entries)) BadPlayer (lines_of_name legend (codes "player")) ++ shared_layers layers legend meanings)))
+    ++ (faults_of_lines (is_bad_background layers (lookup (bytes_eq (codes "background")) entries)) BadBackground
+    (lines_of_name legend (codes "background"))
+    ++ (faults_of_lines (is_aggregate (lookup (bytes_eq (codes "player")) entries)) BadPlayer
+    (lines_of_name legend (codes "player")) ++ shared_layers layers legend meanings)))

@@ -7,7 +7,12 @@ use Rattle.ps_names.specs.declared.known.KnownName.{KnownName}
 use Rattle.ps_names.specs.Known.{Named, mention_shown}
 
 abbrev pub known_name_shown : KnownName → Named
-known_name_shown known = record { name = known.name.now; character = known.character; mention = mention_shown known.mention }
+known_name_shown known = record {
+  name = known.name.now;
+  character = known.character;
+  mention =
+      mention_shown known.mention;
+}
 
 -- what a known name stands for, where the names of the legend stand for these
 abbrev pub meaning_with : List (Option Meaning) → Named → Option Meaning

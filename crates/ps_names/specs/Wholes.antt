@@ -43,4 +43,5 @@ shared_layers layers legend meanings = flat_map (shared_at layers) (zip legend m
 -- names that must be there
 abbrev pub missing : ℕ → List (List ℕ × Meaning) → List Fault
 missing header entries =
-    when (is_none (lookup (bytes_eq (codes "background")) entries)) NoBackground header ++ when (is_none (lookup (bytes_eq (codes "player")) entries)) NoPlayer header
+    when (is_none (lookup (bytes_eq (codes "background")) entries)) NoBackground header ++ when
+    (is_none (lookup (bytes_eq (codes "player")) entries)) NoPlayer header

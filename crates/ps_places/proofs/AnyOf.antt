@@ -28,7 +28,8 @@ any-filter f test (x ∷ xs) = kept_or f x (filter test xs) (test x) ∙ ap (λ 
 
 pub any-both : {X : Type 0} (b : Bool) (f : X → Bool) (xs : List X) → list_any (λ x. b && f x) xs ≡ (b && list_any f xs)
 any-both b f [] = sym (and-false b)
-any-both b f (x ∷ xs) = ap (λ (c : Bool). (b && f x) || c) (any-both b f xs) ∙ sym (and-or_distrib_left b (f x) (list_any f xs))
+any-both b f (x ∷ xs) = ap (λ (c : Bool). (b && f x) || c) (any-both b f xs)
+    ∙ sym (and-or_distrib_left b (f x) (list_any f xs))
 
 none_any : {X : Type 0} (xs : List X) → list_any (λ x. false) xs ≡ false
 none_any [] = refl

@@ -27,7 +27,7 @@ use Rattle.ps_places.proofs.CellByCell.{fits_not, moved_on}
 use Rattle.ps_places.proofs.LineSets.{none_has, sets_kept, sets_written, with_here, with_other}
 use Rattle.ps_places.proofs.OnlyOn.{missing, not_left_out}
 
--- rows on which a part begins nowhere ---------------------------------------------------------------------------------------
+-- rows on which a part begins nowhere ---------------------------------------------------------------------------------
 
 pub ways-init : (g : Grid) (table : Option (List ℕ)) (parts : List (List CompiledCell)) (rows : List Bool)
     {limit : ℕ} → IsGrid g → g.height ≤ limit → rows ≡ columns_below limit → HaveWaysOnlyOn g table Right parts rows
@@ -66,7 +66,7 @@ ways-more g table parts number part rows own both grid within e only is have =
           (missing rows own both row is (omega (arith, low, grid.rows)) out);
     }
 
--- a part that goes right has room where it fits -----------------------------------------------------------------------------
+-- a part that goes right has room where it fits -----------------------------------------------------------------------
 
 room_by : (g : Grid) (table : Option (List ℕ)) (part : List CompiledCell) (row x : ℕ) (room : Bool) →
     nat_le (x + length part) g.width ≡ room → IsGrid g → row < g.height → 0 < length part →
@@ -96,7 +96,7 @@ pub begins-are : (g : Grid) (table : Option (List ℕ)) (part : List CompiledCel
 begins-are g table part row columns grid low some are =
     record { at = λ x within. are.at x within ∙ fits_with_room g table part row x grid low some }
 
--- the parts of a row, one after the other -----------------------------------------------------------------------------------
+-- the parts of a row, one after the other -----------------------------------------------------------------------------
 
 pub begun-init : (g : Grid) (table : Option (List ℕ)) (parts : List (List CompiledCell)) (row : ℕ)
     (set : ℕ → List Bool) → BeginInSets g table Right parts row set 0
@@ -141,7 +141,7 @@ begun-more g table parts row number part sets columns grid low within e some are
           (cases_eq n number);
     }
 
--- the lines of the board, one after the other -------------------------------------------------------------------------------
+-- the lines of the board, one after the other -------------------------------------------------------------------------
 
 pub not_a_line : (g : Grid) (table : Option (List ℕ)) (parts : List (List CompiledCell)) (starts : List (List Bool))
     (rows lines : List Bool) → lines ≡ no_columns →

@@ -21,7 +21,7 @@ use Rattle.ps_places.specs.Lines.{part_fits}
 use Rattle.ps_places.specs.Starts.{AreWhere, begins_down}
 use Rattle.ps_places.proofs.LineSets.{apart, none_has, with_here, with_other}
 
--- a row added to the sets of some columns -----------------------------------------------------------------------------------
+-- a row added to the sets of some columns -----------------------------------------------------------------------------
 
 -- the columns that are left are some of them and have what they had; the others have got the row
 pub record IsAdding (old : List (List Bool)) (count number : ℕ) (columns found : List Bool) (row : ℕ)
@@ -103,7 +103,8 @@ pub adding-more : (old now : List (List Bool)) (count number : ℕ) (columns fou
     IsAdding old count number columns found row (slice_set now (k * count + number) set) rest
 adding-more old now count number columns found left rest set row k room within taken is adding =
     record {
-      done = λ x low out. done_by old now count number columns found left rest set row k x room within low taken is adding out (cases_eq x k);
+      done = λ x low out. done_by old now count number columns found left rest set row k x room within low taken is
+          adding out (cases_eq x k);
       to_do = λ x low in_rest.
           let other : x ≢ k = rest_apart left rest k x taken in_rest in
           get_or-set_other now (k * count + number) (x * count + number) set []
@@ -125,7 +126,7 @@ added-all old now count number columns found left row none adding =
       others = adding.others;
     }
 
--- one part in some columns --------------------------------------------------------------------------------------------------
+-- one part in some columns --------------------------------------------------------------------------------------------
 
 -- the part begins in a column on a row, and the column is one of these
 abbrev pub wanted : Grid → Option (List ℕ) → List CompiledCell → List Bool → ℕ → ℕ → Bool
@@ -144,7 +145,8 @@ pub record IsGathering (g : Grid) (table : Option (List ℕ)) (part : List Compi
   pub inside : (x : ℕ) → column_at found x ≡ true → column_at within x ≡ true
   pub others : (x other : ℕ) → other < count → other ≢ number → set_of now count x other ≡ set_of old count x other
 
-pub room_by : (g : Grid) (table : Option (List ℕ)) (part : List CompiledCell) (rows : List Bool) (x y : ℕ) (room : Bool) →
+pub room_by : (g : Grid) (table : Option (List ℕ)) (part : List CompiledCell) (rows : List Bool) (x y : ℕ)
+    (room : Bool) →
     nat_le (y + length part) g.height ≡ room → BeginsOnlyOn g table Down part rows →
     y < g.height → column_at rows y ≡ false → (nat_lt x g.width && (room && part_fits g table Down x part y)) ≡ false
 room_by g table part rows x y true t only low out =
@@ -237,7 +239,8 @@ pub gathering-more : (g : Grid) (table : Option (List ℕ)) (part : List Compile
     IsRowAdded now count number columns found row more →
     IsGathering g table part within count number old now found left →
     IsGathering g table part within count number old more found_now rest
-gathering-more g table part within count number row old now more found left rest fits columns found_now one taken begins c f added gathering =
+gathering-more g table part within count number row old now more found left rest fits columns found_now one taken
+    begins c f added gathering =
     record {
       all = λ x y low near.
           let here : column_at columns x ≡ wanted g table part within x row = both_at fits within columns x c low
@@ -315,7 +318,7 @@ gathered-down g table part within count number old now found left grid narrow no
       others = gathering.others;
     }
 
--- the parts, one after the other --------------------------------------------------------------------------------------------
+-- the parts, one after the other --------------------------------------------------------------------------------------
 
 below_width : (width : ℕ) (lines : List Bool) (x : ℕ) → width ≤ SIDE_LIMIT → lines ≡ columns_below width →
     column_at lines x ≡ nat_lt x width

@@ -186,7 +186,7 @@ found_places g table axis line parts starts low small long any some found =
     ∙ ap (λ (sizes : List ℕ). map (cells_of_way cell sizes) (ways_from sets sizes 0)) (sizes-meant table parts)
     ∙ ways-meant axis g.height line (part_sizes parts) (ways_from sets (part_sizes parts) 0)
 
--- all places ------------------------------------------------------------------------------------------------------------------
+-- all places ----------------------------------------------------------------------------------------------------------
 
 few_lines : (g : Grid) (axis : Axis) → IsGrid g → line_count axis g ≤ SIDE_LIMIT
 few_lines g Down grid = grid.columns

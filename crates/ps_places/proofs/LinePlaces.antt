@@ -112,7 +112,8 @@ places-by_line g Down parts =
 places-by_line g Right parts =
     let fits : List ℕ → Bool = fits_along g (cells_in parts) in
     let at : ℕ → List (List ℕ) = λ cell. filter fits (ways_along (map length parts) (cells_rightwards g cell)) in
-    flat_map-flat_map at (λ row. map (λ column. column * g.height + row) (range_with_len 0 g.width)) (range_with_len 0 g.height)
+    flat_map-flat_map at (λ row. map (λ column. column * g.height + row) (range_with_len 0 g.width))
+    (range_with_len 0 g.height)
     ∙ range_lists-agree (λ row. flat_map at (map (λ column. column * g.height + row) (range_with_len 0 g.width)))
     (places_along g Right parts) 0 g.height
     (λ row near far.

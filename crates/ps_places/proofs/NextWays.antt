@@ -1,5 +1,6 @@
 -- Ways of parts on a line: the first one of a kind that is told part by part, from a position on or behind another way.
-use Rattle.std.proofs.Common.{◌≡◌, ◌∙◌, ℕ, ◌+◌, ◌≤◌, ◌&&◌, inl, inr, Bool, true, false, List, [], ◌∷◌, map, length, get_or, refl, sym, ap, arith}
+use Rattle.std.proofs.Common.{◌≡◌, ◌∙◌, ℕ, ◌+◌, ◌≤◌, ◌&&◌, inl, inr, Bool, true, false, List, [], ◌∷◌, map, length}
+use Rattle.std.proofs.Common.{get_or, refl, sym, ap, arith}
 use Rattle.std.specs.Prelude.{All, nat_le}
 use Rattle.std.specs.List.{flat_map}
 use Rattle.std.proofs.lemmas.Bool.{cases_Bool}
@@ -9,7 +10,8 @@ use Rattle.std.proofs.lemmas.List.Elements.{All-append, All-cons, All-map, All-n
 use Rattle.ps_laws.proofs.common.Everywhere.{All-each}
 use Rattle.ps_board.specs.ColumnSets.{set_columns}
 use Rattle.ps_places.specs.Ways.{from_first, positions_from, ways_behind, ways_from}
-use Rattle.ps_places.proofs.FirstOf.{first-append-none, first-append-some, first-filter-none, first-fits, first-flat_map, first-later, first-map, first-rest-none}
+use Rattle.ps_places.proofs.FirstOf.{first-append-none, first-append-some, first-filter-none, first-fits}
+use Rattle.ps_places.proofs.FirstOf.{first-flat_map, first-later, first-map, first-rest-none}
 use Rattle.ps_places.proofs.Positions.{EndsIn, positions-end}
 
 -- a way is of the kind where its first position has a property and the others are of a kind

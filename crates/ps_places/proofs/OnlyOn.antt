@@ -48,7 +48,7 @@ missing rows others both row is low out =
     (sym (ap (λ (cs : List Bool). column_at cs row) is
     ∙ column_at-where (λ y. column_at rows y && column_at others y) row low) ∙ out)
 
--- a mask ---------------------------------------------------------------------------------------------------------------
+-- a mask --------------------------------------------------------------------------------------------------------------
 
 not_all : (slots : List Slot) (object : LayeredObject) → is_held_in slots object ≡ false →
     (needed : List LayeredObject) (k : ℕ) → slice_get needed k ≡ Some object →
@@ -158,7 +158,7 @@ motion-more g mask test k rows moving both grid asks has is only =
           (missing rows moving both row is (omega (arith, low, grid.rows)) out);
     }
 
--- the cells of a part ---------------------------------------------------------------------------------------------------
+-- the cells of a part -------------------------------------------------------------------------------------------------
 
 pub cell-right : (g : Grid) (mask : CellMask) (steps : ℕ) (rows : List Bool) → FitsOnlyOn g mask rows →
     HasCellOnlyOn g mask Right steps rows

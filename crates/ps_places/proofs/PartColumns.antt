@@ -1,5 +1,6 @@
 -- Where parts begin on a row of the board, column by column.
-use Rattle.std.proofs.Common.{◌≡◌, ◌∙◌, ℕ, ◌+◌, ◌-◌, ◌*◌, ◌<◌, ◌≤◌, ◌&&◌, Bool, true, false, Option, Some, List, [], ◌∷◌}
+use Rattle.std.proofs.Common.{◌≡◌, ◌∙◌, ℕ, ◌+◌, ◌-◌, ◌*◌, ◌<◌, ◌≤◌, ◌&&◌, Bool, true, false, Option, Some, List, []}
+use Rattle.std.proofs.Common.{◌∷◌}
 use Rattle.std.proofs.Common.{length, map, refl, sym, ap, ap₂, arith}
 use Rattle.std.specs.Prelude.{nat_le, nat_lt, slice_get}
 use Rattle.std.specs.List.{range_with_len}
@@ -36,7 +37,7 @@ in_row g meaning row x shape =
     column_at-all (λ y. fits_there meaning (slice_get g.cells (y * g.height + row))) x
     (λ far. ap (fits_there meaning) (no_cell g row x shape.cells (omega (arith, far, shape.columns))))
 
--- parts that go right ---------------------------------------------------------------------------------------------------------
+-- parts that go right -------------------------------------------------------------------------------------------------
 
 abbrev pub rest_across : Grid → Option (List ℕ) → List CompiledCell → ℕ → ℕ → ℕ → Bool
 rest_across g table part row index x = fits_from g table part (λ k. x * g.height + row + k * g.height)
@@ -160,7 +161,7 @@ across-all g table part row index columns all left =
           ∙ left.at x low;
     }
 
--- parts that go down ----------------------------------------------------------------------------------------------------------
+-- parts that go down --------------------------------------------------------------------------------------------------
 
 abbrev pub rest_down : Grid → Option (List ℕ) → List CompiledCell → ℕ → ℕ → ℕ → Bool
 rest_down g table part row index x = fits_from g table part (λ k. x * g.height + row + k * 1) (length part) index

@@ -1,5 +1,6 @@
 -- The place of a way: it fits where each part does, and is rewritten part by part.
-use Rattle.std.proofs.Common.{◌≡◌, ◌∙◌, ℕ, ◌+◌, ◌<◌, ◌*◌, ◌≤◌, ◌&&◌, Bool, true, Option, List, [], ◌∷◌, ◌++◌, length, map, drop, get_or, refl, sym, ap, ap₂, arith}
+use Rattle.std.proofs.Common.{◌≡◌, ◌∙◌, ℕ, ◌+◌, ◌<◌, ◌*◌, ◌≤◌, ◌&&◌, Bool, true, Option, List, [], ◌∷◌, ◌++◌, length}
+use Rattle.std.proofs.Common.{map, drop, get_or, refl, sym, ap, ap₂, arith}
 use Rattle.std.specs.Prelude.{All, slice_get}
 use Rattle.std.proofs.lemmas.List.{drop_all, drop_more, length-map}
 use Rattle.std.proofs.lemmas.List.FromFn.{length-map-range_with_len}
@@ -41,7 +42,8 @@ place-fits-way g table axis line [] [] e = refl
 place-fits-way g table axis line [] (p ∷ way) e = absurd (omega (arith, e))
 place-fits-way g table axis line (part ∷ parts) [] e = absurd (omega (arith, e))
 place-fits-way g table axis line (part ∷ parts) (p ∷ way) e =
-    fits_along-append g (part_meaning table part) (cells_meaning table parts) (line_cells axis g.height line p (length part))
+    fits_along-append g (part_meaning table part) (cells_meaning table parts)
+    (line_cells axis g.height line p (length part))
     (way_cells axis g.height line (part_sizes parts) way)
     (as_many table axis g.height line p part)
     ∙ ap (λ (b : Bool). part_fits g table axis line part p && b)

@@ -1,5 +1,6 @@
 -- The positions of a set from one on: those from another on behind them, and the next ones behind the first.
-use Rattle.std.proofs.Common.{◌≡◌, ◌∙◌, ℕ, ◌+◌, ◌-◌, ◌<◌, ◌≤◌, ◌&&◌, inl, inr, suc, zero, Bool, true, false, cond, List, [], ◌∷◌, ◌++◌, refl, sym, ap, ap₂, arith}
+use Rattle.std.proofs.Common.{◌≡◌, ◌∙◌, ℕ, ◌+◌, ◌-◌, ◌<◌, ◌≤◌, ◌&&◌, inl, inr, suc, zero, Bool, true, false, cond, List}
+use Rattle.std.proofs.Common.{[], ◌∷◌, ◌++◌, refl, sym, ap, ap₂, arith}
 use Rattle.std.specs.Prelude.{filter, nat_le, nat_lt, not}
 use Rattle.std.specs.List.{range_with_len}
 use Rattle.std.proofs.lemmas.Bool.{cases_Bool, cases_eq, cases_lt}
@@ -14,7 +15,7 @@ use Rattle.ps_places.specs.Ways.{from_first, positions_from}
 use Rattle.ps_places.proofs.FirstOf.{first-here, first-later, first-passes}
 use Rattle.ps_places.proofs.Ranges.{all_from}
 
--- a list filtered -----------------------------------------------------------------------------------------------------------
+-- a list filtered -----------------------------------------------------------------------------------------------------
 
 pub filter-kept : {X : Type 0} (test : X → Bool) (x : X) (xs : List X) → test x ≡ true →
     filter test (x ∷ xs) ≡ x ∷ filter test xs
@@ -49,7 +50,7 @@ filter-less f h (x ∷ xs) more = elim (cases_Bool (f x)) [
   ]
 ]
 
--- numbers in rising order -----------------------------------------------------------------------------------------------
+-- numbers in rising order ---------------------------------------------------------------------------------------------
 
 from_start : (f : ℕ → Bool) (a s n m : ℕ) → s ≤ a → m ≡ s + n - a →
     filter (λ x. nat_le a x) (filter f (range_with_len s n)) ≡ filter f (range_with_len a m)

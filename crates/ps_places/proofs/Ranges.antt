@@ -121,7 +121,7 @@ pub passing-agree : {X : Type 0} (f h : ℕ → List X) (test : ℕ → Bool) (x
 passing-agree f h test [] e = refl
 passing-agree f h test (x ∷ xs) e = agree_by f h test x xs (test x) refl e (passing-agree f h test xs e)
 
--- numbers that pass a test ----------------------------------------------------------------------------------------------------
+-- numbers that pass a test --------------------------------------------------------------------------------------------
 
 front_only : (test : ℕ → Bool) (a n m : ℕ) → n ≤ m → ((x : ℕ) → a + n ≤ x → test x ≡ false) →
     filter test (range_with_len a m) ≡ filter test (range_with_len a n)

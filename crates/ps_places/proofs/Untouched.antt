@@ -1,5 +1,6 @@
 -- Cells that lie behind those that are rewritten stay as they are.
-use Rattle.std.proofs.Common.{◌≡◌, ◌∙◌, ℕ, ◌+◌, ◌-◌, ◌*◌, ◌<◌, ◌≤◌, ◌&&◌, suc, zero, Bool, true, false, Option, Some, None}
+use Rattle.std.proofs.Common.{◌≡◌, ◌∙◌, ℕ, ◌+◌, ◌-◌, ◌*◌, ◌<◌, ◌≤◌, ◌&&◌, suc, zero, Bool, true, false, Option, Some}
+use Rattle.std.proofs.Common.{None}
 use Rattle.std.proofs.Common.{List, [], ◌∷◌, drop, get_or, length, map, refl, sym, ap, ap₂, arith}
 use Rattle.std.specs.Prelude.{slice_get, ⊤}
 use Rattle.std.specs.List.{range_with_len}
@@ -35,7 +36,7 @@ AreFrom start (cell ∷ cells) = (start ≤ cell) × AreFrom start cells
 abbrev pub AgreeFrom : ℕ → Grid → Grid → Type 0
 AgreeFrom start g h = (n : ℕ) → start ≤ n → slice_get h.cells n ≡ slice_get g.cells n
 
--- what is rewritten ----------------------------------------------------------------------------------------------------------
+-- what is rewritten ---------------------------------------------------------------------------------------------------
 
 -- one cell
 pub agree-cell : (r : Rewritten) (m : CellMeaning) (number start : ℕ) (cell : Option (List Slot)) → number < start →
@@ -54,7 +55,7 @@ agree-along r (m ∷ ms) (cell ∷ cells) start low n high =
     agree-along (rewritten_cell r m cell found) ms cells start low.1 n high
     ∙ agree-cell r m cell start found low.0 n high
 
--- what lies behind it fits as before ---------------------------------------------------------------------------------------
+-- what lies behind it fits as before ----------------------------------------------------------------------------------
 
 pub fits-agree : (g h : Grid) (ms : List CellMeaning) (cells : List ℕ) (start : ℕ) → AgreeFrom start g h →
     AreFrom start cells → fits_along h ms cells ≡ fits_along g ms cells
@@ -65,7 +66,7 @@ fits-agree g h (m ∷ ms) (cell ∷ cells) start same far =
     ap₂ (λ (a b : Bool). elim a [ true ↦ b | false ↦ false ]) (ap (fits_there m) (same cell far.0))
     (fits-agree g h ms cells start same far.1)
 
--- cells of a line ------------------------------------------------------------------------------------------------------------
+-- cells of a line -----------------------------------------------------------------------------------------------------
 
 from-cells : (first step start a n : ℕ) → start ≤ first →
     AreFrom start (map (λ k. first + k * step) (range_with_len a n))
@@ -126,7 +127,8 @@ pub part-agree : (g h : Grid) (table : Option (List ℕ)) (axis : Axis) (line : 
     (from position : ℕ) → h.height ≡ g.height → AgreeFrom (cell_on axis g.height line from) g h → from ≤ position →
     part_fits h table axis line part position ≡ part_fits g table axis line part position
 part-agree g h table axis line part from position high same far =
-    ap (λ (height : ℕ). fits_along h (part_meaning table part) (line_cells axis height line position (length part))) high
+    ap (λ (height : ℕ). fits_along h (part_meaning table part) (line_cells axis height line position (length part)))
+    high
     ∙ fits-agree g h (part_meaning table part) (line_cells axis g.height line position (length part))
     (cell_on axis g.height line from) same
     (cells-from (cell_on axis g.height line position) (step_along axis g.height) (length part)
@@ -144,9 +146,10 @@ way-agree g h table axis line (part ∷ parts) (p ∷ way) from high same spaced
     let later : cell_on axis g.height line from ≤ cell_on axis g.height line (p + length part) =
     cell-behind axis g.height line from (p + length part) far in
     ap₂ (λ (a b : Bool). a && b) (part-agree g h table axis line part from p high same spaced.0)
-    (way-agree g h table axis line parts way (p + length part) high (λ n low. same n (omega (arith, later, low))) spaced.1)
+    (way-agree g h table axis line parts way (p + length part) high (λ n low.
+    same n (omega (arith, later, low))) spaced.1)
 
--- what is left of a part and of a way -----------------------------------------------------------------------------------------
+-- what is left of a part and of a way ---------------------------------------------------------------------------------
 
 -- behind a cell that is rewritten, what is left fits as before
 pub left-fits : (r : Rewritten) (m : CellMeaning) (table : Option (List ℕ)) (part : List CompiledCell)

@@ -1,5 +1,7 @@
--- The first way at which the parts of a row fit, and the next one behind a way, from the ways of the parts behind the first one.
-use Rattle.std.proofs.Common.{◌≡◌, ◌∙◌, ℕ, ◌+◌, Bool, true, false, Option, List, [], ◌∷◌, length, refl, sym, ap, ap₂, arith}
+-- The first way at which the parts of a row fit, and the next one behind a way, from the ways of the parts behind the
+-- first one.
+use Rattle.std.proofs.Common.{◌≡◌, ◌∙◌, ℕ, ◌+◌, Bool, true, false, Option, List, [], ◌∷◌, length, refl, sym, ap, ap₂}
+use Rattle.std.proofs.Common.{arith}
 use Rattle.ps_model.specs.board.Grid.{Grid}
 use Rattle.ps_program.specs.declared.cells.CompiledCell.{CompiledCell}
 use Rattle.ps_program.specs.declared.rows.Axis.{Axis}
@@ -7,7 +9,8 @@ use Rattle.ps_places.specs.Lines.{part_fits}
 use Rattle.ps_places.specs.FittingWays.{way_fits}
 use Rattle.ps_places.specs.RowPlaces.{part_sizes}
 use Rattle.ps_places.specs.Ways.{from_first, positions_from, ways_behind, ways_from}
-use Rattle.ps_places.proofs.NextWays.{IsMadeOf, first_way-found, first_way-no_position, first_way-none, next_way-none, next_way-others, next_way-unfit}
+use Rattle.ps_places.proofs.NextWays.{IsMadeOf, first_way-found, first_way-no_position, first_way-none, next_way-none}
+use Rattle.ps_places.proofs.NextWays.{next_way-others, next_way-unfit}
 
 made : (g : Grid) (table : Option (List ℕ)) (axis : Axis) (line : ℕ) (part : List CompiledCell)
     (others : List (List CompiledCell)) →

@@ -10,4 +10,5 @@ abbrev pub way_fits : Grid → Option (List ℕ) → Axis → ℕ → List (List
 way_fits g table axis line [] [] = true
 way_fits g table axis line [] (position ∷ way) = false
 way_fits g table axis line (part ∷ parts) [] = false
-way_fits g table axis line (part ∷ parts) (position ∷ way) = part_fits g table axis line part position && way_fits g table axis line parts way
+way_fits g table axis line (part ∷ parts) (position ∷ way) =
+    part_fits g table axis line part position && way_fits g table axis line parts way

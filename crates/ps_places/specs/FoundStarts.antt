@@ -39,7 +39,8 @@ pub record BeginInSets (g : Grid) (table : Option (List ℕ)) (axis : Axis) (par
     (sets : ℕ → List Bool) (count : ℕ) : Type 0 where
   pub at : (number : ℕ) → number < count → AreWhere (begins_on g table axis line (part_of parts number)) (sets number)
 
--- a line is one of those found, and the first parts begin there at the positions of their sets; or else a part begins nowhere
+-- a line is one of those found, and the first parts begin there at the positions of their sets; or else a part begins
+-- nowhere
 -- on it
 pub record IsLineFound (g : Grid) (table : Option (List ℕ)) (axis : Axis) (parts : List (List CompiledCell))
     (starts : List (List Bool)) (lines : List Bool) (count line : ℕ) : Type 0 where
@@ -58,7 +59,8 @@ pub record HaveWaysOnlyOn (g : Grid) (table : Option (List ℕ)) (axis : Axis) (
     (rows : List Bool) : Type 0 where
   pub at : (row : ℕ) → row < line_count axis g → column_at rows row ≡ false → HasNoWay g table axis parts row
 
--- the set of a column with a row added, if the column is one of these: in place of what stood there, where nothing was found
+-- the set of a column with a row added, if the column is one of these: in place of what stood there, where nothing was
+-- found
 -- yet
 abbrev pub with_row : List Bool → List Bool → ℕ → List Bool → ℕ → List Bool
 with_row columns found row set x =
@@ -71,7 +73,8 @@ pub record IsRowAdded (old : List (List Bool)) (count number : ℕ) (columns fou
       ≡ with_row columns found row (set_of old count x number) x
   pub others : (x other : ℕ) → other < count → other ≢ number → set_of new count x other ≡ set_of old count x other
 
--- a part that goes down begins in columns of a set at the positions of its sets, if the column is found, and else nowhere; the
+-- a part that goes down begins in columns of a set at the positions of its sets, if the column is found, and else
+-- nowhere; the
 -- columns found are of those, and no other set changes
 pub record IsPartFound (g : Grid) (table : Option (List ℕ)) (part : List CompiledCell) (within : List Bool)
     (count number : ℕ) (old new : List (List Bool)) (found : List Bool) : Type 0 where

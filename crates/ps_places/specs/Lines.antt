@@ -1,4 +1,5 @@
--- The lines of a board along an axis: its columns, whose cells follow each other downwards, or its rows, whose cells follow each
+-- The lines of a board along an axis: its columns, whose cells follow each other downwards, or its rows, whose cells
+-- follow each
 -- other to the right. A cell has a position on its line, counted from the line's topmost or leftmost cell.
 use Rattle.std.specs.Prelude.{ℕ, ◌+◌, ◌*◌, Bool, Option, List, map, length}
 use Rattle.std.specs.List.{range_with_len}
@@ -48,4 +49,5 @@ part_meaning table part = map (cell_meaning table) part
 
 -- a part of a rule fits, its first cell at a position of a line
 abbrev pub part_fits : Grid → Option (List ℕ) → Axis → ℕ → List CompiledCell → ℕ → Bool
-part_fits g table axis line part position = fits_along g (part_meaning table part) (line_cells axis g.height line position (length part))
+part_fits g table axis line part position = fits_along g (part_meaning table part)
+    (line_cells axis g.height line position (length part))

@@ -16,7 +16,9 @@ pub record AreLines (g : Grid) (axis : Axis) (lines : List Bool) : Type 0 where
 abbrev pub place_on : Axis → ℕ → List (List CompiledCell) → ℕ → List ℕ → List ℕ
 place_on axis height parts line way = way_cells axis height line (part_sizes parts) way
 
-abbrev pub places_after : Axis → ℕ → List (List CompiledCell) → List (List Bool) → List Bool → ℕ → List ℕ → List (List ℕ)
+abbrev pub places_after : Axis → ℕ → List (List CompiledCell) → List (List Bool) → List Bool → ℕ → List ℕ →
+    List (List ℕ)
 places_after axis height parts starts lines line way =
-    map (way_cells axis height line (part_sizes parts)) (ways_behind (sets_on starts (length parts) line) (part_sizes parts) way)
+    map (way_cells axis height line (part_sizes parts))
+    (ways_behind (sets_on starts (length parts) line) (part_sizes parts) way)
     ++ places_on_lines axis height parts starts (positions_from lines (line + 1))

@@ -16,15 +16,17 @@ use Rattle.ps_model.specs.meaning.Fitting.{same_motion}
 use Rattle.ps_model.specs.meaning.Compiled.{CellMask, CellWrite, is_gone}
 use Rattle.ps_program.specs.Leaving.{keeps_object}
 
--- objects ------------------------------------------------------------------------------------------------------------------
+-- objects -------------------------------------------------------------------------------------------------------------
 
 -- the write is of another layer, or leaves one of the objects there, where that one stands
 abbrev pub keeps_one : List LayeredObject → LayeredObject → LayerWrite → Bool
-keeps_one objects one write = not (nat_eq (write.layer).0 (one.layer).0) || keeps_object objects write.layer write.object
+keeps_one objects one write = not (nat_eq (write.layer).0 (one.layer).0) || keeps_object objects write.layer
+    write.object
 
 -- where an object of the list stands, one of the list stands there afterwards
 abbrev pub stays_among : CellWrite → List LayeredObject → LayeredObject → Bool
-stays_among write objects one = not (is_gone write.gone (one.layer).0 one.object) && list_all (keeps_one objects one) write.layers
+stays_among write objects one = not (is_gone write.gone (one.layer).0 one.object) && list_all (keeps_one objects one)
+    write.layers
 
 abbrev pub stays : CellWrite → LayeredObject → Bool
 stays write one = stays_among write (one ∷ []) one
@@ -46,7 +48,7 @@ puts_not one write = not (nat_eq (write.layer).0 (one.layer).0) || puts_other on
 abbrev pub comes_not : CellWrite → LayeredObject → Bool
 comes_not write one = list_all (puts_not one) write.layers
 
--- motions ------------------------------------------------------------------------------------------------------------------
+-- motions -------------------------------------------------------------------------------------------------------------
 
 -- the motion is rest
 abbrev pub is_rest : Motion → Bool
@@ -80,7 +82,8 @@ keeps_asked test write =
 
 -- where a layer has the motion that is asked for, it has it afterwards
 abbrev pub motion_stays : CellWrite → MotionTest → Bool
-motion_stays write test = (is_rest test.motion || not (frees write test.layer)) && list_all (keeps_asked test) write.layers
+motion_stays write test = (is_rest test.motion || not (frees write test.layer)) && list_all (keeps_asked test)
+    write.layers
 
 -- the write is of another layer, or doesn't give it the motion that is asked for
 abbrev pub gives_not : MotionTest → LayerWrite → Bool
@@ -90,9 +93,10 @@ gives_not test write =
 
 -- where a layer hasn't the motion that is asked for, it hasn't it afterwards
 abbrev pub motion_comes_not : CellWrite → MotionTest → Bool
-motion_comes_not write test = (not (is_rest test.motion) || not (frees write test.layer)) && list_all (gives_not test) write.layers
+motion_comes_not write test = (not (is_rest test.motion) || not (frees write test.layer)) && list_all (gives_not test)
+    write.layers
 
--- masks --------------------------------------------------------------------------------------------------------------------
+-- masks ---------------------------------------------------------------------------------------------------------------
 
 -- a write keeps a mask: what it needs stays, what it bars doesn't come, and motions stay
 abbrev pub write_keeps : CellWrite → CellMask → Bool

@@ -38,7 +38,8 @@ keeps_motion tests layer (Some motion) = list_any (is_test_of layer motion) test
 
 -- so the layer stays as it is where the mask fits
 abbrev pub keeps_layer : CellMask → LayerWrite → Bool
-keeps_layer mask write = keeps_object mask.needed write.layer write.object && keeps_motion mask.motions write.layer write.motion
+keeps_layer mask write = keeps_object mask.needed write.layer write.object && keeps_motion mask.motions write.layer
+    write.motion
 
 -- a write leaves what a mask fits: what would go is barred, and each layer that is written stays
 abbrev pub write_leaves : CellMask → CellWrite → Bool

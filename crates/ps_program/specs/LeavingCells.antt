@@ -9,4 +9,5 @@ use Rattle.ps_program.specs.ProgramShown.{mask_shown, write_shown}
 abbrev pub LeavesWhatItFits : Type 0
 LeavesWhatItFits =
     (compiled : CompiledCell) → compiled.changes ≡ false →
-    (cell : List Slot) → mask_fits (mask_shown compiled.mask) cell ≡ true → cell_written (write_shown compiled.write) cell ≡ cell
+    (cell : List Slot) → mask_fits (mask_shown compiled.mask) cell ≡ true →
+    cell_written (write_shown compiled.write) cell ≡ cell

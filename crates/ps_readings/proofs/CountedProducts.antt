@@ -27,7 +27,8 @@ left_by a (suc b) true e =
     let more : RULE_READINGS_LIMIT < a = grind (arith, nat_tests) in
     let p : RULE_READINGS_LIMIT < (RULE_READINGS_LIMIT + 1) * suc b = omega arith in
     let q : a * suc b ≡ a + a * b = omega arith in
-    ap (λ (n : ℕ). counted (n * suc b)) c ∙ over ((RULE_READINGS_LIMIT + 1) * suc b) p ∙ sym (over (a * suc b) (omega arith))
+    ap (λ (n : ℕ). counted (n * suc b)) c ∙ over ((RULE_READINGS_LIMIT + 1) * suc b) p
+    ∙ sym (over (a * suc b) (omega arith))
 
 pub counted-left : (a b : ℕ) → counted (counted a * b) ≡ counted (a * b)
 counted-left a b = left_by a b _ refl
@@ -36,13 +37,16 @@ pub counted-right : (a b : ℕ) → counted (a * counted b) ≡ counted (a * b)
 counted-right a b = ap counted (mul_comm a (counted b)) ∙ counted-left b a ∙ ap counted (mul_comm b a)
 
 -- the next factor
-pub counted-step : (a w next counts rest : ℕ) → next ≡ counted (a * w) → w ≡ counted counts → counted (next * rest) ≡ counted (a * (counts * rest))
+pub counted-step : (a w next counts rest : ℕ) → next ≡ counted (a * w) → w ≡ counted counts →
+    counted (next * rest) ≡ counted (a * (counts * rest))
 counted-step a w next counts rest e d =
-    ap (λ (n : ℕ). counted (n * rest)) (e ∙ ap (λ (n : ℕ). counted (a * n)) d ∙ counted-right a counts) ∙ counted-left (a * counts) rest ∙ ap counted (mul_assoc a counts rest)
+    ap (λ (n : ℕ). counted (n * rest)) (e ∙ ap (λ (n : ℕ). counted (a * n)) d ∙ counted-right a counts)
+    ∙ counted-left (a * counts) rest ∙ ap counted (mul_assoc a counts rest)
 
 -- the product of two counts
 pub counted-both : (a b m n : ℕ) → a ≡ counted m → b ≡ counted n → counted (a * b) ≡ counted (m * n)
-counted-both a b m n e d = ap (λ (n : ℕ). counted (n * b)) e ∙ counted-left m b ∙ ap (λ (n : ℕ). counted (m * n)) d ∙ counted-right m n
+counted-both a b m n e d = ap (λ (n : ℕ). counted (n * b)) e ∙ counted-left m b ∙ ap (λ (n : ℕ). counted (m * n)) d
+    ∙ counted-right m n
 
 -- a count that stops where it should is counted already
 pub counted-already : (next n : ℕ) → next ≡ counted n → counted next ≡ next

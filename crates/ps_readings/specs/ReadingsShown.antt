@@ -3,4 +3,9 @@ use Rattle.ps_model.specs.meaning.Readings as model
 use Rattle.ps_readings.specs.declared.reading.Reading.{Reading}
 
 abbrev pub reading_shown : Reading → model.Reading
-reading_shown reading = record { direction = reading.direction; moves = reading.moves.items; members = reading.members.items }
+reading_shown reading = record {
+  direction = reading.direction;
+  moves = reading.moves.items;
+  members =
+      reading.members.items;
+}

@@ -37,7 +37,8 @@ use Rattle.ps_model.specs.declared.limits.TheConstants.{SIDE_LIMIT}
 -- rows ----------------------------------------------------------------------------------------------------------------
 
 -- two sets that differ in no column of so many from the left on, and two that are the same there
-pub rows_same : (width : ℕ) (a b : List Bool) → width ≤ SIDE_LIMIT → set_columns (both_columns (unlike_columns a b) (columns_below width)) ≡ [] → AreSameRows width a b
+pub rows_same : (width : ℕ) (a b : List Bool) → width ≤ SIDE_LIMIT →
+    set_columns (both_columns (unlike_columns a b) (columns_below width)) ≡ [] → AreSameRows width a b
 rows_same width a b narrow none = λ x h.
     let low : x < SIDE_LIMIT = omega (arith, h, narrow) in
     not_unlike a b x low
@@ -46,7 +47,8 @@ rows_same width a b narrow none = λ x h.
     ∙ sym (both_at (unlike_columns a b) (columns_below width) x low)
     ∙ none_in (both_columns (unlike_columns a b) (columns_below width)) x none low)
 
-pub same_rows : (width : ℕ) (a b : List Bool) → AreSameRows width a b → set_columns (both_columns (unlike_columns a b) (columns_below width)) ≡ []
+pub same_rows : (width : ℕ) (a b : List Bool) → AreSameRows width a b →
+    set_columns (both_columns (unlike_columns a b) (columns_below width)) ≡ []
 same_rows width a b same =
     empty_of (both_columns (unlike_columns a b) (columns_below width))
     (λ x low.
@@ -61,7 +63,8 @@ same_rows width a b same =
 -- planes --------------------------------------------------------------------------------------------------------------
 
 -- cells of planes that are the same
-cell_of_plane : (width height : ℕ) (first second : List (List Bool)) (plane cell : ℕ) → 0 < height → cell < width * height →
+cell_of_plane : (width height : ℕ) (first second : List (List Bool)) (plane cell : ℕ) → 0 < height →
+    cell < width * height →
     IsSamePlane width height first second plane →
     has_cell height first cell plane ≡ has_cell height second cell plane
 unfolding has_cell
@@ -119,12 +122,14 @@ pub other_whole : (table table' : List ℕ) (layers layers' height height' long 
 other_whole table table' layers layers' height height' long a b c whole = whole ∙ rw (a, b, c) refl
 
 -- what another board of the same size for the same game keeps of its words
-pub other_objects : (table table' : List ℕ) (width width' height height' : ℕ) (words : List (List Bool)) → table' ≡ table →
+pub other_objects : (table table' : List ℕ) (width width' height height' : ℕ) (words : List (List Bool)) →
+    table' ≡ table →
     width' ≡ width → height' ≡ height →
     AreObjectsShown table' height' words (width' * height') → AreObjectsShown table height words (width * height)
 other_objects table table' width width' height height' words a b c shown = let turned = rw (a, b, c) at shown in turned
 
-pub other_motions : (table table' : List ℕ) (width width' height height' layers layers' : ℕ) (words : List (List Bool)) →
+pub other_motions : (table table' : List ℕ) (width width' height height' layers layers' : ℕ) (words : List (List Bool))
+    →
     table' ≡ table → width' ≡ width → height' ≡ height → layers' ≡ layers →
     AreMotionsShown table' layers' height' words (width' * height') →
     AreMotionsShown table layers height words (width * height)
@@ -182,7 +187,8 @@ five_low first q h = elim (cases_lt q first) [
   | inr b ↦ b
 ]
 
-pub same_moves : (table : List ℕ) (width height layers : ℕ) (first second : List (List Bool)) (layer : ℕ) → layer < layers →
+pub same_moves : (table : List ℕ) (width height layers : ℕ) (first second : List (List Bool)) (layer : ℕ) →
+    layer < layers →
     AreMotionsShown table layers height first (width * height) →
     AreMotionsShown table layers height second (width * height) → IsSameLayer table width height first second layer →
     AreSamePlanes width height first second (motion_planes (motions_from table layer))
@@ -213,7 +219,8 @@ board_same table width height layers first second same =
     (λ layer on. same layer on cell inside))))
     ∙ same_cells-own (cells_shown table layers height first (width * height)))
 
-layer_of_board : (table : List ℕ) (width height layers : ℕ) (first second : List (List Bool)) (layer : ℕ) → layer < layers →
+layer_of_board : (table : List ℕ) (width height layers : ℕ) (first second : List (List Bool)) (layer : ℕ) →
+    layer < layers →
     cells_shown table layers height first (width * height) ≡ cells_shown table layers height second (width * height) →
     IsSameLayer table width height first second layer
 layer_of_board table width height layers first second layer on same = λ cell inside.
@@ -221,7 +228,8 @@ layer_of_board table width height layers first second layer on same = λ cell in
     ∙ ap (λ (cells : List (List Slot)). get_or (get_or cells cell []) layer Bare) same
     ∙ slot_read table layers height second (width * height) cell layer inside on
 
-pub board_other : (table : List ℕ) (width height layers : ℕ) (first second : List (List Bool)) (layer : ℕ) (told : Bool) →
+pub board_other : (table : List ℕ) (width height layers : ℕ) (first second : List (List Bool)) (layer : ℕ)
+    (told : Bool) →
     layer < layers → told ≡ false →
     (IsSameLayer table width height first second layer → told ≡ true) →
     false ≡ shown_same table width height layers first second

@@ -1,8 +1,10 @@
 -- Lists of numbers, as what is looked for in them.
-use Rattle.std.proofs.Common.{◌≡◌, ℕ, zero, suc, ◌+◌, ◌<◌, ◌≤◌, inl, inr, Bool, true, Option, Some, None, List, [], ◌∷◌, refl, sym, ap, ◌∙◌, arith, filter}
+use Rattle.std.proofs.Common.{◌≡◌, ℕ, zero, suc, ◌+◌, ◌<◌, ◌≤◌, inl, inr, Bool, true, Option, Some, None, List, [], ◌∷◌}
+use Rattle.std.proofs.Common.{refl, sym, ap, ◌∙◌, arith, filter}
 use Rattle.std.specs.Prelude.{nat_eq, find}
 use Rattle.std.specs.List.{list_any, range_with_len}
-use Rattle.std.proofs.lemmas.Bool.{cases_eq, cases_Bool, eqb-true, eq-eqb, ne_eqb, or_left, or_right, or_cases, false≢true}
+use Rattle.std.proofs.lemmas.Bool.{cases_eq, cases_Bool, eqb-true, eq-eqb, ne_eqb, or_left, or_right, or_cases}
+use Rattle.std.proofs.lemmas.Bool.{false≢true}
 use Rattle.std.proofs.lemmas.Option.{none-some, same_Some}
 use Rattle.ps_model.specs.board.Movement.{is_number}
 
@@ -27,7 +29,8 @@ listed_passes p (x ∷ xs) o h = elim (cases_Bool (p x)) [
 ]
 
 -- and what passes is let through
-pub listed_range : (p : ℕ → Bool) (a n o : ℕ) → a ≤ o → o < a + n → p o ≡ true → list_any (nat_eq o) (filter p (range_with_len a n)) ≡ true
+pub listed_range : (p : ℕ → Bool) (a n o : ℕ) → a ≤ o → o < a + n → p o ≡ true →
+    list_any (nat_eq o) (filter p (range_with_len a n)) ≡ true
 listed_range p a zero o low high pass = absurd (omega arith)
 listed_range p a (suc n) o low high pass = elim (cases_eq o a) [
   | inl e ↦
@@ -44,11 +47,13 @@ listed_range p a (suc n) o low high pass = elim (cases_eq o a) [
 ]
 
 -- two tests that agree on a list find the same
-pub find_same : (f g : ℕ → Bool) (xs : List ℕ) → ((o : ℕ) → list_any (nat_eq o) xs ≡ true → f o ≡ g o) → find f xs ≡ find g xs
+pub find_same : (f g : ℕ → Bool) (xs : List ℕ) → ((o : ℕ) → list_any (nat_eq o) xs ≡ true → f o ≡ g o) →
+    find f xs ≡ find g xs
 find_same f g [] agree = refl
 find_same f g (x ∷ xs) agree =
     let here : f x ≡ g x = agree x (or_left (nat_eq x x) (list_any (nat_eq x) xs) (eq-eqb x x refl)) in
-    let later : find f xs ≡ find g xs = find_same f g xs (λ o h. agree o (or_right (nat_eq o x) (list_any (nat_eq o) xs) h)) in
+    let later : find f xs ≡ find g xs = find_same f g xs (λ o h.
+    agree o (or_right (nat_eq o x) (list_any (nat_eq o) xs) h)) in
     rw (here, later) refl
 
 find_number : (o : ℕ) (xs : List ℕ) → list_any (nat_eq o) xs ≡ true → find (is_number (Some o)) xs ≡ Some o
@@ -63,7 +68,8 @@ find_none [] = refl
 find_none (x ∷ xs) = find_none xs
 
 -- what is looked for by its number is found
-pub find_object : (object : Option ℕ) (xs : List ℕ) → ((o : ℕ) → object ≡ Some o → list_any (nat_eq o) xs ≡ true) → find (is_number object) xs ≡ object
+pub find_object : (object : Option ℕ) (xs : List ℕ) → ((o : ℕ) → object ≡ Some o → list_any (nat_eq o) xs ≡ true) →
+    find (is_number object) xs ≡ object
 find_object None xs listed = find_none xs
 find_object (Some o) xs listed = find_number o xs (listed o refl)
 
@@ -71,6 +77,7 @@ find_object (Some o) xs listed = find_number o xs (listed o refl)
 pub find_listed : (f : ℕ → Bool) (xs : List ℕ) (o : ℕ) → find f xs ≡ Some o → list_any (nat_eq o) xs ≡ true
 find_listed f [] o h = absurd (none-some o h)
 find_listed f (x ∷ xs) o h = elim (cases_Bool (f x)) [
-  | inl pass ↦ let here = rw pass at h in or_left (nat_eq o x) (list_any (nat_eq o) xs) (eq-eqb o x (sym (same_Some x o here)))
+  | inl pass ↦ let here = rw pass at h in or_left (nat_eq o x) (list_any (nat_eq o) xs)
+      (eq-eqb o x (sym (same_Some x o here)))
   | inr fail ↦ let later = rw fail at h in or_right (nat_eq o x) (list_any (nat_eq o) xs) (find_listed f xs o later)
 ]

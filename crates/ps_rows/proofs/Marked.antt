@@ -1,5 +1,6 @@
 -- The index of the rows of planes, behind a change of the planes.
-use Rattle.std.proofs.Common.{◌≡◌, ◌≢◌, ◌∙◌, ℕ, ◌+◌, ◌*◌, ◌<◌, ◌≤◌, inl, inr, false, not, List, length, replicate, sym, ap, arith, Bool, true, subst, []}
+use Rattle.std.proofs.Common.{◌≡◌, ◌≢◌, ◌∙◌, ℕ, ◌+◌, ◌*◌, ◌<◌, ◌≤◌, inl, inr, false, not, List, length, replicate, sym}
+use Rattle.std.proofs.Common.{ap, arith, Bool, true, subst, []}
 use Rattle.std.specs.Prelude.{slice_set}
 use Rattle.std.proofs.Math.Nat.{mul-le-mul_left}
 use Rattle.std.proofs.lemmas.Bool.{cases_eq, cases_lt, not-false}
@@ -15,54 +16,70 @@ use Rattle.ps_model.specs.declared.limits.TheConstants.{SIDE_LIMIT}
 use Rattle.ps_rows.specs.Planes.{AreSets, IsSet, row_of}
 
 -- a plane that stands whole in the words has its word in the index
-pub plane_indexed : (count height plane long : ℕ) → 0 < height → long ≡ count * height → (plane + 1) * height ≤ long → plane < count
+pub plane_indexed : (count height plane long : ℕ) → 0 < height → long ≡ count * height → (plane + 1) * height ≤ long →
+    plane < count
 plane_indexed count height plane long some whole enough = elim (cases_lt plane count) [
   | inl below ↦ below
   | inr beyond ↦ let more : height * count ≤ height * plane = mul-le-mul_left height beyond in absurd (omega arith)
 ]
 
 -- and so has each plane of a board
-pub planes_indexed : (table : List ℕ) (layers height long count : ℕ) → 0 < height → long ≡ count * height → long ≡ motions_from table layers * height → motions_from table layers ≤ count
+pub planes_indexed : (table : List ℕ) (layers height long count : ℕ) → 0 < height → long ≡ count * height →
+    long ≡ motions_from table layers * height → motions_from table layers ≤ count
 planes_indexed table layers height long count some whole shown = elim (cases_lt count (motions_from table layers)) [
   | inl below ↦
-      let less : count < count = plane_indexed count height count long some whole (plane_whole table layers height long count shown below) in
+      let less : count < count = plane_indexed count height count long some whole
+      (plane_whole table layers height long count shown below) in
       omega arith
   | inr enough ↦ enough
 ]
 
 -- behind a change of one row of a plane each row is a set
-pub sets_row : (words : List (List Bool)) (place : ℕ) (word : List Bool) → place < length words → IsSet word → AreSets words → AreSets (slice_set words place word)
+pub sets_row : (words : List (List Bool)) (place : ℕ) (word : List Bool) → place < length words → IsSet word →
+    AreSets words → AreSets (slice_set words place word)
 sets_row words place word within is are = λ i. elim (cases_eq i place) [
   | inl e ↦
       let P : List Bool → Type 0 = λ set. IsSet set in
-      let now : row_of (slice_set words place word) i ≡ word = ap (λ (k : ℕ). row_of (slice_set words place word) k) e ∙ get_or-set_same words place word no_columns within in
+      let now : row_of (slice_set words place word) i ≡ word = ap (λ (k : ℕ). row_of (slice_set words place word) k) e
+      ∙ get_or-set_same words place word no_columns within in
       subst P (sym now) is
   | inr n ↦
-      let P : List Bool → Type 0 = λ set. IsSet set in subst P (sym (get_or-set_other words place i word no_columns n)) (are i)
+      let P : List Bool → Type 0 = λ set. IsSet set in
+      subst P (sym (get_or-set_other words place i word no_columns n)) (are i)
 ]
 
 -- and each row without a mark is empty
-pub marked_row : (count height : ℕ) (words index : List (List Bool)) (plane row : ℕ) (word : List Bool) (empty : Bool) → height ≤ SIDE_LIMIT → row < height → plane < length index →
-    plane * height + row < length words → IsSet word → (empty ≡ true → set_columns word ≡ []) → AreRowsMarked count height words index →
-    AreRowsMarked count height (slice_set words (plane * height + row) word) (slice_set index plane (with_column (row_of index plane) row (not empty)))
-marked_row count height words index plane row word empty short under own within is told marked = λ o y below inside clear.
+pub marked_row : (count height : ℕ) (words index : List (List Bool)) (plane row : ℕ) (word : List Bool) (empty : Bool)
+    → height ≤ SIDE_LIMIT → row < height → plane < length index →
+    plane * height + row < length words → IsSet word → (empty ≡ true → set_columns word ≡ []) →
+    AreRowsMarked count height words index →
+    AreRowsMarked count height (slice_set words (plane * height + row) word)
+    (slice_set index plane (with_column (row_of index plane) row (not empty)))
+marked_row count height words index plane row word empty short under own within is told marked =
+    λ o y below inside clear.
     let mark : List Bool = with_column (row_of index plane) row (not empty) in
     let low : row < SIDE_LIMIT = omega (arith, under, short) in
     let y_low : y < SIDE_LIMIT = omega (arith, inside, short) in
-    let elsewhere : o * height + y ≢ plane * height + row → column_at (row_of index o) y ≡ false → row_of (slice_set words (plane * height + row) word) (o * height + y) ≡ no_columns =
-    λ apart unmarked. get_or-set_other words (plane * height + row) (o * height + y) word no_columns apart ∙ marked o y below inside unmarked in
+    let elsewhere : o * height + y ≢ plane * height + row → column_at (row_of index o) y ≡ false →
+    row_of (slice_set words (plane * height + row) word) (o * height + y) ≡ no_columns =
+    λ apart unmarked. get_or-set_other words (plane * height + row) (o * height + y) word no_columns apart
+    ∙ marked o y below inside unmarked in
     elim (cases_eq o plane) [
       | inl e ↦
           let there : column_at mark y ≡ false =
-          ap (λ (w : List Bool). column_at w y) (sym (ap (λ (p : ℕ). row_of (slice_set index plane mark) p) e ∙ get_or-set_same index plane mark no_columns own)) ∙ clear in
+          ap (λ (w : List Bool). column_at w y)
+          (sym (ap (λ (p : ℕ). row_of (slice_set index plane mark) p) e
+          ∙ get_or-set_same index plane mark no_columns own)) ∙ clear in
           elim (cases_eq y row) [
             | inl f ↦
-                let silent : not empty ≡ false = sym (with_same (row_of index plane) row (not empty) low) ∙ sym (ap (column_at mark) f) ∙ there in
+                let silent : not empty ≡ false = sym (with_same (row_of index plane) row (not empty) low)
+                ∙ sym (ap (column_at mark) f) ∙ there in
                 let none : word ≡ no_columns = none_set word is (told (not-false empty silent)) in
                 rw (e, f) (get_or-set_same words (plane * height + row) word no_columns within ∙ none)
             | inr n ↦
                 elsewhere (λ same. n (same_from_place o y plane row height inside under same).1)
-                (ap (λ (p : ℕ). column_at (row_of index p) y) e ∙ sym (with_other (row_of index plane) row (not empty) y y_low n) ∙ there)
+                (ap (λ (p : ℕ). column_at (row_of index p) y) e
+                ∙ sym (with_other (row_of index plane) row (not empty) y y_low n) ∙ there)
           ]
       | inr n ↦
           elsewhere (λ same. n (same_from_place o y plane row height inside under same).0)
@@ -70,7 +87,8 @@ marked_row count height words index plane row word empty short under own within 
     ]
 
 -- without anything
-pub marked_none : (planes height count : ℕ) (index : List (List Bool)) → AreRowsMarked planes height (replicate count no_columns) index
+pub marked_none : (planes height count : ℕ) (index : List (List Bool)) →
+    AreRowsMarked planes height (replicate count no_columns) index
 marked_none planes height count index = λ o y below inside clear. blank_word count (o * height + y)
 
 pub sets_none : (count : ℕ) → AreSets (replicate count no_columns)

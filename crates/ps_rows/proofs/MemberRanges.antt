@@ -1,9 +1,11 @@
 -- The lists of the objects of layers, and how they are made.
-use Rattle.std.proofs.Common.{◌≡◌, ℕ, ◌+◌, ◌-◌, ◌<◌, ◌≤◌, inl, inr, Bool, true, false, cond, Some, List, [], ◌∷◌, ◌++◌, length, get_or, take, drop, refl, sym, ap, subst, ◌∙◌, arith, filter, append_assoc}
+use Rattle.std.proofs.Common.{◌≡◌, ℕ, ◌+◌, ◌-◌, ◌<◌, ◌≤◌, inl, inr, Bool, true, false, cond, Some, List, [], ◌∷◌, ◌++◌}
+use Rattle.std.proofs.Common.{length, get_or, take, drop, refl, sym, ap, subst, ◌∙◌, arith, filter, append_assoc}
 use Rattle.std.specs.Prelude.{nat_eq, slice_get, slice_range}
 use Rattle.std.specs.List.{list_any, range_with_len}
 use Rattle.std.proofs.lemmas.Bool.{cases_lt, false_from_ne_true}
-use Rattle.std.proofs.lemmas.List.{map-id, length-append, length-drop, get_or_append_left, get_or_push, drop-append-le, take-append-le, drop_at, take_all}
+use Rattle.std.proofs.lemmas.List.{map-id, length-append, length-drop, get_or_append_left, get_or_push, drop-append-le}
+use Rattle.std.proofs.lemmas.List.{take-append-le, drop_at, take_all}
 use Rattle.std.proofs.lemmas.List.Elements.{filter-append}
 use Rattle.std.proofs.lemmas.List.FromFn.{map-range_with_len_more}
 use Rattle.std.proofs.lemmas.Option.{slice_get_within, slice_get-get_or}
@@ -14,19 +16,25 @@ use Rattle.ps_rows.specs.Members.{on_layer, on_layer_below, IsRangeOf, AreRanges
 use Rattle.ps_rows.proofs.Listed.{listed_passes, listed_range}
 
 -- an object is listed with its layer, and with no other
-pub member_listed : (table : List ℕ) (layer object : ℕ) → slice_get table object ≡ Some layer → list_any (nat_eq object) (on_layer table layer) ≡ true
+pub member_listed : (table : List ℕ) (layer object : ℕ) → slice_get table object ≡ Some layer →
+    list_any (nat_eq object) (on_layer table layer) ≡ true
 unfolding on_layer on_layer_below
 member_listed table layer object h =
     let below : object < length table = slice_get_within table object layer h in
-    listed_range (λ o. is_number (slice_get table o) layer) 0 (length table) object (omega arith) (omega arith) (is_number-own (slice_get table object) layer h)
+    listed_range (λ o. is_number (slice_get table o) layer) 0 (length table) object (omega arith) (omega arith)
+    (is_number-own (slice_get table object) layer h)
 
-pub listed_member : (table : List ℕ) (layer object : ℕ) → list_any (nat_eq object) (on_layer table layer) ≡ true → slice_get table object ≡ Some layer
+pub listed_member : (table : List ℕ) (layer object : ℕ) → list_any (nat_eq object) (on_layer table layer) ≡ true →
+    slice_get table object ≡ Some layer
 unfolding on_layer on_layer_below
 listed_member table layer object h =
-    is_number-true (slice_get table object) layer (listed_passes (λ o. is_number (slice_get table o) layer) (range_with_len 0 (length table)) object h)
+    is_number-true (slice_get table object) layer
+    (listed_passes (λ o. is_number (slice_get table o) layer) (range_with_len 0 (length table)) object h)
 
-pub not_listed : (table : List ℕ) (layer object : ℕ) → (slice_get table object ≡ Some layer → ⊥) → list_any (nat_eq object) (on_layer table layer) ≡ false
-not_listed table layer object n = false_from_ne_true (list_any (nat_eq object) (on_layer table layer)) (λ h. n (listed_member table layer object h))
+pub not_listed : (table : List ℕ) (layer object : ℕ) → (slice_get table object ≡ Some layer → ⊥) →
+    list_any (nat_eq object) (on_layer table layer) ≡ false
+not_listed table layer object n = false_from_ne_true (list_any (nat_eq object) (on_layer table layer)) (λ h.
+    n (listed_member table layer object h))
 
 -- the list of one object more
 pub below_none : (table : List ℕ) (layer : ℕ) → on_layer_below table layer 0 ≡ []
@@ -39,29 +47,37 @@ below_all table layer = refl
 
 range_more : (n : ℕ) → range_with_len 0 (n + 1) ≡ range_with_len 0 n ++ n ∷ []
 range_more n =
-    sym (map-id (range_with_len 0 (n + 1))) ∙ map-range_with_len_more (λ (x : ℕ). x) 0 n n (omega arith) ∙ ap (λ (r : List ℕ). r ++ n ∷ []) (map-id (range_with_len 0 n))
+    sym (map-id (range_with_len 0 (n + 1))) ∙ map-range_with_len_more (λ (x : ℕ). x) 0 n n (omega arith)
+    ∙ ap (λ (r : List ℕ). r ++ n ∷ []) (map-id (range_with_len 0 n))
 
 pub below_more : (table : List ℕ) (layer n : ℕ) → n < length table →
-    on_layer_below table layer (n + 1) ≡ on_layer_below table layer n ++ cond (nat_eq (get_or table n 0) layer) (n ∷ []) []
+    on_layer_below table layer (n + 1) ≡ on_layer_below table layer n ++ cond (nat_eq (get_or table n 0) layer)
+    (n ∷ []) []
 unfolding on_layer_below
 below_more table layer n h =
     let passes : ℕ → Bool = λ o. is_number (slice_get table o) layer in
-    let own : is_number (slice_get table n) layer ≡ nat_eq (get_or table n 0) layer = rw (slice_get-get_or table n 0 h) refl in
+    let own : is_number (slice_get table n) layer ≡ nat_eq (get_or table n 0) layer =
+    rw (slice_get-get_or table n 0 h) refl in
     ap (filter passes) (range_more n) ∙ filter-append passes (range_with_len 0 n) (n ∷ [])
     ∙ ap (λ (b : Bool). filter passes (range_with_len 0 n) ++ cond b (n ∷ []) []) own
 
 -- one step of the loop over the objects
-pub members_more : (numbers old more table : List ℕ) (layer n : ℕ) → more ≡ numbers ++ cond (nat_eq (get_or table n 0) layer) (n ∷ []) [] →
+pub members_more : (numbers old more table : List ℕ) (layer n : ℕ) →
+    more ≡ numbers ++ cond (nat_eq (get_or table n 0) layer) (n ∷ []) [] →
     numbers ≡ old ++ on_layer_below table layer n → n < length table → more ≡ old ++ on_layer_below table layer (n + 1)
 members_more numbers old more table layer n e f h =
     let one : List ℕ = cond (nat_eq (get_or table n 0) layer) (n ∷ []) [] in
-    e ∙ ap (λ (ns : List ℕ). ns ++ one) f ∙ append_assoc old (on_layer_below table layer n) one ∙ ap (λ (ns : List ℕ). old ++ ns) (sym (below_more table layer n h))
+    e ∙ ap (λ (ns : List ℕ). ns ++ one) f ∙ append_assoc old (on_layer_below table layer n) one
+    ∙ ap (λ (ns : List ℕ). old ++ ns) (sym (below_more table layer n h))
 
-pub members_all : (numbers old table : List ℕ) (layer n : ℕ) → numbers ≡ old ++ on_layer_below table layer n → n ≡ length table → numbers ≡ old ++ on_layer table layer
-members_all numbers old table layer n f e = f ∙ ap (λ (k : ℕ). old ++ on_layer_below table layer k) e ∙ ap (λ (ns : List ℕ). old ++ ns) (below_all table layer)
+pub members_all : (numbers old table : List ℕ) (layer n : ℕ) → numbers ≡ old ++ on_layer_below table layer n →
+    n ≡ length table → numbers ≡ old ++ on_layer table layer
+members_all numbers old table layer n f e = f ∙ ap (λ (k : ℕ). old ++ on_layer_below table layer k) e
+    ∙ ap (λ (ns : List ℕ). old ++ ns) (below_all table layer)
 
 -- a range stays one where numbers are added
-range_stays : (table numbers more : List ℕ) (layer : ℕ) (range : MemberRange) → IsRangeOf table numbers layer range → IsRangeOf table (numbers ++ more) layer range
+range_stays : (table numbers more : List ℕ) (layer : ℕ) (range : MemberRange) → IsRangeOf table numbers layer range →
+    IsRangeOf table (numbers ++ more) layer range
 range_stays table numbers more layer range s =
     let order : range.start ≤ range.end = s.order in
     let within : range.end ≤ length numbers = s.within in
@@ -78,7 +94,8 @@ range_stays table numbers more layer range s =
     }
 
 -- the range of what was added last
-range_added : (table numbers : List ℕ) (layer : ℕ) (range : MemberRange) → range.start ≡ length numbers → range.end ≡ length (numbers ++ on_layer table layer) →
+range_added : (table numbers : List ℕ) (layer : ℕ) (range : MemberRange) → range.start ≡ length numbers →
+    range.end ≡ length (numbers ++ on_layer table layer) →
     IsRangeOf table (numbers ++ on_layer table layer) layer range
 range_added table numbers layer range a b =
     let added : List ℕ = on_layer table layer in
@@ -87,17 +104,21 @@ range_added table numbers layer range a b =
     record {
       order = omega arith;
       within = omega arith;
-      objects = ap (take (range.end - range.start)) (drop_at numbers added range.start (sym a)) ∙ take_all (range.end - range.start) added size;
+      objects = ap (take (range.end - range.start)) (drop_at numbers added range.start (sym a))
+          ∙ take_all (range.end - range.start) added size;
     }
 
 -- one layer more has its range
-pub ranges_more : (table numbers more : List ℕ) (ranges longer : List MemberRange) (layer : ℕ) (range : MemberRange) → AreRangesOf table numbers ranges → layer ≡ length ranges →
-    longer ≡ ranges ++ range ∷ [] → more ≡ numbers ++ on_layer table layer → range.start ≡ length numbers → range.end ≡ length more → AreRangesOf table more longer
+pub ranges_more : (table numbers more : List ℕ) (ranges longer : List MemberRange) (layer : ℕ) (range : MemberRange) →
+    AreRangesOf table numbers ranges → layer ≡ length ranges →
+    longer ≡ ranges ++ range ∷ [] → more ≡ numbers ++ on_layer table layer → range.start ≡ length numbers →
+    range.end ≡ length more → AreRangesOf table more longer
 ranges_more table numbers more ranges longer layer range each long e f a b =
     rw (e, f) (λ k d below.
     let total : length (ranges ++ range ∷ []) ≡ length ranges + 1 = length-append ranges (range ∷ []) in
     elim (cases_lt k (length ranges)) [
-      | inl old ↦ rw (get_or_append_left ranges (range ∷ []) d k old) (range_stays table numbers (on_layer table layer) k (get_or ranges k d) (each k d old))
+      | inl old ↦ rw (get_or_append_left ranges (range ∷ []) d k old)
+          (range_stays table numbers (on_layer table layer) k (get_or ranges k d) (each k d old))
       | inr new ↦
           let last : k ≡ layer = omega arith in
           let end : range.end ≡ length (numbers ++ on_layer table layer) = b ∙ ap length f in
@@ -105,7 +126,8 @@ ranges_more table numbers more ranges longer layer range each long e f a b =
     ])
 
 -- the range of a layer
-pub range_at : (table numbers : List ℕ) (ranges : List MemberRange) (n layer : ℕ) (range : MemberRange) → AreRangesOf table numbers ranges → n ≡ length ranges → layer < n →
+pub range_at : (table numbers : List ℕ) (ranges : List MemberRange) (n layer : ℕ) (range : MemberRange) →
+    AreRangesOf table numbers ranges → n ≡ length ranges → layer < n →
     range ≡ get_or ranges layer range → IsRangeOf table numbers layer range
 range_at table numbers ranges n layer range each long below is =
     let P : MemberRange → Type 0 = λ s. IsRangeOf table numbers layer s in

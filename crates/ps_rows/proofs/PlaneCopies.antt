@@ -1,11 +1,14 @@
 -- Planes that were copied, or cleared, one behind the other.
-use Rattle.std.proofs.Common.{◌≡◌, ◌∙◌, ℕ, ◌+◌, ◌-◌, ◌*◌, ◌/◌, ◌%◌, ◌<◌, ◌≤◌, ◌++◌, inl, inr, false, List, [], length, take, drop, replicate, refl, sym, ap, arith, Bool, subst}
+use Rattle.std.proofs.Common.{◌≡◌, ◌∙◌, ℕ, ◌+◌, ◌-◌, ◌*◌, ◌/◌, ◌%◌, ◌<◌, ◌≤◌, ◌++◌, inl, inr, false, List, [], length}
+use Rattle.std.proofs.Common.{take, drop, replicate, refl, sym, ap, arith, Bool, subst}
 use borrow.Rule.Slice.PartMut.{put_mid}
 use Rattle.std.specs.Prelude.{slice_set}
 use Rattle.std.proofs.Math.Nat.{mul-le-mul_left}
 use Rattle.std.proofs.lemmas.Bool.{cases_eq, cases_lt}
 use Rattle.std.proofs.lemmas.Nat.{div_below, mod_below, div-add-mod'}
-use Rattle.std.proofs.lemmas.List.{same_lists, get_or_default, get_or-set_same, get_or-set_other, length-take-le, get_or_append_left, get_or-append_right, get_or-take, get_or-drop, length-append, length-replicate}
+use Rattle.std.proofs.lemmas.List.{same_lists, get_or_default, get_or-set_same, get_or-set_other, length-take-le}
+use Rattle.std.proofs.lemmas.List.{get_or_append_left, get_or-append_right, get_or-take, get_or-drop, length-append}
+use Rattle.std.proofs.lemmas.List.{length-replicate}
 use Rattle.ps_rows.specs.PlaneCopies.{ArePlanesOf}
 use Rattle.ps_rows.specs.RowIndex.{AreRowsMarked}
 use Rattle.ps_rows.specs.Showing.{cleared_from}
@@ -18,15 +21,19 @@ use Rattle.ps_rows.specs.Planes.{AreSets, IsSet, row_of}
 -- a row of a plane lies before the next plane
 before_plane : (height plane other row : ℕ) → row < height → plane < other → plane * height + row < other * height
 before_plane height plane other row under less =
-    let more : height * (plane + 1) ≤ height * other = mul-le-mul_left height (let next : plane + 1 ≤ other = omega arith in next) in
+    let more : height * (plane + 1) ≤ height * other =
+    mul-le-mul_left height (let next : plane + 1 ≤ other = omega arith in next) in
     omega arith
 
 pub behind_plane : (height plane other : ℕ) → plane ≤ other → plane * height ≤ other * height
-behind_plane height plane other less = let more : height * plane ≤ height * other = mul-le-mul_left height less in omega arith
+behind_plane height plane other less = let more : height * plane ≤ height * other = mul-le-mul_left height less in
+    omega arith
 
 -- a part that is written over a plane
-pub plane_overwritten : (height plane : ℕ) (source part before : List (List Bool)) → length part ≡ height → (plane + 1) * height ≤ length before →
-    ((row : ℕ) → row < height → row_of part row ≡ row_of source (plane * height + row)) → ArePlanesOf height plane (plane + 1) source before (put_mid (plane * height) height before part)
+pub plane_overwritten : (height plane : ℕ) (source part before : List (List Bool)) → length part ≡ height →
+    (plane + 1) * height ≤ length before →
+    ((row : ℕ) → row < height → row_of part row ≡ row_of source (plane * height + row)) →
+    ArePlanesOf height plane (plane + 1) source before (put_mid (plane * height) height before part)
 plane_overwritten height plane source part before long enough same =
     let start : ℕ = plane * height in
     let rest : List (List Bool) = drop height (drop start before) in
@@ -36,7 +43,8 @@ plane_overwritten height plane source part before long enough same =
       below = λ o row under less.
           let place : o * height + row < start = before_plane height o plane row under less in
           let inside : o * height + row < length (take start before) = rw front place in
-          get_or_append_left (take start before) (part ++ rest) no_columns (o * height + row) inside ∙ get_or-take start before (o * height + row) no_columns place;
+          get_or_append_left (take start before) (part ++ rest) no_columns (o * height + row) inside
+          ∙ get_or-take start before (o * height + row) no_columns place;
       behind = λ o row under more.
           let past : (plane + 1) * height ≤ o * height = behind_plane height (plane + 1) o more in
           let place : start ≤ o * height + row = omega arith in
@@ -59,8 +67,10 @@ plane_overwritten height plane source part before long enough same =
     }
 
 -- a plane that has no columns, before and afterwards
-pub plane_blank : (height plane : ℕ) (source before : List (List Bool)) → ((row : ℕ) → row < height → row_of before (plane * height + row) ≡ no_columns) →
-    ((row : ℕ) → row < height → row_of source (plane * height + row) ≡ no_columns) → ArePlanesOf height plane (plane + 1) source before before
+pub plane_blank : (height plane : ℕ) (source before : List (List Bool)) →
+    ((row : ℕ) → row < height → row_of before (plane * height + row) ≡ no_columns) →
+    ((row : ℕ) → row < height → row_of source (plane * height + row) ≡ no_columns) →
+    ArePlanesOf height plane (plane + 1) source before before
 plane_blank height plane source before here there = record {
   below = λ o row under less. refl;
   behind = λ o row under more. refl;
@@ -68,23 +78,30 @@ plane_blank height plane source before here there = record {
 }
 
 -- a plane without marks
-pub unmarked_plane : (count height plane : ℕ) (words index : List (List Bool)) → height ≤ SIDE_LIMIT → plane < count → AreRowsMarked count height words index → set_columns (row_of index plane) ≡ [] →
+pub unmarked_plane : (count height plane : ℕ) (words index : List (List Bool)) → height ≤ SIDE_LIMIT → plane < count →
+    AreRowsMarked count height words index → set_columns (row_of index plane) ≡ [] →
     (row : ℕ) → row < height → row_of words (plane * height + row) ≡ no_columns
 unmarked_plane count height plane words index short below marked none row under =
     marked plane row below under (none_in (row_of index plane) row none (omega (arith, under, short)))
 
 -- the index behind a change of one plane
-pub marked_plane : (count height plane : ℕ) (mark : List Bool) (source before after index : List (List Bool)) → plane < length index → ArePlanesOf height plane (plane + 1) source before after →
-    AreRowsMarked count height before index → ((row : ℕ) → row < height → column_at mark row ≡ false → row_of source (plane * height + row) ≡ no_columns) →
+pub marked_plane : (count height plane : ℕ) (mark : List Bool) (source before after index : List (List Bool)) →
+    plane < length index → ArePlanesOf height plane (plane + 1) source before after →
+    AreRowsMarked count height before index → ((row : ℕ) → row < height → column_at mark row ≡ false →
+    row_of source (plane * height + row) ≡ no_columns) →
     AreRowsMarked count height after (slice_set index plane mark)
 marked_plane count height plane mark source before after index own changed marked blank = λ o row below under clear.
     elim (cases_eq o plane) [
       | inl e ↦
           let there : column_at mark row ≡ false =
-          ap (λ (w : List Bool). column_at w row) (sym (ap (λ (p : ℕ). row_of (slice_set index plane mark) p) e ∙ get_or-set_same index plane mark no_columns own)) ∙ clear in
+          ap (λ (w : List Bool). column_at w row)
+          (sym (ap (λ (p : ℕ). row_of (slice_set index plane mark) p) e
+          ∙ get_or-set_same index plane mark no_columns own)) ∙ clear in
           rw e (changed.copied plane row under (omega arith) (omega arith) ∙ blank row under there)
       | inr n ↦
-          let there : column_at (row_of index o) row ≡ false = ap (λ (w : List Bool). column_at w row) (sym (get_or-set_other index plane o mark no_columns n)) ∙ clear in
+          let there : column_at (row_of index o) row ≡ false =
+          ap (λ (w : List Bool). column_at w row) (sym (get_or-set_other index plane o mark no_columns n))
+          ∙ clear in
           elim (cases_lt o plane) [
             | inl less ↦ changed.below o row under less ∙ marked o row below under there
             | inr more ↦ changed.behind o row under (omega arith) ∙ marked o row below under there
@@ -96,7 +113,8 @@ at_place : (height i : ℕ) (words : List (List Bool)) → row_of words i ≡ ro
 at_place height i words = ap (λ (k : ℕ). row_of words k) (sym (div-add-mod' i height))
 
 -- each row is a set
-pub sets_planes : (height first end : ℕ) (source before after : List (List Bool)) → 0 < height → ArePlanesOf height first end source before after → AreSets source → AreSets before → AreSets after
+pub sets_planes : (height first end : ℕ) (source before after : List (List Bool)) → 0 < height →
+    ArePlanesOf height first end source before after → AreSets source → AreSets before → AreSets after
 sets_planes height first end source before after some changed sources befores = λ i.
     let P : List Bool → Type 0 = λ set. IsSet set in
     let plane : ℕ = i / height in
@@ -111,14 +129,16 @@ sets_planes height first end source before after some changed sources befores = 
     ])
 
 -- all planes from one on
-pub all_cleared : (height first count : ℕ) (before after : List (List Bool)) → 0 < height → first * height ≤ length before → length before ≤ count * height → length after ≡ length before →
+pub all_cleared : (height first count : ℕ) (before after : List (List Bool)) → 0 < height →
+    first * height ≤ length before → length before ≤ count * height → length after ≡ length before →
     ArePlanesOf height first count [] before after → after ≡ cleared_from (first * height) before
 all_cleared height first count before after some within whole long changed =
     let start : ℕ = first * height in
     let zeros : List (List Bool) = replicate (length before - start) no_columns in
     let front : length (take start before) ≡ start = length-take-le start before within in
     let total : length (cleared_from start before) ≡ length before =
-    length-append (take start before) zeros ∙ (let back : start + (length before - start) ≡ length before = omega arith in rw (front, length-replicate) back) in
+    length-append (take start before) zeros ∙ (let back : start + (length before - start) ≡ length before =
+    omega arith in rw (front, length-replicate) back) in
     same_lists after (cleared_from start before) (long ∙ sym total)
     (λ i d inside.
     let low : i % height < height = mod_below i height some in
@@ -129,19 +149,24 @@ all_cleared height first count before after some within whole long changed =
     ∙ elim (cases_lt i start) [
       | inl early ↦
           let under : i < length (take start before) = rw front early in
-          changed.below (i / height) (i % height) low (div_below i height first some early) ∙ sym (at_place height i before)
-          ∙ sym (get_or_append_left (take start before) zeros no_columns i under ∙ get_or-take start before i no_columns early)
+          changed.below (i / height) (i % height) low (div_below i height first some early)
+          ∙ sym (at_place height i before)
+          ∙ sym (get_or_append_left (take start before) zeros no_columns i under
+          ∙ get_or-take start before i no_columns early)
       | inr late ↦
           let from : first ≤ i / height = elim (cases_lt (i / height) first) [
-            | inl less ↦ let early = before_plane height (i / height) first (i % height) low less in absurd (omega (arith, early, place, late))
+            | inl less ↦ let early = before_plane height (i / height) first (i % height) low less in
+                absurd (omega (arith, early, place, late))
             | inr more ↦ more
           ] in
           changed.copied (i / height) (i % height) low from plane
-          ∙ sym (get_or-append_right (take start before) zeros start i no_columns front late ∙ blank_word (length before - start) (i - start))
+          ∙ sym (get_or-append_right (take start before) zeros start i no_columns front late
+          ∙ blank_word (length before - start) (i - start))
     ]
     ∙ sym (get_or_default (cleared_from start before) i d no_columns here))
 
-pub all_copied : (height count : ℕ) (source before after : List (List Bool)) → 0 < height → length source ≤ count * height → length after ≡ length source →
+pub all_copied : (height count : ℕ) (source before after : List (List Bool)) → 0 < height →
+    length source ≤ count * height → length after ≡ length source →
     ArePlanesOf height 0 count source before after → after ≡ source
 all_copied height count source before after some whole long changed =
     same_lists after source long
@@ -149,5 +174,6 @@ all_copied height count source before after some whole long changed =
     let low : i % height < height = mod_below i height some in
     let here : i < length source = omega (arith, inside, long) in
     let plane : i / height < count = div_below i height count some (omega (arith, inside, long, whole)) in
-    get_or_default after i d no_columns inside ∙ at_place height i after ∙ changed.copied (i / height) (i % height) low (omega arith) plane ∙ sym (at_place height i source)
+    get_or_default after i d no_columns inside ∙ at_place height i after
+    ∙ changed.copied (i / height) (i % height) low (omega arith) plane ∙ sym (at_place height i source)
     ∙ sym (get_or_default source i d no_columns here))

@@ -1,8 +1,10 @@
 -- Rows that are changed by what differs.
-use Rattle.std.proofs.Common.{◌≡◌, ◌≢◌, ◌∙◌, ℕ, ◌+◌, ◌*◌, ◌-◌, ◌<◌, ◌≤◌, inl, inr, Bool, true, false, not, List, [], ◌∷◌, ◌++◌, length, get_or, drop, refl, sym, ap, arith}
+use Rattle.std.proofs.Common.{◌≡◌, ◌≢◌, ◌∙◌, ℕ, ◌+◌, ◌*◌, ◌-◌, ◌<◌, ◌≤◌, inl, inr, Bool, true, false, not, List, []}
+use Rattle.std.proofs.Common.{◌∷◌, ◌++◌, length, get_or, drop, refl, sym, ap, arith}
 use Rattle.std.specs.Prelude.{nat_lt, if◌then◌else◌, slice_set}
 use Rattle.std.proofs.lemmas.Bool.{cases_Bool, cases_eq, cases_lt, le-ltb, lt-ltb}
-use Rattle.std.proofs.lemmas.List.{at_drop_all, at_drop_more, get_or_default, get_or-set_other, get_or-set_same, length-set, same_lists, set_past}
+use Rattle.std.proofs.lemmas.List.{at_drop_all, at_drop_more, get_or_default, get_or-set_other, get_or-set_same}
+use Rattle.std.proofs.lemmas.List.{length-set, same_lists, set_past}
 use Rattle.ps_model.specs.declared.limits.TheConstants.{SIDE_LIMIT}
 use Rattle.ps_board.specs.ColumnSets.{column_at, no_columns, unlike_columns}
 use Rattle.ps_rows.specs.Planes.{AreSets, IsSet, row_of}
@@ -11,7 +13,7 @@ use Rattle.ps_rows.specs.Sameness.{DifferOnlyOnRows}
 use Rattle.ps_rows.specs.declared.row_differences.RowDifference.{RowDifference}
 use Rattle.ps_rows.proofs.Sets.{none_at, same_set, set_where, unlike_at}
 
--- sets -------------------------------------------------------------------------------------------------------------------
+-- sets ----------------------------------------------------------------------------------------------------------------
 
 -- what is in one of two sets alone makes of each the other
 again : (p q : Bool) → (if p then not (if p then not q else q) else (if p then not q else q)) ≡ q
@@ -34,16 +36,18 @@ unlike_forth a b is =
     same_set (unlike_columns a (unlike_columns a b)) b (unlike_set a (unlike_columns a b)) is
     (λ x low.
     unlike_at a (unlike_columns a b) x low
-    ∙ ap (λ (u : Bool). if column_at a x then not u else u) (unlike_at a b x low) ∙ again (column_at a x) (column_at b x))
+    ∙ ap (λ (u : Bool). if column_at a x then not u else u) (unlike_at a b x low)
+    ∙ again (column_at a x) (column_at b x))
 
 pub unlike_back : (a b : List Bool) → IsSet a → unlike_columns b (unlike_columns a b) ≡ a
 unlike_back a b is =
     same_set (unlike_columns b (unlike_columns a b)) a (unlike_set b (unlike_columns a b)) is
     (λ x low.
     unlike_at b (unlike_columns a b) x low
-    ∙ ap (λ (u : Bool). if column_at b x then not u else u) (unlike_at a b x low) ∙ other_way (column_at a x) (column_at b x))
+    ∙ ap (λ (u : Bool). if column_at b x then not u else u) (unlike_at a b x low)
+    ∙ other_way (column_at a x) (column_at b x))
 
--- one row ----------------------------------------------------------------------------------------------------------------
+-- one row -------------------------------------------------------------------------------------------------------------
 
 module _ (height : ℕ) (words : List (List Bool)) (difference : Difference) where
   abbrev place : ℕ
@@ -55,12 +59,14 @@ module _ (height : ℕ) (words : List (List Bool)) (difference : Difference) whe
   -- a row that planes of the height have
   pub changed_inside : difference.row < height → row_changed height words difference ≡ slice_set words place changed
   unfolding row_changed
-  changed_inside under = ap (λ (b : Bool). if b then slice_set words place changed else words) (lt-ltb difference.row height under)
+  changed_inside under = ap (λ (b : Bool). if b then slice_set words place changed else words)
+      (lt-ltb difference.row height under)
 
   -- a row beyond the height, or beyond the last plane
   pub changed_below : height ≤ difference.row → row_changed height words difference ≡ words
   unfolding row_changed
-  changed_below past = ap (λ (b : Bool). if b then slice_set words place changed else words) (le-ltb difference.row height past)
+  changed_below past = ap (λ (b : Bool). if b then slice_set words place changed else words)
+      (le-ltb difference.row height past)
 
   pub changed_beyond : length words ≤ place → row_changed height words difference ≡ words
   changed_beyond past = elim (cases_lt difference.row height) [
@@ -74,72 +80,90 @@ module _ (height : ℕ) (words : List (List Bool)) (difference : Difference) whe
     | inr below ↦ ap (λ (ws : List (List Bool)). length ws) (changed_below below)
   ]
 
-  row_there : difference.row < height → place < length words → row_of (row_changed height words difference) place ≡ changed
+  row_there : difference.row < height → place < length words →
+      row_of (row_changed height words difference) place ≡ changed
   row_there under within =
-      ap (λ (ws : List (List Bool)). row_of ws place) (changed_inside under) ∙ get_or-set_same words place changed no_columns within
+      ap (λ (ws : List (List Bool)). row_of ws place) (changed_inside under)
+      ∙ get_or-set_same words place changed no_columns within
 
-  row_elsewhere : (other : ℕ) → difference.row < height → other ≢ place → row_of (row_changed height words difference) other ≡ row_of words other
+  row_elsewhere : (other : ℕ) → difference.row < height → other ≢ place →
+      row_of (row_changed height words difference) other ≡ row_of words other
   row_elsewhere other under apart =
-      ap (λ (ws : List (List Bool)). row_of ws other) (changed_inside under) ∙ get_or-set_other words place other changed no_columns apart
+      ap (λ (ws : List (List Bool)). row_of ws other) (changed_inside under)
+      ∙ get_or-set_other words place other changed no_columns apart
 
--- many rows --------------------------------------------------------------------------------------------------------------
+-- many rows -----------------------------------------------------------------------------------------------------------
 
-pub length-rows_changed : (height : ℕ) (words : List (List Bool)) (differences : List Difference) → length (rows_changed height words differences) ≡ length words
+pub length-rows_changed : (height : ℕ) (words : List (List Bool)) (differences : List Difference) →
+    length (rows_changed height words differences) ≡ length words
 unfolding rows_changed
 length-rows_changed height words [] = refl
 length-rows_changed height words (difference ∷ differences) =
-    length-rows_changed height (row_changed height words difference) differences ∙ length-row_changed height words difference
+    length-rows_changed height (row_changed height words difference) differences
+    ∙ length-row_changed height words difference
 
 -- one more, behind the others
 pub changed_push : (height : ℕ) (words : List (List Bool)) (differences : List Difference) (difference : Difference) →
-    rows_changed height words (differences ++ difference ∷ []) ≡ row_changed height (rows_changed height words differences) difference
+    rows_changed height words (differences ++ difference ∷ []) ≡ row_changed height
+    (rows_changed height words differences) difference
 unfolding rows_changed
 changed_push height words [] difference = refl
-changed_push height words (first ∷ differences) difference = changed_push height (row_changed height words first) differences difference
+changed_push height words (first ∷ differences) difference =
+    changed_push height (row_changed height words first) differences difference
 
 -- the loop over them
-pub rows_more : (height : ℕ) (words more : List (List Bool)) (differences : List Difference) (k : ℕ) (default : Difference) (all : List (List Bool)) → k < length differences →
+pub rows_more : (height : ℕ) (words more : List (List Bool)) (differences : List Difference) (k : ℕ)
+    (default : Difference) (all : List (List Bool)) → k < length differences →
     more ≡ row_changed height words (get_or differences k default) →
     rows_changed height words (drop k differences) ≡ all → rows_changed height more (drop (k + 1) differences) ≡ all
 unfolding rows_changed
 rows_more height words more differences k default all h e so =
-    let here : rows_changed height words (drop k differences) ≡ rows_changed height words (get_or differences k default ∷ drop (k + 1) differences) =
+    let here : rows_changed height words (drop k differences) ≡ rows_changed height words
+    (get_or differences k default ∷ drop (k + 1) differences) =
     at_drop_more (rows_changed height words) differences k default h in
     ap (λ (ws : List (List Bool)). rows_changed height ws (drop (k + 1) differences)) e ∙ sym here ∙ so
 
-pub rows_all : (height : ℕ) (words : List (List Bool)) (differences : List Difference) (k : ℕ) (all : List (List Bool)) → length differences ≤ k →
+pub rows_all : (height : ℕ) (words : List (List Bool)) (differences : List Difference) (k : ℕ) (all : List (List Bool))
+    → length differences ≤ k →
     rows_changed height words (drop k differences) ≡ all → words ≡ all
 unfolding rows_changed
 rows_all height words differences k all h so = sym (at_drop_all (rows_changed height words) differences k h) ∙ so
 
--- what leads to others ---------------------------------------------------------------------------------------------------
+-- what leads to others ------------------------------------------------------------------------------------------------
 
 -- nothing is compared yet
 lead_none : (height : ℕ) (words others : List (List Bool)) → Lead height 0 words others []
 unfolding rows_changed
-lead_none height words others = λ place. let from : 0 ≤ place = omega arith in sym (ap (λ (b : Bool). if b then row_of others place else row_of words place) (le-ltb place 0 from))
+lead_none height words others = λ place. let from : 0 ≤ place = omega arith in
+    sym (ap (λ (b : Bool). if b then row_of others place else row_of words place) (le-ltb place 0 from))
 
 pub both_none : (height : ℕ) (first second : List (List Bool)) → LeadBothWays height 0 first second []
 both_none height first second = record { forth = lead_none height first second; back = lead_none height second first }
 
 -- a row that is the same
-lead_same : (height end : ℕ) (words others : List (List Bool)) (differences : List Difference) → row_of words end ≡ row_of others end →
+lead_same : (height end : ℕ) (words others : List (List Bool)) (differences : List Difference) →
+    row_of words end ≡ row_of others end →
     Lead height end words others differences → Lead height (end + 1) words others differences
 lead_same height end words others differences same lead = λ place. elim (cases_lt place end) [
   | inl before ↦
       let more : place < end + 1 = omega arith in
-      lead place ∙ ap (λ (b : Bool). if b then row_of others place else row_of words place) (lt-ltb place end before ∙ sym (lt-ltb place (end + 1) more))
+      lead place ∙ ap (λ (b : Bool). if b then row_of others place else row_of words place) (lt-ltb place end before
+      ∙ sym (lt-ltb place (end + 1) more))
   | inr from ↦
       lead place ∙ ap (λ (b : Bool). if b then row_of others place else row_of words place) (le-ltb place end from)
       ∙ elim (cases_lt place (end + 1)) [
         | inl here ↦
             let e : place ≡ end = omega arith in
-            ap (row_of words) e ∙ same ∙ sym (ap (row_of others) e) ∙ sym (ap (λ (b : Bool). if b then row_of others place else row_of words place) (lt-ltb place (end + 1) here))
-        | inr past ↦ sym (ap (λ (b : Bool). if b then row_of others place else row_of words place) (le-ltb place (end + 1) past))
+            ap (row_of words) e ∙ same ∙ sym (ap (row_of others) e)
+            ∙ sym (ap (λ (b : Bool). if b then row_of others place else row_of words place)
+            (lt-ltb place (end + 1) here))
+        | inr past ↦ sym (ap (λ (b : Bool). if b then row_of others place else row_of words place)
+            (le-ltb place (end + 1) past))
       ]
 ]
 
-pub both_same : (height end : ℕ) (first second : List (List Bool)) (differences : List Difference) → row_of first end ≡ row_of second end →
+pub both_same : (height end : ℕ) (first second : List (List Bool)) (differences : List Difference) →
+    row_of first end ≡ row_of second end →
     LeadBothWays height end first second differences → LeadBothWays height (end + 1) first second differences
 both_same height end first second differences same both =
     record {
@@ -148,8 +172,10 @@ both_same height end first second differences same both =
     }
 
 -- a row that differs, and is added
-lead_more : (height : ℕ) (words others : List (List Bool)) (differences : List Difference) (difference : Difference) (end : ℕ) → end ≡ difference.plane * height + difference.row →
-    difference.row < height → end < length words → unlike_columns (row_of words end) difference.columns ≡ row_of others end →
+lead_more : (height : ℕ) (words others : List (List Bool)) (differences : List Difference) (difference : Difference)
+    (end : ℕ) → end ≡ difference.plane * height + difference.row →
+    difference.row < height → end < length words →
+    unlike_columns (row_of words end) difference.columns ≡ row_of others end →
     Lead height end words others differences → Lead height (end + 1) words others (differences ++ difference ∷ [])
 lead_more height words others differences difference end at under within makes lead = λ place.
     let before : List (List Bool) = rows_changed height words differences in
@@ -159,35 +185,44 @@ lead_more height words others differences difference end at under within makes l
     ∙ elim (cases_eq place end) [
       | inl e ↦
           let here : row_of before end ≡ row_of words end =
-          lead end ∙ ap (λ (b : Bool). if b then row_of others end else row_of words end) (le-ltb end end (let low : end ≤ end = omega arith in low)) in
+          lead end ∙ ap (λ (b : Bool). if b then row_of others end else row_of words end)
+          (le-ltb end end (let low : end ≤ end = omega arith in low)) in
           let reached : place < end + 1 = omega arith in
           ap (row_of (row_changed height before difference)) (e ∙ at) ∙ row_there height before difference under inside
           ∙ ap (λ (p : ℕ). unlike_columns (row_of before p) difference.columns) (sym at)
           ∙ ap (λ (word : List Bool). unlike_columns word difference.columns) here
           ∙ makes ∙ sym (ap (row_of others) e)
-          ∙ sym (ap (λ (b : Bool). if b then row_of others place else row_of words place) (lt-ltb place (end + 1) reached))
+          ∙ sym (ap (λ (b : Bool). if b then row_of others place else row_of words place)
+          (lt-ltb place (end + 1) reached))
       | inr apart ↦
           row_elsewhere height before difference place under (λ e. apart (e ∙ sym at)) ∙ lead place
           ∙ ap (λ (b : Bool). if b then row_of others place else row_of words place)
           (elim (cases_lt place end) [
-            | inl early ↦ let more : place < end + 1 = omega arith in lt-ltb place end early ∙ sym (lt-ltb place (end + 1) more)
-            | inr late ↦ let past : end + 1 ≤ place = omega (arith, late, apart) in le-ltb place end late ∙ sym (le-ltb place (end + 1) past)
+            | inl early ↦ let more : place < end + 1 = omega arith in lt-ltb place end early
+                ∙ sym (lt-ltb place (end + 1) more)
+            | inr late ↦ let past : end + 1 ≤ place = omega (arith, late, apart) in le-ltb place end late
+                ∙ sym (le-ltb place (end + 1) past)
           ])
     ]
 
-pub both_more : (height : ℕ) (first second : List (List Bool)) (differences : List Difference) (difference : Difference) (end : ℕ) → end ≡ difference.plane * height + difference.row →
-    difference.row < height → end < length first → length second ≡ length first → IsSet (row_of first end) → IsSet (row_of second end) →
+pub both_more : (height : ℕ) (first second : List (List Bool)) (differences : List Difference)
+    (difference : Difference) (end : ℕ) → end ≡ difference.plane * height + difference.row →
+    difference.row < height → end < length first → length second ≡ length first → IsSet (row_of first end) →
+    IsSet (row_of second end) →
     difference.columns ≡ unlike_columns (row_of first end) (row_of second end) →
-    LeadBothWays height end first second differences → LeadBothWays height (end + 1) first second (differences ++ difference ∷ [])
+    LeadBothWays height end first second differences →
+    LeadBothWays height (end + 1) first second (differences ++ difference ∷ [])
 both_more height first second differences difference end at under within long here there is both =
     let also : end < length second = omega (arith, within, long) in
     record {
       forth =
           lead_more height first second differences difference end at under within
-          (ap (unlike_columns (row_of first end)) is ∙ unlike_forth (row_of first end) (row_of second end) there) both.forth;
+          (ap (unlike_columns (row_of first end)) is
+          ∙ unlike_forth (row_of first end) (row_of second end) there) both.forth;
       back =
           lead_more height second first differences difference end at under also
-          (ap (unlike_columns (row_of second end)) is ∙ unlike_back (row_of first end) (row_of second end) here) both.back;
+          (ap (unlike_columns (row_of second end)) is
+          ∙ unlike_back (row_of first end) (row_of second end) here) both.back;
     }
 
 -- a plane that is the same
@@ -201,9 +236,11 @@ lead_plane height plane words others differences same lead = λ place.
     elim (cases_lt place start) [
       | inl before ↦
           let more : place < end = omega (arith, before, long) in
-          lead place ∙ ap (λ (b : Bool). if b then row_of others place else row_of words place) (lt-ltb place start before ∙ sym (lt-ltb place end more))
+          lead place ∙ ap (λ (b : Bool). if b then row_of others place else row_of words place)
+          (lt-ltb place start before ∙ sym (lt-ltb place end more))
       | inr from ↦
-          lead place ∙ ap (λ (b : Bool). if b then row_of others place else row_of words place) (le-ltb place start from)
+          lead place ∙ ap (λ (b : Bool). if b then row_of others place else row_of words place)
+          (le-ltb place start from)
           ∙ elim (cases_lt place end) [
             | inl here ↦
                 let row : ℕ = place - start in
@@ -211,20 +248,25 @@ lead_plane height plane words others differences same lead = λ place.
                 let e : start + row ≡ place = omega (arith, from) in
                 ap (row_of words) (sym e) ∙ same row under ∙ ap (row_of others) e
                 ∙ sym (ap (λ (b : Bool). if b then row_of others place else row_of words place) (lt-ltb place end here))
-            | inr past ↦ sym (ap (λ (b : Bool). if b then row_of others place else row_of words place) (le-ltb place end past))
+            | inr past ↦ sym (ap (λ (b : Bool).
+                if b then row_of others place else row_of words place) (le-ltb place end past))
           ]
     ]
 
-pub both_plane : (height plane : ℕ) (first second : List (List Bool)) (differences : List Difference) → DifferOnlyOnRows height plane first second no_columns →
-    LeadBothWays height (plane * height) first second differences → LeadBothWays height ((plane + 1) * height) first second differences
+pub both_plane : (height plane : ℕ) (first second : List (List Bool)) (differences : List Difference) →
+    DifferOnlyOnRows height plane first second no_columns →
+    LeadBothWays height (plane * height) first second differences →
+    LeadBothWays height ((plane + 1) * height) first second differences
 both_plane height plane first second differences same both =
     record {
       forth = lead_plane height plane first second differences (λ row under. same row under (none_at row)) both.forth;
-      back = lead_plane height plane second first differences (λ row under. sym (same row under (none_at row))) both.back;
+      back = lead_plane height plane second first differences (λ row under.
+          sym (same row under (none_at row))) both.back;
     }
 
 -- all rows are compared
-lead_all : (height end : ℕ) (words others : List (List Bool)) (differences : List Difference) → length words ≤ end → length others ≡ length words →
+lead_all : (height end : ℕ) (words others : List (List Bool)) (differences : List Difference) → length words ≤ end →
+    length others ≡ length words →
     Lead height end words others differences → rows_changed height words differences ≡ others
 lead_all height end words others differences reached long lead =
     let changed : List (List Bool) = rows_changed height words differences in
@@ -234,13 +276,17 @@ lead_all height end words others differences reached long lead =
     let here : place < length others = omega (arith, inside, same, long) in
     let before : place < end = omega (arith, inside, same, reached) in
     get_or_default changed place d no_columns inside ∙ lead place
-    ∙ ap (λ (b : Bool). if b then row_of others place else row_of words place) (lt-ltb place end before) ∙ sym (get_or_default others place d no_columns here))
+    ∙ ap (λ (b : Bool). if b then row_of others place else row_of words place) (lt-ltb place end before)
+    ∙ sym (get_or_default others place d no_columns here))
 
-pub all_forth : (height end : ℕ) (first second : List (List Bool)) (differences : List Difference) → length first ≤ end → length second ≡ length first →
+pub all_forth : (height end : ℕ) (first second : List (List Bool)) (differences : List Difference) →
+    length first ≤ end → length second ≡ length first →
     LeadBothWays height end first second differences → rows_changed height first differences ≡ second
-all_forth height end first second differences reached long both = lead_all height end first second differences reached long both.forth
+all_forth height end first second differences reached long both =
+    lead_all height end first second differences reached long both.forth
 
-pub all_back : (height end : ℕ) (first second : List (List Bool)) (differences : List Difference) → length first ≤ end → length second ≡ length first →
+pub all_back : (height end : ℕ) (first second : List (List Bool)) (differences : List Difference) →
+    length first ≤ end → length second ≡ length first →
     LeadBothWays height end first second differences → rows_changed height second differences ≡ first
 all_back height end first second differences reached long both =
     let also : length second ≤ end = omega (arith, reached, long) in

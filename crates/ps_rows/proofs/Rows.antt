@@ -15,9 +15,12 @@ use Rattle.ps_rows.proofs.Rests.{cells_long}
 use Rattle.ps_board.specs.ColumnSets.{column_at}
 use Rattle.ps_model.specs.declared.limits.TheConstants.{SIDE_LIMIT}
 
-pub row_told : (table : List ℕ) (width height layers : ℕ) (words : List (List Bool)) (row : ℕ) → row < height → (mask : CellMask) (word : List Bool) →
-    IsRowOf (grid_shown table width height layers words) row word (mask_fits mask) → IsWithin (grid_shown table width height layers words) word → (x : ℕ) → x < SIDE_LIMIT →
-    column_at word x ≡ fits_there (meaning_of_mask mask) (slice_get (cells_shown table layers height words (width * height)) (x * height + row))
+pub row_told : (table : List ℕ) (width height layers : ℕ) (words : List (List Bool)) (row : ℕ) → row < height →
+    (mask : CellMask) (word : List Bool) →
+    IsRowOf (grid_shown table width height layers words) row word (mask_fits mask) →
+    IsWithin (grid_shown table width height layers words) word → (x : ℕ) → x < SIDE_LIMIT →
+    column_at word x ≡ fits_there (meaning_of_mask mask)
+    (slice_get (cells_shown table layers height words (width * height)) (x * height + row))
 row_told table width height layers words row under mask word inside within x low =
     let cells : List (List Slot) = cells_shown table layers height words (width * height) in
     let long : length cells ≡ width * height = cells_long table layers height words (width * height) in
@@ -29,5 +32,6 @@ row_told table width height layers words row under mask word inside within x low
       | inr off ↦
           let more : height * width ≤ height * x = mul-le-mul_left height off in
           let beyond : length cells ≤ x * height + row = omega arith in
-          within x off low ∙ sym (ap (fits_there (meaning_of_mask mask)) (slice_get_past cells (x * height + row) beyond))
+          within x off low ∙ sym (ap (fits_there (meaning_of_mask mask))
+          (slice_get_past cells (x * height + row) beyond))
     ]

@@ -1,8 +1,10 @@
 -- Layers of a row written one after the other come to its cells written.
-use Rattle.std.proofs.Common.{◌≡◌, ◌∙◌, ℕ, zero, suc, ◌+◌, ◌*◌, ◌/◌, ◌%◌, ◌<◌, ◌≤◌, inl, inr, Bool, true, false, not, ◌&&◌, Option, List, [], ◌∷◌, length, get_or, refl, sym, ap, ap₂, arith}
+use Rattle.std.proofs.Common.{◌≡◌, ◌∙◌, ℕ, zero, suc, ◌+◌, ◌*◌, ◌/◌, ◌%◌, ◌<◌, ◌≤◌, inl, inr, Bool, true, false, not}
+use Rattle.std.proofs.Common.{◌&&◌, Option, List, [], ◌∷◌, length, get_or, refl, sym, ap, ap₂, arith}
 use Rattle.std.specs.Prelude.{nat_eq, nat_lt, if◌then◌else◌}
 use Rattle.std.specs.List.{list_any, range_with_len}
-use Rattle.std.proofs.lemmas.Bool.{and_parts, cases_Bool, cases_eq, eq-eqb, ne_eqb, lt-ltb, le-ltb, or_parts, false≢true, not-false}
+use Rattle.std.proofs.lemmas.Bool.{and_parts, cases_Bool, cases_eq, eq-eqb, ne_eqb, lt-ltb, le-ltb, or_parts}
+use Rattle.std.proofs.lemmas.Bool.{false≢true, not-false}
 use Rattle.std.proofs.lemmas.List.{same_lists, get_or_default}
 use Rattle.ps_model.specs.declared.pieces.Slot.{Slot}
 use Rattle.ps_model.specs.declared.pieces.Slot.TheVariants.{Bare}
@@ -28,12 +30,13 @@ use Rattle.ps_model.specs.declared.limits.TheConstants.{SIDE_LIMIT}
 abbrev pub slot_when : Bool → Slot → Slot → Slot
 slot_when b new old = if b then new else old
 
--- layers -----------------------------------------------------------------------------------------------------------------
+-- layers --------------------------------------------------------------------------------------------------------------
 
 module _ (g : Grid) (chosen : ℕ → Bool) (after : ℕ → Slot → Slot) where
   pub slots_none : AreSlotsWritten g g chosen (λ l. nat_lt l 0) after
   slots_none = λ c l inside below.
-      sym (ap (λ (b : Bool). slot_when (chosen c && b) (after l (slot_at g c l)) (slot_at g c l)) (le-ltb l 0 (omega arith))
+      sym (ap (λ (b : Bool). slot_when (chosen c && b) (after l (slot_at g c l)) (slot_at g c l))
+      (le-ltb l 0 (omega arith))
       ∙ ap (λ (b : Bool). slot_when b (after l (slot_at g c l)) (slot_at g c l)) (and-false (chosen c)))
 
   pub left_none : AreSlotsLeft g chosen (λ l. nat_lt l 0) after
@@ -43,59 +46,75 @@ module _ (g : Grid) (chosen : ℕ → Bool) (after : ℕ → Slot → Slot) wher
     slot_still : (c l : ℕ) → c < g.width * g.height → l < g.layers → l ≡ count → slot_at now c l ≡ slot_at g c l
     slot_still c l inside below e =
         so c l inside below
-        ∙ ap (λ (b : Bool). slot_when (chosen c && b) (after l (slot_at g c l)) (slot_at g c l)) (le-ltb l count (omega arith))
+        ∙ ap (λ (b : Bool). slot_when (chosen c && b) (after l (slot_at g c l)) (slot_at g c l))
+        (le-ltb l count (omega arith))
         ∙ ap (λ (b : Bool). slot_when b (after l (slot_at g c l)) (slot_at g c l)) (and-false (chosen c))
 
-    pub slots_next : (next : Grid) → now.width ≡ g.width → now.height ≡ g.height → now.layers ≡ g.layers → AreSlotsWritten now next chosen (λ l. nat_eq l count) after →
+    pub slots_next : (next : Grid) → now.width ≡ g.width → now.height ≡ g.height → now.layers ≡ g.layers →
+        AreSlotsWritten now next chosen (λ l. nat_eq l count) after →
         AreSlotsWritten g next chosen (λ l. nat_lt l (count + 1)) after
     slots_next next wide high deep step = λ c l inside below.
         let inside_now : c < now.width * now.height = rw (wide, high) inside in
         let below_now : l < now.layers = rw deep below in
         step c l inside_now below_now ∙ elim (cases_eq l count) [
           | inl e ↦
-              ap₂ (λ (b : Bool) (s : Slot). slot_when (chosen c && b) (after l s) s) (eq-eqb l count e) (slot_still c l inside below e)
-              ∙ sym (ap (λ (b : Bool). slot_when (chosen c && b) (after l (slot_at g c l)) (slot_at g c l)) (lt-ltb l (count + 1) (omega arith)))
+              ap₂ (λ (b : Bool) (s : Slot). slot_when (chosen c && b) (after l s) s) (eq-eqb l count e)
+              (slot_still c l inside below e)
+              ∙ sym (ap (λ (b : Bool). slot_when (chosen c && b) (after l (slot_at g c l)) (slot_at g c l))
+              (lt-ltb l (count + 1) (omega arith)))
           | inr n ↦
-              ap (λ (b : Bool). slot_when (chosen c && b) (after l (slot_at now c l)) (slot_at now c l)) (ne_eqb l count n)
+              ap (λ (b : Bool). slot_when (chosen c && b) (after l (slot_at now c l)) (slot_at now c l))
+              (ne_eqb l count n)
               ∙ ap (λ (b : Bool). slot_when b (after l (slot_at now c l)) (slot_at now c l)) (and-false (chosen c))
               ∙ so c l inside below
-              ∙ sym (ap (λ (b : Bool). slot_when (chosen c && b) (after l (slot_at g c l)) (slot_at g c l)) (lt_next l count n))
+              ∙ sym (ap (λ (b : Bool). slot_when (chosen c && b) (after l (slot_at g c l)) (slot_at g c l))
+              (lt_next l count n))
         ]
 
-    pub left_next : now.width ≡ g.width → now.height ≡ g.height → now.layers ≡ g.layers → AreSlotsLeft g chosen (λ l. nat_lt l count) after → AreSlotsLeft now chosen (λ l. nat_eq l count) after →
+    pub left_next : now.width ≡ g.width → now.height ≡ g.height → now.layers ≡ g.layers →
+        AreSlotsLeft g chosen (λ l. nat_lt l count) after → AreSlotsLeft now chosen (λ l. nat_eq l count) after →
         AreSlotsLeft g chosen (λ l. nat_lt l (count + 1)) after
     left_next wide high deep front step = λ c l inside below here on. elim (cases_eq l count) [
       | inl e ↦
           let inside_now : c < now.width * now.height = rw (wide, high) inside in
           let below_now : l < now.layers = rw deep below in
-          ap (λ (s : Slot). same_slot s (after l s)) (sym (slot_still c l inside below e)) ∙ step c l inside_now below_now here (eq-eqb l count e)
+          ap (λ (s : Slot). same_slot s (after l s)) (sym (slot_still c l inside below e))
+          ∙ step c l inside_now below_now here (eq-eqb l count e)
       | inr n ↦ front c l inside below here (sym (lt_next l count n) ∙ on)
     ]
 
-    pub left_here : now.width ≡ g.width → now.height ≡ g.height → now.layers ≡ g.layers → AreSlotsLeft g chosen (λ l. true) after → AreSlotsLeft now chosen (λ l. nat_eq l count) after
+    pub left_here : now.width ≡ g.width → now.height ≡ g.height → now.layers ≡ g.layers →
+        AreSlotsLeft g chosen (λ l. true) after → AreSlotsLeft now chosen (λ l. nat_eq l count) after
     left_here wide high deep all = λ c l inside below here on.
         let inside_g : c < g.width * g.height = rw (← wide, ← high) inside in
         let below_g : l < g.layers = rw (← deep) below in
-        let e : l ≡ count = elim (cases_eq l count) [ inl e ↦ e | inr n ↦ absurd (false≢true (sym (ne_eqb l count n) ∙ on)) ] in
-        ap (λ (s : Slot). same_slot s (after l s)) (slot_still c l inside_g below_g e) ∙ all c l inside_g below_g here refl
+        let e : l ≡ count = elim (cases_eq l count)
+        [ inl e ↦ e | inr n ↦ absurd (false≢true (sym (ne_eqb l count n) ∙ on)) ] in
+        ap (λ (s : Slot). same_slot s (after l s)) (slot_still c l inside_g below_g e)
+        ∙ all c l inside_g below_g here refl
 
     pub slots_all : g.layers ≤ count → AreSlotsWritten g now chosen (λ l. true) after
     slots_all end = λ c l inside below.
-        so c l inside below ∙ ap (λ (b : Bool). slot_when (chosen c && b) (after l (slot_at g c l)) (slot_at g c l)) (lt-ltb l count (omega arith))
+        so c l inside below ∙ ap (λ (b : Bool).
+        slot_when (chosen c && b) (after l (slot_at g c l)) (slot_at g c l)) (lt-ltb l count (omega arith))
 
-    pub left_all : g.layers ≤ count → AreSlotsLeft g chosen (λ l. nat_lt l count) after → AreSlotsLeft g chosen (λ l. true) after
+    pub left_all : g.layers ≤ count → AreSlotsLeft g chosen (λ l. nat_lt l count) after →
+        AreSlotsLeft g chosen (λ l. true) after
     left_all end front = λ c l inside below here on. front c l inside below here (lt-ltb l count (omega arith))
 
 -- a layer that the write doesn't touch
-module _ (table : Option (List ℕ)) (write : CellWrite) (g : Grid) (chosen : ℕ → Bool) (layer : ℕ) (none : touches write layer ≡ false) where
+module _ (table : Option (List ℕ)) (write : CellWrite) (g : Grid) (chosen : ℕ →
+    Bool) (layer : ℕ) (none : touches write layer ≡ false) where
   abbrev kept : ℕ → Slot → Slot
   kept = slot_after (write_in_room table write)
 
   pub slots_untouched : AreSlotsWritten g g chosen (λ l. nat_eq l layer) kept
   slots_untouched = λ c l inside below. elim (cases_eq l layer) [
     | inl e ↦
-        let same : kept l (slot_at g c l) ≡ slot_at g c l = untouched table l write (slot_at g c l) (ap (touches write) e ∙ none) in
-        sym (ap (λ (s : Slot). slot_when (chosen c && nat_eq l layer) s (slot_at g c l)) same ∙ either (chosen c && nat_eq l layer) (slot_at g c l))
+        let same : kept l (slot_at g c l) ≡ slot_at g c l =
+        untouched table l write (slot_at g c l) (ap (touches write) e ∙ none) in
+        sym (ap (λ (s : Slot). slot_when (chosen c && nat_eq l layer) s (slot_at g c l)) same
+        ∙ either (chosen c && nat_eq l layer) (slot_at g c l))
     | inr n ↦
         sym (ap (λ (b : Bool). slot_when (chosen c && b) (kept l (slot_at g c l)) (slot_at g c l)) (ne_eqb l layer n)
         ∙ ap (λ (b : Bool). slot_when b (kept l (slot_at g c l)) (slot_at g c l)) (and-false (chosen c)))
@@ -106,14 +125,18 @@ module _ (table : Option (List ℕ)) (write : CellWrite) (g : Grid) (chosen : �
 
   pub left_untouched : AreSlotsLeft g chosen (λ l. nat_eq l layer) kept
   left_untouched = λ c l inside below here on.
-      let e : l ≡ layer = elim (cases_eq l layer) [ inl e ↦ e | inr n ↦ absurd (false≢true (sym (ne_eqb l layer n) ∙ on)) ] in
-      ap (same_slot (slot_at g c l)) (untouched table l write (slot_at g c l) (ap (touches write) e ∙ none)) ∙ same_slot-own (slot_at g c l)
+      let e : l ≡ layer = elim (cases_eq l layer)
+      [ inl e ↦ e | inr n ↦ absurd (false≢true (sym (ne_eqb l layer n) ∙ on)) ] in
+      ap (same_slot (slot_at g c l)) (untouched table l write (slot_at g c l) (ap (touches write) e ∙ none))
+      ∙ same_slot-own (slot_at g c l)
 
--- cells ------------------------------------------------------------------------------------------------------------------
+-- cells ---------------------------------------------------------------------------------------------------------------
 
 -- cells are known by their slots
-cells_by_slots : (xs ys : List (List Slot)) (n layers : ℕ) → length xs ≡ n → length ys ≡ n → ((c : ℕ) → c < n → length (get_or xs c []) ≡ layers) →
-    ((c : ℕ) → c < n → length (get_or ys c []) ≡ layers) → ((c l : ℕ) → c < n → l < layers → get_or (get_or xs c []) l Bare ≡ get_or (get_or ys c []) l Bare) → xs ≡ ys
+cells_by_slots : (xs ys : List (List Slot)) (n layers : ℕ) → length xs ≡ n → length ys ≡ n →
+    ((c : ℕ) → c < n → length (get_or xs c []) ≡ layers) →
+    ((c : ℕ) → c < n → length (get_or ys c []) ≡ layers) →
+    ((c l : ℕ) → c < n → l < layers → get_or (get_or xs c []) l Bare ≡ get_or (get_or ys c []) l Bare) → xs ≡ ys
 cells_by_slots xs ys n layers long many first second same =
     same_lists xs ys (long ∙ sym many)
     (λ k d h.
@@ -124,39 +147,55 @@ cells_by_slots xs ys n layers long many first second same =
     (λ i e j.
     let below : i < layers = rw (← first k low) j in
     let as_long : i < length (get_or ys k []) = rw (second k low) below in
-    get_or_default (get_or xs k []) i e Bare j ∙ same k i low below ∙ sym (get_or_default (get_or ys k []) i e Bare as_long))
+    get_or_default (get_or xs k []) i e Bare j ∙ same k i low below
+    ∙ sym (get_or_default (get_or ys k []) i e Bare as_long))
     ∙ sym (get_or_default ys k d [] there))
 
 -- a cell that becomes what it was, slot by slot
-cell_left : (write : CellWrite) (n : ℕ) (slots : List Slot) → ((i : ℕ) → i < length slots → same_slot (get_or slots i Bare) (slot_after write (n + i) (get_or slots i Bare)) ≡ true) →
+cell_left : (write : CellWrite) (n : ℕ) (slots : List Slot) →
+    ((i : ℕ) → i < length slots → same_slot (get_or slots i Bare) (slot_after write (n + i) (get_or slots i Bare)) ≡
+    true) →
     same_cell slots (written_from write n slots) ≡ true
 cell_left write n [] left = refl
 cell_left write n (slot ∷ slots) left =
     let plain : n + 0 ≡ n = omega arith in
-    ap₂ (λ (a b : Bool). a && b) (ap (λ (k : ℕ). same_slot slot (slot_after write k slot)) (sym plain) ∙ left 0 (omega arith))
+    ap₂ (λ (a b : Bool). a && b) (ap (λ (k : ℕ). same_slot slot (slot_after write k slot)) (sym plain)
+    ∙ left 0 (omega arith))
     (cell_left write (suc n) slots
     (λ i below. let e : suc n + i ≡ n + suc i = omega arith in
-    ap (λ (k : ℕ). same_slot (get_or slots i Bare) (slot_after write k (get_or slots i Bare))) e ∙ left (suc i) (omega arith)))
+    ap (λ (k : ℕ). same_slot (get_or slots i Bare) (slot_after write k (get_or slots i Bare))) e
+    ∙ left (suc i) (omega arith)))
 
-slot_left : (write : CellWrite) (n : ℕ) (slots : List Slot) (i : ℕ) → i < length slots → same_cell slots (written_from write n slots) ≡ true →
+slot_left : (write : CellWrite) (n : ℕ) (slots : List Slot) (i : ℕ) → i < length slots →
+    same_cell slots (written_from write n slots) ≡ true →
     same_slot (get_or slots i Bare) (slot_after write (n + i) (get_or slots i Bare)) ≡ true
 slot_left write n [] i below same = absurd (omega arith)
 slot_left write n (slot ∷ slots) zero below same =
     let plain : n + 0 ≡ n = omega arith in
-    ap (λ (k : ℕ). same_slot slot (slot_after write k slot)) plain ∙ (and_parts (same_slot slot (slot_after write n slot)) (same_cell slots (written_from write (suc n) slots)) same).0
+    ap (λ (k : ℕ). same_slot slot (slot_after write k slot)) plain
+    ∙ (and_parts (same_slot slot (slot_after write n slot)) (same_cell slots (written_from write (suc n) slots))
+    same).0
 slot_left write n (slot ∷ slots) (suc i) below same =
     let e : n + suc i ≡ suc n + i = omega arith in
     ap (λ (k : ℕ). same_slot (get_or slots i Bare) (slot_after write k (get_or slots i Bare))) e
-    ∙ slot_left write (suc n) slots i (omega arith) (and_parts (same_slot slot (slot_after write n slot)) (same_cell slots (written_from write (suc n) slots)) same).1
+    ∙ slot_left write (suc n) slots i (omega arith)
+    (and_parts (same_slot slot (slot_after write n slot)) (same_cell slots (written_from write (suc n) slots))
+    same).1
 
 none_of : (p : ℕ → Bool) (a n k : ℕ) → a ≤ k → k < a + n → list_any p (range_with_len a n) ≡ false → p k ≡ false
 none_of p a zero k low high none = absurd (omega arith)
 none_of p a (suc n) k low high none =
     let parts = or_parts (p a) (list_any p (range_with_len (a + 1) n)) none in
-    elim (cases_eq k a) [ inl e ↦ ap p e ∙ parts.0 | inr other ↦ none_of p (a + 1) n k (omega arith) (omega arith) parts.1 ]
+    elim (cases_eq k a) [
+      | inl e ↦ ap p e ∙ parts.0
+      | inr other ↦ none_of p (a + 1) n k (omega arith) (omega arith)
+          parts.1
+    ]
 
-module _ (table : Option (List ℕ)) (write : CellWrite) (g next : Grid) (chosen : ℕ → Bool) (long : length g.cells ≡ g.width * g.height)
-    (slots : (c : ℕ) → c < g.width * g.height → length (cell_at g c) ≡ g.layers) (next_long : length next.cells ≡ g.width * g.height)
+module _ (table : Option (List ℕ)) (write : CellWrite) (g next : Grid) (chosen : ℕ →
+    Bool) (long : length g.cells ≡ g.width * g.height)
+    (slots : (c : ℕ) → c < g.width * g.height →
+    length (cell_at g c) ≡ g.layers) (next_long : length next.cells ≡ g.width * g.height)
     (next_slots : (c : ℕ) → c < g.width * g.height → length (cell_at next c) ≡ g.layers) where
   abbrev after : ℕ → Slot → Slot
   after = slot_after (write_in_room table write)
@@ -164,34 +203,42 @@ module _ (table : Option (List ℕ)) (write : CellWrite) (g next : Grid) (chosen
   abbrev becomes : List Slot → List Slot
   becomes = cell_written (write_in_room table write)
 
-  slot_becomes : (c l : ℕ) → c < g.width * g.height → l < g.layers → get_or (becomes (cell_at g c)) l Bare ≡ after l (slot_at g c l)
+  slot_becomes : (c l : ℕ) → c < g.width * g.height → l < g.layers →
+      get_or (becomes (cell_at g c)) l Bare ≡ after l (slot_at g c l)
   slot_becomes c l low below =
       let deep : l < length (cell_at g c) = rw (slots c low) below in
       let plain : 0 + l ≡ l = omega arith in
-      get_or-written_from (write_in_room table write) 0 (cell_at g c) l deep ∙ ap (λ (n : ℕ). after n (slot_at g c l)) plain
+      get_or-written_from (write_in_room table write) 0 (cell_at g c) l deep
+      ∙ ap (λ (n : ℕ). after n (slot_at g c l)) plain
 
-  wanted_at : (c : ℕ) → c < g.width * g.height → cell_at (rewritten_where g becomes chosen).grid c ≡ cell_where g becomes chosen c
+  wanted_at : (c : ℕ) → c < g.width * g.height →
+      cell_at (rewritten_where g becomes chosen).grid c ≡ cell_where g becomes chosen c
   wanted_at c low = cell_at-where g becomes chosen c (rw long low)
 
-  wanted_slots : (c : ℕ) → c < g.width * g.height → length (cell_at (rewritten_where g becomes chosen).grid c) ≡ g.layers
+  wanted_slots : (c : ℕ) → c < g.width * g.height →
+      length (cell_at (rewritten_where g becomes chosen).grid c) ≡ g.layers
   wanted_slots c low = ap length (wanted_at c low) ∙ elim (cases_Bool (chosen c)) [
     | inl sure ↦ rw sure (length-written_from (write_in_room table write) 0 (cell_at g c) ∙ slots c low)
     | inr never ↦ rw never (slots c low)
   ]
 
-  cells_written : AreSlotsWritten g next chosen (λ l. true) after → next.cells ≡ (rewritten_where g becomes chosen).grid.cells
+  cells_written : AreSlotsWritten g next chosen (λ l. true) after →
+      next.cells ≡ (rewritten_where g becomes chosen).grid.cells
   cells_written so =
-      cells_by_slots next.cells (rewritten_where g becomes chosen).grid.cells (g.width * g.height) g.layers next_long (length-where g becomes chosen ∙ long) next_slots wanted_slots
+      cells_by_slots next.cells (rewritten_where g becomes chosen).grid.cells (g.width * g.height) g.layers next_long
+      (length-where g becomes chosen ∙ long) next_slots wanted_slots
       (λ c l low below. so c l low below ∙ elim (cases_Bool (chosen c)) [
         | inl sure ↦
-            ap (λ (b : Bool). slot_when (b && true) (after l (slot_at g c l)) (slot_at g c l)) sure ∙ sym (slot_becomes c l low below)
+            ap (λ (b : Bool). slot_when (b && true) (after l (slot_at g c l)) (slot_at g c l)) sure
+            ∙ sym (slot_becomes c l low below)
             ∙ sym (ap (λ (cell : List Slot). get_or cell l Bare) (wanted_at c low ∙ rw sure refl))
         | inr never ↦
             ap (λ (b : Bool). slot_when (b && true) (after l (slot_at g c l)) (slot_at g c l)) never
             ∙ sym (ap (λ (cell : List Slot). get_or cell l Bare) (wanted_at c low ∙ rw never refl))
       ])
 
-  change_none : AreSlotsLeft g chosen (λ l. true) after → (c : ℕ) → c < g.width * g.height → changes_where g becomes chosen c ≡ false
+  change_none : AreSlotsLeft g chosen (λ l. true) after → (c : ℕ) → c < g.width * g.height →
+      changes_where g becomes chosen c ≡ false
   change_none left c low = elim (cases_Bool (chosen c)) [
     | inl sure ↦
         rw sure (ap not (cell_left (write_in_room table write) 0 (cell_at g c)
@@ -201,17 +248,22 @@ module _ (table : Option (List ℕ)) (write : CellWrite) (g next : Grid) (chosen
     | inr never ↦ rw never refl
   ]
 
-  left_none_changes : list_any (changes_where g becomes chosen) (range_with_len 0 (length g.cells)) ≡ false → AreSlotsLeft g chosen (λ l. true) after
+  left_none_changes : list_any (changes_where g becomes chosen) (range_with_len 0 (length g.cells)) ≡ false →
+      AreSlotsLeft g chosen (λ l. true) after
   left_none_changes none = λ c l low below sure on.
       let inside : c < 0 + length g.cells = omega (arith, long, low) in
-      let stays : (chosen c && not (same_cell (cell_at g c) (becomes (cell_at g c)))) ≡ false = none_of (changes_where g becomes chosen) 0 (length g.cells) c (omega arith) inside none in
+      let stays : (chosen c && not (same_cell (cell_at g c) (becomes (cell_at g c)))) ≡ false =
+      none_of (changes_where g becomes chosen) 0 (length g.cells) c (omega arith) inside none in
       let same : same_cell (cell_at g c) (becomes (cell_at g c)) ≡ true =
-      not-false (same_cell (cell_at g c) (becomes (cell_at g c))) (ap (λ (b : Bool). b && not (same_cell (cell_at g c) (becomes (cell_at g c)))) (sym sure) ∙ stays) in
+      not-false (same_cell (cell_at g c) (becomes (cell_at g c)))
+      (ap (λ (b : Bool). b && not (same_cell (cell_at g c) (becomes (cell_at g c)))) (sym sure) ∙ stays) in
       let deep : l < length (cell_at g c) = rw (slots c low) below in
       let plain : 0 + l ≡ l = omega arith in
-      ap (λ (n : ℕ). same_slot (slot_at g c l) (after n (slot_at g c l))) (sym plain) ∙ slot_left (write_in_room table write) 0 (cell_at g c) l deep same
+      ap (λ (n : ℕ). same_slot (slot_at g c l) (after n (slot_at g c l))) (sym plain)
+      ∙ slot_left (write_in_room table write) 0 (cell_at g c) l deep same
 
-  changed_exactly : (changed : Bool) → (changed ≡ false → AreSlotsLeft g chosen (λ l. true) after) → (AreSlotsLeft g chosen (λ l. true) after → changed ≡ false) →
+  changed_exactly : (changed : Bool) → (changed ≡ false → AreSlotsLeft g chosen (λ l. true) after) →
+      (AreSlotsLeft g chosen (λ l. true) after → changed ≡ false) →
       changed ≡ (rewritten_where g becomes chosen).changed
   unfolding rewritten_where
   changed_exactly changed quiet left = elim (cases_Bool changed) [
@@ -219,11 +271,14 @@ module _ (table : Option (List ℕ)) (write : CellWrite) (g next : Grid) (chosen
       | inl some ↦ told ∙ sym some
       | inr none ↦ absurd (false≢true (sym (left (left_none_changes none)) ∙ told))
     ]
-    | inr silent ↦ silent ∙ sym (any_none (changes_where g becomes chosen) 0 (length g.cells) (λ c low high. change_none (quiet silent) c (rw (← long) (omega arith))))
+    | inr silent ↦ silent ∙ sym (any_none (changes_where g becomes chosen) 0 (length g.cells) (λ c low high.
+        change_none (quiet silent) c (rw (← long) (omega arith))))
   ]
 
-  pub row_rewritten : (changed : Bool) → next.width ≡ g.width → next.height ≡ g.height → next.layers ≡ g.layers → AreSlotsWritten g next chosen (λ l. true) after →
-      (changed ≡ false → AreSlotsLeft g chosen (λ l. true) after) → (AreSlotsLeft g chosen (λ l. true) after → changed ≡ false) →
+  pub row_rewritten : (changed : Bool) → next.width ≡ g.width → next.height ≡ g.height → next.layers ≡ g.layers →
+      AreSlotsWritten g next chosen (λ l. true) after →
+      (changed ≡ false → AreSlotsLeft g chosen (λ l. true) after) →
+      (AreSlotsLeft g chosen (λ l. true) after → changed ≡ false) →
       record { grid = next; changed = changed } ≡ rewritten_where g becomes chosen
   unfolding rewritten_where
   row_rewritten changed wide high deep so quiet left =
@@ -231,19 +286,24 @@ module _ (table : Option (List ℕ)) (write : CellWrite) (g next : Grid) (chosen
       ap (λ (k : Grid). let r : Rewritten = record { grid = k; changed = changed } in r) sides
       ∙ ap₂ (rewritten_of g) (cells_written so) (changed_exactly changed quiet left)
 
--- sets of columns ---------------------------------------------------------------------------------------------------------
+-- sets of columns -----------------------------------------------------------------------------------------------------
 
 module _ (width : ℕ) (all columns : List Bool) (narrow : width ≤ SIDE_LIMIT) (is : all ≡ columns_below width) where
   pub set_within : (x : ℕ) → width ≤ x → x < SIDE_LIMIT → column_at (both_columns columns all) x ≡ false
   set_within x far low =
-      both_at columns all x low ∙ ap (λ (b : Bool). column_at columns x && b) (wide_of all width is x low ∙ le-ltb x width far) ∙ and-false (column_at columns x)
+      both_at columns all x low ∙ ap (λ (b : Bool). column_at columns x && b) (wide_of all width is x low
+      ∙ le-ltb x width far) ∙ and-false (column_at columns x)
 
   set_column : (x : ℕ) → x < width → column_at (both_columns columns all) x ≡ column_at columns x
   set_column x near =
-      both_at columns all x (omega (arith, near, narrow)) ∙ ap (λ (b : Bool). column_at columns x && b) (wide_on all width narrow is x near) ∙ and-true (column_at columns x)
+      both_at columns all x (omega (arith, near, narrow))
+      ∙ ap (λ (b : Bool). column_at columns x && b) (wide_on all width narrow is x near)
+      ∙ and-true (column_at columns x)
 
-  pub set_rewritten : (g : Grid) (becomes : List Slot → List Slot) (row : ℕ) → g.width ≡ width → row < g.height → length g.cells ≡ g.width * g.height →
-      rewritten_where g becomes (in_columns g.height row (both_columns columns all)) ≡ rewritten_where g becomes (is_on_row g.height row columns)
+  pub set_rewritten : (g : Grid) (becomes : List Slot → List Slot) (row : ℕ) → g.width ≡ width → row < g.height →
+      length g.cells ≡ g.width * g.height →
+      rewritten_where g becomes (in_columns g.height row (both_columns columns all)) ≡ rewritten_where g becomes
+      (is_on_row g.height row columns)
   set_rewritten g becomes row same under long =
       where-agree g becomes (in_columns g.height row (both_columns columns all)) (is_on_row g.height row columns)
       (λ n low.
@@ -252,14 +312,17 @@ module _ (width : ℕ) (all columns : List Bool) (narrow : width ≤ SIDE_LIMIT)
       let near : n / g.height < width = rw (← same) (div_below n g.height g.width some inside) in
       ap (λ (b : Bool). nat_eq (n % g.height) row && b) (set_column (n / g.height) near))
 
-  pub set_empty : (g : Grid) (becomes : List Slot → List Slot) (row : ℕ) → g.width ≡ width → row < g.height → length g.cells ≡ g.width * g.height →
-      set_columns (both_columns columns all) ≡ [] → record { grid = g; changed = false } ≡ rewritten_where g becomes (is_on_row g.height row columns)
+  pub set_empty : (g : Grid) (becomes : List Slot → List Slot) (row : ℕ) → g.width ≡ width → row < g.height →
+      length g.cells ≡ g.width * g.height →
+      set_columns (both_columns columns all) ≡ [] →
+      record { grid = g; changed = false } ≡ rewritten_where g becomes (is_on_row g.height row columns)
   set_empty g becomes row same under long none =
       sym (where-none g becomes (in_columns g.height row (both_columns columns all))
       (λ n low.
       let some : 0 < g.height = omega (arith, under) in
       let inside : n < g.width * g.height = rw (← long) low in
       let near : n / g.height < width = rw (← same) (div_below n g.height g.width some inside) in
-      ap (λ (b : Bool). nat_eq (n % g.height) row && b) (none_in (both_columns columns all) (n / g.height) none (omega (arith, near, narrow)))
+      ap (λ (b : Bool). nat_eq (n % g.height) row && b)
+      (none_in (both_columns columns all) (n / g.height) none (omega (arith, near, narrow)))
       ∙ and-false (nat_eq (n % g.height) row)))
       ∙ set_rewritten g becomes row same under long

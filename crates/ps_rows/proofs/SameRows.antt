@@ -1,5 +1,6 @@
 -- Columns in which a row is the same in the planes of all objects show the same objects.
-use Rattle.std.proofs.Common.{◌≡◌, ℕ, zero, suc, ◌+◌, ◌*◌, ◌<◌, ◌≤◌, true, false, List, [], ◌∷◌, length, map, refl, sym, ap, ◌∙◌, arith, Bool, not, ap₂, ◌&&◌}
+use Rattle.std.proofs.Common.{◌≡◌, ℕ, zero, suc, ◌+◌, ◌*◌, ◌<◌, ◌≤◌, true, false, List, [], ◌∷◌, length, map, refl, sym}
+use Rattle.std.proofs.Common.{ap, ◌∙◌, arith, Bool, not, ap₂, ◌&&◌}
 use Rattle.std.specs.Prelude.{option_map}
 use Rattle.std.specs.List.{range_with_len}
 use Rattle.std.proofs.lemmas.Bool.{and_parts, not-true}
@@ -24,36 +25,48 @@ use Rattle.ps_model.specs.declared.limits.TheConstants.{SIDE_LIMIT}
 
 -- two cells of a row, each of a board, have the same objects where each object's plane has both or neither
 same_shown : (table : List ℕ) (height : ℕ) (first second : List (List Bool)) (row x y : ℕ) → row < height →
-    ((o : ℕ) → o < length table → column_at (row_of first (o * height + row)) x ≡ column_at (row_of second (o * height + row)) y) → (layer : ℕ) →
+    ((o : ℕ) → o < length table → column_at (row_of first (o * height + row)) x ≡ column_at
+    (row_of second (o * height + row)) y) → (layer : ℕ) →
     object_shown table height first (x * height + row) layer ≡ object_shown table height second (y * height + row) layer
 unfolding object_shown
 same_shown table height first second row x y under same layer =
-    find_same (has_cell height first (x * height + row)) (has_cell height second (y * height + row)) (on_layer table layer)
+    find_same (has_cell height first (x * height + row)) (has_cell height second (y * height + row))
+    (on_layer table layer)
     (λ o listed.
     let below : o < length table = slice_get_within table o layer (listed_member table layer o listed) in
     sym (column_read height first row o x under) ∙ same o below ∙ column_read height second row o y under)
 
 pub object_of_shown : (table : List ℕ) (height : ℕ) (words : List (List Bool)) (cell layer : ℕ) →
-    object_in (slot_shown table height words cell layer) ≡ option_map numbered (object_shown table height words cell layer)
+    object_in (slot_shown table height words cell layer) ≡ option_map numbered
+    (object_shown table height words cell layer)
 unfolding slot_shown
-object_of_shown table height words cell layer = object_of_slot (object_shown table height words cell layer) (motion_shown table height words cell layer)
+object_of_shown table height words cell layer =
+    object_of_slot (object_shown table height words cell layer) (motion_shown table height words cell layer)
 
-one_more : (x y : Slot) (xs ys : List Slot) → object_in x ≡ object_in y → objects_in xs ≡ objects_in ys → objects_in (x ∷ xs) ≡ objects_in (y ∷ ys)
+one_more : (x y : Slot) (xs ys : List Slot) → object_in x ≡ object_in y → objects_in xs ≡ objects_in ys →
+    objects_in (x ∷ xs) ≡ objects_in (y ∷ ys)
 one_more x y xs ys e f = rw (e, f) refl
 
 same_objects : (table : List ℕ) (height : ℕ) (first second : List (List Bool)) (cell other : ℕ) →
-    ((layer : ℕ) → object_shown table height first cell layer ≡ object_shown table height second other layer) → (a n : ℕ) →
-    objects_in (map (slot_shown table height first cell) (range_with_len a n)) ≡ objects_in (map (slot_shown table height second other) (range_with_len a n))
+    ((layer : ℕ) → object_shown table height first cell layer ≡ object_shown table height second other layer) →
+    (a n : ℕ) →
+    objects_in (map (slot_shown table height first cell) (range_with_len a n)) ≡ objects_in
+    (map (slot_shown table height second other) (range_with_len a n))
 same_objects table height first second cell other same a zero = refl
 same_objects table height first second cell other same a (suc n) =
     one_more (slot_shown table height first cell a) (slot_shown table height second other a)
-    (map (slot_shown table height first cell) (range_with_len (a + 1) n)) (map (slot_shown table height second other) (range_with_len (a + 1) n))
-    (object_of_shown table height first cell a ∙ ap (option_map numbered) (same a) ∙ sym (object_of_shown table height second other a))
+    (map (slot_shown table height first cell) (range_with_len (a + 1) n))
+    (map (slot_shown table height second other) (range_with_len (a + 1) n))
+    (object_of_shown table height first cell a ∙ ap (option_map numbered) (same a)
+    ∙ sym (object_of_shown table height second other a))
     (same_objects table height first second cell other same (a + 1) n)
 
-cells_same : (table : List ℕ) (width height layers : ℕ) (first second : List (List Bool)) (row x y : ℕ) → row < height → x < width → y < width →
-    ((o : ℕ) → o < length table → column_at (row_of first (o * height + row)) x ≡ column_at (row_of second (o * height + row)) y) →
-    objects_in (cell_at (grid_shown table width height layers first) (x * height + row)) ≡ objects_in (cell_at (grid_shown table width height layers second) (y * height + row))
+cells_same : (table : List ℕ) (width height layers : ℕ) (first second : List (List Bool)) (row x y : ℕ) →
+    row < height → x < width → y < width →
+    ((o : ℕ) → o < length table → column_at (row_of first (o * height + row)) x ≡ column_at
+    (row_of second (o * height + row)) y) →
+    objects_in (cell_at (grid_shown table width height layers first) (x * height + row)) ≡ objects_in
+    (cell_at (grid_shown table width height layers second) (y * height + row))
 unfolding cells_shown cell_shown
 cells_same table width height layers first second row x y under across over same =
     let place : x * height + row < height * width = mul-add-lt x height row width across under in
@@ -61,10 +74,13 @@ cells_same table width height layers first second row x y under across over same
     let inside : x * height + row < width * height = omega arith in
     let within : y * height + row < width * height = omega arith in
     ap objects_in (tabled_at (cell_shown table layers height first) (width * height) (x * height + row) [] inside)
-    ∙ same_objects table height first second (x * height + row) (y * height + row) (same_shown table height first second row x y under same) 0 layers
-    ∙ sym (ap objects_in (tabled_at (cell_shown table layers height second) (width * height) (y * height + row) [] within))
+    ∙ same_objects table height first second (x * height + row) (y * height + row)
+    (same_shown table height first second row x y under same) 0 layers
+    ∙ sym (ap objects_in (tabled_at (cell_shown table layers height second) (width * height) (y * height + row) []
+    within))
 
-pub others_same : (table : List ℕ) (width height layers : ℕ) (first second : List (List Bool)) (row : ℕ) (word : List Bool) → row < height → width ≤ SIDE_LIMIT →
+pub others_same : (table : List ℕ) (width height layers : ℕ) (first second : List (List Bool)) (row : ℕ)
+    (word : List Bool) → row < height → width ≤ SIDE_LIMIT →
     HasDifferences height row (length table) first second word →
     DifferOnlyIn word (grid_shown table width height layers first) (grid_shown table width height layers second) row
 others_same table width height layers first second row word under narrow same = λ column h none.
@@ -72,18 +88,21 @@ others_same table width height layers first second row word under narrow same = 
     (λ o below. same o column below (omega (arith, h, narrow)) none)
 
 -- a column is among those of a board that aren't unlike it, and any other there shows what it shows
-pub itself_alike : (width : ℕ) (all unlike : List Bool) (column : ℕ) → column < width → width ≤ SIDE_LIMIT → all ≡ columns_below width →
+pub itself_alike : (width : ℕ) (all unlike : List Bool) (column : ℕ) → column < width → width ≤ SIDE_LIMIT →
+    all ≡ columns_below width →
     column_at unlike column ≡ false → column_at (columns_without all unlike) column ≡ true
 itself_alike width all unlike column across narrow is none =
     without_at all unlike column (omega (arith, across, narrow))
     ∙ ap₂ (λ (a b : Bool). a && not b) (wide_on all width narrow is column across) none
 
-like_column : (all unlike : List Bool) (x : ℕ) → x < SIDE_LIMIT → column_at (columns_without all unlike) x ≡ true → column_at unlike x ≡ false
+like_column : (all unlike : List Bool) (x : ℕ) → x < SIDE_LIMIT → column_at (columns_without all unlike) x ≡ true →
+    column_at unlike x ≡ false
 like_column all unlike x low has =
     let parts = and_parts (column_at all x) (not (column_at unlike x)) (sym (without_at all unlike x low) ∙ has) in
     not-true (column_at unlike x) parts.1
 
-pub columns_alike : (table : List ℕ) (width height layers : ℕ) (words : List (List Bool)) (row column : ℕ) (all unlike : List Bool) → row < height → column < width → width ≤ SIDE_LIMIT →
+pub columns_alike : (table : List ℕ) (width height layers : ℕ) (words : List (List Bool)) (row column : ℕ)
+    (all unlike : List Bool) → row < height → column < width → width ≤ SIDE_LIMIT →
     all ≡ columns_below width → HasUnlikeOf height row (length table) words all column unlike →
     AreAlike (columns_without all unlike) (grid_shown table width height layers words) row column
 columns_alike table width height layers words row column all unlike under over narrow is told = λ x across has.

@@ -6,9 +6,12 @@ use Rattle.ps_rows.specs.Planes.{IsSet, row_of}
 use Rattle.ps_rows.proofs.Sets.{empty_of, neither_at, not_unlike, same_set}
 
 -- one row more is compared
-pub one_word_more : (height plane row : ℕ) (unlike : List Bool) (first second : List (List Bool)) → IsSet (row_of first (plane * height + row)) → IsSet (row_of second (plane * height + row)) →
-    (set_columns unlike ≡ [] → (y : ℕ) → y < row → row_of first (plane * height + y) ≡ row_of second (plane * height + y)) →
-    set_columns (either_columns unlike (unlike_columns (row_of first (plane * height + row)) (row_of second (plane * height + row)))) ≡ [] →
+pub one_word_more : (height plane row : ℕ) (unlike : List Bool) (first second : List (List Bool)) →
+    IsSet (row_of first (plane * height + row)) → IsSet (row_of second (plane * height + row)) →
+    (set_columns unlike ≡ [] → (y : ℕ) → y < row →
+    row_of first (plane * height + y) ≡ row_of second (plane * height + y)) →
+    set_columns (either_columns unlike (unlike_columns (row_of first (plane * height + row))
+    (row_of second (plane * height + row)))) ≡ [] →
     (y : ℕ) → y < row + 1 → row_of first (plane * height + y) ≡ row_of second (plane * height + y)
 one_word_more height plane row unlike first second is so before none y below =
     let here : List Bool = row_of first (plane * height + row) in

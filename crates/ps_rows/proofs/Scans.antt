@@ -32,7 +32,8 @@ use Rattle.ps_rows.proofs.Sets.{both_at, either_at, none_at, wide_of, wide_on, w
 use Rattle.ps_rows.proofs.Listed.{same_tests}
 use Rattle.ps_rows.proofs.Rests.{slot_read, object_room}
 use Rattle.ps_rows.proofs.Tables.{tabled_at}
-use Rattle.ps_board.specs.ColumnSets.{both_columns, column_at, columns_below, columns_without, either_columns, no_columns}
+use Rattle.ps_board.specs.ColumnSets.{both_columns, column_at, columns_below, columns_without, either_columns}
+use Rattle.ps_board.specs.ColumnSets.{no_columns}
 use Rattle.ps_model.specs.declared.limits.TheConstants.{SIDE_LIMIT}
 
 -- loops ---------------------------------------------------------------------------------------------------------------
@@ -100,7 +101,8 @@ no_plane first (Going Left) h = absurd (none-some (first + 2) (sym h))
 no_plane first (Going Right) h = absurd (none-some (first + 3) (sym h))
 no_plane first Acting h = absurd (none-some (first + 4) (sym h))
 
-module _ (table : List ℕ) (width height layers : ℕ) (words : List (List Bool)) (row : ℕ) (some : 0 < height) (narrow : width ≤ SIDE_LIMIT)
+module _ (table : List ℕ) (width height layers : ℕ) (words : List (List Bool)) (row : ℕ) (some : 0 < height)
+    (narrow : width ≤ SIDE_LIMIT)
     (under : row < height) where
   abbrev g : Grid
   g = grid_shown table width height layers words
@@ -236,8 +238,10 @@ and4 true true false d = refl
 and4 true false c d = refl
 and4 false b c d = refl
 
-pub mask_inside : (g : Grid) (row : ℕ) (full needed barred listed moving : List Bool) (mask : CellMask) → g.width ≤ SIDE_LIMIT →
-    full ≡ columns_below g.width → IsRowOf g row needed (held_all mask.needed) → IsRowOf g row barred (held_any mask.barred) →
+pub mask_inside : (g : Grid) (row : ℕ) (full needed barred listed moving : List Bool) (mask : CellMask) →
+    g.width ≤ SIDE_LIMIT →
+    full ≡ columns_below g.width → IsRowOf g row needed (held_all mask.needed) →
+    IsRowOf g row barred (held_any mask.barred) →
     IsRowOf g row listed (held_of_each mask.one_of) → IsRowOf g row moving (moved_all mask.motions) →
     IsRowOf g row (both_columns (both_columns (columns_without (both_columns full needed) barred) listed) moving)
     (mask_fits mask)
@@ -250,7 +254,8 @@ mask_inside g row full needed barred listed moving mask narrow is a b c d = λ x
     (both_at (columns_without (both_columns full needed) barred) listed x low
     ∙ ap₂ both
     (without_at (both_columns full needed) barred x low
-    ∙ ap₂ (λ (p q : Bool). p && not q) (both_at full needed x low ∙ ap₂ both (wide_on full g.width narrow is x h) (a x h))
+    ∙ ap₂ (λ (p q : Bool). p && not q) (both_at full needed x low
+    ∙ ap₂ both (wide_on full g.width narrow is x h) (a x h))
     (b x h))
     (c x h))
     (d x h)

@@ -1,5 +1,6 @@
 -- Sets with the columns that aren't as one of them is in other sets.
-use Rattle.std.proofs.Common.{◌≡◌, ◌∙◌, ℕ, ◌+◌, ◌*◌, ◌<◌, inl, inr, ◌&&◌, ◌||◌, Bool, true, false, not, List, sym, ap, ap₂, arith}
+use Rattle.std.proofs.Common.{◌≡◌, ◌∙◌, ℕ, ◌+◌, ◌*◌, ◌<◌, inl, inr, ◌&&◌, ◌||◌, Bool, true, false, not, List, sym, ap}
+use Rattle.std.proofs.Common.{ap₂, arith}
 use Rattle.std.proofs.lemmas.Bool.{cases_eq, or_parts, not-false}
 use Rattle.std.proofs.Math.Bool.{and-false}
 use Rattle.ps_model.specs.declared.limits.TheConstants.{SIDE_LIMIT}
@@ -12,13 +13,16 @@ use Rattle.ps_rows.proofs.Sets.{either_at, none_at, without_at}
 pub none_unlike : (all of : List Bool) (column : ℕ) → of ≡ no_columns → HasUnlike all of column no_columns
 none_unlike all of column empty = (
   none_at column,
-  λ x low on none. ap (λ (word : List Bool). column_at word x) empty ∙ none_at x ∙ sym (ap (λ (word : List Bool). column_at word column) empty ∙ none_at column),
+  λ x low on none. ap (λ (word : List Bool). column_at word x) empty ∙ none_at x
+      ∙ sym (ap (λ (word : List Bool). column_at word column) empty ∙ none_at column),
 )
 
 -- the columns that a set hasn't, if it has that one
-pub others_unlike : (all word : List Bool) (column : ℕ) → column < SIDE_LIMIT → column_at word column ≡ true → HasUnlike all word column (columns_without all word)
+pub others_unlike : (all word : List Bool) (column : ℕ) → column < SIDE_LIMIT → column_at word column ≡ true →
+    HasUnlike all word column (columns_without all word)
 others_unlike all word column low has = (
-  without_at all word column low ∙ ap (λ (b : Bool). column_at all column && not b) has ∙ and-false (column_at all column),
+  without_at all word column low ∙ ap (λ (b : Bool). column_at all column && not b) has
+      ∙ and-false (column_at all column),
   λ x across on none.
       let told = sym (ap (λ (b : Bool). b && not (column_at word x)) on) ∙ sym (without_at all word x across) ∙ none in
       not-false (column_at word x) told ∙ sym has,
@@ -29,11 +33,14 @@ pub own_unlike : (all word : List Bool) (column : ℕ) → column_at word column
 own_unlike all word column hasnt = (hasnt, λ x low on none. none ∙ sym hasnt)
 
 -- no plane is looked at, and one more
-pub nothing_unlike : (height row column : ℕ) (words : List (List Bool)) (all : List Bool) → HasUnlikeOf height row 0 words all column no_columns
+pub nothing_unlike : (height row column : ℕ) (words : List (List Bool)) (all : List Bool) →
+    HasUnlikeOf height row 0 words all column no_columns
 nothing_unlike height row column words all = (none_at column, λ plane x below low on none. absurd (omega arith))
 
-pub one_more_unlike : (height row plane column : ℕ) (all unlike more : List Bool) (words : List (List Bool)) → column < SIDE_LIMIT → HasUnlikeOf height row plane words all column unlike →
-    HasUnlike all (row_of words (plane * height + row)) column more → HasUnlikeOf height row (plane + 1) words all column (either_columns unlike more)
+pub one_more_unlike : (height row plane column : ℕ) (all unlike more : List Bool) (words : List (List Bool)) →
+    column < SIDE_LIMIT → HasUnlikeOf height row plane words all column unlike →
+    HasUnlike all (row_of words (plane * height + row)) column more →
+    HasUnlikeOf height row (plane + 1) words all column (either_columns unlike more)
 one_more_unlike height row plane column all unlike more words near before here = (
   either_at unlike more column near ∙ ap₂ (λ (a b : Bool). a || b) before.0 here.0,
   λ each x below low on none.

@@ -3,18 +3,26 @@ use Rattle.std.specs.Prelude.{◌≡◌, ◌<◌, ◌≤◌, ℕ, ◌+◌, ◌*�
 use Rattle.ps_board.specs.ColumnSets.{column_at}
 use Rattle.ps_rows.specs.Planes.{row_of}
 
--- behind a change the planes from the first up to the end are those of a source, and all others are what they were; those of no
+-- behind a change the planes from the first up to the end are those of a source, and all others are what they were;
+-- those of no
 -- rows have no columns
 pub record ArePlanesOf (height first end : ℕ) (source before after : List (List Bool)) : Type 0 where
-  pub below : (plane row : ℕ) → row < height → plane < first → row_of after (plane * height + row) ≡ row_of before (plane * height + row)
-  pub behind : (plane row : ℕ) → row < height → end ≤ plane → row_of after (plane * height + row) ≡ row_of before (plane * height + row)
-  pub copied : (plane row : ℕ) → row < height → first ≤ plane → plane < end → row_of after (plane * height + row) ≡ row_of source (plane * height + row)
+  pub below : (plane row : ℕ) → row < height → plane < first →
+      row_of after (plane * height + row) ≡ row_of before (plane * height + row)
+  pub behind : (plane row : ℕ) → row < height → end ≤ plane →
+      row_of after (plane * height + row) ≡ row_of before (plane * height + row)
+  pub copied : (plane row : ℕ) → row < height → first ≤ plane → plane < end →
+      row_of after (plane * height + row) ≡ row_of source (plane * height + row)
 
--- behind a change those rows of the planes from the first up to the end that are in a set are a source's, and all others are what
+-- behind a change those rows of the planes from the first up to the end that are in a set are a source's, and all
+-- others are what
 -- they were
 pub record AreRowsOf (height first end : ℕ) (rows : List Bool) (source before after : List (List Bool)) : Type 0 where
-  pub below : (plane row : ℕ) → row < height → plane < first → row_of after (plane * height + row) ≡ row_of before (plane * height + row)
-  pub behind : (plane row : ℕ) → row < height → end ≤ plane → row_of after (plane * height + row) ≡ row_of before (plane * height + row)
+  pub below : (plane row : ℕ) → row < height → plane < first →
+      row_of after (plane * height + row) ≡ row_of before (plane * height + row)
+  pub behind : (plane row : ℕ) → row < height → end ≤ plane →
+      row_of after (plane * height + row) ≡ row_of before (plane * height + row)
   pub copied : (plane row : ℕ) → row < height → first ≤ plane → plane < end → column_at rows row ≡ true →
       row_of after (plane * height + row) ≡ row_of source (plane * height + row)
-  pub left : (plane row : ℕ) → row < height → column_at rows row ≡ false → row_of after (plane * height + row) ≡ row_of before (plane * height + row)
+  pub left : (plane row : ℕ) → row < height → column_at rows row ≡ false →
+      row_of after (plane * height + row) ≡ row_of before (plane * height + row)

@@ -1,6 +1,8 @@
--- Planes of rows, each a set of columns, as one flat list: row y of a plane is the set at plane * height + y, and the set says
+-- Planes of rows, each a set of columns, as one flat list: row y of a plane is the set at plane * height + y, and the
+-- set says
 -- whether the plane has the cell in each column of that row.
-use Rattle.std.specs.Prelude.{ℕ, ◌+◌, ◌*◌, ◌/◌, ◌%◌, ◌≡◌, ◌≤◌, nat_eq, length, Bool, true, Option, List, [], ◌∷◌, slice_index_or, slice_set}
+use Rattle.std.specs.Prelude.{ℕ, ◌+◌, ◌*◌, ◌/◌, ◌%◌, ◌≡◌, ◌≤◌, nat_eq, length, Bool, true, Option, List, [], ◌∷◌}
+use Rattle.std.specs.Prelude.{slice_index_or, slice_set}
 use Rattle.std.specs.List.{list_any}
 use Rattle.ps_model.specs.board.Movement.{is_number}
 use Rattle.ps_board.specs.ColumnSets.{column_at, columns_where, no_columns, with_column}
@@ -24,7 +26,8 @@ has_cell height words cell plane = column_at (row_of words (plane * height + cel
 -- the planes with the cell in that one, or without it
 unfoldable pub with_cell : ℕ → List (List Bool) → ℕ → ℕ → Bool → List (List Bool)
 with_cell height words cell plane on =
-    let place = plane * height + cell % height in slice_set words place (with_column (row_of words place) (cell / height) on)
+    let place = plane * height + cell % height in
+    slice_set words place (with_column (row_of words place) (cell / height) on)
 
 -- of these planes the chosen one with the cell, and each other without it
 unfoldable pub with_cell_in : ℕ → ℕ → Option ℕ → List (List Bool) → List ℕ → List (List Bool)
@@ -34,4 +37,5 @@ with_cell_in height cell chosen words (plane ∷ planes) =
 
 -- the rows of each of these planes are all there
 abbrev pub HavePlanes : ℕ → List (List Bool) → List ℕ → Type 0
-HavePlanes height words planes = (plane : ℕ) → list_any (nat_eq plane) planes ≡ true → (plane + 1) * height ≤ length words
+HavePlanes height words planes = (plane : ℕ) → list_any (nat_eq plane) planes ≡ true →
+    (plane + 1) * height ≤ length words

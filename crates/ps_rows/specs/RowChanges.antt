@@ -1,5 +1,6 @@
 -- What becomes of a row of planes: columns are cleared in each of them, and then columns are set in one.
-use Rattle.std.specs.Prelude.{◌≡◌, ◌<◌, ℕ, ◌+◌, ◌*◌, nat_eq, ◌&&◌, ◌||◌, not, if◌then◌else◌, Bool, true, false, Option, Some, None, List, length, slice_set}
+use Rattle.std.specs.Prelude.{◌≡◌, ◌<◌, ℕ, ◌+◌, ◌*◌, nat_eq, ◌&&◌, ◌||◌, not, if◌then◌else◌, Bool, true, false, Option}
+use Rattle.std.specs.Prelude.{Some, None, List, length, slice_set}
 use Rattle.std.specs.List.{list_any}
 use Rattle.ps_model.specs.declared.pieces.Motion.{Motion}
 use Rattle.ps_model.specs.declared.compiled.LayerWrite.{LayerWrite}
@@ -26,38 +27,48 @@ word_after change plane word = either_columns (columns_without word change.clear
 
 -- one of them, as it was before
 abbrev pub bit_after : Change → ℕ → ℕ → Bool → Bool
-bit_after change plane x before = (before && not (column_at change.cleared x)) || (is_number change.plane plane && column_at change.set x)
+bit_after change plane x before = (before && not (column_at change.cleared x)) ||
+    (is_number change.plane plane && column_at change.set x)
 
 -- the planes, of which one has its row changed
 abbrev pub row_after : ℕ → ℕ → Change → List (List Bool) → ℕ → List (List Bool)
-row_after height row change words plane = let place = plane * height + row in slice_set words place (word_after change plane (row_of words place))
+row_after height row change words plane = let place = plane * height + row in
+    slice_set words place (word_after change plane (row_of words place))
 
 -- the planes, of which each of these has its row changed
-pub record AreRowsChanged (height row : ℕ) (change : Change) (words written : List (List Bool)) (planes : List ℕ) : Type 0 where
+pub record AreRowsChanged (height row : ℕ) (change : Change) (words written : List (List Bool)) (planes : List ℕ) :
+    Type 0 where
   pub long : length written ≡ length words
   pub there : (plane x : ℕ) → list_any (nat_eq plane) planes ≡ true → x < SIDE_LIMIT →
-      column_at (row_of written (plane * height + row)) x ≡ bit_after change plane x (column_at (row_of words (plane * height + row)) x)
+      column_at (row_of written (plane * height + row)) x ≡ bit_after change plane x
+      (column_at (row_of words (plane * height + row)) x)
   pub elsewhere : (plane y : ℕ) → y < height → (y ≡ row → list_any (nat_eq plane) planes ≡ false) →
       row_of written (plane * height + y) ≡ row_of words (plane * height + y)
 
 -- the planes, of which those of a layer's objects have their row changed, and those of its motions, from the first on
-pub record IsLayerWritten (height row : ℕ) (words written : List (List Bool)) (planes : List ℕ) (objects : Change) (first : ℕ) (motions : Change) : Type 0 where
+pub record IsLayerWritten (height row : ℕ) (words written : List (List Bool)) (planes : List ℕ) (objects : Change)
+    (first : ℕ) (motions : Change) : Type 0 where
   pub long : length written ≡ length words
   pub objects_there : (plane x : ℕ) → list_any (nat_eq plane) planes ≡ true → x < SIDE_LIMIT →
-      column_at (row_of written (plane * height + row)) x ≡ bit_after objects plane x (column_at (row_of words (plane * height + row)) x)
+      column_at (row_of written (plane * height + row)) x ≡ bit_after objects plane x
+      (column_at (row_of words (plane * height + row)) x)
   pub motions_there : (plane x : ℕ) → list_any (nat_eq plane) (motion_planes first) ≡ true → x < SIDE_LIMIT →
-      column_at (row_of written (plane * height + row)) x ≡ bit_after motions plane x (column_at (row_of words (plane * height + row)) x)
-  pub elsewhere : (plane y : ℕ) → y < height → (y ≡ row → list_any (nat_eq plane) planes ≡ false) → (y ≡ row → list_any (nat_eq plane) (motion_planes first) ≡ false) →
+      column_at (row_of written (plane * height + row)) x ≡ bit_after motions plane x
+      (column_at (row_of words (plane * height + row)) x)
+  pub elsewhere : (plane y : ℕ) → y < height → (y ≡ row → list_any (nat_eq plane) planes ≡ false) →
+      (y ≡ row → list_any (nat_eq plane) (motion_planes first) ≡ false) →
       row_of written (plane * height + y) ≡ row_of words (plane * height + y)
 
 -- the change leaves the row of a plane as it is
 abbrev pub IsRowLeft : ℕ → ℕ → Change → List (List Bool) → ℕ → Type 0
 IsRowLeft height row change words plane =
-    let word = row_of words (plane * height + row) in (x : ℕ) → x < SIDE_LIMIT → bit_after change plane x (column_at word x) ≡ column_at word x
+    let word = row_of words (plane * height + row) in (x : ℕ) → x < SIDE_LIMIT →
+    bit_after change plane x (column_at word x) ≡ column_at word x
 
 -- and that of each of these planes
 abbrev pub AreRowsLeft : ℕ → ℕ → Change → List (List Bool) → List ℕ → Type 0
-AreRowsLeft height row change words planes = (plane : ℕ) → list_any (nat_eq plane) planes ≡ true → IsRowLeft height row change words plane
+AreRowsLeft height row change words planes = (plane : ℕ) → list_any (nat_eq plane) planes ≡ true →
+    IsRowLeft height row change words plane
 
 -- the change that clears columns in each plane
 abbrev pub clearing : List Bool → Change
@@ -76,9 +87,11 @@ objects_change (Some write) columns freed = objects_by write.object columns free
 -- the change of its motions, whose planes begin with the first; some columns keep an object
 abbrev pub motions_by : ℕ → ObjectWrite → Option Motion → List Bool → List Bool → List Bool → Change
 motions_by first (Put object) None columns freed kept = clearing freed
-motions_by first (Put object) (Some motion) columns freed kept = record { cleared = columns; plane = motion_plane first motion; set = columns }
+motions_by first (Put object) (Some motion) columns freed kept =
+    record { cleared = columns; plane = motion_plane first motion; set = columns }
 motions_by first Leave None columns freed kept = clearing freed
-motions_by first Leave (Some motion) columns freed kept = record { cleared = columns; plane = motion_plane first motion; set = kept }
+motions_by first Leave (Some motion) columns freed kept =
+    record { cleared = columns; plane = motion_plane first motion; set = kept }
 motions_by first Clear motion columns freed kept = clearing columns
 
 abbrev pub motions_change : ℕ → Option LayerWrite → List Bool → List Bool → List Bool → Change

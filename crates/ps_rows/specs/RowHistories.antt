@@ -1,4 +1,5 @@
--- The boards of an undo history: the latest one as it is, and each before it by the step that leads there from the next.
+-- The boards of an undo history: the latest one as it is, and each before it by the step that leads there from the
+-- next.
 use Rattle.std.specs.Prelude.{◌≡◌, ℕ, ◌*◌, ⊤, All, Bool, Option, Some, None, List, [], ◌∷◌, ◌++◌, map, option_map}
 use Rattle.ps_board.specs.Histories.{BoardShown}
 use Rattle.ps_rows.specs.RowDifferences.{rows_changed}

@@ -41,5 +41,6 @@ moved_all tests cell = list_all (moves_as_asked cell) tests
 abbrev pub five_rows : ℕ → List (List Bool) → ℕ → ℕ → List Bool
 five_rows height words first row =
     let word : ℕ → List Bool = λ plane. row_of words (plane * height + row) in
-    either_columns (either_columns (either_columns (either_columns (word first) (word (first + 1))) (word (first + 2))) (word (first + 3)))
+    either_columns (either_columns (either_columns (either_columns (word first) (word (first + 1))) (word (first + 2)))
+    (word (first + 3)))
     (word (first + 4))

@@ -17,7 +17,8 @@ IsSamePlane width height first second plane = (row : ℕ) → row < height →
 
 -- each of these planes has
 abbrev pub AreSamePlanes : ℕ → ℕ → List (List Bool) → List (List Bool) → List ℕ → Type 0
-AreSamePlanes width height first second planes = (plane : ℕ) → list_any (nat_eq plane) planes ≡ true → IsSamePlane width height first second plane
+AreSamePlanes width height first second planes = (plane : ℕ) → list_any (nat_eq plane) planes ≡ true →
+    IsSamePlane width height first second plane
 
 -- a layer shows the same in each cell
 abbrev pub IsSameLayer : List ℕ → ℕ → ℕ → List (List Bool) → List (List Bool) → ℕ → Type 0
@@ -26,16 +27,19 @@ IsSameLayer table width height first second layer = (cell : ℕ) → cell < widt
 
 -- a set has each column in which a row differs, in so many planes, the first ones
 abbrev pub HasDifferences : ℕ → ℕ → ℕ → List (List Bool) → List (List Bool) → List Bool → Type 0
-HasDifferences height row planes first second word = (plane x : ℕ) → plane < planes → x < SIDE_LIMIT → column_at word x ≡ false →
+HasDifferences height row planes first second word = (plane x : ℕ) → plane < planes → x < SIDE_LIMIT →
+    column_at word x ≡ false →
     column_at (row_of first (plane * height + row)) x ≡ column_at (row_of second (plane * height + row)) x
 
 -- a set has each column, of all those of a board, that isn't in another set as one of them is, and hasn't that one
 abbrev pub HasUnlike : List Bool → List Bool → ℕ → List Bool → Type 0
 HasUnlike all of column word =
     (column_at word column ≡ false)
-    × ((x : ℕ) → x < SIDE_LIMIT → column_at all x ≡ true → column_at word x ≡ false → column_at of x ≡ column_at of column)
+    × ((x : ℕ) → x < SIDE_LIMIT → column_at all x ≡ true → column_at word x ≡ false →
+    column_at of x ≡ column_at of column)
 
--- a set has each column of a row, of all those of a board, that isn't in one of so many planes, the first ones, as one of them is,
+-- a set has each column of a row, of all those of a board, that isn't in one of so many planes, the first ones, as one
+-- of them is,
 -- and hasn't that one
 abbrev pub HasUnlikeOf : ℕ → ℕ → ℕ → List (List Bool) → List Bool → ℕ → List Bool → Type 0
 HasUnlikeOf height row planes words all column word =

@@ -1,5 +1,6 @@
 -- Slots of a board of rows that are written.
-use Rattle.std.specs.Prelude.{◌≡◌, ◌<◌, ◌≤◌, ℕ, ◌*◌, ◌/◌, ◌%◌, nat_eq, ◌&&◌, if◌then◌else◌, Bool, true, false, Option, Some, None, List, slice_get, slice_index_or}
+use Rattle.std.specs.Prelude.{◌≡◌, ◌<◌, ◌≤◌, ℕ, ◌*◌, ◌/◌, ◌%◌, nat_eq, ◌&&◌, if◌then◌else◌, Bool, true, false, Option}
+use Rattle.std.specs.Prelude.{Some, None, List, slice_get, slice_index_or}
 use Rattle.std.specs.List.{list_any}
 use Rattle.ps_model.specs.declared.compiled.LayeredObject.{LayeredObject}
 use Rattle.ps_model.specs.declared.pieces.Slot.{Slot}
@@ -55,12 +56,15 @@ slot_by table write = slot_after (write_in_room (Some table) write)
 
 -- on layers that are on, the slots of chosen cells become what is made of them, and each other slot stays
 abbrev pub AreSlotsWritten : Grid → Grid → (ℕ → Bool) → (ℕ → Bool) → (ℕ → Slot → Slot) → Type 0
-AreSlotsWritten before after chosen on becomes = (cell layer : ℕ) → cell < before.width * before.height → layer < before.layers →
-    slot_at after cell layer ≡ (if chosen cell && on layer then becomes layer (slot_at before cell layer) else slot_at before cell layer)
+AreSlotsWritten before after chosen on becomes = (cell layer : ℕ) → cell < before.width * before.height →
+    layer < before.layers →
+    slot_at after cell layer ≡ (if chosen cell && on layer then becomes layer (slot_at before cell layer) else slot_at
+    before cell layer)
 
 -- there they become what they were
 abbrev pub AreSlotsLeft : Grid → (ℕ → Bool) → (ℕ → Bool) → (ℕ → Slot → Slot) → Type 0
-AreSlotsLeft before chosen on becomes = (cell layer : ℕ) → cell < before.width * before.height → layer < before.layers → chosen cell ≡ true → on layer ≡ true →
+AreSlotsLeft before chosen on becomes = (cell layer : ℕ) → cell < before.width * before.height →
+    layer < before.layers → chosen cell ≡ true → on layer ≡ true →
     same_slot (slot_at before cell layer) (becomes layer (slot_at before cell layer)) ≡ true
 
 -- what a slot becomes, if its column is chosen
@@ -68,14 +72,20 @@ abbrev pub slot_if : Bool → (Slot → Slot) → Slot → Slot
 slot_if chosen becomes slot = if chosen then becomes slot else slot
 
 -- two changes, of a layer's objects and of its motions, make of each slot of a row what it becomes, in columns of a set
-pub record IsLayerChange (table : List ℕ) (width height : ℕ) (words : List (List Bool)) (layer row : ℕ) (columns : List Bool) (becomes : Slot → Slot)
+pub record IsLayerChange (table : List ℕ) (width height : ℕ) (words : List (List Bool)) (layer row : ℕ)
+    (columns : List Bool) (becomes : Slot → Slot)
     (objects motions : RowChange (List Bool)) : Type 0 where
-  pub object : (cell o : ℕ) → cell < width * height → cell % height ≡ row → let slot = slot_shown table height words cell layer in
-      bit_after objects o (cell / height) (is_number (slot_number slot) o) ≡ is_number (slot_number (slot_if (column_at columns (cell / height)) becomes slot)) o
-  pub motion : (cell : ℕ) (m : Motion) (q : ℕ) → cell < width * height → cell % height ≡ row → motion_plane (motions_from table layer) m ≡ Some q →
+  pub object : (cell o : ℕ) → cell < width * height → cell % height ≡ row → let slot =
+      slot_shown table height words cell layer in
+      bit_after objects o (cell / height) (is_number (slot_number slot) o) ≡ is_number
+      (slot_number (slot_if (column_at columns (cell / height)) becomes slot)) o
+  pub motion : (cell : ℕ) (m : Motion) (q : ℕ) → cell < width * height → cell % height ≡ row →
+      motion_plane (motions_from table layer) m ≡ Some q →
       let slot = slot_shown table height words cell layer in
-      bit_after motions q (cell / height) (same_motion m (motion_in slot)) ≡ same_motion m (motion_in (slot_if (column_at columns (cell / height)) becomes slot))
+      bit_after motions q (cell / height) (same_motion m (motion_in slot)) ≡ same_motion m
+      (motion_in (slot_if (column_at columns (cell / height)) becomes slot))
   pub room : (cell o : ℕ) → cell < width * height → cell % height ≡ row →
-      slot_number (slot_if (column_at columns (cell / height)) becomes (slot_shown table height words cell layer)) ≡ Some o → slice_get table o ≡ Some layer
+      slot_number (slot_if (column_at columns (cell / height)) becomes (slot_shown table height words cell layer)) ≡
+      Some o → slice_get table o ≡ Some layer
   pub beyond_objects : (x p : ℕ) (before : Bool) → width ≤ x → x < SIDE_LIMIT → bit_after objects p x before ≡ before
   pub beyond_motions : (x p : ℕ) (before : Bool) → width ≤ x → x < SIDE_LIMIT → bit_after motions p x before ≡ before

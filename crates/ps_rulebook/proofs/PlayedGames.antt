@@ -30,23 +30,30 @@ numbers_of-layers [] = refl
 numbers_of-layers (number ∷ numbers) = ap (λ (rest : List ℕ). number ∷ rest) (numbers_of-layers numbers)
 
 -- the objects of a game have room on their layers
-room_for : (table_for : List ℕ → Option (List ℕ)) → GivesRoom table_for → (numbers : List ℕ) → HaveRoom (table_for numbers) (layers_of numbers)
+room_for : (table_for : List ℕ → Option (List ℕ)) → GivesRoom table_for → (numbers : List ℕ) →
+    HaveRoom (table_for numbers) (layers_of numbers)
 room_for table_for gives numbers =
-    subst (λ (own : List ℕ). HaveRoom (table_for own) (layers_of numbers)) (numbers_of-layers numbers) (gives (layers_of numbers))
+    subst (λ (own : List ℕ). HaveRoom (table_for own) (layers_of numbers)) (numbers_of-layers numbers)
+    (gives (layers_of numbers))
 
--- sections that are compiled of lines of a game run as these on its grids, on each kind of board that gives every object room
-meant_alike : (names : Names) (part : Part) (lines : List RuleLine) (sections : List CompiledSection) → All (IsLineOf names) lines →
-    RunsAlike names part lines (sections_shown sections) → RunsOnBoards names lines (sections_shown sections) → (table_for : List ℕ → Option (List ℕ)) → GivesRoom table_for →
+-- sections that are compiled of lines of a game run as these on its grids, on each kind of board that gives every
+-- object room
+meant_alike : (names : Names) (part : Part) (lines : List RuleLine) (sections : List CompiledSection) →
+    All (IsLineOf names) lines →
+    RunsAlike names part lines (sections_shown sections) → RunsOnBoards names lines (sections_shown sections) →
+    (table_for : List ℕ → Option (List ℕ)) → GivesRoom table_for →
     RunAlike names (sections_meaning (table_for names.layers) sections) (program_of names part lines)
 meant_alike names part lines sections own alike runs table_for gives =
     subst (λ (program : List Section). RunAlike names program (program_of names part lines))
     (sym (program_as_it_is (table_for names.layers) sections
-    (runs own (table_for names.layers) (layers_of names.layers) (numbers_of-layers names.layers) (room_for table_for gives names.layers))))
+    (runs own (table_for names.layers) (layers_of names.layers) (numbers_of-layers names.layers)
+    (room_for table_for gives names.layers))))
     (alike own)
 
 pub games-play_as_written : CompiledGamesPlayAsWritten
 games-play_as_written text read e plain late compiled table_for gives =
     let own : All (IsLineOf read.names) read.rules = game-rules text read e in
-    alike_programs_of_games text read e (sections_meaning (table_for read.names.layers) plain) (sections_meaning (table_for read.names.layers) late)
+    alike_programs_of_games text read e (sections_meaning (table_for read.names.layers) plain)
+    (sections_meaning (table_for read.names.layers) late)
     (meant_alike read.names Plain read.rules plain own compiled.plain_alike compiled.plain_runs table_for gives)
     (meant_alike read.names Late read.rules late own compiled.late_alike compiled.late_runs table_for gives)

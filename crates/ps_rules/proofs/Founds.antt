@@ -12,9 +12,11 @@ found-append found [] ms = refl
 found-append found (n ∷ ns) ms = found-append (found_with found n) ns ms
 
 pub found_behind : (found : Found) (p : Item → Bool) (xs ys : List Item)
-    → found_from found (numbers (filter p (xs ++ ys))) ≡ found_from (found_from found (numbers (filter p xs))) (numbers (filter p ys))
+    → found_from found (numbers (filter p (xs ++ ys))) ≡ found_from (found_from found (numbers (filter p xs)))
+    (numbers (filter p ys))
 found_behind found p xs ys =
-    ap (λ items. found_from found (numbers items)) (filter-append p xs ys) ∙ ap (found_from found) (filter_map-append number_of (filter p xs) (filter p ys))
+    ap (λ items. found_from found (numbers items)) (filter-append p xs ys)
+    ∙ ap (found_from found) (filter_map-append number_of (filter p xs) (filter p ys))
     ∙ found-append found (numbers (filter p xs)) (numbers (filter p ys))
 
 several-stay : (ns : List ℕ) → found_from Several ns ≡ Several
@@ -31,6 +33,7 @@ pub here_of : (here all : List ℕ) (n : ℕ) → first_number here ≡ Some n �
 here_of [] all n e = cc
 here_of (h ∷ hs) all n e = e
 
-pub not_here : (here all : List ℕ) → first_number here ≡ None → here_or_only here all ≡ only_found (found_from Nothing all)
+pub not_here : (here all : List ℕ) → first_number here ≡ None →
+    here_or_only here all ≡ only_found (found_from Nothing all)
 not_here [] all e = only_of all
 not_here (h ∷ hs) all e = cc

@@ -16,13 +16,17 @@ use Rattle.ps_laws.proofs.common.LinesInOrder.{line_at-number}
 pub below-step : (text : List ℕ) (line : ℕ) (names : Names) (above : Above) (rest : List Line) → HasLine text line
     → (line_at text line).is_there ≡ true → is_blank_line (line_at text line) ≡ false
     → faults_below names above (lines_with_words (here text line ++ rest))
-    ≡ faults_of_line above line (tokens_of names (line_at text line)) (form_at text line names) ++ faults_below names (above_next above line (form_at text line names)) (lines_with_words rest)
+    ≡ faults_of_line above line (tokens_of names (line_at text line)) (form_at text line names) ++ faults_below names
+    (above_next above line (form_at text line names)) (lines_with_words rest)
 below-step text line names above rest there t b =
     let number : (line_at text line).number ≡ line = line_at-number text line there.0 there.1 in
     rw (t, b, number) refl
 
-pub refused-step : (text : List ℕ) (line : ℕ) (names : Names) (above : Above) (rest : List Line) (fault : Fault) → HasLine text line
-    → IsRefused text line names above fault → first_fault (faults_below names above (lines_with_words (here text line ++ rest))) ≡ Some fault
+pub refused-step : (text : List ℕ) (line : ℕ) (names : Names) (above : Above) (rest : List Line) (fault : Fault) →
+    HasLine text line
+    → IsRefused text line names above fault → first_fault
+    (faults_below names above (lines_with_words (here text line ++ rest))) ≡ Some fault
 refused-step text line names above rest fault there own =
     ap first_fault (below-step text line names above rest there own.there own.written)
-    ∙ first-front (faults_of_line above line (tokens_of names (line_at text line)) (form_at text line names)) _ fault own.told
+    ∙ first-front (faults_of_line above line (tokens_of names (line_at text line)) (form_at text line names)) _ fault
+    own.told

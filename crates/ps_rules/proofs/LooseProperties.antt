@@ -9,11 +9,13 @@ use Rattle.ps_model.specs.rules.SourceRules.{Item, Is, No, CellPair, SourceRule}
 use Rattle.ps_rules.specs.Unmatched.{has_property, is_unmatched}
 
 -- properties of one line are one, whatever objects are given with them
-any-property : (items : List Item) (line : ℕ) (objects : List ObjectId) → list_any (names_it (AnyOf line objects)) items ≡ has_property items line
+any-property : (items : List Item) (line : ℕ) (objects : List ObjectId) →
+    list_any (names_it (AnyOf line objects)) items ≡ has_property items line
 any-property [] line objects = refl
 any-property (Is at word (One object) ∷ items) line objects = any-property items line objects
 any-property (Is at word (AllOf other others) ∷ items) line objects = any-property items line objects
-any-property (Is at word (AnyOf other others) ∷ items) line objects = ap (λ b. nat_eq line other || b) (any-property items line objects)
+any-property (Is at word (AnyOf other others) ∷ items) line objects =
+    ap (λ b. nat_eq line other || b) (any-property items line objects)
 any-property (No meaning ∷ items) line objects = any-property items line objects
 
 not-but : (r l : Bool) → (not r || l) ≡ not (r && not l)
@@ -26,14 +28,19 @@ all-not true rest = refl
 all-not false rest = refl
 
 all-matched : (cells : List CellPair) (line : ℕ) (objects : List ObjectId)
-    → list_all (λ cell. not (list_any (names_it (AnyOf line objects)) cell.right) || list_any (names_it (AnyOf line objects)) cell.left) cells ≡ not (list_any (is_unmatched line) cells)
+    → list_all (λ cell. not (list_any (names_it (AnyOf line objects)) cell.right) || list_any
+    (names_it (AnyOf line objects)) cell.left) cells ≡ not (list_any (is_unmatched line) cells)
 all-matched [] line objects = refl
 all-matched (cell ∷ cells) line objects =
     ap₂ (λ a b. a && b)
-    (ap₂ (λ r l. not r || l) (any-property cell.right line objects) (any-property cell.left line objects) ∙ not-but (has_property cell.right line) (has_property cell.left line))
+    (ap₂ (λ r l. not r || l) (any-property cell.right line objects) (any-property cell.left line objects)
+    ∙ not-but (has_property cell.right line) (has_property cell.left line))
     (all-matched cells line objects)
     ∙ all-not (is_unmatched line cell) (list_any (is_unmatched line) cells)
 
 -- a property is loose whose members lie on one layer, and which is unmatched in no cell
-pub loose : (names : Names) (rule : SourceRule) (line : ℕ) (objects : List ObjectId) → (are_on_one_layer names objects && not (list_any (is_unmatched line) (cells_of rule))) ≡ is_loose names rule (AnyOf line objects)
-loose names rule line objects = ap (λ b. are_on_one_layer names objects && b) (sym (all-matched (cells_of rule) line objects))
+pub loose : (names : Names) (rule : SourceRule) (line : ℕ) (objects : List ObjectId) →
+    (are_on_one_layer names objects && not (list_any (is_unmatched line) (cells_of rule))) ≡ is_loose names rule
+    (AnyOf line objects)
+loose names rule line objects = ap (λ b. are_on_one_layer names objects && b)
+    (sym (all-matched (cells_of rule) line objects))

@@ -13,13 +13,17 @@ use Rattle.ps_laws.proofs.texts.RulesInParts.{rules_read-whole}
 use Rattle.ps_laws.proofs.common.LinesInOrder.{between-end}
 
 -- at the end of lines without faults, outside of loops, the lines that are made are whole
-pub made-whole : (text : List ℕ) (names : Names) (from at to : ℕ) (above : Above) (made : List RuleLine) → to ≤ at → above.loop ≡ None →
+pub made-whole : (text : List ℕ) (names : Names) (from at to : ℕ) (above : Above) (made : List RuleLine) → to ≤ at →
+    above.loop ≡ None →
     made ++ rules_read names (lines_between text at to) ≡ rules_read names (lines_between text from to) →
-    faults_below names above (lines_with_words (lines_between text at to)) ≡ rule_faults names (lines_between text from to) → All IsWholeLine made
+    faults_below names above (lines_with_words (lines_between text at to)) ≡ rule_faults names
+    (lines_between text from to) → All IsWholeLine made
 made-whole text names from at to above made h closed read faults =
     let left : lines_between text at to ≡ [] = between-end text at to h in
     let all : made ≡ rules_read names (lines_between text from to) =
     sym (append-nil made) ∙ sym (ap (λ (rest : List Line). made ++ rules_read names rest) left) ∙ read in
     let none : rule_faults names (lines_between text from to) ≡ [] =
-    sym faults ∙ ap (λ (rest : List Line). faults_below names above (lines_with_words rest)) left ∙ ap unclosed closed in
-    subst (λ (lines : List RuleLine). All IsWholeLine lines) (sym all) (rules_read-whole names (lines_between text from to) none)
+    sym faults ∙ ap (λ (rest : List Line). faults_below names above (lines_with_words rest)) left
+    ∙ ap unclosed closed in
+    subst (λ (lines : List RuleLine). All IsWholeLine lines) (sym all)
+    (rules_read-whole names (lines_between text from to) none)

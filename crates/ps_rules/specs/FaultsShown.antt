@@ -2,11 +2,14 @@
 use Rattle.std.specs.Prelude.{ℕ, List, ◌++◌}
 use Rattle.ps_model.specs.declared.faults.Fault.{Fault}
 use Rattle.ps_model.specs.declared.faults.FaultKind.{FaultKind}
-use Rattle.ps_model.specs.declared.faults.FaultKind.TheVariants.{BadBracket, UnknownWord, RowsDiffer, NothingRight, NameTwice, NoAggregate, Unbound, LateMove, PlusAlone, PlusLate, Ellipsis}
+use Rattle.ps_model.specs.declared.faults.FaultKind.TheVariants.{BadBracket, UnknownWord, RowsDiffer, NothingRight}
+use Rattle.ps_model.specs.declared.faults.FaultKind.TheVariants.{NameTwice, NoAggregate, Unbound, LateMove, PlusAlone}
+use Rattle.ps_model.specs.declared.faults.FaultKind.TheVariants.{PlusLate, Ellipsis}
 use Rattle.ps_model.specs.text.Faults.{when}
 use Rattle.ps_model.specs.rules.RuleShape.{RuleShape}
 use Rattle.ps_model.specs.rules.RuleFaults.{Above, has_lone_plus, joins_other_part}
-use Rattle.ps_model.specs.rules.RuleShapeFaults.{has_bad_bracket, has_unknown_word, has_other_rows, has_nothing_right, has_late_move, has_bad_ellipsis}
+use Rattle.ps_model.specs.rules.RuleShapeFaults.{has_bad_bracket, has_unknown_word, has_other_rows, has_nothing_right}
+use Rattle.ps_model.specs.rules.RuleShapeFaults.{has_late_move, has_bad_ellipsis}
 use Rattle.ps_model.specs.rules.RuleNameFaults.{has_name_twice, puts_no_before_aggregate, has_unbound}
 use Rattle.ps_model.specs.rules.SourceRules.{SourceRule}
 

@@ -8,7 +8,9 @@ use Rattle.ps_model.specs.rules.RuleShapeFaults.{is_cell_word, is_rule_word, is_
 use Rattle.ps_model.specs.rules.RuleTree.{gives}
 use Rattle.ps_rules.specs.declared.symbols.Token.{Token}
 use Rattle.ps_rules.specs.declared.kinds.Kind.{Kind}
-use Rattle.ps_rules.specs.declared.kinds.Kind.TheVariants.{Open, Close, Bar, Arrow, Ellipsis, Late, Plus, LeftOut, OfCell, NotOfCell, NotOfRule, Command, NoCommand, Movement, Gives}
+use Rattle.ps_rules.specs.declared.kinds.Kind.TheVariants.{Open, Close, Bar, Arrow, Ellipsis, Late, Plus, LeftOut}
+use Rattle.ps_rules.specs.declared.kinds.Kind.TheVariants.{OfCell, NotOfCell, NotOfRule, Command, NoCommand, Movement}
+use Rattle.ps_rules.specs.declared.kinds.Kind.TheVariants.{Gives}
 use Rattle.ps_rules.specs.SymbolsShown.{tokens_shown}
 
 -- a word is of the kind

@@ -13,4 +13,5 @@ use Rattle.ps_rules.specs.FormsShown.{form_at}
 pub record IsRefused (text : List ℕ) (line : ℕ) (names : Names) (above : Above) (fault : Fault) : Type 0 where
   pub there : (line_at text line).is_there ≡ true
   pub written : is_blank_line (line_at text line) ≡ false
-  pub told : first_fault (faults_of_line above line (tokens_of names (line_at text line)) (form_at text line names)) ≡ Some fault
+  pub told : first_fault (faults_of_line above line (tokens_of names (line_at text line)) (form_at text line names)) ≡
+      Some fault

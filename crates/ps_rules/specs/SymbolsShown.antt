@@ -6,7 +6,9 @@ use Rattle.ps_names.specs.Shown.{meaning_shown}
 use Rattle.ps_rules.specs.declared.symbols.Command.{Command}
 use Rattle.ps_rules.specs.declared.symbols.Command.TheVariants.{Cancel, Restart, Again, Checkpoint, Win, Message, Sound}
 use Rattle.ps_rules.specs.declared.symbols.Symbol.{Symbol}
-use Rattle.ps_rules.specs.declared.symbols.Symbol.TheVariants.{Open, Close, Bar, Arrow, Ellipsis, Plus, Late, Without, Moves, Asks, StartsLoop, EndsLoop, LeftOut, Called, Unknown}
+use Rattle.ps_rules.specs.declared.symbols.Symbol.TheVariants.{Open, Close, Bar, Arrow, Ellipsis, Plus, Late, Without}
+use Rattle.ps_rules.specs.declared.symbols.Symbol.TheVariants.{Moves, Asks, StartsLoop, EndsLoop, LeftOut, Called}
+use Rattle.ps_rules.specs.declared.symbols.Symbol.TheVariants.{Unknown}
 use Rattle.ps_rules.specs.declared.symbols.Token.{Token}
 use Rattle.ps_text.specs.declared.cutting.Word.{Word}
 
@@ -49,4 +51,5 @@ token_of_word symbol word = record { at = word.span.start; symbol = symbol word.
 -- the words of a line by those that its source gives
 abbrev pub tokens_of_words : Names → List Word → List model.Token
 tokens_of_words names [] = []
-tokens_of_words names (first ∷ words) = token_of_word (model.first_symbol names) first ∷ map (token_of_word (model.symbol_of names)) words
+tokens_of_words names (first ∷ words) = token_of_word (model.first_symbol names) first ∷ map
+    (token_of_word (model.symbol_of names)) words

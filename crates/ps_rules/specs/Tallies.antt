@@ -48,4 +48,5 @@ found_at index (Moving word) = found_of index.words (word_number word)
 
 -- the index tells by each key what the left of the cells has
 abbrev pub IsIndexOf : Index → List CellPair → Type 0
-IsIndexOf index cells = (key : Key) → found_at index key ≡ found_from Nothing (numbers (filter (has_key key) (left_of cells)))
+IsIndexOf index cells = (key : Key) → found_at index key ≡ found_from Nothing
+    (numbers (filter (has_key key) (left_of cells)))

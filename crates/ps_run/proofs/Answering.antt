@@ -1,5 +1,6 @@
 -- From a run by other rules to a run on a text.
-use Rattle.std.proofs.Common.{◌≡◌, ◌∙◌, ℕ, ◌≤◌, ◌+◌, List, [], ◌++◌, length, take, inl, inr, Option, Some, None, refl, sym, ap, arith, Result, Ok, Err}
+use Rattle.std.proofs.Common.{◌≡◌, ◌∙◌, ℕ, ◌≤◌, ◌+◌, List, [], ◌++◌, length, take, inl, inr, Option, Some, None, refl}
+use Rattle.std.proofs.Common.{sym, ap, arith, Result, Ok, Err}
 use Rattle.std.specs.Prelude.{option_map}
 use Rattle.std.specs.List.{concat}
 use Rattle.std.proofs.lemmas.Grind.{common_steps}
@@ -12,7 +13,8 @@ use Rattle.ps_model.specs.session.Keys.{keys_of}
 use Rattle.ps_model.specs.session.HeldKeys.{held, before_held}
 use Rattle.ps_model.specs.game.Games.{Game, game}
 use Rattle.ps_model.specs.game.Outputs.{Output, output, front, output_of_keys, opening_step, ending_of, texts_of_keys}
-use Rattle.ps_model.specs.game.Headline.{Answer, Answers, GoesOn, IsFront, IsCutOff, ReadsInTurn, IsCutOffWriting, IsWholeBefore, texts_of, ending_behind, script_of_text, StopsForMemory}
+use Rattle.ps_model.specs.game.Headline.{Answer, Answers, GoesOn, IsFront, IsCutOff, ReadsInTurn, IsCutOffWriting}
+use Rattle.ps_model.specs.game.Headline.{IsWholeBefore, texts_of, ending_behind, script_of_text, StopsForMemory}
 use Rattle.ps_model.specs.game.Tellings.{ReaderCalls, Unasked, Asked, Told, Call, read, read_before}
 use Rattle.ps_laws.specs.AlikeScripts.{SameRuns}
 use Rattle.ps_laws.specs.Fronts.{whole_front}
@@ -26,7 +28,8 @@ use Rattle.ps_run.proofs.Telling.{whole_is}
 same_going_on : (a b : Script) → SameRuns a b → (bytes : List ℕ) → GoesOn a bytes → GoesOn b bytes
 same_going_on a b same bytes on = sym (ap (λ (out : Output). out.ending) (same.outputs bytes)) ∙ on
 
-same_reading : (a b : Script) → SameRuns a b → (reading : ReaderCalls) (left : List ℕ) → ReadsInTurn a reading left → ReadsInTurn b reading left
+same_reading : (a b : Script) → SameRuns a b → (reading : ReaderCalls) (left : List ℕ) → ReadsInTurn a reading left →
+    ReadsInTurn b reading left
 same_reading a b same Unasked left reads = tt
 same_reading a b same (Asked earlier last) left reads = record {
   pieces = reads.pieces;
@@ -54,9 +57,11 @@ same_cut a b same told (inr (none, cut)) = inr (
   },
 )
 
-same_whole : (a b : Script) → SameRuns a b → (reading : ReaderCalls) (wrote : List ℕ) → IsWholeBefore a reading wrote → IsWholeBefore b reading wrote
+same_whole : (a b : Script) → SameRuns a b → (reading : ReaderCalls) (wrote : List ℕ) → IsWholeBefore a reading wrote →
+    IsWholeBefore b reading wrote
 same_whole a b same Unasked wrote whole = tt
-same_whole a b same (Asked earlier last) wrote (rest, is) = (rest, is ∙ ap (λ text. text ++ rest) (same_texts a b same (concat earlier)))
+same_whole a b same (Asked earlier last) wrote (rest, is) =
+    (rest, is ∙ ap (λ text. text ++ rest) (same_texts a b same (concat earlier)))
 
 first_keys : (first second : List ℕ) → take (length (keys_of first)) (keys_of (first ++ second)) ≡ keys_of first
 first_keys first second = rw (keys_of-append first second) (grind (arith, common_steps))
@@ -69,9 +74,14 @@ stops a b same told so =
     let start = opening_step b in
     let split : read told.reading ≡ so.behind ++ so.within.0 = so.within.1 in
     let before : so.behind ≡ read_before told.reading ++ so.enough.0 = so.enough.1 in
-    let first : take (length (keys_of so.behind)) (keys_of (read told.reading)) ≡ keys_of so.behind = rw split (first_keys so.behind so.within.0) in
-    let long : length (keys_of so.behind) ≡ length (keys_of (read_before told.reading)) + length (keys_of (held (read_before told.reading) ++ so.enough.0)) =
-    ap (λ bytes. length (keys_of bytes)) before ∙ (ap length (keys_of-append (read_before told.reading) so.enough.0) ∙ length-append (keys_of (read_before told.reading)) (keys_of (held (read_before told.reading) ++ so.enough.0))) in
+    let first : take (length (keys_of so.behind)) (keys_of (read told.reading)) ≡ keys_of so.behind =
+    rw split (first_keys so.behind so.within.0) in
+    let long : length (keys_of so.behind) ≡ length (keys_of (read_before told.reading)) + length
+    (keys_of (held (read_before told.reading) ++ so.enough.0)) =
+    ap (λ bytes. length (keys_of bytes)) before
+    ∙ (ap length (keys_of-append (read_before told.reading) so.enough.0)
+    ∙ length-append (keys_of (read_before told.reading))
+    (keys_of (held (read_before told.reading) ++ so.enough.0))) in
     record {
       reads = same_reading a b same told.reading told.left so.reads;
       reader_is_well = so.reader_is_well;
@@ -79,8 +89,11 @@ stops a b same told so =
       keys = length (keys_of so.behind);
       enough = omega arith;
       wanting = so.wanting;
-      goes_on = ap (λ (keys : List Key). (output_of_keys b start.session (ending_of start.session) keys).ending) first ∙ same_going_on a b same so.behind so.goes_on;
-      wrote = so.wrote ∙ (same.whole_fronts so.behind ∙ (whole_is b so.behind ∙ ap (λ (keys : List Key). start.text ++ texts_of_keys b start.session keys) (all_keys so.behind ∙ sym first)));
+      goes_on = ap (λ (keys : List Key). (output_of_keys b start.session (ending_of start.session) keys).ending) first
+          ∙ same_going_on a b same so.behind so.goes_on;
+      wrote = so.wrote ∙ (same.whole_fronts so.behind
+          ∙ (whole_is b so.behind ∙ ap (λ (keys : List Key).
+          start.text ++ texts_of_keys b start.session keys) (all_keys so.behind ∙ sym first)));
     }
 
 pub answers_carry_over : AnswersCarryOver
@@ -92,7 +105,8 @@ answers_carry_over text played script is same told (Ok ending) so =
         reads = same_reading script source same told.reading told.left so.reads;
         reader_is_well = so.reader_is_well;
         writer_is_well = so.writer_is_well;
-        ending_is = sym (ap (λ (out : Output). out.ending) (same.outputs (read told.reading ++ told.left))) ∙ so.ending_is;
+        ending_is = sym (ap (λ (out : Output). out.ending) (same.outputs (read told.reading ++ told.left)))
+            ∙ so.ending_is;
         wrote = so.wrote ∙ ap (λ (out : Output). out.written) (same.outputs (read told.reading ++ told.left));
         brought = sym (ap (λ (out : Output). out.ending) (same.outputs (read told.reading))) ∙ so.brought;
         silent = so.silent;

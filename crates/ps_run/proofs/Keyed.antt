@@ -20,15 +20,18 @@ abbrev pub script_of_rows : GameInPlay → Script
 script_of_rows play = script_for own_table play.game (meant_of play.plain) (meant_of play.late)
 
 -- a session that doesn't ignore a key hasn't ended
-pub not_ended : (options : Options) (session : Session) (key : Key) → (is_ignored options session key ≡ true → false ≡ true) → ending_of session ≡ None
+pub not_ended : (options : Options) (session : Session) (key : Key) →
+    (is_ignored options session key ≡ true → false ≡ true) → ending_of session ≡ None
 not_ended options (Playing play) key heeds = refl
 not_ended options (Waiting play pending) key heeds = refl
 not_ended options (AtMessage entry) key heeds = refl
 not_ended options (Ended ending) key heeds = absurd (true≢false (sym (heeds refl)))
 
 -- a key that is played
-pub keyed_ok : {A : Type 0} (old new : GameInPlay) (key : Key) (before now : List ℕ) (value : A) → script_in new ≡ script_in old →
-    new.session ≡ (key_step (script_of_rows old) old.session key).session → now ≡ before ++ (key_step (script_of_rows old) old.session key).text →
+pub keyed_ok : {A : Type 0} (old new : GameInPlay) (key : Key) (before now : List ℕ) (value : A) →
+    script_in new ≡ script_in old →
+    new.session ≡ (key_step (script_of_rows old) old.session key).session →
+    now ≡ before ++ (key_step (script_of_rows old) old.session key).text →
     IsKeyed old new key before now (Ok value)
 keyed_ok old new key before now value same session text =
     let is : script_of_rows old ≡ script_in old = sym (script_is old.game old.plain old.late) in
@@ -41,13 +44,16 @@ keyed_ok old new key before now value same session text =
     }
 
 -- a key that stops
-pub keyed_err : {A : Type 0} (old new : GameInPlay) (key : Key) (before now : List ℕ) (stop : Stop) → script_in new ≡ script_in old →
-    IsLeft (script_of_rows old) stop (key_step (script_of_rows old) old.session key) before now → ending_of old.session ≡ None →
+pub keyed_err : {A : Type 0} (old new : GameInPlay) (key : Key) (before now : List ℕ) (stop : Stop) →
+    script_in new ≡ script_in old →
+    IsLeft (script_of_rows old) stop (key_step (script_of_rows old) old.session key) before now →
+    ending_of old.session ≡ None →
     IsKeyed {A = A} old new key before now (Err stop)
 keyed_err old new key before now stop same left unended = record {
   script = same;
   session = tt;
   text = tt;
-  left = subst (λ (script : Script). IsLeft script stop (key_step script old.session key) before now) (sym (script_is old.game old.plain old.late)) left;
+  left = subst (λ (script : Script). IsLeft script stop (key_step script old.session key) before now)
+      (sym (script_is old.game old.plain old.late)) left;
   unended = unended;
 }

@@ -120,7 +120,8 @@ pub byte_stops :
 byte_stops Memory script before now later session kept read byte key brings unended stops played =
     let same : read ++ take 0 (byte ∷ []) ≡ read = append-nil read in
     let one : length (keys_of (read ++ byte ∷ [])) ≡ length (keys_of read) + 1 =
-    ap length (sym (read_byte_by_byte read byte kept played.held).0 ∙ ap (λ (k : Option Key). keys_of read ++ option_to_list k) brings)
+    ap length (sym (read_byte_by_byte read byte kept played.held).0
+    ∙ ap (λ (k : Option Key). keys_of read ++ option_to_list k) brings)
     ∙ length-append (keys_of read) (key ∷ []) in
     record {
       was_well = played.was_well;
@@ -181,7 +182,8 @@ part_of_piece read piece i (suc count) within = (
 -- bytes bring no more keys than they do with others behind them
 fewer_keys : (first second : List ℕ) → length (keys_of first) ≤ length (keys_of (first ++ second))
 fewer_keys first second =
-    let parts : length (keys_of (first ++ second)) ≡ length (keys_of first) + length (keys_of (keys.held first ++ second)) =
+    let parts : length (keys_of (first ++ second)) ≡ length (keys_of first) + length
+    (keys_of (keys.held first ++ second)) =
     ap length (keys_of-append first second) ∙ length-append (keys_of first) (keys_of (keys.held first ++ second)) in
     omega (arith, parts)
 
@@ -198,10 +200,12 @@ piece_stops Memory script before now read piece i within stops =
       wrote = rw (← part.1) stops.wrote;
       goes_on = rw (← part.1) stops.goes_on;
       wanting = rw (← part.1)
-          (let upto : length (keys_of ((read ++ take i piece) ++ get_or piece i 0 ∷ [])) ≡ length (keys_of (read ++ take (i + 1) piece)) =
+          (let upto : length (keys_of ((read ++ take i piece) ++ get_or piece i 0 ∷ [])) ≡ length
+          (keys_of (read ++ take (i + 1) piece)) =
           ap (λ bytes. length (keys_of bytes)) (piece_to read piece i within) in
           let all = fewer_keys (read ++ take (i + 1) piece) (drop (i + 1) piece) in
-          let whole : length (keys_of ((read ++ take (i + 1) piece) ++ drop (i + 1) piece)) ≡ length (keys_of (read ++ piece)) =
+          let whole : length (keys_of ((read ++ take (i + 1) piece) ++ drop (i + 1) piece)) ≡ length
+          (keys_of (read ++ piece)) =
           ap (λ bytes. length (keys_of bytes)) (append_assoc read (take (i + 1) piece) (drop (i + 1) piece)
           ∙ ap (λ bytes. read ++ bytes) (take-append-drop (i + 1) piece)) in
           omega (arith, stops.wanting, upto, all, whole));

@@ -1,5 +1,6 @@
 -- From how a run came to its answer to what may be said of it on a text.
-use Rattle.std.proofs.Common.{◌≡◌, ◌≤◌, ◌++◌, ℕ, Bool, false, List, [], Option, Some, None, inl, inr, refl, sym, append-nil, arith, Result, Ok, Err}
+use Rattle.std.proofs.Common.{◌≡◌, ◌≤◌, ◌++◌, ℕ, Bool, false, List, [], Option, Some, None, inl, inr, refl, sym}
+use Rattle.std.proofs.Common.{append-nil, arith, Result, Ok, Err}
 use Rattle.std.specs.Prelude.{option_map}
 use Rattle.ps_model.specs.declared.faults.Fault.{Fault}
 use Rattle.ps_model.specs.declared.play.Ending.{Ending}
@@ -8,7 +9,8 @@ use Rattle.ps_model.specs.declared.refusal.Refusal.TheVariants.{Refused, Memory}
 use Rattle.ps_model.specs.board.Turns.{Script, script_of}
 use Rattle.ps_model.specs.text.Faults.{first_fault}
 use Rattle.ps_model.specs.game.Games.{Game, game, faults}
-use Rattle.ps_model.specs.game.Headline.{Answer, Ends, Refuses, WantsMemory, CannotRead, CannotWrite, RunsRightly, IsTrueOfText}
+use Rattle.ps_model.specs.game.Headline.{Answer, Ends, Refuses, WantsMemory, CannotRead, CannotWrite, RunsRightly}
+use Rattle.ps_model.specs.game.Headline.{IsTrueOfText}
 use Rattle.ps_model.specs.game.Tellings.{ReaderState, WriterState, Unasked, Told, Tells}
 use Rattle.ps_laws.specs.AlikeScripts.{SameRuns}
 use Rattle.ps_devices.specs.Devices.{Grows, Loses}
@@ -29,12 +31,15 @@ nothing_taken None = refl
 nothing_taken (Some known) = rw (append-nil known) refl
 
 -- devices that weren't called tell so
-untouched : (had : ReaderState) (before : WriterState) → had.has_failed ≡ false → before.has_failed ≡ false → Tells had had before before (told_of Unasked had.remaining [] false)
+untouched : (had : ReaderState) (before : WriterState) → had.has_failed ≡ false → before.has_failed ≡ false →
+    Tells had had before before (told_of Unasked had.remaining [] false)
 untouched had before heard well =
-    tells_of had had before before Unasked [] false heard heard (nothing_given had.remaining) refl refl (omega arith) refl well well (nothing_taken before.contents) (omega arith) refl
+    tells_of had had before before Unasked [] false heard heard (nothing_given had.remaining) refl refl (omega arith)
+    refl well well (nothing_taken before.contents) (omega arith) refl
 
 -- memory was refused before anything was asked for and anything written
-pub wants_memory : (text : List ℕ) (had : ReaderState) (before : WriterState) → had.has_failed ≡ false → before.has_failed ≡ false → RunsRightly text had had before before WantsMemory
+pub wants_memory : (text : List ℕ) (had : ReaderState) (before : WriterState) → had.has_failed ≡ false →
+    before.has_failed ≡ false → RunsRightly text had had before before WantsMemory
 wants_memory text had before heard well = record {
   told = told_of Unasked had.remaining [] false;
   tells = untouched had before heard well;
@@ -42,7 +47,8 @@ wants_memory text had before heard well = record {
 }
 
 -- the text was refused
-pub refuses : (text : List ℕ) (refused : Fault) (had : ReaderState) (before : WriterState) → had.has_failed ≡ false → before.has_failed ≡ false → first_fault (faults text) ≡ Some refused →
+pub refuses : (text : List ℕ) (refused : Fault) (had : ReaderState) (before : WriterState) → had.has_failed ≡ false →
+    before.has_failed ≡ false → first_fault (faults text) ≡ Some refused →
     RunsRightly text had had before before (Refuses refused)
 refuses text refused had before heard well is = record {
   told = told_of Unasked had.remaining [] false;
@@ -52,15 +58,20 @@ refuses text refused had before heard well is = record {
 
 -- reading the text stopped: it was refused, or memory was
 pub stops_reading :
-    (text : List ℕ) (refusal : Refusal) (broken : RunFault) (had : ReaderState) (before : WriterState) → broken ≡ fault_of refusal → had.has_failed ≡ false → before.has_failed ≡ false →
-    ((told : Fault) → refusal ≡ Refused told → first_fault (faults text) ≡ Some told) → RunsRightly text had had before before (answer_of (Err broken))
-stops_reading text (Refused refused) broken had before is heard well first = rw is (refuses text refused had before heard well (first refused refl))
+    (text : List ℕ) (refusal : Refusal) (broken : RunFault) (had : ReaderState) (before : WriterState) →
+    broken ≡ fault_of refusal → had.has_failed ≡ false → before.has_failed ≡ false →
+    ((told : Fault) → refusal ≡ Refused told → first_fault (faults text) ≡ Some told) →
+    RunsRightly text had had before before (answer_of (Err broken))
+stops_reading text (Refused refused) broken had before is heard well first =
+    rw is (refuses text refused had before heard well (first refused refl))
 stops_reading text Memory broken had before is heard well first = rw is (wants_memory text had before heard well)
 
 -- a run by rules that have the runs of the text's game
 pub comes_rightly :
-    (text : List ℕ) (read : Game) (script : Script) (had has : ReaderState) (before now : WriterState) (answer : Result Ending RunFault) → game text ≡ Some read → SameRuns script (script_of read) →
-    had.has_failed ≡ false → before.has_failed ≡ false → ComesOrStops script had has before now answer → RunsRightly text had has before now (answer_of answer)
+    (text : List ℕ) (read : Game) (script : Script) (had has : ReaderState) (before now : WriterState)
+    (answer : Result Ending RunFault) → game text ≡ Some read → SameRuns script (script_of read) →
+    had.has_failed ≡ false → before.has_failed ≡ false → ComesOrStops script had has before now answer →
+    RunsRightly text had has before now (answer_of answer)
 comes_rightly text read script had has before now answer is same heard well (inl (wants, reader, writer)) =
     rw (wants, reader, writer) (wants_memory text had before heard well)
 comes_rightly text read script had has before now answer is same heard well (inr comes) = record {
@@ -71,7 +82,8 @@ comes_rightly text read script had has before now answer is same heard well (inr
 
 -- what an answer on a text that has a game says of it; a run by rules refuses nothing
 pub true_of_game :
-    (text : List ℕ) (read : Game) (script : Script) (had has : ReaderState) (before now : WriterState) (answer : Result Ending RunFault) → game text ≡ Some read →
+    (text : List ℕ) (read : Game) (script : Script) (had has : ReaderState) (before now : WriterState)
+    (answer : Result Ending RunFault) → game text ≡ Some read →
     ComesOrStops script had has before now answer → IsTrueOfText text (answer_of answer)
 true_of_game text read script had has before now answer is (inl (wants, reader, writer)) = rw wants tt
 true_of_game text read script had has before now (Ok ending) is (inr comes) = (script_of read, rw is refl)

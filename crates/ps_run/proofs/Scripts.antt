@@ -18,7 +18,8 @@ script_is game plain late = refl
 
 -- sections that mean the same make the same script
 pub script_same : (game game' : SessionParts) (plain late plain' late' : List CompiledSection) → game' ≡ game →
-    meant_of plain' ≡ meant_of plain → meant_of late' ≡ meant_of late → script_on game' plain' late' ≡ script_on game plain late
+    meant_of plain' ≡ meant_of plain → meant_of late' ≡ meant_of late →
+    script_on game' plain' late' ≡ script_on game plain late
 script_same game game' plain late plain' late' g p l =
     script_is game' plain' late'
     ∙ same_script own_table game game' (meant_of plain) (meant_of late) (meant_of plain') (meant_of late') g p l

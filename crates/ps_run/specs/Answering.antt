@@ -21,5 +21,6 @@ answer_of (Err fault.Write) = CannotWrite
 -- what is so of a run by other rules, which has the runs of the text's game, is what a run on the text may answer
 abbrev pub AnswersCarryOver : Type 0
 AnswersCarryOver =
-    (text : List ℕ) (read : Game) (script : Script) → game text ≡ Some read → SameRuns script (script_of read) → (told : Told) (answer : Result Ending RunFault) → IsSo script told answer →
+    (text : List ℕ) (read : Game) (script : Script) → game text ≡ Some read → SameRuns script (script_of read) →
+    (told : Told) (answer : Result Ending RunFault) → IsSo script told answer →
     Answers text told (answer_of answer)

@@ -34,16 +34,19 @@ pub record HasBegun (script : Script) (entry : ℕ) (play : GameInPlay) (before 
   pub text : now ≡ before ++ (enter script entry).text
 
 -- a key is played: the game is where the key leads, and what it writes is added. Where it stops, the game hadn't ended
-pub record IsKeyed {A : Type 0} (old new : GameInPlay) (key : Key) (before now : List ℕ) (result : Result A Stop) : Type 0 where
+pub record IsKeyed {A : Type 0} (old new : GameInPlay) (key : Key) (before now : List ℕ) (result : Result A Stop) :
+    Type 0 where
   pub script : script_in new ≡ script_in old
   pub session : OnOk result (new.session ≡ (key_step (script_in old) old.session key).session)
   pub text : OnOk result (now ≡ before ++ (key_step (script_in old) old.session key).text)
   pub left : IfErr result (λ stop. IsLeft (script_in old) stop (key_step (script_in old) old.session key) before now)
   pub unended : OnErr result (ending_of old.session ≡ None)
 
--- a key is played to its end: the game is where the key leads, and what it writes is added. Where memory was wanting, the
+-- a key is played to its end: the game is where the key leads, and what it writes is added. Where memory was wanting,
+-- the
 -- game hadn't ended
-pub record IsTurned {A E : Type 0} (old new : GameInPlay) (key : Key) (before now : List ℕ) (result : Result A E) : Type 0 where
+pub record IsTurned {A E : Type 0} (old new : GameInPlay) (key : Key) (before now : List ℕ) (result : Result A E) :
+    Type 0 where
   pub script : script_in new ≡ script_in old
   pub session : OnOk result (new.session ≡ (key_step (script_in old) old.session key).session)
   pub text : OnOk result (now ≡ before ++ (key_step (script_in old) old.session key).text)

@@ -16,22 +16,27 @@ use Rattle.ps_run.specs.declared.faults.PieceFault.TheVariants.{Memory, Write}
 -- a writer has taken the text, by no more calls than it has bytes, each of which was handed some
 abbrev pub HasTaken : WriterState → WriterState → List ℕ → Type 0
 HasTaken before now text =
-    Grows before.contents now.contents text × (now.calls ≤ before.calls + length text) × (now.empty_calls ≡ before.empty_calls)
+    Grows before.contents now.contents text × (now.calls ≤ before.calls + length text) ×
+    (now.empty_calls ≡ before.empty_calls)
 
 -- a writer has taken the text, and then a call failed
 abbrev pub HasTakenAndFailed : WriterState → WriterState → List ℕ → Type 0
 HasTakenAndFailed before now text =
-    Grows before.contents now.contents text × (now.calls ≤ before.calls + (length text + 1)) × (now.empty_calls ≡ before.empty_calls)
+    Grows before.contents now.contents text × (now.calls ≤ before.calls + (length text + 1)) ×
+    (now.empty_calls ≡ before.empty_calls)
 
--- the keys of these bytes are played: the session is theirs, what they leave of an arrow is held, and the writer, which was
+-- the keys of these bytes are played: the session is theirs, what they leave of an arrow is held, and the writer, which
+-- was
 -- well before, has taken the front that is theirs
-pub record HavePlayed (script : Script) (before now : WriterState) (current : Session) (kept : Held) (read : List ℕ) : Type 0 where
+pub record HavePlayed (script : Script) (before now : WriterState) (current : Session) (kept : Held) (read : List ℕ) :
+    Type 0 where
   pub was_well : before.has_failed ≡ false
   pub session : current ≡ session_of script read
   pub held : keys.bytes_of kept ≡ keys.held read
   pub wrote : HasTaken before now (whole_front script read)
 
--- memory was refused at a byte of a piece that brings a key: the texts of the keys before it are written, and nothing else; the
+-- memory was refused at a byte of a piece that brings a key: the texts of the keys before it are written, and nothing
+-- else; the
 -- game went on behind them
 pub record WantsMemory (script : Script) (before now : WriterState) (read piece : List ℕ) : Type 0 where
   pub was_well : before.has_failed ≡ false
@@ -40,7 +45,8 @@ pub record WantsMemory (script : Script) (before now : WriterState) (read piece 
   pub goes_on : ending_of (session_of script (read ++ take count piece)) ≡ None
   pub wanting : length (keys_of (read ++ take count piece)) < length (keys_of (read ++ piece))
 
--- the writer failed at a text of a piece: what it took has the texts of the keys before the piece, and is cut off from those
+-- the writer failed at a text of a piece: what it took has the texts of the keys before the piece, and is cut off from
+-- those
 -- of all its keys
 pub record CannotWrite (script : Script) (before now : WriterState) (read piece : List ℕ) : Type 0 where
   pub was_well : before.has_failed ≡ false
@@ -63,5 +69,6 @@ pub record IsCutOffAt (before now : WriterState) (text : List ℕ) : Type 0 wher
 -- a text was to be written, and wasn't: memory was refused before it was whole, and nothing is written; or the writer
 -- failed, and took some of it, but not all
 abbrev pub StopsAtText : PieceFault → WriterState → WriterState → List ℕ → Type 0
-StopsAtText Memory before now text = (now.contents ≡ before.contents) × (now.calls ≡ before.calls) × (now.empty_calls ≡ before.empty_calls)
+StopsAtText Memory before now text = (now.contents ≡ before.contents) × (now.calls ≡ before.calls) ×
+    (now.empty_calls ≡ before.empty_calls)
 StopsAtText Write before now text = IsCutOffAt before now text

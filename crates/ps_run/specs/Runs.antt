@@ -7,8 +7,10 @@ use Rattle.ps_model.specs.declared.play.Ending.{Ending}
 use Rattle.ps_model.specs.board.Turns.{Script}
 use Rattle.ps_model.specs.session.Keys.{keys_of}
 use Rattle.ps_model.specs.session.Sessions.{Session}
-use Rattle.ps_model.specs.game.Headline.{IsFront, IsPiece, GaveNothing, GoesOn, ReadsInTurn, ReaderIsWell, WriterIsWell, EndsAsMeant, CannotReadRightly, CannotWriteRightly}
-use Rattle.ps_model.specs.game.Tellings.{ReaderState, WriterState, Gives, Fails, ReaderCalls, Unasked, Asked, Told, Tells, read, read_before, last_behind}
+use Rattle.ps_model.specs.game.Headline.{IsFront, IsPiece, GaveNothing, GoesOn, ReadsInTurn, ReaderIsWell, WriterIsWell}
+use Rattle.ps_model.specs.game.Headline.{EndsAsMeant, CannotReadRightly, CannotWriteRightly}
+use Rattle.ps_model.specs.game.Tellings.{ReaderState, WriterState, Gives, Fails, ReaderCalls, Unasked, Asked, Told}
+use Rattle.ps_model.specs.game.Tellings.{Tells, read, read_before, last_behind}
 use Rattle.ps_laws.specs.Fronts.{whole_front}
 use Rattle.ps_devices.specs.Devices.{Loses}
 use Rattle.ps_run.specs.declared.faults.RunFault.{RunFault}
@@ -34,7 +36,8 @@ call_count Unasked = 0
 call_count (Asked earlier last) = length earlier + 1
 
 -- a run between two calls
-pub record Stands (script : Script) (had has : ReaderState) (before now : WriterState) (session : Session) (kept : Held) (count : ℕ) : Type 0 where
+pub record Stands (script : Script) (had has : ReaderState) (before now : WriterState) (session : Session)
+    (kept : Held) (count : ℕ) : Type 0 where
   pub reading : ReaderCalls
   pub is_asked : IsAsked script reading
   pub counted : call_count reading ≡ count
@@ -45,8 +48,10 @@ pub record Stands (script : Script) (had has : ReaderState) (before now : Writer
   pub same_room : has.odd_sized_calls ≡ had.odd_sized_calls
   pub played : HavePlayed script before now session kept (read reading)
 
--- memory was refused in play: the texts of the keys of some bytes are written, whole; of all that were read before the last
--- call, and perhaps of some that it gave. The game went on behind them, and more keys were read, or the last call gave nothing
+-- memory was refused in play: the texts of the keys of some bytes are written, whole; of all that were read before the
+-- last
+-- call, and perhaps of some that it gave. The game went on behind them, and more keys were read, or the last call gave
+-- nothing
 pub record StopsInPlay (script : Script) (told : Told) : Type 0 where
   pub reads : ReadsInTurn script told.reading told.left
   pub reader_is_well : ReaderIsWell told
@@ -67,12 +72,14 @@ IsSo script told (Err fault.Read) = CannotReadRightly script told
 IsSo script told (Err fault.Write) = CannotWriteRightly script told
 
 -- how a run comes to its answer
-pub record Comes (script : Script) (had has : ReaderState) (before now : WriterState) (answer : Result Ending RunFault) : Type 0 where
+pub record Comes (script : Script) (had has : ReaderState) (before now : WriterState) (answer : Result Ending RunFault)
+    : Type 0 where
   pub told : Told
   pub tells : Tells had has before now told
   pub is_so : IsSo script told answer
 
 -- memory was refused before anything was asked for and anything written; or the run came to its answer
-abbrev pub ComesOrStops : Script → ReaderState → ReaderState → WriterState → WriterState → Result Ending RunFault → Type 0
+abbrev pub ComesOrStops : Script → ReaderState → ReaderState → WriterState → WriterState → Result Ending RunFault →
+    Type 0
 ComesOrStops script had has before now answer =
     ((answer ≡ Err fault.Memory) × (has ≡ had) × (now ≡ before)) ⊎ Comes script had has before now answer

@@ -13,5 +13,7 @@ pub record AreRowsOf (names : Names) (g : Grid) (texts : List (List ℕ)) : Type
 -- the texts whose numbers are in a set are rows of one grid's frame, and the others those of another's
 pub record ArePatchedRows (names : Names) (rows : List Bool) (g h : Grid) (texts : List (List ℕ)) : Type 0 where
   pub long : length texts ≡ g.height
-  pub drawn : (row : ℕ) → row < g.height → column_at rows row ≡ true → slice_index_or texts row [] ≡ frame_row names g row
-  pub kept : (row : ℕ) → row < g.height → column_at rows row ≡ false → slice_index_or texts row [] ≡ frame_row names h row
+  pub drawn : (row : ℕ) → row < g.height → column_at rows row ≡ true →
+      slice_index_or texts row [] ≡ frame_row names g row
+  pub kept : (row : ℕ) → row < g.height → column_at rows row ≡ false →
+      slice_index_or texts row [] ≡ frame_row names h row

@@ -19,8 +19,10 @@ pub record IsPlainFrame (names : Names) (g : Grid) (text : List ℕ) : Type 0 wh
 -- the text has the plain rows of a set as one grid's frame has them, and the others as that of another grid as large
 pub record IsPatchedFrame (names : Names) (rows : List Bool) (g h : Grid) (text : List ℕ) : Type 0 where
   pub long : length text ≡ row_start g.width g.height + 1
-  pub drawn : (row : ℕ) → row < g.height → column_at rows row ≡ true → IsPlainRow names g row (row_start g.width row) text
-  pub kept : (row : ℕ) → row < g.height → column_at rows row ≡ false → IsPlainRow names h row (row_start g.width row) text
+  pub drawn : (row : ℕ) → row < g.height → column_at rows row ≡ true →
+      IsPlainRow names g row (row_start g.width row) text
+  pub kept : (row : ℕ) → row < g.height → column_at rows row ≡ false →
+      IsPlainRow names h row (row_start g.width row) text
   pub end : slice_index text (row_start g.width g.height) ≡ 10
 
 -- the text has as many bytes as such a frame, and its line feeds

@@ -1,6 +1,7 @@
 -- Plain rows of a frame: those whose characters are all of one byte, so that byte x of the row is the one of column x.
 -- Such a row may stand anywhere in a text.
-use Rattle.std.specs.Prelude.{◌≡◌, ◌<◌, ◌≤◌, ◌+◌, ◌*◌, ◌⊎◌, ℕ, Bool, false, List, [], ◌∷◌, length, encode_utf8, slice_index}
+use Rattle.std.specs.Prelude.{◌≡◌, ◌<◌, ◌≤◌, ◌+◌, ◌*◌, ◌⊎◌, ℕ, Bool, false, List, [], ◌∷◌, length, encode_utf8}
+use Rattle.std.specs.Prelude.{slice_index}
 use Rattle.ps_model.specs.board.Grid.{Grid, cell_at}
 use Rattle.ps_model.specs.names.Names.{Names}
 use Rattle.ps_model.specs.session.Frames.{shown_character}
@@ -21,7 +22,9 @@ pub record IsPlainRow (names : Names) (g : Grid) (row start : ℕ) (text : List 
   pub end : slice_index text (start + g.width) ≡ 10
 
 -- from a place on, the text has room for a plain row, and such a byte for each column that isn't in a set
-pub record AreDrawn (names : Names) (g : Grid) (row : ℕ) (columns : List Bool) (start : ℕ) (text : List ℕ) : Type 0 where
-  pub long : start + g.width < length text
-  pub each : (x : ℕ) → x < g.width → column_at columns x ≡ false → column_bytes names g row x ≡ slice_index text (start + x) ∷ []
-  pub end : slice_index text (start + g.width) ≡ 10
+pub record AreDrawn (names : Names) (g : Grid) (row : ℕ) (columns : List Bool) (start : ℕ) (text : List ℕ) : Type 0
+  where
+    pub long : start + g.width < length text
+    pub each : (x : ℕ) → x < g.width → column_at columns x ≡ false →
+        column_bytes names g row x ≡ slice_index text (start + x) ∷ []
+    pub end : slice_index text (start + g.width) ≡ 10

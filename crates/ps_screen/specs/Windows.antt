@@ -12,9 +12,11 @@ pub record IsWindowOf (g : Grid) (window : Window) : Type 0 where
 
 -- two grids show the same objects in the part's rows
 abbrev pub AgreeInWindow : Window → Grid → Grid → Type 0
-AgreeInWindow window first second = (row : ℕ) → window.first_row ≤ row → row < window.first_row + window.rows → HaveSameRow first second row
+AgreeInWindow window first second = (row : ℕ) → window.first_row ≤ row → row < window.first_row + window.rows →
+    HaveSameRow first second row
 
 -- they do in those of its rows whose number isn't in a set
 abbrev pub DifferInWindowOn : List Bool → Window → Grid → Grid → Type 0
 DifferInWindowOn rows window first second =
-    (row : ℕ) → window.first_row ≤ row → row < window.first_row + window.rows → column_at rows row ≡ false → HaveSameRow first second row
+    (row : ℕ) → window.first_row ≤ row → row < window.first_row + window.rows → column_at rows row ≡ false →
+    HaveSameRow first second row

@@ -10,7 +10,8 @@ use Rattle.ps_model.specs.session.KeySteps.{gone_on, key_at_level_message}
 use Rattle.ps_session.specs.IgnoredKeys.{is_ignored_at_message}
 
 -- a key that is neither ignored nor `q` dismisses it
-pub dismissed : (script : Script) (play : Play) (pending : Pending) (key : Key) → is_ignored_at_message key ≡ false → key ≢ Quit →
+pub dismissed : (script : Script) (play : Play) (pending : Pending) (key : Key) → is_ignored_at_message key ≡ false →
+    key ≢ Quit →
     key_at_level_message script play pending key ≡ gone_on script play pending
 dismissed script play pending (Move Up) e n = absurd (true≢false e)
 dismissed script play pending (Move Down) e n = absurd (true≢false e)

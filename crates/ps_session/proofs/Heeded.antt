@@ -10,12 +10,14 @@ use Rattle.ps_model.specs.session.StartSteps.{restarted}
 use Rattle.ps_model.specs.session.KeySteps.{input_taken, key_in_level, undone, unless_ignored}
 use Rattle.ps_session.specs.IgnoredKeys.{is_ignored_in_level}
 
-heeded : (ignored : Bool) (play : Play) (key : Play → Step) → ignored ≡ false → unless_ignored ignored play key ≡ key play
+heeded : (ignored : Bool) (play : Play) (key : Play → Step) → ignored ≡ false →
+    unless_ignored ignored play key ≡ key play
 heeded true play key e = absurd (true≢false e)
 heeded false play key e = refl
 
 -- a turn with an input
-pub moved : (script : Script) (play : Play) (input : Input) → is_ignored_in_level script.options (Move input) ≡ false → key_in_level script play (Move input) ≡ input_taken script play input
+pub moved : (script : Script) (play : Play) (input : Input) → is_ignored_in_level script.options (Move input) ≡ false →
+    key_in_level script play (Move input) ≡ input_taken script play input
 moved script play Up e = refl
 moved script play Down e = refl
 moved script play Left e = refl
@@ -23,9 +25,12 @@ moved script play Right e = refl
 moved script play Action e = heeded script.options.no_action play (λ here. input_taken script here Action) e
 
 -- undo
-pub undo_heeded : (script : Script) (play : Play) → script.options.no_undo ≡ false → key_in_level script play Undo ≡ undone script play
+pub undo_heeded : (script : Script) (play : Play) → script.options.no_undo ≡ false →
+    key_in_level script play Undo ≡ undone script play
 undo_heeded script play e = heeded script.options.no_undo play (λ here. undone script here) e
 
 -- a restart
-pub restart_heeded : (script : Script) (play : Play) → script.options.no_restart ≡ false → key_in_level script play Restart ≡ restarted script (with_board_in_history play) None
-restart_heeded script play e = heeded script.options.no_restart play (λ here. restarted script (with_board_in_history here) None) e
+pub restart_heeded : (script : Script) (play : Play) → script.options.no_restart ≡ false →
+    key_in_level script play Restart ≡ restarted script (with_board_in_history play) None
+restart_heeded script play e = heeded script.options.no_restart play (λ here.
+    restarted script (with_board_in_history here) None) e

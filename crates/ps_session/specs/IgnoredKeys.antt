@@ -1,4 +1,5 @@
--- The keys that a session ignores. In a level options have some ignored; at a message all are but `x` and `q`; after the end
+-- The keys that a session ignores. In a level options have some ignored; at a message all are but `x` and `q`; after
+-- the end
 -- every one is.
 use Rattle.std.specs.Prelude.{◌≡◌, Bool, true, false}
 use Rattle.ps_model.specs.declared.options.Options.{Options}
@@ -42,4 +43,5 @@ is_ignored options (Ended ending) key = true
 -- a key that is ignored leaves the session as it is, and writes nothing
 abbrev pub IgnoredKeysDoNothing : Type 0
 IgnoredKeysDoNothing =
-    (script : Script) (session : Session) (key : Key) → is_ignored script.options session key ≡ true → key_step script session key ≡ quietly session
+    (script : Script) (session : Session) (key : Key) → is_ignored script.options session key ≡ true →
+    key_step script session key ≡ quietly session

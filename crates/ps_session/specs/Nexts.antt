@@ -31,7 +31,8 @@ history_behind_no_board Clears history = []
 -- the history behind a location that is left
 abbrev pub history_behind_location : HistoryChange → List Grid → Location Standing → List Grid
 history_behind_location history_change history (Playing level) = history_behind history_change history level.board
-history_behind_location history_change history (Waiting level pending) = history_behind history_change history level.board
+history_behind_location history_change history (Waiting level pending) =
+    history_behind history_change history level.board
 history_behind_location history_change history (AtMessage entry) = history_behind_no_board history_change history
 history_behind_location history_change history (Ended ending) = history_behind_no_board history_change history
 

@@ -1,5 +1,6 @@
 -- The entry at a place, as the definitions see it.
-use Rattle.std.proofs.Common.{◌≡◌, ◌∙◌, ℕ, ◌<◌, ◌≤◌, List, Option, Some, None, length, get_or, sym, ap, subst, option_map, refl, arith}
+use Rattle.std.proofs.Common.{◌≡◌, ◌∙◌, ℕ, ◌<◌, ◌≤◌, List, Option, Some, None, length, get_or, sym, ap, subst}
+use Rattle.std.proofs.Common.{option_map, refl, arith}
 use Rattle.std.specs.Prelude.{slice_get}
 use Rattle.std.proofs.lemmas.List.{length-map}
 use Rattle.std.proofs.lemmas.Option.{slice_get-map, slice_get-get_or}
@@ -14,7 +15,8 @@ use Rattle.ps_laws.proofs.common.Everywhere.{All-slice_get}
 use Rattle.ps_stage.specs.Sides.{longer_side, side_at, side_of_found}
 use Rattle.ps_stage.specs.Playable.{IsPlayable, ArePlayable, LevelFits, EntryFits, EntriesFit}
 
-pub entry_found : (es : List Entry) (entries : List Meant) (i : ℕ) (x : Entry) → entries_shown es ≡ entries → i < length es → x ≡ get_or es i x →
+pub entry_found : (es : List Entry) (entries : List Meant) (i : ℕ) (x : Entry) → entries_shown es ≡ entries →
+    i < length es → x ≡ get_or es i x →
     slice_get entries i ≡ Some (entry_shown x)
 entry_found es entries i x e within is =
     ap (λ (l : List Meant). slice_get l i) (sym e)
@@ -48,7 +50,8 @@ pub fits_at : (side : ℕ) (es : List Entry) (entries : List Meant) (i : ℕ) (x
     entries_shown es ≡ entries → i < length es → x ≡ get_or es i x →
     entry_shown x ≡ LevelEntry level → side_at entries i ≤ side → LevelFits side level
 fits_at side es entries i x level e within is shows low =
-    let found : slice_get entries i ≡ Some (LevelEntry level) = entry_found es entries i x e within is ∙ ap Some shows in
+    let found : slice_get entries i ≡ Some (LevelEntry level) = entry_found es entries i x e within is
+    ∙ ap Some shows in
     let longer : side_at entries i ≡ longer_side level = ap side_of_found found in
     record {
       columns = omega (arith, low, longer);
@@ -56,7 +59,8 @@ fits_at side es entries i x level e within is shows low =
     }
 
 -- where all entries fit, the one at each place does
-found_fits : (side : ℕ) (entries : List Meant) (i : ℕ) (found : Option Meant) → slice_get entries i ≡ found → EntriesFit side entries → side_of_found found ≤ side
+found_fits : (side : ℕ) (entries : List Meant) (i : ℕ) (found : Option Meant) → slice_get entries i ≡ found →
+    EntriesFit side entries → side_of_found found ≤ side
 found_fits side entries i None e fit = omega arith
 found_fits side entries i (Some (MessageEntry text)) e fit = omega arith
 found_fits side entries i (Some (LevelEntry level)) e fit =

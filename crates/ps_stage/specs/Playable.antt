@@ -1,4 +1,5 @@
--- What playing needs of a level and of a game: the sides of levels are those of a board, for which the words of its sets have
+-- What playing needs of a level and of a game: the sides of levels are those of a board, for which the words of its
+-- sets have
 -- room, and their objects are the game's, which has some.
 use Rattle.std.specs.Prelude.{ℕ, ◌≤◌, ◌<◌, List, Option, All, ⊤}
 use Rattle.ps_model.specs.declared.pieces.ObjectId.{ObjectId}
@@ -34,4 +35,5 @@ EntriesFit side entries = All (EntryFits side) entries
 
 -- each object of the game may stand on its own layer
 abbrev pub HaveOwnRoom : Option (List ℕ) → Names → Type 0
-HaveOwnRoom table names = (object : ObjectId) → object.0 < object_count names → HasRoom table object (layer_of names object)
+HaveOwnRoom table names = (object : ObjectId) → object.0 < object_count names →
+    HasRoom table object (layer_of names object)

@@ -19,6 +19,7 @@ side_of_found (Some entry) = side_of entry
 abbrev pub side_at : List Entry → ℕ → ℕ
 side_at entries place = side_of_found (slice_get entries place)
 
--- an entry with that longer side is played on such boards: it is no level, or neither for smaller ones nor for larger ones
+-- an entry with that longer side is played on such boards: it is no level, or neither for smaller ones nor for larger
+-- ones
 abbrev pub has_side : BoardSides → ℕ → Bool
 has_side sides side = nat_eq side 0 || (nat_lt sides.above side && nat_le side sides.most)

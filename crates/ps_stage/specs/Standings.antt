@@ -33,10 +33,13 @@ script_of parts plain late = record {
   wins = parts.wins;
 }
 
--- that game with the programs that its rules are on its own boards, by the table that a board has for layers and by what
+-- that game with the programs that its rules are on its own boards, by the table that a board has for layers and by
+-- what
 -- the rules are on boards of a table
-abbrev pub script_for : (List ℕ → Option (List ℕ)) → SessionParts → (Option (List ℕ) → List Section) → (Option (List ℕ) → List Section) → Script
-script_for table_for parts plain late = script_of parts (plain (table_for parts.names.layers)) (late (table_for parts.names.layers))
+abbrev pub script_for : (List ℕ → Option (List ℕ)) → SessionParts → (Option (List ℕ) → List Section) →
+    (Option (List ℕ) → List Section) → Script
+script_for table_for parts plain late = script_of parts (plain (table_for parts.names.layers))
+    (late (table_for parts.names.layers))
 
 -- what of it turns look at
 abbrev pub turn_parts : SessionParts → TurnParts

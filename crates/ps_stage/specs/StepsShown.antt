@@ -56,10 +56,12 @@ told_step GoesOn play text again_turns = after text (again_turns play)
 abbrev pub start_shown : Script → Play → DoneTurn → ℕ → (Play → Step) → Step
 start_shown script play done left again_turns = elim done.changed [
   | false ↦ quietly (model.Playing play)
-  | true ↦ let next : Play = seen script play in after (shown script next) (start_told next done.message done.again left again_turns)
+  | true ↦ let next : Play = seen script play in
+      after (shown script next) (start_told next done.message done.again left again_turns)
 ]
 
--- a step that stopped with a text: where memory was wanting nothing is said; else what is left of it is that an entry begins
+-- a step that stopped with a text: where memory was wanting nothing is said; else what is left of it is that an entry
+-- begins
 abbrev pub IsStopped : Script → Stop → Step → List ℕ → Type 0
 IsStopped script Memory step text = ⊤
 IsStopped script (Elsewhere entry) step text = step ≡ after text (enter script entry)

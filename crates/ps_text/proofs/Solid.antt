@@ -11,7 +11,8 @@ pub solid_nothing : (line : List ℕ) (at : ℕ) → IsSolid line at at
 solid_nothing line at i l m = absurd (omega arith)
 
 -- a byte more
-pub solid_more : (line : List ℕ) (start at end : ℕ) → IsSolid line start at → is_blank (get_or line at 0) ≡ false → end ≡ at + 1 → IsSolid line start end
+pub solid_more : (line : List ℕ) (start at end : ℕ) → IsSolid line start at → is_blank (get_or line at 0) ≡ false →
+    end ≡ at + 1 → IsSolid line start end
 solid_more line start at end solid h e i l m = elim (before_or_at i at (omega arith)) [
   | inl before ↦ solid i l before
   | inr same ↦ ap (λ (n : ℕ). is_blank (get_or line n 0)) same ∙ h

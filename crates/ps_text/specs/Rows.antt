@@ -1,10 +1,12 @@
 -- The table of a text's lines: a row for each line, with its place in the text.
-use Rattle.std.specs.Prelude.{ℕ, ◌+◌, ◌≤◌, ◌<◌, ◌≡◌, Option, List, length, map, option_map, is_some, unwrap_or, drop, take, string_bytes, slice_range, All, IfSome}
+use Rattle.std.specs.Prelude.{ℕ, ◌+◌, ◌≤◌, ◌<◌, ◌≡◌, Option, List, length, map, option_map, is_some, unwrap_or, drop}
+use Rattle.std.specs.Prelude.{take, string_bytes, slice_range, All, IfSome}
 use Rattle.std.specs.List.{slice_split, position_or_len}
 use Rattle.std.specs.Str.{IsCharBoundary}
 use Rattle.ps_model.specs.declared.texts.Section.{Section}
 use Rattle.ps_model.specs.declared.limits.TheConstants.{TEXT_LIMIT}
-use Rattle.ps_model.specs.text.Lines.{Line, Taken, is_line_feed, without_empty_end, without_comments, header_of, text_place, bytes_left, text_taken, is_read, depth_below, lines_from, lines_of}
+use Rattle.ps_model.specs.text.Lines.{Line, Taken, is_line_feed, without_empty_end, without_comments, header_of}
+use Rattle.ps_model.specs.text.Lines.{text_place, bytes_left, text_taken, is_read, depth_below, lines_from, lines_of}
 use Rattle.ps_text.specs.declared.scan.ByteRange.{ByteRange}
 use Rattle.ps_text.specs.declared.rows.Row.{Row}
 use Rattle.ps_text.specs.declared.rows.LineStart.{LineStart}
@@ -18,7 +20,16 @@ taken_at start raw range = record { start = start + range.start; bytes = slice_r
 -- the line that a row tells of, whose bytes are these
 abbrev pub shown_as : List ℕ → Row → Line
 shown_as raw row =
-    record { number = row.number; start = row.start; section = row.section; is_header = row.is_header; bytes = string_bytes row.visible; taken = option_map (taken_at row.start raw) row.taken; is_there = row.is_there }
+    record {
+      number = row.number;
+      start = row.start;
+      section = row.section;
+      is_header = row.is_header;
+      bytes =
+          string_bytes row.visible;
+      taken = option_map (taken_at row.start raw) row.taken;
+      is_there = row.is_there;
+    }
 
 -- the bytes of the line of a row
 abbrev pub raw_of : List ℕ → Row → List ℕ
@@ -65,7 +76,8 @@ raw_at text start = take (position_or_len is_line_feed (drop start text)) (drop 
 
 -- the lines from a place behind a line feed on
 abbrev pub lines_behind : List ℕ → LineStart → List Line
-lines_behind text above = lines_from above.number above.start above.depth above.section (without_empty_end (slice_split is_line_feed (drop above.start text)))
+lines_behind text above = lines_from above.number above.start above.depth above.section
+    (without_empty_end (slice_split is_line_feed (drop above.start text)))
 
 -- a line may begin where the line below begins, if that is a place of the text
 pub record IsBelow (text : List ℕ) (above below : LineStart) : Type 0 where

@@ -1,5 +1,6 @@
 -- The text of a line that is taken as it stands, by its range.
-use Rattle.std.specs.Prelude.{ℕ, ◌≡◌, ◌+◌, ◌-◌, ◌≤◌, ◌<◌, ◌++◌, false, Option, Some, None, List, [], length, take, drop, replicate, slice_index, slice_range}
+use Rattle.std.specs.Prelude.{ℕ, ◌≡◌, ◌+◌, ◌-◌, ◌≤◌, ◌<◌, ◌++◌, false, Option, Some, None, List, [], length, take, drop}
+use Rattle.std.specs.Prelude.{replicate, slice_index, slice_range}
 use Rattle.std.specs.List.{prefix_len}
 use Rattle.std.specs.Str.{IsCharBoundary}
 use Rattle.ps_model.specs.text.Words.{is_blank}
@@ -35,7 +36,8 @@ trimmed_of bytes = without_blank_end (drop (prefix_len is_blank bytes) bytes)
 -- a line with blanks for a region of it, if there is one
 abbrev pub bytes_without : List ℕ → Option ByteRange → List ℕ
 bytes_without plain None = plain
-bytes_without plain (Some region) = take region.start plain ++ (replicate (region.end - region.start) 32 ++ drop region.end plain)
+bytes_without plain (Some region) = take region.start plain ++
+    (replicate (region.end - region.start) 32 ++ drop region.end plain)
 
 -- the text of a region, if there is one, without the blanks at both ends
 abbrev pub IsTrimmed : List ℕ → Option ByteRange → Option ByteRange → Type 0

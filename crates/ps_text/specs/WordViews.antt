@@ -40,4 +40,5 @@ AreRising low high (place ∷ places) = (low ≤ place.0) × (place.0 < place.1)
 -- the same of spans
 abbrev pub AreRisingSpans : ℕ → ℕ → List Span → Type 0
 AreRisingSpans low high [] = low ≤ high
-AreRisingSpans low high (span ∷ spans) = (low ≤ span.start) × (span.start < span.end) × AreRisingSpans span.end high spans
+AreRisingSpans low high (span ∷ spans) = (low ≤ span.start) × (span.start < span.end) × AreRisingSpans span.end high
+    spans

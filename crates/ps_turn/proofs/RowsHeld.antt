@@ -1,5 +1,6 @@
 -- Rows of a grid outside of which no cell has what is asked for.
-use Rattle.std.proofs.Common.{◌≡◌, ◌∙◌, ℕ, ◌+◌, ◌*◌, ◌<◌, ◌&&◌, ◌||◌, Bool, true, false, List, [], ◌∷◌, length, take, get_or, refl, sym, ap, ap₂, arith}
+use Rattle.std.proofs.Common.{◌≡◌, ◌∙◌, ℕ, ◌+◌, ◌*◌, ◌<◌, ◌&&◌, ◌||◌, Bool, true, false, List, [], ◌∷◌, length, take}
+use Rattle.std.proofs.Common.{get_or, refl, sym, ap, ap₂, arith}
 use Rattle.std.specs.Prelude.{nat_lt}
 use Rattle.std.specs.List.{list_any}
 use Rattle.std.proofs.Math.Bool.{and-false}
@@ -19,7 +20,8 @@ use Rattle.ps_turn.specs.Sweeps.{holds_any}
 use Rattle.ps_turn.proofs.RowsOfCells.{each_more}
 
 -- slots that pass neither of two tests
-none_of_both : (p q r : Slot → Bool) (cell : List Slot) → ((slot : Slot) → r slot ≡ (p slot || q slot)) → list_any p cell ≡ false → list_any q cell ≡ false → list_any r cell ≡ false
+none_of_both : (p q r : Slot → Bool) (cell : List Slot) → ((slot : Slot) → r slot ≡ (p slot || q slot)) →
+    list_any p cell ≡ false → list_any q cell ≡ false → list_any r cell ≡ false
 none_of_both p q r [] e off none = refl
 none_of_both p q r (slot ∷ cell) e off none =
     let a = or_parts (p slot) (list_any p cell) off in
@@ -31,46 +33,66 @@ holds_none [] = refl
 holds_none (slot ∷ cell) = holds_none cell
 
 -- the same test in other words
-pub outside_agree : (f h : List Slot → Bool) (g : Grid) (rows : List Bool) → ((cell : List Slot) → f cell ≡ h cell) → NonePassOutside f g rows → NonePassOutside h g rows
-outside_agree f h g rows same none row low out x across = sym (same (cell_at g (x * g.height + row))) ∙ none row low out x across
+pub outside_agree : (f h : List Slot → Bool) (g : Grid) (rows : List Bool) → ((cell : List Slot) → f cell ≡ h cell) →
+    NonePassOutside f g rows → NonePassOutside h g rows
+outside_agree f h g rows same none row low out x across = sym (same (cell_at g (x * g.height + row)))
+    ∙ none row low out x across
 
 -- one of the objects passed by, or one more
 pub held-none : (g : Grid) (rows : List Bool) → NonePassOutside (list_any (holds_any [])) g rows
 held-none g rows row low out x across = holds_none (cell_at g (x * g.height + row))
 
-pub held-more : (g : Grid) (objects : List ObjectId) (count : ℕ) (object : ObjectId) (rows having either : List Bool) → IsGrid g → count < length objects → object ≡ get_or objects count object →
-    either ≡ either_columns rows having → NonePassOutside (list_any (holds_any (take count objects))) g rows → PassOnlyOn (slot_holds object) g having →
+pub held-more : (g : Grid) (objects : List ObjectId) (count : ℕ) (object : ObjectId) (rows having either : List Bool) →
+    IsGrid g → count < length objects → object ≡ get_or objects count object →
+    either ≡ either_columns rows having → NonePassOutside (list_any (holds_any (take count objects))) g rows →
+    PassOnlyOn (slot_holds object) g having →
     NonePassOutside (list_any (holds_any (take (count + 1) objects))) g either
 held-more g objects count object rows having either shape within is e none only row low out x across =
     let parts =
     or_parts (column_at rows row) (column_at having row)
-    (sym (ap (λ (cs : List Bool). column_at cs row) e ∙ column_at-where (λ y. column_at rows y || column_at having y) row (omega (arith, low, shape.rows))) ∙ out) in
-    none_of_both (holds_any (take count objects)) (slot_holds object) (holds_any (take (count + 1) objects)) (cell_at g (x * g.height + row))
-    (λ slot. list_any_more (λ each. slot_holds each slot) objects count object within ∙ ap (λ (o : ObjectId). holds_any (take count objects) slot || slot_holds o slot) (sym is))
+    (sym (ap (λ (cs : List Bool). column_at cs row) e
+    ∙ column_at-where (λ y. column_at rows y || column_at having y) row (omega (arith, low, shape.rows))) ∙ out) in
+    none_of_both (holds_any (take count objects)) (slot_holds object) (holds_any (take (count + 1) objects))
+    (cell_at g (x * g.height + row))
+    (λ slot. list_any_more (λ each. slot_holds each slot) objects count object within
+    ∙ ap (λ (o : ObjectId). holds_any (take count objects) slot || slot_holds o slot) (sym is))
     (none row low parts.0 x across) (only row low parts.1 x across)
 
 -- each of the objects passed by, and one more
-pub each-none : (g : Grid) (rows : List Bool) → IsGrid g → rows ≡ columns_below g.height → NonePassOutside (has_each []) g rows
+pub each-none : (g : Grid) (rows : List Bool) → IsGrid g → rows ≡ columns_below g.height →
+    NonePassOutside (has_each []) g rows
 each-none g rows shape is row low out x across =
     let within : row < SIDE_LIMIT = omega (arith, low, shape.rows) in
     let there : nat_lt row g.height ≡ true = grind (arith, nat_tests, low) in
     sym there ∙ sym (ap (λ (cs : List Bool). column_at cs row) is ∙ column_at-where (λ y. nat_lt y g.height) row within)
     ∙ out
 
-one_off : (b : Bool) (cell : List Slot) (object : ObjectId) → list_any (slot_holds object) cell ≡ false → (b && list_any (holds_any (object ∷ [])) cell) ≡ false
-one_off b cell object off = ap (λ (c : Bool). b && c) (none_of_both (slot_holds object) (holds_any []) (holds_any (object ∷ [])) cell (λ slot. refl) off (holds_none cell)) ∙ and-false b
+one_off : (b : Bool) (cell : List Slot) (object : ObjectId) → list_any (slot_holds object) cell ≡ false →
+    (b && list_any (holds_any (object ∷ [])) cell) ≡ false
+one_off b cell object off = ap (λ (c : Bool). b && c)
+    (none_of_both (slot_holds object) (holds_any []) (holds_any (object ∷ [])) cell (λ slot.
+    refl) off (holds_none cell)) ∙ and-false b
 
-each_by : (g : Grid) (passed : List Slot → Bool) (object : ObjectId) (rows having : List Bool) (row x : ℕ) (a b : Bool) → column_at rows row ≡ a → column_at having row ≡ b → (a && b) ≡ false → row < g.height → x < g.width →
-    NonePassOutside passed g rows → PassOnlyOn (slot_holds object) g having → (passed (cell_at g (x * g.height + row)) && list_any (holds_any (object ∷ [])) (cell_at g (x * g.height + row))) ≡ false
+each_by : (g : Grid) (passed : List Slot → Bool) (object : ObjectId) (rows having : List Bool) (row x : ℕ) (a b : Bool)
+    → column_at rows row ≡ a → column_at having row ≡ b → (a && b) ≡ false → row < g.height → x < g.width →
+    NonePassOutside passed g rows → PassOnlyOn (slot_holds object) g having →
+    (passed (cell_at g (x * g.height + row)) && list_any (holds_any (object ∷ [])) (cell_at g (x * g.height + row))) ≡
+    false
 each_by g passed object rows having row x false b e d out low across none only =
-    ap (λ (c : Bool). c && list_any (holds_any (object ∷ [])) (cell_at g (x * g.height + row))) (none row low e x across)
+    ap (λ (c : Bool). c && list_any (holds_any (object ∷ [])) (cell_at g (x * g.height + row)))
+    (none row low e x across)
 each_by g passed object rows having row x true b e d out low across none only =
-    one_off (passed (cell_at g (x * g.height + row))) (cell_at g (x * g.height + row)) object (only row low (d ∙ out) x across)
+    one_off (passed (cell_at g (x * g.height + row))) (cell_at g (x * g.height + row)) object
+    (only row low (d ∙ out) x across)
 
-pub each-more : (g : Grid) (objects : List ObjectId) (count : ℕ) (object : ObjectId) (rows having both : List Bool) → IsGrid g → count < length objects → object ≡ get_or objects count object →
-    both ≡ both_columns rows having → NonePassOutside (has_each (take count objects)) g rows → PassOnlyOn (slot_holds object) g having → NonePassOutside (has_each (take (count + 1) objects)) g both
+pub each-more : (g : Grid) (objects : List ObjectId) (count : ℕ) (object : ObjectId) (rows having both : List Bool) →
+    IsGrid g → count < length objects → object ≡ get_or objects count object →
+    both ≡ both_columns rows having → NonePassOutside (has_each (take count objects)) g rows →
+    PassOnlyOn (slot_holds object) g having → NonePassOutside (has_each (take (count + 1) objects)) g both
 each-more g objects count object rows having both shape within is e none only row low out x across =
     sym (each_more objects count object within is (cell_at g (x * g.height + row)))
-    ∙ each_by g (has_each (take count objects)) object rows having row x (column_at rows row) (column_at having row) refl refl
-    (sym (ap (λ (cs : List Bool). column_at cs row) e ∙ column_at-where (λ y. column_at rows y && column_at having y) row (omega (arith, low, shape.rows))) ∙ out)
+    ∙ each_by g (has_each (take count objects)) object rows having row x (column_at rows row) (column_at having row)
+    refl refl
+    (sym (ap (λ (cs : List Bool). column_at cs row) e
+    ∙ column_at-where (λ y. column_at rows y && column_at having y) row (omega (arith, low, shape.rows))) ∙ out)
     low across none only

@@ -1,5 +1,6 @@
 -- Where objects stand, and what a motion given to them leaves as it is.
-use Rattle.std.proofs.Common.{◌≡◌, ◌∙◌, ℕ, ◌+◌, ◌*◌, ◌<◌, ◌||◌, Bool, true, false, cond, List, [], ◌∷◌, length, map, take, get_or, refl, sym, ap, ap₂, arith}
+use Rattle.std.proofs.Common.{◌≡◌, ◌∙◌, ℕ, ◌+◌, ◌*◌, ◌<◌, ◌||◌, Bool, true, false, cond, List, [], ◌∷◌, length, map}
+use Rattle.std.proofs.Common.{take, get_or, refl, sym, ap, ap₂, arith}
 use Rattle.std.specs.Prelude.{nat_eq}
 use Rattle.std.specs.List.{list_any}
 use Rattle.std.proofs.lemmas.List.Folds.{list_any_more}
@@ -18,15 +19,19 @@ use Rattle.ps_board.proofs.ColumnLaws.{column_at-where, columns-agree}
 use Rattle.ps_turn.specs.Sweeps.{holds_any, slot_set_moving}
 
 -- one object more
-pub layer_more : (g : Grid) (objects : List ObjectId) (layer row count : ℕ) (all more : List Bool) (object : ObjectId) → count < length objects → object ≡ get_or objects count object →
+pub layer_more : (g : Grid) (objects : List ObjectId) (layer row count : ℕ) (all more : List Bool) (object : ObjectId)
+    → count < length objects → object ≡ get_or objects count object →
     all ≡ row_slots (holds_any (take count objects)) g layer row → more ≡ row_holders g object layer row →
     either_columns all more ≡ row_slots (holds_any (take (count + 1) objects)) g layer row
 layer_more g objects layer row count all more object within is so_far told =
-    columns-agree (λ x. column_at all x || column_at more x) (λ x. holds_any (take (count + 1) objects) (slot_at g (x * g.height + row) layer))
+    columns-agree (λ x. column_at all x || column_at more x) (λ x.
+    holds_any (take (count + 1) objects) (slot_at g (x * g.height + row) layer))
     (λ x low.
     ap₂ (λ (a b : Bool). a || b)
-    (ap (λ (columns : List Bool). column_at columns x) so_far ∙ column_at-where (λ y. holds_any (take count objects) (slot_at g (y * g.height + row) layer)) x low)
-    (ap (λ (columns : List Bool). column_at columns x) told ∙ column_at-where (λ y. slot_holds object (slot_at g (y * g.height + row) layer)) x low
+    (ap (λ (columns : List Bool). column_at columns x) so_far
+    ∙ column_at-where (λ y. holds_any (take count objects) (slot_at g (y * g.height + row) layer)) x low)
+    (ap (λ (columns : List Bool). column_at columns x) told
+    ∙ column_at-where (λ y. slot_holds object (slot_at g (y * g.height + row) layer)) x low
     ∙ ap (λ (o : ObjectId). slot_holds o (slot_at g (x * g.height + row) layer)) is)
     ∙ sym (list_any_more (λ o. slot_holds o (slot_at g (x * g.height + row) layer)) objects count object within))
 
@@ -35,21 +40,26 @@ pub same_by : (m n : ℕ) (b : Bool) → nat_eq m n ≡ b → nat_eq n m ≡ b
 same_by m n true e = grind (arith, nat_tests)
 same_by m n false e = grind (arith, nat_tests)
 
-pub among_by : (moved : List ObjectId) (object : ObjectId) → list_any (λ o. same_object o object) moved ≡ is_among moved object
+pub among_by : (moved : List ObjectId) (object : ObjectId) →
+    list_any (λ o. same_object o object) moved ≡ is_among moved object
 among_by [] object = refl
-among_by (o ∷ moved) object = ap₂ (λ (a b : Bool). a || b) (sym (same_by o.0 object.0 (nat_eq o.0 object.0) refl)) (among_by moved object)
+among_by (o ∷ moved) object = ap₂ (λ (a b : Bool).
+    a || b) (sym (same_by o.0 object.0 (nat_eq o.0 object.0) refl)) (among_by moved object)
 
 -- a slot without one of the objects keeps its motion
 kept_by : (moved : List ObjectId) (motion was : Motion) (object : ObjectId) → is_among moved object ≡ false →
     slot_set_moving moved motion (Holds object was) ≡ Holds object was
 kept_by moved motion was object none = ap (λ (b : Bool). Holds object (cond b motion was)) none
 
-slot_kept : (moved : List ObjectId) (motion : Motion) (slot : Slot) → holds_any moved slot ≡ false → slot_set_moving moved motion slot ≡ slot
+slot_kept : (moved : List ObjectId) (motion : Motion) (slot : Slot) → holds_any moved slot ≡ false →
+    slot_set_moving moved motion slot ≡ slot
 slot_kept moved motion Bare none = refl
 slot_kept moved motion (Holds object was) none = kept_by moved motion was object (sym (among_by moved object) ∙ none)
 
-pub slots_kept : (moved : List ObjectId) (motion : Motion) (slots : List Slot) → list_any (holds_any moved) slots ≡ false → map (slot_set_moving moved motion) slots ≡ slots
+pub slots_kept : (moved : List ObjectId) (motion : Motion) (slots : List Slot) →
+    list_any (holds_any moved) slots ≡ false → map (slot_set_moving moved motion) slots ≡ slots
 slots_kept moved motion [] none = refl
 slots_kept moved motion (slot ∷ slots) none =
     let parts = or_parts (holds_any moved slot) (list_any (holds_any moved) slots) none in
-    ap₂ (λ (s : Slot) (ss : List Slot). s ∷ ss) (slot_kept moved motion slot parts.0) (slots_kept moved motion slots parts.1)
+    ap₂ (λ (s : Slot) (ss : List Slot). s ∷ ss) (slot_kept moved motion slot parts.0)
+    (slots_kept moved motion slots parts.1)

@@ -19,4 +19,5 @@ PassesIfFound test g found = (cell : ℕ) → found ≡ Some cell → (cell < ce
 
 -- none of the cells of a row that pass the test comes before the cell
 abbrev pub IsFirstOfRow : (ℕ → Bool) → Grid → ℕ → Option ℕ → Type 0
-IsFirstOfRow test g row found = (x : ℕ) → x < g.width → test (x * g.height + row) ≡ true → IsNoLater found (x * g.height + row)
+IsFirstOfRow test g row found = (x : ℕ) → x < g.width → test (x * g.height + row) ≡ true →
+    IsNoLater found (x * g.height + row)

@@ -20,7 +20,8 @@ row_cells passes g row = columns_within g.width (λ x. passes (cell_at g (x * g.
 
 -- on the rows whose numbers aren't in a set no cell passes a test
 abbrev pub NonePassOutside : (List Slot → Bool) → Grid → List Bool → Type 0
-NonePassOutside passes g rows = (row : ℕ) → row < g.height → column_at rows row ≡ false → (x : ℕ) → x < g.width → passes (cell_at g (x * g.height + row)) ≡ false
+NonePassOutside passes g rows = (row : ℕ) → row < g.height → column_at rows row ≡ false → (x : ℕ) → x < g.width →
+    passes (cell_at g (x * g.height + row)) ≡ false
 
 -- each of these objects is in the cell
 abbrev pub has_each : List ObjectId → List Slot → Bool
@@ -42,4 +43,5 @@ is_left names before after cell = has_player_at names before cell && not (has_pl
 
 -- the columns of a row whose cells an object of Player has left
 abbrev pub row_left : Names → Grid → Grid → ℕ → List Bool
-row_left names before after row = columns_within before.width (λ x. is_left names before after (x * before.height + row))
+row_left names before after row = columns_within before.width (λ x.
+    is_left names before after (x * before.height + row))

@@ -1,4 +1,5 @@
--- The queue and the outcome of the code as those of the definitions, and the script of a game whose rules are these programs.
+-- The queue and the outcome of the code as those of the definitions, and the script of a game whose rules are these
+-- programs.
 use Rattle.std.specs.Prelude.{List, [], Bool, true, false, ◌≡◌}
 use Rattle.ps_model.specs.declared.options.Options.{Options}
 use Rattle.ps_model.specs.names.Names.{Names}

@@ -33,13 +33,15 @@ glyphs = refl
 
 -- a name is found whatever the case of its letters; an aggregate has all of its objects, a property any of them
 meanings : map (meaning_of base_names) (codes "CRATE" ∷ codes "*" ∷ codes "@" ∷ codes "at" ∷ codes "x" ∷ [])
-    ≡ Some (One (object 3)) ∷ Some (One (object 3)) ∷ Some (AllOf 22 (object 3 ∷ object 4 ∷ [])) ∷ Some (AnyOf 23 (object 5 ∷ object 4 ∷ [])) ∷ None ∷ []
+    ≡ Some (One (object 3)) ∷ Some (One (object 3)) ∷ Some (AllOf 22 (object 3 ∷ object 4 ∷ [])) ∷ Some
+    (AnyOf 23 (object 5 ∷ object 4 ∷ [])) ∷ None ∷ []
 unfolding chars
 meanings = refl
 
 -- whether three sections have no fault
 abbrev has_names : List ℕ → List ℕ → List ℕ → Bool
-has_names objects legend layers = is_none (first_fault (name_faults 0 (lines_between objects 1 99) (lines_between legend 1 99) (lines_between layers 1 99)))
+has_names objects legend layers = is_none (first_fault
+    (name_faults 0 (lines_between objects 1 99) (lines_between legend 1 99) (lines_between layers 1 99)))
 
 abbrev two_objects : List ℕ
 two_objects = codes "Background\nx\nPlayer p\ny\n00000\n.1234\n00000\n00000\n00000\n00000\nz\n"
@@ -55,7 +57,8 @@ unfolding chars
 no_layer = refl
 
 -- four sprite rows, then a blank line
-short_sprite : has_names (codes "Background\nx\nPlayer p\ny\n00000\n.1234\n00000\n00000\n\n") [] (codes "Background\nPlayer") ≡ false
+short_sprite : has_names (codes "Background\nx\nPlayer p\ny\n00000\n.1234\n00000\n00000\n\n") []
+    (codes "Background\nPlayer") ≡ false
 unfolding chars
 short_sprite = refl
 

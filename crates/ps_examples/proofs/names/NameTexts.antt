@@ -11,17 +11,19 @@ use Rattle.ps_model.specs.names.NamesRead.{names_read}
 use Rattle.ps_model.specs.names.NameFaults.{name_faults}
 use Rattle.ps_model.specs.text.Sections.{section_lines, header_number}
 
--- whole texts -----------------------------------------------------------------------------------------------------------
+-- whole texts ---------------------------------------------------------------------------------------------------------
 
 abbrev pub names_of_lines : List Line → Names
-names_of_lines lines = names_read (section_lines lines Objects) (section_lines lines Legend) (section_lines lines Layers)
+names_of_lines lines = names_read (section_lines lines Objects) (section_lines lines Legend)
+    (section_lines lines Layers)
 
 -- the names of a text
 abbrev pub names_of_text : List ℕ → Names
 names_of_text text = names_of_lines (lines_of text)
 
 abbrev pub first_fault_of_lines : List Line → Option Fault
-first_fault_of_lines lines = first_fault (name_faults (header_number lines Objects) (section_lines lines Objects) (section_lines lines Legend) (section_lines lines Layers))
+first_fault_of_lines lines = first_fault (name_faults (header_number lines Objects) (section_lines lines Objects)
+    (section_lines lines Legend) (section_lines lines Layers))
 
 -- the first fault of the names of a text
 abbrev pub first_name_fault : List ℕ → Option Fault
@@ -34,11 +36,12 @@ meanings_in text names = let read : Names = names_of_text text in map (meaning_o
 abbrev pub object : ℕ → ObjectId
 object number = record { 0 = number }
 
--- small texts -----------------------------------------------------------------------------------------------------------
+-- small texts ---------------------------------------------------------------------------------------------------------
 
 -- a text whose lines of OBJECTS end with these, from line 6 on, below Background and Player; with these layers
 abbrev pub with_objects : List ℕ → List ℕ → List ℕ
-with_objects objects layers = codes "OBJECTS\nBackground .\nx\nPlayer\nx\n" ++ (objects ++ (codes "\nCOLLISIONLAYERS\nBackground\nPlayer\n" ++ layers))
+with_objects objects layers = codes "OBJECTS\nBackground .\nx\nPlayer\nx\n" ++
+    (objects ++ (codes "\nCOLLISIONLAYERS\nBackground\nPlayer\n" ++ layers))
 
 -- five objects, in 11 lines
 abbrev pub five_objects : List ℕ
@@ -46,7 +49,8 @@ five_objects = codes "OBJECTS\nBackground\nx\nPlayer\nx\nA\nx\nB #\nx\nC\nx\n"
 
 -- a text with five objects, each on a layer of its own, and with these lines of LEGEND, from line 13 on
 abbrev pub with_legend : List ℕ → List ℕ
-with_legend legend = five_objects ++ (codes "LEGEND\n" ++ (legend ++ codes "\nCOLLISIONLAYERS\nBackground\nPlayer\nA\nB\nC"))
+with_legend legend = five_objects ++ (codes "LEGEND\n" ++
+    (legend ++ codes "\nCOLLISIONLAYERS\nBackground\nPlayer\nA\nB\nC"))
 
 -- a text with five objects and these lines of COLLISIONLAYERS, from line 13 on
 abbrev pub with_layers : List ℕ → List ℕ

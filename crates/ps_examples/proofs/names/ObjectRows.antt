@@ -7,7 +7,8 @@ use Rattle.ps_model.specs.declared.faults.Fault.{Fault}
 use Rattle.ps_model.specs.declared.faults.FaultKind.{FaultKind}
 use Rattle.ps_model.specs.declared.faults.FaultKind.TheVariants.{BadObject, Twice, TooManyNames}
 use Rattle.ps_model.specs.names.Names.{One}
-use Rattle.ps_examples.proofs.names.NameTexts.{names_of_text, first_name_fault, with_objects, meanings_in, object, two_digits}
+use Rattle.ps_examples.proofs.names.NameTexts.{names_of_text, first_name_fault, with_objects, meanings_in, object}
+use Rattle.ps_examples.proofs.names.NameTexts.{two_digits}
 
 -- a fault of that kind at a line
 abbrev at : FaultKind → ℕ → Option Fault
@@ -17,14 +18,17 @@ at kind line = Some (record { kind = kind; line = line })
 abbrev fault : List ℕ → Option Fault
 fault objects = first_name_fault (with_objects objects (codes "A B"))
 
--- objects ---------------------------------------------------------------------------------------------------------------
+-- objects -------------------------------------------------------------------------------------------------------------
 
 -- an object without a sprite; one with a sprite, and right below it one that is named as a sprite row is; one whose
 -- colours look like a sprite row; one below a blank line
 abbrev mixed_text : List ℕ
-mixed_text = with_objects (codes "A\nred\nB q\nx\n00000\n.1234\n56789\n00000\n.....\n00000\ny\nC\n00000\n\n \n12345\nz") (codes "A B\n00000, C 12345")
+mixed_text = with_objects (codes
+    "A\nred\nB q\nx\n00000\n.1234\n56789\n00000\n.....\n00000\ny\nC\n00000\n\n \n12345\nz")
+    (codes "A B\n00000, C 12345")
 
-all_names : map (λ entry. entry.0) (names_of_text mixed_text).entries ≡ codes "background" ∷ codes "." ∷ codes "player" ∷ codes "a" ∷ codes "b" ∷ codes "q" ∷ codes "00000" ∷ codes "c" ∷ codes "12345" ∷ []
+all_names : map (λ entry. entry.0) (names_of_text mixed_text).entries ≡ codes "background" ∷ codes "." ∷ codes "player"
+    ∷ codes "a" ∷ codes "b" ∷ codes "q" ∷ codes "00000" ∷ codes "c" ∷ codes "12345" ∷ []
 unfolding chars
 all_names = refl
 
@@ -33,7 +37,9 @@ unfolding chars
 all_good = refl
 
 -- both names stand for the object; objects are numbered in order of declaration
-numbered : meanings_in mixed_text (codes "Background" ∷ codes "." ∷ codes "PLAYER" ∷ codes "00000" ∷ codes "c" ∷ codes "x" ∷ []) ≡ Some (One (object 0)) ∷ Some (One (object 0)) ∷ Some (One (object 1)) ∷ Some (One (object 4)) ∷ Some (One (object 5)) ∷ None ∷ []
+numbered : meanings_in mixed_text (codes "Background" ∷ codes "." ∷ codes "PLAYER" ∷ codes "00000" ∷ codes "c" ∷ codes
+    "x" ∷ []) ≡ Some (One (object 0)) ∷ Some (One (object 0)) ∷ Some (One (object 1)) ∷ Some (One (object 4)) ∷ Some
+    (One (object 5)) ∷ None ∷ []
 unfolding chars
 numbered = refl
 
@@ -48,7 +54,8 @@ unfolding chars
 row_below_blank = refl
 
 -- a line that is like a sprite row but for one byte, or has two words, begins the next object
-no_rows : first_name_fault (with_objects (codes "A\nx\n0000a\nx\nB\nx\n000000\nx\nC\nx\n00000 0\nx") (codes "A B C 0000a 000000 00000")) ≡ None
+no_rows : first_name_fault (with_objects (codes "A\nx\n0000a\nx\nB\nx\n000000\nx\nC\nx\n00000 0\nx")
+    (codes "A B C 0000a 000000 00000")) ≡ None
 unfolding chars
 no_rows = refl
 
@@ -57,7 +64,7 @@ second_name_of_two_bytes : fault (codes "A " ++ (195 ∷ 169 ∷ codes "\nx\nB\n
 unfolding chars
 second_name_of_two_bytes = refl
 
--- NA1 -------------------------------------------------------------------------------------------------------------------
+-- NA1 -----------------------------------------------------------------------------------------------------------------
 
 three_words : fault (codes "A\nx\nB x y\nx") ≡ at BadObject 8
 unfolding chars
@@ -76,7 +83,9 @@ end_below_name : fault (codes "A\nx\nB") ≡ at BadObject 8
 unfolding chars
 end_below_name = refl
 
-header_below_name : first_name_fault (codes "OBJECTS\nBackground\nx\nPlayer\n(x) legend\nx = Player\nCOLLISIONLAYERS\nBackground\nPlayer") ≡ at BadObject 4
+header_below_name : first_name_fault
+    (codes "OBJECTS\nBackground\nx\nPlayer\n(x) legend\nx = Player\nCOLLISIONLAYERS\nBackground\nPlayer") ≡ at
+    BadObject 4
 unfolding chars
 header_below_name = refl
 
@@ -93,7 +102,7 @@ parted_rows : fault (codes "A\nx\n00000\n00000\n00000\n00000\n\n00000\nB\nx") �
 unfolding chars
 parted_rows = refl
 
--- NA2 -------------------------------------------------------------------------------------------------------------------
+-- NA2 -----------------------------------------------------------------------------------------------------------------
 
 declared_again : fault (codes "A\nx\nB\nx\na\nx") ≡ at Twice 10
 unfolding chars
@@ -116,7 +125,7 @@ line_by_line : fault (codes "A\nx\nA\nx\nB\n") ≡ at Twice 8
 unfolding chars
 line_by_line = refl
 
--- NA14 ------------------------------------------------------------------------------------------------------------------
+-- NA14 ----------------------------------------------------------------------------------------------------------------
 
 -- objects with the names 001, 002 and so on, and these names on a layer
 abbrev three_digits : ℕ → List ℕ

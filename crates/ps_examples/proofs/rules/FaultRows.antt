@@ -25,7 +25,7 @@ fine : text_fault (codes "title" ++ 195 ∷ 169 ∷ []) ≡ None
 unfolding utf8_valid_len is_utf8 chars encode
 fine = refl
 
--- what hides behind others -------------------------------------------------------------------------------------------------
+-- what hides behind others --------------------------------------------------------------------------------------------
 
 -- the faults of lines of RULES, and those that the list leaves out
 abbrev listed : List ℕ → List Fault
@@ -36,12 +36,20 @@ left_out rules = flat_map (hidden_in_line base_names) (lines_below rules)
 
 -- the right has a row more, whose cell names Crate twice and has `no` before an aggregate: its rows differ, and that is
 -- listed
-rows_listed : listed (codes "[ Crate ] -> [ Crate ] [ Crate Crate no @ ]\n") ≡ record { kind = RowsDiffer; line = 2 } ∷ []
+rows_listed : listed (codes "[ Crate ] -> [ Crate ] [ Crate Crate no @ ]\n") ≡ record {
+  kind = RowsDiffer;
+  line =
+      2;
+} ∷ []
 unfolding chars
 rows_listed = refl
 
 -- both others are faults of the rule too
-rows_hide : left_out (codes "[ Crate ] -> [ Crate ] [ Crate Crate no @ ]\n") ≡ record { kind = NameTwice; line = 2 } ∷ record { kind = NoAggregate; line = 2 } ∷ []
+rows_hide : left_out (codes "[ Crate ] -> [ Crate ] [ Crate Crate no @ ]\n") ≡ record {
+  kind = NameTwice;
+  line =
+      2;
+} ∷ record { kind = NoAggregate; line = 2 } ∷ []
 unfolding chars
 rows_hide = refl
 

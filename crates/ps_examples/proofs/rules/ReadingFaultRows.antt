@@ -23,11 +23,13 @@ counts names rules = map (reading_count names) (filter_map rule_in (rules_read n
 
 -- a row of so many more cells, that asks for a command
 abbrev row_of : ℕ → List ℕ → List ℕ
-row_of more item = codes "right [ " ++ (item ++ (flat_map (λ cell. cell) (replicate more (codes " | " ++ item)) ++ codes " ] -> cancel\n"))
+row_of more item = codes "right [ " ++ (item ++
+    (flat_map (λ cell. cell) (replicate more (codes " | " ++ item)) ++ codes " ] -> cancel\n"))
 
 -- counting: directions, words of several moves and fixed properties multiply; loose properties, words of one move and
 -- `no` don't
-numbers : counts (with_name (codes "ac") ac) (codes "[ > A | B ] -> cancel\n[ A ] -> cancel\nup down [ A ] -> cancel\nhorizontal [ > A ] -> cancel\n[ moving A ] -> [ moving A ]\n[ parallel A ] -> cancel\n[ AT ] [ AT ] -> cancel\n[ AC no AT ] -> [ > AC ]\n[ AC | ] -> [ | AC ]")
+numbers : counts (with_name (codes "ac") ac) (codes
+    "[ > A | B ] -> cancel\n[ A ] -> cancel\nup down [ A ] -> cancel\nhorizontal [ > A ] -> cancel\n[ moving A ] -> [ moving A ]\n[ parallel A ] -> cancel\n[ AT ] [ AT ] -> cancel\n[ AC no AT ] -> [ > AC ]\n[ AC | ] -> [ | AC ]")
     ≡ 4 ∷ 1 ∷ 1 ∷ 2 ∷ 5 ∷ 8 ∷ 4 ∷ 4 ∷ 8 ∷ []
 numbers = refl
 
@@ -38,7 +40,8 @@ many_moves = refl
 many_moves_told : told base_names (row_of 4 (codes "moving A")) ≡ None
 many_moves_told = refl
 
-four_directions : told base_names (codes "[ moving A | moving A | moving A | moving A | moving A ] -> cancel") ≡ fault_at 2 TooManyReadings
+four_directions : told base_names (codes "[ moving A | moving A | moving A | moving A | moving A ] -> cancel") ≡
+    fault_at 2 TooManyReadings
 four_directions = refl
 
 -- at the limit, and past it
@@ -52,26 +55,35 @@ past_limit : told base_names (codes "[ A ] -> [ B ]\n" ++ row_of 12 (codes "AT")
 past_limit = refl
 
 -- the sum of all readings: sixteen rules at the limit are within it, the next rule passes it
-past_sum : told base_names (flat_map (λ rule. rule) (replicate 16 (row_of 11 (codes "AT"))) ++ codes "startloop\nendloop\n[ A ] -> [ B ]") ≡ fault_at 20 TooManyReadings
+past_sum : told base_names (flat_map (λ rule. rule) (replicate 16 (row_of 11 (codes "AT"))) ++ codes
+    "startloop\nendloop\n[ A ] -> [ B ]") ≡ fault_at 20 TooManyReadings
 past_sum = refl
 
 -- no reading is possible: two names of one layer in one cell of one side, even of one object; `no` aside
-impossible : map (told (with_name (codes "ac") ac)) (codes "[ Player Wall ] -> [ Player ]" ∷ codes "[ A ] -> [ A B ]" ∷ codes "[ AC A ] -> cancel" ∷ codes "late [ Target | ... | @ > Target ] -> [ | ... | ]" ∷ [])
+impossible : map (told (with_name (codes "ac") ac))
+    (codes "[ Player Wall ] -> [ Player ]" ∷ codes "[ A ] -> [ A B ]" ∷ codes "[ AC A ] -> cancel" ∷ codes
+    "late [ Target | ... | @ > Target ] -> [ | ... | ]" ∷ [])
     ≡ fault_at 2 Impossible ∷ fault_at 2 Impossible ∷ fault_at 2 Impossible ∷ fault_at 2 Impossible ∷ []
 impossible = refl
 
-possible : map (told (with_name (codes "ac") ac)) (codes "[ Player no Wall ] -> [ Player ]" ∷ codes "[ AT A ] -> cancel" ∷ codes "[ AT | ] -> [ A | AT ]" ∷ codes "[ AC ] -> [ AC ]" ∷ codes "[ A ] [ B ] -> [ B ] [ A ]" ∷ [])
+possible : map (told (with_name (codes "ac") ac))
+    (codes "[ Player no Wall ] -> [ Player ]" ∷ codes "[ AT A ] -> cancel" ∷ codes "[ AT | ] -> [ A | AT ]" ∷ codes
+    "[ AC ] -> [ AC ]" ∷ codes "[ A ] [ B ] -> [ B ] [ A ]" ∷ [])
     ≡ None ∷ None ∷ None ∷ None ∷ None ∷ []
 possible = refl
 
 -- too many readings are told before impossible ones, and impossible ones by line
-readings_first : told base_names (codes "[ Player Wall ] -> cancel\n" ++ row_of 12 (codes "AT")) ≡ fault_at 3 TooManyReadings
+readings_first : told base_names (codes "[ Player Wall ] -> cancel\n" ++ row_of 12 (codes "AT")) ≡ fault_at 3
+    TooManyReadings
 readings_first = refl
 
-second_impossible : told base_names (codes "[ A ] -> [ B ]\n[ Player Wall ] -> cancel\n[ A B ] -> cancel") ≡ fault_at 3 Impossible
+second_impossible : told base_names (codes "[ A ] -> [ B ]\n[ Player Wall ] -> cancel\n[ A B ] -> cancel") ≡ fault_at 3
+    Impossible
 second_impossible = refl
 
 -- but an impossible one has its fault by itself, also beside one with too many readings
-impossible_too : hidden_in_readings base_names (filter_map rule_in (rules_read base_names (lines_below (codes "[ Player Wall ] -> cancel\n" ++ row_of 12 (codes "AT")))))
+impossible_too : hidden_in_readings base_names
+    (filter_map rule_in (rules_read base_names
+    (lines_below (codes "[ Player Wall ] -> cancel\n" ++ row_of 12 (codes "AT")))))
     ≡ record { kind = Impossible; line = 2 } ∷ []
 impossible_too = refl

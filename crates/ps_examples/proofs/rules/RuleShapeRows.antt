@@ -1,31 +1,38 @@
 -- Rules whose words don't stand as they should, worked by hand.
 use Rattle.std.proofs.Common.{◌≡◌, [], ◌∷◌, refl, None}
 use Rattle.std.specs.Prelude.{codes}
-use Rattle.ps_model.specs.declared.faults.FaultKind.TheVariants.{BadBracket, UnknownWord, RowsDiffer, NothingRight, Ellipsis}
+use Rattle.ps_model.specs.declared.faults.FaultKind.TheVariants.{BadBracket, UnknownWord, RowsDiffer, NothingRight}
+use Rattle.ps_model.specs.declared.faults.FaultKind.TheVariants.{Ellipsis}
 use Rattle.ps_examples.proofs.rules.RuleTexts.{AllTold, told, told_with, fault_at, with_name, one}
 
--- RU1 ----------------------------------------------------------------------------------------------------------------------
+-- RU1 -----------------------------------------------------------------------------------------------------------------
 
 -- brackets that don't pair, or nest; they pair on each side of the arrow
 unpaired : AllTold (fault_at 2 BadBracket)
-    (codes "[ A -> [ B ]" ∷ codes "[ A ] -> [ B" ∷ codes "A ] -> [ B ]" ∷ codes "[ A ] ] -> [ B ]" ∷ codes "[ A ] -> ] [ B ]" ∷ codes "[ A ] -> cancel ]"
+    (codes "[ A -> [ B ]" ∷ codes "[ A ] -> [ B" ∷ codes "A ] -> [ B ]" ∷ codes "[ A ] ] -> [ B ]" ∷ codes
+    "[ A ] -> ] [ B ]" ∷ codes "[ A ] -> cancel ]"
     ∷ codes "[ A -> B ]" ∷ codes "[ A [ B ] ] -> cancel" ∷ codes "[ A ] -> [[ B ]" ∷ [])
 unpaired = refl
 
 -- no arrow, or two; a line that is no loop line and has no arrow has this fault, whatever its words mean
 arrows : AllTold (fault_at 2 BadBracket)
-    (codes "[ A ]" ∷ codes "[ A ] [ B ]" ∷ codes "[ A ] -> -> [ B ]" ∷ codes "[ A ] -> [ B ] -> [ C ]" ∷ codes "Nonsense" ∷ codes "A = B"
-    ∷ codes "startloop x" ∷ codes "x startloop" ∷ codes "startloop endloop" ∷ codes "+" ∷ codes "+ startloop" ∷ codes "random" ∷ [])
+    (codes "[ A ]" ∷ codes "[ A ] [ B ]" ∷ codes "[ A ] -> -> [ B ]" ∷ codes "[ A ] -> [ B ] -> [ C ]" ∷ codes
+    "Nonsense" ∷ codes "A = B"
+    ∷ codes "startloop x" ∷ codes "x startloop" ∷ codes "startloop endloop" ∷ codes "+" ∷ codes "+ startloop" ∷ codes
+    "random" ∷ [])
 arrows = refl
 
 -- no row on the left
-rowless : AllTold (fault_at 2 BadBracket) (codes "-> [ A ]" ∷ codes "-> cancel" ∷ codes "->" ∷ codes "late up -> [ A ]" ∷ codes "A -> [ A ]" ∷ [])
+rowless : AllTold (fault_at 2 BadBracket) (codes "-> [ A ]" ∷ codes "-> cancel" ∷ codes "->" ∷ codes "late up -> [ A ]"
+    ∷ codes "A -> [ A ]" ∷ [])
 rowless = refl
 
 -- a name, a movement word, `no` or an ellipsis outside brackets behind the first `[`; a bar outside brackets
 outside : AllTold (fault_at 2 BadBracket)
-    (codes "[ A ] B -> [ A ]" ∷ codes "[ A ] > [ B ] -> cancel" ∷ codes "[ A ] up [ B ] -> cancel" ∷ codes "[ A ] no -> [ A ]" ∷ codes "[ A ] ... [ B ] -> cancel"
-    ∷ codes "[ A ] -> B" ∷ codes "[ A ] -> B [ A ]" ∷ codes "[ A ] -> [ A ] orthogonal" ∷ codes "[ A ] -> [ A ] cancel B" ∷ codes "[ A ] -> ..."
+    (codes "[ A ] B -> [ A ]" ∷ codes "[ A ] > [ B ] -> cancel" ∷ codes "[ A ] up [ B ] -> cancel" ∷ codes
+    "[ A ] no -> [ A ]" ∷ codes "[ A ] ... [ B ] -> cancel"
+    ∷ codes "[ A ] -> B" ∷ codes "[ A ] -> B [ A ]" ∷ codes "[ A ] -> [ A ] orthogonal" ∷ codes
+    "[ A ] -> [ A ] cancel B" ∷ codes "[ A ] -> ..."
     ∷ codes "| [ A ] -> [ A ]" ∷ codes "[ A ] | [ B ] -> cancel" ∷ codes "[ A ] -> |" ∷ codes "[ A ] -> [ A ] |" ∷ [])
 outside = refl
 
@@ -37,33 +44,43 @@ brackets_first = refl
 message_in_brackets : told (codes "[ A ] -> [ message ]") ≡ fault_at 2 BadBracket
 message_in_brackets = refl
 
--- RU2 ----------------------------------------------------------------------------------------------------------------------
+-- RU2 -----------------------------------------------------------------------------------------------------------------
 
 -- words that mean nothing
 meaningless : AllTold (fault_at 2 UnknownWord)
-    (codes "[ Q ] -> [ A ]" ∷ codes "[ A ] -> [ Q ]" ∷ codes "[ no Q ] -> [ A ]" ∷ codes "Q [ A ] -> [ B ]" ∷ codes "[ A ] Q -> [ B ]" ∷ codes "[ A ] -> Q"
-    ∷ codes "[ A ] -> [ B ] sfx11" ∷ codes "[ A ] -> [ B ] sfx01" ∷ codes "[ A ] -> sfx" ∷ codes "[ A | .. | B ] -> cancel" ∷ [])
+    (codes "[ Q ] -> [ A ]" ∷ codes "[ A ] -> [ Q ]" ∷ codes "[ no Q ] -> [ A ]" ∷ codes "Q [ A ] -> [ B ]" ∷ codes
+    "[ A ] Q -> [ B ]" ∷ codes "[ A ] -> Q"
+    ∷ codes "[ A ] -> [ B ] sfx11" ∷ codes "[ A ] -> [ B ] sfx01" ∷ codes "[ A ] -> sfx" ∷ codes
+    "[ A | .. | B ] -> cancel" ∷ [])
 meaningless = refl
 
 -- before the first `[` only `late` and direction words may stand
 before_rows : AllTold (fault_at 2 UnknownWord)
-    (codes "A [ A ] -> [ B ]" ∷ codes "> [ A ] -> [ B ]" ∷ codes "v [ A ] -> [ B ]" ∷ codes "moving [ A ] -> [ B ]" ∷ codes "parallel [ A ] -> [ B ]"
-    ∷ codes "action [ A ] -> [ B ]" ∷ codes "stationary [ A ] -> [ B ]" ∷ codes "no [ A ] -> [ B ]" ∷ codes "... [ A ] -> [ B ]" ∷ codes "cancel [ A ] -> [ B ]"
-    ∷ codes "message [ A ] -> [ B ]" ∷ codes "startloop [ A ] -> [ B ]" ∷ codes "++ [ A ] -> [ B ]" ∷ codes "late + [ A ] -> [ B ]" ∷ [])
+    (codes "A [ A ] -> [ B ]" ∷ codes "> [ A ] -> [ B ]" ∷ codes "v [ A ] -> [ B ]" ∷ codes "moving [ A ] -> [ B ]" ∷
+    codes "parallel [ A ] -> [ B ]"
+    ∷ codes "action [ A ] -> [ B ]" ∷ codes "stationary [ A ] -> [ B ]" ∷ codes "no [ A ] -> [ B ]" ∷ codes
+    "... [ A ] -> [ B ]" ∷ codes "cancel [ A ] -> [ B ]"
+    ∷ codes "message [ A ] -> [ B ]" ∷ codes "startloop [ A ] -> [ B ]" ∷ codes "++ [ A ] -> [ B ]" ∷ codes
+    "late + [ A ] -> [ B ]" ∷ [])
 before_rows = refl
 
 -- behind a row of the left, in brackets, and before a row of the right no other key word may stand; on the right
 -- commands come last
 out_of_place : AllTold (fault_at 2 UnknownWord)
-    (codes "[ A ] late -> [ B ]" ∷ codes "[ A ] cancel [ B ] -> cancel" ∷ codes "[ A ] message -> [ B ]" ∷ codes "[ A ] + [ B ] -> cancel"
-    ∷ codes "[ late A ] -> [ B ]" ∷ codes "[ A cancel ] -> [ B ]" ∷ codes "[ message A ] -> [ B ]" ∷ codes "[ A ] -> [ endloop ]" ∷ codes "[ + A ] -> [ B ]"
-    ∷ codes "[ A ] -> cancel [ B ]" ∷ codes "[ A ] [ B ] -> [ A ] again [ B ]" ∷ codes "[ A ] -> late" ∷ codes "[ A ] -> [ B ] again late" ∷ codes "[ A ] -> startloop" ∷ [])
+    (codes "[ A ] late -> [ B ]" ∷ codes "[ A ] cancel [ B ] -> cancel" ∷ codes "[ A ] message -> [ B ]" ∷ codes
+    "[ A ] + [ B ] -> cancel"
+    ∷ codes "[ late A ] -> [ B ]" ∷ codes "[ A cancel ] -> [ B ]" ∷ codes "[ message A ] -> [ B ]" ∷ codes
+    "[ A ] -> [ endloop ]" ∷ codes "[ + A ] -> [ B ]"
+    ∷ codes "[ A ] -> cancel [ B ]" ∷ codes "[ A ] [ B ] -> [ A ] again [ B ]" ∷ codes "[ A ] -> late" ∷ codes
+    "[ A ] -> [ B ] again late" ∷ codes "[ A ] -> startloop" ∷ [])
 out_of_place = refl
 
 -- a movement word or `no` needs a name right behind it
 without_name : AllTold (fault_at 2 UnknownWord)
-    (codes "[ > ] -> [ A ]" ∷ codes "[ A > ] -> [ A ]" ∷ codes "[ > | A ] -> cancel" ∷ codes "[ no ] -> [ A ]" ∷ codes "[ > no A ] -> [ A ]" ∷ codes "[ no > A ] -> [ A ]"
-    ∷ codes "[ >>A ] -> [ A ]" ∷ codes "[ no no A ] -> [ A ]" ∷ codes "[ A ] -> [ up ]" ∷ codes "[ A | > ... | B ] -> cancel" ∷ codes "[ A | no ... | B ] -> cancel" ∷ [])
+    (codes "[ > ] -> [ A ]" ∷ codes "[ A > ] -> [ A ]" ∷ codes "[ > | A ] -> cancel" ∷ codes "[ no ] -> [ A ]" ∷ codes
+    "[ > no A ] -> [ A ]" ∷ codes "[ no > A ] -> [ A ]"
+    ∷ codes "[ >>A ] -> [ A ]" ∷ codes "[ no no A ] -> [ A ]" ∷ codes "[ A ] -> [ up ]" ∷ codes
+    "[ A | > ... | B ] -> cancel" ∷ codes "[ A | no ... | B ] -> cancel" ∷ [])
 without_name = refl
 
 -- an object that has the name of a key word isn't meant in a rule; `+` is a name but at the start of a line
@@ -88,35 +105,48 @@ plus_as_name = refl
 plus_behind_row : told_with (with_name (codes "+") (one 5)) (codes "[ A ] + -> [ A ]") ≡ fault_at 2 BadBracket
 plus_behind_row = refl
 
--- RU3 and RU4 --------------------------------------------------------------------------------------------------------------
+-- RU3 and RU4 ---------------------------------------------------------------------------------------------------------
 
 -- the right has rows, but other ones; an ellipsis counts as a cell
 rows_differ : AllTold (fault_at 2 RowsDiffer)
-    (codes "[ A | B ] -> [ A ]" ∷ codes "[ A ] -> [ A | B ]" ∷ codes "[ A ] [ B ] -> [ A ]" ∷ codes "[ A ] -> [ A ] [ B ]" ∷ codes "[ A ] [ A | B ] -> [ A | B ] [ A ]"
+    (codes "[ A | B ] -> [ A ]" ∷ codes "[ A ] -> [ A | B ]" ∷ codes "[ A ] [ B ] -> [ A ]" ∷ codes
+    "[ A ] -> [ A ] [ B ]" ∷ codes "[ A ] [ A | B ] -> [ A | B ] [ A ]"
     ∷ codes "[ ] -> [ | ]" ∷ codes "[ A | ... | B ] -> [ A | B ]" ∷ codes "[ A A | B ] -> [ A ] cancel" ∷ [])
 rows_differ = refl
 
-nothing_right : AllTold (fault_at 2 NothingRight) (codes "[ A ] ->" ∷ codes "late [ A | ] ->" ∷ codes "[ A A ] -> (message)" ∷ [])
+nothing_right : AllTold (fault_at 2 NothingRight)
+    (codes "[ A ] ->" ∷ codes "late [ A | ] ->" ∷ codes "[ A A ] -> (message)" ∷ [])
 nothing_right = refl
 
--- RU12 ---------------------------------------------------------------------------------------------------------------------
+-- RU12 ----------------------------------------------------------------------------------------------------------------
 
 ellipses : AllTold (fault_at 2 Ellipsis)
-    (codes "[ ... | A ] -> [ ... | A ]" ∷ codes "[ A | ... ] -> [ A | ... ]" ∷ codes "[ ... ] -> cancel" ∷ codes "[ A | ... | B ] -> [ A | B | C ]"
-    ∷ codes "[ A | B | C ] -> [ A | ... | C ]" ∷ codes "[ A | ... | B | C ] -> [ A | B | ... | C ]" ∷ codes "[ A | ... | B | ... | C | ... | A ] -> cancel"
-    ∷ codes "[ A | ... | ... | C ] -> cancel" ∷ codes "[ A | ... | ... | C ] -> [ A | ... | ... | C ]" ∷ codes "[ A | ... | B | ... ] -> cancel" ∷ codes "[ ... | A | ... | B ] -> cancel"
-    ∷ codes "[ A | ... | B | ... | C ] -> [ A | ... | B | A | C ]" ∷ codes "[ A | ... ... | C ] -> cancel" ∷ codes "[ A | ... B | C ] -> cancel" ∷ codes "[ A | B ... | C ] -> [ A | ... | C ]" ∷ codes "[ A | ... | C ] -> [ A | ... B | C ]"
-    ∷ codes "[ A ] [ B | ... ] -> cancel" ∷ codes "[ A | ... | B ] [ C | D | A ] -> [ A | ... | B ] [ C | ... | A ]" ∷ [])
+    (codes "[ ... | A ] -> [ ... | A ]" ∷ codes "[ A | ... ] -> [ A | ... ]" ∷ codes "[ ... ] -> cancel" ∷ codes
+    "[ A | ... | B ] -> [ A | B | C ]"
+    ∷ codes "[ A | B | C ] -> [ A | ... | C ]" ∷ codes "[ A | ... | B | C ] -> [ A | B | ... | C ]" ∷ codes
+    "[ A | ... | B | ... | C | ... | A ] -> cancel"
+    ∷ codes "[ A | ... | ... | C ] -> cancel" ∷ codes "[ A | ... | ... | C ] -> [ A | ... | ... | C ]" ∷ codes
+    "[ A | ... | B | ... ] -> cancel" ∷ codes "[ ... | A | ... | B ] -> cancel"
+    ∷ codes "[ A | ... | B | ... | C ] -> [ A | ... | B | A | C ]" ∷ codes "[ A | ... ... | C ] -> cancel" ∷ codes
+    "[ A | ... B | C ] -> cancel" ∷ codes "[ A | B ... | C ] -> [ A | ... | C ]" ∷ codes
+    "[ A | ... | C ] -> [ A | ... B | C ]"
+    ∷ codes "[ A ] [ B | ... ] -> cancel" ∷ codes "[ A | ... | B ] [ C | D | A ] -> [ A | ... | B ] [ C | ... | A ]" ∷
+    [])
 ellipses = refl
 
--- without fault ------------------------------------------------------------------------------------------------------------
+-- without fault -------------------------------------------------------------------------------------------------------
 
 -- words before the rows stand in any order, and again; an empty cell is a cell; sounds are commands; words touch
 -- brackets and signs; a row has two ellipses at most
 good : AllTold None
-    (codes "[ A ] -> [ B ]" ∷ codes "late up LATE up [ A ] -> [ B ]" ∷ codes "horizontal down late [ A | B ] -> [ B | A ]" ∷ codes "[] -> []" ∷ codes "[ | ] [] -> [ A | ] []"
-    ∷ codes "[ A ] -> cancel" ∷ codes "[ A ] -> sfx0" ∷ codes "[ A ] -> [ ] cancel again SFX10 message Hi -> [" ∷ codes "[ A ] -> message" ∷ codes "[ A ] -> message(a) b"
-    ∷ codes "[>Player|*]->[>Player|>*]again" ∷ codes "[ A | ... | B ] -> cancel" ∷ codes "[ A | ... | B ] [ A | ... | B ] -> [ | ... | ] [ B | ... | ]"
-    ∷ codes "[ A | ... | B | ... | C ] -> cancel" ∷ codes "[ A | ... | B | B | ... | ] [ A | ... | B ] -> [ B | ... | | A | ... | C ] [ | ... | ]"
-    ∷ codes "[ A (B] ] C) ] -> (->) [ B ]" ∷ codes "startloop\nENDLOOP" ∷ codes "startloop\n\n[ A ] -> [ B ]\n  \n=====\nendloop (x)" ∷ [] ∷ [])
+    (codes "[ A ] -> [ B ]" ∷ codes "late up LATE up [ A ] -> [ B ]" ∷ codes
+    "horizontal down late [ A | B ] -> [ B | A ]" ∷ codes "[] -> []" ∷ codes "[ | ] [] -> [ A | ] []"
+    ∷ codes "[ A ] -> cancel" ∷ codes "[ A ] -> sfx0" ∷ codes "[ A ] -> [ ] cancel again SFX10 message Hi -> [" ∷ codes
+    "[ A ] -> message" ∷ codes "[ A ] -> message(a) b"
+    ∷ codes "[>Player|*]->[>Player|>*]again" ∷ codes "[ A | ... | B ] -> cancel" ∷ codes
+    "[ A | ... | B ] [ A | ... | B ] -> [ | ... | ] [ B | ... | ]"
+    ∷ codes "[ A | ... | B | ... | C ] -> cancel" ∷ codes
+    "[ A | ... | B | B | ... | ] [ A | ... | B ] -> [ B | ... | | A | ... | C ] [ | ... | ]"
+    ∷ codes "[ A (B] ] C) ] -> (->) [ B ]" ∷ codes "startloop\nENDLOOP" ∷ codes
+    "startloop\n\n[ A ] -> [ B ]\n  \n=====\nendloop (x)" ∷ [] ∷ [])
 good = refl

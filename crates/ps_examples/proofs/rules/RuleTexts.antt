@@ -48,8 +48,10 @@ crate_on_target = AllOf 22 (object 3 ∷ object 4 ∷ [])
 abbrev pub base_names : Names
 base_names = record {
   entries =
-      (codes "background", one 0) ∷ (codes ".", one 0) ∷ (codes "wall", one 1) ∷ (codes "#", one 1) ∷ (codes "player", one 2) ∷ (codes "p", one 2)
-      ∷ (codes "crate", one 3) ∷ (codes "*", one 3) ∷ (codes "target", one 4) ∷ (codes "o", one 4) ∷ (codes "a", one 5) ∷ (codes "b", one 6)
+      (codes "background", one 0) ∷ (codes ".", one 0) ∷ (codes "wall", one 1) ∷ (codes "#", one 1) ∷
+      (codes "player", one 2) ∷ (codes "p", one 2)
+      ∷ (codes "crate", one 3) ∷ (codes "*", one 3) ∷ (codes "target", one 4) ∷ (codes "o", one 4) ∷ (codes "a", one 5)
+      ∷ (codes "b", one 6)
       ∷ (codes "c", one 7) ∷ (codes "d", one 8) ∷ (codes "@", crate_on_target) ∷ (codes "at", at) ∷ [];
   layers = 0 ∷ 2 ∷ 2 ∷ 2 ∷ 1 ∷ 3 ∷ 3 ∷ 3 ∷ 3 ∷ [];
   layer_count = 4;

@@ -22,18 +22,21 @@ two_feeds : raw_lines (codes "a\n\n") ≡ codes "a" ∷ [] ∷ []
 two_feeds = refl
 
 -- line 27 of the base text is a layer of three names
-layer_words : word_texts Layers (line_at (base_text (codes "P..")) 27).bytes ≡ codes "Player" ∷ codes "Wall" ∷ codes "Crate" ∷ []
+layer_words : word_texts Layers (line_at (base_text (codes "P..")) 27).bytes ≡ codes "Player" ∷ codes "Wall" ∷ codes
+    "Crate" ∷ []
 layer_words = refl
 
 -- `=` is a word by itself in a legend, also without blanks round it, and not elsewhere
-legend_words : word_texts Legend (codes "@=Crate and\tTarget\r") ≡ codes "@" ∷ codes "=" ∷ codes "Crate" ∷ codes "and" ∷ codes "Target" ∷ []
+legend_words : word_texts Legend (codes "@=Crate and\tTarget\r") ≡ codes "@" ∷ codes "=" ∷ codes "Crate" ∷ codes "and"
+    ∷ codes "Target" ∷ []
 legend_words = refl
 
 plain_words : word_texts Blanks (codes " a=b  c,d ") ≡ codes "a=b" ∷ codes "c,d" ∷ []
 plain_words = refl
 
 -- sections by the last header at or above a line, whatever the case of its letters
-sections : map (λ line. line.section) (lines_of (codes "title x\nobjects\nA\nred\nCollisionLayers\nA\nLEVELS\n")) ≡ Prelude ∷ Objects ∷ Objects ∷ Objects ∷ LayersSection ∷ LayersSection ∷ Levels ∷ []
+sections : map (λ line. line.section) (lines_of (codes "title x\nobjects\nA\nred\nCollisionLayers\nA\nLEVELS\n")) ≡
+    Prelude ∷ Objects ∷ Objects ∷ Objects ∷ LayersSection ∷ LayersSection ∷ Levels ∷ []
 sections = refl
 
 -- a header has no other word beside it

@@ -39,7 +39,7 @@ fitting cells rule = map (λ meaning. map meaning.fits cells) (cells_of rule)
 abbrev rewriting : List (List Slot) → RuleMeaning → List (List (List Slot))
 rewriting cells rule = map (λ meaning. map meaning.rewritten cells) (cells_of rule)
 
--- a rule that pushes -------------------------------------------------------------------------------------------------------
+-- a rule that pushes --------------------------------------------------------------------------------------------------
 
 -- its readings
 abbrev source : List RuleMeaning
@@ -48,21 +48,51 @@ source = readings_of base_names (codes "[ > Player | Crate ] -> [ > Player | > C
 -- its cells compiled, in a direction: Player, who goes there, goes on; Crate, however it moves, goes there
 abbrev player_cell : Direction → CompiledCell
 player_cell direction = record {
-  mask = record { needed = placed 2 2 ∷ []; barred = []; one_of = []; motions = record { layer = layer_id 2; motion = Going direction } ∷ [] };
-  write = record { gone = []; layers = record { layer = layer_id 2; object = Put (object 2); motion = Some (Going direction) } ∷ [] };
+  mask = record {
+    needed = placed 2 2 ∷ [];
+    barred = [];
+    one_of = [];
+    motions =
+        record { layer = layer_id 2; motion = Going direction } ∷ [];
+  };
+  write = record {
+    gone = [];
+    layers = record {
+      layer = layer_id 2;
+      object = Put (object 2);
+      motion =
+          Some (Going direction);
+    } ∷ [];
+  };
 }
 
 abbrev crate_cell : Direction → CompiledCell
 crate_cell direction = record {
   mask = record { needed = placed 3 2 ∷ []; barred = []; one_of = []; motions = [] };
-  write = record { gone = []; layers = record { layer = layer_id 2; object = Put (object 3); motion = Some (Going direction) } ∷ [] };
+  write = record {
+    gone = [];
+    layers = record {
+      layer = layer_id 2;
+      object = Put (object 3);
+      motion =
+          Some (Going direction);
+    } ∷ [];
+  };
 }
 
 abbrev pushing : Direction → CompiledRule
-pushing direction = record { direction = direction; rows = ((player_cell direction ∷ crate_cell direction ∷ []) ∷ []) ∷ []; rewrites = true; commands = no_commands }
+pushing direction = record {
+  direction = direction;
+  rows =
+      ((player_cell direction ∷ crate_cell direction ∷ []) ∷ []) ∷ [];
+  rewrites = true;
+  commands = no_commands;
+}
 
 -- this is what its source compiles to
-made_of_source : flat_map (compiled_rules base_names) (filter_map rule_in (rules_read base_names (lines_below (codes "[ > Player | Crate ] -> [ > Player | > Crate ]\n"))))
+made_of_source : flat_map (compiled_rules base_names)
+    (filter_map rule_in (rules_read base_names
+    (lines_below (codes "[ > Player | Crate ] -> [ > Player | > Crate ]\n"))))
     ≡ map pushing (Up ∷ Down ∷ Left ∷ Right ∷ [])
 unfolding chars
 made_of_source = refl
@@ -86,7 +116,8 @@ board player crate = record {
 
 -- its cells with each motion of Player and Crate; and a Crate on a Target
 abbrev some_cells : List (List Slot)
-some_cells = flat_map (λ motion. (board motion motion).cells) (Still ∷ Going Up ∷ Going Down ∷ Going Left ∷ Going Right ∷ Acting ∷ [])
+some_cells = flat_map (λ motion. (board motion motion).cells)
+    (Still ∷ Going Up ∷ Going Down ∷ Going Left ∷ Going Right ∷ Acting ∷ [])
     ++ (Holds (object 0) Still ∷ Holds (object 4) Still ∷ Holds (object 3) (Going Left) ∷ Bare ∷ []) ∷ []
 
 -- masks fit what the readings fit
@@ -104,7 +135,11 @@ abbrev attempts : List RuleMeaning → List Result
 attempts rules = map (λ rule. attempt rule (record { grid = board (Going Right) Still; queue = no_commands })) rules
 
 -- only the rule that goes right changes it: Crate goes right too
-by_hand : attempts compiled ≡ map (λ changed. record { state = record { grid = board (Going Right) Still; queue = no_commands }; changed = changed }) (false ∷ false ∷ false ∷ [])
+by_hand : attempts compiled ≡ map (λ changed. record {
+  state =
+      record { grid = board (Going Right) Still; queue = no_commands };
+  changed = changed;
+}) (false ∷ false ∷ false ∷ [])
     ++ record { state = record { grid = board (Going Right) (Going Right); queue = no_commands }; changed = true } ∷ []
 by_hand = refl
 
@@ -112,18 +147,27 @@ by_source : attempts compiled ≡ attempts source
 unfolding chars
 by_source = refl
 
--- a rule with all else that masks and writes say ---------------------------------------------------------------------------
+-- a rule with all else that masks and writes say ----------------------------------------------------------------------
 
 -- its one reading; AC is A or C, which lie on one layer
 abbrev other_source : List RuleMeaning
-other_source = readings_of (with_name (codes "ac") ac) (codes "right [ AC | Crate no Target | | > Player | Wall ] -> [ > AC | | no Crate | Player | Wall ]\n")
+other_source = readings_of (with_name (codes "ac") ac)
+    (codes "right [ AC | Crate no Target | | > Player | Wall ] -> [ > AC | | no Crate | Player | Wall ]\n")
 
 -- its cells compiled: A or C is left and goes right; Crate is cleared away where no Target is; Crate goes, whatever
 -- stands there; Player, who goes right, rests; and Wall keeps its motion
 abbrev other_cells : List CompiledCell
 other_cells = record {
   mask = record { needed = []; barred = []; one_of = (placed 5 3 ∷ placed 7 3 ∷ []) ∷ []; motions = [] };
-  write = record { gone = []; layers = record { layer = layer_id 3; object = Leave; motion = Some (Going Right) } ∷ [] };
+  write = record {
+    gone = [];
+    layers = record {
+      layer = layer_id 3;
+      object = Leave;
+      motion =
+          Some (Going Right);
+    } ∷ [];
+  };
 } ∷ record {
   mask = record { needed = placed 3 2 ∷ []; barred = placed 4 1 ∷ []; one_of = []; motions = [] };
   write = record { gone = []; layers = record { layer = layer_id 2; object = Clear; motion = None } ∷ [] };
@@ -131,18 +175,40 @@ other_cells = record {
   mask = record { needed = []; barred = []; one_of = []; motions = [] };
   write = record { gone = placed 3 2 ∷ []; layers = [] };
 } ∷ record {
-  mask = record { needed = placed 2 2 ∷ []; barred = []; one_of = []; motions = record { layer = layer_id 2; motion = Going Right } ∷ [] };
-  write = record { gone = []; layers = record { layer = layer_id 2; object = Put (object 2); motion = Some Still } ∷ [] };
+  mask = record {
+    needed = placed 2 2 ∷ [];
+    barred = [];
+    one_of = [];
+    motions =
+        record { layer = layer_id 2; motion = Going Right } ∷ [];
+  };
+  write = record {
+    gone = [];
+    layers = record {
+      layer = layer_id 2;
+      object = Put (object 2);
+      motion =
+          Some Still;
+    } ∷ [];
+  };
 } ∷ record {
   mask = record { needed = placed 1 2 ∷ []; barred = []; one_of = []; motions = [] };
   write = record { gone = []; layers = record { layer = layer_id 2; object = Put (object 1); motion = None } ∷ [] };
 } ∷ []
 
 abbrev other_compiled : List RuleMeaning
-other_compiled = meaning_of_rule (record { direction = Right; rows = (other_cells ∷ []) ∷ []; rewrites = true; commands = no_commands }) ∷ []
+other_compiled = meaning_of_rule (record {
+  direction = Right;
+  rows = (other_cells ∷ []) ∷ [];
+  rewrites =
+      true;
+  commands = no_commands;
+}) ∷ []
 
 -- these are what their source compiles to
-other_made_of_source : map (λ (rule : CompiledRule). rule.rows) (flat_map (compiled_rules (with_name (codes "ac") ac)) (filter_map rule_in (rules_read (with_name (codes "ac") ac)
+other_made_of_source : map (λ (rule : CompiledRule).
+    rule.rows) (flat_map (compiled_rules (with_name (codes "ac") ac))
+    (filter_map rule_in (rules_read (with_name (codes "ac") ac)
     (lines_below (codes "right [ AC | Crate no Target | | > Player | Wall ] -> [ > AC | | no Crate | Player | Wall ]\n"))))) ≡ ((other_cells ∷ []) ∷ []) ∷ []
 unfolding chars
 other_made_of_source = refl
@@ -150,7 +216,8 @@ other_made_of_source = refl
 -- cells with nothing, Wall, Player or Crate, each beside nothing, A, B or C, on a Target and elsewhere; all that may
 -- move goes the same way or rests
 abbrev cells_moving : Motion → List (List Slot)
-cells_moving motion = flat_map (λ target. flat_map (λ middle. map (λ top. Holds (object 0) Still ∷ target ∷ middle ∷ top ∷ [])
+cells_moving motion = flat_map (λ target. flat_map (λ middle.
+    map (λ top. Holds (object 0) Still ∷ target ∷ middle ∷ top ∷ [])
     (Bare ∷ Holds (object 5) motion ∷ Holds (object 6) motion ∷ Holds (object 7) motion ∷ []))
     (Bare ∷ Holds (object 1) motion ∷ Holds (object 2) motion ∷ Holds (object 3) motion ∷ []))
     (Bare ∷ Holds (object 4) motion ∷ [])

@@ -23,7 +23,7 @@ use Rattle.ps_model.specs.meaning.CompiledCells.{mask_of, write_of}
 use Rattle.ps_model.specs.meaning.CompiledRules.{compiled_rules, compiled_program}
 use Rattle.ps_examples.proofs.rules.RuleTexts.{base_names, lines_below, object, layer_id, placed}
 
--- masks ------------------------------------------------------------------------------------------------------------------
+-- masks ---------------------------------------------------------------------------------------------------------------
 
 -- all that an item can ask: a word asks the layer of each object for its motion, that of a loose property once
 all_asked : mask_of base_names (
@@ -37,12 +37,22 @@ all_asked : mask_of base_names (
       needed = placed 3 2 ∷ placed 4 1 ∷ placed 0 0 ∷ [];
       barred = placed 1 2 ∷ placed 2 2 ∷ [];
       one_of = (placed 5 3 ∷ placed 7 3 ∷ []) ∷ (placed 6 3 ∷ []) ∷ [];
-      motions = record { layer = layer_id 2; motion = Acting } ∷ record { layer = layer_id 1; motion = Acting } ∷ record { layer = layer_id 3; motion = Going Up } ∷ [];
+      motions = record { layer = layer_id 2; motion = Acting } ∷ record {
+        layer = layer_id 1;
+        motion =
+            Acting;
+      } ∷ record { layer = layer_id 3; motion = Going Up } ∷ [];
     }
 all_asked = refl
 
 -- one of no objects is never there, with a word or without one
-none_asked : mask_of base_names (Any [] (Some Still) ∷ []) ≡ record { needed = []; barred = []; one_of = [] ∷ []; motions = [] }
+none_asked : mask_of base_names (Any [] (Some Still) ∷ []) ≡ record {
+  needed = [];
+  barred = [];
+  one_of =
+      [] ∷ [];
+  motions = [];
+}
 none_asked = refl
 
 -- a cell of no game: Crate lies on the layer of Background
@@ -70,15 +80,17 @@ one_layer_asked = refl
 either_layer_asked : list_all (has base_names both_there) two_layers ≡ true
 either_layer_asked = refl
 
--- writes -----------------------------------------------------------------------------------------------------------------
+-- writes --------------------------------------------------------------------------------------------------------------
 
 -- on a layer that both sides claim, the motion is kept where neither has a word; where the left alone has one, it
 -- rests. What the right claims twice is written twice, and the first write counts; what the left alone claims is
 -- cleared
 all_written : write_of base_names (
-    Each (object 2 ∷ []) None ∷ Any (object 5 ∷ object 7 ∷ []) (Some Acting) ∷ Each (object 4 ∷ []) None ∷ Without (object 8 ∷ []) ∷ []
+    Each (object 2 ∷ []) None ∷ Any (object 5 ∷ object 7 ∷ []) (Some Acting) ∷ Each (object 4 ∷ []) None ∷ Without
+    (object 8 ∷ []) ∷ []
     ) (
-    Any (object 5 ∷ object 7 ∷ []) None ∷ Each (object 3 ∷ []) None ∷ Each (object 1 ∷ []) (Some Acting) ∷ Without (object 6 ∷ object 8 ∷ []) ∷ []
+    Any (object 5 ∷ object 7 ∷ []) None ∷ Each (object 3 ∷ []) None ∷ Each (object 1 ∷ []) (Some Acting) ∷ Without
+    (object 6 ∷ object 8 ∷ []) ∷ []
     ) ≡ record {
       gone = placed 6 3 ∷ placed 8 3 ∷ [];
       layers =
@@ -91,14 +103,15 @@ all_written : write_of base_names (
 all_written = refl
 
 -- what is new rests, or goes as its word says
-new_written : write_of base_names [] (Each (object 5 ∷ []) None ∷ Each (object 3 ∷ object 4 ∷ []) (Some (Going Up)) ∷ []) ≡ record {
-  gone = [];
-  layers =
-      record { layer = layer_id 3; object = Put (object 5); motion = Some Still }
-      ∷ record { layer = layer_id 2; object = Put (object 3); motion = Some (Going Up) }
-      ∷ record { layer = layer_id 1; object = Put (object 4); motion = Some (Going Up) }
-      ∷ [];
-}
+new_written : write_of base_names [] (Each (object 5 ∷ []) None ∷ Each (object 3 ∷ object 4 ∷ []) (Some (Going Up)) ∷
+    []) ≡ record {
+      gone = [];
+      layers =
+          record { layer = layer_id 3; object = Put (object 5); motion = Some Still }
+          ∷ record { layer = layer_id 2; object = Put (object 3); motion = Some (Going Up) }
+          ∷ record { layer = layer_id 1; object = Put (object 4); motion = Some (Going Up) }
+          ∷ [];
+    }
 new_written = refl
 
 -- an object that goes is looked for on its own layer alone, where the source takes it away wherever it stands: so a
@@ -109,11 +122,12 @@ left_there = refl
 taken_from_there : rewritten_from [] [] (object 3 ∷ []) 0 misplaced ≡ Bare ∷ Bare ∷ Bare ∷ Bare ∷ []
 taken_from_there = refl
 
--- readings ---------------------------------------------------------------------------------------------------------------
+-- readings ------------------------------------------------------------------------------------------------------------
 
 -- the compiled rules of a rule of the base text
 abbrev rules_compiled : List ℕ → List CompiledRule
-rules_compiled rule = flat_map (compiled_rules base_names) (filter_map rule_in (rules_read base_names (lines_below rule)))
+rules_compiled rule = flat_map (compiled_rules base_names)
+    (filter_map rule_in (rules_read base_names (lines_below rule)))
 
 -- the masks of a rule's cells
 abbrev masks_of : CompiledRule → List CellMask
@@ -124,19 +138,22 @@ needs objects = record { needed = objects; barred = []; one_of = []; motions = [
 
 -- AT, A or Target, is a fixed property: a rule for each member
 members_in_order : map masks_of (rules_compiled (codes "right [ AT | Crate ] -> [ | AT ]\n"))
-    ≡ (needs (placed 5 3 ∷ []) ∷ needs (placed 3 2 ∷ []) ∷ []) ∷ (needs (placed 4 1 ∷ []) ∷ needs (placed 3 2 ∷ []) ∷ []) ∷ []
+    ≡ (needs (placed 5 3 ∷ []) ∷ needs (placed 3 2 ∷ []) ∷ []) ∷
+    (needs (placed 4 1 ∷ []) ∷ needs (placed 3 2 ∷ []) ∷ []) ∷ []
 unfolding chars
 members_in_order = refl
 
 -- a reading that names a layer twice on one side of a cell is none: with B, AT is Target
-only_possible : map masks_of (rules_compiled (codes "right [ AT B ] -> [ ]\n")) ≡ (needs (placed 4 1 ∷ placed 6 3 ∷ []) ∷ []) ∷ []
+only_possible : map masks_of (rules_compiled (codes "right [ AT B ] -> [ ]\n")) ≡
+    (needs (placed 4 1 ∷ placed 6 3 ∷ []) ∷ []) ∷ []
 unfolding chars
 only_possible = refl
 
--- programs ---------------------------------------------------------------------------------------------------------------
+-- programs ------------------------------------------------------------------------------------------------------------
 
 abbrev some_lines : List RuleLine
-some_lines = rules_read base_names (lines_below (codes "right [ Player ] -> [ > Player ]\nlate right [ Crate ] -> [ ]\nstartloop\nright [ Wall ] -> [ ]\n+ right [ A ] -> [ B ]\nright [ ] -> again\nendloop\n"))
+some_lines = rules_read base_names (lines_below
+    (codes "right [ Player ] -> [ > Player ]\nlate right [ Crate ] -> [ ]\nstartloop\nright [ Wall ] -> [ ]\n+ right [ A ] -> [ B ]\nright [ ] -> again\nendloop\n"))
 
 -- a rule to the right, of one cell
 abbrev rule_on : CompiledCell → CompiledRule
@@ -145,7 +162,15 @@ rule_on cell = record { direction = Right; rows = ((cell ∷ []) ∷ []) ∷ [];
 abbrev player_rule : CompiledRule
 player_rule = rule_on (record {
   mask = needs (placed 2 2 ∷ []);
-  write = record { gone = []; layers = record { layer = layer_id 2; object = Put (object 2); motion = Some (Going Right) } ∷ [] };
+  write = record {
+    gone = [];
+    layers = record {
+      layer = layer_id 2;
+      object = Put (object 2);
+      motion =
+          Some (Going Right);
+    } ∷ [];
+  };
 })
 
 abbrev clearing_rule : ℕ → CompiledRule
@@ -169,7 +194,8 @@ again_rule = record {
 }
 
 -- groups, and a loop over groups; the late program has the loop too, with nothing in it
-plain_program : compiled_program base_names Plain some_lines ≡ Group (player_rule ∷ []) ∷ Loop ((clearing_rule 1 ∷ a_rule ∷ []) ∷ (again_rule ∷ []) ∷ []) ∷ []
+plain_program : compiled_program base_names Plain some_lines ≡ Group (player_rule ∷ []) ∷ Loop
+    ((clearing_rule 1 ∷ a_rule ∷ []) ∷ (again_rule ∷ []) ∷ []) ∷ []
 unfolding chars
 plain_program = refl
 

@@ -7,11 +7,13 @@ use Rattle.ps_laws.specs.IdleRules.{nothing_done}
 use Rattle.ps_examples.proofs.turns.SmallBoards.{becomes, rule_to, across, before}
 
 -- [ 1 | 2 ] -> [ 4 | 5 ]: nowhere on the board do the two stand side by side
-no_place : attempt (rule_to Right (((becomes 1 4 ∷ becomes 2 5 ∷ []) ∷ []) ∷ [])) (across before) ≡ nothing_done (across before)
+no_place : attempt (rule_to Right (((becomes 1 4 ∷ becomes 2 5 ∷ []) ∷ []) ∷ [])) (across before) ≡ nothing_done
+    (across before)
 no_place = refl
 
 -- [ 1 ] [ 9 ] -> [ 4 ] [ 8 ]: the second row has no place, so the first isn't rewritten either
-no_combination : attempt (rule_to Right (((becomes 1 4 ∷ []) ∷ []) ∷ ((becomes 9 8 ∷ []) ∷ []) ∷ [])) (across before) ≡ nothing_done (across before)
+no_combination : attempt (rule_to Right (((becomes 1 4 ∷ []) ∷ []) ∷ ((becomes 9 8 ∷ []) ∷ []) ∷ [])) (across before) ≡
+    nothing_done (across before)
 no_combination = refl
 
 -- [ 1 ] -> [ 1 ]
@@ -20,8 +22,22 @@ as_it_was = refl
 
 -- [ 1 ] -> [ 1 ] again: the command is queued
 abbrev comes_again : Commands
-comes_again = record { cancel = false; restart = false; again = true; checkpoint = false; win = false; message = no_commands.message }
+comes_again = record {
+  cancel = false;
+  restart = false;
+  again = true;
+  checkpoint = false;
+  win = false;
+  message =
+      no_commands.message;
+}
 
-with_command : attempt (record { direction = Left; rows = ((becomes 1 1 ∷ []) ∷ []) ∷ []; rewrites = true; commands = comes_again }) (across before)
+with_command : attempt (record {
+  direction = Left;
+  rows = ((becomes 1 1 ∷ []) ∷ []) ∷ [];
+  rewrites = true;
+  commands =
+      comes_again;
+}) (across before)
     ≡ record { state = record { grid = (across before).grid; queue = comes_again }; changed = false }
 with_command = refl

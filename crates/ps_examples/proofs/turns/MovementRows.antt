@@ -31,7 +31,8 @@ least_contender_wins : slid (board 3 1 (A ∷ Bare ∷ B ∷ [])) ≡ at_rest (b
 least_contender_wins = refl
 
 -- `...` over `ACB` becomes `.C.` over `AB.`: for the cell that C leaves, the contender above its number wins
-contender_above_wins : slid (board 3 2 (Bare ∷ A ∷ Bare ∷ C ∷ Bare ∷ B ∷ [])) ≡ at_rest (board 3 2 (Bare ∷ A ∷ C ∷ B ∷ Bare ∷ Bare ∷ []))
+contender_above_wins : slid (board 3 2 (Bare ∷ A ∷ Bare ∷ C ∷ Bare ∷ B ∷ [])) ≡ at_rest
+    (board 3 2 (Bare ∷ A ∷ C ∷ B ∷ Bare ∷ Bare ∷ []))
 contender_above_wins = refl
 
 -- `AB` stays: two objects never swap

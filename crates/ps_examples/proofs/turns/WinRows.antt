@@ -34,8 +34,10 @@ player_or_target = AnyOf 13 (object 1 ∷ object 3 ∷ [])
 abbrev names : Names
 names = record {
   entries =
-      (codes "background", One (object 0)) ∷ (codes ".", One (object 0)) ∷ (codes "player", One (object 1)) ∷ (codes "p", One (object 1))
-      ∷ (codes "crate", One (object 2)) ∷ (codes "*", One (object 2)) ∷ (codes "target", One (object 3)) ∷ (codes "o", One (object 3))
+      (codes "background", One (object 0)) ∷ (codes ".", One (object 0)) ∷ (codes "player", One (object 1)) ∷
+      (codes "p", One (object 1))
+      ∷ (codes "crate", One (object 2)) ∷ (codes "*", One (object 2)) ∷ (codes "target", One (object 3)) ∷
+      (codes "o", One (object 3))
       ∷ (codes "on", One (object 4)) ∷ (codes "@", crate_and_target) ∷ (codes "pt", player_or_target)
       ∷ (codes "&", AllOf 14 (object 1 ∷ object 3 ∷ [])) ∷ [];
   layers = 0 ∷ 2 ∷ 2 ∷ 1 ∷ 2 ∷ [];
@@ -56,40 +58,46 @@ at_line line kind = Some (record { kind = kind; line = line })
 abbrev win : Quantifier → Meaning → Option Meaning → Win
 win quantifier subject place = record { quantifier = quantifier; subject = subject; place = place }
 
--- forms ------------------------------------------------------------------------------------------------------------------
+-- forms ---------------------------------------------------------------------------------------------------------------
 
 three_words : wins (codes "No P\nSome *\nAny *\nAll O")
-    ≡ win asked.No (One (object 1)) None ∷ win asked.Some (One (object 2)) None ∷ win asked.Some (One (object 2)) None ∷ win asked.All (One (object 3)) None ∷ []
+    ≡ win asked.No (One (object 1)) None ∷ win asked.Some (One (object 2)) None ∷ win asked.Some (One (object 2)) None
+    ∷ win asked.All (One (object 3)) None ∷ []
 three_words = refl
 
 with_place : wins (codes "No @ on P\nSome PT on Crate\nany crate on @\nAll Target on PT")
     ≡ win asked.No crate_and_target (Some (One (object 1))) ∷ win asked.Some player_or_target (Some (One (object 2)))
-    ∷ win asked.Some (One (object 2)) (Some crate_and_target) ∷ win asked.All (One (object 3)) (Some player_or_target) ∷ []
+    ∷ win asked.Some (One (object 2)) (Some crate_and_target) ∷ win asked.All (One (object 3)) (Some player_or_target)
+    ∷ []
 with_place = refl
 
 -- letters are folded; blank lines, comments and lines of `=` mean nothing
-folded_letters : wins (codes "\naLL (x) cRATE\tON\tTarget\n\n===\n  \n(some Player)\n") ≡ win asked.All (One (object 2)) (Some (One (object 3))) ∷ []
+folded_letters : wins (codes "\naLL (x) cRATE\tON\tTarget\n\n===\n  \n(some Player)\n") ≡ win asked.All
+    (One (object 2)) (Some (One (object 3))) ∷ []
 folded_letters = refl
 
 none_written : wins (codes "\n  \n(No P)\n=\n") ≡ []
 none_written = refl
 
 -- a key word may be a name: the words count by their places
-key_word : wins (codes "No on\nNo on on on") ≡ win asked.No (One (object 4)) None ∷ win asked.No (One (object 4)) (Some (One (object 4))) ∷ []
+key_word : wins (codes "No on\nNo on on on") ≡ win asked.No (One (object 4)) None ∷ win asked.No (One (object 4))
+    (Some (One (object 4))) ∷ []
 key_word = refl
 
--- faults -----------------------------------------------------------------------------------------------------------------
+-- faults --------------------------------------------------------------------------------------------------------------
 
 fine : first (codes "No on\n\nAll p on @\n(x\nNo Q)\n=\n") ≡ None
 fine = refl
 
 bad_lines : map first
-    (codes "\nP" ∷ codes "\nNo" ∷ codes "\nEvery P" ∷ codes "\nNo P on" ∷ codes "\nNo P O" ∷ codes "\nNo P at O" ∷ codes "\nNo P on O on"
+    (codes "\nP" ∷ codes "\nNo" ∷ codes "\nEvery P" ∷ codes "\nNo P on" ∷ codes "\nNo P O" ∷ codes "\nNo P at O" ∷
+    codes "\nNo P on O on"
     ∷ codes "\nAll P on O O" ∷ codes "\nNo, P" ∷ codes "\n== P" ∷ [])
     ≡ map (λ line. at_line 3 BadWin) (codes "0123456789")
 bad_lines = refl
 
-unknown_names : map first (codes "No Q" ∷ codes "All P on Q" ∷ codes "All Q on P" ∷ codes "Some no" ∷ codes "No P, on O" ∷ [])
+unknown_names : map first (codes "No Q" ∷ codes "All P on Q" ∷ codes "All Q on P" ∷ codes "Some no" ∷ codes
+    "No P, on O" ∷ [])
     ≡ map (λ line. at_line 2 UnknownWinName) (codes "01234")
 unknown_names = refl
 
@@ -97,7 +105,7 @@ unknown_names = refl
 first_line : first (codes "No Q\nNo") ≡ at_line 2 UnknownWinName
 first_line = refl
 
--- won --------------------------------------------------------------------------------------------------------------------
+-- won -----------------------------------------------------------------------------------------------------------------
 
 -- the entry is a level whose grid passes all of the conditions
 abbrev is_won_on : List Win → Entry → Bool
@@ -106,7 +114,8 @@ is_won_on conditions (LevelEntry level) = won conditions (loaded names level)
 
 -- whether the lines hold of a level of these rows
 abbrev holds : List ℕ → List ℕ → List Bool
-holds lines rows = map (is_won_on (wins lines)) (entries_read names (section_lines (lines_of (codes "LEVELS\n" ++ rows)) Levels))
+holds lines rows = map (is_won_on (wins lines))
+    (entries_read names (section_lines (lines_of (codes "LEVELS\n" ++ rows)) Levels))
 
 -- without conditions the level counts as won
 nothing_asked : holds [] (codes "P") ≡ true ∷ []

@@ -38,43 +38,57 @@ alike-through names a b c h k state shape =
     record { equal = one.equal ∙ other.equal; grid = one.grid }
 
 -- a change in the first, or in the others
-pub change_grouped : (a b : Bool) (result : Result) → after_change a (after_change b result) ≡ after_change (a || b) result
+pub change_grouped : (a b : Bool) (result : Result) →
+    after_change a (after_change b result) ≡ after_change (a || b) result
 change_grouped true b result = refl
 change_grouped false b result = refl
 
 -- the round of a list behind another
-pub round-append : (front behind : List RuleMeaning) (state : State) → round (front ++ behind) state ≡ after_change (round front state).changed (round behind (round front state).state)
+pub round-append : (front behind : List RuleMeaning) (state : State) →
+    round (front ++ behind) state ≡ after_change (round front state).changed (round behind (round front state).state)
 round-append [] behind state = refl
 round-append (rule ∷ front) behind state =
     let first : Result = attempt rule state in
     let rest : Result = round front first.state in
-    ap (after_change first.changed) (round-append front behind first.state) ∙ change_grouped first.changed rest.changed (round behind rest.state)
+    ap (after_change first.changed) (round-append front behind first.state)
+    ∙ change_grouped first.changed rest.changed (round behind rest.state)
 
-pub alike-append : (names : Names) (a b c d : List RuleMeaning) → Alike names a b → Alike names c d → Alike names (a ++ c) (b ++ d)
+pub alike-append : (names : Names) (a b c d : List RuleMeaning) → Alike names a b → Alike names c d →
+    Alike names (a ++ c) (b ++ d)
 alike-append names a b c d h k state shape =
     let one : EqualResults names (round a state) (round b state) = h state shape in
-    let both = after_change-same names (round a state) (round b state) one (round c) (round d) (k (round a state).state one.grid) in
+    let both = after_change-same names (round a state) (round b state) one (round c) (round d)
+    (k (round a state).state one.grid) in
     record {
       equal = round-append a c state ∙ both.equal ∙ sym (round-append b d state);
-      grid = same_grid names (round (a ++ c) state) (after_change (round a state).changed (round c (round a state).state)) (round-append a c state) both.grid;
+      grid = same_grid names (round (a ++ c) state)
+          (after_change (round a state).changed (round c (round a state).state)) (round-append a c state) both.grid;
     }
 
-pub alike-joined : (names : Names) (a b : List (List RuleMeaning)) → AllZip (Alike names) a b → Alike names (flat_map (λ rules. rules) a) (flat_map (λ rules. rules) b)
+pub alike-joined : (names : Names) (a b : List (List RuleMeaning)) → AllZip (Alike names) a b →
+    Alike names (flat_map (λ rules. rules) a) (flat_map (λ rules. rules) b)
 alike-joined names [] [] h state shape = record { equal = refl; grid = shape }
 alike-joined names [] (y ∷ ys) h state shape = absurd h
 alike-joined names (x ∷ xs) [] h state shape = absurd h
 alike-joined names (x ∷ xs) (y ∷ ys) h state shape =
-    alike-append names x y (flat_map (λ rules. rules) xs) (flat_map (λ rules. rules) ys) h.0 (alike-joined names xs ys h.1) state shape
+    alike-append names x y (flat_map (λ rules. rules) xs) (flat_map (λ rules. rules) ys) h.0
+    (alike-joined names xs ys h.1) state shape
 
 -- rules that face down or right
 pub alike-forwards : (names : Names) (a b : List RuleMeaning) → Alike names a b → Alike names (map forwards a) b
 alike-forwards names a b h state shape =
     let one : EqualResults names (round a state) (round b state) = h state shape in
-    record { equal = round-forwards a state ∙ one.equal; grid = same_grid names (round (map forwards a) state) (round a state) (round-forwards a state) one.grid }
+    record {
+      equal = round-forwards a state ∙ one.equal;
+      grid =
+          same_grid names (round (map forwards a) state) (round a state) (round-forwards a state) one.grid;
+    }
 
 -- a rule that does nothing
-pub alike-idle : (names : Names) (rule : RuleMeaning) (a b : List RuleMeaning) → IsIdle names rule → Alike names a b → Alike names (rule ∷ a) b
+pub alike-idle : (names : Names) (rule : RuleMeaning) (a b : List RuleMeaning) → IsIdle names rule → Alike names a b →
+    Alike names (rule ∷ a) b
 alike-idle names rule a b idle h state shape =
     let one : EqualResults names (round a state) (round b state) = h state shape in
-    let none : round (rule ∷ a) state ≡ round a state = ap (λ (first : Result). after_change first.changed (round a first.state)) (idle state shape) in
+    let none : round (rule ∷ a) state ≡ round a state =
+    ap (λ (first : Result). after_change first.changed (round a first.state)) (idle state shape) in
     record { equal = none ∙ one.equal; grid = same_grid names (round (rule ∷ a) state) (round a state) none one.grid }

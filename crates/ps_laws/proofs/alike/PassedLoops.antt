@@ -8,7 +8,8 @@ use Rattle.ps_laws.proofs.common.EitherWay.{either_way}
 use Rattle.ps_laws.proofs.common.Steps.{changes-next, changes-before_first, changes-before_last}
 
 -- no repeat is left
-passes_at_limit : (body : List (List RuleMeaning)) (state : State) → Passes body 0 state (record { state = (pass body state).state; repeats = 0; stopped = (pass body state).changed })
+passes_at_limit : (body : List (List RuleMeaning)) (state : State) →
+    Passes body 0 state (record { state = (pass body state).state; repeats = 0; stopped = (pass body state).changed })
 passes_at_limit body state = record {
   passes = 1;
   some_pass = omega arith;
@@ -35,7 +36,8 @@ passes_at_once body repeats state e = record {
 }
 
 -- the first pass changes something, and there are others
-passes_later : (body : List (List RuleMeaning)) (repeats : ℕ) (state : State) (progress : Progress) → (pass body state).changed ≡ true →
+passes_later : (body : List (List RuleMeaning)) (repeats : ℕ) (state : State) (progress : Progress) →
+    (pass body state).changed ≡ true →
     Passes body repeats (pass body state).state progress → Passes body (suc repeats) state progress
 passes_later body repeats state progress e h = record {
   passes = suc h.passes;
@@ -49,10 +51,13 @@ passes_later body repeats state progress e h = record {
 }
 
 -- a loop makes its passes
-pub looped-passes : (body : List (List RuleMeaning)) (repeats : ℕ) (state : State) → Passes body repeats state (looped body repeats state)
+pub looped-passes : (body : List (List RuleMeaning)) (repeats : ℕ) (state : State) →
+    Passes body repeats state (looped body repeats state)
 looped-passes body zero state = passes_at_limit body state
 looped-passes body (suc repeats) state =
     let next : Result = pass body state in
     let more : Progress = looped body repeats next.state in
-    either_way (Passes body (suc repeats) state) more (record { state = next.state; repeats = suc repeats; stopped = false }) next.changed
-    (λ e. passes_later body repeats state more e (looped-passes body repeats next.state)) (passes_at_once body (suc repeats) state)
+    either_way (Passes body (suc repeats) state) more
+    (record { state = next.state; repeats = suc repeats; stopped = false }) next.changed
+    (λ e. passes_later body repeats state more e (looped-passes body repeats next.state))
+    (passes_at_once body (suc repeats) state)

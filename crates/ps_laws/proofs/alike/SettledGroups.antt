@@ -10,16 +10,26 @@ use Rattle.ps_laws.proofs.common.Steps.{changes-next, changes-before_first, chan
 
 -- one of so many rounds changes something
 abbrev pub SomeChange : List RuleMeaning → State → ℕ → Type 0
-SomeChange rules state rounds = (number : ℕ) × (1 ≤ number) × (number ≤ rounds) × (changes number (round rules) state ≡ true)
+SomeChange rules state rounds = (number : ℕ) × (1 ≤ number) × (number ≤ rounds) ×
+    (changes number (round rules) state ≡ true)
 
-change_of_one : (rules : List RuleMeaning) (state : State) → SomeChange rules state 1 → (round rules state).changed ≡ true
-change_of_one rules state h = let first : 1 ≡ h.0 = omega (arith, h.1, h.2) in ap (λ (number : ℕ). changes number (round rules) state) first ∙ h.3
+change_of_one : (rules : List RuleMeaning) (state : State) → SomeChange rules state 1 →
+    (round rules state).changed ≡ true
+change_of_one rules state h = let first : 1 ≡ h.0 = omega (arith, h.1, h.2) in
+    ap (λ (number : ℕ). changes number (round rules) state) first ∙ h.3
 
-change_of_more : (rules : List RuleMeaning) (state : State) (rounds : ℕ) → SomeChange rules (round rules state).state rounds → SomeChange rules state (suc rounds)
-change_of_more rules state rounds h = (suc h.0, omega arith, omega (arith, h.2), changes-next h.0 (round rules) state h.1 ∙ h.3)
+change_of_more : (rules : List RuleMeaning) (state : State) (rounds : ℕ) →
+    SomeChange rules (round rules state).state rounds → SomeChange rules state (suc rounds)
+change_of_more rules state rounds h = (
+  suc h.0,
+  omega arith,
+  omega (arith, h.2),
+  changes-next h.0 (round rules) state h.1 ∙ h.3,
+)
 
 -- as `Settles`, behind rounds that changed something or not
-pub record SettlesBehind (before : Bool) (rules : List RuleMeaning) (limit : ℕ) (state : State) (result : Result) : Type 0 where
+pub record SettlesBehind (before : Bool) (rules : List RuleMeaning) (limit : ℕ) (state : State) (result : Result) :
+    Type 0 where
   pub rounds : ℕ
   pub some_round : 1 ≤ rounds
   pub few_rounds : rounds ≤ limit
@@ -30,7 +40,8 @@ pub record SettlesBehind (before : Bool) (rules : List RuleMeaning) (limit : ℕ
   pub told : (before ≡ true) ⊎ SomeChange rules state rounds → result.changed ≡ true
 
 -- the first round changes nothing
-settles_at_once : (before : Bool) (rules : List RuleMeaning) (limit : ℕ) (state : State) → (round rules state).changed ≡ false →
+settles_at_once : (before : Bool) (rules : List RuleMeaning) (limit : ℕ) (state : State) →
+    (round rules state).changed ≡ false →
     SettlesBehind before rules (suc limit) state (record { state = (round rules state).state; changed = before })
 settles_at_once before rules limit state e = record {
   rounds = 1;
@@ -61,8 +72,10 @@ settles_at_limit before rules state e = record {
 }
 
 -- the first round changes something, and there are others
-settles_later : (before : Bool) (rules : List RuleMeaning) (limit : ℕ) (state : State) (result : Result) → (round rules state).changed ≡ true →
-    SettlesBehind true rules limit (round rules state).state result → SettlesBehind before rules (suc limit) state result
+settles_later : (before : Bool) (rules : List RuleMeaning) (limit : ℕ) (state : State) (result : Result) →
+    (round rules state).changed ≡ true →
+    SettlesBehind true rules limit (round rules state).state result →
+    SettlesBehind before rules (suc limit) state result
 settles_later before rules limit state result e h = record {
   rounds = suc h.rounds;
   some_round = omega arith;
@@ -77,19 +90,24 @@ settles_later before rules limit state result e h = record {
   told = λ some. h.told (inl refl);
 }
 
-settled-behind : (rules : List RuleMeaning) (limit : ℕ) (before : Bool) (state : State) → SettlesBehind before rules (suc limit) state (settled rules (suc limit) before state)
+settled-behind : (rules : List RuleMeaning) (limit : ℕ) (before : Bool) (state : State) →
+    SettlesBehind before rules (suc limit) state (settled rules (suc limit) before state)
 settled-behind rules zero before state =
     let next : Result = round rules state in
-    either_way (SettlesBehind before rules 1 state) (record { state = next.state; changed = true }) (record { state = next.state; changed = before }) next.changed
+    either_way (SettlesBehind before rules 1 state) (record { state = next.state; changed = true })
+    (record { state = next.state; changed = before }) next.changed
     (settles_at_limit before rules state) (settles_at_once before rules 0 state)
 settled-behind rules (suc limit) before state =
     let next : Result = round rules state in
     let more : Result = settled rules (suc limit) true next.state in
-    either_way (SettlesBehind before rules (suc (suc limit)) state) more (record { state = next.state; changed = before }) next.changed
-    (λ e. settles_later before rules (suc limit) state more e (settled-behind rules limit true next.state)) (settles_at_once before rules (suc limit) state)
+    either_way (SettlesBehind before rules (suc (suc limit)) state) more
+    (record { state = next.state; changed = before }) next.changed
+    (λ e. settles_later before rules (suc limit) state more e (settled-behind rules limit true next.state))
+    (settles_at_once before rules (suc limit) state)
 
 -- rounds that are made from the first on settle within any limit that allows one
-pub settled-settles : (rules : List RuleMeaning) (limit : ℕ) (state : State) → 1 ≤ limit → Settles rules limit state (settled rules limit false state)
+pub settled-settles : (rules : List RuleMeaning) (limit : ℕ) (state : State) → 1 ≤ limit →
+    Settles rules limit state (settled rules limit false state)
 settled-settles rules zero state some = absurd (omega arith)
 settled-settles rules (suc limit) state some =
     let h = settled-behind rules limit false state in

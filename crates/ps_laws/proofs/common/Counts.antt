@@ -1,5 +1,6 @@
 -- How often an object stands on a layer, in a grid whose slots were changed.
-use Rattle.std.proofs.Common.{◌≡◌, ◌≢◌, ℕ, ◌+◌, ◌<◌, Bool, List, [], ◌∷◌, length, map, get_or, refl, sym, ◌∙◌, ap, arith, cond, count_by}
+use Rattle.std.proofs.Common.{◌≡◌, ◌≢◌, ℕ, ◌+◌, ◌<◌, Bool, List, [], ◌∷◌, length, map, get_or, refl, sym, ◌∙◌, ap}
+use Rattle.std.proofs.Common.{arith, cond, count_by}
 use Rattle.std.specs.Prelude.{slice_set}
 use Rattle.std.proofs.Math.ListN.{get_or-map}
 use Rattle.std.proofs.lemmas.List.{get_or-set_same, get_or-set_other}
@@ -25,38 +26,47 @@ abbrev pub count_on : (Slot → Bool) → Grid → ℕ → ℕ
 count_on test g layer = count_by (λ cell. test (get_or cell layer Bare)) g.cells
 
 -- one slot changed, counted on its own layer
-pub count_on-with_same : (test : Slot → Bool) (g : Grid) (cell layer : ℕ) (slot : Slot) → IsGrid g → IsPlace g cell layer →
-    count_on test (with_slot g cell layer slot) layer + one_if (test (slot_at g cell layer)) ≡ count_on test g layer + one_if (test slot)
+pub count_on-with_same : (test : Slot → Bool) (g : Grid) (cell layer : ℕ) (slot : Slot) → IsGrid g →
+    IsPlace g cell layer →
+    count_on test (with_slot g cell layer slot) layer + one_if (test (slot_at g cell layer)) ≡ count_on test g layer +
+    one_if (test slot)
 count_on-with_same test g cell layer slot shape place =
     let within : cell < length g.cells = rw shape.cells place.0 in
     let p : List Slot → Bool = λ c. test (get_or c layer Bare) in
     let e = count_by-set p g.cells cell (slice_set (cell_at g cell) layer slot) [] within in
-    let s : get_or (slice_set (cell_at g cell) layer slot) layer Bare ≡ slot = get_or-set_same (cell_at g cell) layer slot Bare (cell_long g cell layer shape place) in
+    let s : get_or (slice_set (cell_at g cell) layer slot) layer Bare ≡ slot =
+    get_or-set_same (cell_at g cell) layer slot Bare (cell_long g cell layer shape place) in
     e ∙ ap (λ (x : Slot). count_on test g layer + one_if (test x)) s
 
 -- one slot changed, counted on another layer
-pub count_on-with_other : (test : Slot → Bool) (g : Grid) (cell layer l : ℕ) (slot : Slot) → IsGrid g → IsPlace g cell layer → l ≢ layer →
+pub count_on-with_other : (test : Slot → Bool) (g : Grid) (cell layer l : ℕ) (slot : Slot) → IsGrid g →
+    IsPlace g cell layer → l ≢ layer →
     count_on test (with_slot g cell layer slot) l ≡ count_on test g l
 count_on-with_other test g cell layer l slot shape place apart =
     let within : cell < length g.cells = rw shape.cells place.0 in
     let p : List Slot → Bool = λ c. test (get_or c l Bare) in
     let e = count_by-set p g.cells cell (slice_set (cell_at g cell) layer slot) [] within in
-    let s : get_or (slice_set (cell_at g cell) layer slot) l Bare ≡ get_or (cell_at g cell) l Bare = get_or-set_other (cell_at g cell) layer l slot Bare apart in
-    let f : one_if (p (slice_set (cell_at g cell) layer slot)) ≡ one_if (p (cell_at g cell)) = ap (λ (x : Slot). one_if (test x)) s in
+    let s : get_or (slice_set (cell_at g cell) layer slot) l Bare ≡ get_or (cell_at g cell) l Bare =
+    get_or-set_other (cell_at g cell) layer l slot Bare apart in
+    let f : one_if (p (slice_set (cell_at g cell) layer slot)) ≡ one_if (p (cell_at g cell)) =
+    ap (λ (x : Slot). one_if (test x)) s in
     omega arith
 
 -- rest keeps a slot's object
-pub holds_object-at_rest : (object : ObjectId) (slot : Slot) → holds_object object (slot_at_rest slot) ≡ holds_object object slot
+pub holds_object-at_rest : (object : ObjectId) (slot : Slot) →
+    holds_object object (slot_at_rest slot) ≡ holds_object object slot
 holds_object-at_rest object Bare = refl
 holds_object-at_rest object (Holds held motion) = refl
 
 count_at_rest : (cells : List (List Slot)) (layer : ℕ) (object : ObjectId) →
-    count_by (λ cell. holds_object object (get_or cell layer Bare)) (map (map slot_at_rest) cells) ≡ count_by (λ cell. holds_object object (get_or cell layer Bare)) cells
+    count_by (λ cell. holds_object object (get_or cell layer Bare)) (map (map slot_at_rest) cells) ≡ count_by (λ cell.
+    holds_object object (get_or cell layer Bare)) cells
 count_at_rest [] layer object = refl
 count_at_rest (cell ∷ cells) layer object =
     let p : List Slot → Bool = λ c. holds_object object (get_or c layer Bare) in
     let same : p (map slot_at_rest cell) ≡ p cell =
-    ap (holds_object object) (get_or-map slot_at_rest cell layer Bare) ∙ holds_object-at_rest object (get_or cell layer Bare) in
+    ap (holds_object object) (get_or-map slot_at_rest cell layer Bare)
+    ∙ holds_object-at_rest object (get_or cell layer Bare) in
     let one : one_if (p (map slot_at_rest cell)) ≡ one_if (p cell) = ap one_if same in
     sum_by-cons (λ c. one_if (p c)) (map slot_at_rest cell) (map (map slot_at_rest) cells)
     ∙ ap (λ (n : ℕ). n + count_by p (map (map slot_at_rest) cells)) one
@@ -64,5 +74,6 @@ count_at_rest (cell ∷ cells) layer object =
     ∙ sym (sum_by-cons (λ c. one_if (p c)) cell cells)
 
 -- rest keeps each object
-pub count_of-at_rest : (g : Grid) (layer : ℕ) (object : ObjectId) → count_of (at_rest g) layer object ≡ count_of g layer object
+pub count_of-at_rest : (g : Grid) (layer : ℕ) (object : ObjectId) →
+    count_of (at_rest g) layer object ≡ count_of g layer object
 count_of-at_rest g layer object = count_at_rest g.cells layer object

@@ -11,7 +11,8 @@ use Rattle.ps_model.specs.text.LineNumbers.{line_at, here}
 use Rattle.ps_laws.proofs.common.LinesInOrder.{here-there}
 
 -- where the first part has one
-pub first-front : (front behind : List Fault) (fault : Fault) → first_fault front ≡ Some fault → first_fault (front ++ behind) ≡ Some fault
+pub first-front : (front behind : List Fault) (fault : Fault) → first_fault front ≡ Some fault →
+    first_fault (front ++ behind) ≡ Some fault
 first-front [] behind fault e = absurd (let h = e in cc)
 first-front (first ∷ others) behind fault e = e
 
@@ -30,15 +31,20 @@ untold true kind line e = cc
 untold false kind line e = refl
 
 -- the faults of a line that is there, and of no other
-pub faults-here : (f : Line → List Fault) (text : List ℕ) (line : ℕ) → (line_at text line).is_there ≡ true → flat_map f (here text line) ≡ f (line_at text line)
+pub faults-here : (f : Line → List Fault) (text : List ℕ) (line : ℕ) → (line_at text line).is_there ≡ true →
+    flat_map f (here text line) ≡ f (line_at text line)
 faults-here f text line there = ap (flat_map f) (here-there text line there) ∙ append-nil (f (line_at text line))
 
 -- a fault of the first lines
-pub first-of-lines : (f : Line → List Fault) (all lines rest : List Line) (fault : Fault) → all ≡ lines ++ rest → first_fault (flat_map f lines) ≡ Some fault → first_fault (flat_map f all) ≡ Some fault
+pub first-of-lines : (f : Line → List Fault) (all lines rest : List Line) (fault : Fault) → all ≡ lines ++ rest →
+    first_fault (flat_map f lines) ≡ Some fault → first_fault (flat_map f all) ≡ Some fault
 first-of-lines f all lines rest fault split e =
-    ap (λ (ls : List Line). first_fault (flat_map f ls)) split ∙ ap first_fault (flat_map-append f lines rest) ∙ first-front (flat_map f lines) (flat_map f rest) fault e
+    ap (λ (ls : List Line). first_fault (flat_map f ls)) split ∙ ap first_fault (flat_map-append f lines rest)
+    ∙ first-front (flat_map f lines) (flat_map f rest) fault e
 
 -- no fault of the first lines
-pub none-of-lines : (f : Line → List Fault) (all lines rest : List Line) → all ≡ lines ++ rest → flat_map f lines ≡ [] → flat_map f rest ≡ flat_map f all
+pub none-of-lines : (f : Line → List Fault) (all lines rest : List Line) → all ≡ lines ++ rest →
+    flat_map f lines ≡ [] → flat_map f rest ≡ flat_map f all
 none-of-lines f all lines rest split e =
-    sym (ap (flat_map f) split ∙ flat_map-append f lines rest ∙ ap (λ (faults : List Fault). faults ++ flat_map f rest) e)
+    sym (ap (flat_map f) split ∙ flat_map-append f lines rest
+    ∙ ap (λ (faults : List Fault). faults ++ flat_map f rest) e)

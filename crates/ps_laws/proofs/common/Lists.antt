@@ -1,6 +1,8 @@
--- Lists: parts of an empty one, tests of some element, what a filter leaves, a write beside, and lists for the numbers of a
+-- Lists: parts of an empty one, tests of some element, what a filter leaves, a write beside, and lists for the numbers
+-- of a
 -- range.
-use Rattle.std.proofs.Common.{◌≡◌, ◌≢◌, ◌+◌, ◌<◌, ◌≤◌, ℕ, zero, suc, Bool, false, ◌||◌, List, [], ◌∷◌, ◌++◌, map, filter}
+use Rattle.std.proofs.Common.{◌≡◌, ◌≢◌, ◌+◌, ◌<◌, ◌≤◌, ℕ, zero, suc, Bool, false, ◌||◌, List, [], ◌∷◌, ◌++◌, map}
+use Rattle.std.proofs.Common.{filter}
 use Rattle.std.proofs.Common.{flat_map, slice_get, slice_set, refl, ◌∙◌, ap, ap₂, arith}
 use Rattle.std.specs.List.{list_any, range_with_len}
 use Rattle.std.proofs.lemmas.List.Folds.{list_any-append}
@@ -15,14 +17,17 @@ none-behind [] ys e = e
 none-behind (x ∷ xs) ys e = cc
 
 -- a test of what elements are made to
-pub any-map : {A B : Type 0} (test : B → Bool) (f : A → B) (xs : List A) → list_any test (map f xs) ≡ list_any (λ x. test (f x)) xs
+pub any-map : {A B : Type 0} (test : B → Bool) (f : A → B) (xs : List A) →
+    list_any test (map f xs) ≡ list_any (λ x. test (f x)) xs
 any-map test f [] = refl
 any-map test f (x ∷ xs) = ap (λ (b : Bool). test (f x) || b) (any-map test f xs)
 
 -- a test of some element of some list
-pub any-flat_map : {A B : Type 0} (test : B → Bool) (f : A → List B) (xs : List A) → list_any test (flat_map f xs) ≡ list_any (λ x. list_any test (f x)) xs
+pub any-flat_map : {A B : Type 0} (test : B → Bool) (f : A → List B) (xs : List A) →
+    list_any test (flat_map f xs) ≡ list_any (λ x. list_any test (f x)) xs
 any-flat_map test f [] = refl
-any-flat_map test f (x ∷ xs) = list_any-append test (f x) (flat_map f xs) ∙ ap (λ (b : Bool). list_any test (f x) || b) (any-flat_map test f xs)
+any-flat_map test f (x ∷ xs) = list_any-append test (f x) (flat_map f xs)
+    ∙ ap (λ (b : Bool). list_any test (f x) || b) (any-flat_map test f xs)
 
 -- a test that nothing passes
 pub none-filtered : {X : Type 0} (test : X → Bool) (xs : List X) → ((x : X) → test x ≡ false) → filter test xs ≡ []

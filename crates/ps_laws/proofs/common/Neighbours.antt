@@ -14,7 +14,8 @@ given-some true n m e = (refl, cc)
 given-some false n m e = absurd (cc)
 
 -- the neighbour is another cell of the board
-pub neighbour-within : (g : Grid) (direction : Direction) (cell to : ℕ) → 0 < g.height → cell < g.width * g.height → neighbour g direction cell ≡ Some to →
+pub neighbour-within : (g : Grid) (direction : Direction) (cell to : ℕ) → 0 < g.height → cell < g.width * g.height →
+    neighbour g direction cell ≡ Some to →
     (to < g.width * g.height) × (to ≢ cell)
 neighbour-within g Up cell to high within e =
     let found = given-some (nat_lt 0 (cell % g.height)) (cell - 1) to e in

@@ -13,10 +13,12 @@ pub All-reverse : {X : Type 0} (P : X → Type 0) (xs : List X) → All P xs →
 All-reverse P [] all = All-nil P
 All-reverse P (x ∷ xs) all =
     subst (λ (back : List _). All P back) (sym (reverse-append (x ∷ []) xs))
-    (All-append P (reverse xs) (x ∷ []) (All-reverse P xs (All-tail P x xs all)) (All-cons P x [] (All-head P x xs all) (All-nil P)))
+    (All-append P (reverse xs) (x ∷ []) (All-reverse P xs (All-tail P x xs all))
+    (All-cons P x [] (All-head P x xs all) (All-nil P)))
 
 -- rows of as many parts, each of which has cells
-whole-as : {A B : Type 0} (row : List (List A)) (other : List (List B)) → length other ≡ length row → All HasCells other → IsWholeRow row → IsWholeRow other
+whole-as : {A B : Type 0} (row : List (List A)) (other : List (List B)) → length other ≡ length row →
+    All HasCells other → IsWholeRow row → IsWholeRow other
 whole-as row other e cells whole = record {
   some = subst (λ (n : ℕ). 0 < n) (sym e) whole.some;
   few = subst (λ (n : ℕ). n ≤ ELLIPSIS_LIMIT + 1) (sym e) whole.few;
@@ -27,11 +29,13 @@ whole-as row other e cells whole = record {
 pub whole-mapped : {A B : Type 0} (f : A → B) (row : List (List A)) → IsWholeRow row → IsWholeRow (map (map f) row)
 whole-mapped f row whole =
     whole-as row (map (map f) row) (length-map row (map f))
-    (All-mapped HasCells HasCells (map f) row (λ part has. subst (λ (n : ℕ). 0 < n) (sym (length-map part f)) has) whole.cells) whole
+    (All-mapped HasCells HasCells (map f) row (λ part has.
+    subst (λ (n : ℕ). 0 < n) (sym (length-map part f)) has) whole.cells) whole
 
 -- a row turned round
 pub whole-turned : {A : Type 0} (row : List (List A)) → IsWholeRow row → IsWholeRow (row_turned row)
 whole-turned row whole =
     whole-as row (row_turned row) (length-reverse (map reverse row) ∙ length-map row reverse)
     (All-reverse HasCells (map reverse row)
-    (All-mapped HasCells HasCells reverse row (λ part has. subst (λ (n : ℕ). 0 < n) (sym (length-reverse part)) has) whole.cells)) whole
+    (All-mapped HasCells HasCells reverse row (λ part has.
+    subst (λ (n : ℕ). 0 < n) (sym (length-reverse part)) has) whole.cells)) whole

@@ -17,11 +17,13 @@ IfSome-slice_get P xs i each = elim ((slice_get_cases xs i).1) [
 ]
 
 -- the cell that is read is one of the game
-pub IsCellOf-read : (names : Names) (g : Grid) → IsGridOf names g → (cell : ℕ) → IfSome (slice_get g.cells cell) (IsCellOf names)
+pub IsCellOf-read : (names : Names) (g : Grid) → IsGridOf names g → (cell : ℕ) →
+    IfSome (slice_get g.cells cell) (IsCellOf names)
 IsCellOf-read names g shape cell = IfSome-slice_get (IsCellOf names) g.cells cell shape.cells
 
 -- a grid of the game stays one where a cell of the game is put
-pub IsGridOf-put : (names : Names) (g : Grid) → IsGridOf names g → (cell : ℕ) (new : List Slot) → IsCellOf names new → IsGridOf names (record g { cells = slice_set g.cells cell new })
+pub IsGridOf-put : (names : Names) (g : Grid) → IsGridOf names g → (cell : ℕ) (new : List Slot) → IsCellOf names new →
+    IsGridOf names (record g { cells = slice_set g.cells cell new })
 IsGridOf-put names g shape cell new fine = record {
   layers = shape.layers;
   cells = All-set (IsCellOf names) g.cells cell new fine shape.cells;

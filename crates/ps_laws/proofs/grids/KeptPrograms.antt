@@ -6,7 +6,8 @@ use Rattle.ps_model.specs.declared.limits.TheConstants.{ROUND_LIMIT, REPEAT_LIMI
 use Rattle.ps_model.specs.board.Grid.{Grid}
 use Rattle.ps_model.specs.meaning.RuleMeanings.{RuleMeaning}
 use Rattle.ps_model.specs.board.Attempts.{State, Result, attempt}
-use Rattle.ps_model.specs.board.Programs.{Section, Group, Loop, Progress, round, settled, group, pass, looped, section_run, sections_run, program_run}
+use Rattle.ps_model.specs.board.Programs.{Section, Group, Loop, Progress, round, settled, group, pass, looped}
+use Rattle.ps_model.specs.board.Programs.{section_run, sections_run, program_run}
 use Rattle.ps_laws.proofs.common.Everywhere.{either_way}
 
 module _ (Kept : Grid → Type 0) where
@@ -29,49 +30,62 @@ module _ (Kept : Grid → Type 0) where
   SectionKeeps (Group rules) = All RuleKeeps rules
   SectionKeeps (Loop body) = All (All RuleKeeps) body
 
-  pub round-keeps : (rules : List RuleMeaning) (state : State) → All RuleKeeps rules → Kept state.grid → Kept (round rules state).state.grid
+  pub round-keeps : (rules : List RuleMeaning) (state : State) → All RuleKeeps rules → Kept state.grid →
+      Kept (round rules state).state.grid
   round-keeps [] state all h = h
   round-keeps (rule ∷ rules) state all h =
-      round-keeps rules (attempt rule state).state (All-tail RuleKeeps rule rules all) (All-head RuleKeeps rule rules all state h)
+      round-keeps rules (attempt rule state).state (All-tail RuleKeeps rule rules all)
+      (All-head RuleKeeps rule rules all state h)
 
-  pub settled-keeps : (rules : List RuleMeaning) (rounds : ℕ) (changed : Bool) (state : State) → All RuleKeeps rules → Kept state.grid →
+  pub settled-keeps : (rules : List RuleMeaning) (rounds : ℕ) (changed : Bool) (state : State) → All RuleKeeps rules →
+      Kept state.grid →
       Kept (settled rules rounds changed state).state.grid
   settled-keeps rules zero changed state all h = h
   settled-keeps rules (suc rounds) changed state all h =
       let next : Result = round rules state in
       let kept : Kept next.state.grid = round-keeps rules state all h in
-      either_way ResultKeeps next.changed (settled rules rounds true next.state) (record { state = next.state; changed = changed })
+      either_way ResultKeeps next.changed (settled rules rounds true next.state)
+      (record { state = next.state; changed = changed })
       (settled-keeps rules rounds true next.state all kept) kept
 
-  pub group-keeps : (rules : List RuleMeaning) (state : State) → All RuleKeeps rules → Kept state.grid → Kept (group rules state).state.grid
+  pub group-keeps : (rules : List RuleMeaning) (state : State) → All RuleKeeps rules → Kept state.grid →
+      Kept (group rules state).state.grid
   unfolding group
   group-keeps rules state all h = settled-keeps rules ROUND_LIMIT false state all h
 
-  pub pass-keeps : (body : List (List RuleMeaning)) (state : State) → All (All RuleKeeps) body → Kept state.grid → Kept (pass body state).state.grid
+  pub pass-keeps : (body : List (List RuleMeaning)) (state : State) → All (All RuleKeeps) body → Kept state.grid →
+      Kept (pass body state).state.grid
   pass-keeps [] state all h = h
   pass-keeps (rules ∷ others) state all h =
-      pass-keeps others (group rules state).state (All-tail (All RuleKeeps) rules others all) (group-keeps rules state (All-head (All RuleKeeps) rules others all) h)
+      pass-keeps others (group rules state).state (All-tail (All RuleKeeps) rules others all)
+      (group-keeps rules state (All-head (All RuleKeeps) rules others all) h)
 
-  pub looped-keeps : (body : List (List RuleMeaning)) (repeats : ℕ) (state : State) → All (All RuleKeeps) body → Kept state.grid → Kept (looped body repeats state).state.grid
+  pub looped-keeps : (body : List (List RuleMeaning)) (repeats : ℕ) (state : State) → All (All RuleKeeps) body →
+      Kept state.grid → Kept (looped body repeats state).state.grid
   looped-keeps body zero state all h = pass-keeps body state all h
   looped-keeps body (suc repeats) state all h =
       let next : Result = pass body state in
       let kept : Kept next.state.grid = pass-keeps body state all h in
-      either_way ProgressKeeps next.changed (looped body repeats next.state) (record { state = next.state; repeats = suc repeats; stopped = false })
+      either_way ProgressKeeps next.changed (looped body repeats next.state)
+      (record { state = next.state; repeats = suc repeats; stopped = false })
       (looped-keeps body repeats next.state all kept) kept
 
-  pub section_run-keeps : (section : Section) (repeats : ℕ) (state : State) → SectionKeeps section → Kept state.grid → Kept (section_run section repeats state).state.grid
+  pub section_run-keeps : (section : Section) (repeats : ℕ) (state : State) → SectionKeeps section → Kept state.grid →
+      Kept (section_run section repeats state).state.grid
   section_run-keeps (Group rules) repeats state all h = group-keeps rules state all h
   section_run-keeps (Loop body) repeats state all h = looped-keeps body repeats state all h
 
-  pub sections_run-keeps : (sections : List Section) (repeats : ℕ) (state : State) → All SectionKeeps sections → Kept state.grid → Kept (sections_run sections repeats state).grid
+  pub sections_run-keeps : (sections : List Section) (repeats : ℕ) (state : State) → All SectionKeeps sections →
+      Kept state.grid → Kept (sections_run sections repeats state).grid
   sections_run-keeps [] repeats state all h = h
   sections_run-keeps (section ∷ others) repeats state all h =
       let next : Progress = section_run section repeats state in
-      let kept : Kept next.state.grid = section_run-keeps section repeats state (All-head SectionKeeps section others all) h in
+      let kept : Kept next.state.grid = section_run-keeps section repeats state
+      (All-head SectionKeeps section others all) h in
       either_way StateKeeps next.stopped next.state (sections_run others next.repeats next.state)
       kept (sections_run-keeps others next.repeats next.state (All-tail SectionKeeps section others all) kept)
 
-  pub program_run-keeps : (sections : List Section) (state : State) → All SectionKeeps sections → Kept state.grid → Kept (program_run sections state).grid
+  pub program_run-keeps : (sections : List Section) (state : State) → All SectionKeeps sections → Kept state.grid →
+      Kept (program_run sections state).grid
   unfolding program_run
   program_run-keeps sections state all h = sections_run-keeps sections REPEAT_LIMIT state all h

@@ -12,5 +12,7 @@ use Rattle.ps_laws.proofs.common.RuleSections.{rules-game, program-each}
 use Rattle.ps_laws.proofs.grids.KeptCells.{meanings-keep}
 
 -- the program of lines of a game
-pub program_of-keep : (names : Names) (part : Part) (lines : List RuleLine) → All (IsLineOf names) lines → All (KeepsInSection names) (program_of names part lines)
-program_of-keep names part lines all = program-each (IsRuleOf names) (Keeps names) (meanings names) (meanings-keep names) part lines (rules-game names lines all)
+pub program_of-keep : (names : Names) (part : Part) (lines : List RuleLine) → All (IsLineOf names) lines →
+    All (KeepsInSection names) (program_of names part lines)
+program_of-keep names part lines all = program-each (IsRuleOf names) (Keeps names) (meanings names)
+    (meanings-keep names) part lines (rules-game names lines all)

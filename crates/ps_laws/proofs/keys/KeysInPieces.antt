@@ -7,10 +7,11 @@ use Rattle.ps_model.specs.declared.held.Held.TheVariants.{Nothing, Escape, Brack
 use Rattle.ps_model.specs.declared.play.Key.{Key}
 use Rattle.ps_model.specs.session.Keys.{keys_of}
 use Rattle.ps_model.specs.session.HeldKeys.{is_begun_arrow, held, before_held, bytes_of, key_behind, held_behind}
-use Rattle.ps_laws.specs.ReadingInPieces.{HeldAtEnd, HeldIsBegun, HeldIsSilent, KeysInPieces, ReadPieceByPiece, ReadByteByByte}
+use Rattle.ps_laws.specs.ReadingInPieces.{HeldAtEnd, HeldIsBegun, HeldIsSilent, KeysInPieces, ReadPieceByPiece}
+use Rattle.ps_laws.specs.ReadingInPieces.{ReadByteByByte}
 use Rattle.ps_laws.proofs.keys.HeldKeys.{one_byte_more, held_one_more}
 
--- a piece --------------------------------------------------------------------------------------------------------------
+-- a piece -------------------------------------------------------------------------------------------------------------
 
 -- what is held behind a piece, and the keys of it
 abbrev held_behind_all : Held → List ℕ → Held
@@ -19,15 +20,18 @@ held_behind_all kept (byte ∷ bytes) = held_behind_all (held_behind kept byte) 
 
 abbrev keys_behind_all : Held → List ℕ → List Key
 keys_behind_all kept [] = []
-keys_behind_all kept (byte ∷ bytes) = option_to_list (key_behind kept byte) ++ keys_behind_all (held_behind kept byte) bytes
+keys_behind_all kept (byte ∷ bytes) = option_to_list (key_behind kept byte) ++ keys_behind_all (held_behind kept byte)
+    bytes
 
 keys_of-piece : (kept : Held) (piece others : List ℕ) →
-    keys_of (bytes_of kept ++ (piece ++ others)) ≡ keys_behind_all kept piece ++ keys_of (bytes_of (held_behind_all kept piece) ++ others)
+    keys_of (bytes_of kept ++ (piece ++ others)) ≡ keys_behind_all kept piece ++ keys_of
+    (bytes_of (held_behind_all kept piece) ++ others)
 keys_of-piece kept [] others = refl
 keys_of-piece kept (byte ∷ bytes) others =
     one_byte_more kept byte (bytes ++ others)
     ∙ ap (λ l. option_to_list (key_behind kept byte) ++ l) (keys_of-piece (held_behind kept byte) bytes others)
-    ∙ sym (append_assoc (option_to_list (key_behind kept byte)) (keys_behind_all (held_behind kept byte) bytes) (keys_of (bytes_of (held_behind_all (held_behind kept byte) bytes) ++ others)))
+    ∙ sym (append_assoc (option_to_list (key_behind kept byte)) (keys_behind_all (held_behind kept byte) bytes)
+    (keys_of (bytes_of (held_behind_all (held_behind kept byte) bytes) ++ others)))
 
 held-nothing_more : (kept : Held) → held (bytes_of kept ++ []) ≡ bytes_of kept
 held-nothing_more Nothing = refl
@@ -46,16 +50,20 @@ keys_of-nothing_more Bracket = refl
 keys_of-whole : (piece : List ℕ) → keys_of piece ≡ keys_behind_all Nothing piece
 keys_of-whole piece =
     ap keys_of (sym (append-nil piece)) ∙ keys_of-piece Nothing piece []
-    ∙ ap (λ l. keys_behind_all Nothing piece ++ l) (keys_of-nothing_more (held_behind_all Nothing piece)) ∙ append-nil (keys_behind_all Nothing piece)
+    ∙ ap (λ l. keys_behind_all Nothing piece ++ l) (keys_of-nothing_more (held_behind_all Nothing piece))
+    ∙ append-nil (keys_behind_all Nothing piece)
 
 -- the keys of two pieces are those of the first, and then those of what is held of it and the second
-pub keys_of-append : (first second : List ℕ) → keys_of (first ++ second) ≡ keys_of first ++ keys_of (held first ++ second)
+pub keys_of-append : (first second : List ℕ) →
+    keys_of (first ++ second) ≡ keys_of first ++ keys_of (held first ++ second)
 keys_of-append first second =
     keys_of-piece Nothing first second
-    ∙ ap (λ (l : List Key). l ++ keys_of (bytes_of (held_behind_all Nothing first) ++ second)) (sym (keys_of-whole first))
+    ∙ ap (λ (l : List Key). l ++ keys_of (bytes_of (held_behind_all Nothing first) ++ second))
+    (sym (keys_of-whole first))
     ∙ ap (λ (l : List ℕ). keys_of first ++ keys_of (l ++ second)) (sym (held-piece Nothing first))
 
-held_behind_all-append : (kept : Held) (first second : List ℕ) → held_behind_all kept (first ++ second) ≡ held_behind_all (held_behind_all kept first) second
+held_behind_all-append : (kept : Held) (first second : List ℕ) →
+    held_behind_all kept (first ++ second) ≡ held_behind_all (held_behind_all kept first) second
 held_behind_all-append kept [] second = refl
 held_behind_all-append kept (byte ∷ bytes) second = held_behind_all-append (held_behind kept byte) bytes second
 
@@ -67,13 +75,14 @@ held-append first second =
     ∙ ap bytes_of (sym (held_behind_all-append Nothing first second))
     ∙ sym (held-piece Nothing (first ++ second))
 
--- laws -----------------------------------------------------------------------------------------------------------------
+-- laws ----------------------------------------------------------------------------------------------------------------
 
 pub held_is_begun : HeldIsBegun
 held_is_begun bytes = (held_behind_all Nothing bytes, held-piece Nothing bytes)
 
 at_end : (byte : ℕ) (bytes : List ℕ) (is_begun : Bool) → before_held bytes ++ held bytes ≡ bytes →
-    elim is_begun [ true ↦ [] | false ↦ byte ∷ before_held bytes ] ++ elim is_begun [ true ↦ byte ∷ bytes | false ↦ held bytes ] ≡ byte ∷ bytes
+    elim is_begun [ true ↦ [] | false ↦ byte ∷ before_held bytes ] ++ elim is_begun
+    [ true ↦ byte ∷ bytes | false ↦ held bytes ] ≡ byte ∷ bytes
 at_end byte bytes true e = refl
 at_end byte bytes false e = ap (λ l. byte ∷ l) e
 
@@ -100,7 +109,8 @@ pub keys_of-before_held : (bytes : List ℕ) → keys_of (before_held bytes) ≡
 keys_of-before_held bytes =
     let none : keys_of (held (before_held bytes) ++ held bytes) ≡ [] =
     ap (λ (l : List ℕ). keys_of (l ++ held bytes)) (held-piece Nothing (before_held bytes))
-    ∙ ap (λ (l : List ℕ). keys_of (bytes_of (held_behind_all Nothing (before_held bytes)) ++ l)) (held-piece Nothing bytes)
+    ∙ ap (λ (l : List ℕ). keys_of (bytes_of (held_behind_all Nothing (before_held bytes)) ++ l))
+    (held-piece Nothing bytes)
     ∙ silent (held_behind_all Nothing (before_held bytes)) (held_behind_all Nothing bytes) in
     sym (append-nil (keys_of (before_held bytes)))
     ∙ ap (λ (l : List Key). keys_of (before_held bytes) ++ l) (sym none)
@@ -111,7 +121,8 @@ pub held_is_silent : HeldIsSilent
 held_is_silent bytes = (keys_of-held bytes, keys_of-before_held bytes)
 
 pub keys_in_pieces : KeysInPieces
-keys_in_pieces first second = keys_of-append first second ∙ ap (λ (l : List Key). l ++ keys_of (held first ++ second)) (sym (keys_of-before_held first))
+keys_in_pieces first second = keys_of-append first second
+    ∙ ap (λ (l : List Key). l ++ keys_of (held first ++ second)) (sym (keys_of-before_held first))
 
 pub read_piece_by_piece : ReadPieceByPiece
 read_piece_by_piece read piece kept e = rw e (
@@ -121,11 +132,13 @@ read_piece_by_piece read piece kept e = rw e (
 
 read_byte : (byte : ℕ) (kept : Held) → keys_of (bytes_of kept ++ byte ∷ []) ≡ option_to_list (key_behind kept byte)
 read_byte byte kept =
-    one_byte_more kept byte [] ∙ ap (λ (l : List Key). option_to_list (key_behind kept byte) ++ l) (keys_of-nothing_more (held_behind kept byte))
+    one_byte_more kept byte [] ∙ ap (λ (l : List Key).
+    option_to_list (key_behind kept byte) ++ l) (keys_of-nothing_more (held_behind kept byte))
     ∙ append-nil (option_to_list (key_behind kept byte))
 
 pub read_byte_by_byte : ReadByteByByte
 read_byte_by_byte read byte kept e = (
-  ap (λ (l : List Key). keys_of read ++ l) (sym (read_byte byte kept) ∙ ap (λ (l : List ℕ). keys_of (l ++ byte ∷ [])) e) ∙ sym (keys_of-append read (byte ∷ [])),
+  ap (λ (l : List Key). keys_of read ++ l) (sym (read_byte byte kept)
+      ∙ ap (λ (l : List ℕ). keys_of (l ++ byte ∷ [])) e) ∙ sym (keys_of-append read (byte ∷ [])),
   sym (held-piece kept (byte ∷ [])) ∙ ap (λ (l : List ℕ). held (l ++ byte ∷ [])) e ∙ held-append read (byte ∷ []),
 )

@@ -24,10 +24,14 @@ pub compiled_program-same : (names : Names) (part : Part) (lines : List RuleLine
     AllZip (SameSection names) (meaning_of_program (compiled_program names part lines)) (program_of names part lines)
 compiled_program-same names part lines all =
     program-related (IsRuleOf names) (SameGroup names) (compiled_rules names) (map meaning_of_rule) (meanings names)
-    (AllZip-flat_map (IsRuleOf names) (SameRule names) (compiled_rules names) meaning_of_rule (meanings names) (compiled_rules-same names)) part lines (rules-game names lines all)
+    (AllZip-flat_map (IsRuleOf names) (SameRule names) (compiled_rules names) meaning_of_rule (meanings names)
+    (compiled_rules-same names)) part lines (rules-game names lines all)
 
 -- so both run alike
-pub compiled_program-runs : (names : Names) (part : Part) (lines : List RuleLine) → All (IsLineOf names) lines → (state : State) → IsGridOf names state.grid →
-    EqualStates names (program_run (meaning_of_program (compiled_program names part lines)) state) (program_run (program_of names part lines) state)
+pub compiled_program-runs : (names : Names) (part : Part) (lines : List RuleLine) → All (IsLineOf names) lines →
+    (state : State) → IsGridOf names state.grid →
+    EqualStates names (program_run (meaning_of_program (compiled_program names part lines)) state)
+    (program_run (program_of names part lines) state)
 compiled_program-runs names part lines all =
-    program_run-same names (meaning_of_program (compiled_program names part lines)) (program_of names part lines) (compiled_program-same names part lines all)
+    program_run-same names (meaning_of_program (compiled_program names part lines)) (program_of names part lines)
+    (compiled_program-same names part lines all)

@@ -1,5 +1,6 @@
 -- Steps that are equal, and whose boards are such grids: what they are made of.
-use Rattle.std.proofs.Common.{◌≡◌, ℕ, ◌-◌, Bool, true, false, Option, Some, None, List, [], ◌∷◌, ◌++◌, length, slice_get, refl, ◌∙◌, ap}
+use Rattle.std.proofs.Common.{◌≡◌, ℕ, ◌-◌, Bool, true, false, Option, Some, None, List, [], ◌∷◌, ◌++◌, length}
+use Rattle.std.proofs.Common.{slice_get, refl, ◌∙◌, ap}
 use Rattle.std.specs.Prelude.{All, ⊤}
 use Rattle.std.proofs.lemmas.List.Elements.{All-nil, All-cons, All-append, All-drop, All-take}
 use Rattle.ps_model.specs.declared.limits.TheConstants.{HISTORY_LIMIT}
@@ -18,7 +19,16 @@ use Rattle.ps_laws.proofs.common.Everywhere.{either_one, All-slice_get}
 
 -- the script with other rules
 abbrev pub with_rules : Script → List Section → List Section → Script
-with_rules a plain late = record { title = a.title; options = a.options; names = a.names; plain = plain; late = late; entries = a.entries; wins = a.wins }
+with_rules a plain late = record {
+  title = a.title;
+  options = a.options;
+  names = a.names;
+  plain = plain;
+  late =
+      late;
+  entries = a.entries;
+  wins = a.wins;
+}
 
 -- the entry is a level that is loaded as such a grid, or a message
 abbrev pub LoadsAs : (Grid → Type 0) → Names → Entry → Type 0
@@ -35,44 +45,64 @@ module _ (IsSuch : Grid → Type 0) where
   abbrev pub FromLevels : (Play → Step) → (Play → Step) → Type 0
   FromLevels f g = (play : Play) → AreBoards IsSuch play → EqualSteps IsSuch (f play) (g play)
 
-  -- steps -----------------------------------------------------------------------------------------------------------------
+  -- steps -------------------------------------------------------------------------------------------------------------
 
   pub same_step : (step : Step) → AreBoardsIn IsSuch step.session → EqualSteps IsSuch step step
   same_step step h = record { equal = refl; boards = h }
 
-  pub after-equal : (text : List ℕ) (x y : Step) → EqualSteps IsSuch x y → EqualSteps IsSuch (after text x) (after text y)
+  pub after-equal : (text : List ℕ) (x y : Step) → EqualSteps IsSuch x y →
+      EqualSteps IsSuch (after text x) (after text y)
   after-equal text x y h = record { equal = ap (after text) h.equal; boards = h.boards }
 
   -- steps by equal outcomes
-  pub by_outcome : (x y : Outcome) → EqualOutcomes IsSuch x y → (f g : Outcome → Step) → ((outcome : Outcome) → HasBoard IsSuch outcome → EqualSteps IsSuch (f outcome) (g outcome)) →
+  pub by_outcome : (x y : Outcome) → EqualOutcomes IsSuch x y → (f g : Outcome → Step) →
+      ((outcome : Outcome) → HasBoard IsSuch outcome → EqualSteps IsSuch (f outcome) (g outcome)) →
       EqualSteps IsSuch (f x) (g y)
   by_outcome x y h f g each = record { equal = (each x h.board).equal ∙ ap g h.equal; boards = (each x h.board).boards }
 
-  -- boards ----------------------------------------------------------------------------------------------------------------
+  -- boards ------------------------------------------------------------------------------------------------------------
 
-  pub with_turn-boards : (play : Play) (done : Done) → AreBoards IsSuch play → IsSuch done.board → AreBoards IsSuch (with_turn play done)
-  with_turn-boards play done h board = record { board = board; history = h.history; restart_board = either_one IsSuch done.checkpoint done.board play.restart_board board h.restart_board }
+  pub with_turn-boards : (play : Play) (done : Done) → AreBoards IsSuch play → IsSuch done.board →
+      AreBoards IsSuch (with_turn play done)
+  with_turn-boards play done h board = record {
+    board = board;
+    history = h.history;
+    restart_board =
+        either_one IsSuch done.checkpoint done.board play.restart_board board h.restart_board;
+  }
 
-  pub with_restart_board-boards : (play : Play) → AreBoards IsSuch play → AreBoards IsSuch (with_board play play.restart_board)
-  with_restart_board-boards play h = record { board = h.restart_board; history = h.history; restart_board = h.restart_board }
+  pub with_restart_board-boards : (play : Play) → AreBoards IsSuch play →
+      AreBoards IsSuch (with_board play play.restart_board)
+  with_restart_board-boards play h = record {
+    board = h.restart_board;
+    history = h.history;
+    restart_board =
+        h.restart_board;
+  }
 
-  pub with_board_in_history-boards : (play : Play) → AreBoards IsSuch play → AreBoards IsSuch (with_board_in_history play)
+  pub with_board_in_history-boards : (play : Play) → AreBoards IsSuch play →
+      AreBoards IsSuch (with_board_in_history play)
   with_board_in_history-boards play h =
       let boards : List Grid = play.history ++ play.board ∷ [] in
       record {
         board = h.board;
-        history = All-drop IsSuch (length boards - HISTORY_LIMIT) boards (All-append IsSuch play.history (play.board ∷ []) h.history (All-cons IsSuch play.board [] h.board (All-nil IsSuch)));
+        history = All-drop IsSuch (length boards - HISTORY_LIMIT) boards
+            (All-append IsSuch play.history (play.board ∷ []) h.history
+            (All-cons IsSuch play.board [] h.board (All-nil IsSuch)));
         restart_board = h.restart_board;
       }
 
-  pub with_board_in_history_if-boards : (changed : Bool) (play : Play) → AreBoards IsSuch play → AreBoards IsSuch (with_board_in_history_if changed play)
+  pub with_board_in_history_if-boards : (changed : Bool) (play : Play) → AreBoards IsSuch play →
+      AreBoards IsSuch (with_board_in_history_if changed play)
   with_board_in_history_if-boards true play h = with_board_in_history-boards play h
   with_board_in_history_if-boards false play h = h
 
   pub seen-boards : (script : Script) (play : Play) → AreBoards IsSuch play → AreBoards IsSuch (seen script play)
   seen-boards script play h = record { board = h.board; history = h.history; restart_board = h.restart_board }
 
-  pub back_at-boards : (script : Script) (play : Play) (found : Option Grid) → slice_get play.history (length play.history - 1) ≡ found → AreBoards IsSuch play → AreBoards IsSuch (back_at script play found)
+  pub back_at-boards : (script : Script) (play : Play) (found : Option Grid) →
+      slice_get play.history (length play.history - 1) ≡ found → AreBoards IsSuch play →
+      AreBoards IsSuch (back_at script play found)
   back_at-boards script play None e h = h
   back_at-boards script play (Some latest) e h = record {
     board = All-slice_get IsSuch play.history (length play.history - 1) latest h.history e;

@@ -1,5 +1,6 @@
 -- Steps of a session one by one.
-use Rattle.std.proofs.Common.{◌≡◌, ℕ, ◌+◌, ◌-◌, Option, Some, None, List, [], ◌∷◌, ◌++◌, length, take, slice_get, refl, sym, ◌∙◌, ap, ap₂, arith, append_assoc}
+use Rattle.std.proofs.Common.{◌≡◌, ℕ, ◌+◌, ◌-◌, Option, Some, None, List, [], ◌∷◌, ◌++◌, length, take, slice_get, refl}
+use Rattle.std.proofs.Common.{sym, ◌∙◌, ap, ap₂, arith, append_assoc}
 use Rattle.std.specs.Prelude.{option_to_list}
 use Rattle.std.proofs.Math.Seq.{take-append_seam}
 use Rattle.std.proofs.lemmas.List.{append-nil, length-append}
@@ -14,7 +15,10 @@ use Rattle.ps_model.specs.session.StartSteps.{start_turn_by, start_turns, all_st
 use Rattle.ps_model.specs.session.KeySteps.{key_turn_by, key_turns, all_key_turns, key_done, back_at, key_step}
 use Rattle.ps_model.specs.game.Outputs.{opening_step, texts_of_keys}
 use Rattle.ps_laws.specs.Fronts.{session_after, session_of}
-use Rattle.ps_laws.specs.SessionSteps.{TurnsAreOutcomes, KeyTurnsAreLimited, StartTurnsAreLimited, KeyTurnsGoByOutcome, StartTurnsGoByOutcome, DoneWithHistory, TextsJoin, EmptyTextAddsNothing, UndoTakesLatest, UndoOfNothing, OpeningsAreEntered, FrontsAreTexts, SilentBytesWriteNothing, KeysWriteTheirTexts}
+use Rattle.ps_laws.specs.SessionSteps.{TurnsAreOutcomes, KeyTurnsAreLimited, StartTurnsAreLimited, KeyTurnsGoByOutcome}
+use Rattle.ps_laws.specs.SessionSteps.{StartTurnsGoByOutcome, DoneWithHistory, TextsJoin, EmptyTextAddsNothing}
+use Rattle.ps_laws.specs.SessionSteps.{UndoTakesLatest, UndoOfNothing, OpeningsAreEntered, FrontsAreTexts}
+use Rattle.ps_laws.specs.SessionSteps.{SilentBytesWriteNothing, KeysWriteTheirTexts}
 use Rattle.ps_laws.proofs.keys.Fronts.{session_after-append, texts_of_keys-append, whole_front-is}
 use Rattle.ps_laws.proofs.keys.KeysInPieces.{read_byte_by_byte}
 
@@ -40,40 +44,65 @@ pub done_with_history : DoneWithHistory
 done_with_history script play kept done e = ap (λ (p : Play). key_done script p done) e
 
 pub texts_join : TextsJoin
-texts_join first second step = ap (λ (l : List ℕ). let joined : Step = record { session = step.session; text = l } in joined) (sym (append_assoc first second step.text))
+texts_join first second step = ap (λ (l : List ℕ). let joined : Step = record { session = step.session; text = l } in
+    joined) (sym (append_assoc first second step.text))
 
 pub empty_text : EmptyTextAddsNothing
 empty_text step = refl
 
--- undo -------------------------------------------------------------------------------------------------------------------
+-- undo ----------------------------------------------------------------------------------------------------------------
 
 last_of : (earlier : List Grid) (latest : Grid) → slice_get (earlier ++ latest ∷ []) (length earlier) ≡ Some latest
 last_of [] latest = refl
 last_of (board ∷ earlier) latest = last_of earlier latest
 
 one_fewer : (earlier : List Grid) (latest : Grid) → length (earlier ++ latest ∷ []) - 1 ≡ length earlier
-one_fewer earlier latest = let long : length (earlier ++ latest ∷ []) ≡ length earlier + 1 = length-append earlier (latest ∷ []) in omega (arith, long)
+one_fewer earlier latest = let long : length (earlier ++ latest ∷ []) ≡ length earlier + 1 =
+    length-append earlier (latest ∷ []) in omega (arith, long)
 
-back_at-latest : (script : Script) (play : Play) (earlier : List Grid) (latest : Grid) → play.history ≡ earlier ++ latest ∷ [] →
-    back_at script play (slice_get play.history (length play.history - 1)) ≡ seen script (record { entry = play.entry; board = latest; history = earlier; restart_board = play.restart_board; room = play.room })
+back_at-latest : (script : Script) (play : Play) (earlier : List Grid) (latest : Grid) →
+    play.history ≡ earlier ++ latest ∷ [] →
+    back_at script play (slice_get play.history (length play.history - 1)) ≡ seen script
+    (record {
+      entry = play.entry;
+      board = latest;
+      history = earlier;
+      restart_board = play.restart_board;
+      room =
+          play.room;
+    })
 back_at-latest script play earlier latest e =
     let boards : List Grid = earlier ++ latest ∷ [] in
-    let count : length play.history - 1 ≡ length earlier = ap (λ (l : List Grid). length l - 1) e ∙ one_fewer earlier latest in
-    let found : slice_get play.history (length play.history - 1) ≡ Some latest = ap₂ (λ (l : List Grid) (n : ℕ). slice_get l n) e count ∙ last_of earlier latest in
-    let left : take (length play.history - 1) play.history ≡ earlier = ap₂ (λ (n : ℕ) (l : List Grid). take n l) count e ∙ take-append_seam earlier (latest ∷ []) in
+    let count : length play.history - 1 ≡ length earlier = ap (λ (l : List Grid). length l - 1) e
+    ∙ one_fewer earlier latest in
+    let found : slice_get play.history (length play.history - 1) ≡ Some latest =
+    ap₂ (λ (l : List Grid) (n : ℕ). slice_get l n) e count ∙ last_of earlier latest in
+    let left : take (length play.history - 1) play.history ≡ earlier =
+    ap₂ (λ (n : ℕ) (l : List Grid). take n l) count e ∙ take-append_seam earlier (latest ∷ []) in
     ap (back_at script play) found
-    ∙ ap (λ (l : List Grid). let back : Play = seen script (record { entry = play.entry; board = latest; history = l; restart_board = play.restart_board; room = play.room }) in back) left
+    ∙ ap (λ (l : List Grid). let back : Play =
+    seen script (record {
+      entry = play.entry;
+      board = latest;
+      history = l;
+      restart_board =
+          play.restart_board;
+      room = play.room;
+    }) in back) left
 
 pub undo_takes_latest : UndoTakesLatest
 undo_takes_latest script play earlier latest e =
-    ap (λ (back : Play). let step : Step = record { session = Playing back; text = shown script back } in step) (back_at-latest script play earlier latest e)
+    ap (λ (back : Play). let step : Step = record { session = Playing back; text = shown script back } in
+    step) (back_at-latest script play earlier latest e)
 
 pub undo_of_nothing : UndoOfNothing
 undo_of_nothing script play e =
-    let found : slice_get play.history (length play.history - 1) ≡ None = ap (λ (l : List Grid). slice_get l (length l - 1)) e in
-    ap (λ (back : Play). let step : Step = record { session = Playing back; text = shown script back } in step) (ap (back_at script play) found)
+    let found : slice_get play.history (length play.history - 1) ≡ None =
+    ap (λ (l : List Grid). slice_get l (length l - 1)) e in
+    ap (λ (back : Play). let step : Step = record { session = Playing back; text = shown script back } in
+    step) (ap (back_at script play) found)
 
--- runs -------------------------------------------------------------------------------------------------------------------
+-- runs ----------------------------------------------------------------------------------------------------------------
 
 pub openings_are_entered : OpeningsAreEntered
 unfolding opening_step
@@ -83,15 +112,19 @@ pub fronts_are_texts : FrontsAreTexts
 fronts_are_texts script bytes = whole_front-is script bytes
 
 -- the keys of a byte more
-keys_more : (read : List ℕ) (byte : ℕ) (kept : Held) (found : Option Key) → bytes_of kept ≡ held read → key_behind kept byte ≡ found →
+keys_more : (read : List ℕ) (byte : ℕ) (kept : Held) (found : Option Key) → bytes_of kept ≡ held read →
+    key_behind kept byte ≡ found →
     keys_of (read ++ byte ∷ []) ≡ keys_of read ++ option_to_list found
-keys_more read byte kept found e k = sym (read_byte_by_byte read byte kept e).0 ∙ ap (λ (o : Option Key). keys_of read ++ option_to_list o) k
+keys_more read byte kept found e k = sym (read_byte_by_byte read byte kept e).0
+    ∙ ap (λ (o : Option Key). keys_of read ++ option_to_list o) k
 
 pub silent_bytes : SilentBytesWriteNothing
 silent_bytes script read byte kept e k =
-    let same : keys_of (read ++ byte ∷ []) ≡ keys_of read = keys_more read byte kept None e k ∙ append-nil (keys_of read) in (
+    let same : keys_of (read ++ byte ∷ []) ≡ keys_of read = keys_more read byte kept None e k
+    ∙ append-nil (keys_of read) in (
       whole_front-is script (read ++ byte ∷ [])
-          ∙ ap (λ (l : List Key). (opening_step script).text ++ texts_of_keys script (opening_step script).session l) same
+          ∙ ap (λ (l : List Key). (opening_step script).text ++ texts_of_keys script (opening_step script).session l)
+          same
           ∙ sym (whole_front-is script read),
       ap (session_after script (opening_step script).session) same,
     )
@@ -104,7 +137,8 @@ keys_write script read byte kept key e k =
       whole_front-is script (read ++ byte ∷ [])
           ∙ ap (λ (l : List Key). (opening_step script).text ++ texts_of_keys script start l) more
           ∙ ap (λ (l : List ℕ). (opening_step script).text ++ l)
-          (texts_of_keys-append script start (keys_of read) (key ∷ []) ∙ ap (λ (l : List ℕ). texts_of_keys script start (keys_of read) ++ l) (append-nil told))
+          (texts_of_keys-append script start (keys_of read) (key ∷ [])
+          ∙ ap (λ (l : List ℕ). texts_of_keys script start (keys_of read) ++ l) (append-nil told))
           ∙ sym (append_assoc (opening_step script).text (texts_of_keys script start (keys_of read)) told)
           ∙ ap (λ (l : List ℕ). l ++ told) (sym (whole_front-is script read)),
       ap (session_after script start) more ∙ session_after-append script start (keys_of read) (key ∷ []),

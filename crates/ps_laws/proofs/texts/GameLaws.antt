@@ -6,7 +6,8 @@ use Rattle.ps_model.specs.text.TextFaults.{text_fault}
 use Rattle.ps_model.specs.game.Games.{game_read, line_faults, game_of_lines, unless, faults, game}
 
 game_at : (o : Option Fault) (lines : List Line)
-    → elim o [ Some fault ↦ None | None ↦ game_of_lines lines ] ≡ unless (elim o [ Some fault ↦ fault ∷ [] | None ↦ line_faults lines ]) (game_read lines)
+    → elim o [ Some fault ↦ None | None ↦ game_of_lines lines ] ≡ unless
+    (elim o [ Some fault ↦ fault ∷ [] | None ↦ line_faults lines ]) (game_read lines)
 game_at (Some fault) lines = refl
 game_at None lines = refl
 

@@ -17,7 +17,8 @@ use Rattle.ps_model.specs.board.GameGrids.{IsCellOf}
 use Rattle.ps_model.specs.session.GameLevels.{IsEntryOf}
 use Rattle.ps_model.specs.game.Games.{Game}
 use Rattle.ps_model.specs.board.Turns.{script_of}
-use Rattle.ps_laws.specs.GamesOfTexts.{HasObject, LoadsAsGrid, GameRulesAreOfNames, GameEntriesAreOfNames, GameLevelsAreGrids, GridsOfGamesAreGrids, GameTurnsKeepAll}
+use Rattle.ps_laws.specs.GamesOfTexts.{HasObject, LoadsAsGrid, GameRulesAreOfNames, GameEntriesAreOfNames}
+use Rattle.ps_laws.specs.GamesOfTexts.{GameLevelsAreGrids, GridsOfGamesAreGrids, GameTurnsKeepAll}
 use Rattle.ps_laws.proofs.texts.FaultlessNames.{of_every_game}
 use Rattle.ps_laws.proofs.texts.BoundedNames.{names_read-bounded, game-bounded}
 use Rattle.ps_laws.proofs.texts.ObjectsThere.{names_read-have, game-has}
@@ -28,33 +29,40 @@ use Rattle.ps_laws.proofs.grids.KeptSides.{turn-sides}
 
 -- the names that are read from the lines of a text
 abbrev names_of_lines : List Line → Names
-names_of_lines lines = names_read (section_lines lines Objects) (section_lines lines Legend) (section_lines lines Layers)
+names_of_lines lines = names_read (section_lines lines Objects) (section_lines lines Legend)
+    (section_lines lines Layers)
 
 -- they have no fault
 abbrev AreFaultless : List Line → Type 0
-AreFaultless lines = name_faults (header_number lines Objects) (section_lines lines Objects) (section_lines lines Legend) (section_lines lines Layers) ≡ []
+AreFaultless lines = name_faults (header_number lines Objects) (section_lines lines Objects)
+    (section_lines lines Legend) (section_lines lines Layers) ≡ []
 
 lines-bounded : (lines : List Line) → AreFaultless lines → AreBounded (names_of_lines lines)
-lines-bounded lines none = names_read-bounded (header_number lines Objects) (section_lines lines Objects) (section_lines lines Legend) (section_lines lines Layers) none
+lines-bounded lines none = names_read-bounded (header_number lines Objects) (section_lines lines Objects)
+    (section_lines lines Legend) (section_lines lines Layers) none
 
 lines-have : (lines : List Line) → AreFaultless lines → HasObject (names_of_lines lines)
-lines-have lines none = names_read-have (header_number lines Objects) (section_lines lines Objects) (section_lines lines Legend) (section_lines lines Layers) none
+lines-have lines none = names_read-have (header_number lines Objects) (section_lines lines Objects)
+    (section_lines lines Legend) (section_lines lines Layers) none
 
 pub game-rules : GameRulesAreOfNames
 game-rules text read e =
-    of_every_game (λ (made : Game). All (IsLineOf made.names) made.rules) (λ lines none. rules_read-game (names_of_lines lines) (section_lines lines Rules) (lines-bounded lines none)) text read e
+    of_every_game (λ (made : Game). All (IsLineOf made.names) made.rules) (λ lines none.
+    rules_read-game (names_of_lines lines) (section_lines lines Rules) (lines-bounded lines none)) text read e
 
 pub game-entries : GameEntriesAreOfNames
 game-entries text read e =
     of_every_game (λ (made : Game). All (IsEntryOf made.names) made.entries)
-    (λ lines none. entries_read-game (names_of_lines lines) (section_lines lines Levels) (lines-bounded lines none) (lines-have lines none).0) text read e
+    (λ lines none. entries_read-game (names_of_lines lines) (section_lines lines Levels) (lines-bounded lines none)
+    (lines-have lines none).0) text read e
 
 loads : (names : Names) (entry : Entry) → IsEntryOf names entry → LoadsAsGrid names entry
 loads names (MessageEntry text) h = tt
 loads names (LevelEntry level) h = loaded-game names level h
 
 pub game-levels : GameLevelsAreGrids
-game-levels text read e = All-weaker (IsEntryOf read.names) (LoadsAsGrid read.names) (loads read.names) read.entries (game-entries text read e)
+game-levels text read e = All-weaker (IsEntryOf read.names) (LoadsAsGrid read.names) (loads read.names) read.entries
+    (game-entries text read e)
 
 pub game-grids : GridsOfGamesAreGrids
 game-grids text read e g h some_column columns some_row rows =
@@ -68,8 +76,12 @@ game-grids text read e g h some_column columns some_row rows =
       some_layer = omega (arith, h.layers, has.1);
       few_layers = omega (arith, h.layers, bounded.few_layers);
       cells = h.shape;
-      slots = All-weaker (IsCellOf read.names) (λ (cell : List Slot). length cell ≡ g.layers) (λ cell c. c.0 ∙ sym h.layers) g.cells h.cells;
+      slots = All-weaker (IsCellOf read.names) (λ (cell : List Slot). length cell ≡ g.layers) (λ cell c. c.0
+          ∙ sym h.layers) g.cells h.cells;
     }
 
 pub game-turns : GameTurnsKeepAll
-game-turns text read e input g h = (game_turn-keeps read input g (game-rules text read e) h, turn-sides (script_of read) input g)
+game-turns text read e input g h = (
+  game_turn-keeps read input g (game-rules text read e) h,
+  turn-sides (script_of read) input g,
+)

@@ -7,7 +7,8 @@ use Rattle.ps_model.specs.text.Lines.{lines_of}
 use Rattle.ps_model.specs.game.Games.{Game, game_read, unless, faults}
 use Rattle.ps_model.specs.text.Faults.{first_fault}
 use Rattle.ps_model.specs.game.HeldFaults.{hidden_faults, IsFaultOf}
-use Rattle.ps_laws.specs.OneGame.{AtMostOneGame, FaultBarsGame, FaultlessIsGame, GameIsFaultless, GameOrFault, FirstIsFault}
+use Rattle.ps_laws.specs.OneGame.{AtMostOneGame, FaultBarsGame, FaultlessIsGame, GameIsFaultless, GameOrFault}
+use Rattle.ps_laws.specs.OneGame.{FirstIsFault}
 use Rattle.ps_laws.proofs.texts.HeldFaults.{hidden_are_behind}
 use Rattle.ps_laws.proofs.texts.GameLaws.{game_unless}
 
@@ -39,12 +40,14 @@ faultless : (found : List Fault) (read made : Game) → unless found read ≡ So
 faultless [] read made e = (refl, same_Some made read (sym e))
 faultless (first ∷ others) read made e = absurd (cc)
 
-either : (found : List Fault) (read : Game) → (unless found read ≡ Some read) ⊎ ((fault : Fault) × (first_fault found ≡ Some fault))
+either : (found : List Fault) (read : Game) → (unless found read ≡ Some read) ⊎
+    ((fault : Fault) × (first_fault found ≡ Some fault))
 either [] read = inl refl
 either (first ∷ others) read = inr (first, refl)
 
 pub fault_bars_game : FaultBarsGame
-fault_bars_game text fault held = game_unless text ∙ barred (faults text) (game_read (lines_of text)) (listed text fault held)
+fault_bars_game text fault held = game_unless text
+    ∙ barred (faults text) (game_read (lines_of text)) (listed text fault held)
 
 pub faultless_is_game : FaultlessIsGame
 faultless_is_game text e = game_unless text ∙ ap (λ (found : List Fault). unless found (game_read (lines_of text))) e

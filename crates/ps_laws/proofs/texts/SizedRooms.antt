@@ -1,5 +1,6 @@
 -- The size of a game's rooms is within the limits; without a line that asks for rooms there are none.
-use Rattle.std.proofs.Common.{◌≡◌, ℕ, ◌≤◌, Bool, true, false, ◌&&◌, ◌||◌, cond, List, [], ◌∷◌, Option, Some, None, refl, sym, ap, ◌∙◌, arith}
+use Rattle.std.proofs.Common.{◌≡◌, ℕ, ◌≤◌, Bool, true, false, ◌&&◌, ◌||◌, cond, List, [], ◌∷◌, Option, Some, None, refl}
+use Rattle.std.proofs.Common.{sym, ap, ◌∙◌, arith}
 use Rattle.std.specs.Prelude.{IfSome, nat_le, find, option_and_then, slice_index_or}
 use Rattle.std.specs.List.{list_any, before_first, after_first}
 use Rattle.std.specs.Str.Parse.{digits_value}
@@ -18,7 +19,7 @@ use Rattle.ps_laws.specs.GamesOfTexts.{GameRoomsAreSized, GamesWithoutRooms}
 use Rattle.ps_laws.proofs.texts.OneGame.{game_is_faultless}
 use Rattle.ps_laws.proofs.texts.FaultlessNames.{of_every_faultless}
 
--- sizes ------------------------------------------------------------------------------------------------------------------
+-- sizes ---------------------------------------------------------------------------------------------------------------
 
 both : (a b : Bool) → (a && b) ≡ true → (a ≡ true) × (b ≡ true)
 both true b e = (refl, e)
@@ -42,9 +43,11 @@ if_side false number h = tt
 side-within : (bytes : List ℕ) → IfSome (side_of bytes) IsSide
 side-within bytes =
     let number : ℕ = digits_value 10 bytes in
-    if_side (are_few_digits bytes && is_side number) number (λ e. within number (both (are_few_digits bytes) (is_side number) e).1)
+    if_side (are_few_digits bytes && is_side number) number (λ e.
+    within number (both (are_few_digits bytes) (is_side number) e).1)
 
-sides-sized : (width height : Option ℕ) → IfSome width IsSide → IfSome height IsSide → IfSome (size_of_sides width height) IsRoomSize
+sides-sized : (width height : Option ℕ) → IfSome width IsSide → IfSome height IsSide →
+    IfSome (size_of_sides width height) IsRoomSize
 sides-sized None height w h = tt
 sides-sized (Some width) None w h = tt
 sides-sized (Some width) (Some height) w h = record { some_column = w.0; columns = w.1; some_row = h.0; rows = h.1 }
@@ -62,17 +65,20 @@ options-sized prelude = line-sized (find asks_for_rooms prelude)
 
 pub game-rooms : GameRoomsAreSized
 game-rooms text read e =
-    of_every_faultless (λ (made : Game). HasRoomSize made.options) (λ lines none. options-sized (section_lines lines Prelude)) text read e
+    of_every_faultless (λ (made : Game). HasRoomSize made.options) (λ lines none.
+    options-sized (section_lines lines Prelude)) text read e
 
--- no rooms ---------------------------------------------------------------------------------------------------------------
+-- no rooms ------------------------------------------------------------------------------------------------------------
 
-none_by : (here later : Bool) (line : Line) (found : Option Line) → (here || later) ≡ false → (later ≡ false → found ≡ None) → cond here (Some line) found ≡ None
+none_by : (here later : Bool) (line : Line) (found : Option Line) → (here || later) ≡ false →
+    (later ≡ false → found ≡ None) → cond here (Some line) found ≡ None
 none_by true later line found e h = absurd (false≢true (sym e))
 none_by false later line found e h = h e
 
 none-found : (prelude : List Line) → list_any asks_for_rooms prelude ≡ false → find asks_for_rooms prelude ≡ None
 none-found [] e = refl
-none-found (line ∷ lines) e = none_by (asks_for_rooms line) (list_any asks_for_rooms lines) line (find asks_for_rooms lines) e (none-found lines)
+none-found (line ∷ lines) e = none_by (asks_for_rooms line) (list_any asks_for_rooms lines) line
+    (find asks_for_rooms lines) e (none-found lines)
 
 pub game-without : GamesWithoutRooms
 game-without text read e none =

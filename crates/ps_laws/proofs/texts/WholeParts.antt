@@ -1,4 +1,5 @@
--- The parts into which elements of a kind cut a list have an element each, where no such element is first, last or right
+-- The parts into which elements of a kind cut a list have an element each, where no such element is first, last or
+-- right
 -- behind another one.
 use Rattle.std.proofs.Common.{◌≡◌, Bool, true, false, List, [], ◌∷◌, cond, sym, subst, arith}
 use Rattle.std.specs.Prelude.{All, ⊤, drop}
@@ -19,11 +20,13 @@ begun true parts = parts
 begun false parts = drop 1 parts
 
 -- one more element before the parts
-onto-whole : {A : Type 0} (x : A) (parts : List (List A)) → All HasCells (drop 1 parts) → All HasCells (onto_first x parts)
+onto-whole : {A : Type 0} (x : A) (parts : List (List A)) → All HasCells (drop 1 parts) →
+    All HasCells (onto_first x parts)
 onto-whole x [] all = All-cons HasCells (x ∷ []) [] (omega arith) (All-nil HasCells)
 onto-whole x (part ∷ parts) all = All-cons HasCells (x ∷ part) parts (omega arith) all
 
-onto-later : {A : Type 0} (x : A) (parts : List (List A)) → All HasCells (drop 1 parts) → All HasCells (drop 1 (onto_first x parts))
+onto-later : {A : Type 0} (x : A) (parts : List (List A)) → All HasCells (drop 1 parts) →
+    All HasCells (drop 1 (onto_first x parts))
 onto-later x [] all = All-nil HasCells
 onto-later x (part ∷ parts) all = all
 
@@ -38,6 +41,7 @@ pub parts-whole : {A : Type 0} (cuts : A → Bool) (behind : Bool) (xs : List A)
 parts-whole cuts true [] h = absurd h
 parts-whole cuts false [] h = All-nil HasCells
 parts-whole cuts true (x ∷ xs) h =
-    subst (λ (here : Bool). All HasCells (cond here ([] ∷ slice_split cuts xs) (onto_first x (slice_split cuts xs)))) (sym h.0)
+    subst (λ (here : Bool). All HasCells (cond here ([] ∷ slice_split cuts xs) (onto_first x (slice_split cuts xs))))
+    (sym h.0)
     (onto-whole x (slice_split cuts xs) (parts-whole cuts false xs h.1))
 parts-whole cuts false (x ∷ xs) h = later-whole x (slice_split cuts xs) (cuts x) (parts-whole cuts (cuts x) xs h)

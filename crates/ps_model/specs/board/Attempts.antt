@@ -25,7 +25,7 @@ pub record Result : Type 0 where
   pub state : State
   pub changed : Bool
 
--- equal cells ------------------------------------------------------------------------------------------------------------
+-- equal cells ---------------------------------------------------------------------------------------------------------
 
 -- the slots hold the same
 abbrev pub same_slot : Slot → Slot → Bool
@@ -41,7 +41,7 @@ same_cell [] (slot ∷ slots) = false
 same_cell (slot ∷ slots) [] = false
 same_cell (first ∷ firsts) (second ∷ seconds) = same_slot first second && same_cell firsts seconds
 
--- rewriting ----------------------------------------------------------------------------------------------------------------
+-- rewriting -----------------------------------------------------------------------------------------------------------
 
 -- a grid, and whether a cell of it has changed
 pub record Rewritten : Type 0 where
@@ -51,7 +51,11 @@ pub record Rewritten : Type 0 where
 -- a cell put in place of another
 abbrev pub with_cell : Rewritten → ℕ → List Slot → List Slot → Rewritten
 with_cell r number old new =
-    record { grid = let g : Grid = r.grid in record g { cells = slice_set g.cells number new }; changed = r.changed || not (same_cell old new) }
+    record {
+      grid = let g : Grid = r.grid in record g { cells = slice_set g.cells number new };
+      changed =
+          r.changed || not (same_cell old new);
+    }
 
 -- a cell of the board rewritten by a cell of a rule; where there is no such cell, nothing is
 abbrev pub rewritten_cell : Rewritten → CellMeaning → ℕ → Option (List Slot) → Rewritten
@@ -65,7 +69,7 @@ rewritten_along r (meaning ∷ meanings) [] = r
 rewritten_along r (meaning ∷ meanings) (cell ∷ cells) =
     rewritten_along (rewritten_cell r meaning cell (slice_get (r.grid).cells cell)) meanings cells
 
--- combinations -------------------------------------------------------------------------------------------------------------
+-- combinations --------------------------------------------------------------------------------------------------------
 
 -- one place of each list, in all ways: the first list's place changes fastest, the last list's slowest
 abbrev pub combinations : List (List (List ℕ)) → List (List (List ℕ))
@@ -90,7 +94,7 @@ abbrev pub applied : List (List (List CellMeaning)) → Rewritten → List (List
 applied rows r combination =
     elim (all_fit r.grid rows combination) [ true ↦ rewritten_rows r rows combination | false ↦ r ]
 
--- commands -----------------------------------------------------------------------------------------------------------------
+-- commands ------------------------------------------------------------------------------------------------------------
 
 -- a queue and the commands of a rule together; of two messages the first is kept
 abbrev pub both : Commands → Commands → Commands
@@ -112,7 +116,7 @@ queued queue commands =
     else (if commands.cancel || commands.restart then commands
     else both queue commands))
 
--- attempts -----------------------------------------------------------------------------------------------------------------
+-- attempts ------------------------------------------------------------------------------------------------------------
 
 -- the commands of a rule enter the queue, if it has a combination
 abbrev pub queue_after : Commands → RuleMeaning → List (List (List ℕ)) → Commands

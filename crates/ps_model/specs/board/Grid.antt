@@ -51,7 +51,13 @@ with_slot g cell layer slot = record g { cells = slice_set g.cells cell (slice_s
 
 -- a grid without objects
 abbrev pub empty_grid : ℕ → ℕ → ℕ → Grid
-empty_grid width height layers = record { width = width; height = height; layers = layers; cells = replicate (width * height) (replicate layers Bare) }
+empty_grid width height layers = record {
+  width = width;
+  height = height;
+  layers = layers;
+  cells =
+      replicate (width * height) (replicate layers Bare);
+}
 
 -- the object of a slot
 abbrev pub object_in : Slot → Option ObjectId

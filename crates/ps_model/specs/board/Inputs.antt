@@ -1,6 +1,8 @@
--- What an input does before the rules of a turn: all motions are none, and then every object of Player gets the key's motion.
+-- What an input does before the rules of a turn: all motions are none, and then every object of Player gets the key's
+-- motion.
 use Rattle.std.specs.Prelude.{if◌then◌else◌, List, map}
-use Rattle.ps_model.specs.declared.pieces.Direction.TheVariants.{Up as Upwards, Down as Downwards, Left as Leftwards, Right as Rightwards}
+use Rattle.ps_model.specs.declared.pieces.Direction.TheVariants.{Up as Upwards, Down as Downwards, Left as Leftwards}
+use Rattle.ps_model.specs.declared.pieces.Direction.TheVariants.{Right as Rightwards}
 use Rattle.ps_model.specs.declared.pieces.Motion.{Motion}
 use Rattle.ps_model.specs.declared.pieces.Motion.TheVariants.{Still, Going, Acting}
 use Rattle.ps_model.specs.declared.pieces.ObjectId.{ObjectId}

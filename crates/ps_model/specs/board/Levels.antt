@@ -43,7 +43,8 @@ is_ground names object = nat_eq (layer_of names object) (background_layer names)
 -- the object for cells without one on the background layer: the first such object met in the level, else Background
 abbrev pub ground : Names → List (List ObjectId) → ObjectId
 ground names cells =
-    unwrap_or (find (is_ground names) (flat_map (λ objects. objects) cells)) (slice_index_or (backgrounds names) 0 (record { 0 = 0 }))
+    unwrap_or (find (is_ground names) (flat_map (λ objects. objects) cells))
+    (slice_index_or (backgrounds names) 0 (record { 0 = 0 }))
 
 -- a cell's objects, with one on the background layer
 abbrev pub with_ground : Names → ObjectId → List ObjectId → List ObjectId
@@ -55,8 +56,15 @@ grounded names cells = map (with_ground names (ground names cells)) cells
 
 -- the slots of a cell: each object at rest on its own layer
 abbrev pub cell_of : Names → List ObjectId → List Slot
-cell_of names objects = fold (λ slots object. slice_set slots (layer_of names object) (Holds object Still)) (replicate names.layer_count Bare) objects
+cell_of names objects = fold (λ slots object. slice_set slots (layer_of names object) (Holds object Still))
+    (replicate names.layer_count Bare) objects
 
 -- the grid of a level as it is loaded
 abbrev pub loaded : Names → Level → Grid
-loaded names level = record { width = level.width; height = level.height; layers = names.layer_count; cells = map (cell_of names) level.cells }
+loaded names level = record {
+  width = level.width;
+  height = level.height;
+  layers = names.layer_count;
+  cells =
+      map (cell_of names) level.cells;
+}

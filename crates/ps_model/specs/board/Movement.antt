@@ -36,7 +36,8 @@ is_number (Some m) n = nat_eq m n
 
 -- the contender of least number that passes a test: a contender of a cell is a cell whose object wants to go there
 abbrev pub least_contender : Grid → ℕ → ℕ → (ℕ → Bool) → Option ℕ
-least_contender g layer cell passes = find (λ from. is_number (target g layer from) cell && passes from) (range_with_len 0 (cell_count g))
+least_contender g layer cell passes = find (λ from.
+    is_number (target g layer from) cell && passes from) (range_with_len 0 (cell_count g))
 
 -- the contender that may enter a cell: the least, where the cell's layer is bare; else the least above the cell's own
 -- number, or, if none is above, the least of all
@@ -81,4 +82,7 @@ slid_slot g layer cell = elim (entrant g layer cell) [
 
 -- the grid after the movement
 abbrev pub slid : Grid → Grid
-slid g = record g { cells = map (λ cell. map (λ layer. slid_slot g layer cell) (range_with_len 0 g.layers)) (range_with_len 0 (cell_count g)) }
+slid g = record g {
+  cells = map (λ cell. map (λ layer. slid_slot g layer cell) (range_with_len 0 g.layers))
+      (range_with_len 0 (cell_count g));
+}

@@ -21,7 +21,8 @@ cells_downwards g cell = map (λ steps. cell + steps) (range_with_len 0 (g.heigh
 
 -- all cells, row by row from the top
 abbrev pub row_by_row : Grid → List ℕ
-row_by_row g = flat_map (λ row. map (λ column. column * g.height + row) (range_with_len 0 g.width)) (range_with_len 0 g.height)
+row_by_row g = flat_map (λ row. map (λ column. column * g.height + row) (range_with_len 0 g.width))
+    (range_with_len 0 g.height)
 
 -- all cells, column by column from the left
 abbrev pub column_by_column : Grid → List ℕ
@@ -34,7 +35,8 @@ ways_along [] line = [] ∷ []
 ways_along (size ∷ sizes) line = elim (nat_le size (length line)) [
   | true ↦ map (λ others. take size line ++ others) (elim sizes [
     | [] ↦ [] ∷ []
-    | next ∷ rest ↦ flat_map (λ gap. ways_along sizes (drop (size + gap) line)) (range_with_len 0 (suc (length line - size)))
+    | next ∷ rest ↦ flat_map (λ gap. ways_along sizes (drop (size + gap) line))
+        (range_with_len 0 (suc (length line - size)))
   ])
   | false ↦ []
 ]
@@ -73,4 +75,5 @@ cells_in row = flat_map (λ part. part) row
 
 -- the places of a row in a direction
 abbrev pub places : Grid → Direction → List (List CellMeaning) → List (List ℕ)
-places g direction row = flat_map (λ end. filter (fits_along g (cells_in row)) (stretches g direction (map length row) end)) (search_order g direction)
+places g direction row = flat_map (λ end. filter (fits_along g (cells_in row))
+    (stretches g direction (map length row) end)) (search_order g direction)

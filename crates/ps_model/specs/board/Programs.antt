@@ -19,14 +19,22 @@ after_change changed result = record { state = result.state; changed = changed |
 -- the attempts of rules, one after the other
 abbrev pub round : List RuleMeaning → State → Result
 round [] state = record { state = state; changed = false }
-round (rule ∷ rules) state = let first : Result = attempt rule state in after_change first.changed (round rules first.state)
+round (rule ∷ rules) state = let first : Result = attempt rule state in
+    after_change first.changed (round rules first.state)
 
 -- rounds, at most so many, until one changes nothing; `changed` says whether an earlier one changed something
 abbrev pub settled : List RuleMeaning → ℕ → Bool → State → Result
 settled rules zero changed state = record { state = state; changed = changed }
 settled rules (suc rounds) changed state =
     let next : Result = round rules state in
-    elim next.changed [ true ↦ settled rules rounds true next.state | false ↦ record { state = next.state; changed = changed } ]
+    elim next.changed [
+      | true ↦ settled rules rounds true next.state
+      | false ↦ record {
+        state = next.state;
+        changed =
+            changed;
+      }
+    ]
 
 -- a group
 unfoldable pub group : List RuleMeaning → State → Result
@@ -35,7 +43,8 @@ group rules state = settled rules ROUND_LIMIT false state
 -- a pass of a loop's body: its groups, one after the other
 abbrev pub pass : List (List RuleMeaning) → State → Result
 pass [] state = record { state = state; changed = false }
-pass (rules ∷ others) state = let first : Result = group rules state in after_change first.changed (pass others first.state)
+pass (rules ∷ others) state = let first : Result = group rules state in
+    after_change first.changed (pass others first.state)
 
 -- a state that a program has come to, the repeats that are left for its loops, and whether one more was due than there
 -- were
@@ -46,14 +55,24 @@ pub record Progress : Type 0 where
 
 -- a loop with so many repeats left: a pass, and a repeat while the last pass changed something
 abbrev pub looped : List (List RuleMeaning) → ℕ → State → Progress
-looped body zero state = let next : Result = pass body state in record { state = next.state; repeats = 0; stopped = next.changed }
+looped body zero state = let next : Result = pass body state in
+    record { state = next.state; repeats = 0; stopped = next.changed }
 looped body (suc repeats) state =
     let next : Result = pass body state in
-    elim next.changed [ true ↦ looped body repeats next.state | false ↦ record { state = next.state; repeats = suc repeats; stopped = false } ]
+    elim next.changed [
+      | true ↦ looped body repeats next.state
+      | false ↦ record {
+        state = next.state;
+        repeats =
+            suc repeats;
+        stopped = false;
+      }
+    ]
 
 -- a section with so many repeats left
 abbrev pub section_run : Section → ℕ → State → Progress
-section_run (Group rules) repeats state = let result : Result = group rules state in record { state = result.state; repeats = repeats; stopped = false }
+section_run (Group rules) repeats state = let result : Result = group rules state in
+    record { state = result.state; repeats = repeats; stopped = false }
 section_run (Loop body) repeats state = looped body repeats state
 
 -- the sections of a program, one after the other

@@ -1,6 +1,8 @@
--- One turn: every object of Player gets the key's motion, if there is one; then come the plain program, the movement and the late
+-- One turn: every object of Player gets the key's motion, if there is one; then come the plain program, the movement
+-- and the late
 -- program. What comes of it is the first of four outcomes whose condition holds.
-use Rattle.std.specs.Prelude.{ℕ, Bool, true, false, ◌&&◌, ◌||◌, not, if◌then◌else◌, Option, Some, None, List, [], ◌∷◌, filter}
+use Rattle.std.specs.Prelude.{ℕ, Bool, true, false, ◌&&◌, ◌||◌, not, if◌then◌else◌, Option, Some, None, List, [], ◌∷◌}
+use Rattle.std.specs.Prelude.{filter}
 use Rattle.std.specs.List.{list_all, list_any, range_with_len}
 use Rattle.ps_model.specs.declared.pieces.Slot.{Slot}
 use Rattle.ps_model.specs.declared.play.Input.{Input}
@@ -42,7 +44,8 @@ script_of game = record {
   wins = game.wins;
 }
 
--- a turn that is done: the board; whether it differs from that before; the first message; and whether a checkpoint is set, the
+-- a turn that is done: the board; whether it differs from that before; the first message; and whether a checkpoint is
+-- set, the
 -- level is won, and the turn is to come again
 pub record Done : Type 0 where
   pub board : Grid
@@ -58,7 +61,7 @@ pub data Outcome : Type 0 where
   Restarted : Option (List ℕ) → Outcome
   Finished : Done → Outcome
 
--- players ----------------------------------------------------------------------------------------------------------------
+-- players -------------------------------------------------------------------------------------------------------------
 
 -- an object of Player stands in the cell
 abbrev pub has_player : Names → List Slot → Bool
@@ -76,9 +79,10 @@ stayed names after (cell ∷ cells) = list_all (λ each. has_player names (cell_
 -- the game asks for a move of the Player, and each cell that had one still has one
 abbrev pub is_held : Script → Option Input → Grid → Grid → Bool
 is_held script None before after = false
-is_held script (Some input) before after = script.options.require_player_movement && stayed script.names after (player_cells script.names before)
+is_held script (Some input) before after = script.options.require_player_movement && stayed script.names after
+    (player_cells script.names before)
 
--- the turn ---------------------------------------------------------------------------------------------------------------
+-- the turn ------------------------------------------------------------------------------------------------------------
 
 -- the grid with an input, or with none: every object at rest
 abbrev pub prepared : Names → Option Input → Grid → Grid
@@ -92,7 +96,8 @@ moved state = record { grid = slid state.grid; queue = state.queue }
 -- the state after the plain program, the movement and the late program
 abbrev pub played : Script → Option Input → Grid → State
 played script input g =
-    program_run script.late (moved (program_run script.plain (record { grid = prepared script.names input g; queue = no_commands })))
+    program_run script.late (moved (program_run script.plain
+    (record { grid = prepared script.names input g; queue = no_commands })))
 
 -- the cells of the grids are the same
 abbrev pub same_cells : List (List Slot) → List (List Slot) → Bool
@@ -119,7 +124,8 @@ done_with script last changed =
       again = queue.again && changed;
     }
 
--- the outcome of a turn whose last state this is: blocked, where the game asks for a move of the Player, and each cell that had one
+-- the outcome of a turn whose last state this is: blocked, where the game asks for a move of the Player, and each cell
+-- that had one
 -- still has one; blocked by `cancel`; restarted by `restart`; or done
 abbrev pub outcome_of : Script → Option Input → Grid → State → Outcome
 outcome_of script input g last =

@@ -39,6 +39,7 @@ pub record IsWeaklySlid (before after : Grid) : Type 0 where
       landing before goes layer first ≡ landing before goes layer second → first ≡ second
   -- whatever stands somewhere afterwards landed there
   pub comes : (layer cell : ℕ) (object : ObjectId) (motion : Motion) → slot_at after cell layer ≡ Holds object motion →
-      (from : ℕ) × (was : Motion) × (slot_at before from layer ≡ Holds object was) × (landing before goes layer from ≡ cell)
+      (from : ℕ) × (was : Motion) × (slot_at before from layer ≡ Holds object was) ×
+      (landing before goes layer from ≡ cell)
   -- each object is there as often as before
   pub as_often : (layer : ℕ) (object : ObjectId) → count_of after layer object ≡ count_of before layer object

@@ -30,7 +30,8 @@ quantifiers =
 -- a win condition with that first word and these names, if the word is one of those
 abbrev pub win_with : List ℕ → List ℕ → Option (List ℕ) → Option WinText
 win_with word subject place =
-    option_map (λ quantifier. record { quantifier = quantifier; subject = subject; place = place }) (lookup (bytes_eq (folded word)) quantifiers)
+    option_map (λ quantifier. record { quantifier = quantifier; subject = subject; place = place })
+    (lookup (bytes_eq (folded word)) quantifiers)
 
 -- the win condition that words are, if they have the form of one
 abbrev pub win_of_words : List (List ℕ) → Option WinText
@@ -59,7 +60,7 @@ win_read names text = do
 abbrev pub wins_read : Names → List Line → List Win
 wins_read names lines = filter_map (λ line. win_text line >>= win_read names) lines
 
--- faults ---------------------------------------------------------------------------------------------------------------
+-- faults --------------------------------------------------------------------------------------------------------------
 
 -- no win condition, WN1: a line that isn't blank has the form of none
 abbrev pub is_bad_win : Line → Bool

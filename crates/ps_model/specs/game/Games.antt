@@ -52,7 +52,8 @@ game_read lines =
 abbrev pub faults_beside : Game → List Line → List Fault
 faults_beside read lines =
     heading_faults lines
-    ++ (name_faults (header_number lines Objects) (section_lines lines Objects) (section_lines lines Legend) (section_lines lines Layers)
+    ++ (name_faults (header_number lines Objects) (section_lines lines Objects) (section_lines lines Legend)
+    (section_lines lines Layers)
     ++ (rule_faults read.names (section_lines lines Rules)
     ++ (level_faults read.names (header_number lines Levels) (section_lines lines Levels)
     ++ (win_faults read.names (section_lines lines Wins) ++ reading_faults read.names read.rules))))

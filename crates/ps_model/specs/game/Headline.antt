@@ -2,7 +2,8 @@
 -- with the first fault that the text has, or writes exactly the output of the text's game on the keys. Where memory is
 -- refused, keys can't be read or the output can't be written, it stops and says so, and has written a front of it, as
 -- said below. Whatever it answers, it asks for no more keys once those that it has read have ended the game.
-use Rattle.std.specs.Prelude.{◌≡◌, ◌≢◌, ℕ, ◌+◌, ◌<◌, ◌≤◌, true, false, ⊤, ◌⊎◌, Option, Some, option_map, List, [], ◌++◌, length, take}
+use Rattle.std.specs.Prelude.{◌≡◌, ◌≢◌, ℕ, ◌+◌, ◌<◌, ◌≤◌, true, false, ⊤, ◌⊎◌, Option, Some, option_map, List, [], ◌++◌}
+use Rattle.std.specs.Prelude.{length, take}
 use Rattle.std.specs.List.{All, concat}
 use Rattle.ps_model.specs.declared.faults.Fault.{Fault}
 use Rattle.ps_model.specs.declared.play.Ending.{Ending}
@@ -14,7 +15,8 @@ use Rattle.ps_model.specs.text.Faults.{first_fault}
 use Rattle.ps_model.specs.game.Games.{faults, game}
 use Rattle.ps_model.specs.board.Turns.{Script, script_of}
 use Rattle.ps_model.specs.game.Outputs.{output, opening_step, output_of_keys, ending_of, front}
-use Rattle.ps_model.specs.game.Tellings.{ReaderState, WriterState, Call, Gives, Fails, ReaderCalls, Unasked, Asked, Told, Tells, bytes_of_call, read_before, read, all_bytes, has_failing_call}
+use Rattle.ps_model.specs.game.Tellings.{ReaderState, WriterState, Call, Gives, Fails, ReaderCalls, Unasked, Asked}
+use Rattle.ps_model.specs.game.Tellings.{Told, Tells, bytes_of_call, read_before, read, all_bytes, has_failing_call}
 
 -- the game of a text as it is played
 abbrev pub script_of_text : List ℕ → Option Script
@@ -29,7 +31,7 @@ pub data Answer : Type 0 where
   CannotRead : Answer
   CannotWrite : Answer
 
--- fronts ----------------------------------------------------------------------------------------------------------------
+-- fronts --------------------------------------------------------------------------------------------------------------
 
 -- the second list begins with the first
 abbrev pub IsFront : List ℕ → List ℕ → Type 0
@@ -55,7 +57,7 @@ ending_behind script bytes count =
 abbrev pub GoesOn : Script → List ℕ → Type 0
 GoesOn script bytes = (output script bytes).ending ≡ EndOfKeys
 
--- reading ---------------------------------------------------------------------------------------------------------------
+-- reading -------------------------------------------------------------------------------------------------------------
 
 -- what a call gives that isn't the last: a byte at least, and no more than one call may ask for
 pub record IsPiece (piece : List ℕ) : Type 0 where
@@ -64,7 +66,8 @@ pub record IsPiece (piece : List ℕ) : Type 0 where
 
 -- a run's calls of its reader, in a game, with what the reader has left behind them
 pub record AsksInTurn (script : Script) (earlier : List (List ℕ)) (last : Call) (left : List ℕ) : Type 0 where
-  -- no call gave more than one may ask for, none came behind one that gave nothing, and they are no more than a run makes
+  -- no call gave more than one may ask for, none came behind one that gave nothing, and they are no more than a run
+  -- makes
   pub pieces : All IsPiece earlier
   pub few : length (bytes_of_call last) ≤ CALL_LIMIT
   pub calls : length earlier < READ_LIMIT
@@ -90,7 +93,7 @@ ReaderIsWell told = has_failing_call told.reading ≡ false
 abbrev pub WriterIsWell : Told → Type 0
 WriterIsWell told = told.writer_failed ≡ false
 
--- answers ---------------------------------------------------------------------------------------------------------------
+-- answers -------------------------------------------------------------------------------------------------------------
 
 -- the run ended: it wrote the output of all bytes and nothing else, and that output ends so
 pub record EndsAsMeant (script : Script) (told : Told) (ending : Ending) : Type 0 where
@@ -177,11 +180,12 @@ Answers text told WantsMemory = WantsMemoryRightly text told
 Answers text told CannotRead = (script : Script) × (script_of_text text ≡ Some script) × CannotReadRightly script told
 Answers text told CannotWrite = (script : Script) × (script_of_text text ≡ Some script) × CannotWriteRightly script told
 
--- devices -----------------------------------------------------------------------------------------------------------------
+-- devices -------------------------------------------------------------------------------------------------------------
 
 -- a run on a text with this answer is right, by what its devices told before it and tell behind it. Devices that don't
 -- tell their bytes tell the rest: then there are some bytes with which it is
-pub record RunsRightly (text : List ℕ) (reader_before reader_after : ReaderState) (writer_before writer_after : WriterState) (answer : Answer) : Type 0 where
+pub record RunsRightly (text : List ℕ) (reader_before reader_after : ReaderState)
+    (writer_before writer_after : WriterState) (answer : Answer) : Type 0 where
   pub told : Told
   pub tells : Tells reader_before reader_after writer_before writer_after told
   pub answers : Answers text told answer
@@ -190,7 +194,8 @@ pub record RunsRightly (text : List ℕ) (reader_before reader_after : ReaderSta
 abbrev pub HasGame : List ℕ → Type 0
 HasGame text = (script : Script) × (script_of_text text ≡ Some script)
 
--- what an answer says of the text, whatever the devices tell: a refusal names its first fault, and a text that was played
+-- what an answer says of the text, whatever the devices tell: a refusal names its first fault, and a text that was
+-- played
 -- has a game
 abbrev pub IsTrueOfText : List ℕ → Answer → Type 0
 IsTrueOfText text (Ends ending) = HasGame text

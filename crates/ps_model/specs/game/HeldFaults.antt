@@ -23,7 +23,7 @@ use Rattle.ps_model.specs.rules.ReadingFaults.{too_many_readings, impossible_rul
 use Rattle.ps_model.specs.board.RulePrograms.{rule_in}
 use Rattle.ps_model.specs.game.Games.{Game, game_read, faults}
 
--- rules ------------------------------------------------------------------------------------------------------------------
+-- rules ---------------------------------------------------------------------------------------------------------------
 
 -- the items of each cell of each side
 abbrev pub items_of_sides : RuleShape → List (List Item)
@@ -52,12 +52,13 @@ hidden_by_count (fault ∷ others) names rules = impossible_rules names rules
 abbrev pub hidden_in_readings : Names → List SourceRule → List Fault
 hidden_in_readings names rules = hidden_by_count (too_many_readings names 0 rules) names rules
 
--- texts ------------------------------------------------------------------------------------------------------------------
+-- texts ---------------------------------------------------------------------------------------------------------------
 
 -- what the list of faults leaves out of lines of which this was read
 abbrev pub hidden_in_lines : Game → List Line → List Fault
 hidden_in_lines read lines =
-    flat_map (hidden_in_line read.names) (lines_with_words (section_lines lines Rules)) ++ hidden_in_readings read.names (filter_map rule_in read.rules)
+    flat_map (hidden_in_line read.names) (lines_with_words (section_lines lines Rules)) ++ hidden_in_readings
+    read.names (filter_map rule_in read.rules)
 
 -- what it leaves out of a text; of bytes that are too many to be a text, TX2, that they aren't UTF-8 either, TX1
 abbrev pub hidden_faults : List ℕ → List Fault
@@ -69,4 +70,5 @@ hidden_faults text = elim (text_fault text) [
 -- the text has that fault: it is the one that is told; it is listed, at a line of the text; or the list leaves it out
 abbrev pub IsFaultOf : List ℕ → Fault → Type 0
 IsFaultOf text fault =
-    (first_fault (faults text) ≡ Some fault) ⊎ ((IsAmong (faults text) fault × (1 ≤ fault.line)) ⊎ IsAmong (hidden_faults text) fault)
+    (first_fault (faults text) ≡ Some fault) ⊎
+    ((IsAmong (faults text) fault × (1 ≤ fault.line)) ⊎ IsAmong (hidden_faults text) fault)

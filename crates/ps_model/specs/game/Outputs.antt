@@ -44,7 +44,8 @@ abbrev pub output_of_keys : Script → Session → Option Ending → List Key �
 output_of_keys script session (Some ending) keys = record { written = []; ending = ending }
 output_of_keys script session None [] = record { written = end_of_keys_line; ending = EndOfKeys }
 output_of_keys script session None (key ∷ keys) =
-    let step : Step = key_step script session key in after_text step.text (output_of_keys script step.session (ending_of step.session) keys)
+    let step : Step = key_step script session key in
+    after_text step.text (output_of_keys script step.session (ending_of step.session) keys)
 
 -- the output of a game on bytes
 abbrev pub output : Script → List ℕ → Output
@@ -55,8 +56,10 @@ output script bytes =
 -- the texts of keys, up to an ending
 abbrev pub texts_of_keys : Script → Session → List Key → List ℕ
 texts_of_keys script session [] = []
-texts_of_keys script session (key ∷ keys) = let step : Step = key_step script session key in step.text ++ texts_of_keys script step.session keys
+texts_of_keys script session (key ∷ keys) = let step : Step = key_step script session key in
+    step.text ++ texts_of_keys script step.session keys
 
 -- the front of an output: the opening, and the texts of the first so many keys
 abbrev pub front : Script → List ℕ → ℕ → List ℕ
-front script bytes count = let start : Step = opening_step script in start.text ++ texts_of_keys script start.session (take count (keys_of bytes))
+front script bytes count = let start : Step = opening_step script in
+    start.text ++ texts_of_keys script start.session (take count (keys_of bytes))

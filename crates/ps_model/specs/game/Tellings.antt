@@ -1,12 +1,18 @@
--- What the devices of a run tell of it. A reader tells at any time whether a call has failed, how many bytes its last call
--- gave, how many calls it has had and how many of them gave nothing or had another room than a run asks for, and perhaps
--- the bytes that it still has to give; a writer tells likewise. What they tell before a run and behind it says what the run
+-- What the devices of a run tell of it. A reader tells at any time whether a call has failed, how many bytes its last
+-- call
+-- gave, how many calls it has had and how many of them gave nothing or had another room than a run asks for, and
+-- perhaps
+-- the bytes that it still has to give; a writer tells likewise. What they tell before a run and behind it says what the
+-- run
 -- read and wrote, and how it called them.
-use Rattle.std.specs.Prelude.{◌≡◌, ℕ, ◌+◌, ◌-◌, ◌^◌, ◌≤◌, Bool, true, false, ⊤, ◌⊎◌, Option, Some, None, option_map, List, [], ◌∷◌, ◌++◌, length}
+use Rattle.std.specs.Prelude.{◌≡◌, ℕ, ◌+◌, ◌-◌, ◌^◌, ◌≤◌, Bool, true, false, ⊤, ◌⊎◌, Option, Some, None, option_map}
+use Rattle.std.specs.Prelude.{List, [], ◌∷◌, ◌++◌, length}
 use Rattle.std.specs.List.{concat}
 
--- what a reader tells of itself: the bytes that it has left, or nothing of them; whether a call has failed; how many bytes
--- its last call gave; how many calls it has counted; and of those how many gave nothing without failing, and how many had
+-- what a reader tells of itself: the bytes that it has left, or nothing of them; whether a call has failed; how many
+-- bytes
+-- its last call gave; how many calls it has counted; and of those how many gave nothing without failing, and how many
+-- had
 -- room for fewer bytes than a run asks for at a time, or for more
 pub record ReaderState : Type 0 where
   pub remaining : Option (List ℕ)
@@ -16,7 +22,8 @@ pub record ReaderState : Type 0 where
   pub empty_calls : ℕ
   pub odd_sized_calls : ℕ
 
--- what a writer tells of itself: the bytes that it has taken, or nothing of them; whether a call has failed; how many calls
+-- what a writer tells of itself: the bytes that it has taken, or nothing of them; whether a call has failed; how many
+-- calls
 -- it has counted; and how many of those were handed no byte
 pub record WriterState : Type 0 where
   pub contents : Option (List ℕ)
@@ -29,7 +36,8 @@ pub data Call : Type 0 where
   Gives : List ℕ → Call
   Fails : Call
 
--- what a run asks of its reader: nothing at all; or a call and more calls, which are told by the pieces that all but the
+-- what a run asks of its reader: nothing at all; or a call and more calls, which are told by the pieces that all but
+-- the
 -- last one gave, in order, and by the last one
 pub data ReaderCalls : Type 0 where
   Unasked : ReaderCalls
@@ -108,7 +116,8 @@ idle_writes true = 1
 idle_writes false = 0
 
 -- two devices that were well tell of this run, by what they told before it and by what they tell behind it
-pub record Tells (reader_before reader_after : ReaderState) (writer_before writer_after : WriterState) (told : Told) : Type 0 where
+pub record Tells (reader_before reader_after : ReaderState) (writer_before writer_after : WriterState) (told : Told) :
+    Type 0 where
   -- no call of the reader had failed before; one has now exactly if one failed in the run
   pub reader_was_well : reader_before.has_failed ≡ false
   pub reader_failed : reader_after.has_failed ≡ has_failing_call told.reading
@@ -123,7 +132,8 @@ pub record Tells (reader_before reader_after : ReaderState) (writer_before write
   -- no call of the writer had failed before; one has now exactly if one failed in the run
   pub writer_was_well : writer_before.has_failed ≡ false
   pub writer_failed : writer_after.has_failed ≡ told.writer_failed
-  -- the bytes that the writer has taken are those that it had taken, and then those that were written; there were no more
+  -- the bytes that the writer has taken are those that it had taken, and then those that were written; there were no
+  -- more
   -- writes than bytes written, but for one that failed, and each of them was handed a byte or more
   pub wrote : writer_after.contents ≡ option_map (λ known. known ++ told.wrote) writer_before.contents
   pub writes : writer_after.calls ≤ writer_before.calls + (length told.wrote + idle_writes told.writer_failed)

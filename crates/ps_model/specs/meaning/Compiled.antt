@@ -22,7 +22,7 @@ use Rattle.ps_model.specs.meaning.RuleMeanings.{CellMeaning, RuleMeaning}
 use Rattle.ps_model.specs.board.RuleSections.{SectionOf, section_by}
 use Rattle.ps_model.specs.board.Programs.{Section}
 
--- masks ------------------------------------------------------------------------------------------------------------------
+-- masks ---------------------------------------------------------------------------------------------------------------
 
 -- what a cell must have to fit: each needed object, no barred one, one of each list, and each layer's motion
 pub record CellMask : Type 0 where
@@ -49,9 +49,10 @@ abbrev pub mask_fits : CellMask → List Slot → Bool
 mask_fits mask cell =
     list_all (is_held_in cell) mask.needed
     && (not (list_any (is_held_in cell) mask.barred)
-    && (list_all (λ objects. list_any (is_held_in cell) objects) mask.one_of && list_all (moves_as_asked cell) mask.motions))
+    && (list_all (λ objects. list_any (is_held_in cell) objects) mask.one_of && list_all (moves_as_asked cell)
+    mask.motions))
 
--- writes -----------------------------------------------------------------------------------------------------------------
+-- writes --------------------------------------------------------------------------------------------------------------
 
 -- what becomes of a cell: first these objects go from their layers, and then these layers are written
 pub record CellWrite : Type 0 where
@@ -92,7 +93,7 @@ written_from write layer (slot ∷ slots) =
 abbrev pub cell_written : CellWrite → List Slot → List Slot
 cell_written write cell = written_from write 0 cell
 
--- rules and programs -----------------------------------------------------------------------------------------------------
+-- rules and programs --------------------------------------------------------------------------------------------------
 
 -- a cell of a compiled rule
 pub record CompiledCell : Type 0 where

@@ -17,7 +17,7 @@ use Rattle.ps_model.specs.declared.compiled.ObjectWrite.TheVariants.{Put, Leave,
 use Rattle.ps_model.specs.declared.compiled.LayerWrite.{LayerWrite}
 use Rattle.ps_model.specs.meaning.Compiled.{CellMask, CellWrite, CompiledCell}
 
--- masks ------------------------------------------------------------------------------------------------------------------
+-- masks ---------------------------------------------------------------------------------------------------------------
 
 -- the objects that must all stand in the cell
 abbrev pub needed_by : Wanted → List ObjectId
@@ -48,7 +48,7 @@ mask_of names left = record {
   motions = filter_map motion_test (flat_map (claims_of names) left);
 }
 
--- writes -----------------------------------------------------------------------------------------------------------------
+-- writes --------------------------------------------------------------------------------------------------------------
 
 -- the motion that a layer gets where the right names it without a word: it keeps its own, where the left names it
 -- without a word too; else it rests
@@ -68,7 +68,12 @@ object_of_claim None = Leave
 
 -- the write of a layer that the right claims
 abbrev pub claim_write : List Claim → Claim → LayerWrite
-claim_write left claim = record { layer = claim.layer; object = object_of_claim claim.object; motion = motion_written (claim_on (claim.layer).0 left) claim.motion }
+claim_write left claim = record {
+  layer = claim.layer;
+  object = object_of_claim claim.object;
+  motion =
+      motion_written (claim_on (claim.layer).0 left) claim.motion;
+}
 
 -- the write that clears the layer of a claim away
 abbrev pub clear_write : Claim → LayerWrite
@@ -85,9 +90,13 @@ layer_writes left right = map (claim_write left) right ++ map clear_write (filte
 -- the write of what both sides ask
 abbrev pub write_of : Names → List Wanted → List Wanted → CellWrite
 write_of names left right =
-    record { gone = map (layered names) (flat_map denied right); layers = layer_writes (flat_map (claims_of names) left) (flat_map (claims_of names) right) }
+    record {
+      gone = map (layered names) (flat_map denied right);
+      layers =
+          layer_writes (flat_map (claims_of names) left) (flat_map (claims_of names) right);
+    }
 
--- cells ------------------------------------------------------------------------------------------------------------------
+-- cells ---------------------------------------------------------------------------------------------------------------
 
 -- the compiled cell of what both sides ask
 abbrev pub cell_by : Names → List Wanted → List Wanted → CompiledCell

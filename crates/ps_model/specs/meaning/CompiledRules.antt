@@ -11,7 +11,7 @@ use Rattle.ps_model.specs.board.RulePrograms.{program_by}
 use Rattle.ps_model.specs.meaning.Compiled.{CompiledCell, CompiledRule, CompiledSection}
 use Rattle.ps_model.specs.meaning.CompiledCells.{cell_by}
 
--- rules ------------------------------------------------------------------------------------------------------------------
+-- rules ---------------------------------------------------------------------------------------------------------------
 
 -- the compiled cell of a rule's cell under a reading
 abbrev pub compiled_cell : Names → SourceRule → Reading → CellPair → CompiledCell
@@ -31,7 +31,7 @@ rule_by names rule reading = record {
 abbrev pub compiled_rules : Names → SourceRule → List CompiledRule
 compiled_rules names rule = map (rule_by names rule) (filter (is_possible names rule) (readings names rule))
 
--- programs ---------------------------------------------------------------------------------------------------------------
+-- programs ------------------------------------------------------------------------------------------------------------
 
 -- the compiled program of a part of a turn
 abbrev pub compiled_program : Names → Part → List RuleLine → List CompiledSection

@@ -65,16 +65,19 @@ bound_name rule cell meaning =
 -- cell with the same word and the same name; without one, the only left occurrence of that word, with whatever name
 abbrev pub bound_word : SourceRule → CellPair → MovementWord → Meaning → Option ℕ
 bound_word rule cell word meaning =
-    here_or_only (numbers (filter (λ item. names_it meaning item && moves_so word item) cell.left)) (numbers (filter (moves_so word) (left_items rule)))
+    here_or_only (numbers (filter (λ item. names_it meaning item && moves_so word item) cell.left))
+    (numbers (filter (moves_so word) (left_items rule)))
 
 -- the objects lie on one layer
 abbrev pub are_on_one_layer : Names → List ObjectId → Bool
 are_on_one_layer names [] = true
-are_on_one_layer names (first ∷ others) = list_all (λ object. nat_eq (layer_of names object) (layer_of names first)) others
+are_on_one_layer names (first ∷ others) = list_all (λ object.
+    nat_eq (layer_of names object) (layer_of names first)) others
 
 -- each right occurrence of a name stands in a cell where the left has it too
 abbrev pub is_on_left_too : SourceRule → Meaning → Bool
-is_on_left_too rule meaning = list_all (λ cell. not (list_any (names_it meaning) cell.right) || list_any (names_it meaning) cell.left) (cells_of rule)
+is_on_left_too rule meaning = list_all (λ cell.
+    not (list_any (names_it meaning) cell.right) || list_any (names_it meaning) cell.left) (cells_of rule)
 
 -- a property is loose in a rule if its members lie on one layer and each of its right occurrences stands in a cell
 -- where the left has it too

@@ -27,7 +27,11 @@ meaning_by names left right =
     let left_claims : List Claim = flat_map (claims_of names) left in
     let right_claims : List Claim = flat_map (claims_of names) right in
     let gone : List ObjectId = flat_map denied right in
-    record { fits = λ cell. list_all (has names cell) left; rewritten = λ cell. rewritten_from left_claims right_claims gone 0 cell }
+    record {
+      fits = λ cell. list_all (has names cell) left;
+      rewritten = λ cell.
+          rewritten_from left_claims right_claims gone 0 cell;
+    }
 
 -- the meaning of a cell under a reading
 abbrev pub cell_meaning : Names → SourceRule → Reading → CellPair → CellMeaning
@@ -42,7 +46,8 @@ are_apart (claim ∷ others) = not (list_any (λ other. nat_eq (claim.layer).0 (
 -- no side of the cell names one layer twice
 abbrev pub is_possible_cell : Names → SourceRule → Reading → CellPair → Bool
 is_possible_cell names rule reading cell =
-    are_apart (flat_map (claims_of names) (left_of_cell names rule reading cell)) && are_apart (flat_map (claims_of names) (right_of_cell names rule reading cell))
+    are_apart (flat_map (claims_of names) (left_of_cell names rule reading cell)) && are_apart
+    (flat_map (claims_of names) (right_of_cell names rule reading cell))
 
 -- a reading is possible where no cell of one side has two names of one layer
 abbrev pub is_possible : Names → SourceRule → Reading → Bool

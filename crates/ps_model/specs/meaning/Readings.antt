@@ -25,7 +25,7 @@ abbrev pub one_of_each : {A : Type 0} → List (List A) → List (List A)
 one_of_each [] = [] ∷ []
 one_of_each (items ∷ others) = flat_map (λ item. map (λ rest. item ∷ rest) (one_of_each others)) items
 
--- directions -----------------------------------------------------------------------------------------------------------
+-- directions ----------------------------------------------------------------------------------------------------------
 
 -- the item has a word that means another move in another direction
 abbrev pub item_turns : Item → Bool
@@ -52,13 +52,15 @@ written_directions (first ∷ others) = first ∷ others
 
 -- the directions in which a rule is used; a direction-free one in its first alone
 abbrev pub directions_of : SourceRule → List Direction
-directions_of rule = let written : List Direction = written_directions rule.directions in if is_direction_free rule then take 1 written else written
+directions_of rule = let written : List Direction = written_directions rule.directions in
+    if is_direction_free rule then take 1 written else written
 
--- choices --------------------------------------------------------------------------------------------------------------
+-- choices -------------------------------------------------------------------------------------------------------------
 
 -- the moves of a word of several, each for the occurrence of that number
 abbrev pub moves_for : Direction → ℕ → MovementWord → Option (List (ℕ × Motion))
-moves_for direction number word = if is_several word then Some (map (λ motion. (number, motion)) (turned direction word)) else None
+moves_for direction number word = if is_several word then Some
+    (map (λ motion. (number, motion)) (turned direction word)) else None
 
 -- the choices of an item's movement word, if it leaves some
 abbrev pub move_choices : Direction → Item → Option (List (ℕ × Motion))
@@ -68,7 +70,8 @@ move_choices direction (No meaning) = None
 
 -- the choices of an item's property, if it is fixed
 abbrev pub member_choices : Names → SourceRule → Item → Option (List (ℕ × ObjectId))
-member_choices names rule (Is number word meaning) = if is_fixed names rule meaning then Some (map (λ object. (number, object)) (members meaning)) else None
+member_choices names rule (Is number word meaning) =
+    if is_fixed names rule meaning then Some (map (λ object. (number, object)) (members meaning)) else None
 member_choices names rule (No meaning) = None
 
 -- the choices of moves of a rule's left side, a list for each occurrence in written order
@@ -79,12 +82,13 @@ all_move_choices rule direction = filter_map (move_choices direction) (left_item
 abbrev pub all_member_choices : Names → SourceRule → List (List (ℕ × ObjectId))
 all_member_choices names rule = filter_map (member_choices names rule) (left_items rule)
 
--- readings -------------------------------------------------------------------------------------------------------------
+-- readings ------------------------------------------------------------------------------------------------------------
 
 -- the readings in one direction
 abbrev pub readings_in : List (List (ℕ × ObjectId)) → SourceRule → Direction → List Reading
 readings_in members_chosen rule direction =
-    flat_map (λ moves. map (λ members. record { direction = direction; moves = moves; members = members }) members_chosen) (one_of_each (all_move_choices rule direction))
+    flat_map (λ moves. map (λ members. record { direction = direction; moves = moves; members = members })
+    members_chosen) (one_of_each (all_move_choices rule direction))
 
 -- the readings of a rule in their order, impossible ones among them
 abbrev pub readings : Names → SourceRule → List Reading
@@ -97,4 +101,5 @@ ways (items ∷ others) = length items * ways others
 
 -- how many readings a rule has, impossible ones among them
 abbrev pub reading_count : Names → SourceRule → ℕ
-reading_count names rule = fold (λ sum direction. sum + ways (all_move_choices rule direction) * ways (all_member_choices names rule)) 0 (directions_of rule)
+reading_count names rule = fold (λ sum direction.
+    sum + ways (all_move_choices rule direction) * ways (all_member_choices names rule)) 0 (directions_of rule)

@@ -24,7 +24,12 @@ object_claim names motion object = record { layer = own_layer names object; obje
 -- the claim of a loose property, whose members lie on one layer
 abbrev pub loose_claim : Names → Option Motion → List ObjectId → List Claim
 loose_claim names motion [] = []
-loose_claim names motion (first ∷ others) = record { layer = own_layer names first; object = None; motion = motion } ∷ []
+loose_claim names motion (first ∷ others) = record {
+  layer = own_layer names first;
+  object = None;
+  motion =
+      motion;
+} ∷ []
 
 -- what is claimed of layers; `no` claims nothing
 abbrev pub claims_of : Names → Wanted → List Claim
@@ -69,4 +74,5 @@ rewritten_slot left (Some right) slot = claimed right left slot
 abbrev pub rewritten_from : List Claim → List Claim → List ObjectId → ℕ → List Slot → List Slot
 rewritten_from left right gone layer [] = []
 rewritten_from left right gone layer (slot ∷ slots) =
-    rewritten_slot (claim_on layer left) (claim_on layer right) (slot_without gone slot) ∷ rewritten_from left right gone (suc layer) slots
+    rewritten_slot (claim_on layer left) (claim_on layer right) (slot_without gone slot) ∷ rewritten_from left right
+    gone (suc layer) slots

@@ -10,7 +10,7 @@ use Rattle.ps_model.specs.meaning.RuleMeanings.{RuleMeaning}
 use Rattle.ps_model.specs.board.RuleSections.{section_by}
 use Rattle.ps_model.specs.board.Programs.{Section}
 
--- turned round -------------------------------------------------------------------------------------------------------------
+-- turned round --------------------------------------------------------------------------------------------------------
 
 -- a row read from its other end, whatever its cells are: its last part comes first, and each part's last cell
 abbrev pub row_turned : {Cell : Type 0} → List (List Cell) → List (List Cell)

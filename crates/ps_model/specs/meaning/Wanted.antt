@@ -65,5 +65,6 @@ abbrev pub wanted_right : Names → SourceRule → CellPair → Reading → Item
 wanted_right names rule cell reading (Is number None meaning) =
     wanted_name names rule reading (bound_name rule cell meaning) meaning None
 wanted_right names rule cell reading (Is number (Some word) meaning) =
-    wanted_name names rule reading (bound_name rule cell meaning) meaning (motion_of_word reading (bound_word rule cell word meaning) word)
+    wanted_name names rule reading (bound_name rule cell meaning) meaning
+    (motion_of_word reading (bound_word rule cell word meaning) word)
 wanted_right names rule cell reading (No meaning) = Without (members meaning)

@@ -1,6 +1,8 @@
--- The lines of LEGEND. `X = Y` makes X another name for Y, a synonym; `X = A and B` makes it an aggregate, all of the names that
+-- The lines of LEGEND. `X = Y` makes X another name for Y, a synonym; `X = A and B` makes it an aggregate, all of the
+-- names that
 -- `and` joins; `X = A or B` a property, any of the names that `or` joins. Key words may be names.
-use Rattle.std.specs.Prelude.{ℕ, Bool, ◌&&◌, ◌||◌, Option, None, Some, option_map, List, [], ◌∷◌, if◌then◌else◌, drop, codes, filter_map}
+use Rattle.std.specs.Prelude.{ℕ, Bool, ◌&&◌, ◌||◌, Option, None, Some, option_map, List, [], ◌∷◌, if◌then◌else◌, drop}
+use Rattle.std.specs.Prelude.{codes, filter_map}
 use Rattle.std.specs.List.{list_any}
 use Rattle.std.specs.Str.{bytes_eq}
 use Rattle.ps_model.specs.declared.texts.Joiner.{Joiner}
@@ -29,7 +31,8 @@ is_key_word key word = bytes_eq (folded word) key
 abbrev pub joined_by : List ℕ → List (List ℕ) → Option (List (List ℕ))
 joined_by key [] = None
 joined_by key (name ∷ []) = Some (name ∷ [])
-joined_by key (name ∷ word ∷ others) = if is_key_word key word then option_map (λ names. name ∷ names) (joined_by key others) else None
+joined_by key (name ∷ word ∷ others) = if is_key_word key word then option_map (λ names.
+    name ∷ names) (joined_by key others) else None
 
 -- names with that key word between them
 abbrev pub side_by : Joiner → List ℕ → List (List ℕ) → Option RightSide
@@ -40,7 +43,8 @@ abbrev pub right_side : List (List ℕ) → Option RightSide
 right_side [] = None
 right_side (name ∷ []) = Some (record { joiner = Alone; mentions = name ∷ [] })
 right_side (name ∷ word ∷ others) =
-    if is_key_word (codes "and") word then side_by And (codes "and") (name ∷ word ∷ others) else side_by Or (codes "or") (name ∷ word ∷ others)
+    if is_key_word (codes "and") word then side_by And (codes "and") (name ∷ word ∷ others) else side_by Or
+    (codes "or") (name ∷ word ∷ others)
 
 -- the name that a legend line declares: its first word where `=` is its second, whatever follows
 abbrev pub name_declared : List (List ℕ) → Option (List ℕ)
@@ -55,7 +59,8 @@ is_equals_sign word = bytes_eq word (codes "=")
 -- what a line with these two sides declares: no name of LEGEND is written as the sign is
 abbrev pub declared_with : ℕ → List ℕ → List (List ℕ) → Option Declaration
 declared_with number name others =
-    if is_equals_sign name || list_any is_equals_sign others then None else option_map (λ right. record { line = number; name = name; right = right }) (right_side others)
+    if is_equals_sign name || list_any is_equals_sign others then None else option_map (λ right.
+    record { line = number; name = name; right = right }) (right_side others)
 
 -- what a line declares; a line of another form declares nothing
 abbrev pub declared_by : WrittenLine → Option Declaration

@@ -1,7 +1,12 @@
--- What the names of LEGEND stand for. A legend line may name what any other legend line declares, above it or below. A synonym
--- stands for what its name stands for: a synonym of a property or of an aggregate is one and the same as that. Properties of
--- properties and aggregates of aggregates are flattened: their objects are listed once each, where they are first mentioned.
-use Rattle.std.specs.Prelude.{ℕ, zero, suc, ◌+◌, nat_eq, Bool, true, false, Option, None, Some, is_some, option_and_then, List, [], ◌∷◌, ◌++◌, length, map, filter_map, sum_by, slice_get, slice_index_or}
+-- What the names of LEGEND stand for. A legend line may name what any other legend line declares, above it or below. A
+-- synonym
+-- stands for what its name stands for: a synonym of a property or of an aggregate is one and the same as that.
+-- Properties of
+-- properties and aggregates of aggregates are flattened: their objects are listed once each, where they are first
+-- mentioned.
+use Rattle.std.specs.Prelude.{ℕ, zero, suc, ◌+◌, nat_eq, Bool, true, false, Option, None, Some, is_some}
+use Rattle.std.specs.Prelude.{option_and_then, List, [], ◌∷◌, ◌++◌, length, map, filter_map, sum_by, slice_get}
+use Rattle.std.specs.Prelude.{slice_index_or}
 use Rattle.std.specs.List.{list_any, list_all, enumerate_from}
 use Rattle.std.specs.Str.{bytes_eq}
 use Rattle.std.specs.Map.{lookup}
@@ -12,7 +17,8 @@ use Rattle.ps_model.specs.text.Lines.{folded}
 use Rattle.ps_model.specs.names.Names.{Meaning, One, AllOf, AnyOf, same_object}
 use Rattle.ps_model.specs.names.LegendLines.{Declaration}
 
--- a name on the right of a legend line is that of an object, or that of a legend line, by its place among those that declare
+-- a name on the right of a legend line is that of an object, or that of a legend line, by its place among those that
+-- declare
 pub data Mention : Type 0 where
   OfObject : ObjectId → Mention
   OfLine : ℕ → Mention
@@ -29,7 +35,7 @@ pub record LegendName : Type 0 where
   -- something declares each name on the right
   pub all_declared : Bool
 
--- which names there are -------------------------------------------------------------------------------------------------
+-- which names there are -----------------------------------------------------------------------------------------------
 
 -- a name of an object, its letters folded, mentions the object
 abbrev pub object_mention : List ℕ × ObjectId → List ℕ × Mention
@@ -57,9 +63,10 @@ legend_name known declared =
 
 -- the names of the legend, in order of declaration
 abbrev pub legend_names : List (List ℕ × ObjectId) → List Declaration → List LegendName
-legend_names objects declared = let known : List (List ℕ × Mention) = known_names objects declared in map (legend_name known) declared
+legend_names objects declared = let known : List (List ℕ × Mention) = known_names objects declared in
+    map (legend_name known) declared
 
--- what they mention ------------------------------------------------------------------------------------------------------
+-- what they mention ---------------------------------------------------------------------------------------------------
 
 -- the two are names of the same
 abbrev pub same_mention : Mention → Mention → Bool
@@ -78,7 +85,8 @@ abbrev pub mentions_of : List LegendName → Mention → List Mention
 mentions_of legend (OfObject object) = []
 mentions_of legend (OfLine place) = mentions_of_name (slice_get legend place)
 
--- a list to which mentions are added, in so many steps at most: one that the list has already is passed over; another is put at
+-- a list to which mentions are added, in so many steps at most: one that the list has already is passed over; another
+-- is put at
 -- its end, and then what the mention's own line mentions is added before the others
 abbrev pub with_mentioned : List LegendName → ℕ → List Mention → List Mention → List Mention
 with_mentioned legend steps listed [] = listed
@@ -92,7 +100,8 @@ with_mentioned legend (suc steps) listed (mention ∷ others) = elim (list_any (
 abbrev pub mention_count : List LegendName → ℕ
 mention_count legend = sum_by (λ name. length name.mentions) legend
 
--- these mentions and all that they mention through legend lines, each once, where it is first mentioned; as the mentions of a
+-- these mentions and all that they mention through legend lines, each once, where it is first mentioned; as the
+-- mentions of a
 -- line are added once at most, the steps are enough
 abbrev pub all_mentioned : List LegendName → List Mention → List Mention
 all_mentioned legend mentions = with_mentioned legend (length mentions + mention_count legend) [] mentions
@@ -101,7 +110,7 @@ all_mentioned legend mentions = with_mentioned legend (length mentions + mention
 abbrev pub is_on_cycle : List LegendName → ℕ → LegendName → Bool
 is_on_cycle legend place name = list_any (same_mention (OfLine place)) (all_mentioned legend name.mentions)
 
--- what they stand for ----------------------------------------------------------------------------------------------------
+-- what they stand for -------------------------------------------------------------------------------------------------
 
 -- the object that is mentioned, if it is one
 abbrev pub object_of : Mention → Option ObjectId
@@ -123,11 +132,13 @@ abbrev pub meaning_behind : List LegendName → ℕ → Mention → Option Meani
 meaning_behind legend most (OfObject object) = Some (One object)
 meaning_behind legend zero (OfLine place) = None
 meaning_behind legend (suc most) (OfLine place) =
-    option_and_then (λ name. meaning_by_joiner (meaning_behind legend most) legend name.joiner name) (slice_get legend place)
+    option_and_then (λ name. meaning_by_joiner (meaning_behind legend most) legend name.joiner name)
+    (slice_get legend place)
 
 -- what each name of the legend stands for
 abbrev pub legend_meanings : List LegendName → List (Option Meaning)
-legend_meanings legend = map (λ numbered. meaning_behind legend (length legend) (OfLine numbered.0)) (enumerate_from 0 legend)
+legend_meanings legend = map (λ numbered. meaning_behind legend (length legend) (OfLine numbered.0))
+    (enumerate_from 0 legend)
 
 -- what a mention stands for, where the names of the legend stand for these
 abbrev pub meaning_of_mention : List (Option Meaning) → Mention → Option Meaning

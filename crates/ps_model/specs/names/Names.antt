@@ -1,4 +1,5 @@
--- Names: what each name of a game stands for, on which layer each object lies, and which characters show what in a level.
+-- Names: what each name of a game stands for, on which layer each object lies, and which characters show what in a
+-- level.
 use Rattle.std.specs.Prelude.{ℕ, nat_eq, Bool, Option, Some, None, List, [], ◌∷◌, length, slice_index_or, codes}
 use Rattle.std.specs.List.{list_any}
 use Rattle.std.specs.Str.{bytes_eq}
@@ -6,7 +7,8 @@ use Rattle.std.specs.Map.{lookup}
 use Rattle.ps_model.specs.declared.pieces.ObjectId.{ObjectId}
 use Rattle.ps_model.specs.text.Lines.{folded}
 
--- a name stands for one object, for all of a list (an aggregate) or for any of a list (a property); the last two keep the
+-- a name stands for one object, for all of a list (an aggregate) or for any of a list (a property); the last two keep
+-- the
 -- number of the legend line that declares them
 pub data Meaning : Type 0 where
   One : ObjectId → Meaning

@@ -1,5 +1,7 @@
--- The names of a game, as the sections OBJECTS, LEGEND and COLLISIONLAYERS declare them: the names of the objects first, then
--- those of the legend, each in order of declaration; and the layers. Where a section has a fault, what it declares without
+-- The names of a game, as the sections OBJECTS, LEGEND and COLLISIONLAYERS declare them: the names of the objects
+-- first, then
+-- those of the legend, each in order of declaration; and the layers. Where a section has a fault, what it declares
+-- without
 -- that is read all the same.
 use Rattle.std.specs.Prelude.{ℕ, Option, None, Some, option_map, unwrap_or, List, ◌++◌, length, map, filter_map, zip}
 use Rattle.ps_model.specs.declared.pieces.ObjectId.{ObjectId}
@@ -30,7 +32,7 @@ pub record NameSections : Type 0 where
   -- the layer of each object, if one names it
   pub object_layers : List (Option ℕ)
 
--- names -----------------------------------------------------------------------------------------------------------------
+-- names ---------------------------------------------------------------------------------------------------------------
 
 -- the name of an object
 abbrev pub object_declared : List ℕ × ObjectId → Declared
@@ -42,7 +44,8 @@ legend_declared named = option_map (λ meaning. record { name = named.0.name; me
 
 -- all names that stand for something
 abbrev pub all_declared : List ObjectText → List LegendName → List (Option Meaning) → List Declared
-all_declared objects legend meanings = map object_declared (object_names objects) ++ filter_map legend_declared (zip legend meanings)
+all_declared objects legend meanings = map object_declared (object_names objects) ++ filter_map legend_declared
+    (zip legend meanings)
 
 -- a name is looked up with its letters folded
 abbrev pub entry_of : Declared → List ℕ × Meaning
@@ -52,7 +55,7 @@ entry_of declared = (folded declared.name, declared.meaning)
 abbrev pub entries_of : List Declared → List (List ℕ × Meaning)
 entries_of declared = map entry_of declared
 
--- sections --------------------------------------------------------------------------------------------------------------
+-- sections ------------------------------------------------------------------------------------------------------------
 
 -- the sections of these objects and lines
 abbrev pub sections_of : List ObjectText → List WrittenLine → List WrittenLine → NameSections
@@ -73,9 +76,10 @@ sections_of objects legend_lines layer_lines =
 
 -- the sections of their lines
 abbrev pub name_sections : List Line → List Line → List Line → NameSections
-name_sections object_lines legend_lines layer_lines = sections_of (object_texts object_lines) (written_lines Legend legend_lines) (written_lines Layers layer_lines)
+name_sections object_lines legend_lines layer_lines =
+    sections_of (object_texts object_lines) (written_lines Legend legend_lines) (written_lines Layers layer_lines)
 
--- the names of a game -----------------------------------------------------------------------------------------------------
+-- the names of a game -------------------------------------------------------------------------------------------------
 
 -- the glyph of a name of one character that stands for an object or an aggregate
 abbrev pub glyph_with : Option ℕ → Meaning → Option Glyph

@@ -1,7 +1,10 @@
--- The objects of OBJECTS. An object has a name line: its name, and behind it a second name of one character where it has one.
--- Right below stand its colours, in a line that isn't blank, and right below these the five rows of its sprite, where it has one.
+-- The objects of OBJECTS. An object has a name line: its name, and behind it a second name of one character where it
+-- has one.
+-- Right below stand its colours, in a line that isn't blank, and right below these the five rows of its sprite, where
+-- it has one.
 -- Blank lines stand between objects and may be left out.
-use Rattle.std.specs.Prelude.{ℕ, zero, suc, ◌==◌, nat_le, Bool, true, false, ◌&&◌, ◌||◌, if◌then◌else◌, Option, None, Some, is_some, List, [], ◌∷◌, length, map, flat_map, take}
+use Rattle.std.specs.Prelude.{ℕ, zero, suc, ◌==◌, nat_le, Bool, true, false, ◌&&◌, ◌||◌, if◌then◌else◌, Option, None}
+use Rattle.std.specs.Prelude.{Some, is_some, List, [], ◌∷◌, length, map, flat_map, take}
 use Rattle.std.specs.List.{list_all, prefix_len, enumerate_from}
 use Rattle.std.specs.Str.{chars}
 use Rattle.ps_model.specs.declared.pieces.ObjectId.{ObjectId}
@@ -13,10 +16,11 @@ pub record ObjectText : Type 0 where
   pub line : ℕ
   -- the words of its name line: its names
   pub words : List (List ℕ)
-  -- how many lines right below are its own: none where its colours are missing, one for them, and one for each sprite row
+  -- how many lines right below are its own: none where its colours are missing, one for them, and one for each sprite
+  -- row
   pub below : ℕ
 
--- sprites ---------------------------------------------------------------------------------------------------------------
+-- sprites -------------------------------------------------------------------------------------------------------------
 
 -- sprites are drawn with points and digits
 abbrev pub is_sprite_byte : ℕ → Bool
@@ -28,13 +32,14 @@ is_sprite_word word = length word == 5 && list_all is_sprite_byte word
 
 -- a row of a sprite is a line of one such word
 abbrev pub is_sprite_row : Line → Bool
-is_sprite_row line = let words : List (List ℕ) = words_of_line line in length words == 1 && list_all is_sprite_word words
+is_sprite_row line = let words : List (List ℕ) = words_of_line line in length words ==
+    1 && list_all is_sprite_word words
 
 -- how many rows of a sprite stand on top of these lines, five at most
 abbrev pub sprite_rows : List Line → ℕ
 sprite_rows lines = prefix_len is_sprite_row (take 5 lines)
 
--- objects ---------------------------------------------------------------------------------------------------------------
+-- objects -------------------------------------------------------------------------------------------------------------
 
 -- how many of the lines below a name line belong to its object
 abbrev pub lines_below : List Line → ℕ
@@ -56,7 +61,7 @@ objects_below zero (line ∷ others) = elim (is_blank_line line) [
 abbrev pub object_texts : List Line → List ObjectText
 object_texts lines = objects_below 0 lines
 
--- names -----------------------------------------------------------------------------------------------------------------
+-- names ---------------------------------------------------------------------------------------------------------------
 
 -- the one of a list of one
 abbrev pub only : List ℕ → Option ℕ

@@ -20,7 +20,7 @@ use Rattle.ps_model.specs.rules.RuleShapeFaults.{has_bad_bracket, has_unknown_wo
 use Rattle.ps_model.specs.rules.RuleShapeFaults.{has_late_move, has_bad_ellipsis}
 use Rattle.ps_model.specs.rules.RuleNameFaults.{has_name_twice, puts_no_before_aggregate, has_unbound}
 
--- groups and loops ---------------------------------------------------------------------------------------------------------
+-- groups and loops ----------------------------------------------------------------------------------------------------
 
 -- what stands above a line of RULES
 pub record Above : Type 0 where
@@ -76,7 +76,7 @@ has_left_out tokens = has_kind is_left_out tokens
 abbrev pub is_one_too_many : Above → Bool
 is_one_too_many above = nat_le RULE_LIMIT above.rules
 
--- faults -------------------------------------------------------------------------------------------------------------------
+-- faults --------------------------------------------------------------------------------------------------------------
 
 -- the faults of a rule at a line, below what stands above
 abbrev pub faults_of_rule : Above → ℕ → RuleShape → SourceRule → List Fault

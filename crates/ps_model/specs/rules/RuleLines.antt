@@ -45,4 +45,5 @@ lines_with_words lines = filter (λ line. not (is_blank_line line)) lines
 
 -- the rules and loops of lines; a line that is none of them gives nothing
 abbrev pub rules_read : Names → List Line → List RuleLine
-rules_read names lines = filter_map (λ line. line_of_form (form_of line (tokens_kept (tokens_of names line)))) (lines_with_words lines)
+rules_read names lines = filter_map (λ line. line_of_form (form_of line (tokens_kept (tokens_of names line))))
+    (lines_with_words lines)

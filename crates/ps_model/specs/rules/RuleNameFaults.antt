@@ -10,7 +10,7 @@ use Rattle.ps_model.specs.rules.SourceRules.{Item, Is, No, CellPair, SourceRule}
 use Rattle.ps_model.specs.meaning.Directions.{is_several}
 use Rattle.ps_model.specs.meaning.Occurrences.{bound_name, bound_word, cells_of}
 
--- RU5 and RU6 --------------------------------------------------------------------------------------------------------------
+-- RU5 and RU6 ---------------------------------------------------------------------------------------------------------
 
 -- the objects that an item without `no` names, but for those of a property
 abbrev pub objects_named : Item → List ObjectId
@@ -47,9 +47,10 @@ is_no_before_aggregate other = false
 
 -- RU6: `no` before an aggregate
 abbrev pub puts_no_before_aggregate : SourceRule → Bool
-puts_no_before_aggregate rule = list_any (λ cell. list_any is_no_before_aggregate (cell.left ++ cell.right)) (cells_of rule)
+puts_no_before_aggregate rule = list_any (λ cell.
+    list_any is_no_before_aggregate (cell.left ++ cell.right)) (cells_of rule)
 
--- RU7 ----------------------------------------------------------------------------------------------------------------------
+-- RU7 -----------------------------------------------------------------------------------------------------------------
 
 -- no left occurrence decides this name on the right of a cell, which is a property
 abbrev pub is_name_unbound : SourceRule → CellPair → Meaning → Bool

@@ -10,7 +10,7 @@ use Rattle.ps_model.specs.rules.RuleShape.{words_behind, at_end, before_end, cel
 use Rattle.ps_model.specs.rules.RuleShape.{paired_cells}
 use Rattle.ps_model.specs.rules.RuleTree.{is_direction_word}
 
--- RU1 ----------------------------------------------------------------------------------------------------------------------
+-- RU1 -----------------------------------------------------------------------------------------------------------------
 
 -- a word of a cell: a name, a movement word, `no` or `...`
 abbrev pub is_cell_word : Symbol → Bool
@@ -27,9 +27,10 @@ words_outside shape = words_behind shape.left ++ (shape.right.ahead ++ words_beh
 -- RU1: no row on the left; a `|` outside brackets; or a word of a cell outside brackets behind the first `[`
 abbrev pub has_bad_bracket : RuleShape → Bool
 has_bad_bracket shape =
-    not (has_rows shape.left.rows) || (has_kind is_bar (shape.left.ahead ++ words_outside shape) || has_kind is_cell_word (words_outside shape))
+    not (has_rows shape.left.rows) || (has_kind is_bar (shape.left.ahead ++ words_outside shape) || has_kind
+    is_cell_word (words_outside shape))
 
--- RU2 ----------------------------------------------------------------------------------------------------------------------
+-- RU2 -----------------------------------------------------------------------------------------------------------------
 
 -- there are words
 abbrev pub are_there : List Token → Bool
@@ -70,7 +71,8 @@ misses_name cell = misses_name_behind Open cell
 
 -- a side has a word in its brackets that can't stand there
 abbrev pub has_wrong_cell : WrittenSide → Bool
-has_wrong_cell side = has_kind (λ symbol. not (is_cell_word symbol)) (words_in_cells side) || list_any misses_name (cells_of_side side)
+has_wrong_cell side = has_kind (λ symbol. not (is_cell_word symbol)) (words_in_cells side) || list_any misses_name
+    (cells_of_side side)
 
 -- RU2: a word that means nothing, or stands where it can't: before the rows something else than `+`, `late` and
 -- direction words; behind a row of the left anything; on the right anything before the last row, and something else
@@ -83,7 +85,7 @@ has_unknown_word shape =
     || (are_there (before_end shape.right)
     || (has_wrong_cell shape.right || has_kind (λ symbol. not (is_command symbol)) (at_end shape.right)))))
 
--- RU3 and RU4 --------------------------------------------------------------------------------------------------------------
+-- RU3 and RU4 ---------------------------------------------------------------------------------------------------------
 
 -- two rows have different numbers of cells
 abbrev pub lengths_differ : List (List Token) × List (List Token) → Bool
@@ -92,13 +94,14 @@ lengths_differ rows = not (nat_eq (length rows.0) (length rows.1))
 -- RU3: the right has rows, and they aren't as many as those of the left, or one has another number of cells
 abbrev pub has_other_rows : RuleShape → Bool
 has_other_rows shape =
-    has_rows shape.right.rows && (not (nat_eq (length shape.left.rows) (length shape.right.rows)) || list_any lengths_differ (paired_rows shape))
+    has_rows shape.right.rows && (not (nat_eq (length shape.left.rows) (length shape.right.rows)) || list_any
+    lengths_differ (paired_rows shape))
 
 -- RU4: the right has neither rows nor commands
 abbrev pub has_nothing_right : RuleShape → Bool
 has_nothing_right shape = not (has_rows shape.right.rows) && not (has_kind is_command (at_end shape.right))
 
--- RU8 and RU12 -------------------------------------------------------------------------------------------------------------
+-- RU8 and RU12 --------------------------------------------------------------------------------------------------------
 
 -- a movement word
 abbrev pub is_movement : Symbol → Bool
@@ -153,4 +156,5 @@ abbrev pub has_bad_ellipsis : RuleShape → Bool
 has_bad_ellipsis shape =
     has_wrong_ellipsis shape.left
     || (has_wrong_ellipsis shape.right
-    || (has_rows shape.right.rows && list_any (λ rows. list_any has_lone_ellipsis (paired_cells rows)) (paired_rows shape)))
+    || (has_rows shape.right.rows && list_any (λ rows.
+    list_any has_lone_ellipsis (paired_cells rows)) (paired_rows shape)))

@@ -53,24 +53,30 @@ pub data Symbol : Type 0 where
 -- the words that give a rule its shape
 abbrev pub shape_words : List (List ℕ × Symbol)
 shape_words =
-    (codes "[", Open) ∷ (codes "]", Close) ∷ (codes "|", Bar) ∷ (codes "->", Arrow) ∷ (codes "...", Ellipsis) ∷ (codes "late", Late)
+    (codes "[", Open) ∷ (codes "]", Close) ∷ (codes "|", Bar) ∷ (codes "->", Arrow) ∷ (codes "...", Ellipsis) ∷
+    (codes "late", Late)
     ∷ (codes "no", Without) ∷ (codes "startloop", StartsLoop) ∷ (codes "endloop", EndsLoop) ∷ []
 
 -- the words that say how an object moves
 abbrev pub movement_words : List (List ℕ × Symbol)
 movement_words =
-    (codes ">", Moves Forwards) ∷ (codes "<", Moves Backwards) ∷ (codes "^", Moves TurnedLeft) ∷ (codes "v", Moves TurnedRight)
-    ∷ (codes "parallel", Moves Parallel) ∷ (codes "perpendicular", Moves Perpendicular) ∷ (codes "up", Moves Up) ∷ (codes "down", Moves Down)
-    ∷ (codes "left", Moves Left) ∷ (codes "right", Moves Right) ∷ (codes "action", Moves Action) ∷ (codes "stationary", Moves Stationary)
+    (codes ">", Moves Forwards) ∷ (codes "<", Moves Backwards) ∷ (codes "^", Moves TurnedLeft) ∷
+    (codes "v", Moves TurnedRight)
+    ∷ (codes "parallel", Moves Parallel) ∷ (codes "perpendicular", Moves Perpendicular) ∷ (codes "up", Moves Up) ∷
+    (codes "down", Moves Down)
+    ∷ (codes "left", Moves Left) ∷ (codes "right", Moves Right) ∷ (codes "action", Moves Action) ∷
+    (codes "stationary", Moves Stationary)
     ∷ (codes "moving", Moves Moving) ∷ (codes "orthogonal", Moves Orthogonal) ∷ (codes "horizontal", Moves Horizontal)
     ∷ (codes "vertical", Moves Vertical) ∷ []
 
 -- the commands
 abbrev pub command_words : List (List ℕ × Symbol)
 command_words =
-    (codes "cancel", Asks Cancel) ∷ (codes "restart", Asks Restart) ∷ (codes "again", Asks Again) ∷ (codes "checkpoint", Asks Checkpoint)
+    (codes "cancel", Asks Cancel) ∷ (codes "restart", Asks Restart) ∷ (codes "again", Asks Again) ∷
+    (codes "checkpoint", Asks Checkpoint)
     ∷ (codes "win", Asks Win) ∷ (codes "message", Asks Message)
-    ∷ map (λ word. (word, Asks Sound)) (codes "sfx0" ∷ codes "sfx1" ∷ codes "sfx2" ∷ codes "sfx3" ∷ codes "sfx4" ∷ codes "sfx5"
+    ∷ map (λ word. (word, Asks Sound)) (codes "sfx0" ∷ codes "sfx1" ∷ codes "sfx2" ∷ codes "sfx3" ∷ codes "sfx4" ∷
+    codes "sfx5"
     ∷ codes "sfx6" ∷ codes "sfx7" ∷ codes "sfx8" ∷ codes "sfx9" ∷ codes "sfx10" ∷ [])
 
 -- the words of PuzzleScript that this profile leaves out

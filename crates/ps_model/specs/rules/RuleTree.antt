@@ -13,7 +13,7 @@ use Rattle.ps_model.specs.rules.RuleSymbols.{Checkpoint, Win, Message, Token}
 use Rattle.ps_model.specs.rules.RuleShape.{has_kind, is_ellipsis, is_late, is_plus, has_rows, RuleShape, at_end}
 use Rattle.ps_model.specs.rules.RuleShape.{paired_rows, paired_cells}
 
--- items --------------------------------------------------------------------------------------------------------------------
+-- items ---------------------------------------------------------------------------------------------------------------
 
 -- the item of a name that stands right behind a word
 abbrev pub named_item : Symbol → ℕ → Symbol → List Item
@@ -31,7 +31,7 @@ items_behind before (token ∷ tokens) = named_item before token.at token.symbol
 abbrev pub items_of : List Token → List Item
 items_of tokens = items_behind Open tokens
 
--- cells and rows -----------------------------------------------------------------------------------------------------------
+-- cells and rows ------------------------------------------------------------------------------------------------------
 
 -- the cell has `...` and nothing else
 abbrev pub is_gap : List Token × List Token → Bool
@@ -49,7 +49,7 @@ row_of_cells cells = map (λ part. map pair_of part) (slice_split is_gap cells)
 abbrev pub rows_of : RuleShape → List (List (List CellPair))
 rows_of shape = map (λ rows. row_of_cells (paired_cells rows)) (paired_rows shape)
 
--- directions ---------------------------------------------------------------------------------------------------------------
+-- directions ----------------------------------------------------------------------------------------------------------
 
 -- the word before the rows gives that direction
 abbrev pub gives : Direction → Symbol → Bool
@@ -79,7 +79,7 @@ is_direction_word symbol = list_any (λ direction. gives direction symbol) all_d
 abbrev pub directions_given : List Token → List Direction
 directions_given tokens = filter (λ direction. has_kind (gives direction) tokens) all_directions
 
--- commands -----------------------------------------------------------------------------------------------------------------
+-- commands ------------------------------------------------------------------------------------------------------------
 
 -- commands with one more; a message has the text that its line takes as it stands
 abbrev pub with_command : Option (List ℕ) → Commands → Symbol → Commands
@@ -99,7 +99,7 @@ text_of line = option_map (λ taken. taken.bytes) line.taken
 abbrev pub commands_of : Line → List Token → Commands
 commands_of line tokens = fold (λ commands token. with_command (text_of line) commands token.symbol) no_commands tokens
 
--- the tree -----------------------------------------------------------------------------------------------------------------
+-- the tree ------------------------------------------------------------------------------------------------------------
 
 -- the tree of a line's rule
 abbrev pub rule_of : Line → RuleShape → SourceRule

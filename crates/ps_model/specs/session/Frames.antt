@@ -38,7 +38,8 @@ first_of_three None None third = third
 -- background layer; else one for the object on the topmost occupied layer alone
 abbrev pub glyph_of_objects : Names → List ObjectId → Option Glyph
 glyph_of_objects names objects =
-    first_of_three (glyph_for names objects) (glyph_for names (filter (λ object. not (is_ground names object)) objects)) (glyph_for names (topmost objects))
+    first_of_three (glyph_for names objects) (glyph_for names
+    (filter (λ object. not (is_ground names object)) objects)) (glyph_for names (topmost objects))
 
 -- the character of a glyph; of none, `?`
 abbrev pub character_of : Option Glyph → ℕ
@@ -51,7 +52,8 @@ shown_character names cell = character_of (glyph_of_objects names (objects_in ce
 
 -- a row of a frame
 abbrev pub frame_row : Names → Grid → ℕ → List ℕ
-frame_row names g row = flat_map (λ column. encode_utf8 (shown_character names (cell_at g (column * g.height + row)))) (range_with_len 0 g.width) ++ codes "\n"
+frame_row names g row = flat_map (λ column. encode_utf8 (shown_character names (cell_at g (column * g.height + row))))
+    (range_with_len 0 g.width) ++ codes "\n"
 
 -- a frame: the rows from the top, then an empty line
 abbrev pub frame : Names → Grid → List ℕ

@@ -6,7 +6,7 @@ use Rattle.ps_model.specs.declared.held.Held.TheVariants.{Nothing, Escape, Brack
 use Rattle.ps_model.specs.declared.play.Key.{Key}
 use Rattle.ps_model.specs.session.Keys.{key_of, arrow_of}
 
--- pieces ---------------------------------------------------------------------------------------------------------------
+-- pieces --------------------------------------------------------------------------------------------------------------
 
 -- the bytes are an arrow that has begun and isn't whole: ESC, or ESC and `[`
 abbrev pub is_begun_arrow : List ℕ → Bool
@@ -31,7 +31,7 @@ before_held (byte ∷ bytes) = elim (is_begun_arrow (byte ∷ bytes)) [
   | false ↦ byte ∷ before_held bytes
 ]
 
--- byte by byte ---------------------------------------------------------------------------------------------------------
+-- byte by byte --------------------------------------------------------------------------------------------------------
 
 -- the bytes that are held
 abbrev pub bytes_of : Held → List ℕ

@@ -16,7 +16,7 @@ use Rattle.ps_model.specs.session.Sessions.{Waiting, AtMessage, Ended, Step, qui
 use Rattle.ps_model.specs.session.Sessions.{with_board_in_history, with_turn}
 use Rattle.ps_model.specs.session.StartSteps.{start_turns, enter, level_done, restarted}
 
--- turns ------------------------------------------------------------------------------------------------------------------
+-- turns ---------------------------------------------------------------------------------------------------------------
 
 -- what a turn of a key leaves to come: on a win the end of the level, otherwise its again turns, if it is to come again
 abbrev pub key_pending : Bool → Bool → ℕ → Pending
@@ -40,7 +40,8 @@ key_told script next done left again_turns = elim done.message [
 abbrev pub key_counted : Script → Play → Done → ℕ → (Play → Step) → Step
 key_counted script play done left again_turns = elim (done.changed || done.win) [
   | false ↦ quietly (Playing play)
-  | true ↦ let next : Play = seen script (with_turn play done) in after (shown script next) (key_told script next done left again_turns)
+  | true ↦ let next : Play = seen script (with_turn play done) in
+      after (shown script next) (key_told script next done left again_turns)
 ]
 
 -- an again turn of a key by its outcome: a blocked one doesn't count, nor does one that neither changed the board nor
@@ -72,7 +73,8 @@ with_board_in_history_if false play = play
 -- a done turn of a key, in a level whose history is already as it will be: the new board, its frame, and what follows
 abbrev pub key_done : Script → Play → Done → Step
 key_done script play done =
-    let next : Play = seen script (with_turn play done) in after (shown script next) (key_told script next done AGAIN_LIMIT (all_key_turns script))
+    let next : Play = seen script (with_turn play done) in
+    after (shown script next) (key_told script next done AGAIN_LIMIT (all_key_turns script))
 
 -- what comes of a key's own turn; a blocked one leaves board and room, and shows them once more
 abbrev pub turn_taken : Script → Play → Outcome → Step
@@ -80,7 +82,7 @@ turn_taken script play (Blocked message) = after (shown script play) (blocked pl
 turn_taken script play (Restarted message) = restarted script (with_board_in_history play) message
 turn_taken script play (Finished done) = key_done script (with_board_in_history_if done.changed play) done
 
--- keys -------------------------------------------------------------------------------------------------------------------
+-- keys ----------------------------------------------------------------------------------------------------------------
 
 -- a turn with an input
 abbrev pub input_taken : Script → Play → Input → Step
@@ -100,7 +102,8 @@ back_at script play (Some latest) = seen script (record {
 
 -- the level back at the latest board; a frame shows it, also where it is as it was
 abbrev pub undone : Script → Play → Step
-undone script play = let back : Play = back_at script play (slice_get play.history (length play.history - 1)) in record { session = Playing back; text = shown script back }
+undone script play = let back : Play = back_at script play (slice_get play.history (length play.history - 1)) in
+    record { session = Playing back; text = shown script back }
 
 -- quitting ends the run
 abbrev pub quit : Step
@@ -117,7 +120,8 @@ key_in_level script play (Move Up) = input_taken script play Up
 key_in_level script play (Move Down) = input_taken script play Down
 key_in_level script play (Move Left) = input_taken script play Left
 key_in_level script play (Move Right) = input_taken script play Right
-key_in_level script play (Move Action) = unless_ignored script.options.no_action play (λ here. input_taken script here Action)
+key_in_level script play (Move Action) = unless_ignored script.options.no_action play (λ here.
+    input_taken script here Action)
 key_in_level script play Undo = unless_ignored script.options.no_undo play (λ here. undone script here)
 key_in_level script play Restart =
     unless_ignored script.options.no_restart play (λ here. restarted script (with_board_in_history here) None)

@@ -37,7 +37,8 @@ abbrev pub row_faults : Names → ℕ → ℕ → Line → List Fault
 row_faults names width place row =
     let characters : List ℕ = take width (characters_of row) in
     when (list_any (is_unknown_glyph names) characters) UnknownGlyph row.number
-    ++ (when (list_any (is_property_glyph names) characters) PropertyGlyph row.number ++ when (is_too_large width place) TooLarge row.number)
+    ++ (when (list_any (is_property_glyph names) characters) PropertyGlyph row.number ++ when
+    (is_too_large width place) TooLarge row.number)
 
 -- the faults of rows in a level of that width, the first of them at that place
 abbrev pub rows_faults : Names → ℕ → ℕ → List Line → List Fault

@@ -21,7 +21,7 @@ pub data EntryLines : Type 0 where
   MessageLine : Line → EntryLines
   LevelRows : Line → List Line → EntryLines
 
--- lines of entries ------------------------------------------------------------------------------------------------------
+-- lines of entries ----------------------------------------------------------------------------------------------------
 
 -- the line is a message
 abbrev pub is_message : Line → Bool
@@ -48,7 +48,7 @@ entries_at is_below_row (line ∷ below) = entry_at is_below_row line below ++ e
 abbrev pub entry_lines : List Line → List EntryLines
 entry_lines lines = entries_at false lines
 
--- messages and levels ---------------------------------------------------------------------------------------------------
+-- messages and levels -------------------------------------------------------------------------------------------------
 
 -- the characters of a row, without the blanks at its ends
 abbrev pub characters_of : Line → List ℕ
@@ -78,7 +78,12 @@ in_columns width rows = flat_map (λ column. map (λ row. slice_index_or row col
 -- the level of rows, so many columns wide
 abbrev pub level_of : Names → ℕ → List Line → Level
 level_of names width rows =
-    record { width = width; height = length rows; cells = grounded names (in_columns width (map (row_cells names width) rows)) }
+    record {
+      width = width;
+      height = length rows;
+      cells =
+          grounded names (in_columns width (map (row_cells names width) rows));
+    }
 
 -- the entry of its lines
 abbrev pub entry_of_lines : Names → EntryLines → Entry

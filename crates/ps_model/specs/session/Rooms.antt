@@ -1,4 +1,5 @@
--- Rooms: where a game asks for it by `flickscreen`, a frame shows one room of the board, that of the first cell in which
+-- Rooms: where a game asks for it by `flickscreen`, a frame shows one room of the board, that of the first cell in
+-- which
 -- an object of Player stands. Rooms lie side by side from the upper left corner, each of one size; at the right and the
 -- lower edge a room ends with the board.
 use Rattle.std.specs.Prelude.{ℕ, ◌+◌, ◌-◌, ◌*◌, ◌/◌, ◌%◌, min, Option, Some, None, unwrap_or, option_map}
@@ -12,7 +13,7 @@ use Rattle.ps_model.specs.board.Grid.{Grid, cell_at, cell_count}
 use Rattle.ps_model.specs.board.Turns.{has_player}
 use Rattle.ps_model.specs.session.Frames.{frame, shown_character}
 
--- the room that is seen ------------------------------------------------------------------------------------------------
+-- the room that is seen -----------------------------------------------------------------------------------------------
 
 -- the room of the cell in a column and a row
 abbrev pub room_at : RoomSize → ℕ → ℕ → Room
@@ -35,7 +36,7 @@ abbrev pub room_after : Option RoomSize → Names → Grid → Room → Room
 room_after None names g last = last
 room_after (Some size) names g last = room_seen names size g last
 
--- the frame of a room --------------------------------------------------------------------------------------------------
+-- the frame of a room -------------------------------------------------------------------------------------------------
 
 -- a side of a board in parts of a size: where the part of a number begins, which is no further than where the side ends
 abbrev pub part_start : ℕ → ℕ → ℕ → ℕ
@@ -61,11 +62,13 @@ whole_board g = record { first_column = 0; columns = g.width; first_row = 0; row
 -- a row of the frame of a part of the board
 abbrev pub window_row : Names → Grid → Window → ℕ → List ℕ
 window_row names g window row =
-    flat_map (λ column. encode_utf8 (shown_character names (cell_at g (column * g.height + row)))) (range_with_len window.first_column window.columns) ++ codes "\n"
+    flat_map (λ column. encode_utf8 (shown_character names (cell_at g (column * g.height + row))))
+    (range_with_len window.first_column window.columns) ++ codes "\n"
 
 -- the frame of a part of the board: its rows from the top, then an empty line
 abbrev pub window_frame : Names → Grid → Window → List ℕ
-window_frame names g window = flat_map (window_row names g window) (range_with_len window.first_row window.rows) ++ codes "\n"
+window_frame names g window = flat_map (window_row names g window) (range_with_len window.first_row window.rows) ++
+    codes "\n"
 
 -- the frame that shows a room of the board; without a size of rooms, the whole board
 abbrev pub frame_in : Option RoomSize → Names → Grid → Room → List ℕ

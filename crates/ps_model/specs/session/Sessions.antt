@@ -51,7 +51,7 @@ quietly session = record { session = session; text = [] }
 abbrev pub after : List ℕ → Step → Step
 after text step = record { session = step.session; text = text ++ step.text }
 
--- what is written --------------------------------------------------------------------------------------------------------
+-- what is written -----------------------------------------------------------------------------------------------------
 
 -- the line of a message
 abbrev pub message_line : List ℕ → List ℕ
@@ -88,7 +88,7 @@ level_line script entry = written_line (codes "# level ") (decimal (level_number
 abbrev pub done_line : Script → ℕ → List ℕ
 done_line script entry = written_line (codes "* level ") (decimal (level_number script entry) ++ codes " done")
 
--- boards -----------------------------------------------------------------------------------------------------------------
+-- boards --------------------------------------------------------------------------------------------------------------
 
 -- the last boards of a list, as many as are kept
 abbrev pub kept : List Grid → List Grid

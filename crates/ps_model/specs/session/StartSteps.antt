@@ -30,7 +30,8 @@ start_told play None true left again_turns = again_turns play
 abbrev pub start_counted : Script → Play → Done → ℕ → (Play → Step) → Step
 start_counted script play done left again_turns = elim done.changed [
   | false ↦ quietly (Playing play)
-  | true ↦ let next : Play = seen script (with_turn play done) in after (shown script next) (start_told next done.message done.again left again_turns)
+  | true ↦ let next : Play = seen script (with_turn play done) in
+      after (shown script next) (start_told next done.message done.again left again_turns)
 ]
 
 -- an again turn of a start by its outcome: a blocked and a restarting one don't count, nor does one that left the board
@@ -53,7 +54,8 @@ all_start_turns script play = start_turns script AGAIN_LIMIT play
 -- a level from its first frame on, with a message or without one, and with again turns or without
 abbrev pub started : Script → Play → Option (List ℕ) → Bool → Step
 started script play message again =
-    let next : Play = seen script play in after (shown script next) (start_told next message again AGAIN_LIMIT (all_start_turns script))
+    let next : Play = seen script play in after (shown script next)
+    (start_told next message again AGAIN_LIMIT (all_start_turns script))
 
 -- the start by its own turn: a blocked or restarting one leaves the board; its message comes before one from before
 abbrev pub started_by : Script → Play → Option (List ℕ) → Outcome → Step

@@ -6,7 +6,16 @@ use Rattle.ps_model.specs.text.Lines.{Line, lines_of}
 
 -- what stands at a number that no line has: a line that isn't there
 abbrev pub no_line : Line
-no_line = record { number = 0; start = 0; section = Prelude; is_header = false; bytes = []; taken = None; is_there = false }
+no_line = record {
+  number = 0;
+  start = 0;
+  section = Prelude;
+  is_header = false;
+  bytes = [];
+  taken = None;
+  is_there =
+      false;
+}
 
 -- the line of a number
 abbrev pub line_at : List ℕ → ℕ → Line

@@ -15,13 +15,13 @@ use Rattle.ps_model.specs.declared.texts.Cut.TheVariants.{Blanks}
 use Rattle.ps_model.specs.text.Words.{is_blank, word_texts, words_in}
 use Rattle.ps_model.specs.text.RuleWords.{rule_words_in}
 
--- names as they are compared --------------------------------------------------------------------------------------------
+-- names as they are compared ------------------------------------------------------------------------------------------
 
 -- a name or key word as it is compared: ASCII letters folded, all others as they stand
 abbrev pub folded : List ℕ → List ℕ
 folded name = str_to_ascii_lowercase name
 
--- raw lines -------------------------------------------------------------------------------------------------------------
+-- raw lines -----------------------------------------------------------------------------------------------------------
 
 -- the byte is a line feed
 abbrev pub is_line_feed : ℕ → Bool
@@ -47,7 +47,7 @@ as_lines (first ∷ others) = first ∷ without_empty_end others
 abbrev pub raw_lines : List ℕ → List (List ℕ)
 raw_lines bytes = as_lines (slice_split is_line_feed bytes)
 
--- comments --------------------------------------------------------------------------------------------------------------
+-- comments ------------------------------------------------------------------------------------------------------------
 
 -- how many comments are open behind a byte, where so many are before it; a `)` outside a comment is an ordinary
 -- character
@@ -64,7 +64,7 @@ without_comments depth [] = []
 without_comments depth (byte ∷ bytes) =
     (if in_comment depth byte then 32 else byte) ∷ without_comments (depth_behind depth byte) bytes
 
--- headers ---------------------------------------------------------------------------------------------------------------
+-- headers -------------------------------------------------------------------------------------------------------------
 
 -- the section that each header begins, by its word with letters folded
 abbrev pub headers : List (List ℕ × Section)
@@ -81,7 +81,7 @@ header_of_words (word ∷ words) = elim words [ [] ↦ lookup (bytes_eq (folded 
 abbrev pub header_of : List ℕ → Option Section
 header_of bytes = header_of_words (word_texts Blanks bytes)
 
--- texts taken as they stand -----------------------------------------------------------------------------------------------
+-- texts taken as they stand -------------------------------------------------------------------------------------------
 
 -- bytes without the blanks at their end
 abbrev pub without_blank_end : List ℕ → List ℕ
@@ -110,7 +110,8 @@ abbrev pub text_place : Section → List ℕ → Option ℕ
 text_place Prelude uncommented = end_of_first uncommented (codes "title" ∷ codes "author" ∷ codes "homepage" ∷ [])
 text_place Levels uncommented = end_of_first uncommented (codes "message" ∷ [])
 text_place Rules uncommented =
-    end_of_word (find (is_word uncommented (codes "message" ∷ [])) (behind_arrow uncommented (rule_words_in uncommented)))
+    end_of_word (find (is_word uncommented (codes "message" ∷ []))
+    (behind_arrow uncommented (rule_words_in uncommented)))
 text_place section uncommented = None
 
 -- how long that text is: in the prelude it ends where a comment begins; elsewhere it has all that follows, parentheses
@@ -125,7 +126,7 @@ depth_below Prelude place depth raw = fold depth_behind depth raw
 depth_below section (Some place) depth raw = 0
 depth_below section None depth raw = fold depth_behind depth raw
 
--- lines -----------------------------------------------------------------------------------------------------------------
+-- lines ---------------------------------------------------------------------------------------------------------------
 
 -- a text taken as it stands: the byte of the whole text at which it begins; and its bytes, without the blanks at both
 -- ends
@@ -185,7 +186,8 @@ bytes_left raw section uncommented (Some place) = without_text uncommented place
 -- the text that is taken as it stands at a place
 abbrev pub text_taken : List ℕ → ℕ → Section → Option ℕ → Option Taken
 text_taken raw start section None = None
-text_taken raw start section (Some place) = let behind : List ℕ = drop place raw in Some (text_behind start place (take (text_length section behind) behind))
+text_taken raw start section (Some place) = let behind : List ℕ = drop place raw in
+    Some (text_behind start place (take (text_length section behind) behind))
 
 -- the lines, from a number and a byte of the text on, the first below a line of that section and with so many comments
 -- open

@@ -10,10 +10,12 @@ use Rattle.ps_model.specs.text.Faults.{first_fault}
 abbrev pub Reads : {A : Type 0} → Result A Refusal → A → List Fault → Type 0
 Reads result value faults =
     IfOk result (λ read. read ≡ value)
-    × (OnOk result (faults ≡ []) × IfErr result (λ e. (fault : Fault) → e ≡ Refused fault → first_fault faults ≡ Some fault))
+    × (OnOk result (faults ≡ []) × IfErr result (λ e. (fault : Fault) → e ≡ Refused fault →
+    first_fault faults ≡ Some fault))
 
 -- the same of what is seen as its value by a view
 abbrev pub ReadsAs : {A B : Type 0} → (A → B) → Result A Refusal → B → List Fault → Type 0
 ReadsAs view result value faults =
     IfOk result (λ read. view read ≡ value)
-    × (OnOk result (faults ≡ []) × IfErr result (λ e. (fault : Fault) → e ≡ Refused fault → first_fault faults ≡ Some fault))
+    × (OnOk result (faults ≡ []) × IfErr result (λ e. (fault : Fault) → e ≡ Refused fault →
+    first_fault faults ≡ Some fault))

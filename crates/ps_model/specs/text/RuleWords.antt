@@ -49,7 +49,8 @@ rule_words_from zero place open_run (byte ∷ bytes) = elim (is_blank byte) [
 abbrev pub words_behind_plus : ℕ → List ℕ → List (ℕ × ℕ)
 words_behind_plus place [] = []
 words_behind_plus place (byte ∷ bytes) =
-    if byte == 43 then (place, suc place) ∷ rule_words_from 0 (suc place) None bytes else rule_words_from 0 place None (byte ∷ bytes)
+    if byte == 43 then (place, suc place) ∷ rule_words_from 0 (suc place) None bytes else rule_words_from 0 place None
+    (byte ∷ bytes)
 
 -- the words of a line of RULES, by their places in it
 abbrev pub rule_words_in : List ℕ → List (ℕ × ℕ)

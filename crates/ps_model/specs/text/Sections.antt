@@ -42,13 +42,15 @@ has_section headers section = list_any (is_of section) headers
 
 -- the number of the line at which a section begins; 0 where it has no header
 abbrev pub header_number : List Line → Section → ℕ
-header_number lines section = unwrap_or (option_map (λ header. header.number) (find (is_of section) (header_lines lines))) 0
+header_number lines section = unwrap_or (option_map (λ header.
+    header.number) (find (is_of section) (header_lines lines))) 0
 
--- faults ---------------------------------------------------------------------------------------------------------------
+-- faults --------------------------------------------------------------------------------------------------------------
 
 -- a header out of order, GM1: above it stands one of the same section or of a later one
 abbrev pub is_out_of_order : List Line → Line → Bool
-is_out_of_order headers header = list_any (λ above. nat_lt above.number header.number && nat_le (rank header.section) (rank above.section)) headers
+is_out_of_order headers header = list_any (λ above.
+    nat_lt above.number header.number && nat_le (rank header.section) (rank above.section)) headers
 
 -- real time, GM3: a line of the prelude asks for it
 abbrev pub is_real_time : Line → Bool

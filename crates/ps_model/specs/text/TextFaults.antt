@@ -21,4 +21,5 @@ utf8_fault bytes = elim (nat_lt (utf8_valid_len bytes) (length bytes)) [
 
 -- why the bytes are refused as a text, if they are
 abbrev pub text_fault : List ℕ → Option Fault
-text_fault bytes = elim (nat_lt TEXT_LIMIT (length bytes)) [ true ↦ Some (record { kind = TooLong; line = 1 }) | false ↦ utf8_fault bytes ]
+text_fault bytes = elim (nat_lt TEXT_LIMIT (length bytes))
+    [ true ↦ Some (record { kind = TooLong; line = 1 }) | false ↦ utf8_fault bytes ]

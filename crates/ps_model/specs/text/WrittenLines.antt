@@ -11,4 +11,5 @@ pub record WrittenLine : Type 0 where
 
 -- the lines that aren't blank
 abbrev pub written_lines : Cut → List Line → List WrittenLine
-written_lines cut lines = map (λ line. record { number = line.number; words = word_texts cut line.bytes }) (filter (λ line. not (is_blank_line line)) lines)
+written_lines cut lines = map (λ line. record { number = line.number; words = word_texts cut line.bytes })
+    (filter (λ line. not (is_blank_line line)) lines)

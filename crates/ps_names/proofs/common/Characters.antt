@@ -15,5 +15,7 @@ only-more : (c : ℕ) (cs bs : List ℕ) → encodes cs ≡ bs → (bs ≡ [] �
 only-more c [] bs e n = absurd (n (sym e))
 only-more c (d ∷ cs) bs e n = refl
 
-pub more_than_one : (bs rest : List ℕ) (c : ℕ) → IsUtf8 bs → IsUtf8 rest → bs ≡ encode c ++ rest → (rest ≡ [] → ⊥) → one_character bs ≡ None
-more_than_one bs rest c u v e n = rw (chars_past_char bs rest c u e) (only-more c (chars rest) rest (encodes-chars rest v) n)
+pub more_than_one : (bs rest : List ℕ) (c : ℕ) → IsUtf8 bs → IsUtf8 rest → bs ≡ encode c ++ rest → (rest ≡ [] → ⊥) →
+    one_character bs ≡ None
+more_than_one bs rest c u v e n = rw (chars_past_char bs rest c u e)
+    (only-more c (chars rest) rest (encodes-chars rest v) n)

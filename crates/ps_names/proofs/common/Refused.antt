@@ -7,7 +7,8 @@ use Rattle.ps_model.specs.declared.refusal.Refusal.TheVariants.{Refused}
 use Rattle.ps_model.specs.text.Faults.{first_fault}
 use Rattle.ps_model.specs.text.Reads.{Reads}
 
-pub refused-reads : {A : Type 0} (result : Result A Refusal) (error : Refusal) (value : A) (faults : List Fault) → IsErrAnd result (λ e. e ≡ error)
+pub refused-reads : {A : Type 0} (result : Result A Refusal) (error : Refusal) (value : A) (faults : List Fault) →
+    IsErrAnd result (λ e. e ≡ error)
     → ((fault : Fault) → error ≡ Refused fault → first_fault faults ≡ Some fault) → Reads result value faults
 refused-reads (Ok read) error value faults is told = absurd is
 refused-reads (Err e) error value faults is told = (tt, (tt, λ fault h. told fault (sym is ∙ h)))

@@ -1,5 +1,6 @@
 -- The names and the faults of sections, put together from their parts.
-use Rattle.std.proofs.Common.{suc, ◌+◌, ◌∷◌, filter_map, ◌≡◌, ℕ, List, [], ◌++◌, length, refl, sym, ap, ◌∙◌, Option, append_assoc}
+use Rattle.std.proofs.Common.{suc, ◌+◌, ◌∷◌, filter_map, ◌≡◌, ℕ, List, [], ◌++◌, length, refl, sym, ap, ◌∙◌, Option}
+use Rattle.std.proofs.Common.{append_assoc}
 use Rattle.std.specs.List.{enumerate_from}
 use Rattle.std.proofs.lemmas.List.{length-map}
 use Rattle.ps_model.specs.declared.faults.Fault.{Fault}
@@ -23,7 +24,8 @@ length-from number (x ∷ xs) = ap suc (length-from (number + 1) xs)
 
 -- each name of the legend has its meaning, if any
 pub length-meanings : (legend : List LegendName) → length (legend_meanings legend) ≡ length legend
-length-meanings legend = length-map (enumerate_from 0 legend) (λ numbered. meaning_behind legend (length legend) (OfLine numbered.0)) ∙ length-from 0 legend
+length-meanings legend = length-map (enumerate_from 0 legend) (λ numbered.
+    meaning_behind legend (length legend) (OfLine numbered.0)) ∙ length-from 0 legend
 
 module _ (objects : List ObjectText) (lines layer_lines : List WrittenLine) where
   abbrev pub meanings_here : List (Option Meaning)
@@ -36,7 +38,8 @@ module _ (objects : List ObjectText) (lines layer_lines : List WrittenLine) wher
   layers_here = layers_of_lines (entries_with table_here) layer_lines
 
   long : length meanings_here ≡ length (declarations lines)
-  long = length-meanings (legend_of objects lines) ∙ length-map (declarations lines) (legend_name (known_names (object_names objects) (declarations lines)))
+  long = length-meanings (legend_of objects lines)
+      ∙ length-map (declarations lines) (legend_name (known_names (object_names objects) (declarations lines)))
 
   pub entries-here : entries_with table_here ≡ entries_of (sections_of objects lines layer_lines).declared
   entries-here = entries-shown objects lines meanings_here long
@@ -44,30 +47,48 @@ module _ (objects : List ObjectText) (lines layer_lines : List WrittenLine) wher
   pub layers-same : layers_here ≡ (sections_of objects lines layer_lines).layers
   layers-same = ap (λ entries. layers_of_lines entries layer_lines) entries-here
 
-  pub glyphs-here : filter_map glyph_named table_here ≡ filter_map glyph_of (sections_of objects lines layer_lines).declared
+  pub glyphs-here : filter_map glyph_named table_here ≡ filter_map glyph_of
+      (sections_of objects lines layer_lines).declared
   glyphs-here = glyphs-named objects lines meanings_here long
 
   -- the faults of OBJECTS and LEGEND in front of others
   declaring-front : (others : List Fault) → declaring_faults objects lines ++ others
-      ≡ object_faults 0 [] objects ++ (form_faults (folded_names objects) lines ++ (legend_faults (legend_of objects lines) ++ others))
+      ≡ object_faults 0 [] objects ++ (form_faults (folded_names objects) lines ++
+      (legend_faults (legend_of objects lines) ++ others))
   declaring-front others =
-      append_assoc (object_faults 0 [] objects) (form_faults (folded_names objects) lines ++ legend_faults (legend_of objects lines)) others
-      ∙ ap (λ (faults : List Fault). object_faults 0 [] objects ++ faults) (append_assoc (form_faults (folded_names objects) lines) (legend_faults (legend_of objects lines)) others)
+      append_assoc (object_faults 0 [] objects)
+      (form_faults (folded_names objects) lines ++ legend_faults (legend_of objects lines)) others
+      ∙ ap (λ (faults : List Fault). object_faults 0 [] objects ++ faults)
+      (append_assoc (form_faults (folded_names objects) lines) (legend_faults (legend_of objects lines)) others)
 
   -- the faults, by the parts that the code keeps
-  pub faults-here : (header : ℕ) → declaring_faults objects lines ++ (layer_faults layers_here ++ faults_of_whole header objects (layers_found (length objects) layers_here) (legend_of objects lines) meanings_here
-      (entries_with table_here) (layer_numbers (layers_found (length objects) layers_here))) ≡ faults_of_sections header (sections_of objects lines layer_lines)
+  pub faults-here : (header : ℕ) → declaring_faults objects lines ++
+      (layer_faults layers_here ++ faults_of_whole header objects (layers_found (length objects) layers_here)
+      (legend_of objects lines) meanings_here
+      (entries_with table_here) (layer_numbers (layers_found (length objects) layers_here))) ≡ faults_of_sections
+      header (sections_of objects lines layer_lines)
   faults-here header = by _ _ (sym entries-here) ∙ declaring-front _
     where
       by : (told entries : List (List ℕ × Meaning)) → told ≡ entries
-          → declaring_faults objects lines ++ (layer_faults (layers_of_lines entries layer_lines) ++ faults_of_whole header objects (layers_found (length objects) (layers_of_lines entries layer_lines)) (legend_of objects lines)
+          → declaring_faults objects lines ++ (layer_faults (layers_of_lines entries layer_lines) ++ faults_of_whole
+          header objects (layers_found (length objects) (layers_of_lines entries layer_lines))
+          (legend_of objects lines)
           meanings_here entries (layer_numbers (layers_found (length objects) (layers_of_lines entries layer_lines))))
-          ≡ declaring_faults objects lines ++ (layer_faults (layers_of_lines told layer_lines) ++ faults_of_whole header objects (layers_found (length objects) (layers_of_lines told layer_lines)) (legend_of objects lines)
+          ≡ declaring_faults objects lines ++ (layer_faults (layers_of_lines told layer_lines) ++ faults_of_whole
+          header objects (layers_found (length objects) (layers_of_lines told layer_lines))
+          (legend_of objects lines)
           meanings_here told (layer_numbers (layers_found (length objects) (layers_of_lines told layer_lines))))
       by told entries e = rw e refl
 
   -- the names, by the parts that the code keeps
-  pub names-here : (record { entries = entries_with table_here; layers = layer_numbers (layers_found (length objects) layers_here); layer_count = length layers_here; glyphs = filter_map glyph_named table_here })
+  pub names-here : (record {
+    entries = entries_with table_here;
+    layers =
+        layer_numbers (layers_found (length objects) layers_here);
+    layer_count = length layers_here;
+    glyphs =
+        filter_map glyph_named table_here;
+  })
       ≡ names_of (sections_of objects lines layer_lines)
   names-here = rw (glyphs-here) (by _ _ entries-here)
     where
@@ -88,17 +109,29 @@ module _ (objects : List ObjectText) (lines layer_lines : List WrittenLine) wher
   -- the faults of the whole
   abbrev pub told_here : ℕ → List Fault
   told_here header =
-      faults_of_whole header objects (layers_found (length objects) layers_here) (legend_of objects lines) meanings_here (entries_with table_here) (layer_numbers (layers_found (length objects) layers_here))
+      faults_of_whole header objects (layers_found (length objects) layers_here) (legend_of objects lines)
+      meanings_here (entries_with table_here) (layer_numbers (layers_found (length objects) layers_here))
 
   -- the faults of the whole, by what the code has
-  pub whole-here : (header : ℕ) (placed : List (Option ℕ)) (legend : List LegendName) (meanings : List (Option Meaning)) (table : List (Named × Option Meaning)) (layers : List ℕ)
-      → layers ≡ layer_numbers placed → placed ≡ layers_found (length objects) layers_here → legend ≡ legend_of objects lines → meanings ≡ meanings_here → table ≡ table_here
+  pub whole-here : (header : ℕ) (placed : List (Option ℕ)) (legend : List LegendName)
+      (meanings : List (Option Meaning)) (table : List (Named × Option Meaning)) (layers : List ℕ)
+      → layers ≡ layer_numbers placed → placed ≡ layers_found (length objects) layers_here →
+      legend ≡ legend_of objects lines → meanings ≡ meanings_here → table ≡ table_here
       → faults_of_whole header objects placed legend meanings (entries_with table) layers
-      ≡ faults_of_whole header objects (layers_found (length objects) layers_here) (legend_of objects lines) meanings_here (entries_with table_here) (layer_numbers (layers_found (length objects) layers_here))
+      ≡ faults_of_whole header objects (layers_found (length objects) layers_here) (legend_of objects lines)
+      meanings_here (entries_with table_here) (layer_numbers (layers_found (length objects) layers_here))
   whole-here header placed legend meanings table layers l p g m t = rw (l, p, g, m, t) refl
 
   -- the names, by what the code has
-  pub names-made : (table : List (Named × Option Meaning)) (layers : List ℕ) (count : ℕ) (glyphs : List Glyph) → table ≡ table_here → layers ≡ layer_numbers (layers_found (length objects) layers_here)
-      → count ≡ length layers_here → glyphs ≡ filter_map glyph_named table → (let names : Names = record { entries = entries_with table; layers = layers; layer_count = count; glyphs = glyphs } in names)
+  pub names-made : (table : List (Named × Option Meaning)) (layers : List ℕ) (count : ℕ) (glyphs : List Glyph) →
+      table ≡ table_here → layers ≡ layer_numbers (layers_found (length objects) layers_here)
+      → count ≡ length layers_here → glyphs ≡ filter_map glyph_named table →
+      (let names : Names = record {
+        entries = entries_with table;
+        layers = layers;
+        layer_count = count;
+        glyphs =
+            glyphs;
+      } in names)
       ≡ names_of (sections_of objects lines layer_lines)
   names-made table layers count glyphs t l c g = rw (g, l, c, t) names-here

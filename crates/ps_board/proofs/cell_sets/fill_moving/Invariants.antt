@@ -11,7 +11,8 @@ abbrev pub invariant-loop-row : goal.invariant-loop-row
 invariant-loop-row g l =
     record {
       low : AreBelow (g.B.Board.grid l.board).height l.left;
-      passed : ArePassed (IsRowOf (list_any is_moving) (g.B.Board.grid l.board) l.rows) (g.B.Board.grid l.board).height l.left;
+      passed : ArePassed (IsRowOf (list_any is_moving) (g.B.Board.grid l.board) l.rows) (g.B.Board.grid l.board).height
+          l.left;
       long : length l.rows ≡ (g.B.Board.grid l.board).height;
     }
 

@@ -9,4 +9,5 @@ use Rattle.ps_board.proofs.cell_sets.moving_columns.Given as goal
 abbrev pub invariant-loop-layer : goal.invariant-loop-layer
 invariant-loop-layer g l =
     let grid : Grid = g.B.Board.grid l.board in
-    (x : ℕ) → x < grid.width → column_at l.moving x ≡ list_any is_moving (take l.layer (cell_at grid (x * grid.height + l.row)))
+    (x : ℕ) → x < grid.width → column_at l.moving x ≡ list_any is_moving
+    (take l.layer (cell_at grid (x * grid.height + l.row)))

@@ -6,6 +6,7 @@ use Rattle.ps_check.proofs.sizes.levels_among.Given as goal
 -- the levels passed by are counted, and the others lie ahead
 abbrev pub invariant-loop-entry : goal.invariant-loop-entry
 invariant-loop-entry l = record {
-  counted : l.count + length (filter is_level (entries_shown (drop l.entry-index l.entries))) ≡ length (filter is_level (entries_shown l.entries));
+  counted : l.count + length (filter is_level (entries_shown (drop l.entry-index l.entries))) ≡ length
+      (filter is_level (entries_shown l.entries));
   few : l.count ≤ l.entry-index;
 }

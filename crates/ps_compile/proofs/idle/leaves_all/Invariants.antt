@@ -5,4 +5,5 @@ use Rattle.ps_program.specs.Leaving.{leaves}
 use Rattle.ps_compile.proofs.idle.leaves_all.Given as goal
 
 abbrev pub invariant-loop-row : goal.invariant-loop-row
-invariant-loop-row l = list_all (list_all (list_all leaves)) (rows_shown (drop l.row-index l.rows)) ≡ list_all (list_all (list_all leaves)) (rows_shown l.rows)
+invariant-loop-row l = list_all (list_all (list_all leaves)) (rows_shown (drop l.row-index l.rows)) ≡ list_all
+    (list_all (list_all leaves)) (rows_shown l.rows)

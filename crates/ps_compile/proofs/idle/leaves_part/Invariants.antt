@@ -5,4 +5,5 @@ use Rattle.ps_program.specs.Leaving.{leaves}
 use Rattle.ps_compile.proofs.idle.leaves_part.Given as goal
 
 abbrev pub invariant-loop-cell : goal.invariant-loop-cell
-invariant-loop-cell l = list_all leaves (map cell_shown (drop l.cell-index l.part)) ≡ list_all leaves (map cell_shown l.part)
+invariant-loop-cell l = list_all leaves (map cell_shown (drop l.cell-index l.part)) ≡ list_all leaves
+    (map cell_shown l.part)

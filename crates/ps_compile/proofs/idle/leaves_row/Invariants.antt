@@ -5,4 +5,5 @@ use Rattle.ps_program.specs.Leaving.{leaves}
 use Rattle.ps_compile.proofs.idle.leaves_row.Given as goal
 
 abbrev pub invariant-loop-part : goal.invariant-loop-part
-invariant-loop-part l = list_all (list_all leaves) (parts_shown (drop l.part-index l.part-items)) ≡ list_all (list_all leaves) (row_shown l.row)
+invariant-loop-part l = list_all (list_all leaves) (parts_shown (drop l.part-index l.part-items)) ≡ list_all
+    (list_all leaves) (row_shown l.row)

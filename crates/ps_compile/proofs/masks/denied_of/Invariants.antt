@@ -7,4 +7,6 @@ use Rattle.ps_readings.specs.WantedShown.{wanteds_shown}
 use Rattle.ps_compile.proofs.masks.denied_of.Given as goal
 
 abbrev pub invariant-loop-wanted : goal.invariant-loop-wanted
-invariant-loop-wanted l = l.made.items ++ map (layered l.names) (flat_map denied (wanteds_shown (drop l.wanted-index l.side))) ≡ map (layered l.names) (flat_map denied (wanteds_shown l.side))
+invariant-loop-wanted l = l.made.items ++ map (layered l.names)
+    (flat_map denied (wanteds_shown (drop l.wanted-index l.side))) ≡ map (layered l.names)
+    (flat_map denied (wanteds_shown l.side))

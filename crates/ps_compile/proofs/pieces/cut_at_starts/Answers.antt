@@ -8,6 +8,8 @@ use Rattle.ps_compile.proofs.pieces.cut_at_starts.Goals as goal
 
 pub returns : goal.returns
 returns c =
-    if_ok c.collect.result (λ parts h. sym (parts-now line_shown parts.items) ∙ ap (map lines_shown) h ∙ cut-shown is_start line_shown c.args.lines.now)
-    (map_from_collect _ c.collect.ensures.ran (YieldsList-from_slice_split _ (λ line. is_start (line_shown line)) c.args.lines.now c.split.ensures.rest c.split.ensures.done
+    if_ok c.collect.result (λ parts h. sym (parts-now line_shown parts.items) ∙ ap (map lines_shown) h
+    ∙ cut-shown is_start line_shown c.args.lines.now)
+    (map_from_collect _ c.collect.ensures.ran (YieldsList-from_slice_split _ (λ line.
+    is_start (line_shown line)) c.args.lines.now c.split.ensures.rest c.split.ensures.done
     c.split.ensures.closure (λ x r q k. search (rules, tests))))

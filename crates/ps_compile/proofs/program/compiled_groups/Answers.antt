@@ -7,4 +7,5 @@ use Rattle.ps_compile.proofs.program.compiled_groups.Goals as goal
 pub add-requires : goal.add-requires
 add-requires c =
     subst (λ line. IsWholeLine (line_shown line)) c.in-Rule.is
-    (shown-at IsWholeLine line_shown c.args.lines.now c.line-item.result c.loop-line.line-index c.requires c.loop-line-test.true c.line-item.is)
+    (shown-at IsWholeLine line_shown c.args.lines.now c.line-item.result c.loop-line.line-index c.requires
+    c.loop-line-test.true c.line-item.is)

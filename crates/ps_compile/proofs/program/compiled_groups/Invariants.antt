@@ -8,4 +8,6 @@ use Rattle.ps_compile.specs.ProgramsMade.{compact_groups}
 use Rattle.ps_compile.proofs.program.compiled_groups.Given as goal
 
 abbrev pub invariant-loop-line : goal.invariant-loop-line
-invariant-loop-line l = groups_with l.names l.groups (filter (is_in_part l.part) (filter_map rule_in (lines_shown (drop l.line-index l.lines)))) ≡ compact_groups l.names l.part (lines_shown l.lines)
+invariant-loop-line l = groups_with l.names l.groups
+    (filter (is_in_part l.part) (filter_map rule_in (lines_shown (drop l.line-index l.lines)))) ≡ compact_groups
+    l.names l.part (lines_shown l.lines)

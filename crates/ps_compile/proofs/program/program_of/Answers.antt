@@ -13,18 +13,26 @@ use Rattle.ps_compile.proofs.program.program_of.Goals as goal
 
 pub push_outside-requires : goal.push_outside-requires
 push_outside-requires c =
-    shown-first (All IsWholeLine) (λ piece. lines_shown piece.now) c.deref.result.now c.in-Some.before.now c.in-Some.others.now (search rules)
-    (cut-whole is_start (λ piece. lines_shown piece.now) c.deref.result.now (lines_shown c.args.lines.now) (search rules) c.requires)
+    shown-first (All IsWholeLine) (λ piece. lines_shown piece.now) c.deref.result.now c.in-Some.before.now
+    c.in-Some.others.now (search rules)
+    (cut-whole is_start (λ piece. lines_shown piece.now) c.deref.result.now (lines_shown c.args.lines.now)
+    (search rules) c.requires)
 
 pub push_behind-requires : goal.push_behind-requires
 push_behind-requires c =
-    shown-at (All IsWholeLine) (λ piece. lines_shown piece.now) c.in-Some.others.now c.piece-item.result c.loop-piece.piece-index
-    (shown-others (All IsWholeLine) (λ piece. lines_shown piece.now) c.deref.result.now c.in-Some.before.now c.in-Some.others.now (search rules)
-    (cut-whole is_start (λ piece. lines_shown piece.now) c.deref.result.now (lines_shown c.args.lines.now) (search rules) c.requires))
+    shown-at (All IsWholeLine) (λ piece. lines_shown piece.now) c.in-Some.others.now c.piece-item.result
+    c.loop-piece.piece-index
+    (shown-others (All IsWholeLine) (λ piece. lines_shown piece.now) c.deref.result.now c.in-Some.before.now
+    c.in-Some.others.now (search rules)
+    (cut-whole is_start (λ piece. lines_shown piece.now) c.deref.result.now (lines_shown c.args.lines.now)
+    (search rules) c.requires))
     c.loop-piece-test.true c.piece-item.is
 
 pub loop-piece-init : goal.loop-piece-init
 loop-piece-init c =
-    let before : sections_shown c.push_outside.new.sections.items ≡ compact_outside c.args.names.now c.args.part (lines_shown c.in-Some.before.now.now) = search rules in
-    ap (λ made. made ++ flat_map (compact_behind c.args.names.now c.args.part) (pieces_shown c.in-Some.others.now)) before
-    ∙ sym (program-made c.args.names.now c.args.part (lines_shown c.args.lines.now) (lines_shown c.in-Some.before.now.now) (pieces_shown c.in-Some.others.now) (search rules))
+    let before : sections_shown c.push_outside.new.sections.items ≡ compact_outside c.args.names.now c.args.part
+    (lines_shown c.in-Some.before.now.now) = search rules in
+    ap (λ made. made ++ flat_map (compact_behind c.args.names.now c.args.part) (pieces_shown c.in-Some.others.now))
+    before
+    ∙ sym (program-made c.args.names.now c.args.part (lines_shown c.args.lines.now)
+    (lines_shown c.in-Some.before.now.now) (pieces_shown c.in-Some.others.now) (search rules))

@@ -9,4 +9,5 @@ use Rattle.ps_compile.proofs.program.program_of.Given as goal
 
 abbrev pub invariant-loop-piece : goal.invariant-loop-piece
 invariant-loop-piece l =
-    sections_shown l.sections.items ++ flat_map (compact_behind l.names l.part) (pieces_shown (drop l.piece-index l.others)) ≡ compact_program l.names l.part (lines_shown l.lines)
+    sections_shown l.sections.items ++ flat_map (compact_behind l.names l.part)
+    (pieces_shown (drop l.piece-index l.others)) ≡ compact_program l.names l.part (lines_shown l.lines)

@@ -8,5 +8,6 @@ use Rattle.ps_compile.proofs.program.push_behind.Given as goal
 
 abbrev pub invariant-loop-piece : goal.invariant-loop-piece
 invariant-loop-piece l =
-    sections_shown l.sections.items ++ flat_map (compact_outside l.names l.part) (pieces_shown (drop l.piece-index l.others))
+    sections_shown l.sections.items ++ flat_map (compact_outside l.names l.part)
+    (pieces_shown (drop l.piece-index l.others))
     ≡ sections_shown l.fn.sections.items ++ compact_behind l.names l.part (lines_shown l.lines)

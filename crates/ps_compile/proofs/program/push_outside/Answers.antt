@@ -8,6 +8,7 @@ use Rattle.ps_compile.proofs.program.push_outside.Goals as goal
 
 pub returns : goal.returns
 returns c =
-    let made : map Group (groups_shown c.in_ok-groups.groups.items) ≡ compact_outside c.args.names.now c.args.part (lines_shown c.args.lines.now) =
+    let made : map Group (groups_shown c.in_ok-groups.groups.items) ≡ compact_outside c.args.names.now c.args.part
+    (lines_shown c.args.lines.now) =
     ap (map Group) c.in_ok-groups.ensures ∙ outside-made c.args.names.now c.args.part (lines_shown c.args.lines.now) in
     search (rules, made)

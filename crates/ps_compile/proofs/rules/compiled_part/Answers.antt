@@ -6,4 +6,5 @@ use Rattle.ps_compile.proofs.rules.compiled_part.Goals as goal
 
 pub returns : goal.returns
 returns c =
-    ap (map cell_shown) c.from_end.ensures ∙ shown-from_end c.args.backwards cell_shown c.in_ok-cells.cells.items ∙ ap (from_end c.args.backwards) c.in_ok-cells.ensures
+    ap (map cell_shown) c.from_end.ensures ∙ shown-from_end c.args.backwards cell_shown c.in_ok-cells.cells.items
+    ∙ ap (from_end c.args.backwards) c.in_ok-cells.ensures

@@ -9,5 +9,6 @@ use Rattle.ps_compile.proofs.rules.compiled_parts.Given as goal
 
 abbrev pub invariant-loop-part : goal.invariant-loop-part
 invariant-loop-part l =
-    parts_shown l.made.items ++ map (part_from l.backwards (compiled_cell l.names l.occurrences (reading_shown l.reading))) (tree_row_shown (drop l.part-index l.row))
+    parts_shown l.made.items ++ map (part_from l.backwards
+    (compiled_cell l.names l.occurrences (reading_shown l.reading))) (tree_row_shown (drop l.part-index l.row))
     ≡ map (part_from l.backwards (compiled_cell l.names l.occurrences (reading_shown l.reading))) (tree_row_shown l.row)

@@ -11,5 +11,7 @@ use Rattle.ps_compile.proofs.rules.compiled_rows.Given as goal
 abbrev pub invariant-loop-row : goal.invariant-loop-row
 invariant-loop-row l =
     All (LiesAlong l.axis) l.made.items
-    × (rows_shown l.made.items ++ map (row_from l.backwards (compiled_cell l.names l.occurrences (reading_shown l.reading))) (tree_rows_shown (drop l.row-index l.rows))
-    ≡ map (row_from l.backwards (compiled_cell l.names l.occurrences (reading_shown l.reading))) (tree_rows_shown l.rows))
+    × (rows_shown l.made.items ++ map (row_from l.backwards
+    (compiled_cell l.names l.occurrences (reading_shown l.reading))) (tree_rows_shown (drop l.row-index l.rows))
+    ≡ map (row_from l.backwards (compiled_cell l.names l.occurrences (reading_shown l.reading)))
+    (tree_rows_shown l.rows))

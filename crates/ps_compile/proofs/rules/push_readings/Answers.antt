@@ -10,7 +10,11 @@ use Rattle.ps_compile.proofs.rules.push_readings.Goals as goal
 
 pub loop-readings-preserved : goal.loop-readings-preserved
 loop-readings-preserved c =
-    read-more c.args.names.now c.args.occurrences.now (made_last c.next.new.self) (readings_left c.next.new.self) (readings_left c.loop-readings.readings) (rules_shown c.loop-readings.rules.items)
-    (rules_shown c.push_if_possible.new.rules.items) _ (one-taken c.in_ok-next.field-0 _ _ _ c.in_ok-next.ensures c.if-branch.true)
-    (c.in_ok-push_if_possible.ensures ∙ ap (λ (r : Reading). rules_shown c.loop-readings.rules.items ++ compact (rule_if c.args.names.now c.args.occurrences.now r)) c.reading.ensures)
+    read-more c.args.names.now c.args.occurrences.now (made_last c.next.new.self) (readings_left c.next.new.self)
+    (readings_left c.loop-readings.readings) (rules_shown c.loop-readings.rules.items)
+    (rules_shown c.push_if_possible.new.rules.items) _
+    (one-taken c.in_ok-next.field-0 _ _ _ c.in_ok-next.ensures c.if-branch.true)
+    (c.in_ok-push_if_possible.ensures ∙ ap (λ (r : Reading).
+    rules_shown c.loop-readings.rules.items ++ compact (rule_if c.args.names.now c.args.occurrences.now r))
+    c.reading.ensures)
     c.loop-readings.invariant

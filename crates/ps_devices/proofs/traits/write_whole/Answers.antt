@@ -11,7 +11,8 @@ loop-done-preserved g c =
     let some : 0 < c.in-Ok.count = search (rules, arith) in
     record {
       within = grind (arith, common_steps);
-      taken = grows_twice _ _ _ _ _ _ c.loop-done.invariant.taken c.in-Ok.ensures.taken (rw c.split_at.ensures.back (take-add c.loop-done.done c.in-Ok.count c.args.bytes.now));
+      taken = grows_twice _ _ _ _ _ _ c.loop-done.invariant.taken c.in-Ok.ensures.taken
+          (rw c.split_at.ensures.back (take-add c.loop-done.done c.in-Ok.count c.args.bytes.now));
       well = search (rules, arith);
       calls = omega (arith, one, some, c.loop-done.invariant.calls);
       called = λ more. omega (arith, one, c.loop-done.invariant.counts);

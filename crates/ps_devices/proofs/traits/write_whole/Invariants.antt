@@ -6,7 +6,8 @@ use Rattle.ps_devices.proofs.traits.write_whole.Given as goal
 abbrev pub invariant-loop-done : goal.invariant-loop-done
 invariant-loop-done g l = record {
   within : l.done ≤ length l.bytes;
-  taken : Grows (g.W.ByteWriter.state l.initial.writer).contents (g.W.ByteWriter.state l.writer).contents (take l.done l.bytes);
+  taken : Grows (g.W.ByteWriter.state l.initial.writer).contents (g.W.ByteWriter.state l.writer).contents
+      (take l.done l.bytes);
   well : (g.W.ByteWriter.state l.writer).has_failed ≡ (g.W.ByteWriter.state l.initial.writer).has_failed;
   calls : (g.W.ByteWriter.state l.writer).calls ≤ (g.W.ByteWriter.state l.initial.writer).calls + l.done;
   called : 0 < l.done → (g.W.ByteWriter.state l.initial.writer).calls < (g.W.ByteWriter.state l.writer).calls;

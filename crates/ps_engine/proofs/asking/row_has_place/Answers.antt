@@ -10,4 +10,5 @@ returns-clause-none g c = λ no.
     let grid = g.B.Board.grid c.args.board.now in
     let table = g.B.Board.table c.args.board.now in
     let row = c.args.row.now in
-    sym (all_fit_there grid table (direction_of row.axis) row) ∙ ap (from_first (place_fits grid table row.parts)) c.find_starts.ensures.places ∙ c.first_place.ensures.none no
+    sym (all_fit_there grid table (direction_of row.axis) row)
+    ∙ ap (from_first (place_fits grid table row.parts)) c.find_starts.ensures.places ∙ c.first_place.ensures.none no

@@ -14,7 +14,8 @@ returns-then-not-row_has_place-clause-none g c = λ e.
     let row : CompiledRow = c.index-rows-number.result in
     let no : c.row_has_place.result ≡ false = search rules in
     let low : n < length rule.rows = omega (arith, c.loop-number-test.true, ap length c.as_slice-rows.ensures) in
-    let is : row ≡ get_or rule.rows n row = c.index-rows-number.is ∙ ap (λ (rs : List CompiledRow). get_or rs n row) c.as_slice-rows.ensures in
+    let is : row ≡ get_or rule.rows n row = c.index-rows-number.is
+    ∙ ap (λ (rs : List CompiledRow). get_or rs n row) c.as_slice-rows.ensures in
     none_of_row grid table row rule.axis rule.rows n rule.along low is (c.row_has_place.ensures.none no)
 
 pub loop-number-preserved : goal.loop-number-preserved
@@ -26,12 +27,15 @@ loop-number-preserved g c =
     let row : CompiledRow = c.index-rows-number.result in
     let yes : c.row_has_place.result ≡ true = search rules in
     let low : n < length rule.rows = omega (arith, c.loop-number-test.true, ap length c.as_slice-rows.ensures) in
-    let is : row ≡ get_or rule.rows n row = c.index-rows-number.is ∙ ap (λ (rs : List CompiledRow). get_or rs n row) c.as_slice-rows.ensures in
-    more_places grid table rule.rows n (n + 1) row (omega arith) (slice_get_read rule.rows _ n row refl low is) (c.row_has_place.ensures.some yes) c.loop-number.invariant
+    let is : row ≡ get_or rule.rows n row = c.index-rows-number.is
+    ∙ ap (λ (rs : List CompiledRow). get_or rs n row) c.as_slice-rows.ensures in
+    more_places grid table rule.rows n (n + 1) row (omega arith) (slice_get_read rule.rows _ n row refl low is)
+    (c.row_has_place.ensures.some yes) c.loop-number.invariant
 
 pub returns-clause-some : goal.returns-clause-some
 returns-clause-some g c = λ e.
     let rule = c.args.rule.now in
-    let passed : length rule.rows ≤ c.loop-number.number = omega (arith, c.loop-number-test.false, ap length c.as_slice-rows.ensures) in
+    let passed : length rule.rows ≤ c.loop-number.number =
+    omega (arith, c.loop-number-test.false, ap length c.as_slice-rows.ensures) in
     some_combination (g.B.Board.grid c.args.board.now) (g.B.Board.table c.args.board.now) rule.axis rule.rows rule.along
     (λ k r low is. c.loop-number.invariant k r (omega (arith, low, passed)) is)

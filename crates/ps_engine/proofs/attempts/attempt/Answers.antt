@@ -13,7 +13,8 @@ returns-then-lacks_needed-clause-attempt g c =
     let grid : Grid = g.B.Board.grid c.args.board.now in
     let table : Option (List ℕ) = g.B.Board.table c.args.board.now in
     let rule = c.args.rule.now in
-    attempt_none (direction_of rule.axis) (rows_meaning table rule.rows) rule.rewrites (commands_shown rule.commands.now) grid c.args.queue.now
+    attempt_none (direction_of rule.axis) (rows_meaning table rule.rows) rule.rewrites
+    (commands_shown rule.commands.now) grid c.args.queue.now
     (combinations_on grid (rule_meaning table rule)) (c.lacks_needed.ensures c.if-lacks_needed.true)
 
 pub returns-then-not-rule-clause-attempt : goal.returns-then-not-rule-clause-attempt

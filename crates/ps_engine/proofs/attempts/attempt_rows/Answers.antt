@@ -17,18 +17,21 @@ returns-then-not-choose_first-clause-attempt g c =
     let table : Option (List ℕ) = g.B.Board.table c.args.board.now in
     let rule = c.args.rule.now in
     let no : c.choose_first.result ≡ false = search rules in
-    attempt_none (direction_of rule.axis) (rows_meaning table rule.rows) rule.rewrites (commands_shown rule.commands.now) grid c.args.queue.now
+    attempt_none (direction_of rule.axis) (rows_meaning table rule.rows) rule.rewrites
+    (commands_shown rule.commands.now) grid c.args.queue.now
     (combinations_on grid (rule_meaning table rule)) (c.choose_first.ensures.none no)
 
 pub walk-requires-clause-lines : goal.walk-requires-clause-lines
 walk-requires-clause-lines g c =
     let yes : c.choose_first.result ≡ true = search rules in
-    subst (λ (rows : List CompiledRow). HaveLinesOf (g.B.Board.grid c.args.board.now) rows c.choose_first.new.rooms) (sym c.as_slice-rows.ensures) (c.choose_first.ensures.lines yes)
+    subst (λ (rows : List CompiledRow). HaveLinesOf (g.B.Board.grid c.args.board.now) rows c.choose_first.new.rooms)
+    (sym c.as_slice-rows.ensures) (c.choose_first.ensures.lines yes)
 
 pub walk-requires-clause-places : goal.walk-requires-clause-places
 walk-requires-clause-places g c =
     let yes : c.choose_first.result ≡ true = search rules in
-    subst (λ (rows : List CompiledRow). ArePlaced (g.B.Board.grid c.args.board.now) rows c.choose_first.new.rooms) (sym c.as_slice-rows.ensures) (c.choose_first.ensures.places yes)
+    subst (λ (rows : List CompiledRow). ArePlaced (g.B.Board.grid c.args.board.now) rows c.choose_first.new.rooms)
+    (sym c.as_slice-rows.ensures) (c.choose_first.ensures.places yes)
 
 pub returns-clause-attempt : goal.returns-clause-attempt
 returns-clause-attempt g c =
@@ -38,12 +41,20 @@ returns-clause-attempt g c =
     let yes : c.choose_first.result ≡ true = search rules in
     let does : rule.rewrites ≡ true = c.requires.rewrites in
     let choices : List Choice = choices_of grid.height rule.rows c.choose_first.new.rooms in
-    let all : combinations_on grid (rule_meaning table rule) ≡ chosen choices ∷ behind choices = c.choose_first.ensures.found yes in
+    let all : combinations_on grid (rule_meaning table rule) ≡ chosen choices ∷ behind choices =
+    c.choose_first.ensures.found yes in
     let after : Rewritten = record { grid = g.B.Board.grid c.walk.new.board; changed = c.walk.result } in
-    let made : after ≡ fold (applied (rows_meaning table rule.rows)) (unchanged grid) (combinations_on grid (rule_meaning table rule)) =
+    let made : after ≡ fold (applied (rows_meaning table rule.rows)) (unchanged grid)
+    (combinations_on grid (rule_meaning table rule)) =
     c.walk.ensures.rewritten
-    ∙ ap (λ (rs : List CompiledRow). let first : List Choice = choices_of grid.height rs c.choose_first.new.rooms in fold (applied (rows_meaning table rs)) (unchanged grid) (chosen first ∷ behind first)) c.as_slice-rows.ensures
+    ∙ ap (λ (rs : List CompiledRow). let first : List Choice = choices_of grid.height rs c.choose_first.new.rooms in
+    fold (applied (rows_meaning table rs)) (unchanged grid) (chosen first ∷ behind first)) c.as_slice-rows.ensures
     ∙ ap (fold (applied (rows_meaning table rule.rows)) (unchanged grid)) (sym all) in
-    ap (λ (q : Commands). let r : Result = record { state = record { grid = after.grid; queue = q }; changed = after.changed } in r) c.enter.ensures
-    ∙ attempt_walked (direction_of rule.axis) (rows_meaning table rule.rows) rule.rewrites (commands_shown rule.commands.now) grid c.args.queue.now
+    ap (λ (q : Commands). let r : Result = record {
+      state = record { grid = after.grid; queue = q };
+      changed =
+          after.changed;
+    } in r) c.enter.ensures
+    ∙ attempt_walked (direction_of rule.axis) (rows_meaning table rule.rows) rule.rewrites
+    (commands_shown rule.commands.now) grid c.args.queue.now
     (combinations_on grid (rule_meaning table rule)) (chosen choices) (behind choices) after all does made

@@ -26,18 +26,29 @@ returns-then-written-clause-attempt g c =
     let only : meant ≡ rows_of m = only_cell_meant table rule.rows c.args.cell.now c.requires.only in
     let yes : c.write_all-written.result.found ≡ true = search rules in
     let there = c.write_all-written.ensures.some yes in
-    let all : List (List (List CellMeaning)) → List (List (List ℕ)) = λ rows. combinations (map (places grid direction) rows) in
+    let all : List (List (List CellMeaning)) → List (List (List ℕ)) = λ rows.
+    combinations (map (places grid direction) rows) in
     let walked : List (List (List CellMeaning)) → Rewritten = λ rows. fold (applied rows) (unchanged grid) (all rows) in
-    let after : Rewritten = record { grid = g.B.Board.grid c.write_all-written.new.board; changed = c.write_all-written.result.changed } in
+    let after : Rewritten = record {
+      grid = g.B.Board.grid c.write_all-written.new.board;
+      changed =
+          c.write_all-written.result.changed;
+    } in
     let made : after ≡ walked meant =
     c.write_all-written.ensures.rewritten
     ∙ sym (all_written-is grid direction m c.recall_shape.ensures.shape.some_row c.recall_shape.ensures.shape.cells)
     ∙ sym (ap walked only) in
     let some : all meant ≢ [] =
     subst (λ (rows : List (List (List CellMeaning))). all rows ≢ []) (sym only)
-    (some_combination grid direction m there.number c.recall_shape.ensures.shape.some_row c.recall_shape.ensures.shape.cells there.fits) in
-    ap (λ (q : Commands). let r : Result = record { state = record { grid = after.grid; queue = q }; changed = after.changed } in r) c.enter.ensures
-    ∙ attempt_written direction meant rule.rewrites (commands_shown rule.commands.now) grid c.args.queue.now (all meant) after c.requires.rewrites some made
+    (some_combination grid direction m there.number c.recall_shape.ensures.shape.some_row
+    c.recall_shape.ensures.shape.cells there.fits) in
+    ap (λ (q : Commands). let r : Result = record {
+      state = record { grid = after.grid; queue = q };
+      changed =
+          after.changed;
+    } in r) c.enter.ensures
+    ∙ attempt_written direction meant rule.rewrites (commands_shown rule.commands.now) grid c.args.queue.now
+    (all meant) after c.requires.rewrites some made
 
 pub returns-else-written-clause-attempt : goal.returns-else-written-clause-attempt
 returns-else-written-clause-attempt g c =
@@ -50,8 +61,19 @@ returns-else-written-clause-attempt g c =
     let only : meant ≡ rows_of m = only_cell_meant table rule.rows c.args.cell.now c.requires.only in
     let no : c.write_all-written.result.found ≡ false = search rules in
     let nowhere = c.write_all-written.ensures.none no in
-    let after : Rewritten = record { grid = g.B.Board.grid c.write_all-written.new.board; changed = c.write_all-written.result.changed } in
-    let still : after ≡ unchanged grid = c.write_all-written.ensures.rewritten ∙ where-none grid m.rewritten (fits_cell grid m) (λ n low. nowhere n) in
-    ap (λ (r : Rewritten). let s : Result = record { state = record { grid = r.grid; queue = c.args.queue.now }; changed = r.changed } in s) still
-    ∙ attempt_none direction meant rule.rewrites (commands_shown rule.commands.now) grid c.args.queue.now (combinations (map (places grid direction) meant))
-    (ap (λ (rows : List (List (List CellMeaning))). combinations (map (places grid direction) rows)) only ∙ none_without grid direction m nowhere)
+    let after : Rewritten = record {
+      grid = g.B.Board.grid c.write_all-written.new.board;
+      changed =
+          c.write_all-written.result.changed;
+    } in
+    let still : after ≡ unchanged grid = c.write_all-written.ensures.rewritten
+    ∙ where-none grid m.rewritten (fits_cell grid m) (λ n low. nowhere n) in
+    ap (λ (r : Rewritten). let s : Result = record {
+      state =
+          record { grid = r.grid; queue = c.args.queue.now };
+      changed = r.changed;
+    } in s) still
+    ∙ attempt_none direction meant rule.rewrites (commands_shown rule.commands.now) grid c.args.queue.now
+    (combinations (map (places grid direction) meant))
+    (ap (λ (rows : List (List (List CellMeaning))). combinations (map (places grid direction) rows)) only
+    ∙ none_without grid direction m nowhere)

@@ -12,7 +12,8 @@ invariant-loop-section g l =
     let now : State = record { grid = g.B.Board.grid l.board; queue = l.queue } in
     let table = g.B.Board.table l.fn.board in
     record {
-      run : sections_run (map (section_meaning table) (drop l.section-index l.sections)) l.repeats now ≡ program_run (sections_meaning table l.sections) before;
+      run : sections_run (map (section_meaning table) (drop l.section-index l.sections)) l.repeats now ≡ program_run
+          (sections_meaning table l.sections) before;
       table : g.B.Board.table l.board ≡ table;
       sides : sides_of (g.B.Board.grid l.board) ≡ sides_of (g.B.Board.grid l.fn.board);
     }

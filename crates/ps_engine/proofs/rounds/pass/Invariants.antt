@@ -12,7 +12,8 @@ invariant-loop-rules g l =
     let now : State = record { grid = g.B.Board.grid l.board; queue = l.queue } in
     let table = g.B.Board.table l.fn.board in
     record {
-      pass : after_change l.changed (pass (map (rules_meaning table) (drop l.rules-index l.groups)) now) ≡ pass (groups_meaning table l.groups) before;
+      pass : after_change l.changed (pass (map (rules_meaning table) (drop l.rules-index l.groups)) now) ≡ pass
+          (groups_meaning table l.groups) before;
       table : g.B.Board.table l.board ≡ table;
       sides : sides_of (g.B.Board.grid l.board) ≡ sides_of (g.B.Board.grid l.fn.board);
     }

@@ -12,7 +12,8 @@ invariant-loop-rule g l =
     let now : State = record { grid = g.B.Board.grid l.board; queue = l.queue } in
     let table = g.B.Board.table l.fn.board in
     record {
-      round : after_change l.changed (round (map (rule_meaning table) (drop l.rule-index l.rules)) now) ≡ round (rules_meaning table l.rules) before;
+      round : after_change l.changed (round (map (rule_meaning table) (drop l.rule-index l.rules)) now) ≡ round
+          (rules_meaning table l.rules) before;
       table : g.B.Board.table l.board ≡ table;
       sides : sides_of (g.B.Board.grid l.board) ≡ sides_of (g.B.Board.grid l.fn.board);
     }

@@ -22,10 +22,12 @@ pub returns-then-sleeps-clause-same : goal.returns-then-sleeps-clause-same
 returns-then-sleeps-clause-same g c = λ yes changed.
     let grid : Grid = g.B.Board.grid c.args.board.now in
     let table : Option (List ℕ) = g.B.Board.table c.args.board.now in
-    let long : length c.args.rows.now ≤ length c.advance.new.rooms = omega (arith, c.requires.long, c.advance.ensures.same.long) in
+    let long : length c.args.rows.now ≤ length c.advance.new.rooms =
+    omega (arith, c.requires.long, c.advance.ensures.same.long) in
     let asleep : c.args.sleeps ≡ true = search rules in
     comes_to_same grid table c.args.rows.now c.advance.new.rooms c.forget_rows.new.rooms c.in-Some.count long
-    c.forget_rows.ensures.forgotten c.in-Some.ensures.started c.forget_rows.ensures.left (c.requires.asleep asleep) changed
+    c.forget_rows.ensures.forgotten c.in-Some.ensures.started c.forget_rows.ensures.left (c.requires.asleep asleep)
+    changed
     ∙ ap (λ (left : List (List (List ℕ))). let now : Rewritten = record { grid = grid; changed = changed } in
     fold (applied (rows_meaning table c.args.rows.now)) now left) (sym c.in-Some.ensures.found)
 
@@ -48,7 +50,8 @@ returns-then-sleeps-clause-fewer g c = λ yes.
     let height : ℕ = (g.B.Board.grid c.args.board.now).height in
     let rows = c.args.rows.now in
     let long : length rows ≤ length c.advance.new.rooms = omega (arith, c.requires.long, c.advance.ensures.same.long) in
-    let less : length (behind (choices_of height rows c.forget_rows.new.rooms)) ≤ length (behind (choices_of height rows c.advance.new.rooms)) =
+    let less : length (behind (choices_of height rows c.forget_rows.new.rooms)) ≤ length
+    (behind (choices_of height rows c.advance.new.rooms)) =
     fewer_behind height rows c.advance.new.rooms c.forget_rows.new.rooms long c.forget_rows.ensures.forgotten in
     rw c.in-Some.ensures.found (omega (arith, less))
 
@@ -61,7 +64,8 @@ pub returns-then-sleeps-clause-lines : goal.returns-then-sleeps-clause-lines
 returns-then-sleeps-clause-lines g c =
     lines_kept (g.B.Board.grid c.args.board.now) c.args.rows.now c.advance.new.rooms c.forget_rows.new.rooms
     c.forget_rows.ensures.forgotten
-    (lines_still (g.B.Board.grid c.args.board.now) (g.B.Board.table c.args.board.now) c.args.rows.now c.args.rooms.now c.advance.new.rooms
+    (lines_still (g.B.Board.grid c.args.board.now) (g.B.Board.table c.args.board.now) c.args.rows.now c.args.rooms.now
+    c.advance.new.rooms
     c.advance.ensures.same c.requires.lines)
 
 pub returns-else-sleeps-clause-fit : goal.returns-else-sleeps-clause-fit

@@ -21,7 +21,8 @@ loop-number-init g c =
           ap (rewritten_from table height c.args.rows.now c.args.rooms.now 1) c.rewrite_fitting-any.ensures.rewritten
           ∙ sym (rewritten_more table height 0 1 c.args.rows.now c.args.rooms.now row room before
           (slice_get_read c.args.rows.now _ 0 row refl some c.index-rows-0.is)
-          (slice_get_read c.args.rooms.now _ 0 room refl (omega (arith, some, c.requires.long)) c.index-rooms-0.is) refl);
+          (slice_get_read c.args.rooms.now _ 0 room refl (omega (arith, some, c.requires.long)) c.index-rooms-0.is)
+          refl);
       table = c.rewrite_fitting-any.ensures.table;
       sides = c.rewrite_fitting-any.ensures.sides;
     }
@@ -35,15 +36,18 @@ loop-number-preserved g c =
     let room = c.index-rooms-number.result in
     let before : Rewritten = record { grid = g.B.Board.grid c.loop-number.board; changed = c.loop-number.any } in
     let after : Rewritten = record { grid = g.B.Board.grid c.rewrite-any.new.board; changed = c.rewrite-any.result } in
-    let high : before.grid.height ≡ height = same_height before.grid (g.B.Board.grid c.args.board.now) c.loop-number.invariant.sides in
+    let high : before.grid.height ≡ height = same_height before.grid (g.B.Board.grid c.args.board.now)
+    c.loop-number.invariant.sides in
     let wrote : after ≡ rewritten_along before (cells_meaning table row.parts) (place_at height row room) =
-    c.rewrite-any.ensures.rewritten ∙ ap₂ (λ (t : Option (List ℕ)) (h : ℕ). rewritten_along before (cells_meaning t row.parts) (place_at h row room)) c.loop-number.invariant.table high in
+    c.rewrite-any.ensures.rewritten ∙ ap₂ (λ (t : Option (List ℕ)) (h : ℕ).
+    rewritten_along before (cells_meaning t row.parts) (place_at h row room)) c.loop-number.invariant.table high in
     record {
       rewritten =
           ap (rewritten_from table height c.args.rows.now c.args.rooms.now (n + 1)) wrote
           ∙ sym (rewritten_more table height n (n + 1) c.args.rows.now c.args.rooms.now row room before
           (slice_get_read c.args.rows.now _ n row refl c.loop-number-test.true c.index-rows-number.is)
-          (slice_get_read c.args.rooms.now _ n room refl (omega (arith, c.loop-number-test.true, c.requires.long)) c.index-rooms-number.is) (omega arith))
+          (slice_get_read c.args.rooms.now _ n room refl (omega (arith, c.loop-number-test.true, c.requires.long))
+          c.index-rooms-number.is) (omega arith))
           ∙ c.loop-number.invariant.rewritten;
       table = c.rewrite-any.ensures.table ∙ c.loop-number.invariant.table;
       sides = c.rewrite-any.ensures.sides ∙ c.loop-number.invariant.sides;

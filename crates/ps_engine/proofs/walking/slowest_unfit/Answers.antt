@@ -8,9 +8,11 @@ returns-then-not-fits-clause-passed g c =
     let n : ℕ = c.loop-number.number - 1 in
     let low : n < length c.args.rows.now = omega (arith, c.loop-number-test.true, c.loop-number.invariant.low) in
     let no : c.fits.result ≡ false = search rules in
-    unfit_passed (g.B.Board.grid c.args.board.now) (g.B.Board.table c.args.board.now) n c.args.rows.now c.args.rooms.now c.index-rows-number.result c.index-rooms-number.result
+    unfit_passed (g.B.Board.grid c.args.board.now) (g.B.Board.table c.args.board.now) n c.args.rows.now
+    c.args.rooms.now c.index-rows-number.result c.index-rooms-number.result
     (slice_get_read c.args.rows.now _ n c.index-rows-number.result refl low c.index-rows-number.is)
-    (slice_get_read c.args.rooms.now _ n c.index-rooms-number.result refl (omega (arith, low, c.requires)) c.index-rooms-number.is)
+    (slice_get_read c.args.rooms.now _ n c.index-rooms-number.result refl (omega (arith, low, c.requires))
+    c.index-rooms-number.is)
     (sym c.fits.ensures ∙ no)
 
 pub loop-number-preserved : goal.loop-number-preserved
@@ -21,11 +23,14 @@ loop-number-preserved g c =
     record {
       low = omega (arith, low);
       slower =
-          fit_more (g.B.Board.grid c.args.board.now) (g.B.Board.table c.args.board.now) n c.loop-number.number c.args.rows.now c.args.rooms.now c.index-rows-number.result c.index-rooms-number.result
+          fit_more (g.B.Board.grid c.args.board.now) (g.B.Board.table c.args.board.now) n c.loop-number.number
+          c.args.rows.now c.args.rooms.now c.index-rows-number.result c.index-rooms-number.result
           (slice_get_read c.args.rows.now _ n c.index-rows-number.result refl low c.index-rows-number.is)
-          (slice_get_read c.args.rooms.now _ n c.index-rooms-number.result refl (omega (arith, low, c.requires)) c.index-rooms-number.is)
+          (slice_get_read c.args.rooms.now _ n c.index-rooms-number.result refl (omega (arith, low, c.requires))
+          c.index-rooms-number.is)
           (sym c.fits.ensures ∙ yes) (omega (arith, c.loop-number-test.true)) c.loop-number.invariant.slower;
     }
 
 pub returns-clause-slower : goal.returns-clause-slower
-returns-clause-slower g c = λ k row room low is there. c.loop-number.invariant.slower k row room (omega (arith, low, c.loop-number-test.false)) is there
+returns-clause-slower g c = λ k row room low is there.
+    c.loop-number.invariant.slower k row room (omega (arith, low, c.loop-number-test.false)) is there

@@ -1,4 +1,5 @@
-use Rattle.std.proofs.Common.{◌≡◌, ◌∙◌, ℕ, ◌<◌, ◌≤◌, Bool, Option, List, [], ◌∷◌, false, true, fold, length, sym, subst, ap, arith, rules}
+use Rattle.std.proofs.Common.{◌≡◌, ◌∙◌, ℕ, ◌<◌, ◌≤◌, Bool, Option, List, [], ◌∷◌, false, true, fold, length, sym, subst}
+use Rattle.std.proofs.Common.{ap, arith, rules}
 use Rattle.ps_model.specs.board.Grid.{Grid}
 use Rattle.ps_model.specs.board.Attempts.{Rewritten, all_fit, applied, rewritten_rows}
 use Rattle.ps_places.specs.Ways.{from_first}
@@ -11,25 +12,35 @@ use Rattle.ps_engine.proofs.walking.walk.Goals as goal
 
 pub go_on-requires-clause-lines : goal.go_on-requires-clause-lines
 go_on-requires-clause-lines g c =
-    lines_there (g.B.Board.grid c.rewrite_rows-changed.new.board) (g.B.Board.grid c.loop-sleeps.board) c.args.rows.now c.loop-sleeps.rooms c.rewrite_rows-changed.ensures.sides c.loop-sleeps.invariant.lines
+    lines_there (g.B.Board.grid c.rewrite_rows-changed.new.board) (g.B.Board.grid c.loop-sleeps.board) c.args.rows.now
+    c.loop-sleeps.rooms c.rewrite_rows-changed.ensures.sides c.loop-sleeps.invariant.lines
 
 pub go_on-requires-clause-places : goal.go_on-requires-clause-places
 go_on-requires-clause-places g c =
-    placed_there (g.B.Board.grid c.rewrite_rows-changed.new.board) (g.B.Board.grid c.loop-sleeps.board) c.args.rows.now c.loop-sleeps.rooms c.rewrite_rows-changed.ensures.sides c.loop-sleeps.invariant.places
+    placed_there (g.B.Board.grid c.rewrite_rows-changed.new.board) (g.B.Board.grid c.loop-sleeps.board) c.args.rows.now
+    c.loop-sleeps.rooms c.rewrite_rows-changed.ensures.sides c.loop-sleeps.invariant.places
 
 pub returns-then-not-go_on-clause-rewritten : goal.returns-then-not-go_on-clause-rewritten
 returns-then-not-go_on-clause-rewritten g c =
     let table : Option (List ℕ) = g.B.Board.table c.args.board.now in
     let other : Option (List ℕ) = g.B.Board.table c.rewrite_rows-changed.new.board in
     let before : Rewritten = record { grid = g.B.Board.grid c.loop-sleeps.board; changed = c.loop-sleeps.changed } in
-    let after : Rewritten = record { grid = g.B.Board.grid c.rewrite_rows-changed.new.board; changed = c.rewrite_rows-changed.result } in
+    let after : Rewritten = record {
+      grid = g.B.Board.grid c.rewrite_rows-changed.new.board;
+      changed =
+          c.rewrite_rows-changed.result;
+    } in
     let e : other ≡ table = c.rewrite_rows-changed.ensures.table ∙ c.loop-sleeps.invariant.table in
-    let d : after.grid.height ≡ before.grid.height = same_height after.grid before.grid c.rewrite_rows-changed.ensures.sides in
-    let made : after ≡ rewritten_rows before (rows_meaning table c.args.rows.now) (chosen (choices_of before.grid.height c.args.rows.now c.loop-sleeps.rooms)) =
+    let d : after.grid.height ≡ before.grid.height =
+    same_height after.grid before.grid c.rewrite_rows-changed.ensures.sides in
+    let made : after ≡ rewritten_rows before (rows_meaning table c.args.rows.now)
+    (chosen (choices_of before.grid.height c.args.rows.now c.loop-sleeps.rooms)) =
     c.rewrite_rows-changed.ensures.rewritten
-    ∙ ap (λ (t : Option (List ℕ)). rewritten_rows before (rows_meaning t c.args.rows.now) (chosen (choices_of before.grid.height c.args.rows.now c.loop-sleeps.rooms))) c.loop-sleeps.invariant.table in
+    ∙ ap (λ (t : Option (List ℕ)). rewritten_rows before (rows_meaning t c.args.rows.now)
+    (chosen (choices_of before.grid.height c.args.rows.now c.loop-sleeps.rooms))) c.loop-sleeps.invariant.table in
     let no : c.go_on.result ≡ false = search rules in
-    turn c.args.rows.now c.loop-sleeps.rooms table other before.grid.height after.grid.height before after [] e d c.loop-sleeps.invariant.fit made (c.slowest_unfit-first.ensures.passed ∙ c.go_on.ensures.none no)
+    turn c.args.rows.now c.loop-sleeps.rooms table other before.grid.height after.grid.height before after [] e d
+    c.loop-sleeps.invariant.fit made (c.slowest_unfit-first.ensures.passed ∙ c.go_on.ensures.none no)
     ∙ c.loop-sleeps.invariant.rewritten
 
 pub loop-sleeps-smaller : goal.loop-sleeps-smaller
@@ -40,10 +51,12 @@ loop-sleeps-smaller g c =
     let d : after.height ≡ before.height = same_height after before c.rewrite_rows-changed.ensures.sides in
     let next : List Choice = choices_of after.height rows c.go_on.new.rooms in
     let all : List (List (List ℕ)) = behind (choices_of after.height rows c.loop-sleeps.rooms) in
-    let fits : List (List ℕ) → Bool = all_fit after (rows_meaning (g.B.Board.table c.rewrite_rows-changed.new.board) rows) in
+    let fits : List (List ℕ) → Bool = all_fit after
+    (rows_meaning (g.B.Board.table c.rewrite_rows-changed.new.board) rows) in
     let yes : c.go_on.result ≡ true = search rules in
     let most : length (from_first fits all) ≤ length all = no_more fits all in
-    let left : List (List (List ℕ)) = from_first fits (behind_from c.slowest_unfit-first.result (choices_of after.height rows c.loop-sleeps.rooms)) in
+    let left : List (List (List ℕ)) = from_first fits
+    (behind_from c.slowest_unfit-first.result (choices_of after.height rows c.loop-sleeps.rooms)) in
     let fewer : length (behind next) < length left = c.go_on.ensures.fewer yes in
     let same : length (from_first fits all) ≡ length left = ap length c.slowest_unfit-first.ensures.passed in
     let less : length (behind next) < length all = omega (arith, most, fewer, same) in
@@ -55,16 +68,24 @@ loop-sleeps-preserved g c =
     let table : Option (List ℕ) = g.B.Board.table c.args.board.now in
     let other : Option (List ℕ) = g.B.Board.table c.rewrite_rows-changed.new.board in
     let before : Rewritten = record { grid = g.B.Board.grid c.loop-sleeps.board; changed = c.loop-sleeps.changed } in
-    let after : Rewritten = record { grid = g.B.Board.grid c.rewrite_rows-changed.new.board; changed = c.rewrite_rows-changed.result } in
+    let after : Rewritten = record {
+      grid = g.B.Board.grid c.rewrite_rows-changed.new.board;
+      changed =
+          c.rewrite_rows-changed.result;
+    } in
     let e : other ≡ table = c.rewrite_rows-changed.ensures.table ∙ c.loop-sleeps.invariant.table in
-    let d : after.grid.height ≡ before.grid.height = same_height after.grid before.grid c.rewrite_rows-changed.ensures.sides in
-    let made : after ≡ rewritten_rows before (rows_meaning table rows) (chosen (choices_of before.grid.height rows c.loop-sleeps.rooms)) =
+    let d : after.grid.height ≡ before.grid.height =
+    same_height after.grid before.grid c.rewrite_rows-changed.ensures.sides in
+    let made : after ≡ rewritten_rows before (rows_meaning table rows)
+    (chosen (choices_of before.grid.height rows c.loop-sleeps.rooms)) =
     c.rewrite_rows-changed.ensures.rewritten
-    ∙ ap (λ (t : Option (List ℕ)). rewritten_rows before (rows_meaning t rows) (chosen (choices_of before.grid.height rows c.loop-sleeps.rooms))) c.loop-sleeps.invariant.table in
+    ∙ ap (λ (t : Option (List ℕ)). rewritten_rows before (rows_meaning t rows)
+    (chosen (choices_of before.grid.height rows c.loop-sleeps.rooms))) c.loop-sleeps.invariant.table in
     let yes : c.go_on.result ≡ true = search rules in
     let next : List Choice = choices_of after.grid.height rows c.go_on.new.rooms in
     let left : List (List (List ℕ)) =
-    from_first (all_fit after.grid (rows_meaning other rows)) (behind_from c.slowest_unfit-first.result (choices_of after.grid.height rows c.loop-sleeps.rooms)) in
+    from_first (all_fit after.grid (rows_meaning other rows))
+    (behind_from c.slowest_unfit-first.result (choices_of after.grid.height rows c.loop-sleeps.rooms)) in
     record {
       long = c.go_on.ensures.long ∙ c.loop-sleeps.invariant.long;
       lines = c.go_on.ensures.lines;
@@ -76,7 +97,8 @@ loop-sleeps-preserved g c =
           ap (λ (t : Option (List ℕ)). fold (applied (rows_meaning t rows)) after (chosen next ∷ behind next)) (sym e)
           ∙ c.go_on.ensures.same yes after.changed
           ∙ ap (λ (t : Option (List ℕ)). fold (applied (rows_meaning t rows)) after left) e
-          ∙ turn rows c.loop-sleeps.rooms table other before.grid.height after.grid.height before after left e d c.loop-sleeps.invariant.fit made c.slowest_unfit-first.ensures.passed
+          ∙ turn rows c.loop-sleeps.rooms table other before.grid.height after.grid.height before after left e d
+          c.loop-sleeps.invariant.fit made c.slowest_unfit-first.ensures.passed
           ∙ c.loop-sleeps.invariant.rewritten;
       table = e;
       sides = c.rewrite_rows-changed.ensures.sides ∙ c.loop-sleeps.invariant.sides;

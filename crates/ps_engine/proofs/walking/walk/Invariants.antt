@@ -19,7 +19,8 @@ invariant-loop-sleeps g l =
       lines : HaveLinesOf now.grid l.rows l.rooms;
       places : ArePlaced now.grid l.rows l.rooms;
       fit : all_fit now.grid meant (chosen choices) ≡ true;
-      rewritten : fold (applied meant) now (chosen choices ∷ behind choices) ≡ fold (applied meant) before (chosen first ∷ behind first);
+      rewritten : fold (applied meant) now (chosen choices ∷ behind choices) ≡ fold (applied meant) before
+          (chosen first ∷ behind first);
       table : g.B.Board.table l.board ≡ table;
       sides : sides_of now.grid ≡ sides_of before.grid;
     }

@@ -7,5 +7,6 @@ use Rattle.ps_game.proofs.counts.first_too_many.Given as goal
 abbrev pub invariant-loop-rule : goal.invariant-loop-rule
 invariant-loop-rule l = record {
   few : l.before ≤ READINGS_LIMIT;
-  told : first_fault (too_many_readings l.names l.before (drop l.rule-index l.rules)) ≡ first_fault (too_many_readings l.names 0 l.rules);
+  told : first_fault (too_many_readings l.names l.before (drop l.rule-index l.rules)) ≡ first_fault
+      (too_many_readings l.names 0 l.rules);
 }

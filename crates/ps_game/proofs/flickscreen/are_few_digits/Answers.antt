@@ -12,6 +12,7 @@ pub returns : goal.returns
 returns c =
     let bytes = c.args.bytes.now in
     let each : c.all.result ≡ list_all is_ascii_digit bytes =
-    all_from_yields_List is_ascii_digit _ _ c.all.result c.all.ensures.ran (YieldsList-from_slice bytes cc) (λ x b q k. search (rules, tests)) in
+    all_from_yields_List is_ascii_digit _ _ c.all.result c.all.ensures.ran (YieldsList-from_slice bytes cc) (λ x b q k.
+    search (rules, tests)) in
     let few : nat_le 1 (length bytes) && nat_le (length bytes) 3 ≡ true = search (rules, tests) in
     each ∙ each-digit bytes ∙ sym (ap (λ (b : Bool). b && all_ascii_digits bytes) few)

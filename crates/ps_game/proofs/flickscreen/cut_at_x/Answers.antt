@@ -8,7 +8,11 @@ pub returns-in-Some : goal.returns-in-Some
 returns-in-Some c =
     let bytes = c.args.bytes.now in
     let found = position_or_len_is is_x bytes c.in-Some.place 0 (search rules) (search rules) (search rules) in
-    record { before = ap (λ (n : ℕ). take n bytes) (sym found); behind = take_rest bytes _ ∙ ap (λ (n : ℕ). drop (n + 1) bytes) (sym found) }
+    record {
+      before = ap (λ (n : ℕ). take n bytes) (sym found);
+      behind = take_rest bytes _
+          ∙ ap (λ (n : ℕ). drop (n + 1) bytes) (sym found);
+    }
 
 pub returns-in-None : goal.returns-in-None
 returns-in-None c =

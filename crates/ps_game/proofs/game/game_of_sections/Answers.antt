@@ -21,7 +21,12 @@ returns-in_err-rules-clause-read c =
     let lines : List Line = lines_of c.args.source.now in
     let inner : Refusal = c.in_err-rules.field-0.0 in
     let told : (f : TheFault) → inner ≡ Refused f → first_fault (line_faults lines) ≡ Some f =
-    λ f e. told_by_rules lines _ f (record { same = c.in_ok-names.ensures.0; headings = c.requires.fine; named = c.in_ok-names.ensures.1.0 }) (c.in_err-rules.ensures.1.1 f e) in
+    λ f e. told_by_rules lines _ f (record {
+      same = c.in_ok-names.ensures.0;
+      headings = c.requires.fine;
+      named =
+          c.in_ok-names.ensures.1.0;
+    }) (c.in_err-rules.ensures.1.1 f e) in
     search (rules, told)
 
 pub returns-in_err-entries-clause-read : goal.returns-in_err-entries-clause-read
@@ -30,7 +35,12 @@ returns-in_err-entries-clause-read c =
     let inner : Refusal = c.in_err-entries.field-0.0 in
     let told : (f : TheFault) → inner ≡ Refused f → first_fault (line_faults lines) ≡ Some f =
     λ f e.
-    told_by_levels lines _ f (record { same = c.in_ok-names.ensures.0; headings = c.requires.fine; named = c.in_ok-names.ensures.1.0 }) c.in_ok-rules.ensures.1.0 (
+    told_by_levels lines _ f (record {
+      same = c.in_ok-names.ensures.0;
+      headings = c.requires.fine;
+      named =
+          c.in_ok-names.ensures.1.0;
+    }) c.in_ok-rules.ensures.1.0 (
     c.in_err-entries.ensures.read.1.1 f e
     ) in
     search (rules, told)
@@ -54,7 +64,12 @@ pub returns-clause-read : goal.returns-clause-read
 returns-clause-read c = (
   is_game (lines_of c.args.source.now) _ (
       record {
-        named = record { same = c.in_ok-names.ensures.0; headings = c.requires.fine; named = c.in_ok-names.ensures.1.0 };
+        named = record {
+          same = c.in_ok-names.ensures.0;
+          headings = c.requires.fine;
+          named =
+              c.in_ok-names.ensures.1.0;
+        };
         ruled = c.in_ok-rules.ensures.1.0;
         levelled = c.in_ok-entries.ensures.read.1.0;
       }

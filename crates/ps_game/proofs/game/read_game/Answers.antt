@@ -20,7 +20,8 @@ returns-in_err-sections-clause-read c =
     let text : List ℕ = c.args.text.now in
     let inner : Refusal = c.in_err-sections.field-0.0 in
     let told : (f : TheFault) → inner ≡ Refused f → first_fault (faults text) ≡ Some f =
-    λ f e. told_by_headings text f c.in_ok-source.ensures.fine (rw (← c.in_ok-source.ensures.text) (c.in_err-sections.ensures.refused f e)) in
+    λ f e. told_by_headings text f c.in_ok-source.ensures.fine
+    (rw (← c.in_ok-source.ensures.text) (c.in_err-sections.ensures.refused f e)) in
     search (rules, told)
 
 pub returns-in_err-game-clause-read : goal.returns-in_err-game-clause-read
@@ -28,8 +29,13 @@ returns-in_err-game-clause-read c =
     let text : List ℕ = c.args.text.now in
     let inner : Refusal = c.in_err-game.field-0.0 in
     let told : (f : TheFault) → inner ≡ Refused f → first_fault (faults text) ≡ Some f =
-    λ f e. told_by_lines text f c.in_ok-source.ensures.fine (rw (← c.in_ok-source.ensures.text) (c.in_err-game.ensures.read.1 f e)) in
+    λ f e. told_by_lines text f c.in_ok-source.ensures.fine
+    (rw (← c.in_ok-source.ensures.text) (c.in_err-game.ensures.read.1 f e)) in
     search (rules, told)
 
 pub returns-clause-read : goal.returns-clause-read
-returns-clause-read c = (game_by_lines c.args.text.now _ c.in_ok-source.ensures.fine (rw (← c.in_ok-source.ensures.text) c.in_ok-game.ensures.read.0), tt)
+returns-clause-read c = (
+  game_by_lines c.args.text.now _ c.in_ok-source.ensures.fine
+      (rw (← c.in_ok-source.ensures.text) c.in_ok-game.ensures.read.0),
+  tt,
+)

@@ -10,4 +10,5 @@ loop-line-preserved c =
     let text = c.args.source.now in
     let above = rank c.loop-line.above in
     let none : heading_fault above (line_at text c.loop-line.line) ≡ None = search rules in
-    told_below text c.loop-line.line above (rank c.section_below-above.result) (omega arith) (omega arith) none c.section_below-above.ensures ∙ c.loop-line.invariant
+    told_below text c.loop-line.line above (rank c.section_below-above.result) (omega arith) (omega arith) none
+    c.section_below-above.ensures ∙ c.loop-line.invariant

@@ -6,4 +6,5 @@ use Rattle.ps_game.proofs.occurrences.occurrences_of.Given as goal
 
 abbrev pub invariant-loop-line : goal.invariant-loop-line
 invariant-loop-line l =
-    l.rules.items ++ filter_map rule_in (lines_shown (drop l.line-index l.lines)) ≡ filter_map rule_in (lines_shown l.lines)
+    l.rules.items ++ filter_map rule_in (lines_shown (drop l.line-index l.lines)) ≡ filter_map rule_in
+    (lines_shown l.lines)

@@ -13,9 +13,11 @@ returns-then-not-branch c =
     let next : i + 1 ≡ suc i = omega arith in
     let here : drop i rules ≡ c.rule-item.result ∷ drop (i + 1) rules =
     drop-at c.rule-item.result rules i (i + 1) c.loop-rule-test.true c.rule-item.is next in
-    let none : has_possible c.args.names.now c.rule-item.result ≡ false = cc (c.in_ok-has_possible.ensures, c.if-not-branch.true) in
+    let none : has_possible c.args.names.now c.rule-item.result ≡ false =
+    cc (c.in_ok-has_possible.ensures, c.if-not-branch.true) in
     ap (λ (line : ℕ). Some (record { kind = Impossible; line = line })) c.line.ensures
-    ∙ told_here c.args.names.now c.rule-item.result (drop (i + 1) rules) (drop i rules) _ here none c.loop-rule.invariant
+    ∙ told_here c.args.names.now c.rule-item.result (drop (i + 1) rules) (drop i rules) _ here none
+    c.loop-rule.invariant
 
 pub loop-rule-preserved : goal.loop-rule-preserved
 loop-rule-preserved c =
@@ -24,5 +26,7 @@ loop-rule-preserved c =
     let next : i + 1 ≡ suc i = omega arith in
     let here : drop i rules ≡ c.rule-item.result ∷ drop (i + 1) rules =
     drop-at c.rule-item.result rules i (i + 1) c.loop-rule-test.true c.rule-item.is next in
-    let some : has_possible c.args.names.now c.rule-item.result ≡ true = cc (c.in_ok-has_possible.ensures, c.if-not-branch.false) in
-    told_behind c.args.names.now c.rule-item.result (drop (i + 1) rules) (drop i rules) _ here some c.loop-rule.invariant
+    let some : has_possible c.args.names.now c.rule-item.result ≡ true =
+    cc (c.in_ok-has_possible.ensures, c.if-not-branch.false) in
+    told_behind c.args.names.now c.rule-item.result (drop (i + 1) rules) (drop i rules) _ here some
+    c.loop-rule.invariant

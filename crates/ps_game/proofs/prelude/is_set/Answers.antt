@@ -14,7 +14,9 @@ returns-then-branch c =
     let test = begins_with (folded c.args.word.now) in
     let rest = lines_between text (c.loop-line.line + 1) c.args.lines.now.end in
     let told : line.is_there && test line ≡ true = search rules in
-    sym (sym c.loop-line.invariant ∙ ap (list_any test) (between-step text c.loop-line.line (c.loop-line.line + 1) c.args.lines.now.end (omega arith) (omega arith) (omega arith) refl)
+    sym (sym c.loop-line.invariant ∙ ap (list_any test)
+    (between-step text c.loop-line.line (c.loop-line.line + 1) c.args.lines.now.end (omega arith) (omega arith)
+    (omega arith) refl)
     ∙ any_step test line rest line.is_there ∙ ap (λ (b : Bool). b || list_any test rest) told)
 
 pub loop-line-preserved : goal.loop-line-preserved
@@ -24,5 +26,6 @@ loop-line-preserved c =
     let test = begins_with (folded c.args.word.now) in
     let rest = lines_between text (c.loop-line.line + 1) c.args.lines.now.end in
     let told : line.is_there && test line ≡ false = search rules in
-    sym (ap (list_any test) (between-step text c.loop-line.line (c.loop-line.line + 1) c.args.lines.now.end (omega arith) (omega arith) (omega arith) refl)
+    sym (ap (list_any test) (between-step text c.loop-line.line (c.loop-line.line + 1) c.args.lines.now.end
+    (omega arith) (omega arith) (omega arith) refl)
     ∙ any_step test line rest line.is_there ∙ ap (λ (b : Bool). b || list_any test rest) told) ∙ c.loop-line.invariant

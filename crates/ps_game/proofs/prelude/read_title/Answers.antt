@@ -1,4 +1,5 @@
-use Rattle.std.proofs.Common.{rules, ◌≡◌, ◌∙◌, ◌+◌, ◌&&◌, sym, ap, refl, subst, arith, true, false, Bool, cond, Some, List, ℕ, Option}
+use Rattle.std.proofs.Common.{rules, ◌≡◌, ◌∙◌, ◌+◌, ◌&&◌, sym, ap, refl, subst, arith, true, false, Bool, cond, Some}
+use Rattle.std.proofs.Common.{List, ℕ, Option}
 use Rattle.std.specs.Prelude.{find, codes, IfOk, unwrap_or, option_map, []}
 use Rattle.ps_model.specs.text.Lines.{Line, taken_bytes}
 use Rattle.ps_model.specs.text.LineNumbers.{line_at, lines_between}
@@ -15,9 +16,12 @@ returns-then-branch c =
     let rest = lines_between text (c.loop-line.line + 1) c.args.lines.now.end in
     let told : line.is_there && test line ≡ true = search rules in
     let found : find test (lines_between text c.args.lines.now.start c.args.lines.now.end) ≡ Some line =
-    sym c.loop-line.invariant ∙ ap (find test) (between-step text c.loop-line.line (c.loop-line.line + 1) c.args.lines.now.end (omega arith) (omega arith) (omega arith) refl)
+    sym c.loop-line.invariant ∙ ap (find test)
+    (between-step text c.loop-line.line (c.loop-line.line + 1) c.args.lines.now.end (omega arith) (omega arith)
+    (omega arith) refl)
     ∙ find_step test line rest line.is_there ∙ ap (λ (b : Bool). cond b (Some line) (find test rest)) told in
-    let same : taken_bytes line ≡ title_of (lines_between text c.args.lines.now.start c.args.lines.now.end) = ap (λ (o : Option Line). unwrap_or (option_map taken_bytes o) []) (sym found) in
+    let same : taken_bytes line ≡ title_of (lines_between text c.args.lines.now.start c.args.lines.now.end) =
+    ap (λ (o : Option Line). unwrap_or (option_map taken_bytes o) []) (sym found) in
     subst (λ (t : List ℕ). IfOk c.text_taken.result (λ title. title ≡ t)) same c.text_taken.ensures
 
 pub loop-line-preserved : goal.loop-line-preserved
@@ -27,5 +31,7 @@ loop-line-preserved c =
     let test = begins_with (codes "title") in
     let rest = lines_between text (c.loop-line.line + 1) c.args.lines.now.end in
     let told : line.is_there && test line ≡ false = search rules in
-    sym (ap (find test) (between-step text c.loop-line.line (c.loop-line.line + 1) c.args.lines.now.end (omega arith) (omega arith) (omega arith) refl)
-    ∙ find_step test line rest line.is_there ∙ ap (λ (b : Bool). cond b (Some line) (find test rest)) told) ∙ c.loop-line.invariant
+    sym (ap (find test) (between-step text c.loop-line.line (c.loop-line.line + 1) c.args.lines.now.end (omega arith)
+    (omega arith) (omega arith) refl)
+    ∙ find_step test line rest line.is_there ∙ ap (λ (b : Bool). cond b (Some line) (find test rest)) told)
+    ∙ c.loop-line.invariant

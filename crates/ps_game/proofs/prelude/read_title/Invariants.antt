@@ -5,4 +5,5 @@ use Rattle.ps_model.specs.text.Preludes.{begins_with}
 use Rattle.ps_game.proofs.prelude.read_title.Given as goal
 
 abbrev pub invariant-loop-line : goal.invariant-loop-line
-invariant-loop-line l = find (begins_with (codes "title")) (lines_between l.source l.line l.fn.lines.end) ≡ find (begins_with (codes "title")) (lines_between l.source l.fn.lines.start l.fn.lines.end)
+invariant-loop-line l = find (begins_with (codes "title")) (lines_between l.source l.line l.fn.lines.end) ≡ find
+    (begins_with (codes "title")) (lines_between l.source l.fn.lines.start l.fn.lines.end)

@@ -20,7 +20,11 @@ returns-then-not-comes_before-clause-boundary c =
     here_ends text c.loop-line.line place (omega arith) c.loop-line.invariant behind
 
 pub returns-clause-boundary : goal.returns-clause-boundary
-returns-clause-boundary c = omega (arith, boundary_within c.args.source.now (rank c.args.section), c.loop-line.invariant)
+returns-clause-boundary c = omega (
+  arith,
+  boundary_within c.args.source.now (rank c.args.section),
+  c.loop-line.invariant,
+)
 
 pub returns-clause-behind : goal.returns-clause-behind
 returns-clause-behind c = omega (arith, boundary_within c.args.source.now (rank c.args.section))

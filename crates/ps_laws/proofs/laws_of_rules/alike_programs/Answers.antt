@@ -1,4 +1,5 @@
-use Rattle.ps_laws.proofs.alike.AlikePrograms.{group-alike, pass-alike, looped-alike, section_run-alike, program_run-alike}
+use Rattle.ps_laws.proofs.alike.AlikePrograms.{group-alike, pass-alike, looped-alike, section_run-alike}
+use Rattle.ps_laws.proofs.alike.AlikePrograms.{program_run-alike}
 use Rattle.ps_laws.proofs.laws_of_rules.alike_programs.Goals as goal
 
 pub returns-clause-groups : goal.returns-clause-groups

@@ -1,5 +1,6 @@
 use Rattle.ps_laws.proofs.alike.EqualPrograms.{round-same}
-use Rattle.ps_laws.proofs.alike.AlikeRounds.{alike-kept, alike-back, alike-through, alike-append, alike-joined, alike-forwards, alike-idle}
+use Rattle.ps_laws.proofs.alike.AlikeRounds.{alike-kept, alike-back, alike-through, alike-append, alike-joined}
+use Rattle.ps_laws.proofs.alike.AlikeRounds.{alike-forwards, alike-idle}
 use Rattle.ps_laws.proofs.laws_of_rules.alike_rounds.Goals as goal
 
 pub returns-clause-kept : goal.returns-clause-kept

@@ -1,5 +1,6 @@
 use Rattle.ps_laws.proofs.alike.EqualAttempts.{attempt-same}
-use Rattle.ps_laws.proofs.alike.EqualPrograms.{round-same, group-same, pass-same, looped-same, section_run-same, program_run-same}
+use Rattle.ps_laws.proofs.alike.EqualPrograms.{round-same, group-same, pass-same, looped-same, section_run-same}
+use Rattle.ps_laws.proofs.alike.EqualPrograms.{program_run-same}
 use Rattle.ps_laws.proofs.laws_of_rules.equal_meanings.Goals as goal
 
 pub returns-clause-attempts : goal.returns-clause-attempts

@@ -1,6 +1,7 @@
 use Rattle.ps_laws.proofs.alike.TurnedPlaces.{places-turned}
 use Rattle.ps_laws.proofs.alike.TurnedAttempts.{attempt-turned, attempt-forwards}
-use Rattle.ps_laws.proofs.alike.TurnedPrograms.{round-forwards, group-forwards, pass-forwards, looped-forwards, section_run-forwards, program_run-forwards}
+use Rattle.ps_laws.proofs.alike.TurnedPrograms.{round-forwards, group-forwards, pass-forwards, looped-forwards}
+use Rattle.ps_laws.proofs.alike.TurnedPrograms.{section_run-forwards, program_run-forwards}
 use Rattle.ps_laws.proofs.laws_of_rules.turning_round.Goals as goal
 
 pub returns-clause-places : goal.returns-clause-places

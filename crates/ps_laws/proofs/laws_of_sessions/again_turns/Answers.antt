@@ -1,4 +1,5 @@
-use Rattle.ps_laws.proofs.sessions.AgainTurns.{key_turns-longest, start_turns-longest, all_key_turns-longest, all_start_turns-longest}
+use Rattle.ps_laws.proofs.sessions.AgainTurns.{key_turns-longest, start_turns-longest, all_key_turns-longest}
+use Rattle.ps_laws.proofs.sessions.AgainTurns.{all_start_turns-longest}
 use Rattle.ps_laws.proofs.laws_of_sessions.again_turns.Goals as goal
 
 pub returns-clause-key : goal.returns-clause-key

@@ -1,4 +1,6 @@
-use Rattle.ps_laws.proofs.sessions.SessionSteps.{turns_are_outcomes, key_turns-limited, start_turns-limited, key_turns-by_outcome, start_turns-by_outcome, done_with_history, undo_takes_latest, undo_of_nothing}
+use Rattle.ps_laws.proofs.sessions.SessionSteps.{turns_are_outcomes, key_turns-limited, start_turns-limited}
+use Rattle.ps_laws.proofs.sessions.SessionSteps.{key_turns-by_outcome, start_turns-by_outcome, done_with_history}
+use Rattle.ps_laws.proofs.sessions.SessionSteps.{undo_takes_latest, undo_of_nothing}
 use Rattle.ps_laws.proofs.laws_of_sessions.session_steps.Goals as goal
 
 pub returns-clause-turns : goal.returns-clause-turns

@@ -1,4 +1,5 @@
-use Rattle.ps_laws.proofs.sessions.SessionSteps.{texts_join, empty_text, openings_are_entered, fronts_are_texts, silent_bytes, keys_write}
+use Rattle.ps_laws.proofs.sessions.SessionSteps.{texts_join, empty_text, openings_are_entered, fronts_are_texts}
+use Rattle.ps_laws.proofs.sessions.SessionSteps.{silent_bytes, keys_write}
 use Rattle.ps_laws.proofs.laws_of_sessions.session_texts.Goals as goal
 
 pub returns-clause-joined : goal.returns-clause-joined

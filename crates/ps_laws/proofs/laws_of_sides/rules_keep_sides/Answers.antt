@@ -1,4 +1,5 @@
-use Rattle.ps_laws.proofs.grids.KeptSides.{attempt-sides, round-sides, settled-sides, group-sides, pass-sides, looped-sides, section_run-sides, sections_run-sides, program_run-sides}
+use Rattle.ps_laws.proofs.grids.KeptSides.{attempt-sides, round-sides, settled-sides, group-sides, pass-sides}
+use Rattle.ps_laws.proofs.grids.KeptSides.{looped-sides, section_run-sides, sections_run-sides, program_run-sides}
 use Rattle.ps_laws.proofs.laws_of_sides.rules_keep_sides.Goals as goal
 
 pub returns : goal.returns

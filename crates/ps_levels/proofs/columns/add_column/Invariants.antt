@@ -5,4 +5,5 @@ use Rattle.ps_levels.proofs.columns.add_column.Given as goal
 
 abbrev pub invariant-loop-row : goal.invariant-loop-row
 invariant-loop-row l =
-    cells_shown l.cells.items ++ map (λ row. slice_index_or row l.column []) (rows_shown (drop l.row-index l.rows)) ≡ cells_shown l.fn.cells.items ++ map (λ row. slice_index_or row l.column []) (rows_shown l.rows)
+    cells_shown l.cells.items ++ map (λ row. slice_index_or row l.column []) (rows_shown (drop l.row-index l.rows)) ≡
+    cells_shown l.fn.cells.items ++ map (λ row. slice_index_or row l.column []) (rows_shown l.rows)

@@ -11,11 +11,15 @@ use Rattle.ps_levels.proofs.Letters.{folded_character}
 use Rattle.ps_levels.proofs.glyphs.character_meaning.Goals as goal
 
 -- the name that a character alone is
-by_name : (names : Names) (character lower : ℕ) (name : List ℕ) (found : Option Meaning) → lower ≡ to_ascii_lowercase character → name ≡ encode_utf8 lower → found ≡ meaning_of names name → found ≡ character_meaning names character
+by_name : (names : Names) (character lower : ℕ) (name : List ℕ) (found : Option Meaning) →
+    lower ≡ to_ascii_lowercase character → name ≡ encode_utf8 lower → found ≡ meaning_of names name →
+    found ≡ character_meaning names character
 by_name names character lower name found l n f =
     let lowered : to_ascii_lowercase lower ≡ lower = ap to_ascii_lowercase l ∙ lowercase-lowercase character ∙ sym l in
-    let same : folded name ≡ encode_utf8 (to_ascii_lowercase character) = ap folded n ∙ folded_character lower lowered ∙ ap encode_utf8 l in
+    let same : folded name ≡ encode_utf8 (to_ascii_lowercase character) = ap folded n ∙ folded_character lower lowered
+    ∙ ap encode_utf8 l in
     f ∙ ap (λ (key : List ℕ). lookup (bytes_eq key) names.entries) same
 
 pub returns : goal.returns
-returns c = by_name c.args.names.now c.args.character c.to_ascii_lowercase.result c.encode_utf8-name.result.now _ c.to_ascii_lowercase.ensures.value c.encode_utf8-name.ensures.value c.meaning.ensures.meaning
+returns c = by_name c.args.names.now c.args.character c.to_ascii_lowercase.result c.encode_utf8-name.result.now _
+    c.to_ascii_lowercase.ensures.value c.encode_utf8-name.ensures.value c.meaning.ensures.meaning

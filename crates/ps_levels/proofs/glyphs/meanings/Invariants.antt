@@ -4,4 +4,5 @@ use Rattle.ps_levels.specs.Cells.{meanings_shown}
 use Rattle.ps_levels.proofs.glyphs.meanings.Given as goal
 
 abbrev pub invariant-loop-character : goal.invariant-loop-character
-invariant-loop-character l = meanings_shown l.found.items ++ map (character_meaning l.names) (drop l.character-index l.characters) ≡ map (character_meaning l.names) l.characters
+invariant-loop-character l = meanings_shown l.found.items ++ map (character_meaning l.names)
+    (drop l.character-index l.characters) ≡ map (character_meaning l.names) l.characters

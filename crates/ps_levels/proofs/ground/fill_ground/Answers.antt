@@ -10,10 +10,13 @@ no_cell = record { ref_ptr = (0, 0); now = [] }
 
 pub loop-objects-preserved : goal.loop-objects-preserved
 loop-objects-preserved c =
-    grown (with_ground c.args.names.now c.first_on-filler.result) c.args.cells.now c.loop-objects.objects-index no_cell c.loop-objects.made.items c.push.new.self.items c.in_ok-filled.field-0 (omega arith)
+    grown (with_ground c.args.names.now c.first_on-filler.result) c.args.cells.now c.loop-objects.objects-index no_cell
+    c.loop-objects.made.items c.push.new.self.items c.in_ok-filled.field-0 (omega arith)
     c.loop-objects.invariant c.in_ok-push.ensures.items c.in_ok-filled.ensures
 
 pub returns : goal.returns
 returns c =
-    c.from_vec.ensures ∙ grounds c.args.names.now c.args.cells.now c.loop-objects.objects-index c.loop-objects.made.items c.background-background.result c.first_on-filler.result c.layer_of-layer.result.0 (omega arith)
+    c.from_vec.ensures ∙ grounds c.args.names.now c.args.cells.now c.loop-objects.objects-index
+    c.loop-objects.made.items c.background-background.result c.first_on-filler.result c.layer_of-layer.result.0
+    (omega arith)
     c.background-background.ensures c.layer_of-layer.ensures.layer c.first_on-filler.ensures c.loop-objects.invariant

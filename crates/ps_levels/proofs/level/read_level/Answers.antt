@@ -22,9 +22,11 @@ overflow_cast-result-2 c =
     let names = c.args.names.now in
     let first : Line = line_at text c.args.lines.start in
     let below : List Line = lines_between text (c.args.lines.start + 1) c.args.lines.end in
-    let low : suc (length below) ≤ SIDE_LIMIT = level-low names c.in_ok-width.width c.args.place first below c.in_ok-rows.ensures.1.0 in
+    let low : suc (length below) ≤ SIDE_LIMIT =
+    level-low names c.in_ok-width.width c.args.place first below c.in_ok-rows.ensures.1.0 in
     let rows : length c.in_ok-rows.rows.items ≡ length (first ∷ below) =
-    sym (length-map c.in_ok-rows.rows.items (λ (row : Row). cells_shown row.items)) ∙ ap length c.in_ok-rows.ensures.0 ∙ length-map (first ∷ below) (row_cells names c.in_ok-width.width) in
+    sym (length-map c.in_ok-rows.rows.items (λ (row : Row). cells_shown row.items)) ∙ ap length c.in_ok-rows.ensures.0
+    ∙ length-map (first ∷ below) (row_cells names c.in_ok-width.width) in
     omega (arith, low, rows, c.in_ok-rows.rows.ok.0, c.len.ensures)
 
 pub returns-clause-read : goal.returns-clause-read
@@ -36,9 +38,15 @@ returns-clause-read c =
     let w = c.in_ok-width.width in
     let shown = rows_shown c.in_ok-rows.rows.items in
     let rows : length c.in_ok-rows.rows.items ≡ length (first ∷ below) =
-    sym (length-map c.in_ok-rows.rows.items (λ (row : Row). cells_shown row.items)) ∙ ap length c.in_ok-rows.ensures.0 ∙ length-map (first ∷ below) (row_cells names w) in
+    sym (length-map c.in_ok-rows.rows.items (λ (row : Row). cells_shown row.items)) ∙ ap length c.in_ok-rows.ensures.0
+    ∙ length-map (first ∷ below) (row_cells names w) in
     let height : c.len.result ≡ length (first ∷ below) = omega (arith, rows, c.in_ok-rows.rows.ok.0, c.len.ensures) in
-    let cells : cells_shown c.in_ok-cells.cells.items ≡ in_columns w shown = c.in_ok-cells.ensures ∙ ap (λ (rs : List Row). in_columns w (rows_shown rs)) c.deref.ensures.value in
+    let cells : cells_shown c.in_ok-cells.cells.items ≡ in_columns w shown = c.in_ok-cells.ensures
+    ∙ ap (λ (rs : List Row). in_columns w (rows_shown rs)) c.deref.ensures.value in
     let filled : c.in_ok-cells-2.cells ≡ grounded names (in_columns w shown) =
-    c.in_ok-cells-2.ensures ∙ ap (λ (cs : List (Bor (List ObjectId))). grounded names (cells_shown cs)) c.deref-2.ensures.value ∙ ap (grounded names) cells in
-    (level-made names w c.len.result c.in_ok-cells-2.cells first below c.in_ok-width.ensures.value height (filled ∙ ap (λ (rs : List (List (List ObjectId))). grounded names (in_columns w rs)) c.in_ok-rows.ensures.0), search rules)
+    c.in_ok-cells-2.ensures ∙ ap (λ (cs : List (Bor (List ObjectId))).
+    grounded names (cells_shown cs)) c.deref-2.ensures.value ∙ ap (grounded names) cells in (
+      level-made names w c.len.result c.in_ok-cells-2.cells first below c.in_ok-width.ensures.value height (filled
+          ∙ ap (λ (rs : List (List (List ObjectId))). grounded names (in_columns w rs)) c.in_ok-rows.ensures.0),
+      search rules,
+    )

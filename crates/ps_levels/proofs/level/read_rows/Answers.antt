@@ -31,11 +31,15 @@ returns-in_err-add_rows c =
     let first = line_at text c.args.lines.start in
     let below = lines_between text (c.args.lines.start + 1) c.args.lines.end in
     let lines = lines_between text c.args.lines.start (c.args.lines.start + 1) in
-    let one : lines ≡ first ∷ [] = one-line text c.args.lines.start (c.args.lines.start + 1) c.requires.lines.from_one (omega arith) refl c.requires.row in
+    let one : lines ≡ first ∷ [] = one-line text c.args.lines.start (c.args.lines.start + 1) c.requires.lines.from_one
+    (omega arith) refl c.requires.row in
     let zero : length c.new-rows.result.items ≡ 0 = ap length c.new-rows.ensures.items in
     let fault : Refusal = c.in_err-add_rows.field-0.0 in
-    let told : (f : TheFault) → fault ≡ Refused f → first_fault (level_faults_by names c.args.width c.args.place first below) ≡ Some f =
-    λ f e. fault-in-first names c.args.width c.args.place first below lines f one (ap (λ (n : ℕ). first_fault (rows_faults names c.args.width n lines)) (sym zero) ∙ c.in_err-add_rows.ensures.1.1 f e) in
+    let told : (f : TheFault) → fault ≡ Refused f →
+    first_fault (level_faults_by names c.args.width c.args.place first below) ≡ Some f =
+    λ f e. fault-in-first names c.args.width c.args.place first below lines f one
+    (ap (λ (n : ℕ). first_fault (rows_faults names c.args.width n lines)) (sym zero)
+    ∙ c.in_err-add_rows.ensures.1.1 f e) in
     search (rules, told)
 
 pub returns-then-place : goal.returns-then-place
@@ -49,13 +53,17 @@ returns-then-place c = (
         let first = line_at text c.args.lines.start in
         let below = lines_between text (c.args.lines.start + 1) c.args.lines.end in
         let lines = lines_between text c.args.lines.start (c.args.lines.start + 1) in
-        let one : lines ≡ first ∷ [] = one-line text c.args.lines.start (c.args.lines.start + 1) c.requires.lines.from_one (omega arith) refl c.requires.row in
+        let one : lines ≡ first ∷ [] = one-line text c.args.lines.start (c.args.lines.start + 1)
+        c.requires.lines.from_one (omega arith) refl c.requires.row in
         let zero : length c.new-rows.result.items ≡ 0 = ap length c.new-rows.ensures.items in
-        let fine : row_faults names c.args.width 0 first ≡ [] = first-fine names c.args.width first lines one (ap (λ (n : ℕ). rows_faults names c.args.width n lines) (sym zero) ∙ c.in_ok-add_rows.ensures.1.0) in
+        let fine : row_faults names c.args.width 0 first ≡ [] =
+        first-fine names c.args.width first lines one
+        (ap (λ (n : ℕ). rows_faults names c.args.width n lines) (sym zero) ∙ c.in_ok-add_rows.ensures.1.0) in
         let told : TheFault = record { kind = TooManyEntries; line = c.args.lines.start } in
         let same : told ≡ fault = cc in
         let over : c.args.place ≡ ENTRY_LIMIT = grind (arith, nat_tests) in
-        fault-of-place names c.args.width c.args.place c.args.lines.start first below fine over (line_at-number text c.args.lines.start c.requires.lines.from_one (omega arith)) ∙ ap Some same,
+        fault-of-place names c.args.width c.args.place c.args.lines.start first below fine over
+        (line_at-number text c.args.lines.start c.requires.lines.from_one (omega arith)) ∙ ap Some same,
   ),
 )
 
@@ -66,17 +74,23 @@ returns-in_err-add_rows-2 c =
     let first = line_at text c.args.lines.start in
     let below = lines_between text (c.args.lines.start + 1) c.args.lines.end in
     let lines = lines_between text c.args.lines.start (c.args.lines.start + 1) in
-    let one : lines ≡ first ∷ [] = one-line text c.args.lines.start (c.args.lines.start + 1) c.requires.lines.from_one (omega arith) refl c.requires.row in
+    let one : lines ≡ first ∷ [] = one-line text c.args.lines.start (c.args.lines.start + 1) c.requires.lines.from_one
+    (omega arith) refl c.requires.row in
     let zero : length c.new-rows.result.items ≡ 0 = ap length c.new-rows.ensures.items in
-    let fine : row_faults names c.args.width 0 first ≡ [] = first-fine names c.args.width first lines one (ap (λ (n : ℕ). rows_faults names c.args.width n lines) (sym zero) ∙ c.in_ok-add_rows.ensures.1.0) in
+    let fine : row_faults names c.args.width 0 first ≡ [] =
+    first-fine names c.args.width first lines one
+    (ap (λ (n : ℕ). rows_faults names c.args.width n lines) (sym zero) ∙ c.in_ok-add_rows.ensures.1.0) in
     let counted : length c.add_rows.new.rows.items ≡ 1 =
-    rows-counted (λ (row : Row). cells_shown row.items) (row_cells names c.args.width) c.new-rows.result.items c.add_rows.new.rows.items lines c.in_ok-add_rows.ensures.0
+    rows-counted (λ (row : Row). cells_shown row.items) (row_cells names c.args.width) c.new-rows.result.items
+    c.add_rows.new.rows.items lines c.in_ok-add_rows.ensures.0
     ∙ ap (λ (n : ℕ). n + length lines) zero ∙ ap (λ (ls : List Line). 0 + length ls) one in
     let place : nat_eq c.args.place ENTRY_LIMIT ≡ false = grind (arith, nat_tests) in
     let fault : Refusal = c.in_err-add_rows-2.field-0.0 in
-    let told : (f : TheFault) → fault ≡ Refused f → first_fault (level_faults_by names c.args.width c.args.place first below) ≡ Some f =
+    let told : (f : TheFault) → fault ≡ Refused f →
+    first_fault (level_faults_by names c.args.width c.args.place first below) ≡ Some f =
     λ f e. ap first_fault (faults-below names c.args.width c.args.place first below fine place)
-    ∙ ap (λ (n : ℕ). first_fault (rows_faults names c.args.width n below)) (sym counted) ∙ c.in_err-add_rows-2.ensures.1.1 f e in
+    ∙ ap (λ (n : ℕ). first_fault (rows_faults names c.args.width n below)) (sym counted)
+    ∙ c.in_err-add_rows-2.ensures.1.1 f e in
     search (rules, told)
 
 pub returns : goal.returns
@@ -86,11 +100,21 @@ returns c =
     let first = line_at text c.args.lines.start in
     let below = lines_between text (c.args.lines.start + 1) c.args.lines.end in
     let lines = lines_between text c.args.lines.start (c.args.lines.start + 1) in
-    let one : lines ≡ first ∷ [] = one-line text c.args.lines.start (c.args.lines.start + 1) c.requires.lines.from_one (omega arith) refl c.requires.row in
+    let one : lines ≡ first ∷ [] = one-line text c.args.lines.start (c.args.lines.start + 1) c.requires.lines.from_one
+    (omega arith) refl c.requires.row in
     let zero : length c.new-rows.result.items ≡ 0 = ap length c.new-rows.ensures.items in
-    let fine : row_faults names c.args.width 0 first ≡ [] = first-fine names c.args.width first lines one (ap (λ (n : ℕ). rows_faults names c.args.width n lines) (sym zero) ∙ c.in_ok-add_rows.ensures.1.0) in
+    let fine : row_faults names c.args.width 0 first ≡ [] =
+    first-fine names c.args.width first lines one
+    (ap (λ (n : ℕ). rows_faults names c.args.width n lines) (sym zero) ∙ c.in_ok-add_rows.ensures.1.0) in
     let counted : length c.add_rows.new.rows.items ≡ 1 =
-    rows-counted (λ (row : Row). cells_shown row.items) (row_cells names c.args.width) c.new-rows.result.items c.add_rows.new.rows.items lines c.in_ok-add_rows.ensures.0
+    rows-counted (λ (row : Row). cells_shown row.items) (row_cells names c.args.width) c.new-rows.result.items
+    c.add_rows.new.rows.items lines c.in_ok-add_rows.ensures.0
     ∙ ap (λ (n : ℕ). n + length lines) zero ∙ ap (λ (ls : List Line). 0 + length ls) one in
-    let place : nat_eq c.args.place ENTRY_LIMIT ≡ false = grind (arith, nat_tests) in
-    (search rules, (faults-below names c.args.width c.args.place first below fine place ∙ ap (λ (n : ℕ). rows_faults names c.args.width n below) (sym counted) ∙ c.in_ok-add_rows-2.ensures.1.0, tt))
+    let place : nat_eq c.args.place ENTRY_LIMIT ≡ false = grind (arith, nat_tests) in (
+      search rules,
+      (
+        faults-below names c.args.width c.args.place first below fine place
+            ∙ ap (λ (n : ℕ). rows_faults names c.args.width n below) (sym counted) ∙ c.in_ok-add_rows-2.ensures.1.0,
+        tt,
+      ),
+    )

@@ -17,9 +17,11 @@ returns-then-len-clause-read c = (
         let told : TheFault = record { kind = TooManyEntries; line = c.args.line } in
         let same : told ≡ fault = cc in
         let over : length c.args.entries.now.items ≡ ENTRY_LIMIT = omega arith in
-        over-limit (length c.args.entries.now.items) c.args.line (line_at c.args.source.now c.args.line) over (line_at-number c.args.source.now c.args.line c.requires.0 c.requires.1) ∙ ap Some same,
+        over-limit (length c.args.entries.now.items) c.args.line (line_at c.args.source.now c.args.line) over
+        (line_at-number c.args.source.now c.args.line c.requires.0 c.requires.1) ∙ ap Some same,
   ),
 )
 
 pub returns-clause-columns : goal.returns-clause-columns
-returns-clause-columns c = λ all. shown-columns-more c.args.entries.now.items c.push.new.self.items _ c.in_ok-push.ensures.items tt all
+returns-clause-columns c = λ all. shown-columns-more c.args.entries.now.items c.push.new.self.items _
+    c.in_ok-push.ensures.items tt all

@@ -12,7 +12,8 @@ invariant-loop-line l =
     record {
       behind : l.fn.lines.start ≤ l.line;
       within : l.line ≤ l.fn.lines.end;
-      part : entries_shown l.entries.items ++ entries_read l.names (lines_between l.source l.line l.fn.lines.end) ≡ entries_read l.names (lines_between l.source l.fn.lines.start l.fn.lines.end);
+      part : entries_shown l.entries.items ++ entries_read l.names (lines_between l.source l.line l.fn.lines.end) ≡
+          entries_read l.names (lines_between l.source l.fn.lines.start l.fn.lines.end);
       columns : All HasColumn (entries_shown l.entries.items);
       fine :
           entries_faults l.names (length l.entries.items) (entry_lines (lines_between l.source l.line l.fn.lines.end))

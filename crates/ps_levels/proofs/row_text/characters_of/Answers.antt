@@ -12,5 +12,7 @@ returns-clause-some c = λ written.
     let bytes : List ℕ = (line_at c.args.source.now c.args.line).bytes in
     let text = c.without_blank_ends-text.result.now in
     let same : text ≡ without_blank_end (drop (prefix_len is_blank bytes) bytes) =
-    c.without_blank_ends-text.ensures ∙ ap (λ (bs : List ℕ). without_blank_end (drop (prefix_len is_blank bs) bs)) c.visible.ensures in
-    subst (λ (cs : List ℕ). 0 < length cs) (sym c.in_ok-characters.ensures) (some-characters bytes text c.without_blank_ends-text.utf8 same written)
+    c.without_blank_ends-text.ensures ∙ ap (λ (bs : List ℕ).
+    without_blank_end (drop (prefix_len is_blank bs) bs)) c.visible.ensures in
+    subst (λ (cs : List ℕ). 0 < length cs) (sym c.in_ok-characters.ensures)
+    (some-characters bytes text c.without_blank_ends-text.utf8 same written)

@@ -23,9 +23,12 @@ returns-in_err-add_row c =
     let line = c.loop-line.line in
     let step = between-step text line (line + 1) c.args.lines.end (omega arith) (omega arith) (omega arith) refl in
     let fault : Refusal = c.in_err-add_row.field-0.0 in
-    let told : (f : TheFault) → fault ≡ Refused f → first_fault (rows_faults names c.args.width (length c.args.rows.now.items) (lines_between text c.args.lines.start c.args.lines.end)) ≡ Some f =
+    let told : (f : TheFault) → fault ≡ Refused f →
+    first_fault (rows_faults names c.args.width (length c.args.rows.now.items)
+    (lines_between text c.args.lines.start c.args.lines.end)) ≡ Some f =
     λ f e. ap first_fault (sym c.loop-line.invariant.fine)
-    ∙ first-of-rows names c.args.width (length c.loop-line.rows.items) (lines_between text line c.args.lines.end) (here text line) (lines_between text (line + 1) c.args.lines.end) f step (c.in_err-add_row.ensures.1.1 f e) in
+    ∙ first-of-rows names c.args.width (length c.loop-line.rows.items) (lines_between text line c.args.lines.end)
+    (here text line) (lines_between text (line + 1) c.args.lines.end) f step (c.in_err-add_row.ensures.1.1 f e) in
     search (rules, told)
 
 pub loop-line-preserved : goal.loop-line-preserved
@@ -36,10 +39,16 @@ loop-line-preserved c =
     let step = between-step text line (line + 1) c.args.lines.end (omega arith) (omega arith) (omega arith) refl in
     record {
       part =
-          rows-more (row_cells names c.args.width) (rows_shown c.loop-line.rows.items) (rows_shown c.add_row.new.rows.items) (lines_between text line c.args.lines.end) (here text line) (lines_between text (line + 1) c.args.lines.end) step c.in_ok-add_row.ensures.0
+          rows-more (row_cells names c.args.width) (rows_shown c.loop-line.rows.items)
+          (rows_shown c.add_row.new.rows.items) (lines_between text line c.args.lines.end) (here text line)
+          (lines_between text (line + 1) c.args.lines.end) step c.in_ok-add_row.ensures.0
           ∙ c.loop-line.invariant.part;
       fine =
-          none-of-rows names c.args.width (length c.loop-line.rows.items) (length c.add_row.new.rows.items) (lines_between text line c.args.lines.end) (here text line) (lines_between text (line + 1) c.args.lines.end) step
-          (rows-counted (λ (row : Vec (Bor (List ObjectId)) Global). cells_shown row.items) (row_cells names c.args.width) c.loop-line.rows.items c.add_row.new.rows.items (here text line) c.in_ok-add_row.ensures.0) c.in_ok-add_row.ensures.1.0
+          none-of-rows names c.args.width (length c.loop-line.rows.items) (length c.add_row.new.rows.items)
+          (lines_between text line c.args.lines.end) (here text line)
+          (lines_between text (line + 1) c.args.lines.end) step
+          (rows-counted (λ (row : Vec (Bor (List ObjectId)) Global).
+          cells_shown row.items) (row_cells names c.args.width) c.loop-line.rows.items c.add_row.new.rows.items
+          (here text line) c.in_ok-add_row.ensures.0) c.in_ok-add_row.ensures.1.0
           ∙ c.loop-line.invariant.fine;
     }

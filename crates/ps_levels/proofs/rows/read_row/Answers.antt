@@ -24,8 +24,11 @@ returns-in-Some c = (
         let found = c.in_ok-meanings.meanings.items in
         let told : TheFault = c.in-Some.fault in
         let same : told ≡ fault = cc in
-        let of : meanings_shown found ≡ map (character_meaning names) (of_width c.args.width c.in_ok-characters.characters.items) = search rules in
-        let seen = faults-seen names c.args.width c.args.place c.written-written.result c.args.line row c.in_ok-characters.characters.items found c.front.result.now c.in_ok-characters.ensures.value (line_at-number c.args.source.now c.args.line c.requires.0 c.requires.1) (search rules) of (search rules) in
+        let of : meanings_shown found ≡ map (character_meaning names)
+        (of_width c.args.width c.in_ok-characters.characters.items) = search rules in
+        let seen = faults-seen names c.args.width c.args.place c.written-written.result c.args.line row
+        c.in_ok-characters.characters.items found c.front.result.now c.in_ok-characters.ensures.value
+        (line_at-number c.args.source.now c.args.line c.requires.0 c.requires.1) (search rules) of (search rules) in
         ap first_fault (sym seen) ∙ sym c.row_fault.ensures ∙ c.in-Some.is ∙ ap Some same,
   ),
 )
@@ -36,9 +39,19 @@ returns c =
     let row : Line = line_at c.args.source.now c.args.line in
     let found = c.in_ok-meanings.meanings.items in
     let none : c.row_fault.result ≡ None = search rules in
-    let of : meanings_shown found ≡ map (character_meaning names) (of_width c.args.width c.in_ok-characters.characters.items) = search rules in
-    let seen = faults-seen names c.args.width c.args.place c.written-written.result c.args.line row c.in_ok-characters.characters.items found c.front.result.now c.in_ok-characters.ensures.value (line_at-number c.args.source.now c.args.line c.requires.0 c.requires.1) (search rules) of (search rules) in (
-      c.in_ok-cells.ensures ∙ ap (λ (ms : List (Option (Bor code.Meaning))). map objects_of (meanings_shown ms)) c.deref-4.ensures.value
-          ∙ ap (map objects_of) (of ∙ ap (λ (cs : List ℕ). map (character_meaning names) (of_width c.args.width cs)) c.in_ok-characters.ensures.value) ∙ cells-by-meanings names c.args.width row,
-      (none-first (row_faults names c.args.width c.args.place row) (ap first_fault (sym seen) ∙ sym c.row_fault.ensures ∙ none), tt),
+    let of : meanings_shown found ≡ map (character_meaning names)
+    (of_width c.args.width c.in_ok-characters.characters.items) = search rules in
+    let seen = faults-seen names c.args.width c.args.place c.written-written.result c.args.line row
+    c.in_ok-characters.characters.items found c.front.result.now c.in_ok-characters.ensures.value
+    (line_at-number c.args.source.now c.args.line c.requires.0 c.requires.1) (search rules) of (search rules) in (
+      c.in_ok-cells.ensures ∙ ap (λ (ms : List (Option (Bor code.Meaning))).
+          map objects_of (meanings_shown ms)) c.deref-4.ensures.value
+          ∙ ap (map objects_of) (of ∙ ap (λ (cs : List ℕ).
+          map (character_meaning names) (of_width c.args.width cs)) c.in_ok-characters.ensures.value)
+          ∙ cells-by-meanings names c.args.width row,
+      (
+        none-first (row_faults names c.args.width c.args.place row) (ap first_fault (sym seen) ∙ sym c.row_fault.ensures
+            ∙ none),
+        tt,
+      ),
     )

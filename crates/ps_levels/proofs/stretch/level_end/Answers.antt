@@ -29,7 +29,8 @@ loop-line-preserved c =
     let text = c.args.source.now in
     let line = c.loop-line.line in
     let ends : (line_at text line).is_there && not (is_row (line_at text line)) ≡ false = search rules in
-    let further = level-goes-on text c.args.lines.start line c.args.lines.end (omega arith) (omega arith) (omega arith) (omega arith) ends in
+    let further = level-goes-on text c.args.lines.start line c.args.lines.end (omega arith) (omega arith) (omega arith)
+    (omega arith) ends in
     record {
       rows = c.loop-line.invariant.rows ∙ further.0;
       rest = c.loop-line.invariant.rest ∙ further.1;

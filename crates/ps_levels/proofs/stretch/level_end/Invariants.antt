@@ -7,6 +7,8 @@ use Rattle.ps_levels.proofs.stretch.level_end.Given as goal
 abbrev pub invariant-loop-line : goal.invariant-loop-line
 invariant-loop-line l =
     record {
-      rows : take_while is_row (lines_between l.source l.fn.lines.start l.fn.lines.end) ≡ lines_between l.source l.fn.lines.start l.line ++ take_while is_row (lines_between l.source l.line l.fn.lines.end);
-      rest : entries_at true (lines_between l.source l.fn.lines.start l.fn.lines.end) ≡ entries_at true (lines_between l.source l.line l.fn.lines.end);
+      rows : take_while is_row (lines_between l.source l.fn.lines.start l.fn.lines.end) ≡ lines_between l.source
+          l.fn.lines.start l.line ++ take_while is_row (lines_between l.source l.line l.fn.lines.end);
+      rest : entries_at true (lines_between l.source l.fn.lines.start l.fn.lines.end) ≡ entries_at true
+          (lines_between l.source l.line l.fn.lines.end);
     }

@@ -20,7 +20,8 @@ returns-in_default c = (
         let blank : is_blank_line line ≡ false = search rules in
         let told : TheFault = record { kind = BadWin; line = c.args.line } in
         let same : told ≡ fault = cc in
-        bad-win c.args.names.now line c.args.line (line_at-number c.args.source.now c.args.line c.requires.0 c.requires.1) blank none ∙ ap Some same,
+        bad-win c.args.names.now line c.args.line
+        (line_at-number c.args.source.now c.args.line c.requires.0 c.requires.1) blank none ∙ ap Some same,
   ),
 )
 
@@ -36,6 +37,7 @@ returns-in_default-2 c = (
         let lost : win_read c.args.names.now text ≡ None = search rules in
         let told : TheFault = record { kind = UnknownWinName; line = c.args.line } in
         let same : told ≡ fault = cc in
-        unknown-win-name c.args.names.now line c.args.line text (line_at-number c.args.source.now c.args.line c.requires.0 c.requires.1) found lost ∙ ap Some same,
+        unknown-win-name c.args.names.now line c.args.line text
+        (line_at-number c.args.source.now c.args.line c.requires.0 c.requires.1) found lost ∙ ap Some same,
   ),
 )

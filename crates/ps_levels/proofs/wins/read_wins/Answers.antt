@@ -19,9 +19,11 @@ returns-in_err-add_line c =
     let line = c.loop-line.line in
     let step = between-step text line (line + 1) c.args.lines.end (omega arith) (omega arith) (omega arith) refl in
     let fault : Refusal = c.in_err-add_line.field-0.0 in
-    let told : (f : TheFault) → fault ≡ Refused f → first_fault (win_faults names (lines_between text c.args.lines.start c.args.lines.end)) ≡ Some f =
+    let told : (f : TheFault) → fault ≡ Refused f →
+    first_fault (win_faults names (lines_between text c.args.lines.start c.args.lines.end)) ≡ Some f =
     λ f e. ap first_fault (sym c.loop-line.invariant.fine)
-    ∙ first-of-lines (win_faults_of names) (lines_between text line c.args.lines.end) (here text line) (lines_between text (line + 1) c.args.lines.end) f step (c.in_err-add_line.ensures.1.1 f e) in
+    ∙ first-of-lines (win_faults_of names) (lines_between text line c.args.lines.end) (here text line)
+    (lines_between text (line + 1) c.args.lines.end) f step (c.in_err-add_line.ensures.1.1 f e) in
     search (rules, told)
 
 pub loop-line-preserved : goal.loop-line-preserved
@@ -32,9 +34,12 @@ loop-line-preserved c =
     let step = between-step text line (line + 1) c.args.lines.end (omega arith) (omega arith) (omega arith) refl in
     record {
       part =
-          wins-more names (wins_shown c.loop-line.wins.items) (wins_shown c.add_line.new.wins.items) (lines_between text line c.args.lines.end) (here text line) (lines_between text (line + 1) c.args.lines.end) step c.in_ok-add_line.ensures.0
+          wins-more names (wins_shown c.loop-line.wins.items) (wins_shown c.add_line.new.wins.items)
+          (lines_between text line c.args.lines.end) (here text line)
+          (lines_between text (line + 1) c.args.lines.end) step c.in_ok-add_line.ensures.0
           ∙ c.loop-line.invariant.part;
       fine =
-          none-of-lines (win_faults_of names) (lines_between text line c.args.lines.end) (here text line) (lines_between text (line + 1) c.args.lines.end) step c.in_ok-add_line.ensures.1.0
+          none-of-lines (win_faults_of names) (lines_between text line c.args.lines.end) (here text line)
+          (lines_between text (line + 1) c.args.lines.end) step c.in_ok-add_line.ensures.1.0
           ∙ c.loop-line.invariant.fine;
     }

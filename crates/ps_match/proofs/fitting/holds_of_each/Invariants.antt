@@ -8,4 +8,5 @@ use Rattle.ps_match.proofs.fitting.holds_of_each.Given as goal
 abbrev pub invariant-loop-objects : goal.invariant-loop-objects
 invariant-loop-objects g l =
     list_all (λ objects. list_any (is_held_in (cell_at (g.B.Board.grid l.board) l.cell)) objects) l.lists
-    ≡ list_all (λ objects. list_any (is_held_in (cell_at (g.B.Board.grid l.board) l.cell)) objects) (drop l.objects-index l.lists)
+    ≡ list_all (λ objects. list_any (is_held_in (cell_at (g.B.Board.grid l.board) l.cell)) objects)
+    (drop l.objects-index l.lists)

@@ -12,6 +12,7 @@ invariant-loop-column g l =
     let start = g.B.Board.grid l.fn.board in
     let becomes = cell_written (write_in_room (g.B.Board.table l.fn.board) (write_shown l.write)) in
     record {
-      rewritten : told (g.B.Board.grid l.board) l.changed ≡ rewritten_where start becomes (passed start.height l.row l.columns l.column);
+      rewritten : told (g.B.Board.grid l.board) l.changed ≡ rewritten_where start becomes
+          (passed start.height l.row l.columns l.column);
       table : g.B.Board.table l.board ≡ g.B.Board.table l.fn.board;
     }

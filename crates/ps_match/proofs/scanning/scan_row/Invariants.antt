@@ -10,4 +10,5 @@ use Rattle.ps_match.proofs.scanning.scan_row.Given as goal
 abbrev pub invariant-loop-column : goal.invariant-loop-column
 invariant-loop-column g l =
     let grid = g.B.Board.grid l.board in
-    l.fitting ≡ scanned (λ x. fits_there (meaning_of_mask (mask_shown l.mask)) (slice_get grid.cells (x * grid.height + l.row))) l.column
+    l.fitting ≡ scanned (λ x. fits_there (meaning_of_mask (mask_shown l.mask))
+    (slice_get grid.cells (x * grid.height + l.row))) l.column

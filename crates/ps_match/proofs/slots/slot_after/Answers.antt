@@ -13,9 +13,11 @@ returns-in-None g c =
     let table : Option (List ℕ) = g.B.Board.table c.args.board.now in
     let write : CellWrite = write_shown c.args.write.now in
     let layer : ℕ = c.args.layer.0 in
-    let none : None ≡ own_write table layer write.layers = c.in-None.ensures ∙ ap (own_write table layer) c.as_slice-2.ensures in
+    let none : None ≡ own_write table layer write.layers = c.in-None.ensures
+    ∙ ap (own_write table layer) c.as_slice-2.ensures in
     c.freed-slot.ensures ∙ ap (λ (gone : List LayeredObject). slot_freed gone layer c.args.slot) c.as_slice.ensures
-    ∙ ap (λ (own : Option LayerWrite). slot_written own (slot_freed write.gone layer c.args.slot)) none ∙ sym (after_value table layer write c.args.slot)
+    ∙ ap (λ (own : Option LayerWrite). slot_written own (slot_freed write.gone layer c.args.slot)) none
+    ∙ sym (after_value table layer write c.args.slot)
 
 pub returns-in-Some : goal.returns-in-Some
 returns-in-Some g c =
@@ -23,8 +25,10 @@ returns-in-Some g c =
     let write : CellWrite = write_shown c.args.write.now in
     let layer : ℕ = c.args.layer.0 in
     let each : LayerWrite = c.in-Some.each in
-    let some : Some each ≡ own_write table layer write.layers = c.in-Some.ensures ∙ ap (own_write table layer) c.as_slice-2.ensures in
+    let some : Some each ≡ own_write table layer write.layers = c.in-Some.ensures
+    ∙ ap (own_write table layer) c.as_slice-2.ensures in
     let gone : c.freed-slot.result ≡ slot_freed write.gone layer c.args.slot =
     c.freed-slot.ensures ∙ ap (λ (gone : List LayeredObject). slot_freed gone layer c.args.slot) c.as_slice.ensures in
     c.object_after.ensures ∙ ap (object_written each.object each.motion) gone
-    ∙ ap (λ (own : Option LayerWrite). slot_written own (slot_freed write.gone layer c.args.slot)) some ∙ sym (after_value table layer write c.args.slot)
+    ∙ ap (λ (own : Option LayerWrite). slot_written own (slot_freed write.gone layer c.args.slot)) some
+    ∙ sym (after_value table layer write c.args.slot)

@@ -15,6 +15,7 @@ invariant-loop-layer g l =
     let new = cell_written (write_in_room (g.B.Board.table l.fn.board) (write_shown l.write)) old in
     record {
       grid : g.B.Board.grid l.board ≡ with_cell_of start l.cell (take l.layer new ++ drop l.layer old);
-      changed : (l.any || not (same_cell (drop l.layer old) (drop l.layer new))) ≡ (l.fn.changed || not (same_cell old new));
+      changed : (l.any || not (same_cell (drop l.layer old) (drop l.layer new))) ≡
+          (l.fn.changed || not (same_cell old new));
       table : g.B.Board.table l.board ≡ g.B.Board.table l.fn.board;
     }

@@ -1,4 +1,5 @@
-use Rattle.std.proofs.Common.{◌≡◌, ◌+◌, ◌*◌, ◌<◌, ◌≤◌, ◌&&◌, ◌||◌, ◌∙◌, ℕ, inl, inr, Bool, true, false, List, [], length, refl, sym, ap, arith, subst}
+use Rattle.std.proofs.Common.{◌≡◌, ◌+◌, ◌*◌, ◌<◌, ◌≤◌, ◌&&◌, ◌||◌, ◌∙◌, ℕ, inl, inr, Bool, true, false, List, []}
+use Rattle.std.proofs.Common.{length, refl, sym, ap, arith, subst}
 use Rattle.std.specs.Prelude.{nat_eq}
 use Rattle.std.proofs.Math.Bool.{and-true, or-false}
 use Rattle.std.proofs.lemmas.Bool.{cases_eq, cases_lt, lt-ltb, ne_eqb, or_parts}
@@ -18,7 +19,8 @@ loop-column-init g c =
     let old : Grid = g.B.Board.grid c.args.board.now in
     let start : 0 ≡ 0 * old.height = omega arith in
     let P : ℕ → Type 0 = λ cell. IsPart false old old (0, 0) (cell, 0) in
-    let below : c.below.result ≡ columns_below old.width = c.below.ensures ∙ ap columns_below c.size-width.ensures.width in (
+    let below : c.below.result ≡ columns_below old.width = c.below.ensures
+    ∙ ap columns_below c.size-width.ensures.width in (
       0,
       record {
         within = omega arith;
@@ -38,15 +40,18 @@ loop-column-init g c =
 pub visit_column-went-requires-clause-column : goal.visit_column-went-requires-clause-column
 visit_column-went-requires-clause-column g c =
     let was = c.loop-column.invariant.1 in
-    rw was.part.width (taken_below c.loop-column.left c.take_first.new.self (g.B.Board.grid c.args.board.now).width c.in-Some.column c.in-Some.ensures.some was.below)
+    rw was.part.width (taken_below c.loop-column.left c.take_first.new.self (g.B.Board.grid c.args.board.now).width
+    c.in-Some.column c.in-Some.ensures.some was.below)
 
 pub visit_column-went-requires-clause-outside : goal.visit_column-went-requires-clause-outside
 visit_column-went-requires-clause-outside g c =
-    outside_then c.loop-column.went (g.B.Board.grid c.args.board.now) (g.B.Board.grid c.loop-column.board) _ _ c.args.rows.now c.loop-column.invariant.1.part c.requires.outside
+    outside_then c.loop-column.went (g.B.Board.grid c.args.board.now) (g.B.Board.grid c.loop-column.board) _ _
+    c.args.rows.now c.loop-column.invariant.1.part c.requires.outside
 
 pub returns-clause-outside : goal.returns-clause-outside
 returns-clause-outside g c =
-    outside_then c.loop-column.went (g.B.Board.grid c.args.board.now) (g.B.Board.grid c.loop-column.board) _ _ c.args.rows.now c.loop-column.invariant.1.part c.requires.outside
+    outside_then c.loop-column.went (g.B.Board.grid c.args.board.now) (g.B.Board.grid c.loop-column.board) _ _
+    c.args.rows.now c.loop-column.invariant.1.part c.requires.outside
 
 pub loop-column-preserved : goal.loop-column-preserved
 loop-column-preserved g c =
@@ -68,25 +73,30 @@ loop-column-preserved g c =
     let reaches : column ≤ now.width = rw was.part.width (let le : column ≤ old.width = omega (arith, across) in le) in
     let between : IsPart false now now (next * now.height, 0) (column * now.height, 0) =
     columns_between now c.args.moving.now next column (was.part.shape c.size-width.ensures.shape)
-    (still_then c.loop-column.went old now (0, 0) (next * old.height, 0) c.args.moving.now was.part c.requires.still) up reaches
+    (still_then c.loop-column.went old now (0, 0) (next * old.height, 0) c.args.moving.now was.part c.requires.still)
+    up reaches
     (λ other low high.
-    sym (was.same other low (omega (arith, high, across))) ∙ first_least set column other (set_columns left) some high) in
+    sym (was.same other low (omega (arith, high, across)))
+    ∙ first_least set column other (set_columns left) some high) in
     let H : ℕ → Type 0 = λ height. IsPart false now now (next * height, 0) (column * height, 0) in
     let W : Bool → Type 0 = λ went. IsPart went old now (0, 0) (column * old.height, 0) in
     let reached : IsPart c.loop-column.went old now (0, 0) (column * old.height, 0) =
     subst W (or-false c.loop-column.went)
-    (part_then c.loop-column.went false old now now (0, 0) (next * old.height, 0) (column * old.height, 0) was.part (subst H was.part.height between)) in (
+    (part_then c.loop-column.went false old now now (0, 0) (next * old.height, 0) (column * old.height, 0) was.part
+    (subst H was.part.height between)) in (
       column + 1,
       record {
         within = omega (arith, across);
-        part = column_then c.loop-column.went c.visit_column-went.result old now new (0, 0) column reached c.visit_column-went.ensures.part;
+        part = column_then c.loop-column.went c.visit_column-went.result old now new (0, 0) column reached
+            c.visit_column-went.ensures.part;
         below = below-more set left old.width column some was.below;
         before = λ other less. elim (cases_eq other column) [
           | inl e ↦ ap (column_at left) e ∙ taken_gone set left column some
           | inr apart ↦
               let lower : other < column = omega (arith, less, apart) in
               (or_parts (nat_eq other column) (column_at left other)
-              (sym (taken_out set left column other some (omega (arith, lower, first.1))) ∙ first_least set column other (set_columns left) some lower)).1
+              (sym (taken_out set left column other some (omega (arith, lower, first.1)))
+              ∙ first_least set column other (set_columns left) some lower)).1
         ];
         same = λ other low inside.
             let narrow : other < SIDE_LIMIT = omega (arith, inside, c.size-width.ensures.shape.columns) in
@@ -107,10 +117,13 @@ returns-clause-part g c =
     let reaches : old.width ≤ now.width = rw was.part.width (let le : old.width ≤ old.width = omega arith in le) in
     let between : IsPart false now now (next * now.height, 0) (old.width * now.height, 0) =
     columns_between now c.args.moving.now next old.width (was.part.shape c.size-width.ensures.shape)
-    (still_then c.loop-column.went old now (0, 0) (next * old.height, 0) c.args.moving.now was.part c.requires.still) was.within reaches
+    (still_then c.loop-column.went old now (0, 0) (next * old.height, 0) c.args.moving.now was.part c.requires.still)
+    was.within reaches
     (λ column low high.
-    sym (was.same column low high) ∙ none_in c.loop-column.left column empty (omega (arith, high, c.size-width.ensures.shape.columns))) in
+    sym (was.same column low high) ∙ none_in c.loop-column.left column empty
+    (omega (arith, high, c.size-width.ensures.shape.columns))) in
     let H : ℕ → Type 0 = λ height. IsPart false now now (next * height, 0) (old.width * height, 0) in
     let W : Bool → Type 0 = λ went. IsPart went old now (0, 0) (old.width * old.height, 0) in
     subst W (or-false c.loop-column.went)
-    (part_then c.loop-column.went false old now now (0, 0) (next * old.height, 0) (old.width * old.height, 0) was.part (subst H was.part.height between))
+    (part_then c.loop-column.went false old now now (0, 0) (next * old.height, 0) (old.width * old.height, 0) was.part
+    (subst H was.part.height between))

@@ -10,10 +10,12 @@ abbrev pub invariant-loop-column : goal.invariant-loop-column
 invariant-loop-column g l =
     (next : ℕ) × (record {
       within : next ≤ (g.B.Board.grid l.fn.board).width;
-      part : IsPart l.went (g.B.Board.grid l.fn.board) (g.B.Board.grid l.board) (0, 0) (next * (g.B.Board.grid l.fn.board).height, 0);
+      part : IsPart l.went (g.B.Board.grid l.fn.board) (g.B.Board.grid l.board) (0, 0)
+          (next * (g.B.Board.grid l.fn.board).height, 0);
       below : AreBelow (g.B.Board.grid l.fn.board).width l.left;
       before : (column : ℕ) → column < next → column_at l.left column ≡ false;
-      same : (column : ℕ) → next ≤ column → column < (g.B.Board.grid l.fn.board).width → column_at l.left column ≡ column_at (columns_in l.moving) column;
+      same : (column : ℕ) → next ≤ column → column < (g.B.Board.grid l.fn.board).width →
+          column_at l.left column ≡ column_at (columns_in l.moving) column;
       table : g.B.Board.table l.board ≡ g.B.Board.table l.fn.board;
     })
 

@@ -28,7 +28,8 @@ loop-rows-preserved g c =
     let part = c.pass.ensures.part in
     let inv = c.loop-rows.invariant in
     let shape : IsGrid now = part.shape c.pass.ensures.shape in
-    let fewer : going_count now + 1 ≤ going_count old = subst (λ (b : Bool). going_count now + cond b 1 0 ≤ going_count old) c.loop-rows-test.true part.fewer in
+    let fewer : going_count now + 1 ≤ going_count old =
+    subst (λ (b : Bool). going_count now + cond b 1 0 ≤ going_count old) c.loop-rows-test.true part.fewer in
     let all : old.width * old.height ≡ now.width * now.height = rw (part.width, part.height) refl in
     record {
       order = next_pass start now c.pass.result (old.width * old.height) shape all (part.order start false inv.order);
@@ -50,7 +51,8 @@ returns-clause-exact g c =
     let shape : IsGrid now = part.shape c.pass.ensures.shape in
     let all : old.width * old.height ≡ now.width * now.height = rw (part.width, part.height) refl in
     let order : IsInOrder start now false (old.width * old.height, 0) =
-    subst (λ (b : Bool). IsInOrder start now b (old.width * old.height, 0)) c.loop-rows-test.false (part.order start false c.loop-rows.invariant.order) in
+    subst (λ (b : Bool). IsInOrder start now b (old.width * old.height, 0)) c.loop-rows-test.false
+    (part.order start false c.loop-rows.invariant.order) in
     c.clear_moves.ensures.grid ∙ rest_exact start now (old.width * old.height) shape all order
 
 pub returns-clause-slid : goal.returns-clause-slid
@@ -63,5 +65,6 @@ returns-clause-slid g c =
 
 pub returns-clause-one_pass : goal.returns-clause-one_pass
 returns-clause-one_pass g c = λ e.
-    let unchanged : g.B.Board.grid c.pass.new.board ≡ g.B.Board.grid c.args.board.now = c.pass.ensures.part.same c.loop-rows-test.false ∙ c.loop-rows.invariant.first e in
+    let unchanged : g.B.Board.grid c.pass.new.board ≡ g.B.Board.grid c.args.board.now =
+    c.pass.ensures.part.same c.loop-rows-test.false ∙ c.loop-rows.invariant.first e in
     cc

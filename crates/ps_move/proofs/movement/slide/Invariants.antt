@@ -13,7 +13,8 @@ invariant-loop-rows g l =
       some : 0 < l.passes;
       first : l.passes ≡ 1 → g.B.Board.grid l.board ≡ g.B.Board.grid l.fn.board;
       few : l.passes + going_count (g.B.Board.grid l.board) ≤ going_count (g.B.Board.grid l.fn.board) + 1;
-      room : IsGrid (g.B.Board.grid l.board) → going_count (g.B.Board.grid l.fn.board) ≤ SIDE_LIMIT * SIDE_LIMIT * LAYER_LIMIT;
+      room : IsGrid (g.B.Board.grid l.board) →
+          going_count (g.B.Board.grid l.fn.board) ≤ SIDE_LIMIT * SIDE_LIMIT * LAYER_LIMIT;
       still : IsStillBeside (g.B.Board.grid l.board) l.moving;
       outside : IsStillOutside (g.B.Board.grid l.board) l.rows;
       table : g.B.Board.table l.board ≡ g.B.Board.table l.fn.board;

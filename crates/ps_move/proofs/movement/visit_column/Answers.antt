@@ -1,4 +1,5 @@
-use Rattle.std.proofs.Common.{◌≡◌, ◌+◌, ◌*◌, ◌<◌, ◌≤◌, ◌&&◌, ◌||◌, ◌∙◌, ℕ, inl, inr, Bool, true, false, List, [], refl, sym, ap, arith, subst}
+use Rattle.std.proofs.Common.{◌≡◌, ◌+◌, ◌*◌, ◌<◌, ◌≤◌, ◌&&◌, ◌||◌, ◌∙◌, ℕ, inl, inr, Bool, true, false, List, [], refl}
+use Rattle.std.proofs.Common.{sym, ap, arith, subst}
 use Rattle.std.specs.Prelude.{nat_eq}
 use Rattle.std.proofs.Math.Bool.{and-true, or-false}
 use Rattle.std.proofs.lemmas.Bool.{cases_eq, cases_lt, lt-ltb, ne_eqb, or_parts}
@@ -18,7 +19,8 @@ loop-row-init g c =
     let start : ℕ = c.args.column * old.height in
     let same : start ≡ start + 0 = omega arith in
     let P : ℕ → Type 0 = λ cell. IsPart false old old (start, 0) (cell, 0) in
-    let below : c.below.result ≡ columns_below old.height = c.below.ensures ∙ ap columns_below c.size-height.ensures.height in (
+    let below : c.below.result ≡ columns_below old.height = c.below.ensures
+    ∙ ap columns_below c.size-height.ensures.height in (
       0,
       record {
         within = omega arith;
@@ -37,12 +39,14 @@ loop-row-init g c =
 pub visit_row-went-requires-clause-row : goal.visit_row-went-requires-clause-row
 visit_row-went-requires-clause-row g c =
     let was = c.loop-row.invariant.1 in
-    rw was.part.height (taken_below c.loop-row.left c.take_first.new.self (g.B.Board.grid c.args.board.now).height c.in-Some.row c.in-Some.ensures.some was.below)
+    rw was.part.height (taken_below c.loop-row.left c.take_first.new.self (g.B.Board.grid c.args.board.now).height
+    c.in-Some.row c.in-Some.ensures.some was.below)
 
 pub visit_row-went-requires-clause-still : goal.visit_row-went-requires-clause-still
 visit_row-went-requires-clause-still g c =
     let old : Grid = g.B.Board.grid c.args.board.now in
-    still_then c.loop-row.went old (g.B.Board.grid c.loop-row.board) _ _ c.args.moving.now c.loop-row.invariant.1.part c.requires.still
+    still_then c.loop-row.went old (g.B.Board.grid c.loop-row.board) _ _ c.args.moving.now c.loop-row.invariant.1.part
+    c.requires.still
 
 pub loop-row-preserved : goal.loop-row-preserved
 loop-row-preserved g c =
@@ -66,25 +70,30 @@ loop-row-preserved g c =
     let across : c.args.column < now.width = rw was.part.width c.requires.column in
     let between : IsPart false now now (c.args.column * now.height + next, 0) (c.args.column * now.height + row, 0) =
     rows_between now c.args.rows.now c.args.column next row
-    (outside_then c.loop-row.went old now (start, 0) (start + next, 0) c.args.rows.now was.part c.requires.outside) across up reaches
+    (outside_then c.loop-row.went old now (start, 0) (start + next, 0) c.args.rows.now was.part c.requires.outside)
+    across up reaches
     (λ other low high.
     sym (was.same other low (omega (arith, high, under))) ∙ first_least set row other (set_columns left) some high) in
-    let H : ℕ → Type 0 = λ height. IsPart false now now (c.args.column * height + next, 0) (c.args.column * height + row, 0) in
+    let H : ℕ → Type 0 = λ height. IsPart false now now (c.args.column * height + next, 0)
+    (c.args.column * height + row, 0) in
     let W : Bool → Type 0 = λ went. IsPart went old now (start, 0) (start + row, 0) in
     let reached : IsPart c.loop-row.went old now (start, 0) (start + row, 0) =
     subst W (or-false c.loop-row.went)
-    (part_then c.loop-row.went false old now now (start, 0) (start + next, 0) (start + row, 0) was.part (subst H was.part.height between)) in (
+    (part_then c.loop-row.went false old now now (start, 0) (start + next, 0) (start + row, 0) was.part
+    (subst H was.part.height between)) in (
       row + 1,
       record {
         within = omega (arith, under);
-        part = row_then c.loop-row.went c.visit_row-went.result old now new (start, 0) c.args.column row reached c.visit_row-went.ensures.part;
+        part = row_then c.loop-row.went c.visit_row-went.result old now new (start, 0) c.args.column row reached
+            c.visit_row-went.ensures.part;
         below = below-more set left old.height row some was.below;
         before = λ other less. elim (cases_eq other row) [
           | inl e ↦ ap (column_at left) e ∙ taken_gone set left row some
           | inr apart ↦
               let lower : other < row = omega (arith, less, apart) in
               (or_parts (nat_eq other row) (column_at left other)
-              (sym (taken_out set left row other some (omega (arith, lower, first.1))) ∙ first_least set row other (set_columns left) some lower)).1
+              (sym (taken_out set left row other some (omega (arith, lower, first.1)))
+              ∙ first_least set row other (set_columns left) some lower)).1
         ];
         same = λ other low inside.
             let narrow : other < SIDE_LIMIT = omega (arith, inside, c.size-height.ensures.shape.rows) in
@@ -105,14 +114,19 @@ returns-clause-part g c =
     let empty : set_columns c.loop-row.left ≡ [] = c.in_default.ensures.none refl in
     let reaches : old.height ≤ now.height = rw was.part.height (let le : old.height ≤ old.height = omega arith in le) in
     let across : c.args.column < now.width = rw was.part.width c.requires.column in
-    let between : IsPart false now now (c.args.column * now.height + next, 0) (c.args.column * now.height + old.height, 0) =
+    let between : IsPart false now now (c.args.column * now.height + next, 0)
+    (c.args.column * now.height + old.height, 0) =
     rows_between now c.args.rows.now c.args.column next old.height
-    (outside_then c.loop-row.went old now (start, 0) (start + next, 0) c.args.rows.now was.part c.requires.outside) across was.within reaches
+    (outside_then c.loop-row.went old now (start, 0) (start + next, 0) c.args.rows.now was.part c.requires.outside)
+    across was.within reaches
     (λ row low high.
-    sym (was.same row low high) ∙ none_in c.loop-row.left row empty (omega (arith, high, c.size-height.ensures.shape.rows))) in
-    let H : ℕ → Type 0 = λ height. IsPart false now now (c.args.column * height + next, 0) (c.args.column * height + old.height, 0) in
+    sym (was.same row low high) ∙ none_in c.loop-row.left row empty
+    (omega (arith, high, c.size-height.ensures.shape.rows))) in
+    let H : ℕ → Type 0 = λ height. IsPart false now now (c.args.column * height + next, 0)
+    (c.args.column * height + old.height, 0) in
     let W : Bool → Type 0 = λ went. IsPart went old now (start, 0) (start + old.height, 0) in
     let end : start + old.height ≡ (c.args.column + 1) * old.height = omega arith in
     let E : ℕ → Type 0 = λ last. IsPart c.loop-row.went old now (start, 0) (last, 0) in
     subst E end (subst W (or-false c.loop-row.went)
-    (part_then c.loop-row.went false old now now (start, 0) (start + next, 0) (start + old.height, 0) was.part (subst H was.part.height between)))
+    (part_then c.loop-row.went false old now now (start, 0) (start + next, 0) (start + old.height, 0) was.part
+    (subst H was.part.height between)))

@@ -13,7 +13,8 @@ invariant-loop-row g l =
       part : IsPart l.went (g.B.Board.grid l.fn.board) (g.B.Board.grid l.board) (start, 0) (start + next, 0);
       below : AreBelow (g.B.Board.grid l.fn.board).height l.left;
       before : (row : ℕ) → row < next → column_at l.left row ≡ false;
-      same : (row : ℕ) → next ≤ row → row < (g.B.Board.grid l.fn.board).height → column_at l.left row ≡ column_at l.rows row;
+      same : (row : ℕ) → next ≤ row → row < (g.B.Board.grid l.fn.board).height →
+          column_at l.left row ≡ column_at l.rows row;
       table : g.B.Board.table l.board ≡ g.B.Board.table l.fn.board;
     })
 

@@ -7,4 +7,5 @@ pub returns-then-not-has-clause-part : goal.returns-then-not-has-clause-part
 returns-then-not-has-clause-part g c =
     let old : Grid = g.B.Board.grid c.args.board.now in
     cell_still old (c.args.column * old.height + c.args.row)
-    (λ layer. c.requires.still c.args.column c.args.row layer c.requires.column c.requires.row (sym c.has.ensures ∙ c.if-not-has.true))
+    (λ layer. c.requires.still c.args.column c.args.row layer c.requires.column c.requires.row (sym c.has.ensures
+    ∙ c.if-not-has.true))

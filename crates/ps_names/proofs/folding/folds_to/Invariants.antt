@@ -4,4 +4,5 @@ use Rattle.ps_model.specs.text.Lines.{folded}
 use Rattle.ps_names.proofs.folding.folds_to.Given as goal
 
 abbrev pub invariant-loop-at : goal.invariant-loop-at
-invariant-loop-at l = bytes_eq (folded (drop l.at l.letters)) (drop l.at l.wanted) ≡ bytes_eq (folded l.letters) l.wanted
+invariant-loop-at l = bytes_eq (folded (drop l.at l.letters)) (drop l.at l.wanted) ≡ bytes_eq (folded l.letters)
+    l.wanted

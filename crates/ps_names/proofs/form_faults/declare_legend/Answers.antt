@@ -14,9 +14,13 @@ use Rattle.ps_names.proofs.form_faults.declare_legend.Goals as goal
 pub returns-in_err-declared-clause-reads : goal.returns-in_err-declared-clause-reads
 returns-in_err-declared-clause-reads c =
     let before : List (List ℕ) = keys c.loop-place.known in
-    let step = element-first c.args.lines.now c.loop-place.place (suc c.loop-place.place) c.index-lines-place.result _ c.loop-place-test.true refl c.index-lines-place.is in
+    let step = element-first c.args.lines.now c.loop-place.place (suc c.loop-place.place) c.index-lines-place.result _
+    c.loop-place-test.true refl c.index-lines-place.is in
     let fault : Refusal = c.in_err-declared.field-0.0 in
-    let told : (f : TheFault) → fault ≡ Refused f → first_fault (form_faults (keys c.args.known.now) (lines_shown c.args.lines.now)) ≡ Some f =
-    λ f e. sym (ap first_fault c.loop-place.invariant.faults) ∙ ap (λ (xs : List WrittenLine). first_fault (form_faults before (lines_shown xs))) step
-    ∙ first-front (legend_form_faults before (line_shown c.index-lines-place.result)) _ f (c.in_err-declared.ensures.reads.1.1 f e) in
+    let told : (f : TheFault) → fault ≡ Refused f →
+    first_fault (form_faults (keys c.args.known.now) (lines_shown c.args.lines.now)) ≡ Some f =
+    λ f e. sym (ap first_fault c.loop-place.invariant.faults)
+    ∙ ap (λ (xs : List WrittenLine). first_fault (form_faults before (lines_shown xs))) step
+    ∙ first-front (legend_form_faults before (line_shown c.index-lines-place.result)) _ f
+    (c.in_err-declared.ensures.reads.1.1 f e) in
     search (rules, told)

@@ -10,5 +10,6 @@ abbrev pub invariant-loop-number : goal.invariant-loop-number
 invariant-loop-number l =
     record {
       few : l.number ≤ LAYER_LIMIT;
-      faults : first_fault (flat_map faults_of_layer (enumerate_from l.number (layers_shown (drop l.number l.layers)))) ≡ first_fault (layer_faults (layers_shown l.layers));
+      faults : first_fault (flat_map faults_of_layer (enumerate_from l.number (layers_shown (drop l.number l.layers))))
+          ≡ first_fault (layer_faults (layers_shown l.layers));
     }

@@ -9,4 +9,5 @@ use Rattle.ps_names.proofs.layers.find_written.Goals as goal
 pub returns : goal.returns
 returns c =
     let low : c.as_str.result.now ≡ folded c.args.name.now = search rules in
-    c.find.ensures ∙ ap (λ (name : List ℕ). lookup (bytes_eq name) (entries_with c.args.table.now)) (ap folded low ∙ folded_again c.args.name.now)
+    c.find.ensures ∙ ap (λ (name : List ℕ). lookup (bytes_eq name) (entries_with c.args.table.now)) (ap folded low
+    ∙ folded_again c.args.name.now)

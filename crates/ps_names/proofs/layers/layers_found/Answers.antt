@@ -8,6 +8,8 @@ use Rattle.ps_names.proofs.layers.layers_found.Goals as goal
 
 pub returns : goal.returns
 returns c =
-    let end : drop c.loop-number.number c.args.layers.now ≡ [] = past-end c.args.layers.now c.loop-number.number (omega arith) in
-    ap (λ (rest : List Layer). placed_each c.loop-number.number c.loop-number.places.items (map objects_of_layer (layers_shown rest))) (sym end)
+    let end : drop c.loop-number.number c.args.layers.now ≡ [] =
+    past-end c.args.layers.now c.loop-number.number (omega arith) in
+    ap (λ (rest : List Layer). placed_each c.loop-number.number c.loop-number.places.items
+    (map objects_of_layer (layers_shown rest))) (sym end)
     ∙ c.loop-number.invariant ∙ layers-placed c.args.count (layers_shown c.args.layers.now)

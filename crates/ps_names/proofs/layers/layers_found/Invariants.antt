@@ -5,4 +5,5 @@ use Rattle.ps_names.proofs.layers.layers_found.Given as goal
 
 abbrev pub invariant-loop-number : goal.invariant-loop-number
 invariant-loop-number l =
-    placed_each l.number l.places.items (map objects_of_layer (layers_shown (drop l.number l.layers))) ≡ placed_each 0 (replicate l.count None) (map objects_of_layer (layers_shown l.layers))
+    placed_each l.number l.places.items (map objects_of_layer (layers_shown (drop l.number l.layers))) ≡ placed_each 0
+    (replicate l.count None) (map objects_of_layer (layers_shown l.layers))

@@ -4,4 +4,5 @@ use Rattle.ps_names.specs.LinesShown.{lines_shown}
 use Rattle.ps_names.proofs.layers.layers_of_lines.Given as goal
 
 abbrev pub invariant-loop-line : goal.invariant-loop-line
-invariant-loop-line l = layers_shown l.layers.items ++ map (layer_over l.table) (lines_shown (drop l.line-index l.lines)) ≡ map (layer_over l.table) (lines_shown l.lines)
+invariant-loop-line l = layers_shown l.layers.items ++ map (layer_over l.table)
+    (lines_shown (drop l.line-index l.lines)) ≡ map (layer_over l.table) (lines_shown l.lines)

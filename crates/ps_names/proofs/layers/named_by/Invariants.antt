@@ -6,4 +6,5 @@ use Rattle.ps_names.proofs.layers.named_by.Given as goal
 
 abbrev pub invariant-loop-word : goal.invariant-loop-word
 invariant-loop-word l =
-    map (λ m. option_map (λ m. meaning_shown m.now) m) l.named.items ++ named_by l.table (map text_of (drop l.word-index l.words)) ≡ named_by l.table (map text_of l.words)
+    map (λ m. option_map (λ m. meaning_shown m.now) m) l.named.items ++ named_by l.table
+    (map text_of (drop l.word-index l.words)) ≡ named_by l.table (map text_of l.words)

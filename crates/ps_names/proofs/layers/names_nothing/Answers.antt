@@ -8,5 +8,6 @@ use Rattle.ps_names.proofs.layers.names_nothing.Goals as goal
 
 pub returns : goal.returns
 returns c =
-    any_from_yields_List (λ m. is_none (option_map (λ m. meaning_shown m.now) m)) _ _ c.any.result c.any.ensures.ran (YieldsList-from_slice c.args.layer.now.named.items cc) (λ x b q k. search (rules, tests))
+    any_from_yields_List (λ m. is_none (option_map (λ m. meaning_shown m.now) m)) _ _ c.any.result c.any.ensures.ran
+    (YieldsList-from_slice c.args.layer.now.named.items cc) (λ x b q k. search (rules, tests))
     ∙ any-mapped is_none (λ m. option_map (λ m. meaning_shown m.now) m) c.args.layer.now.named.items

@@ -8,5 +8,6 @@ use Rattle.ps_names.proofs.layers.place_layer.Given as goal
 
 abbrev pub invariant-loop-meaning : goal.invariant-loop-meaning
 invariant-loop-meaning l =
-    placed l.number l.places (flat_map members_if (map (λ m. option_map (λ m. meaning_shown m.now) m) (drop l.meaning-index l.layer.named.items)))
+    placed l.number l.places (flat_map members_if
+    (map (λ m. option_map (λ m. meaning_shown m.now) m) (drop l.meaning-index l.layer.named.items)))
     ≡ placed l.number l.initial.places (objects_of_layer (layer_shown l.layer))

@@ -9,5 +9,6 @@ use Rattle.ps_names.proofs.legend.has_key_word.Goals as goal
 
 pub returns : goal.returns
 returns c =
-    any_from_yields_List (λ (each : Word). is_key_word c.args.key.now (text_of each)) _ _ c.any.result c.any.ensures.ran (YieldsList-from_slice c.args.line.now.words.items cc) (λ x b q k. search (rules, tests))
+    any_from_yields_List (λ (each : Word). is_key_word c.args.key.now (text_of each)) _ _ c.any.result
+    c.any.ensures.ran (YieldsList-from_slice c.args.line.now.words.items cc) (λ x b q k. search (rules, tests))
     ∙ any-mapped (is_key_word c.args.key.now) text_of c.args.line.now.words.items

@@ -9,5 +9,6 @@ use Rattle.ps_names.proofs.legend.has_sign.Goals as goal
 
 pub returns : goal.returns
 returns c =
-    any_from_yields_List (λ (each : Word). is_equals_sign (text_of each)) _ _ c.any.result c.any.ensures.ran (YieldsList-from_slice c.args.words.now cc) (λ x b q k. search (rules, tests))
+    any_from_yields_List (λ (each : Word). is_equals_sign (text_of each)) _ _ c.any.result c.any.ensures.ran
+    (YieldsList-from_slice c.args.words.now cc) (λ x b q k. search (rules, tests))
     ∙ any-mapped is_equals_sign text_of c.args.words.now

@@ -7,4 +7,7 @@ use Rattle.ps_names.proofs.legend_names.legend_names.Given as goal
 
 abbrev pub invariant-loop-declared : goal.invariant-loop-declared
 invariant-loop-declared l =
-    (length l.made.items ≡ l.declared-index) × (legend_shown l.made.items ++ map (legend_name (mentions_of_names l.known)) (declarations_shown (drop l.declared-index l.declarations)) ≡ map (legend_name (mentions_of_names l.known)) (declarations_shown l.declarations))
+    (length l.made.items ≡ l.declared-index) ×
+    (legend_shown l.made.items ++ map (legend_name (mentions_of_names l.known))
+    (declarations_shown (drop l.declared-index l.declarations)) ≡ map (legend_name (mentions_of_names l.known))
+    (declarations_shown l.declarations))

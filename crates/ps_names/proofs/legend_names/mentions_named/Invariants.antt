@@ -7,6 +7,9 @@ use Rattle.ps_names.proofs.legend_names.mentions_named.Given as goal
 abbrev pub invariant-loop-name : goal.invariant-loop-name
 invariant-loop-name l =
     record {
-      found : mentions_shown l.found.items ++ filter_map (λ mention. mention) (found_among l.known (map (λ n. n.now) (drop l.name-index l.names))) ≡ filter_map (λ mention. mention) (found_among l.known (map (λ n. n.now) l.names));
-      all : (l.all_declared && list_all is_some (found_among l.known (map (λ n. n.now) (drop l.name-index l.names)))) ≡ list_all is_some (found_among l.known (map (λ n. n.now) l.names));
+      found : mentions_shown l.found.items ++ filter_map (λ mention.
+          mention) (found_among l.known (map (λ n. n.now) (drop l.name-index l.names))) ≡ filter_map (λ mention.
+          mention) (found_among l.known (map (λ n. n.now) l.names));
+      all : (l.all_declared && list_all is_some (found_among l.known (map (λ n. n.now) (drop l.name-index l.names)))) ≡
+          list_all is_some (found_among l.known (map (λ n. n.now) l.names));
     }

@@ -9,5 +9,6 @@ use Rattle.ps_names.proofs.levels.are_below.Goals as goal
 
 pub returns : goal.returns
 returns c =
-    all_from_yields_List (λ (each : Mention). is_below c.args.levels.now c.args.limit (mention_shown each)) _ _ c.all.result c.all.ensures.ran (YieldsList-from_slice c.args.mentions.now cc) (λ x b q k. search (rules, tests))
+    all_from_yields_List (λ (each : Mention). is_below c.args.levels.now c.args.limit (mention_shown each)) _ _
+    c.all.result c.all.ensures.ran (YieldsList-from_slice c.args.mentions.now cc) (λ x b q k. search (rules, tests))
     ∙ all-mapped (is_below c.args.levels.now c.args.limit) mention_shown c.args.mentions.now

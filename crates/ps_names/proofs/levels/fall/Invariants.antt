@@ -5,4 +5,5 @@ use Rattle.ps_names.specs.Levels.{level, are_below}
 use Rattle.ps_names.proofs.levels.fall.Given as goal
 
 abbrev pub invariant-loop-place : goal.invariant-loop-place
-invariant-loop-place l = (line : ℕ) → line < l.place → are_below l.levels (level l.levels line + 1) (mentions_of (legend_shown l.legend) (OfLine line)) ≡ true
+invariant-loop-place l = (line : ℕ) → line < l.place →
+    are_below l.levels (level l.levels line + 1) (mentions_of (legend_shown l.legend) (OfLine line)) ≡ true

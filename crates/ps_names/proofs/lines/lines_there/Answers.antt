@@ -17,6 +17,7 @@ loop-line-preserved c =
       lines =
           ap (λ (xs : List Line). xs ++ lines_between text (line + 1) end) c.in_ok-push_there.ensures.lines
           ∙ append_assoc (lines_at text c.loop-line.made.items) (here text line) (lines_between text (line + 1) end)
-          ∙ ap (λ (xs : List Line). lines_at text c.loop-line.made.items ++ xs) (sym step) ∙ c.loop-line.invariant.lines;
+          ∙ ap (λ (xs : List Line). lines_at text c.loop-line.made.items ++ xs) (sym step)
+          ∙ c.loop-line.invariant.lines;
       there = c.in_ok-push_there.ensures.there c.loop-line.invariant.there;
     }

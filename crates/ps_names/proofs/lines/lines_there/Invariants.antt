@@ -8,6 +8,7 @@ abbrev pub invariant-loop-line : goal.invariant-loop-line
 invariant-loop-line l =
     record {
       few : length l.made.items + l.fn.lines.start ≤ l.line;
-      lines : lines_at l.source l.made.items ++ lines_between l.source l.line l.fn.lines.end ≡ lines_between l.source l.fn.lines.start l.fn.lines.end;
+      lines : lines_at l.source l.made.items ++ lines_between l.source l.line l.fn.lines.end ≡ lines_between l.source
+          l.fn.lines.start l.fn.lines.end;
       there : All (HasLine l.source) l.made.items;
     }

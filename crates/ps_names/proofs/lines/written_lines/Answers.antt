@@ -8,7 +8,9 @@ loop-line-preserved c =
     record {
       few = omega (arith, c.in_ok-push_written.ensures.one, c.loop-line.invariant.few);
       lines =
-          written-step c.args.source.now c.args.cut (lines_shown c.loop-line.made.items) (lines_shown c.push_written.new.made.items) c.args.lines.now c.loop-line.line-index (c.loop-line.line-index + 1) 0
+          written-step c.args.source.now c.args.cut (lines_shown c.loop-line.made.items)
+          (lines_shown c.push_written.new.made.items) c.args.lines.now c.loop-line.line-index
+          (c.loop-line.line-index + 1) 0
           c.loop-line-test.true (omega arith) c.in_ok-push_written.ensures.lines
           ∙ c.loop-line.invariant.lines;
     }

@@ -8,5 +8,6 @@ abbrev pub invariant-loop-line : goal.invariant-loop-line
 invariant-loop-line l =
     record {
       few : length l.made.items ≤ l.line-index;
-      lines : lines_shown l.made.items ++ written_lines l.cut (lines_at l.source (drop l.line-index l.lines)) ≡ written_lines l.cut (lines_at l.source l.lines);
+      lines : lines_shown l.made.items ++ written_lines l.cut (lines_at l.source (drop l.line-index l.lines)) ≡
+          written_lines l.cut (lines_at l.source l.lines);
     }

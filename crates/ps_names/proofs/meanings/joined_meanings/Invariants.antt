@@ -5,4 +5,5 @@ use Rattle.ps_names.proofs.meanings.joined_meanings.Given as goal
 
 abbrev pub invariant-loop-name : goal.invariant-loop-name
 invariant-loop-name l =
-    meanings_shown l.made.items ++ map (joined_at (legend_shown l.legend)) (legend_shown (drop l.name-index l.legend)) ≡ joined_meanings (legend_shown l.legend)
+    meanings_shown l.made.items ++ map (joined_at (legend_shown l.legend)) (legend_shown (drop l.name-index l.legend))
+    ≡ joined_meanings (legend_shown l.legend)

@@ -7,4 +7,5 @@ use Rattle.ps_names.proofs.meanings.legend_meanings.Given as goal
 
 abbrev pub invariant-loop-place : goal.invariant-loop-place
 invariant-loop-place l =
-    meanings_shown l.made.items ++ map (meaning_at (legend_shown l.legend)) (enumerate_from l.place (legend_shown (drop l.place l.legend))) ≡ legend_meanings (legend_shown l.legend)
+    meanings_shown l.made.items ++ map (meaning_at (legend_shown l.legend))
+    (enumerate_from l.place (legend_shown (drop l.place l.legend))) ≡ legend_meanings (legend_shown l.legend)

@@ -19,7 +19,8 @@ loop-passed-preserved c =
     let legend : List LegendName = legend_shown c.args.legend.now in
     let most : ℕ = length c.args.legend.now - (c.loop-passed._passed + 1) in
     let left : suc most ≡ length c.args.legend.now - c.loop-passed._passed = omega arith in
-    let behind : behind_synonym legend (mention_shown c.loop-passed.mention) ≡ Some (mention_shown c.in-Some.next) = sym c.in-Some.ensures in
+    let behind : behind_synonym legend (mention_shown c.loop-passed.mention) ≡ Some (mention_shown c.in-Some.next) =
+    sym c.in-Some.ensures in
     sym (synonym-step legend most (mention_shown c.loop-passed.mention) (mention_shown c.in-Some.next) behind)
     ∙ ap (λ (n : ℕ). meaning_behind legend n (mention_shown c.loop-passed.mention)) left
     ∙ c.loop-passed.invariant

@@ -5,4 +5,5 @@ use Rattle.ps_names.specs.LegendNames.{legend_shown}
 use Rattle.ps_names.proofs.meanings.meaning_behind.Given as goal
 
 abbrev pub invariant-loop-passed : goal.invariant-loop-passed
-invariant-loop-passed l = meaning_behind (legend_shown l.legend) (length l.legend - l._passed) (mention_shown l.mention) ≡ meaning_behind (legend_shown l.legend) (length l.legend) (OfLine l.place)
+invariant-loop-passed l = meaning_behind (legend_shown l.legend) (length l.legend - l._passed)
+    (mention_shown l.mention) ≡ meaning_behind (legend_shown l.legend) (length l.legend) (OfLine l.place)

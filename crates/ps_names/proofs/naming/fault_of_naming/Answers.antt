@@ -14,8 +14,12 @@ pub returns-then-is_some : goal.returns-then-is_some
 returns-then-is_some c =
     let there : is_some c.in_ok-fault.fault ≡ true = search rules in
     let place : ℕ = c.loop-place.place in
-    let faults : ℕ × LegendName → List Fault = faults_at (legend_shown c.args.legend.now) (meanings_shown c.args.meanings.now) in
-    let step = element-first c.args.legend.now place (suc place) c.index-legend-place.result _ c.loop-place-test.true refl c.index-legend-place.is in
-    first-here (faults (place, name_shown c.index-legend-place.result)) _ c.in_ok-fault.fault there c.in_ok-fault.ensures
-    ∙ ap (λ (xs : List code.LegendName). first_fault (flat_map faults (enumerate_from place (legend_shown xs)))) (sym step)
+    let faults : ℕ × LegendName → List Fault =
+    faults_at (legend_shown c.args.legend.now) (meanings_shown c.args.meanings.now) in
+    let step = element-first c.args.legend.now place (suc place) c.index-legend-place.result _ c.loop-place-test.true
+    refl c.index-legend-place.is in
+    first-here (faults (place, name_shown c.index-legend-place.result)) _ c.in_ok-fault.fault there
+    c.in_ok-fault.ensures
+    ∙ ap (λ (xs : List code.LegendName). first_fault (flat_map faults (enumerate_from place (legend_shown xs))))
+    (sym step)
     ∙ c.loop-place.invariant

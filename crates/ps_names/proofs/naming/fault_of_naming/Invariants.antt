@@ -8,5 +8,6 @@ use Rattle.ps_names.proofs.naming.fault_of_naming.Given as goal
 
 abbrev pub invariant-loop-place : goal.invariant-loop-place
 invariant-loop-place l =
-    first_fault (flat_map (faults_at (legend_shown l.legend) (meanings_shown l.meanings)) (enumerate_from l.place (legend_shown (drop l.place l.legend))))
+    first_fault (flat_map (faults_at (legend_shown l.legend) (meanings_shown l.meanings))
+    (enumerate_from l.place (legend_shown (drop l.place l.legend))))
     ≡ first_fault (naming_faults (legend_shown l.legend) (meanings_shown l.meanings))

@@ -11,5 +11,7 @@ use Rattle.ps_names.proofs.naming.some_property.Goals as goal
 pub returns : goal.returns
 returns c =
     let of : _ = meaning_of_mention (meanings_shown c.args.meanings.now) in
-    any_from_yields_List (λ (mention : Mention). is_property (of (mention_shown mention))) _ _ c.any.result c.any.ensures.ran (YieldsList-from_slice c.args.mentions.now cc) (λ x b q k. search (rules, tests))
+    any_from_yields_List (λ (mention : Mention).
+    is_property (of (mention_shown mention))) _ _ c.any.result c.any.ensures.ran
+    (YieldsList-from_slice c.args.mentions.now cc) (λ x b q k. search (rules, tests))
     ∙ any-mapped-twice is_property of mention_shown c.args.mentions.now

@@ -13,7 +13,9 @@ returns-then-is_some-clause-fault c =
     let there : is_some c.in_ok-fault.fault ≡ true = search rules in
     let number : ℕ = c.loop-number.number in
     let before : List (List ℕ) = keys c.loop-number.known in
-    let step = element-first c.args.objects.now number (suc number) c.index-objects-number.result _ c.loop-number-test.true refl c.index-objects-number.is in
-    first-here (faults_of_object number before (object_shown c.index-objects-number.result)) _ c.in_ok-fault.fault there c.in_ok-fault.ensures.fault
+    let step = element-first c.args.objects.now number (suc number) c.index-objects-number.result _
+    c.loop-number-test.true refl c.index-objects-number.is in
+    first-here (faults_of_object number before (object_shown c.index-objects-number.result)) _ c.in_ok-fault.fault
+    there c.in_ok-fault.ensures.fault
     ∙ ap (λ (xs : List ObjectText). first_fault (object_faults number before (objects_shown xs))) (sym step)
     ∙ c.loop-number.invariant.faults

@@ -12,6 +12,9 @@ abbrev pub invariant-loop-number : goal.invariant-loop-number
 invariant-loop-number l =
     record {
       few : l.number ≤ OBJECT_LIMIT;
-      faults : first_fault (object_faults l.number (keys l.known) (objects_shown (drop l.number l.objects))) ≡ first_fault (object_faults 0 (keys l.initial.known) (objects_shown l.objects));
-      names : l.known ++ map named_object (flat_map names_of_object (enumerate_from l.number (objects_shown (drop l.number l.objects)))) ≡ l.initial.known ++ map named_object (object_names (objects_shown l.objects));
+      faults : first_fault (object_faults l.number (keys l.known) (objects_shown (drop l.number l.objects))) ≡
+          first_fault (object_faults 0 (keys l.initial.known) (objects_shown l.objects));
+      names : l.known ++ map named_object (flat_map names_of_object
+          (enumerate_from l.number (objects_shown (drop l.number l.objects)))) ≡ l.initial.known ++ map named_object
+          (object_names (objects_shown l.objects));
     }

@@ -11,8 +11,11 @@ loop-at-preserved c =
     let text : List ℕ = c.args.source.now in
     let lines : List ℕ = c.args.lines.now in
     let at : ℕ = c.loop-at.at in
-    ap (λ (xs : List ℕ). objects_shown c.over.new.made.items ++ objects_below c.in_ok-above.above (lines_at text xs)) (sym (drop-drop 1 at lines))
-    ∙ ap (λ (xs : List ℕ). objects_shown c.over.new.made.items ++ objects_below c.in_ok-above.above (lines_at text (drop 1 xs))) (sym (rest-of lines at))
+    ap (λ (xs : List ℕ). objects_shown c.over.new.made.items ++ objects_below c.in_ok-above.above (lines_at text xs))
+    (sym (drop-drop 1 at lines))
+    ∙ ap (λ (xs : List ℕ). objects_shown c.over.new.made.items ++ objects_below c.in_ok-above.above
+    (lines_at text (drop 1 xs))) (sym (rest-of lines at))
     ∙ c.in_ok-above.ensures
-    ∙ ap (λ (xs : List ℕ). objects_shown c.loop-at.made.items ++ objects_below c.loop-at.above (lines_at text xs)) (rest-of lines at)
+    ∙ ap (λ (xs : List ℕ). objects_shown c.loop-at.made.items ++ objects_below c.loop-at.above (lines_at text xs))
+    (rest-of lines at)
     ∙ c.loop-at.invariant

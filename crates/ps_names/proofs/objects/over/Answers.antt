@@ -19,5 +19,8 @@ returns c =
     let line : _ = get_or lines 0 0 in
     let is : HasLine text line = All-get_or (HasLine text) lines 0 0 c.requires.some c.requires.there in
     let blank : is_blank_line (line_at text line) ≡ false = search rules in
-    object-step text lines 0 (objects_shown c.args.made.now.items) (objects_shown c.push.new.self.items) _ line c.args.above c.in_ok-below.below c.requires.some refl
-    (omega arith) blank (line_at-number text line is.0 is.1) c.in_ok-words.ensures.texts (c.in_ok-below.ensures ∙ ap (λ (xs : List ℕ). lines_below (lines_at text xs)) (rest-of lines 1)) (rw (c.in_ok-push.ensures.items, map-append) refl)
+    object-step text lines 0 (objects_shown c.args.made.now.items) (objects_shown c.push.new.self.items) _ line
+    c.args.above c.in_ok-below.below c.requires.some refl
+    (omega arith) blank (line_at-number text line is.0 is.1) c.in_ok-words.ensures.texts (c.in_ok-below.ensures
+    ∙ ap (λ (xs : List ℕ). lines_below (lines_at text xs)) (rest-of lines 1))
+    (rw (c.in_ok-push.ensures.items, map-append) refl)

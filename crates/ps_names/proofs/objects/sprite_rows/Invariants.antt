@@ -8,5 +8,6 @@ abbrev pub invariant-loop-line : goal.invariant-loop-line
 invariant-loop-line l =
     record {
       few : l.rows ≤ 5;
-      rows : l.rows + prefix_len is_sprite_row (take (5 - l.rows) (lines_at l.source (drop l.line-index l.lines))) ≡ sprite_rows (lines_at l.source l.lines);
+      rows : l.rows + prefix_len is_sprite_row (take (5 - l.rows) (lines_at l.source (drop l.line-index l.lines))) ≡
+          sprite_rows (lines_at l.source l.lines);
     }

@@ -14,13 +14,18 @@ pub returns : goal.returns
 returns c =
     let legend : List LegendName = legend_shown c.args.legend.now in
     let within : c.args.place < length legend = rw length-map c.requires.there in
-    let reached : reached_shown c.in_ok-reach.reach ≡ all_reached legend (mentions_shown c.deref-2.result.now) = c.in_ok-reach.ensures ∙ reached-shown c.args.legend.now c.deref-2.result.now in
+    let reached : reached_shown c.in_ok-reach.reach ≡ all_reached legend (mentions_shown c.deref-2.result.now) =
+    c.in_ok-reach.ensures ∙ reached-shown c.args.legend.now c.deref-2.result.now in
     c.is_marked.ensures
-    ∙ ap (λ (marks : List Bool). get_or marks c.args.place false) (c.deref-3.ensures.value ∙ ap (λ (r : Reached). r.lines) reached)
+    ∙ ap (λ (marks : List Bool). get_or marks c.args.place false) (c.deref-3.ensures.value
+    ∙ ap (λ (r : Reached). r.lines) reached)
     ∙ line-reached legend (mentions_shown c.deref-2.result.now) c.args.place within
-    ∙ ap (λ (ms : List Waits). list_any (same_mention (OfLine c.args.place)) (all_mentioned legend (mentions_shown ms))) c.deref-2.ensures.value
+    ∙ ap (λ (ms : List Waits). list_any (same_mention (OfLine c.args.place))
+    (all_mentioned legend (mentions_shown ms))) c.deref-2.ensures.value
 
 pub returns-then-are_below : goal.returns-then-are_below
 returns-then-are_below c =
-    let below : are_below c.args.levels.now (level c.args.levels.now c.args.place) (mentions_shown c.args.name.now.mentions.items) ≡ true = search rules in
-    sym (no-cycle (legend_shown c.args.legend.now) c.args.levels.now c.args.place (name_shown c.args.name.now) c.requires.falls below)
+    let below : are_below c.args.levels.now (level c.args.levels.now c.args.place)
+    (mentions_shown c.args.name.now.mentions.items) ≡ true = search rules in
+    sym (no-cycle (legend_shown c.args.legend.now) c.args.levels.now c.args.place (name_shown c.args.name.now)
+    c.requires.falls below)

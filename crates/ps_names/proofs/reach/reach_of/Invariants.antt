@@ -7,4 +7,5 @@ use Rattle.ps_names.proofs.reach.reach_of.Given as goal
 abbrev pub invariant-loop-name : goal.invariant-loop-name
 invariant-loop-name l =
     reached_with l.legend (mention_count (legend_shown (drop l.name-index l.legend))) l.reach
-    ≡ reached_from (legend_shown l.legend) (length l.mentions + mention_count (legend_shown l.legend)) (record { objects = []; lines = replicate (length l.legend) false }) (mentions_shown l.mentions)
+    ≡ reached_from (legend_shown l.legend) (length l.mentions + mention_count (legend_shown l.legend))
+    (record { objects = []; lines = replicate (length l.legend) false }) (mentions_shown l.mentions)

@@ -20,12 +20,16 @@ use Rattle.ps_names.proofs.wholes.SectionLaws.{keys-objects, mentions-known}
 use Rattle.ps_names.proofs.sections.declare_names.Goals as goal
 
 -- the faults of form, by the names that the objects have
-forms-of : (objects : List ObjectText) (lines : List WrittenLine) (known : List Named) → known ≡ map named_object (object_names objects) → form_faults (folded_names objects) lines ≡ form_faults (keys known) lines
+forms-of : (objects : List ObjectText) (lines : List WrittenLine) (known : List Named) →
+    known ≡ map named_object (object_names objects) →
+    form_faults (folded_names objects) lines ≡ form_faults (keys known) lines
 forms-of objects lines known e = rw (e, keys-objects objects) refl
 
 -- the names of the legend
-legend-as : (objects : List ObjectText) (lines : List WrittenLine) (before known : List Named) (made : List Declaration) → before ≡ map named_object (object_names objects)
-    → known ≡ before ++ map named_line (enumerate_from 0 (declarations lines)) → made ≡ declarations lines → map (legend_name (mentions_of_names known)) made ≡ legend_of objects lines
+legend-as : (objects : List ObjectText) (lines : List WrittenLine) (before known : List Named)
+    (made : List Declaration) → before ≡ map named_object (object_names objects)
+    → known ≡ before ++ map named_line (enumerate_from 0 (declarations lines)) → made ≡ declarations lines →
+    map (legend_name (mentions_of_names known)) made ≡ legend_of objects lines
 legend-as objects lines before known made b k m = rw (k, b, m, mentions-known objects lines) refl
 
 pub returns-in_err-known-clause-reads : goal.returns-in_err-known-clause-reads
@@ -44,7 +48,9 @@ returns-in_err-declarations-clause-reads c =
     let forms = forms-of objects lines c.in_ok-known.known c.in_ok-known.ensures.reads.0 in
     let fault : Refusal = c.in_err-declarations.field-0.0 in
     let told : (f : TheFault) → fault ≡ Refused f → first_fault (declaring_faults objects lines) ≡ Some f =
-    λ f e. rw (c.in_ok-known.ensures.reads.1.0) (first-front (form_faults (folded_names objects) lines) _ f (ap first_fault forms ∙ c.in_err-declarations.ensures.reads.1.1 f e)) in
+    λ f e. rw (c.in_ok-known.ensures.reads.1.0)
+    (first-front (form_faults (folded_names objects) lines) _ f (ap first_fault forms
+    ∙ c.in_err-declarations.ensures.reads.1.1 f e)) in
     search (rules, told)
 
 pub returns-in_err-legend-clause-reads : goal.returns-in_err-legend-clause-reads
@@ -53,22 +59,31 @@ returns-in_err-legend-clause-reads c =
     let lines : List WrittenLine = lines_shown c.args.lines.now in
     let forms = forms-of objects lines c.in_ok-known.known c.in_ok-known.ensures.reads.0 in
     let none : form_faults (folded_names objects) lines ≡ [] = forms ∙ c.in_ok-declarations.ensures.reads.1.0 in
-    let legend = legend-as objects lines c.in_ok-known.known c.declare_legend.new.known (declarations_shown c.deref.result.now) c.in_ok-known.ensures.reads.0 c.in_ok-declarations.ensures.known
+    let legend = legend-as objects lines c.in_ok-known.known c.declare_legend.new.known
+    (declarations_shown c.deref.result.now) c.in_ok-known.ensures.reads.0 c.in_ok-declarations.ensures.known
     (ap declarations_shown c.deref.ensures.value ∙ c.in_ok-declarations.ensures.reads.0) in
     let fault : Refusal = c.in_err-legend.field-0.0 in
     let told : (f : TheFault) → fault ≡ Refused f → first_fault (declaring_faults objects lines) ≡ Some f =
-    λ f e. rw (c.in_ok-known.ensures.reads.1.0, none) (ap (λ (names : List LegendName). first_fault (legend_faults names)) (sym legend) ∙ c.in_err-legend.ensures.1.1 f e) in
+    λ f e. rw (c.in_ok-known.ensures.reads.1.0, none)
+    (ap (λ (names : List LegendName). first_fault (legend_faults names)) (sym legend)
+    ∙ c.in_err-legend.ensures.1.1 f e) in
     search (rules, told)
 
 pub returns-clause-reads : goal.returns-clause-reads
 returns-clause-reads c =
     let objects : List ObjectText = objects_shown c.args.objects.now in
     let lines : List WrittenLine = lines_shown c.args.lines.now in
-    let none : form_faults (folded_names objects) lines ≡ [] = forms-of objects lines c.in_ok-known.known c.in_ok-known.ensures.reads.0 ∙ c.in_ok-declarations.ensures.reads.1.0 in
-    let legend = legend-as objects lines c.in_ok-known.known c.declare_legend.new.known (declarations_shown c.deref.result.now) c.in_ok-known.ensures.reads.0 c.in_ok-declarations.ensures.known
+    let none : form_faults (folded_names objects) lines ≡ [] =
+    forms-of objects lines c.in_ok-known.known c.in_ok-known.ensures.reads.0
+    ∙ c.in_ok-declarations.ensures.reads.1.0 in
+    let legend = legend-as objects lines c.in_ok-known.known c.declare_legend.new.known
+    (declarations_shown c.deref.result.now) c.in_ok-known.ensures.reads.0 c.in_ok-declarations.ensures.known
     (ap declarations_shown c.deref.ensures.value ∙ c.in_ok-declarations.ensures.reads.0) in
-    let naming : legend_faults (legend_of objects lines) ≡ [] = ap legend_faults (sym legend) ∙ c.in_ok-legend.ensures.1.0 in
-    let known = c.in_ok-declarations.ensures.known ∙ ap (λ (names : List Named). names ++ map named_line (enumerate_from 0 (declarations lines))) c.in_ok-known.ensures.reads.0 in (
+    let naming : legend_faults (legend_of objects lines) ≡ [] = ap legend_faults (sym legend)
+    ∙ c.in_ok-legend.ensures.1.0 in
+    let known = c.in_ok-declarations.ensures.known
+    ∙ ap (λ (names : List Named). names ++ map named_line (enumerate_from 0 (declarations lines)))
+    c.in_ok-known.ensures.reads.0 in (
       same-pair _ (declared_of objects lines) known (c.in_ok-legend.ensures.0 ∙ ap legend_with legend),
       (
         rw (c.in_ok-known.ensures.reads.1.0, none, naming) refl,

@@ -32,7 +32,9 @@ returns c =
       c.deref-4.ensures.value,
     ) (
     first-of-five (no_layers (objects_shown c.args.objects.now) c.args.places.now) (missing c.args.header entries)
-    (faults_of_lines (is_bad_background c.args.layers.now (lookup (bytes_eq (codes "background")) entries)) BadBackground (lines_of_name legend (codes "background")))
-    (faults_of_lines (is_aggregate (lookup (bytes_eq (codes "player")) entries)) BadPlayer (lines_of_name legend (codes "player")))
+    (faults_of_lines (is_bad_background c.args.layers.now (lookup (bytes_eq (codes "background")) entries))
+    BadBackground (lines_of_name legend (codes "background")))
+    (faults_of_lines (is_aggregate (lookup (bytes_eq (codes "player")) entries)) BadPlayer
+    (lines_of_name legend (codes "player")))
     (shared_layers c.args.layers.now legend (meanings_shown c.args.legend.now.meanings.items))
     )

@@ -5,4 +5,5 @@ use Rattle.ps_names.specs.Flattened.{IsFlatAt}
 use Rattle.ps_names.proofs.spoken.is_flat.Given as goal
 
 abbrev pub invariant-loop-place : goal.invariant-loop-place
-invariant-loop-place l = (line : ℕ) → line < l.place → IsFlatAt l.levels l.lists line (mentions_of (legend_shown l.legend) (OfLine line))
+invariant-loop-place l = (line : ℕ) → line < l.place →
+    IsFlatAt l.levels l.lists line (mentions_of (legend_shown l.legend) (OfLine line))

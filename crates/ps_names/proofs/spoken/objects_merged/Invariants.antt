@@ -5,4 +5,5 @@ use Rattle.ps_names.proofs.spoken.objects_merged.Given as goal
 
 abbrev pub invariant-loop-mention : goal.invariant-loop-mention
 invariant-loop-mention l =
-    merged l.objects.items (all_spoken (spoken_by l.lists) (mentions_shown (drop l.mention-index l.mentions))) ≡ merged [] (all_spoken (spoken_by l.lists) (mentions_shown l.mentions))
+    merged l.objects.items (all_spoken (spoken_by l.lists) (mentions_shown (drop l.mention-index l.mentions))) ≡ merged
+    [] (all_spoken (spoken_by l.lists) (mentions_shown l.mentions))

@@ -6,4 +6,5 @@ use Rattle.ps_names.proofs.whole.fault_at_name.Given as goal
 
 abbrev pub invariant-loop-declared : goal.invariant-loop-declared
 invariant-loop-declared l =
-    first_fault (faults_of_lines true l.kind (lines_of_name (legend_shown (drop l.declared-index l.legend)) l.name)) ≡ first_fault (faults_of_lines true l.kind (lines_of_name (legend_shown l.legend) l.name))
+    first_fault (faults_of_lines true l.kind (lines_of_name (legend_shown (drop l.declared-index l.legend)) l.name)) ≡
+    first_fault (faults_of_lines true l.kind (lines_of_name (legend_shown l.legend) l.name))

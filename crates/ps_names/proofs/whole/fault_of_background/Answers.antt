@@ -12,5 +12,7 @@ use Rattle.ps_names.proofs.whole.fault_of_background.Goals as goal
 
 pub returns-then-not-is_bad_background : goal.returns-then-not-is_bad_background
 returns-then-not-is_bad_background c =
-    let good : is_bad_background c.args.layers.now (lookup (bytes_eq (codes "background")) (entries_with c.args.table.now)) ≡ false = search rules in
-    sym (ap first_fault (nothing-bad _ BadBackground (lines_of_name (legend_shown c.args.legend.now) (codes "background")) good))
+    let good : is_bad_background c.args.layers.now
+    (lookup (bytes_eq (codes "background")) (entries_with c.args.table.now)) ≡ false = search rules in
+    sym (ap first_fault (nothing-bad _ BadBackground
+    (lines_of_name (legend_shown c.args.legend.now) (codes "background")) good))

@@ -16,8 +16,11 @@ loop-number-preserved c =
     let within : k < length c.args.places.now = omega arith in
     let there : is_none (get_or c.args.places.now k None) ≡ false = ap not c.if-is_none.ensures in
     let step = no-layer-step (objects_shown c.args.objects.now) c.args.places.now k None within there in
-    ap (λ (xs : List ObjectText). first_fault (no_layers xs (drop (k + 1) c.args.places.now))) (sym (drop-map object_shown (k + 1) c.args.objects.now))
-    ∙ ap (λ (n : ℕ). first_fault (no_layers (drop n (objects_shown c.args.objects.now)) (drop n c.args.places.now))) (sym next)
+    ap (λ (xs : List ObjectText). first_fault (no_layers xs (drop (k + 1) c.args.places.now)))
+    (sym (drop-map object_shown (k + 1) c.args.objects.now))
+    ∙ ap (λ (n : ℕ). first_fault (no_layers (drop n (objects_shown c.args.objects.now)) (drop n c.args.places.now)))
+    (sym next)
     ∙ sym (ap first_fault step)
-    ∙ ap (λ (xs : List ObjectText). first_fault (no_layers xs (drop k c.args.places.now))) (drop-map object_shown k c.args.objects.now)
+    ∙ ap (λ (xs : List ObjectText). first_fault (no_layers xs (drop k c.args.places.now)))
+    (drop-map object_shown k c.args.objects.now)
     ∙ c.loop-number.invariant

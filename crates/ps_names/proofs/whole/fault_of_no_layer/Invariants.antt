@@ -5,4 +5,5 @@ use Rattle.ps_names.specs.Wholes.{no_layers}
 use Rattle.ps_names.proofs.whole.fault_of_no_layer.Given as goal
 
 abbrev pub invariant-loop-number : goal.invariant-loop-number
-invariant-loop-number l = first_fault (no_layers (objects_shown (drop l.number l.objects)) (drop l.number l.places)) ≡ first_fault (no_layers (objects_shown l.objects) l.places)
+invariant-loop-number l = first_fault (no_layers (objects_shown (drop l.number l.objects)) (drop l.number l.places)) ≡
+    first_fault (no_layers (objects_shown l.objects) l.places)

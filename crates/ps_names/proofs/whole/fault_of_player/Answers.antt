@@ -12,5 +12,7 @@ use Rattle.ps_names.proofs.whole.fault_of_player.Goals as goal
 
 pub returns-then-not-is_aggregate : goal.returns-then-not-is_aggregate
 returns-then-not-is_aggregate c =
-    let good : is_aggregate (lookup (bytes_eq (codes "player")) (entries_with c.args.table.now)) ≡ false = search rules in
-    sym (ap first_fault (nothing-bad _ BadPlayer (lines_of_name (legend_shown c.args.legend.now) (codes "player")) good))
+    let good : is_aggregate (lookup (bytes_eq (codes "player")) (entries_with c.args.table.now)) ≡ false =
+    search rules in
+    sym (ap first_fault (nothing-bad _ BadPlayer (lines_of_name (legend_shown c.args.legend.now) (codes "player"))
+    good))

@@ -7,4 +7,6 @@ use Rattle.ps_names.proofs.whole.fault_of_shared_layer.Given as goal
 
 abbrev pub invariant-loop-place : goal.invariant-loop-place
 invariant-loop-place l =
-    first_fault (shared_layers l.layers (legend_shown (drop l.place l.legend)) (meanings_shown (drop l.place l.meanings))) ≡ first_fault (shared_layers l.layers (legend_shown l.legend) (meanings_shown l.meanings))
+    first_fault (shared_layers l.layers (legend_shown (drop l.place l.legend))
+    (meanings_shown (drop l.place l.meanings))) ≡ first_fault
+    (shared_layers l.layers (legend_shown l.legend) (meanings_shown l.meanings))

@@ -13,7 +13,8 @@ loop-object-init g c = mask-init (g.B.Board.grid c.args.board.now)
 
 pub loop-object-preserved : goal.loop-object-preserved
 loop-object-preserved g c =
-    mask-more (g.B.Board.grid c.args.board.now) c.args.mask.now _ c.loop-object.object-index c.loop-object.rows c.rows_with-having.result c.both-rows.result c.recall_shape.ensures.shape
+    mask-more (g.B.Board.grid c.args.board.now) c.args.mask.now _ c.loop-object.object-index c.loop-object.rows
+    c.rows_with-having.result c.both-rows.result c.recall_shape.ensures.shape
     (ap (λ (objects : List LayeredObject). slice_get objects c.loop-object.object-index)
     (sym c.as_slice-object-items.ensures)
     ∙ slice_get-get_or c.as_slice-object-items.result.now c.loop-object.object-index _ c.loop-object-test.true)
@@ -21,7 +22,8 @@ loop-object-preserved g c =
 
 pub loop-test-preserved : goal.loop-test-preserved
 loop-test-preserved g c =
-    motion-more (g.B.Board.grid c.args.board.now) c.args.mask.now _ c.loop-test.test-index c.loop-test.rows c.rows_moving-moving.result c.both-rows-in-loop-test.result c.recall_shape.ensures.shape
+    motion-more (g.B.Board.grid c.args.board.now) c.args.mask.now _ c.loop-test.test-index c.loop-test.rows
+    c.rows_moving-moving.result c.both-rows-in-loop-test.result c.recall_shape.ensures.shape
     (ap (λ (tests : List MotionTest). slice_get tests c.loop-test.test-index) (sym c.as_slice-test-items.ensures)
     ∙ slice_get-get_or c.as_slice-test-items.result.now c.loop-test.test-index _ c.loop-test-test.true)
     c.rows_moving-moving.ensures c.both-rows-in-loop-test.ensures c.loop-test.invariant

@@ -15,18 +15,22 @@ loop-line-init g c =
     let grid : Grid = g.B.Board.grid c.args.board.now in
     let fits : List ℕ → Bool = place_fits grid (g.B.Board.table c.args.board.now) c.args.row.now.parts in
     record {
-      first = ap (λ (ls : List ℕ). from_first fits (places_on_lines c.args.row.now.axis grid.height c.args.row.now.parts c.args.starts.now ls)) (sym c.behind_position-left.ensures);
+      first = ap (λ (ls : List ℕ). from_first fits
+          (places_on_lines c.args.row.now.axis grid.height c.args.row.now.parts c.args.starts.now ls))
+          (sym c.behind_position-left.ensures);
       left = left-from c.args.lines c.behind_position-left.result c.args.from c.behind_position-left.ensures;
       long = c.requires.way;
     }
 
 pub first_way-requires-clause-line : goal.first_way-requires-clause-line
 first_way-requires-clause-line g c =
-    c.requires.lines.at c.in-Some.line (c.loop-line.invariant.left.at c.in-Some.line (set_columns c.take_first.new.self) c.in-Some.ensures.some).0
+    c.requires.lines.at c.in-Some.line (c.loop-line.invariant.left.at c.in-Some.line
+    (set_columns c.take_first.new.self) c.in-Some.ensures.some).0
 
 pub returns-then-first_way-clause-line : goal.returns-then-first_way-clause-line
 returns-then-first_way-clause-line g c =
-    c.requires.lines.at c.in-Some.line (c.loop-line.invariant.left.at c.in-Some.line (set_columns c.take_first.new.self) c.in-Some.ensures.some).0
+    c.requires.lines.at c.in-Some.line (c.loop-line.invariant.left.at c.in-Some.line
+    (set_columns c.take_first.new.self) c.in-Some.ensures.some).0
 
 pub returns-then-first_way-clause-some : goal.returns-then-first_way-clause-some
 returns-then-first_way-clause-some g c =
@@ -36,11 +40,15 @@ returns-then-first_way-clause-some g c =
     let line : ℕ = c.in-Some.line in
     let found = rw c.as_slice-parts.ensures at (c.first_way.ensures.found c.if-first_way.true) in
     c.loop-line.invariant.first
-    ∙ ap (λ (ls : List ℕ). from_first fits (places_on_lines c.args.row.now.axis grid.height c.args.row.now.parts c.args.starts.now ls)) c.in-Some.ensures.some
-    ∙ line-found grid table c.args.row.now.axis c.args.row.now.parts c.args.starts.now line (set_columns c.take_first.new.self) c.first_way.new.way
+    ∙ ap (λ (ls : List ℕ). from_first fits (places_on_lines c.args.row.now.axis grid.height c.args.row.now.parts
+    c.args.starts.now ls)) c.in-Some.ensures.some
+    ∙ line-found grid table c.args.row.now.axis c.args.row.now.parts c.args.starts.now line
+    (set_columns c.take_first.new.self) c.first_way.new.way
     c.in-Some.ensures.within c.args.row.now.few c.requires.starts found
     ∙ ap (λ (ls : List ℕ). place_on c.args.row.now.axis grid.height c.args.row.now.parts line c.first_way.new.way
-    ∷ (map (way_cells c.args.row.now.axis grid.height line (part_sizes c.args.row.now.parts)) (ways_behind (sets_on c.args.starts.now (length c.args.row.now.parts) line) (part_sizes c.args.row.now.parts) c.first_way.new.way)
+    ∷ (map (way_cells c.args.row.now.axis grid.height line (part_sizes c.args.row.now.parts))
+    (ways_behind (sets_on c.args.starts.now (length c.args.row.now.parts) line) (part_sizes c.args.row.now.parts)
+    c.first_way.new.way)
     ++ places_on_lines c.args.row.now.axis grid.height c.args.row.now.parts c.args.starts.now ls))
     (c.loop-line.invariant.left.at line (set_columns c.take_first.new.self) c.in-Some.ensures.some).1
 
@@ -53,7 +61,8 @@ returns-then-first_way-clause-among g c =
     record {
       low = c.in-Some.ensures.within;
       on = (c.loop-line.invariant.left.at line (set_columns c.take_first.new.self) c.in-Some.ensures.some).0;
-      among = first-on-line (way_fits grid table c.args.row.now.axis line c.args.row.now.parts) c.args.row.now.parts c.args.starts.now line c.first_way.new.way found;
+      among = first-on-line (way_fits grid table c.args.row.now.axis line c.args.row.now.parts) c.args.row.now.parts
+          c.args.starts.now line c.first_way.new.way found;
     }
 
 pub loop-line-preserved : goal.loop-line-preserved
@@ -65,9 +74,13 @@ loop-line-preserved g c =
     record {
       first =
           c.loop-line.invariant.first
-          ∙ ap (λ (ls : List ℕ). from_first fits (places_on_lines c.args.row.now.axis grid.height c.args.row.now.parts c.args.starts.now ls)) c.in-Some.ensures.some
-          ∙ line-none grid table c.args.row.now.axis c.args.row.now.parts c.args.starts.now c.in-Some.line (set_columns c.take_first.new.self)
+          ∙ ap (λ (ls : List ℕ). from_first fits
+          (places_on_lines c.args.row.now.axis grid.height c.args.row.now.parts c.args.starts.now ls))
+          c.in-Some.ensures.some
+          ∙ line-none grid table c.args.row.now.axis c.args.row.now.parts c.args.starts.now c.in-Some.line
+          (set_columns c.take_first.new.self)
           c.in-Some.ensures.within c.args.row.now.few c.requires.starts none;
-      left = left-more c.args.lines c.loop-line.left c.take_first.new.self c.in-Some.line c.in-Some.ensures.some c.loop-line.invariant.left;
+      left = left-more c.args.lines c.loop-line.left c.take_first.new.self c.in-Some.line c.in-Some.ensures.some
+          c.loop-line.invariant.left;
       long = c.first_way.ensures.long ∙ ap length c.as_slice-parts.ensures;
     }

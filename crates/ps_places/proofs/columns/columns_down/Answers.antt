@@ -34,7 +34,8 @@ loop-cell-preserved g c =
     record {
       left =
           down-more (g.B.Board.grid c.args.board.now)
-          (g.B.Board.table c.args.board.now) c.args.part.now c.args.row c.loop-cell.cell-index c.loop-cell.below c.cell-item.result
+          (g.B.Board.table c.args.board.now) c.args.part.now c.args.row c.loop-cell.cell-index c.loop-cell.below
+          c.cell-item.result
           c.loop-cell.columns c.scan.result c.both-columns.result
           (slice_get_read c.args.part.now (length c.args.part.now)
           c.loop-cell.cell-index c.cell-item.result refl c.loop-cell-test.true c.cell-item.is) c.loop-cell-test.true

@@ -9,7 +9,8 @@ returns-then-number-ge-CELL_LIMIT g c =
     let grid : Grid = g.B.Board.grid c.args.board.now in
     let few = few_cells grid c.size-width.ensures.shape in
     sym (c.loop-cell.invariant
-    ∙ fits_from-beyond grid (g.B.Board.table c.args.board.now) c.args.part.now (step_along c.args.axis grid.height) c.loop-cell.cell-index c.loop-cell.number c.cell-item.result
+    ∙ fits_from-beyond grid (g.B.Board.table c.args.board.now) c.args.part.now (step_along c.args.axis grid.height)
+    c.loop-cell.cell-index c.loop-cell.number c.cell-item.result
     c.loop-cell-test.true c.cell-item.is (omega (arith, few, c.if-number-ge-CELL_LIMIT.true)))
 
 pub returns-then-not-fits : goal.returns-then-not-fits
@@ -17,7 +18,8 @@ returns-then-not-fits g c =
     let grid : Grid = g.B.Board.grid c.args.board.now in
     let fails : c.fits.result ≡ false = search rules in
     sym (c.loop-cell.invariant
-    ∙ fits_from-off grid (g.B.Board.table c.args.board.now) c.args.part.now (step_along c.args.axis grid.height) c.loop-cell.cell-index c.loop-cell.number c.cell-item.result
+    ∙ fits_from-off grid (g.B.Board.table c.args.board.now) c.args.part.now (step_along c.args.axis grid.height)
+    c.loop-cell.cell-index c.loop-cell.number c.cell-item.result
     c.loop-cell-test.true c.cell-item.is (sym c.fits.ensures ∙ fails))
 
 pub loop-cell-preserved : goal.loop-cell-preserved
@@ -27,6 +29,8 @@ loop-cell-preserved g c =
     let step : step_along c.args.axis grid.height ≡ c.step_along-step.result =
     sym (c.step_along-step.ensures.value ∙ ap (step_along c.args.axis) c.size-width.ensures.height) in
     c.loop-cell.invariant
-    ∙ fits_from-on grid (g.B.Board.table c.args.board.now) c.args.part.now (step_along c.args.axis grid.height) c.loop-cell.cell-index c.loop-cell.number c.cell-item.result
+    ∙ fits_from-on grid (g.B.Board.table c.args.board.now) c.args.part.now (step_along c.args.axis grid.height)
+    c.loop-cell.cell-index c.loop-cell.number c.cell-item.result
     c.loop-cell-test.true c.cell-item.is (sym c.fits.ensures ∙ fit)
-    ∙ ap (λ (n : ℕ). fits_from grid (g.B.Board.table c.args.board.now) c.args.part.now (step_along c.args.axis grid.height) (c.loop-cell.cell-index + 1) (c.loop-cell.number + n)) step
+    ∙ ap (λ (n : ℕ). fits_from grid (g.B.Board.table c.args.board.now) c.args.part.now
+    (step_along c.args.axis grid.height) (c.loop-cell.cell-index + 1) (c.loop-cell.number + n)) step

@@ -14,7 +14,8 @@ invariant-loop-cell g l =
     let height = (g.B.Board.grid l.fn.board).height in
     record {
       rewritten :
-          rewritten_along before (part_meaning table l.part) (line_cells l.fn.axis height l.line l.position (length l.part))
+          rewritten_along before (part_meaning table l.part)
+          (line_cells l.fn.axis height l.line l.position (length l.part))
           ≡ rewritten_from now table l.part (step_along l.fn.axis height) l.cell-index l.number;
       fit : fits_from (g.B.Board.grid l.board) table l.part (step_along l.fn.axis height) l.cell-index l.number ≡ true;
       table : g.B.Board.table l.board ≡ table;

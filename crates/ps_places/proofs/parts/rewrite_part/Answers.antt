@@ -17,7 +17,8 @@ returns-then-number-ge-CELL_LIMIT g c =
     let few = few_cells grid c.size-width.ensures.shape in
     record {
       rewritten = sym (c.loop-cell.invariant.rewritten
-          ∙ rewritten_past now (part_meaning table (drop c.loop-cell.cell-index c.args.part.now)) (step_along c.args.axis grid.height) c.loop-cell.number (length c.args.part.now - c.loop-cell.cell-index)
+          ∙ rewritten_past now (part_meaning table (drop c.loop-cell.cell-index c.args.part.now))
+          (step_along c.args.axis grid.height) c.loop-cell.number (length c.args.part.now - c.loop-cell.cell-index)
           (omega (arith, few, c.loop-cell.invariant.cells, c.if-number-ge-CELL_LIMIT.true)));
       table = c.loop-cell.invariant.table;
       sides = c.loop-cell.invariant.sides;
@@ -30,15 +31,21 @@ loop-cell-preserved g c =
     let before : Rewritten = record { grid = g.B.Board.grid c.loop-cell.board; changed = c.loop-cell.any } in
     let after : Rewritten = record { grid = g.B.Board.grid c.write-any.new.self; changed = c.write-any.result } in
     let meaning : CellMeaning = meaning_of_write (write_in_room table (write_shown c.cell-item.result.write)) in
-    let wrote : after ≡ rewritten_cell before meaning c.loop-cell.number (slice_get (before.grid).cells c.loop-cell.number) =
+    let wrote : after ≡ rewritten_cell before meaning c.loop-cell.number
+    (slice_get (before.grid).cells c.loop-cell.number) =
     c.write-any.ensures.rewritten
-    ∙ ap (λ (t : Option (List ℕ)). rewritten_cell before (meaning_of_write (write_in_room t (write_shown c.cell-item.result.write))) c.loop-cell.number (slice_get (before.grid).cells c.loop-cell.number)) c.loop-cell.invariant.table in
-    let step : c.step_along-step.result ≡ step_along c.args.axis grid.height = c.step_along-step.ensures.value ∙ ap (step_along c.args.axis) c.size-width.ensures.height in
+    ∙ ap (λ (t : Option (List ℕ)). rewritten_cell before
+    (meaning_of_write (write_in_room t (write_shown c.cell-item.result.write))) c.loop-cell.number
+    (slice_get (before.grid).cells c.loop-cell.number)) c.loop-cell.invariant.table in
+    let step : c.step_along-step.result ≡ step_along c.args.axis grid.height = c.step_along-step.ensures.value
+    ∙ ap (step_along c.args.axis) c.size-width.ensures.height in
     record {
       rewritten =
           c.loop-cell.invariant.rewritten
-          ∙ rewritten_from-on before table c.args.part.now (step_along c.args.axis grid.height) c.loop-cell.cell-index c.loop-cell.number c.cell-item.result c.loop-cell-test.true c.cell-item.is
-          ∙ ap₂ (λ (r : Rewritten) (n : ℕ). rewritten_from r table c.args.part.now (step_along c.args.axis grid.height) (c.loop-cell.cell-index + 1) (c.loop-cell.number + n)) (sym wrote) (sym step);
+          ∙ rewritten_from-on before table c.args.part.now (step_along c.args.axis grid.height) c.loop-cell.cell-index
+          c.loop-cell.number c.cell-item.result c.loop-cell-test.true c.cell-item.is
+          ∙ ap₂ (λ (r : Rewritten) (n : ℕ). rewritten_from r table c.args.part.now (step_along c.args.axis grid.height)
+          (c.loop-cell.cell-index + 1) (c.loop-cell.number + n)) (sym wrote) (sym step);
       table = c.write-any.ensures.table ∙ c.loop-cell.invariant.table;
       cells =
           ap (λ (r : Rewritten). length (r.grid).cells) wrote

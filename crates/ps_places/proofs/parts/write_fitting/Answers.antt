@@ -11,11 +11,13 @@ returns-then-cell-clause-rewritten g c =
     let grid : Grid = g.B.Board.grid c.args.board.now in
     let before : Rewritten = record { grid = grid; changed = c.args.changed } in
     c.write.ensures.rewritten
-    ∙ rewritten_by_write before (g.B.Board.table c.args.board.now) c.args.cell.now c.args.number (slice_get grid.cells c.args.number)
+    ∙ rewritten_by_write before (g.B.Board.table c.args.board.now) c.args.cell.now c.args.number
+    (slice_get grid.cells c.args.number)
 
 pub returns-else-cell-clause-rewritten : goal.returns-else-cell-clause-rewritten
 returns-else-cell-clause-rewritten g c =
     let grid : Grid = g.B.Board.grid c.args.board.now in
     let before : Rewritten = record { grid = grid; changed = c.args.changed } in
     let idle : c.args.cell.now.changes ≡ false = search rules in
-    sym (idle_cell before (g.B.Board.table c.args.board.now) c.args.cell.now c.args.number (slice_get grid.cells c.args.number) idle (search rules) c.requires)
+    sym (idle_cell before (g.B.Board.table c.args.board.now) c.args.cell.now c.args.number
+    (slice_get grid.cells c.args.number) idle (search rules) c.requires)

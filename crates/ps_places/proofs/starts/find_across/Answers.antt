@@ -22,14 +22,16 @@ loop-row-init g c =
           passed-init (IsLineFound grid table Right c.args.parts.now c.args.starts.now c.none-lines.result
           (length c.args.parts.now)) c.rows_of_all.result c.below.result
           c.both-left.result grid.height c.size-width.ensures.shape.rows below c.both-left.ensures
-          (not_a_line grid table c.args.parts.now c.args.starts.now c.rows_of_all.result c.none-lines.result c.none-lines.ensures c.rows_of_all.ensures);
+          (not_a_line grid table c.args.parts.now c.args.starts.now c.rows_of_all.result c.none-lines.result
+          c.none-lines.ensures c.rows_of_all.ensures);
       below = λ line is. let clash : false ≡ true = sym (none_has c.none-lines.result line c.none-lines.ensures) ∙ is in
           absurd (cc);
       long = refl;
     }
 
 pub find_on_row-found-requires-clause-row : goal.find_on_row-found-requires-clause-row
-find_on_row-found-requires-clause-row g c = taken_below c.loop-row.left c.take_first.new.self _ c.in-Some.row c.in-Some.ensures.some c.loop-row.invariant.low
+find_on_row-found-requires-clause-row g c = taken_below c.loop-row.left c.take_first.new.self _ c.in-Some.row
+    c.in-Some.ensures.some c.loop-row.invariant.low
 
 pub loop-row-preserved : goal.loop-row-preserved
 loop-row-preserved g c =
@@ -39,7 +41,8 @@ loop-row-preserved g c =
     let count : ℕ = length c.args.parts.now in
     let k : ℕ = row * count + count - row * count in
     let same : k ≡ count = omega arith in
-    let low : row < grid.height = taken_below c.loop-row.left c.take_first.new.self grid.height row c.in-Some.ensures.some c.loop-row.invariant.low in
+    let low : row < grid.height = taken_below c.loop-row.left c.take_first.new.self grid.height row
+    c.in-Some.ensures.some c.loop-row.invariant.low in
     let space : row * count + count ≤ SIDE_LIMIT * count = line_room count row SIDE_LIMIT c.in-Some.ensures.within in
     let room : row * count + count ≤ length c.loop-row.starts =
     omega (arith, space, c.requires.room, c.loop-row.invariant.long) in
@@ -47,19 +50,23 @@ loop-row-preserved g c =
     let long : length sets ≡ count = c.find_on_row-found.ensures.long
     ∙ mid_len (row * count) (row * count + count) c.loop-row.starts room ∙ same in
     record {
-      low = below-more c.loop-row.left c.take_first.new.self grid.height row c.in-Some.ensures.some c.loop-row.invariant.low;
+      low = below-more c.loop-row.left c.take_first.new.self grid.height row c.in-Some.ensures.some
+          c.loop-row.invariant.low;
       passed =
           passed-changed (IsLineFound grid table Right c.args.parts.now c.loop-row.starts c.loop-row.lines count)
           _ c.loop-row.left c.take_first.new.self grid.height row
           c.size-width.ensures.shape.rows c.in-Some.ensures.some
-          (line_here grid table c.args.parts.now c.loop-row.starts sets c.loop-row.lines c.with-lines.result row k c.find_on_row-found.result c.in-Some.ensures.within same long room
+          (line_here grid table c.args.parts.now c.loop-row.starts sets c.loop-row.lines c.with-lines.result row k
+          c.find_on_row-found.result c.in-Some.ensures.within same long room
           c.with-lines.ensures c.find_on_row-found.ensures.found c.find_on_row-found.ensures.none)
           (λ x near other found.
-          line_still grid table c.args.parts.now c.loop-row.starts sets c.loop-row.lines c.with-lines.result row k x c.find_on_row-found.result
+          line_still grid table c.args.parts.now c.loop-row.starts sets c.loop-row.lines c.with-lines.result row k x
+          c.find_on_row-found.result
           (let few : grid.height ≤ SIDE_LIMIT = c.size-width.ensures.shape.rows in omega (arith, near, few))
           same long room c.with-lines.ensures other found)
           c.loop-row.invariant.passed;
-      below = with_below c.loop-row.lines c.with-lines.result row grid.height c.find_on_row-found.result c.with-lines.ensures low c.loop-row.invariant.below;
+      below = with_below c.loop-row.lines c.with-lines.result row grid.height c.find_on_row-found.result
+          c.with-lines.ensures low c.loop-row.invariant.below;
       long = same_len_mid (row * count) k c.loop-row.starts sets c.find_on_row-found.ensures.long
           ∙ c.loop-row.invariant.long;
     }

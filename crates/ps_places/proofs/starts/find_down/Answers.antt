@@ -11,7 +11,8 @@ loop-number-init g c =
     record {
       lines =
           lines-init (g.B.Board.grid c.args.board.now)
-          (g.B.Board.table c.args.board.now) c.args.parts.now c.args.starts.now c.below-lines.result c.size-width.ensures.shape
+          (g.B.Board.table c.args.board.now) c.args.parts.now c.args.starts.now c.below-lines.result
+          c.size-width.ensures.shape
           (c.below-lines.ensures ∙ ap columns_below c.size-width.ensures.width);
       long = refl;
     }
@@ -28,7 +29,8 @@ loop-number-preserved g c =
     record {
       lines =
           lines-more (g.B.Board.grid c.args.board.now)
-          (g.B.Board.table c.args.board.now) c.args.parts.now c.loop-number.number c.as_slice.result.now c.loop-number.starts
+          (g.B.Board.table c.args.board.now) c.args.parts.now c.loop-number.number c.as_slice.result.now
+          c.loop-number.starts
           c.find_part_down-lines.new.starts c.loop-number.lines c.find_part_down-lines.result c.loop-number-test.true
           (c.as_slice.ensures ∙ c.index-parts-number.is
           ∙ get_or_default c.args.parts.now c.loop-number.number c.index-parts-number.result [] c.loop-number-test.true)

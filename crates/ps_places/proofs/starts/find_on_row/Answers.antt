@@ -12,7 +12,8 @@ returns-then-is_empty-clause-none g c =
     begun-none (g.B.Board.grid c.args.board.now) (g.B.Board.table c.args.board.now)
     c.args.parts.now c.args.row c.loop-number.number c.as_slice.result.now
     c.columns_across-columns.result c.recall_shape.ensures.shape c.requires.row c.loop-number-test.true
-    (c.as_slice.ensures ∙ c.index-parts-number.is ∙ get_or_default c.args.parts.now c.loop-number.number c.index-parts-number.result [] c.loop-number-test.true)
+    (c.as_slice.ensures ∙ c.index-parts-number.is
+    ∙ get_or_default c.args.parts.now c.loop-number.number c.index-parts-number.result [] c.loop-number-test.true)
     (All-get_or HasCells c.args.parts.now c.loop-number.number [] c.loop-number-test.true c.requires.whole)
     c.columns_across-columns.ensures (c.is_empty.ensures.none empty)
 

@@ -14,23 +14,28 @@ loop-row-init g c =
       gathering =
           gathering-init grid (g.B.Board.table c.args.board.now)
           c.args.part.now c.args.within c.args.count c.args.number c.args.starts.now c.none-found.result
-          c.rows_of_part.result c.below.result c.both-left.result c.size-width.ensures.shape c.requires.whole c.none-found.ensures below c.both-left.ensures c.rows_of_part.ensures;
+          c.rows_of_part.result c.below.result c.both-left.result c.size-width.ensures.shape c.requires.whole
+          c.none-found.ensures below c.both-left.ensures c.rows_of_part.ensures;
       long = refl;
     }
 
 pub columns_down-requires : goal.columns_down-requires
-columns_down-requires g c = taken_below c.loop-row.left c.take_first.new.self _ c.in-Some.row c.in-Some.ensures.some c.loop-row.invariant.low
+columns_down-requires g c = taken_below c.loop-row.left c.take_first.new.self _ c.in-Some.row c.in-Some.ensures.some
+    c.loop-row.invariant.low
 
 pub loop-row-preserved : goal.loop-row-preserved
 loop-row-preserved g c =
     let grid = g.B.Board.grid c.args.board.now in
     record {
-      low = below-more c.loop-row.left c.take_first.new.self grid.height c.in-Some.row c.in-Some.ensures.some c.loop-row.invariant.low;
+      low = below-more c.loop-row.left c.take_first.new.self grid.height c.in-Some.row c.in-Some.ensures.some
+          c.loop-row.invariant.low;
       gathering =
           gathering-more grid (g.B.Board.table c.args.board.now)
           c.args.part.now c.args.within c.args.count c.args.number c.in-Some.row c.args.starts.now c.loop-row.starts
-          c.add_row.new.starts c.loop-row.found c.loop-row.left c.take_first.new.self c.columns_down.result c.both-columns.result c.either-found.result c.requires.one
-          c.in-Some.ensures.some c.columns_down.ensures c.both-columns.ensures c.either-found.ensures c.add_row.ensures.added c.loop-row.invariant.gathering;
+          c.add_row.new.starts c.loop-row.found c.loop-row.left c.take_first.new.self c.columns_down.result
+          c.both-columns.result c.either-found.result c.requires.one
+          c.in-Some.ensures.some c.columns_down.ensures c.both-columns.ensures c.either-found.ensures
+          c.add_row.ensures.added c.loop-row.invariant.gathering;
       long = c.add_row.ensures.long ∙ c.loop-row.invariant.long;
     }
 

@@ -17,8 +17,10 @@ returns-clause-places g c =
     let old = c.args.room.now.starts in
     let long : length starts ≡ old.len = omega (arith, c.find_lines-room.ensures.long, c.as_mut_slice.ensures.len) in
     let room : SIDE_LIMIT * length row.parts ≤ length starts = omega (arith, row.few, long, c.args.room.now.long) in
-    places-found grid table row.axis row.parts starts c.find_lines-room.result c.recall_shape.ensures.shape row.some row.whole room
-    (subst (λ (parts : List (List CompiledCell)). AreLinesFound grid table row.axis parts starts c.find_lines-room.result (length parts)) c.as_slice-parts.ensures
+    places-found grid table row.axis row.parts starts c.find_lines-room.result c.recall_shape.ensures.shape row.some
+    row.whole room
+    (subst (λ (parts : List (List CompiledCell)).
+    AreLinesFound grid table row.axis parts starts c.find_lines-room.result (length parts)) c.as_slice-parts.ensures
     c.find_lines-room.ensures.lines)
     ∙ ap (λ (sets : List (List Bool)). places_on_lines row.axis grid.height row.parts sets
     (set_columns c.find_lines-room.result)) (sym (with_items_is old starts long))

@@ -14,5 +14,6 @@ loop-part-preserved g c =
     ways-more (g.B.Board.grid c.args.board.now) (g.B.Board.table c.args.board.now)
     c.args.parts.now c.loop-part.part-index c.as_slice.result.now c.loop-part.rows
     c.rows_of_part.result c.both-rows.result c.recall_shape.ensures.shape c.loop-part-test.true
-    (c.as_slice.ensures ∙ c.part-item.is ∙ get_or_default c.args.parts.now c.loop-part.part-index c.part-item.result [] c.loop-part-test.true)
+    (c.as_slice.ensures ∙ c.part-item.is ∙ get_or_default c.args.parts.now c.loop-part.part-index c.part-item.result []
+    c.loop-part-test.true)
     c.rows_of_part.ensures c.both-rows.ensures c.loop-part.invariant

@@ -6,6 +6,8 @@ use Rattle.ps_program.proofs.needs.push_row.Given as goal
 abbrev pub invariant-loop-part : goal.invariant-loop-part
 invariant-loop-part l =
     record {
-      objects : l.objects.items ++ flat_map (asked_by_part cell_needs) (drop l.part-index l.row.parts) ≡ l.initial.objects.items ++ asked_by_row cell_needs l.row;
-      motions : l.motions.items ++ flat_map (asked_by_part cell_moves) (drop l.part-index l.row.parts) ≡ l.initial.motions.items ++ asked_by_row cell_moves l.row;
+      objects : l.objects.items ++ flat_map (asked_by_part cell_needs) (drop l.part-index l.row.parts) ≡
+          l.initial.objects.items ++ asked_by_row cell_needs l.row;
+      motions : l.motions.items ++ flat_map (asked_by_part cell_moves) (drop l.part-index l.row.parts) ≡
+          l.initial.motions.items ++ asked_by_row cell_moves l.row;
     }

@@ -6,4 +6,6 @@ use Rattle.ps_readings.specs.LeftItems.{left_of_cells}
 use Rattle.ps_readings.proofs.choices.cells_moves.Given as goal
 
 abbrev pub invariant-loop-cell : goal.invariant-loop-cell
-invariant-loop-cell l = l.lists.items ++ filter_map (move_choices l.direction) (left_of_cells (cell_list_shown (drop l.cell-index l.cells))) ≡ filter_map (move_choices l.direction) (left_of_cells (cell_list_shown l.cells))
+invariant-loop-cell l = l.lists.items ++ filter_map (move_choices l.direction)
+    (left_of_cells (cell_list_shown (drop l.cell-index l.cells))) ≡ filter_map (move_choices l.direction)
+    (left_of_cells (cell_list_shown l.cells))

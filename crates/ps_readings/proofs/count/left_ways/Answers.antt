@@ -20,12 +20,17 @@ loop-cell-preserved c =
     let here : List model.Item = items_shown c.cell-item.result.now.left.items in
     let cells : List (Bor CellPair) = c.cells-cell-items.result.now in
     let behind : List (Bor CellPair) = drop (i + 1) cells in
-    let found : c.in_ok-more.more ≡ counted (ways_of here) = c.in_ok-more.ensures ∙ ap (λ (items : List Item). counted (ways_of (items_shown items))) c.as_slice.ensures in
+    let found : c.in_ok-more.more ≡ counted (ways_of here) = c.in_ok-more.ensures
+    ∙ ap (λ (items : List Item). counted (ways_of (items_shown items))) c.as_slice.ensures in
     record {
       stopped = counted-already c.times-ways.result (c.loop-cell.ways * c.in_ok-more.more) c.times-ways.ensures;
       left =
-          counted-step c.loop-cell.ways c.in_ok-more.more c.times-ways.result (ways_of here) (ways_of (left_of_cells (cell_list_shown behind))) c.times-ways.ensures found
-          ∙ sym (ap (λ (n : ℕ). counted (c.loop-cell.ways * n)) (ways-append c.args.names.now c.args.occurrences.now here (left_of_cells (cell_list_shown behind))))
-          ∙ sym (ap (λ (seen : List (Bor CellPair)). counted (c.loop-cell.ways * ways_of (left_of_cells (cell_list_shown seen)))) (drop-at c.cell-item.result cells i (i + 1) c.loop-cell-test.true c.cell-item.is next))
+          counted-step c.loop-cell.ways c.in_ok-more.more c.times-ways.result (ways_of here)
+          (ways_of (left_of_cells (cell_list_shown behind))) c.times-ways.ensures found
+          ∙ sym (ap (λ (n : ℕ). counted (c.loop-cell.ways * n))
+          (ways-append c.args.names.now c.args.occurrences.now here (left_of_cells (cell_list_shown behind))))
+          ∙ sym (ap (λ (seen : List (Bor CellPair)).
+          counted (c.loop-cell.ways * ways_of (left_of_cells (cell_list_shown seen))))
+          (drop-at c.cell-item.result cells i (i + 1) c.loop-cell-test.true c.cell-item.is next))
           ∙ c.loop-cell.invariant.left;
     }

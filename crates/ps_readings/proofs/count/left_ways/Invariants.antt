@@ -9,5 +9,7 @@ use Rattle.ps_readings.proofs.count.left_ways.Given as goal
 abbrev pub invariant-loop-cell : goal.invariant-loop-cell
 invariant-loop-cell l = record {
   stopped : counted l.ways ≡ l.ways;
-  left : counted (l.ways * item_ways l.names l.occurrences (left_of_cells (cell_list_shown (drop l.cell-index l.cell-items)))) ≡ counted (item_ways l.names l.occurrences (left_items l.occurrences));
+  left : counted (l.ways * item_ways l.names l.occurrences
+      (left_of_cells (cell_list_shown (drop l.cell-index l.cell-items)))) ≡ counted
+      (item_ways l.names l.occurrences (left_items l.occurrences));
 }

@@ -12,5 +12,6 @@ pub returns : goal.returns
 returns c =
     let rule : SourceRule = c.args.occurrences.now in
     c.times.ensures
-    ∙ counted-both c.in_ok-directions.directions c.in_ok-ways.ways (length (directions_of rule)) (item_ways c.args.names.now rule (left_items rule)) c.in_ok-directions.ensures c.in_ok-ways.ensures
+    ∙ counted-both c.in_ok-directions.directions c.in_ok-ways.ways (length (directions_of rule))
+    (item_ways c.args.names.now rule (left_items rule)) c.in_ok-directions.ensures c.in_ok-ways.ensures
     ∙ sym (ap counted (count-product c.args.names.now rule))

@@ -12,11 +12,14 @@ loop-item-preserved c =
     let i : ℕ = c.loop-item.item-index in
     let next : i + 1 ≡ suc i = omega arith in
     let ways_of : List Item → ℕ = λ items. item_ways c.args.names.now c.args.occurrences.now (items_shown items) in
-    let here : ℕ = move_ways (item_shown c.item-item.result) * member_ways c.args.names.now c.args.occurrences.now (item_shown c.item-item.result) in
+    let here : ℕ = move_ways (item_shown c.item-item.result) * member_ways c.args.names.now c.args.occurrences.now
+    (item_shown c.item-item.result) in
     record {
       stopped = counted-already c.times-ways.result (c.loop-item.ways * c.in_ok-more.more) c.times-ways.ensures;
       left =
-          counted-step c.loop-item.ways c.in_ok-more.more c.times-ways.result here (ways_of (drop (i + 1) c.args.items.now)) c.times-ways.ensures c.in_ok-more.ensures
-          ∙ sym (ap (λ (items : List Item). counted (c.loop-item.ways * ways_of items)) (drop-at c.item-item.result c.args.items.now i (i + 1) c.loop-item-test.true c.item-item.is next))
+          counted-step c.loop-item.ways c.in_ok-more.more c.times-ways.result here
+          (ways_of (drop (i + 1) c.args.items.now)) c.times-ways.ensures c.in_ok-more.ensures
+          ∙ sym (ap (λ (items : List Item). counted (c.loop-item.ways * ways_of items))
+          (drop-at c.item-item.result c.args.items.now i (i + 1) c.loop-item-test.true c.item-item.is next))
           ∙ c.loop-item.invariant.left;
     }

@@ -6,4 +6,6 @@ use Rattle.ps_readings.specs.ReadingsShown.{reading_shown}
 use Rattle.ps_readings.proofs.possible.are_possible_cells.Given as goal
 
 abbrev pub invariant-loop-cell : goal.invariant-loop-cell
-invariant-loop-cell l = list_all (is_possible_cell l.names l.occurrences (reading_shown l.reading)) (cell_list_shown (drop l.cell-index l.cells)) ≡ list_all (is_possible_cell l.names l.occurrences (reading_shown l.reading)) (cell_list_shown l.cells)
+invariant-loop-cell l = list_all (is_possible_cell l.names l.occurrences (reading_shown l.reading))
+    (cell_list_shown (drop l.cell-index l.cells)) ≡ list_all
+    (is_possible_cell l.names l.occurrences (reading_shown l.reading)) (cell_list_shown l.cells)

@@ -7,4 +7,6 @@ use Rattle.ps_readings.specs.WantedShown.{wanteds_shown}
 use Rattle.ps_readings.proofs.wanted.left_of_cell.Given as goal
 
 abbrev pub invariant-loop-item : goal.invariant-loop-item
-invariant-loop-item l = wanteds_shown l.wanteds.items ++ map (wanted_left l.names l.occurrences (reading_shown l.reading)) (items_shown (drop l.item-index l.item-items)) ≡ map (wanted_left l.names l.occurrences (reading_shown l.reading)) (cell_shown l.cell).left
+invariant-loop-item l = wanteds_shown l.wanteds.items ++ map
+    (wanted_left l.names l.occurrences (reading_shown l.reading)) (items_shown (drop l.item-index l.item-items)) ≡ map
+    (wanted_left l.names l.occurrences (reading_shown l.reading)) (cell_shown l.cell).left

@@ -7,4 +7,7 @@ use Rattle.ps_readings.specs.WantedShown.{wanteds_shown}
 use Rattle.ps_readings.proofs.wanted.right_of_cell.Given as goal
 
 abbrev pub invariant-loop-item : goal.invariant-loop-item
-invariant-loop-item l = wanteds_shown l.wanteds.items ++ map (wanted_right l.names l.occurrences (cell_shown l.cell) (reading_shown l.reading)) (items_shown (drop l.item-index l.item-items)) ≡ map (wanted_right l.names l.occurrences (cell_shown l.cell) (reading_shown l.reading)) (cell_shown l.cell).right
+invariant-loop-item l = wanteds_shown l.wanteds.items ++ map
+    (wanted_right l.names l.occurrences (cell_shown l.cell) (reading_shown l.reading))
+    (items_shown (drop l.item-index l.item-items)) ≡ map
+    (wanted_right l.names l.occurrences (cell_shown l.cell) (reading_shown l.reading)) (cell_shown l.cell).right

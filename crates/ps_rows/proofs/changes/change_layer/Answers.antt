@@ -9,23 +9,30 @@ change_rows-requires-clause-planes g c =
     let p = c.args.planes.now in
     let mid = c.change_rows-changed.new.planes in
     rw c.change_rows-changed.ensures.height
-    (motions_whole p.height p.words.len c.args.first (motion_planes c.args.first) refl c.requires.motions mid.words.items (sym mid.words.ok.0 ∙ c.change_rows-changed.ensures.count))
+    (motions_whole p.height p.words.len c.args.first (motion_planes c.args.first) refl c.requires.motions
+    mid.words.items (sym mid.words.ok.0 ∙ c.change_rows-changed.ensures.count))
 
 pub returns-clause-words : goal.returns-clause-words
 returns-clause-words g c =
     let p = c.args.planes.now in
     let mid = c.change_rows-changed.new.planes in
-    let P : ℕ → Type 0 = λ h. AreRowsChanged h c.args.row c.args.motions mid.words.items c.change_rows.new.planes.words.items (motion_planes c.args.first) in
-    layer_made p.height c.args.row c.args.objects c.args.motions p.words.items mid.words.items c.change_rows.new.planes.words.items c.args.places.now c.args.first c.requires.row c.requires.below
+    let P : ℕ → Type 0 = λ h. AreRowsChanged h c.args.row c.args.motions mid.words.items
+    c.change_rows.new.planes.words.items (motion_planes c.args.first) in
+    layer_made p.height c.args.row c.args.objects c.args.motions p.words.items mid.words.items
+    c.change_rows.new.planes.words.items c.args.places.now c.args.first c.requires.row c.requires.below
     c.change_rows-changed.ensures.words (subst P c.change_rows-changed.ensures.height c.change_rows.ensures.words)
 
 pub returns-clause-quiet : goal.returns-clause-quiet
-returns-clause-quiet g c = λ none. c.change_rows.ensures.quiet none ∙ c.change_rows-changed.ensures.quiet (c.change_rows.ensures.before none)
+returns-clause-quiet g c = λ none. c.change_rows.ensures.quiet none
+    ∙ c.change_rows-changed.ensures.quiet (c.change_rows.ensures.before none)
 
 pub returns-clause-left : goal.returns-clause-left
 returns-clause-left g c = λ objects motions.
     let p = c.args.planes.now in
     let none : c.change_rows-changed.result ≡ false = c.change_rows-changed.ensures.left refl objects in
-    let P : List (List Bool) → Type 0 = λ words. AreRowsLeft p.height c.args.row c.args.motions words (motion_planes c.args.first) in
-    let H : ℕ → Type 0 = λ h. AreRowsLeft h c.args.row c.args.motions c.change_rows-changed.new.planes.words.items (motion_planes c.args.first) in
-    c.change_rows.ensures.left none (subst H (sym c.change_rows-changed.ensures.height) (subst P (sym (c.change_rows-changed.ensures.quiet none)) motions))
+    let P : List (List Bool) → Type 0 = λ words.
+    AreRowsLeft p.height c.args.row c.args.motions words (motion_planes c.args.first) in
+    let H : ℕ → Type 0 = λ h. AreRowsLeft h c.args.row c.args.motions c.change_rows-changed.new.planes.words.items
+    (motion_planes c.args.first) in
+    c.change_rows.ensures.left none (subst H (sym c.change_rows-changed.ensures.height)
+    (subst P (sym (c.change_rows-changed.ensures.quiet none)) motions))

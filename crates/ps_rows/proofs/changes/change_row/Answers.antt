@@ -11,7 +11,8 @@ use Rattle.ps_rows.proofs.changes.change_row.Goals as goal
 pub returns-then-is_empty-clause-words : goal.returns-then-is_empty-clause-words
 returns-then-is_empty-clause-words g c =
     let p = c.args.planes.now in
-    row_stays p.height c.args.row c.args.change c.requires.row p.words.items c.args.plane c.row-word.result c.word_after-after.result p.sets c.row-word.ensures c.word_after-after.ensures
+    row_stays p.height c.args.row c.args.change c.requires.row p.words.items c.args.plane c.row-word.result
+    c.word_after-after.result p.sets c.row-word.ensures c.word_after-after.ensures
     (ap set_columns (sym c.unlike.ensures) ∙ c.is_empty.ensures.none c.if-is_empty.true)
 
 pub set_row-requires-clause-set : goal.set_row-requires-clause-set
@@ -23,12 +24,15 @@ pub returns-clause-words : goal.returns-clause-words
 returns-clause-words g c =
     let p = c.args.planes.now in
     c.set_row.ensures.words
-    ∙ ap (slice_set p.words.items (c.args.plane * p.height + c.args.row)) (c.word_after-after.ensures ∙ ap (word_after c.args.change c.args.plane) c.row-word.ensures)
+    ∙ ap (slice_set p.words.items (c.args.plane * p.height + c.args.row)) (c.word_after-after.ensures
+    ∙ ap (word_after c.args.change c.args.plane) c.row-word.ensures)
 
 pub returns-clause-left : goal.returns-clause-left
 returns-clause-left g c = λ before left.
     let p = c.args.planes.now in
-    let none = nothing_unlike p.height c.args.row c.args.change c.requires.row p.words.items c.args.plane c.row-word.result c.word_after-after.result c.row-word.ensures c.word_after-after.ensures left in
+    let none = nothing_unlike p.height c.args.row c.args.change c.requires.row p.words.items c.args.plane
+    c.row-word.result c.word_after-after.result c.row-word.ensures c.word_after-after.ensures left in
     let yes : c.is_empty.result ≡ true =
-    true_by c.is_empty.result (set_columns c.unlike.result) c.is_empty.ensures.some (ap set_columns c.unlike.ensures ∙ none) in
+    true_by c.is_empty.result (set_columns c.unlike.result) c.is_empty.ensures.some (ap set_columns c.unlike.ensures
+    ∙ none) in
     absurd (false≢true (sym c.if-is_empty.false ∙ yes))

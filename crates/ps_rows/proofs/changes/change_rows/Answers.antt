@@ -1,4 +1,5 @@
-use Rattle.std.proofs.Common.{◌≡◌, ◌∙◌, ◌<◌, ◌≤◌, ◌+◌, ◌*◌, ℕ, List, false, length, get_or, sym, refl, ap, subst, arith, Bool}
+use Rattle.std.proofs.Common.{◌≡◌, ◌∙◌, ◌<◌, ◌≤◌, ◌+◌, ◌*◌, ℕ, List, false, length, get_or, sym, refl, ap, subst, arith}
+use Rattle.std.proofs.Common.{Bool}
 use Rattle.std.proofs.lemmas.List.{take_all}
 use Rattle.ps_rows.specs.RowChanges.{AreRowsChanged, IsRowLeft, row_after}
 use Rattle.ps_rows.proofs.Marks.{listed_at}
@@ -15,7 +16,8 @@ change_row-any-requires-clause-plane g c =
     let plane : ℕ = get_or c.args.places.now c.loop-plane.plane-index 0 in
     let whole : (plane + 1) * c.args.planes.now.height ≤ length c.args.planes.now.words.items =
     c.requires.planes plane (listed_at c.args.places.now c.loop-plane.plane-index 0 below) in
-    let long : (plane + 1) * c.args.planes.now.height ≤ c.args.planes.now.words.len = omega (arith, whole, c.args.planes.now.words.ok.0) in
+    let long : (plane + 1) * c.args.planes.now.height ≤ c.args.planes.now.words.len =
+    omega (arith, whole, c.args.planes.now.words.ok.0) in
     rw (c.loop-plane.invariant.height, c.loop-plane.invariant.count) long
 
 pub loop-plane-preserved : goal.loop-plane-preserved
@@ -25,20 +27,25 @@ loop-plane-preserved g c =
     let among = listed_at c.args.places.now c.loop-plane.plane-index 0 below in
     let was = c.loop-plane.invariant in
     let step = c.change_row-any.ensures in
-    let made : c.change_row-any.new.planes.words.items ≡ row_after c.args.planes.now.height c.args.row c.args.change c.loop-plane.planes.words.items plane =
-    step.words ∙ ap (λ (h : ℕ). row_after h c.args.row c.args.change c.loop-plane.planes.words.items plane) was.height in
+    let made : c.change_row-any.new.planes.words.items ≡ row_after c.args.planes.now.height c.args.row c.args.change
+    c.loop-plane.planes.words.items plane =
+    step.words ∙ ap (λ (h : ℕ). row_after h c.args.row c.args.change c.loop-plane.planes.words.items plane) was.height
+    in
     record {
       height = step.height ∙ was.height;
       count = step.count ∙ was.count;
       rows =
-          changed_more c.args.planes.now.height c.args.row c.args.change c.requires.row c.args.planes.now.words.items c.loop-plane.planes.words.items c.change_row-any.new.planes.words.items c.args.places.now c.loop-plane.plane-index below
+          changed_more c.args.planes.now.height c.args.row c.args.change c.requires.row c.args.planes.now.words.items
+          c.loop-plane.planes.words.items c.change_row-any.new.planes.words.items c.args.places.now
+          c.loop-plane.plane-index below
           c.requires.planes among made was.rows;
       before = λ none. was.before (step.before none);
       quiet = λ none. step.quiet none ∙ was.quiet (step.before none);
       left =
           λ none all.
           let so : c.loop-plane.any ≡ false = was.left none all in
-          let P : List (List Bool) → Type 0 = λ words. IsRowLeft c.args.planes.now.height c.args.row c.args.change words plane in
+          let P : List (List Bool) → Type 0 = λ words.
+          IsRowLeft c.args.planes.now.height c.args.row c.args.change words plane in
           let H : ℕ → Type 0 = λ h. IsRowLeft h c.args.row c.args.change c.loop-plane.planes.words.items plane in
           step.left so (subst H (sym was.height) (subst P (sym (was.quiet so)) (all plane among)));
     }
@@ -56,7 +63,8 @@ loop-plane-init g c = record {
 pub returns-clause-words : goal.returns-clause-words
 returns-clause-words g c =
     let end : length c.args.places.now ≤ c.loop-plane.plane-index = omega arith in
-    let P : List ℕ → Type 0 = λ planes. AreRowsChanged c.args.planes.now.height c.args.row c.args.change c.args.planes.now.words.items c.loop-plane.planes.words.items planes in
+    let P : List ℕ → Type 0 = λ planes. AreRowsChanged c.args.planes.now.height c.args.row c.args.change
+    c.args.planes.now.words.items c.loop-plane.planes.words.items planes in
     subst P (take_all c.loop-plane.plane-index c.args.places.now end) c.loop-plane.invariant.rows
 
 pub returns-clause-height : goal.returns-clause-height

@@ -8,8 +8,10 @@ invariant-loop-plane g l =
     record {
       height : l.planes.height ≡ l.initial.planes.height;
       count : l.planes.words.len ≡ l.initial.planes.words.len;
-      rows : AreRowsChanged l.initial.planes.height l.row l.change l.initial.planes.words.items l.planes.words.items (take l.plane-index l.places);
+      rows : AreRowsChanged l.initial.planes.height l.row l.change l.initial.planes.words.items l.planes.words.items
+          (take l.plane-index l.places);
       before : l.any ≡ false → l.changed ≡ false;
       quiet : l.any ≡ false → l.planes.words.items ≡ l.initial.planes.words.items;
-      left : l.changed ≡ false → AreRowsLeft l.initial.planes.height l.row l.change l.initial.planes.words.items l.places → l.any ≡ false;
+      left : l.changed ≡ false → AreRowsLeft l.initial.planes.height l.row l.change l.initial.planes.words.items
+          l.places → l.any ≡ false;
     }

@@ -9,7 +9,8 @@ loop-object-init c = rw (below_none, append-nil) refl
 pub loop-object-preserved : goal.loop-object-preserved
 loop-object-preserved c =
     let below : c.loop-object.object < length c.args.table.now = omega arith in
-    members_more _ _ _ c.args.table.now c.args.layer c.loop-object.object c.in_ok-push_if.ensures c.loop-object.invariant below
+    members_more _ _ _ c.args.table.now c.args.layer c.loop-object.object c.in_ok-push_if.ensures
+    c.loop-object.invariant below
 
 pub returns : goal.returns
 returns c =

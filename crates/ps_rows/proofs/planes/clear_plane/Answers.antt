@@ -13,7 +13,8 @@ returns g c =
     let part : List (List Bool) = c.clear.new.words in
     let wide : start + h - start ≡ h = omega arith in
     let long : length part ≡ h = search (rules, arith) in
-    let P : ℕ → Type 0 = λ n. ArePlanesOf h c.args.plane (c.args.plane + 1) [] c.args.words.now (put_mid start n c.args.words.now part) in
+    let P : ℕ → Type 0 = λ n. ArePlanesOf h c.args.plane (c.args.plane + 1) [] c.args.words.now
+    (put_mid start n c.args.words.now part) in
     subst P (sym wide)
     (plane_overwritten h c.args.plane [] part c.args.words.now long c.requires
     (λ row under. ap (λ (ws : List (List Bool)). row_of ws row) c.clear.ensures ∙ blank_word _ row))

@@ -15,9 +15,11 @@ pub returns-then-not-has_plane-clause-words : goal.returns-then-not-has_plane-cl
 returns-then-not-has_plane-clause-words g c =
     let p = c.args.planes.now in
     let plane : ℕ = c.args.difference.now.plane in
-    let beyond : p.index.len ≤ plane = ltb-false plane p.index.len (sym c.has_plane.ensures ∙ c.if-not-has_plane.true) in
+    let beyond : p.index.len ≤ plane = ltb-false plane p.index.len (sym c.has_plane.ensures
+    ∙ c.if-not-has_plane.true) in
     let more : p.height * p.index.len ≤ p.height * plane = mul-le-mul_left p.height beyond in
-    let past : length p.words.items ≤ plane * p.height + c.args.difference.now.row = omega (arith, more, p.whole, p.words.ok.0) in
+    let past : length p.words.items ≤ plane * p.height + c.args.difference.now.row =
+    omega (arith, more, p.whole, p.words.ok.0) in
     sym (changed_beyond p.height p.words.items c.args.difference.now past)
 
 pub set_row-requires-clause-set : goal.set_row-requires-clause-set

@@ -6,8 +6,10 @@ use Rattle.ps_rows.proofs.row_differences.change_rows.Goals as goal
 pub loop-difference-preserved : goal.loop-difference-preserved
 loop-difference-preserved g c =
     let below : c.loop-difference.difference-index < length c.args.rows.now = omega arith in (
-      rows_more c.args.planes.now.height c.loop-difference.planes.words.items c.change_row.new.planes.words.items c.args.rows.now c.loop-difference.difference-index c.difference-item.result _ below
-          (c.change_row.ensures.words ∙ ap (λ (h : ℕ). row_changed h c.loop-difference.planes.words.items c.difference-item.result) c.loop-difference.invariant.1
+      rows_more c.args.planes.now.height c.loop-difference.planes.words.items c.change_row.new.planes.words.items
+          c.args.rows.now c.loop-difference.difference-index c.difference-item.result _ below
+          (c.change_row.ensures.words ∙ ap (λ (h : ℕ).
+          row_changed h c.loop-difference.planes.words.items c.difference-item.result) c.loop-difference.invariant.1
           ∙ ap (row_changed c.args.planes.now.height c.loop-difference.planes.words.items) c.difference-item.is)
           c.loop-difference.invariant.0,
       c.change_row.ensures.height ∙ c.loop-difference.invariant.1,
@@ -17,7 +19,8 @@ loop-difference-preserved g c =
 pub returns-clause-words : goal.returns-clause-words
 returns-clause-words g c =
     let end : length c.args.rows.now ≤ c.loop-difference.difference-index = omega arith in
-    rows_all c.args.planes.now.height c.loop-difference.planes.words.items c.args.rows.now c.loop-difference.difference-index _ end c.loop-difference.invariant.0
+    rows_all c.args.planes.now.height c.loop-difference.planes.words.items c.args.rows.now
+    c.loop-difference.difference-index _ end c.loop-difference.invariant.0
 
 pub returns-clause-height : goal.returns-clause-height
 returns-clause-height g c = c.loop-difference.invariant.1

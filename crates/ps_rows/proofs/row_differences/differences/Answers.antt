@@ -15,16 +15,24 @@ pub returns-clause-forth : goal.returns-clause-forth
 returns-clause-forth g c =
     let p = c.args.first.now in
     let o = c.args.second.now in
-    let all : c.loop-plane.plane ≡ c.args.planes = omega (arith, c.loop-plane-test.false, c.loop-plane.auto.plane-end) in
-    let reached : length p.words.items ≤ c.loop-plane.plane * p.height = omega (arith, ap (λ (n : ℕ). n * p.height) all, c.requires.planes, p.words.ok.0) in
-    let long : length o.words.items ≡ length p.words.items = omega (arith, c.requires.count, p.words.ok.0, o.words.ok.0) in
-    all_forth p.height (c.loop-plane.plane * p.height) p.words.items o.words.items c.loop-plane.found.items reached long c.loop-plane.invariant
+    let all : c.loop-plane.plane ≡ c.args.planes =
+    omega (arith, c.loop-plane-test.false, c.loop-plane.auto.plane-end) in
+    let reached : length p.words.items ≤ c.loop-plane.plane * p.height =
+    omega (arith, ap (λ (n : ℕ). n * p.height) all, c.requires.planes, p.words.ok.0) in
+    let long : length o.words.items ≡ length p.words.items =
+    omega (arith, c.requires.count, p.words.ok.0, o.words.ok.0) in
+    all_forth p.height (c.loop-plane.plane * p.height) p.words.items o.words.items c.loop-plane.found.items reached
+    long c.loop-plane.invariant
 
 pub returns-clause-back : goal.returns-clause-back
 returns-clause-back g c =
     let p = c.args.first.now in
     let o = c.args.second.now in
-    let all : c.loop-plane.plane ≡ c.args.planes = omega (arith, c.loop-plane-test.false, c.loop-plane.auto.plane-end) in
-    let reached : length p.words.items ≤ c.loop-plane.plane * p.height = omega (arith, ap (λ (n : ℕ). n * p.height) all, c.requires.planes, p.words.ok.0) in
-    let long : length o.words.items ≡ length p.words.items = omega (arith, c.requires.count, p.words.ok.0, o.words.ok.0) in
-    all_back p.height (c.loop-plane.plane * p.height) p.words.items o.words.items c.loop-plane.found.items reached long c.loop-plane.invariant
+    let all : c.loop-plane.plane ≡ c.args.planes =
+    omega (arith, c.loop-plane-test.false, c.loop-plane.auto.plane-end) in
+    let reached : length p.words.items ≤ c.loop-plane.plane * p.height =
+    omega (arith, ap (λ (n : ℕ). n * p.height) all, c.requires.planes, p.words.ok.0) in
+    let long : length o.words.items ≡ length p.words.items =
+    omega (arith, c.requires.count, p.words.ok.0, o.words.ok.0) in
+    all_back p.height (c.loop-plane.plane * p.height) p.words.items o.words.items c.loop-plane.found.items reached long
+    c.loop-plane.invariant

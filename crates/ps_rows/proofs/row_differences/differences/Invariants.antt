@@ -4,4 +4,5 @@ use Rattle.ps_rows.proofs.row_differences.differences.Given as goal
 
 -- the planes passed by have been added
 abbrev pub invariant-loop-plane : goal.invariant-loop-plane
-invariant-loop-plane g l = LeadBothWays l.first.height (l.plane * l.first.height) l.first.words.items l.second.words.items l.found.items
+invariant-loop-plane g l = LeadBothWays l.first.height (l.plane * l.first.height) l.first.words.items
+    l.second.words.items l.found.items

@@ -9,15 +9,21 @@ pub returns-then-not-has : goal.returns-then-not-has
 returns-then-not-has g c =
     let p = c.args.planes.now in
     let plane : ℕ = c.args.plane in
-    let counted : plane < p.index.len = plane_indexed p.index.len p.height plane p.words.len p.some_row p.whole c.requires.plane in
-    let unmarked = ap (λ (word : List Bool). column_at word c.args.row) (sym c.rows_of.ensures) ∙ sym c.has.ensures ∙ c.if-not-has.true in
+    let counted : plane < p.index.len = plane_indexed p.index.len p.height plane p.words.len p.some_row p.whole
+    c.requires.plane in
+    let unmarked = ap (λ (word : List Bool). column_at word c.args.row) (sym c.rows_of.ensures) ∙ sym c.has.ensures
+    ∙ c.if-not-has.true in
     rw c.none.ensures
-    (none_unlike c.args.all (row_of p.words.items (plane * p.height + c.args.row)) c.args.column (p.marked plane c.args.row counted c.requires.row unmarked))
+    (none_unlike c.args.all (row_of p.words.items (plane * p.height + c.args.row)) c.args.column
+    (p.marked plane c.args.row counted c.requires.row unmarked))
 
 pub returns-then-has : goal.returns-then-has
 returns-then-has g c =
-    rw (c.without.ensures, ← c.row-word.ensures) (others_unlike c.args.all c.row-word.result c.args.column c.requires.column (sym c.has-2.ensures ∙ c.if-has.true))
+    rw (c.without.ensures, ← c.row-word.ensures)
+    (others_unlike c.args.all c.row-word.result c.args.column c.requires.column (sym c.has-2.ensures
+    ∙ c.if-has.true))
 
 pub returns : goal.returns
 returns g c =
-    rw (← c.row-word.ensures) (own_unlike c.args.all c.row-word.result c.args.column (sym c.has-2.ensures ∙ c.if-has.false))
+    rw (← c.row-word.ensures) (own_unlike c.args.all c.row-word.result c.args.column (sym c.has-2.ensures
+    ∙ c.if-has.false))

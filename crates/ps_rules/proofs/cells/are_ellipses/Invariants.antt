@@ -5,4 +5,5 @@ use Rattle.ps_rules.specs.SymbolsShown.{tokens_shown}
 use Rattle.ps_rules.proofs.cells.are_ellipses.Given as goal
 
 abbrev pub invariant-loop-token : goal.invariant-loop-token
-invariant-loop-token l = list_all (λ token. is_ellipsis token.symbol) (tokens_shown (drop l.token-index l.tokens)) ≡ list_all (λ token. is_ellipsis token.symbol) (tokens_shown l.tokens)
+invariant-loop-token l = list_all (λ token. is_ellipsis token.symbol) (tokens_shown (drop l.token-index l.tokens)) ≡
+    list_all (λ token. is_ellipsis token.symbol) (tokens_shown l.tokens)

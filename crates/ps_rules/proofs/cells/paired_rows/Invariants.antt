@@ -6,5 +6,6 @@ use Rattle.ps_rules.proofs.cells.paired_rows.Given as goal
 
 abbrev pub invariant-loop-row : goal.invariant-loop-row
 invariant-loop-row l =
-    cell_rows_shown l.rows.items ++ map paired_cells (beside (cells_of_rows (rows_shown (drop l.row-index l.left))) (cells_of_rows (rows_shown l.others)))
+    cell_rows_shown l.rows.items ++ map paired_cells
+    (beside (cells_of_rows (rows_shown (drop l.row-index l.left))) (cells_of_rows (rows_shown l.others)))
     ≡ map paired_cells (paired_rows (shape_shown l.shape))

@@ -4,4 +4,5 @@ use Rattle.ps_rules.specs.Kinds.{parts_shown}
 use Rattle.ps_rules.proofs.ellipses.ellipses_touch.Given as goal
 
 abbrev pub invariant-loop-cell : goal.invariant-loop-cell
-invariant-loop-cell l = ellipses_touch_behind l.before (parts_shown (drop l.cell-index l.cells)) ≡ ellipses_touch (parts_shown l.cells)
+invariant-loop-cell l = ellipses_touch_behind l.before (parts_shown (drop l.cell-index l.cells)) ≡ ellipses_touch
+    (parts_shown l.cells)

@@ -9,4 +9,6 @@ use Rattle.ps_rules.proofs.ellipses.has_many.Given as goal
 abbrev pub invariant-loop-cell : goal.invariant-loop-cell
 invariant-loop-cell l =
     (l.found ≤ ELLIPSIS_LIMIT)
-    × (nat_lt ELLIPSIS_LIMIT (l.found + length (filter (has_kind is_ellipsis) (parts_shown (drop l.cell-index l.cells)))) ≡ has_many_ellipses (parts_shown l.cells))
+    × (nat_lt ELLIPSIS_LIMIT (l.found + length
+    (filter (has_kind is_ellipsis) (parts_shown (drop l.cell-index l.cells)))) ≡ has_many_ellipses
+    (parts_shown l.cells))

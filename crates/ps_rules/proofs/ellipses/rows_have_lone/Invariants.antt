@@ -5,4 +5,6 @@ use Rattle.ps_rules.specs.CellsShown.{cell_rows_shown}
 use Rattle.ps_rules.proofs.ellipses.rows_have_lone.Given as goal
 
 abbrev pub invariant-loop-cells : goal.invariant-loop-cells
-invariant-loop-cells l = list_any (λ cells. list_any has_lone_ellipsis cells) (cell_rows_shown (drop l.cells-index l.rows)) ≡ list_any (λ cells. list_any has_lone_ellipsis cells) (cell_rows_shown l.rows)
+invariant-loop-cells l = list_any (λ cells. list_any has_lone_ellipsis cells)
+    (cell_rows_shown (drop l.cells-index l.rows)) ≡ list_any (λ cells.
+    list_any has_lone_ellipsis cells) (cell_rows_shown l.rows)

@@ -5,4 +5,5 @@ use Rattle.ps_rules.specs.CellsShown.{cells_shown}
 use Rattle.ps_rules.proofs.ellipses.some_has_lone.Given as goal
 
 abbrev pub invariant-loop-cell : goal.invariant-loop-cell
-invariant-loop-cell l = list_any has_lone_ellipsis (cells_shown (drop l.cell-index l.cells)) ≡ list_any has_lone_ellipsis (cells_shown l.cells)
+invariant-loop-cell l = list_any has_lone_ellipsis (cells_shown (drop l.cell-index l.cells)) ≡ list_any
+    has_lone_ellipsis (cells_shown l.cells)

@@ -6,5 +6,6 @@ use Rattle.ps_rules.proofs.looseness.are_on_layer.Goals as goal
 
 pub returns : goal.returns
 returns c =
-    all_from_yields_List (λ object. nat_eq (layer_of c.args.names.now object) c.args.layer.0) _ _ c.all.result c.all.ensures.ran (YieldsList-from_slice c.args.objects.now cc)
+    all_from_yields_List (λ object. nat_eq (layer_of c.args.names.now object) c.args.layer.0) _ _ c.all.result
+    c.all.ensures.ran (YieldsList-from_slice c.args.objects.now cc)
     (λ x b q k. search (rules, tests))

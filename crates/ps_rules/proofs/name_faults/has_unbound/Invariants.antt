@@ -5,4 +5,5 @@ use Rattle.ps_rules.specs.RulesShown.{cell_list_shown}
 use Rattle.ps_rules.proofs.name_faults.has_unbound.Given as goal
 
 abbrev pub invariant-loop-cell : goal.invariant-loop-cell
-invariant-loop-cell l = list_any (λ cell. list_any (is_unbound l.occurrences cell) cell.right) (cell_list_shown (drop l.cell-index l.cell-items)) ≡ has_unbound l.occurrences
+invariant-loop-cell l = list_any (λ cell. list_any (is_unbound l.occurrences cell) cell.right)
+    (cell_list_shown (drop l.cell-index l.cell-items)) ≡ has_unbound l.occurrences

@@ -8,7 +8,9 @@ use Rattle.ps_rules.proofs.name_faults.is_name_unbound.Goals as goal
 
 pub returns-in-Any : goal.returns-in-Any
 returns-in-Any c =
-    let same : is_none (bound_name c.args.occurrences.now (cell_shown c.args.cell.now) (meaning_shown c.args.meaning.now))
-    ≡ is_name_unbound c.args.occurrences.now (cell_shown c.args.cell.now) (meaning_shown c.args.meaning.now) = rw c.in-Any.is refl in
+    let same : is_none (bound_name c.args.occurrences.now (cell_shown c.args.cell.now)
+    (meaning_shown c.args.meaning.now))
+    ≡ is_name_unbound c.args.occurrences.now (cell_shown c.args.cell.now) (meaning_shown c.args.meaning.now) =
+    rw c.in-Any.is refl in
     let none : c.is_none.result ≡ is_none c.bound_name.result = search rules in
     none ∙ ap is_none c.bound_name.ensures ∙ same

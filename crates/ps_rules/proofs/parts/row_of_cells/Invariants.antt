@@ -6,4 +6,5 @@ use Rattle.ps_rules.proofs.parts.row_of_cells.Given as goal
 
 abbrev pub invariant-loop-part : goal.invariant-loop-part
 invariant-loop-part l =
-    tree_row_shown l.made.items ++ map (map pair_of) (cell_parts_shown (drop l.part-index l.part-items)) ≡ map (map pair_of) (cell_parts_shown l.part-items)
+    tree_row_shown l.made.items ++ map (map pair_of) (cell_parts_shown (drop l.part-index l.part-items)) ≡ map
+    (map pair_of) (cell_parts_shown l.part-items)

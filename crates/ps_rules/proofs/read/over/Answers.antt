@@ -18,7 +18,8 @@ returns-in_err-read-clause-refused c =
     let there : (line_at text c.args.line).is_there ≡ true = search rules in
     let written : is_blank_line (line_at text c.args.line) ≡ false = search rules in
     let fault : Refusal = c.in_err-read.field-0.0 in
-    let told : (f : TheFault) → fault ≡ Refused f → IsRefused text c.args.line c.args.names.now (above_shown c.args.above) f =
+    let told : (f : TheFault) → fault ≡ Refused f →
+    IsRefused text c.args.line c.args.names.now (above_shown c.args.above) f =
     λ f e. record { there = there; written = written; told = c.in_err-read.ensures.read.1.1 f e } in
     search (rules, told)
 
@@ -31,5 +32,6 @@ returns-clause-fine c = λ rest.
     ap (λ (a : Above). faults_below c.args.names.now a (lines_with_words rest)) c.in_ok-read.ensures.above
     ∙ sym (
     below-step text c.args.line c.args.names.now (above_shown c.args.above) rest c.requires there written
-    ∙ ap (λ (fs : List TheFault). fs ++ faults_below c.args.names.now next (lines_with_words rest)) c.in_ok-read.ensures.read.1.0
+    ∙ ap (λ (fs : List TheFault). fs ++ faults_below c.args.names.now next (lines_with_words rest))
+    c.in_ok-read.ensures.read.1.0
     )

@@ -21,12 +21,15 @@ returns-in_err-above c =
     let line : ℕ = c.loop-line.line in
     let step = between-step text line (line + 1) end (omega arith) (omega arith) (omega arith) refl in
     let fault : Refusal = c.in_err-above.field-0.0 in
-    let told : (f : TheFault) → fault ≡ Refused f → first_fault (rule_faults c.args.names.now (lines_between text c.args.lines.start end)) ≡ Some f =
+    let told : (f : TheFault) → fault ≡ Refused f →
+    first_fault (rule_faults c.args.names.now (lines_between text c.args.lines.start end)) ≡ Some f =
     λ f e.
     let own = c.in_err-above.ensures.refused f e in
     ap first_fault (
-    sym c.loop-line.invariant.1 ∙ ap (λ (xs : List Line). faults_below c.args.names.now (above_shown c.loop-line.above) (lines_with_words xs)) step
-    ) ∙ refused-step text line c.args.names.now (above_shown c.loop-line.above) (lines_between text (line + 1) end) f (omega arith, omega arith) own in
+    sym c.loop-line.invariant.1 ∙ ap (λ (xs : List Line).
+    faults_below c.args.names.now (above_shown c.loop-line.above) (lines_with_words xs)) step
+    ) ∙ refused-step text line c.args.names.now (above_shown c.loop-line.above) (lines_between text (line + 1) end) f
+    (omega arith, omega arith) own in
     search (rules, told)
 
 pub loop-line-preserved : goal.loop-line-preserved
@@ -36,13 +39,16 @@ loop-line-preserved c =
     let line : ℕ = c.loop-line.line in
     let rest : List Line = lines_between text (line + 1) end in
     let step = between-step text line (line + 1) end (omega arith) (omega arith) (omega arith) refl in (
-      c.in_ok-above.ensures.part rest ∙ ap (λ (xs : List Line). lines_shown c.loop-line.made.items ++ rules_read c.args.names.now xs) (sym step) ∙ c.loop-line.invariant.0,
+      c.in_ok-above.ensures.part rest ∙ ap (λ (xs : List Line).
+          lines_shown c.loop-line.made.items ++ rules_read c.args.names.now xs) (sym step) ∙ c.loop-line.invariant.0,
       c.in_ok-above.ensures.fine rest
-          ∙ ap (λ (xs : List Line). faults_below c.args.names.now (above_shown c.loop-line.above) (lines_with_words xs)) (sym step) ∙ c.loop-line.invariant.1,
+          ∙ ap (λ (xs : List Line). faults_below c.args.names.now (above_shown c.loop-line.above)
+          (lines_with_words xs)) (sym step) ∙ c.loop-line.invariant.1,
     )
 
 pub invariant_of-result : goal.invariant_of-result
 invariant_of-result c =
     let closed : c.loop-line.above.start ≡ None = search rules in
-    made-whole c.args.source.now c.args.names.now c.args.lines.start c.loop-line.line c.args.lines.end (above_shown c.loop-line.above) (lines_shown c.loop-line.made.items)
+    made-whole c.args.source.now c.args.names.now c.args.lines.start c.loop-line.line c.args.lines.end
+    (above_shown c.loop-line.above) (lines_shown c.loop-line.made.items)
     (omega arith) closed c.loop-line.invariant.0 c.loop-line.invariant.1

@@ -10,7 +10,8 @@ pub returns : goal.returns
 returns c = (
   c.in_ok-rule.ensures,
   (
-    rule-fine (above_shown c.args.above) c.args.line (shape_shown c.args.shape.now) (rule_shown c.in_ok-rule.rule) (rule_of (line_at c.args.source.now c.args.line) (shape_shown c.args.shape.now))
+    rule-fine (above_shown c.args.above) c.args.line (shape_shown c.args.shape.now) (rule_shown c.in_ok-rule.rule)
+        (rule_of (line_at c.args.source.now c.args.line) (shape_shown c.args.shape.now))
         c.in_ok-kind.field-0 c.in_default.is (c.in_ok-kind.ensures c.args.line) c.in_ok-rule.ensures,
     tt,
   ),

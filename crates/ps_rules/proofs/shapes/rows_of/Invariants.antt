@@ -6,4 +6,5 @@ use Rattle.ps_rules.specs.ShapesShown.{behind, rows_shown}
 use Rattle.ps_rules.proofs.shapes.rows_of.Given as goal
 
 abbrev pub invariant-loop-part : goal.invariant-loop-part
-invariant-loop-part l = behind (rows_shown l.rows.items) (all_there (map row_of (parts_shown (drop l.part-index l.parts)))) ≡ all_there (map row_of (parts_shown l.parts))
+invariant-loop-part l = behind (rows_shown l.rows.items)
+    (all_there (map row_of (parts_shown (drop l.part-index l.parts)))) ≡ all_there (map row_of (parts_shown l.parts))

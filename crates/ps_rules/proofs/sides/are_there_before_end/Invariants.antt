@@ -6,4 +6,5 @@ use Rattle.ps_rules.specs.SymbolsShown.{tokens_shown}
 use Rattle.ps_rules.proofs.sides.are_there_before_end.Given as goal
 
 abbrev pub invariant-loop-row : goal.invariant-loop-row
-invariant-loop-row l = are_there (words_before (tokens_shown l.words) (rows_shown (drop l.row-index l.row-items))) ≡ are_there (before_end (side_shown l.side))
+invariant-loop-row l = are_there (words_before (tokens_shown l.words) (rows_shown (drop l.row-index l.row-items))) ≡
+    are_there (before_end (side_shown l.side))

@@ -8,5 +8,6 @@ use Rattle.ps_rules.proofs.sides.has_in_cells.Goals as goal
 
 pub loop-row-init : goal.loop-row-init
 loop-row-init c =
-    ap (λ rows. list_any (λ row. list_any (has_kind (is_kind c.args.kind)) row.cells) (rows_shown rows)) c.as_slice-row-items.ensures.value
+    ap (λ rows. list_any (λ row. list_any (has_kind (is_kind c.args.kind)) row.cells) (rows_shown rows))
+    c.as_slice-row-items.ensures.value
     ∙ any_in_cells (is_kind c.args.kind) (side_shown c.args.side.now)

@@ -6,4 +6,5 @@ use Rattle.ps_rules.specs.ShapesShown.{side_shown, rows_shown}
 use Rattle.ps_rules.proofs.sides.has_in_cells.Given as goal
 
 abbrev pub invariant-loop-row : goal.invariant-loop-row
-invariant-loop-row l = list_any (λ row. list_any (has_kind (is_kind l.kind)) row.cells) (rows_shown (drop l.row-index l.row-items)) ≡ has_kind (is_kind l.kind) (words_in_cells (side_shown l.side))
+invariant-loop-row l = list_any (λ row. list_any (has_kind (is_kind l.kind)) row.cells)
+    (rows_shown (drop l.row-index l.row-items)) ≡ has_kind (is_kind l.kind) (words_in_cells (side_shown l.side))

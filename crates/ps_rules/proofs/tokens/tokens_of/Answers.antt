@@ -15,11 +15,16 @@ returns c =
     let line : Line = line_at c.args.source.now c.args.line in
     let each : List Word = c.in-Some.first.now ∷ c.in-Some.others.now in
     let all : c.in_ok-words.words.items ≡ each = search rules in
-    let texts : map text_of each ≡ map (bytes_at line.bytes) (rule_words_in line.bytes) = ap (map text_of) (sym all) ∙ c.in_ok-words.ensures.texts in
-    let spans : map span_of each ≡ map (span_at line) (rule_words_in line.bytes) = ap (map span_of) (sym all) ∙ c.in_ok-words.ensures.spans in
-    let begun : tokens_shown c.push.new.self.items ≡ token_of_word (first_symbol c.args.names.now) c.in-Some.first.now ∷ [] = search rules in
+    let texts : map text_of each ≡ map (bytes_at line.bytes) (rule_words_in line.bytes) = ap (map text_of) (sym all)
+    ∙ c.in_ok-words.ensures.texts in
+    let spans : map span_of each ≡ map (span_at line) (rule_words_in line.bytes) = ap (map span_of) (sym all)
+    ∙ c.in_ok-words.ensures.spans in
+    let begun : tokens_shown c.push.new.self.items ≡ token_of_word (first_symbol c.args.names.now) c.in-Some.first.now
+    ∷ [] = search rules in
     let made : tokens_shown c.loop-word.tokens.items ≡ tokens_of_words c.args.names.now each =
-    loop-end (tokens_shown c.loop-word.tokens.items) (tokens_shown c.push.new.self.items ++ map (token_of_word (symbol_of c.args.names.now)) c.in-Some.others.now)
-    (map (token_of_word (symbol_of c.args.names.now))) c.in-Some.others.now c.loop-word.word-index refl c.loop-word.invariant c.loop-word-test.false
+    loop-end (tokens_shown c.loop-word.tokens.items)
+    (tokens_shown c.push.new.self.items ++ map (token_of_word (symbol_of c.args.names.now)) c.in-Some.others.now)
+    (map (token_of_word (symbol_of c.args.names.now))) c.in-Some.others.now c.loop-word.word-index refl
+    c.loop-word.invariant c.loop-word-test.false
     ∙ ap (λ ts. ts ++ map (token_of_word (symbol_of c.args.names.now)) c.in-Some.others.now) begun in
     made ∙ tokens-at c.args.names.now line each (rule_words_in line.bytes) texts spans

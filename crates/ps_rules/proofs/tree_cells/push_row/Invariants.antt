@@ -4,4 +4,6 @@ use Rattle.ps_rules.specs.RulesShown.{tree_row_shown, cell_list_shown}
 use Rattle.ps_rules.proofs.tree_cells.push_row.Given as goal
 
 abbrev pub invariant-loop-part : goal.invariant-loop-part
-invariant-loop-part l = cell_list_shown l.cells.items ++ flat_map (λ part. part) (tree_row_shown (drop l.part-index l.row)) ≡ cell_list_shown l.initial.cells.items ++ flat_map (λ part. part) (tree_row_shown l.row)
+invariant-loop-part l = cell_list_shown l.cells.items ++ flat_map (λ part.
+    part) (tree_row_shown (drop l.part-index l.row)) ≡ cell_list_shown l.initial.cells.items ++ flat_map (λ part.
+    part) (tree_row_shown l.row)

@@ -6,4 +6,6 @@ use Rattle.ps_rules.specs.RulesShown.{cell_list_shown}
 use Rattle.ps_rules.proofs.twice.has_name_twice.Given as goal
 
 abbrev pub invariant-loop-cell : goal.invariant-loop-cell
-invariant-loop-cell l = list_any (λ cell. name_twice cell.left || name_twice cell.right) (cell_list_shown (drop l.cell-index l.cells)) ≡ list_any (λ cell. name_twice cell.left || name_twice cell.right) (cell_list_shown l.cells)
+invariant-loop-cell l = list_any (λ cell. name_twice cell.left || name_twice cell.right)
+    (cell_list_shown (drop l.cell-index l.cells)) ≡ list_any (λ cell.
+    name_twice cell.left || name_twice cell.right) (cell_list_shown l.cells)

@@ -7,4 +7,6 @@ use Rattle.ps_rules.specs.Twice.{twice_behind, object_numbers}
 use Rattle.ps_rules.proofs.twice.object_twice.Given as goal
 
 abbrev pub invariant-loop-item : goal.invariant-loop-item
-invariant-loop-item l = twice_behind l.seen.items (object_numbers (flat_map objects_named (items_shown (drop l.item-index l.items)))) ≡ twice_behind [] (object_numbers (flat_map objects_named (items_shown l.items)))
+invariant-loop-item l = twice_behind l.seen.items
+    (object_numbers (flat_map objects_named (items_shown (drop l.item-index l.items)))) ≡ twice_behind []
+    (object_numbers (flat_map objects_named (items_shown l.items)))

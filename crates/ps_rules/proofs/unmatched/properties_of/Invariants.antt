@@ -4,4 +4,5 @@ use Rattle.ps_rules.specs.Unmatched.{is_in, has_property}
 use Rattle.ps_rules.proofs.unmatched.properties_of.Given as goal
 
 abbrev pub invariant-loop-item : goal.invariant-loop-item
-invariant-loop-item l = (line : ℕ) → (has_property (items_shown (drop l.item-index l.items)) line || is_in l.lines line) ≡ has_property (items_shown l.items) line
+invariant-loop-item l = (line : ℕ) → (has_property (items_shown (drop l.item-index l.items)) line || is_in l.lines
+    line) ≡ has_property (items_shown l.items) line

@@ -5,4 +5,5 @@ use Rattle.ps_rules.specs.Unmatched.{is_in, is_unmatched}
 use Rattle.ps_rules.proofs.unmatched.unmatched_in.Given as goal
 
 abbrev pub invariant-loop-cell : goal.invariant-loop-cell
-invariant-loop-cell l = (line : ℕ) → (list_any (is_unmatched line) (cell_list_shown (drop l.cell-index l.cells)) || is_in l.lines line) ≡ list_any (is_unmatched line) (cell_list_shown l.cells)
+invariant-loop-cell l = (line : ℕ) → (list_any (is_unmatched line) (cell_list_shown (drop l.cell-index l.cells)) ||
+    is_in l.lines line) ≡ list_any (is_unmatched line) (cell_list_shown l.cells)

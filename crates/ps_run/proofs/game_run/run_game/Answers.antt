@@ -9,8 +9,10 @@ returns-in-Err-write_output g c =
     let script : Script = script_on c.args.game c.args.plain.now c.args.late.now in
     let written = rw c.in-Ok.ensures.script at c.in-Ok.ensures.written in
     record {
-      answers = inr (runs.opening_unwritten c.in-Err-write_output.field-0 script _ _ _ _ _ (λ memory. c.in-Err-write_output.ensures.fault (ap Err memory)) c.requires.heard c.requires.well
-          (λ write. c.in-Err-write_output.ensures.told (ap Err write)) c.new-output.ensures written c.in-Err-write_output.ensures.stops);
+      answers = inr (runs.opening_unwritten c.in-Err-write_output.field-0 script _ _ _ _ _ (λ memory.
+          c.in-Err-write_output.ensures.fault (ap Err memory)) c.requires.heard c.requires.well
+          (λ write. c.in-Err-write_output.ensures.told (ap Err write)) c.new-output.ensures written
+          c.in-Err-write_output.ensures.stops);
     }
 
 pub returns : goal.returns
@@ -20,5 +22,6 @@ returns g c =
     let session = rw c.in-Ok.ensures.script at c.in-Ok.ensures.session in
     let comes = rw (c.in-Ok.ensures.script, c.new-keys.ensures) at c.play-answer.ensures.answers in
     record {
-      answers = inr (comes _ (runs.opened script _ _ _ _ _ c.requires.well c.new-output.ensures written session c.in_default.ensures.written));
+      answers = inr (comes _ (runs.opened script _ _ _ _ _ c.requires.well c.new-output.ensures written session
+          c.in_default.ensures.written));
     }

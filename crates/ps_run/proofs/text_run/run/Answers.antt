@@ -12,12 +12,14 @@ use Rattle.ps_run.proofs.text_run.run.Goals as goal
 
 -- programs that are compiled of some names and rules are compiled of the same ones
 made_of :
-    (names names' : Names) (rules rules' : List RuleLine) (plain late : List CompiledSection) → names ≡ names' → rules ≡ rules' → AreCompiled names rules plain late → AreCompiled names' rules' plain late
+    (names names' : Names) (rules rules' : List RuleLine) (plain late : List CompiledSection) → names ≡ names' →
+    rules ≡ rules' → AreCompiled names rules plain late → AreCompiled names' rules' plain late
 made_of names names' rules rules' plain late n r made = rw (← n, ← r) made
 
 pub returns-in-Err-clause-rightly : goal.returns-in-Err-clause-rightly
 returns-in-Err-clause-rightly g c =
-    stops_reading c.args.text.now _ c.fault_of_refusal.result _ _ c.fault_of_refusal.ensures c.requires.heard c.requires.well c.in-Err.ensures.read.1
+    stops_reading c.args.text.now _ c.fault_of_refusal.result _ _ c.fault_of_refusal.ensures c.requires.heard
+    c.requires.well c.in-Err.ensures.read.1
 
 pub returns-in-Err-compile-clause-rightly : goal.returns-in-Err-compile-clause-rightly
 returns-in-Err-compile-clause-rightly g c = wants_memory c.args.text.now _ _ c.requires.heard c.requires.well
@@ -38,7 +40,8 @@ run_compiled-requires-clause-rooms g c = game-rooms c.args.text.now c.in-Ok.game
 pub returns-clause-rightly : goal.returns-clause-rightly
 returns-clause-rightly g c =
     c.run_compiled.ensures.rightly c.args.text.now c.in-Ok.ensures.read.0 (
-    made_of c.game.inside.names c.in-Ok.game.names c.game.inside.rules c.in-Ok.game.rules c.in-Ok-compile.compiled.plain c.in-Ok-compile.compiled.late (ap (λ (r : Game). r.names) c.game.view_is)
+    made_of c.game.inside.names c.in-Ok.game.names c.game.inside.rules c.in-Ok.game.rules
+    c.in-Ok-compile.compiled.plain c.in-Ok-compile.compiled.late (ap (λ (r : Game). r.names) c.game.view_is)
     (ap (λ (r : Game). r.rules) c.game.view_is) (
     record {
       plain_alike = c.in-Ok-compile.ensures.plain_alike;

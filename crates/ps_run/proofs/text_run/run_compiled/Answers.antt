@@ -23,14 +23,21 @@ returns g c =
     let before = g.W.ByteWriter.state c.args.writer.now in
     let now = g.W.ByteWriter.state c.run_game.new.writer in
     let comes : ComesOrStops script had has before now c.run_game.result =
-    subst (λ (parts : SessionParts). ComesOrStops (script_on parts c.sections.result.now c.sections-2.result.now) had has before now c.run_game.result) c.parts_of_game.ensures.parts c.run_game.ensures.answers in
+    subst (λ (parts : SessionParts). ComesOrStops (script_on parts c.sections.result.now c.sections-2.result.now) had
+    has before now c.run_game.result) c.parts_of_game.ensures.parts c.run_game.ensures.answers in
     record {
       rightly = λ text is made.
-          let plain_made = subst (λ (sections : List model.CompiledSection). AreCompiled read.names read.rules sections c.args.compiled.now.late) (sym c.sections.ensures) made in
-          let both_made = subst (λ (sections : List model.CompiledSection). AreCompiled read.names read.rules (sections_shown c.sections.result.now) sections) (sym c.sections-2.ensures) plain_made in
+          let plain_made = subst (λ (sections : List model.CompiledSection).
+          AreCompiled read.names read.rules sections c.args.compiled.now.late) (sym c.sections.ensures) made in
+          let both_made = subst (λ (sections : List model.CompiledSection).
+          AreCompiled read.names read.rules (sections_shown c.sections.result.now) sections)
+          (sym c.sections-2.ensures) plain_made in
           let runs : SameRuns script (script_of read) =
-          subst (λ (s : Script). SameRuns s (script_of read)) (sym (script_is (parts_of read) c.sections.result.now c.sections-2.result.now))
-          (games-play_as_written text read is c.sections.result.now c.sections-2.result.now both_made own_table rows_give_room) in
-          comes_rightly text read script had has before now c.run_game.result is runs c.requires.heard c.requires.well comes;
+          subst (λ (s : Script). SameRuns s (script_of read))
+          (sym (script_is (parts_of read) c.sections.result.now c.sections-2.result.now))
+          (games-play_as_written text read is c.sections.result.now c.sections-2.result.now both_made own_table
+          rows_give_room) in
+          comes_rightly text read script had has before now c.run_game.result is runs c.requires.heard c.requires.well
+          comes;
       true_of_text = λ text is. true_of_game text read script had has before now c.run_game.result is comes;
     }

@@ -13,31 +13,40 @@ use Rattle.ps_screen.proofs.patching.patch_columns.Goals as goal
 pub cell_character-requires-clause-cell : goal.cell_character-requires-clause-cell
 cell_character-requires-clause-cell g c =
     let grid = g.B.Board.grid c.args.board.now in
-    let own = first_was_in c.loop-column.left c.take_first.new.self c.in-Some.column c.in-Some.ensures.some c.in-Some.ensures.within in
-    let under : c.in-Some.column < grid.width = c.loop-column.invariant.within c.in-Some.column c.in-Some.ensures.within own in
-    let place : c.in-Some.column * grid.height + c.args.row < grid.height * grid.width = mul-add-lt c.in-Some.column grid.height c.args.row grid.width under c.requires.row in
+    let own = first_was_in c.loop-column.left c.take_first.new.self c.in-Some.column c.in-Some.ensures.some
+    c.in-Some.ensures.within in
+    let under : c.in-Some.column < grid.width =
+    c.loop-column.invariant.within c.in-Some.column c.in-Some.ensures.within own in
+    let place : c.in-Some.column * grid.height + c.args.row < grid.height * grid.width =
+    mul-add-lt c.in-Some.column grid.height c.args.row grid.width under c.requires.row in
     rw c.size-width.ensures.height (omega arith)
 
 pub others_alike-requires-clause-column : goal.others_alike-requires-clause-column
 others_alike-requires-clause-column g c =
     c.loop-column.invariant.within c.in-Some.column c.in-Some.ensures.within
-    (first_was_in c.loop-column.left c.take_first.new.self c.in-Some.column c.in-Some.ensures.some c.in-Some.ensures.within)
+    (first_was_in c.loop-column.left c.take_first.new.self c.in-Some.column c.in-Some.ensures.some
+    c.in-Some.ensures.within)
 
 pub put_columns-requires : goal.put_columns-requires
 put_columns-requires g c = λ x low has.
     let left : List Bool = c.take_first.new.self in
     let column : ℕ = c.in-Some.column in
-    let made : c.with-group.result ≡ group_of left c.others_alike.result column = c.with-group.ensures ∙ ap (λ (set : List Bool). with_column set column true) c.both.ensures in
+    let made : c.with-group.result ≡ group_of left c.others_alike.result column = c.with-group.ensures
+    ∙ ap (λ (set : List Bool). with_column set column true) c.both.ensures in
     let own = first_was_in c.loop-column.left left column c.in-Some.ensures.some c.in-Some.ensures.within in
-    let under = group_within c.loop-column.left left c.others_alike.result column (g.B.Board.grid c.args.board.now).width c.in-Some.ensures.some
-    (c.loop-column.invariant.within column c.in-Some.ensures.within own) c.loop-column.invariant.within x low (ap (λ (set : List Bool). column_at set x) (sym made) ∙ has) in
+    let under = group_within c.loop-column.left left c.others_alike.result column
+    (g.B.Board.grid c.args.board.now).width c.in-Some.ensures.some
+    (c.loop-column.invariant.within column c.in-Some.ensures.within own) c.loop-column.invariant.within x low
+    (ap (λ (set : List Bool). column_at set x) (sym made) ∙ has) in
     omega (arith, under, c.loop-column.invariant.drawn.long)
 
 pub loop-column-smaller : goal.loop-column-smaller
 loop-column-smaller g c =
     let left : List Bool = c.take_first.new.self in
-    let fewer : length (set_columns c.without-left.result) ≤ length (set_columns left) = rw c.without-left.ensures (no_more left c.with-group.result) in
-    let one : length (set_columns c.loop-column.left) ≡ suc (length (set_columns left)) = ap (λ (xs : List ℕ). length xs) c.in-Some.ensures.some in
+    let fewer : length (set_columns c.without-left.result) ≤ length (set_columns left) =
+    rw c.without-left.ensures (no_more left c.with-group.result) in
+    let one : length (set_columns c.loop-column.left) ≡ suc (length (set_columns left)) =
+    ap (λ (xs : List ℕ). length xs) c.in-Some.ensures.some in
     omega (arith, fewer, one)
 
 pub loop-column-preserved : goal.loop-column-preserved
@@ -45,11 +54,15 @@ loop-column-preserved g c =
     let grid = g.B.Board.grid c.args.board.now in
     let left : List Bool = c.take_first.new.self in
     let column : ℕ = c.in-Some.column in
-    let made : c.with-group.result ≡ group_of left c.others_alike.result column = c.with-group.ensures ∙ ap (λ (set : List Bool). with_column set column true) c.both.ensures in
-    let behind : c.without-left.result ≡ columns_without left (group_of left c.others_alike.result column) = c.without-left.ensures ∙ ap (λ (set : List Bool). columns_without left set) made in
+    let made : c.with-group.result ≡ group_of left c.others_alike.result column = c.with-group.ensures
+    ∙ ap (λ (set : List Bool). with_column set column true) c.both.ensures in
+    let behind : c.without-left.result ≡ columns_without left (group_of left c.others_alike.result column) =
+    c.without-left.ensures ∙ ap (λ (set : List Bool). columns_without left set) made in
     let own = first_was_in c.loop-column.left left column c.in-Some.ensures.some c.in-Some.ensures.within in
-    let shown = c.in_ok-character.ensures ∙ ap (λ (h : ℕ). shown_character c.args.names.now (cell_at grid (column * h + c.args.row))) c.size-width.ensures.height in
-    let group : Group c.args.names.now grid c.args.row column c.in-Some-one_byte.byte c.loop-column.left left c.others_alike.result c.args.start c.loop-column.text c.put_columns.new.text =
+    let shown = c.in_ok-character.ensures ∙ ap (λ (h : ℕ).
+    shown_character c.args.names.now (cell_at grid (column * h + c.args.row))) c.size-width.ensures.height in
+    let group : Group c.args.names.now grid c.args.row column c.in-Some-one_byte.byte c.loop-column.left left
+    c.others_alike.result c.args.start c.loop-column.text c.put_columns.new.text =
     record {
       narrow = c.size-width.ensures.shape.columns;
       under = c.loop-column.invariant.within column c.in-Some.ensures.within own;
@@ -60,17 +73,21 @@ loop-column-preserved g c =
       before = c.loop-column.invariant.drawn;
       long = c.put_columns.ensures.long;
       there = λ x low has. c.put_columns.ensures.there x low (ap (λ (set : List Bool). column_at set x) made ∙ has);
-      elsewhere = λ at out. c.put_columns.ensures.elsewhere at (λ x low has. out x low (ap (λ (set : List Bool). column_at set x) (sym made) ∙ has));
+      elsewhere = λ at out. c.put_columns.ensures.elsewhere at (λ x low has.
+          out x low (ap (λ (set : List Bool). column_at set x) (sym made) ∙ has));
     } in
     record {
       within = λ x low has.
           c.loop-column.invariant.within x low
           (was_in c.loop-column.left left column x c.in-Some.ensures.some low
-          (was_left left (group_of left c.others_alike.result column) x low (ap (λ (set : List Bool). column_at set x) (sym behind) ∙ has)));
+          (was_left left (group_of left c.others_alike.result column) x low
+          (ap (λ (set : List Bool). column_at set x) (sym behind) ∙ has)));
       long = c.put_columns.ensures.long ∙ c.loop-column.invariant.long;
-      drawn = rw behind (group_drawn c.args.names.now grid c.args.row column c.in-Some-one_byte.byte c.loop-column.left left c.others_alike.result c.args.start c.loop-column.text c.put_columns.new.text group);
+      drawn = rw behind (group_drawn c.args.names.now grid c.args.row column c.in-Some-one_byte.byte c.loop-column.left
+          left c.others_alike.result c.args.start c.loop-column.text c.put_columns.new.text group);
       elsewhere = λ at outside.
-          group_kept c.args.names.now grid c.args.row column c.in-Some-one_byte.byte c.loop-column.left left c.others_alike.result c.args.start c.loop-column.text c.put_columns.new.text group at outside
+          group_kept c.args.names.now grid c.args.row column c.in-Some-one_byte.byte c.loop-column.left left
+          c.others_alike.result c.args.start c.loop-column.text c.put_columns.new.text group at outside
           ∙ c.loop-column.invariant.elsewhere at outside;
     }
 
@@ -79,7 +96,8 @@ returns g c =
     record {
       long = c.loop-column.invariant.long;
       plain = λ plain.
-          all_drawn c.args.names.now (g.B.Board.grid c.args.board.now) c.args.row c.loop-column.left c.args.start c.loop-column.text c.size-width.ensures.shape.columns
+          all_drawn c.args.names.now (g.B.Board.grid c.args.board.now) c.args.row c.loop-column.left c.args.start
+          c.loop-column.text c.size-width.ensures.shape.columns
           (c.in_default.ensures.none refl) c.loop-column.invariant.drawn;
       elsewhere = c.loop-column.invariant.elsewhere;
     }

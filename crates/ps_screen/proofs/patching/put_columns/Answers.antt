@@ -31,13 +31,14 @@ loop-column-preserved g c =
           (was_in c.loop-column.left c.take_first.new.self first x c.in-Some.ensures.some small has);
       there = λ x small has none. elim (cases_eq x first) [
         | inl e ↦ rw (c.put.ensures, e) (get_or-set_same text place c.args.byte 0 inside)
-        | inr apart ↦ elim (not_left c.loop-column.left c.take_first.new.self first x c.in-Some.ensures.some small none) [
-          | inl e ↦ absurd (apart e)
-          | inr gone ↦
-              let other : c.args.start + x ≢ place = omega (arith, apart) in
-              rw c.put.ensures (get_or-set_other text place (c.args.start + x) c.args.byte 0 other
-              ∙ c.loop-column.invariant.there x small has gone)
-        ]
+        | inr apart ↦ elim (not_left c.loop-column.left c.take_first.new.self first x c.in-Some.ensures.some small
+            none) [
+              | inl e ↦ absurd (apart e)
+              | inr gone ↦
+                  let other : c.args.start + x ≢ place = omega (arith, apart) in
+                  rw c.put.ensures (get_or-set_other text place (c.args.start + x) c.args.byte 0 other
+                  ∙ c.loop-column.invariant.there x small has gone)
+            ]
       ];
       elsewhere = λ at out.
           rw c.put.ensures (get_or-set_other text place at c.args.byte 0 (out first c.in-Some.ensures.within among)

@@ -15,6 +15,7 @@ returns-clause-text g c =
     let patched : IsPatched names rows now before c.in-Some-2.text =
     subst (λ (made : Option FrameText). IfSome made (λ text. IsPatched names rows now before text)) c.in-Some-2.is
     c.in_ok-text.ensures in
-    text_patched names rows now before after (c.if-not-is_alike.ensures.width refl) (c.if-not-is_alike.ensures.height refl)
+    text_patched names rows now before after (c.if-not-is_alike.ensures.width refl)
+    (c.if-not-is_alike.ensures.height refl)
     c.copy_rows.ensures.width c.copy_rows.ensures.height c.copy_rows.ensures.copied c.copy_rows.ensures.left
     c.in-Some-2.text patched

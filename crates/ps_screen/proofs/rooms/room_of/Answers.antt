@@ -7,4 +7,5 @@ pub returns : goal.returns
 returns g c =
     let grid = g.B.Board.grid c.args.board.now in
     ap (λ (h : ℕ). room_of_cell c.args.size h c.in-Some.cell) c.size-height.ensures.height
-    ∙ ap (λ (found : Option ℕ). unwrap_or (option_map (room_of_cell c.args.size grid.height) found) c.args.last) (sym c.in-Some.is ∙ c.first_player_cell.ensures)
+    ∙ ap (λ (found : Option ℕ). unwrap_or (option_map (room_of_cell c.args.size grid.height) found) c.args.last)
+    (sym c.in-Some.is ∙ c.first_player_cell.ensures)

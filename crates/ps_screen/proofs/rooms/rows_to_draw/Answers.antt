@@ -14,5 +14,6 @@ loop-step-preserved g c =
     let under : row < here.height = omega (arith, c.loop-step-test.true, c.requires.window.rows) in
     let low : row < SIDE_LIMIT = omega (arith, under, c.size-width.ensures.shape.rows) in
     rw c.with-rows.ensures (λ each below none. one_differs same c.loop-step.rows row c.is_empty.result low
-    (λ empty least. none_differs c.differing.result here there row c.size-width.ensures.shape.columns (c.is_empty.ensures.none empty) c.differing.ensures)
+    (λ empty least. none_differs c.differing.result here there row c.size-width.ensures.shape.columns
+    (c.is_empty.ensures.none empty) c.differing.ensures)
     c.loop-step.invariant each (omega (arith, below)) none)

@@ -16,5 +16,7 @@ loop-row-preserved g c =
 pub returns : goal.returns
 returns g c =
     let grid = g.B.Board.grid c.args.board.now in
-    let all : c.loop-row.row ≡ grid.height = omega (arith, c.loop-row.auto.row-end, c.loop-row-test.false, c.size-height.ensures.height) in
-    rows_drawn c.args.names.now grid c.loop-row.texts.items (c.loop-row.invariant ∙ ap (λ (n : ℕ). map (frame_row c.args.names.now grid) (range_with_len 0 n)) all)
+    let all : c.loop-row.row ≡ grid.height = omega
+    (arith, c.loop-row.auto.row-end, c.loop-row-test.false, c.size-height.ensures.height) in
+    rows_drawn c.args.names.now grid c.loop-row.texts.items (c.loop-row.invariant
+    ∙ ap (λ (n : ℕ). map (frame_row c.args.names.now grid) (range_with_len 0 n)) all)

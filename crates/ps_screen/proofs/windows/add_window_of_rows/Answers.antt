@@ -13,10 +13,12 @@ add_part-requires-clause-text g c =
     let row : ℕ = c.args.window.first_row + c.loop-step.step in
     let under : row < grid.height = omega (arith, c.loop-step-test.true, c.requires.window.rows) in
     let inside : row < length c.args.texts.now = omega (arith, under, c.requires.texts.long) in
-    c.index-texts-row.is ∙ get_or_default c.args.texts.now row c.index-texts-row.result [] inside ∙ c.requires.texts.each row under
+    c.index-texts-row.is ∙ get_or_default c.args.texts.now row c.index-texts-row.result [] inside
+    ∙ c.requires.texts.each row under
 
 pub loop-step-preserved : goal.loop-step-preserved
 loop-step-preserved g c =
     let grid = g.B.Board.grid c.args.board.now in
     let row : ℕ = c.args.window.first_row + c.loop-step.step in
-    text_more_from (window_row c.args.names.now grid c.args.window) c.args.window.first_row c.loop-step.step row c.args.output.now c.loop-step.output _ refl c.loop-step.invariant c.in_ok-add_part.ensures.added
+    text_more_from (window_row c.args.names.now grid c.args.window) c.args.window.first_row c.loop-step.step row
+    c.args.output.now c.loop-step.output _ refl c.loop-step.invariant c.in_ok-add_part.ensures.added

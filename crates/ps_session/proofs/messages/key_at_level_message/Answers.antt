@@ -14,8 +14,10 @@ returns-in-Quit-clause-table g c = c.in_ok-next.ensures.table _
 
 pub returns : goal.returns
 returns g c =
-    let script : Script = script_for g.B.Board.table_for c.args.stage.now.game (g.R.Rules.meant c.args.rules.now.plain) (g.R.Rules.meant c.args.rules.now.late) in
-    let heeded : is_ignored_at_message c.args.key ≡ false = sym c.is_ignored_at_message.ensures ∙ c.if-is_ignored_at_message.false in
+    let script : Script = script_for g.B.Board.table_for c.args.stage.now.game (g.R.Rules.meant c.args.rules.now.plain)
+    (g.R.Rules.meant c.args.rules.now.late) in
+    let heeded : is_ignored_at_message c.args.key ≡ false = sym c.is_ignored_at_message.ensures
+    ∙ c.if-is_ignored_at_message.false in
     record {
       game = c.in_ok-change.ensures.game;
       plain = c.in_ok-change.ensures.plain;
@@ -23,9 +25,11 @@ returns g c =
       came = λ history.
           let play : Play = play_of history c.args.level.now in
           dismissed script play (pending_shown c.args.pending) c.args.key heeded c.in_default.not-Quit
-          ∙ ap (λ (text : List ℕ). after text (gone_on script play (pending_shown c.args.pending))) (sym c.requires.empty)
+          ∙ ap (λ (text : List ℕ). after text (gone_on script play (pending_shown c.args.pending)))
+          (sym c.requires.empty)
           ∙ c.in_ok-change.ensures.came history
-          ∙ ap (λ (session : Session). came session c.go_on.new.self.text) (sym (c.next_of.ensures.waiting history c.args.level.now c.args.pending));
+          ∙ ap (λ (session : Session). came session c.go_on.new.self.text)
+          (sym (c.next_of.ensures.waiting history c.args.level.now c.args.pending));
       stopped = tt;
       table = c.next_of.ensures.table _ c.in_ok-change.ensures.table;
       ignored = λ e. absurd (true≢false (sym e ∙ heeded));

@@ -15,6 +15,8 @@ returns-clause-outcome g c =
     let late : Option (List ℕ) → List Section = g.R.Rules.meant c.args.rules.now.late in
     let own : Option (List ℕ) = g.B.Board.table_for c.args.game.now.names.layers in
     c.in_ok-turned.ensures.outcome
-    ∙ ap (λ (parts : TurnParts). turn (script_with parts (plain (g.B.Board.table c.args.before.now)) (late (g.B.Board.table c.args.before.now))) c.args.input before) c.turns.ensures
-    ∙ ap (λ (table : Option (List ℕ)). turn (script_with (turn_parts c.args.game.now) (plain table) (late table)) c.args.input before) c.requires.own
+    ∙ ap (λ (parts : TurnParts). turn (script_with parts (plain (g.B.Board.table c.args.before.now))
+    (late (g.B.Board.table c.args.before.now))) c.args.input before) c.turns.ensures
+    ∙ ap (λ (table : Option (List ℕ)). turn (script_with (turn_parts c.args.game.now) (plain table) (late table))
+    c.args.input before) c.requires.own
     ∙ turns_of_parts c.args.game.now (plain own) (late own) c.args.input before

@@ -12,5 +12,6 @@ abbrev pub invariant-loop-object : goal.invariant-loop-object
 invariant-loop-object g l =
     (g.B.Board.grid l.board
     ≡ grid_with_cell (g.B.Board.grid l.fn.board) l.cell
-    (fold (λ slots object. slice_set slots (layer_of l.names object) (Holds object Still)) (cell_at (g.B.Board.grid l.fn.board) l.cell) (take l.object-index l.objects)))
+    (fold (λ slots object. slice_set slots (layer_of l.names object) (Holds object Still))
+    (cell_at (g.B.Board.grid l.fn.board) l.cell) (take l.object-index l.objects)))
     × (g.B.Board.table l.board ≡ g.B.Board.table l.fn.board)

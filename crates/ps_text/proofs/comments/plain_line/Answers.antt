@@ -9,7 +9,8 @@ pub unreachable-requires : goal.unreachable-requires
 unreachable-requires c =
     let plain : c.in_ok-bytes.bytes.items ≡ without_comments c.args.depth c.args.line.now =
     c.in_ok-bytes.ensures ∙ ap (λ (bs : List ℕ). without_comments c.args.depth bs) c.as_bytes.ensures.value in
-    cc (c.in-Err.ensures.succeeds (subst (λ (bs : List ℕ). IsUtf8 bs) (sym plain) (plain_utf8 c.args.line.now c.args.depth c.utf8.line)))
+    cc (c.in-Err.ensures.succeeds (subst (λ (bs : List ℕ).
+    IsUtf8 bs) (sym plain) (plain_utf8 c.args.line.now c.args.depth c.utf8.line)))
 
 pub returns-clause-plain : goal.returns-clause-plain
 returns-clause-plain c =

@@ -10,8 +10,10 @@ use Rattle.ps_text.proofs.cutting.words.Given as goal
 abbrev pub invariant-loop-next : goal.invariant-loop-next
 invariant-loop-next l =
     record {
-      texts : map text_of l.words.items ++ map (bytes_at l.text) (words_found l.cut l.text l.next) ≡ texts_under l.cut l.text;
-      spans : map span_of l.words.items ++ map (span_at (line_at l.source l.line)) (words_found l.cut l.text l.next) ≡ map (span_at (line_at l.source l.line)) (words_under l.cut l.text);
+      texts : map text_of l.words.items ++ map (bytes_at l.text) (words_found l.cut l.text l.next) ≡ texts_under l.cut
+          l.text;
+      spans : map span_of l.words.items ++ map (span_at (line_at l.source l.line)) (words_found l.cut l.text l.next) ≡
+          map (span_at (line_at l.source l.line)) (words_under l.cut l.text);
       hold : All (λ (text : List ℕ). 0 < length text) (map text_of l.words.items);
       slices : All (IsSliceOf l.source) l.words.items;
       rising : AreRisingSpans l.row.start (rise_limit l.row.start l.text l.next) (map span_of l.words.items);

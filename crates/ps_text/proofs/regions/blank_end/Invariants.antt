@@ -7,7 +7,8 @@ use Rattle.ps_text.proofs.regions.blank_end.Given as goal
 abbrev pub invariant-loop-end : goal.invariant-loop-end
 invariant-loop-end l =
     record {
-      same : length (without_blank_end (slice_range l.line l.from l.end)) ≡ length (without_blank_end (drop l.from l.line));
+      same : length (without_blank_end (slice_range l.line l.from l.end)) ≡ length
+          (without_blank_end (drop l.from l.line));
       behind : l.from ≤ l.end;
       cuttable : IsCharBoundary l.line l.end;
     }

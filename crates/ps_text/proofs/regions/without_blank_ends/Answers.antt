@@ -13,7 +13,10 @@ pub returns : goal.returns
 returns c =
     let start : ℕ = c.past_parting-start.result in
     let same = c.as_bytes-bytes.ensures.value in
-    let from_zero : 0 + prefix_len is_blank c.as_bytes-bytes.result.now ≡ prefix_len is_blank c.as_bytes-bytes.result.now = omega arith in
+    let from_zero : 0 + prefix_len is_blank c.as_bytes-bytes.result.now ≡ prefix_len is_blank
+    c.as_bytes-bytes.result.now = omega arith in
     c.range.ensures.value
-    ∙ between-blanks c.args.line.now start c.blank_end-end.result (c.past_parting-start.ensures.place ∙ from_zero ∙ ap (prefix_len is_blank) same)
-    (c.blank_end-end.ensures.place ∙ ap (λ (bytes : List ℕ). start + length (without_blank_end (drop start bytes))) same)
+    ∙ between-blanks c.args.line.now start c.blank_end-end.result (c.past_parting-start.ensures.place ∙ from_zero
+    ∙ ap (prefix_len is_blank) same)
+    (c.blank_end-end.ensures.place ∙ ap (λ (bytes : List ℕ).
+    start + length (without_blank_end (drop start bytes))) same)

@@ -10,8 +10,10 @@ header_of_line-header-requires c = rw c.as_bytes.ensures.value (IsUtf8-string_by
 
 pub returns-clause-whole : goal.returns-clause-whole
 returns-clause-whole c =
-    let region : IfSome c.text_region-region.result (IsTextRange (string_bytes c.in_ok-plain.plain)) = rw c.as_str.ensures.value at c.text_region-region.ensures.plain in
+    let region : IfSome c.text_region-region.result (IsTextRange (string_bytes c.in_ok-plain.plain)) =
+    rw c.as_str.ensures.value at c.text_region-region.ensures.plain in
     record {
-      veiled = veiled_line c.args.raw.now (string_bytes c.in_ok-plain.plain) (string_bytes c.in_ok-visible.visible) c.text_region-region.result c.in_ok-plain.ensures.plain region c.in_ok-visible.ensures;
+      veiled = veiled_line c.args.raw.now (string_bytes c.in_ok-plain.plain) (string_bytes c.in_ok-visible.visible)
+          c.text_region-region.result c.in_ok-plain.ensures.plain region c.in_ok-visible.ensures;
       taken = c.taken_in-taken.ensures.range;
     }

@@ -12,9 +12,11 @@ returns-then-is_arrow_at-clause-cuttable c _some =
     let at = c.args.at in
     let arrow : IsArrow line at = search rules in
     let behind : at + 1 + 1 ≡ at + 2 = omega arith in
-    subst (λ (n : ℕ). IsCharBoundary line n) behind (IsCharBoundary-after_ascii line (at + 1) c.requires.utf8 arrow.within (omega (arith, arrow.second)))
+    subst (λ (n : ℕ). IsCharBoundary line n) behind
+    (IsCharBoundary-after_ascii line (at + 1) c.requires.utf8 arrow.within (omega (arith, arrow.second)))
 
 pub returns-then-is_mark-clause-cuttable : goal.returns-then-is_mark-clause-cuttable
 returns-then-is_mark-clause-cuttable c _some =
     let mark : is_own_word c.args.within (get_or c.args.line.now c.args.at 0) ≡ true = search rules in
-    IsCharBoundary-after_ascii c.args.line.now c.args.at c.requires.utf8 c.requires.there (mark_is_ascii c.args.within _ mark)
+    IsCharBoundary-after_ascii c.args.line.now c.args.at c.requires.utf8 c.requires.there
+    (mark_is_ascii c.args.within _ mark)

@@ -18,6 +18,8 @@ loop-at-preserved c =
     let no_word : own_length true (drop c.loop-at.at c.args.line.now) ≡ 0 = omega (arith, c.own_len.ensures.own) in
     let within : c.loop-at.at < length c.args.line.now = omega arith in
     record {
-      words = c.loop-at.invariant.words ∙ rule_run_goes_on c.args.line.now c.args.start c.loop-at.at within in_run no_word;
-      solid = solid_more c.args.line.now c.args.start c.loop-at.at (c.loop-at.at + 1) c.loop-at.invariant.solid in_run refl;
+      words = c.loop-at.invariant.words ∙ rule_run_goes_on c.args.line.now c.args.start c.loop-at.at within in_run
+          no_word;
+      solid = solid_more c.args.line.now c.args.start c.loop-at.at (c.loop-at.at + 1) c.loop-at.invariant.solid in_run
+          refl;
     }

@@ -8,7 +8,8 @@ pub loop-at-init : goal.loop-at-init
 loop-at-init c =
     record {
       words = run_begins c.args.cut c.args.line.now c.args.start c.requires.holds c.requires.in_run c.requires.no_word;
-      solid = solid_one c.args.line.now c.args.start (c.args.start + 1) (no_parting_no_blank c.args.cut _ c.requires.in_run) refl;
+      solid = solid_one c.args.line.now c.args.start (c.args.start + 1)
+          (no_parting_no_blank c.args.cut _ c.requires.in_run) refl;
     }
 
 pub loop-at-preserved : goal.loop-at-preserved
@@ -17,6 +18,8 @@ loop-at-preserved c =
     let no_word : stands_alone c.args.cut (get_or c.args.line.now c.loop-at.at 0) ≡ false = search rules in
     let within : c.loop-at.at < length c.args.line.now = omega arith in
     record {
-      words = c.loop-at.invariant.words ∙ run_goes_on c.args.cut c.args.line.now c.args.start c.loop-at.at within in_run no_word;
-      solid = solid_more c.args.line.now c.args.start c.loop-at.at (c.loop-at.at + 1) c.loop-at.invariant.solid (no_parting_no_blank c.args.cut _ in_run) refl;
+      words = c.loop-at.invariant.words ∙ run_goes_on c.args.cut c.args.line.now c.args.start c.loop-at.at within
+          in_run no_word;
+      solid = solid_more c.args.line.now c.args.start c.loop-at.at (c.loop-at.at + 1) c.loop-at.invariant.solid
+          (no_parting_no_blank c.args.cut _ in_run) refl;
     }

@@ -6,6 +6,7 @@ use Rattle.ps_text.proofs.scan.run_end.Given as goal
 abbrev pub invariant-loop-at : goal.invariant-loop-at
 invariant-loop-at l =
     record {
-      words : words_from l.cut l.fn.start None (drop l.fn.start l.line) ≡ words_from l.cut l.at (Some l.fn.start) (drop l.at l.line);
+      words : words_from l.cut l.fn.start None (drop l.fn.start l.line) ≡ words_from l.cut l.at (Some l.fn.start)
+          (drop l.at l.line);
       solid : IsSolid l.line l.fn.start l.at;
     }

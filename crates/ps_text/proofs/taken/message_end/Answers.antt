@@ -13,5 +13,6 @@ next_word-requires-clause-cuttable c = IsCharBoundary-start c.args.plain.now c.r
 pub returns-clause-start : goal.returns-clause-start
 returns-clause-start c =
     let first = c.in-Some.first in
-    let named : list_any (bytes_eq (folded (slice_range c.args.plain.now first.start first.end))) (codes "message" ∷ []) ≡ true = search rules in
+    let named : list_any (bytes_eq (folded (slice_range c.args.plain.now first.start first.end)))
+    (codes "message" ∷ []) ≡ true = search rules in
     text_behind_word c.args.plain.now 0 (codes "message" ∷ []) first c.in-Some.ensures.range refl named

@@ -9,5 +9,6 @@ use Rattle.ps_text.proofs.taken.message_end_behind.Goals as goal
 pub returns-then-is_message_word-clause-start : goal.returns-then-is_message_word-clause-start
 returns-then-is_message_word-clause-start c =
     let word = c.in-Some.word in
-    let named : list_any (bytes_eq (folded (slice_range c.args.plain.now word.start word.end))) (codes "message" ∷ []) ≡ true = search rules in
+    let named : list_any (bytes_eq (folded (slice_range c.args.plain.now word.start word.end))) (codes "message" ∷ [])
+    ≡ true = search rules in
     text_behind_word c.args.plain.now c.loop-word.at (codes "message" ∷ []) word c.in-Some.ensures.range refl named

@@ -7,7 +7,8 @@ use Rattle.ps_text.proofs.taken.message_end_behind.Given as goal
 abbrev pub invariant-loop-word : goal.invariant-loop-word
 invariant-loop-word l =
     record {
-      place : end_of_word (find (is_word l.plain (codes "message" ∷ [])) (rule_words_behind l.plain l.at)) ≡ end_of_word (find (is_word l.plain (codes "message" ∷ [])) (rule_words_behind l.plain l.fn.from));
+      place : end_of_word (find (is_word l.plain (codes "message" ∷ [])) (rule_words_behind l.plain l.at)) ≡
+          end_of_word (find (is_word l.plain (codes "message" ∷ [])) (rule_words_behind l.plain l.fn.from));
       cuttable : IsCharBoundary l.plain l.at;
     }
 

@@ -14,8 +14,11 @@ loop-layer-preserved g c =
     let slots : length (cell_at start c.args.cell) ≡ start.layers = c.requires.shape.slots c.args.cell _ within in
     let long : c.loop-layer.layer < length (cell_at start c.args.cell) = rw slots (omega arith) in (
       c.give_slot.ensures.moved
-          ∙ ap (λ (h : Grid). with_slot h c.args.cell c.loop-layer.layer (slot_set_moving c.args.moved.now c.args.motion (slot_at h c.args.cell c.loop-layer.layer))) c.loop-layer.invariant.0
-          ∙ one_more_slot (slot_set_moving c.args.moved.now c.args.motion) start c.args.cell c.loop-layer.layer _ within long refl,
+          ∙ ap (λ (h : Grid). with_slot h c.args.cell c.loop-layer.layer
+          (slot_set_moving c.args.moved.now c.args.motion (slot_at h c.args.cell c.loop-layer.layer)))
+          c.loop-layer.invariant.0
+          ∙ one_more_slot (slot_set_moving c.args.moved.now c.args.motion) start c.args.cell c.loop-layer.layer _
+          within long refl,
       c.give_slot.ensures.table ∙ c.loop-layer.invariant.1,
     )
 
@@ -25,4 +28,6 @@ returns-clause-moved g c =
     let within : c.args.cell < length start.cells = rw c.requires.shape.cells c.requires.cell in
     let slots : length (cell_at start c.args.cell) ≡ start.layers = c.requires.shape.slots c.args.cell _ within in
     let all : length (cell_at start c.args.cell) ≤ c.loop-layer.layer = rw slots (omega arith) in
-    c.loop-layer.invariant.0 ∙ ap (grid_with_cell start c.args.cell) (all_changed (slot_set_moving c.args.moved.now c.args.motion) (cell_at start c.args.cell) c.loop-layer.layer all)
+    c.loop-layer.invariant.0 ∙ ap (grid_with_cell start c.args.cell)
+    (all_changed (slot_set_moving c.args.moved.now c.args.motion) (cell_at start c.args.cell) c.loop-layer.layer
+    all)

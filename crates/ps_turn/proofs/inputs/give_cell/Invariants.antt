@@ -8,5 +8,6 @@ abbrev pub invariant-loop-layer : goal.invariant-loop-layer
 invariant-loop-layer g l =
     (g.B.Board.grid l.board
     ≡ grid_with_cell (g.B.Board.grid l.fn.board) l.cell
-    (map (slot_set_moving l.moved l.motion) (take l.layer (cell_at (g.B.Board.grid l.fn.board) l.cell)) ++ drop l.layer (cell_at (g.B.Board.grid l.fn.board) l.cell)))
+    (map (slot_set_moving l.moved l.motion) (take l.layer (cell_at (g.B.Board.grid l.fn.board) l.cell)) ++ drop l.layer
+    (cell_at (g.B.Board.grid l.fn.board) l.cell)))
     × (g.B.Board.table l.board ≡ g.B.Board.table l.fn.board)

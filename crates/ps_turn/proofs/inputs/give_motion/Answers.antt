@@ -17,14 +17,17 @@ loop-row-init g c =
     let cleared : g.B.Board.grid c.clear_moves.new.self ≡ rested = c.clear_moves.ensures.grid in
     let shape : IsGrid rested = rw cleared at c.size-height.ensures.shape in
     let tall : c.size-height.result.1 ≡ rested.height = rw cleared at c.size-height.ensures.height in
-    let held : NonePassOutside (list_any (holds_any c.args.moved.now)) rested c.rows_with-standing.result = rw cleared at c.rows_with-standing.ensures in
+    let held : NonePassOutside (list_any (holds_any c.args.moved.now)) rested c.rows_with-standing.result =
+    rw cleared at c.rows_with-standing.ensures in
     let below : c.below.result ≡ columns_below rested.height = c.below.ensures ∙ ap columns_below tall in
     record {
       changed = rw cleared (none_changed change rested);
-      low = below-init c.rows_with-standing.result c.below.result c.both-left.result rested.height below c.both-left.ensures;
+      low = below-init c.rows_with-standing.result c.below.result c.both-left.result rested.height below
+          c.both-left.ensures;
       passed =
           rw cleared
-          (passed-init (IsRowChanged change rested rested) c.rows_with-standing.result c.below.result c.both-left.result rested.height shape.rows below c.both-left.ensures
+          (passed-init (IsRowChanged change rested rested) c.rows_with-standing.result c.below.result
+          c.both-left.result rested.height shape.rows below c.both-left.ensures
           (row_kept c.args.moved.now c.args.motion rested shape c.rows_with-standing.result held));
       table = c.clear_moves.ensures.table;
     }
@@ -34,7 +37,8 @@ give_row-requires g c =
     let rested : Grid = at_rest (g.B.Board.grid c.args.board.now) in
     let now : Grid = g.B.Board.grid c.loop-row.board in
     rw (changed_height (map (slot_set_moving c.args.moved.now c.args.motion)) rested now c.loop-row.invariant.changed)
-    (taken_below c.loop-row.left c.take_first.new.self rested.height c.in-Some.row c.in-Some.ensures.some c.loop-row.invariant.low)
+    (taken_below c.loop-row.left c.take_first.new.self rested.height c.in-Some.row c.in-Some.ensures.some
+    c.loop-row.invariant.low)
 
 pub loop-row-preserved : goal.loop-row-preserved
 loop-row-preserved g c =
@@ -52,8 +56,10 @@ loop-row-preserved g c =
       changed = changed_then change rested now next inv.changed c.give_row.ensures.changed;
       low = below-more c.loop-row.left c.take_first.new.self rested.height row c.in-Some.ensures.some inv.low;
       passed =
-          passed-changed (IsRowChanged change rested now) (IsRowChanged change rested next) c.loop-row.left c.take_first.new.self rested.height row shape.rows c.in-Some.ensures.some here
-          (λ other low apart are x across. c.give_row.ensures.changed.kept (x * rested.height + other) (are x across)) inv.passed;
+          passed-changed (IsRowChanged change rested now) (IsRowChanged change rested next) c.loop-row.left
+          c.take_first.new.self rested.height row shape.rows c.in-Some.ensures.some here
+          (λ other low apart are x across. c.give_row.ensures.changed.kept (x * rested.height + other) (are x across))
+          inv.passed;
       table = c.give_row.ensures.table ∙ inv.table;
     }
 
@@ -66,5 +72,6 @@ returns-clause-moved g c =
     let inv = c.loop-row.invariant in
     let shape : IsGrid rested = rw c.clear_moves.ensures.grid at c.size-height.ensures.shape in
     all_rows_changed change rested now shape inv.changed
-    (λ row low. passed-all (IsRowChanged change rested now) c.loop-row.left rested.height row shape.rows (c.in_default.ensures.none refl) inv.passed low)
+    (λ row low. passed-all (IsRowChanged change rested now) c.loop-row.left rested.height row shape.rows
+    (c.in_default.ensures.none refl) inv.passed low)
     ∙ ap (grid_with_cells rested) (cells_from_rest c.args.moved.now c.args.motion start.cells)

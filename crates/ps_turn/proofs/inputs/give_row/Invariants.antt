@@ -13,7 +13,8 @@ invariant-loop-column g l =
     record {
       changed : AreChanged (map (slot_set_moving l.moved l.motion)) start now;
       low : AreBelow start.width l.left;
-      passed : ArePassed (λ x. IsCellChanged (map (slot_set_moving l.moved l.motion)) now (x * start.height + l.row)) start.width l.left;
+      passed : ArePassed (λ x. IsCellChanged (map (slot_set_moving l.moved l.motion)) now (x * start.height + l.row))
+          start.width l.left;
       table : g.B.Board.table l.board ≡ g.B.Board.table l.fn.board;
     }
 

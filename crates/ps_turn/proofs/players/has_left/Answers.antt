@@ -19,40 +19,57 @@ loop-row-init g c =
     let test : ℕ → Bool = is_left c.args.game.now.names grid (g.B.Board.grid c.args.after.now) in
     let objects : List ObjectId = players c.args.game.now.names in
     let held : NonePassOutside (list_any (holds_any objects)) grid c.rows_with-standing.result =
-    subst (λ (objects : List ObjectId). NonePassOutside (list_any (holds_any objects)) grid c.rows_with-standing.result) c.players.ensures c.rows_with-standing.ensures in
-    let below : c.below.result ≡ columns_below grid.height = c.below.ensures ∙ ap columns_below c.size-height.ensures.height in
+    subst (λ (objects : List ObjectId). NonePassOutside (list_any (holds_any objects)) grid
+    c.rows_with-standing.result) c.players.ensures c.rows_with-standing.ensures in
+    let below : c.below.result ≡ columns_below grid.height = c.below.ensures
+    ∙ ap columns_below c.size-height.ensures.height in
     record {
-      low = below-init c.rows_with-standing.result c.below.result c.both-left.result grid.height below c.both-left.ensures;
+      low = below-init c.rows_with-standing.result c.below.result c.both-left.result grid.height below
+          c.both-left.ensures;
       passed =
-          passed-init (λ row. (x : ℕ) → x < grid.width → test (x * grid.height + row) ≡ false) c.rows_with-standing.result c.below.result c.both-left.result grid.height c.size-height.ensures.shape.rows below
+          passed-init (λ row. (x : ℕ) → x < grid.width →
+          test (x * grid.height + row) ≡ false) c.rows_with-standing.result c.below.result c.both-left.result
+          grid.height c.size-height.ensures.shape.rows below
           c.both-left.ensures (λ row low out x across.
-          ap (λ (b : Bool). b && not (has_player_at c.args.game.now.names (g.B.Board.grid c.args.after.now) (x * grid.height + row)))
-          (outside_agree (list_any (holds_any objects)) (has_player c.args.game.now.names) grid c.rows_with-standing.result (cell_has_any_of objects) held row low out x across));
+          ap (λ (b : Bool). b && not (has_player_at c.args.game.now.names (g.B.Board.grid c.args.after.now)
+          (x * grid.height + row)))
+          (outside_agree (list_any (holds_any objects)) (has_player c.args.game.now.names) grid
+          c.rows_with-standing.result (cell_has_any_of objects) held row low out x across));
     }
 
 pub left_columns-requires-clause-row : goal.left_columns-requires-clause-row
-left_columns-requires-clause-row g c = taken_below c.loop-row.left c.take_first.new.self _ c.in-Some.row c.in-Some.ensures.some c.loop-row.invariant.low
+left_columns-requires-clause-row g c = taken_below c.loop-row.left c.take_first.new.self _ c.in-Some.row
+    c.in-Some.ensures.some c.loop-row.invariant.low
 
 pub left_columns-requires-clause-there : goal.left_columns-requires-clause-there
-left_columns-requires-clause-there g c = rw c.requires.height (taken_below c.loop-row.left c.take_first.new.self _ c.in-Some.row c.in-Some.ensures.some c.loop-row.invariant.low)
+left_columns-requires-clause-there g c = rw c.requires.height
+    (taken_below c.loop-row.left c.take_first.new.self _ c.in-Some.row c.in-Some.ensures.some c.loop-row.invariant.low)
 
 pub returns-then-not-is_empty : goal.returns-then-not-is_empty
 returns-then-not-is_empty g c =
     let grid : Grid = g.B.Board.grid c.args.before.now in
     let test : ℕ → Bool = is_left c.args.game.now.names grid (g.B.Board.grid c.args.after.now) in
-    let within : c.in-Some.row < grid.height = taken_below c.loop-row.left c.take_first.new.self grid.height c.in-Some.row c.in-Some.ensures.some c.loop-row.invariant.low in
-    sym (row_number_passes test grid.width grid.height c.in-Some.row c.left_columns.result within c.left_columns.ensures (c.is_empty.ensures.some c.if-not-is_empty.true))
+    let within : c.in-Some.row < grid.height =
+    taken_below c.loop-row.left c.take_first.new.self grid.height c.in-Some.row c.in-Some.ensures.some
+    c.loop-row.invariant.low in
+    sym (row_number_passes test grid.width grid.height c.in-Some.row c.left_columns.result within
+    c.left_columns.ensures (c.is_empty.ensures.some c.if-not-is_empty.true))
 
 pub loop-row-preserved : goal.loop-row-preserved
 loop-row-preserved g c =
     let grid : Grid = g.B.Board.grid c.args.before.now in
     let test : ℕ → Bool = is_left c.args.game.now.names grid (g.B.Board.grid c.args.after.now) in
     record {
-      low = below-more c.loop-row.left c.take_first.new.self grid.height c.in-Some.row c.in-Some.ensures.some c.loop-row.invariant.low;
+      low = below-more c.loop-row.left c.take_first.new.self grid.height c.in-Some.row c.in-Some.ensures.some
+          c.loop-row.invariant.low;
       passed =
-          passed-more (λ row. (x : ℕ) → x < grid.width → test (x * grid.height + row) ≡ false) c.loop-row.left c.take_first.new.self grid.height c.in-Some.row c.size-height.ensures.shape.rows
+          passed-more (λ row. (x : ℕ) → x < grid.width →
+          test (x * grid.height + row) ≡ false) c.loop-row.left c.take_first.new.self grid.height c.in-Some.row
+          c.size-height.ensures.shape.rows
           c.in-Some.ensures.some
-          (row_without test grid.width grid.height c.in-Some.row c.left_columns.result c.size-height.ensures.shape.columns c.left_columns.ensures (c.is_empty.ensures.none c.if-not-is_empty.false))
+          (row_without test grid.width grid.height c.in-Some.row c.left_columns.result
+          c.size-height.ensures.shape.columns c.left_columns.ensures
+          (c.is_empty.ensures.none c.if-not-is_empty.false))
           c.loop-row.invariant.passed;
     }
 
@@ -62,5 +79,7 @@ returns g c =
     let test : ℕ → Bool = is_left c.args.game.now.names grid (g.B.Board.grid c.args.after.now) in
     sym (no_number_passes test grid.width grid.height c.size-height.ensures.shape.some_row
     (λ x row across down.
-    passed-all (λ row. (x : ℕ) → x < grid.width → test (x * grid.height + row) ≡ false) c.loop-row.left grid.height row c.size-height.ensures.shape.rows (c.in_default.ensures.none refl)
+    passed-all (λ row. (x : ℕ) → x < grid.width →
+    test (x * grid.height + row) ≡ false) c.loop-row.left grid.height row c.size-height.ensures.shape.rows
+    (c.in_default.ensures.none refl)
     c.loop-row.invariant.passed down x across))

@@ -11,7 +11,8 @@ invariant-loop-row g l =
     let grid : Grid = g.B.Board.grid l.before in
     record {
       low : AreBelow grid.height l.left;
-      passed : ArePassed (λ row. (x : ℕ) → x < grid.width → is_left l.game.names grid (g.B.Board.grid l.after) (x * grid.height + row) ≡ false) grid.height l.left;
+      passed : ArePassed (λ row. (x : ℕ) → x < grid.width →
+          is_left l.game.names grid (g.B.Board.grid l.after) (x * grid.height + row) ≡ false) grid.height l.left;
     }
 
 abbrev pub decreases-loop-row : goal.decreases-loop-row

@@ -11,7 +11,8 @@ invariant-loop-row g l =
     let grid : Grid = g.B.Board.grid l.board in
     record {
       low : AreBelow grid.height l.left;
-      passed : ArePassed (λ row. (x : ℕ) → x < grid.width → has_player_at l.game.names grid (x * grid.height + row) ≡ false) grid.height l.left;
+      passed : ArePassed (λ row. (x : ℕ) → x < grid.width →
+          has_player_at l.game.names grid (x * grid.height + row) ≡ false) grid.height l.left;
     }
 
 abbrev pub decreases-loop-row : goal.decreases-loop-row

@@ -13,5 +13,7 @@ pub returns : goal.returns
 returns g c =
     let grid : Grid = g.B.Board.grid c.args.board.now in
     let objects : List ObjectId = players c.args.game.now.names in
-    rows_agree (list_any (holds_any objects)) (has_player c.args.game.now.names) grid c.args.row c.columns_with.result (cell_has_any_of objects)
-    (c.columns_with.ensures ∙ ap (λ (objects : List ObjectId). row_cells (list_any (holds_any objects)) grid c.args.row) c.players.ensures)
+    rows_agree (list_any (holds_any objects)) (has_player c.args.game.now.names) grid c.args.row c.columns_with.result
+    (cell_has_any_of objects)
+    (c.columns_with.ensures ∙ ap (λ (objects : List ObjectId).
+    row_cells (list_any (holds_any objects)) grid c.args.row) c.players.ensures)

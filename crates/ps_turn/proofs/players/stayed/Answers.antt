@@ -12,7 +12,8 @@ returns-then-is_there g c =
     let names : Names = c.args.game.now.names in
     let before : Grid = g.B.Board.grid c.args.before.now in
     let after : Grid = g.B.Board.grid c.args.after.now in
-    sym (stayed_by names before after ∙ ap₂ (λ (there gone : Bool). there && not gone) (sym c.is_there.ensures ∙ c.if-is_there.true) (sym c.has_left.ensures))
+    sym (stayed_by names before after ∙ ap₂ (λ (there gone : Bool). there && not gone) (sym c.is_there.ensures
+    ∙ c.if-is_there.true) (sym c.has_left.ensures))
 
 pub returns-else-is_there : goal.returns-else-is_there
 returns-else-is_there g c =
@@ -20,4 +21,5 @@ returns-else-is_there g c =
     let before : Grid = g.B.Board.grid c.args.before.now in
     let after : Grid = g.B.Board.grid c.args.after.now in
     let gone : Bool = list_any (is_left names before after) (range_with_len 0 (cell_count before)) in
-    c.if-is_there.false ∙ sym (stayed_by names before after ∙ ap (λ (there : Bool). there && not gone) (sym c.is_there.ensures ∙ c.if-is_there.false))
+    c.if-is_there.false ∙ sym (stayed_by names before after
+    ∙ ap (λ (there : Bool). there && not gone) (sym c.is_there.ensures ∙ c.if-is_there.false))

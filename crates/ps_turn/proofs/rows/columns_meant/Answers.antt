@@ -15,14 +15,18 @@ pub returns-in-One : goal.returns-in-One
 returns-in-One g c =
     let grid : Grid = g.B.Board.grid c.args.board.now in
     let object : ObjectId = c.in-One.object in
-    rows_agree (list_any (holds_any (object ∷ []))) (is_in (One object)) grid c.args.row c.columns_with.result (cell_has_one object)
-    (c.columns_with.ensures ∙ ap (λ (objects : List ObjectId). row_cells (list_any (holds_any objects)) grid c.args.row) c.from_ref.ensures.value)
+    rows_agree (list_any (holds_any (object ∷ []))) (is_in (One object)) grid c.args.row c.columns_with.result
+    (cell_has_one object)
+    (c.columns_with.ensures ∙ ap (λ (objects : List ObjectId).
+    row_cells (list_any (holds_any objects)) grid c.args.row) c.from_ref.ensures.value)
     ∙ ap (λ (meaning : Meaning). row_cells (is_in (meaning_shown meaning)) grid c.args.row) (sym c.in-One.is)
 
 pub returns-in-Any : goal.returns-in-Any
 returns-in-Any g c =
     let grid : Grid = g.B.Board.grid c.args.board.now in
     let objects : List ObjectId = c.in-Any.objects in
-    rows_agree (list_any (holds_any objects)) (is_in (AnyOf c.in-Any.line objects)) grid c.args.row c.columns_with-in-Any.result (cell_has_some objects)
-    (c.columns_with-in-Any.ensures ∙ ap (λ (objects : List ObjectId). row_cells (list_any (holds_any objects)) grid c.args.row) c.as_slice-in-Any.ensures)
+    rows_agree (list_any (holds_any objects)) (is_in (AnyOf c.in-Any.line objects)) grid c.args.row
+    c.columns_with-in-Any.result (cell_has_some objects)
+    (c.columns_with-in-Any.ensures ∙ ap (λ (objects : List ObjectId).
+    row_cells (list_any (holds_any objects)) grid c.args.row) c.as_slice-in-Any.ensures)
     ∙ ap (λ (meaning : Meaning). row_cells (is_in (meaning_shown meaning)) grid c.args.row) (sym c.in-Any.is)

@@ -16,14 +16,20 @@ pub returns-in-One : goal.returns-in-One
 returns-in-One g c =
     let grid : Grid = g.B.Board.grid c.args.board.now in
     let object : ObjectId = c.in-One.object in
-    subst (λ (meaning : Meaning). NonePassOutside (is_in (meaning_shown meaning)) grid c.rows_with.result) (sym c.in-One.is)
-    (outside_agree (list_any (holds_any (object ∷ []))) (is_in (One object)) grid c.rows_with.result (cell_has_one object)
-    (subst (λ (objects : List ObjectId). NonePassOutside (list_any (holds_any objects)) grid c.rows_with.result) c.from_ref.ensures.value c.rows_with.ensures))
+    subst (λ (meaning : Meaning). NonePassOutside (is_in (meaning_shown meaning)) grid c.rows_with.result)
+    (sym c.in-One.is)
+    (outside_agree (list_any (holds_any (object ∷ []))) (is_in (One object)) grid c.rows_with.result
+    (cell_has_one object)
+    (subst (λ (objects : List ObjectId). NonePassOutside (list_any (holds_any objects)) grid c.rows_with.result)
+    c.from_ref.ensures.value c.rows_with.ensures))
 
 pub returns-in-Any : goal.returns-in-Any
 returns-in-Any g c =
     let grid : Grid = g.B.Board.grid c.args.board.now in
     let objects : List ObjectId = c.in-Any.objects in
-    subst (λ (meaning : Meaning). NonePassOutside (is_in (meaning_shown meaning)) grid c.rows_with-in-Any.result) (sym c.in-Any.is)
-    (outside_agree (list_any (holds_any objects)) (is_in (AnyOf c.in-Any.line objects)) grid c.rows_with-in-Any.result (cell_has_some objects)
-    (subst (λ (objects : List ObjectId). NonePassOutside (list_any (holds_any objects)) grid c.rows_with-in-Any.result) c.as_slice-in-Any.ensures c.rows_with-in-Any.ensures))
+    subst (λ (meaning : Meaning). NonePassOutside (is_in (meaning_shown meaning)) grid c.rows_with-in-Any.result)
+    (sym c.in-Any.is)
+    (outside_agree (list_any (holds_any objects)) (is_in (AnyOf c.in-Any.line objects)) grid c.rows_with-in-Any.result
+    (cell_has_some objects)
+    (subst (λ (objects : List ObjectId). NonePassOutside (list_any (holds_any objects)) grid c.rows_with-in-Any.result)
+    c.as_slice-in-Any.ensures c.rows_with-in-Any.ensures))

@@ -12,10 +12,13 @@ loop-index-init g c = each-none (g.B.Board.grid c.args.board.now) c.below-common
 
 pub loop-index-preserved : goal.loop-index-preserved
 loop-index-preserved g c =
-    each-more (g.B.Board.grid c.args.board.now) c.args.objects.now c.loop-index.index _ c.loop-index.common c.rows_holding.result c.both-common.result c.size-width.ensures.shape c.loop-index-test.true
-    (get_or_default c.args.objects.now c.loop-index.index _ _ c.loop-index-test.true) c.both-common.ensures c.loop-index.invariant c.rows_holding.ensures
+    each-more (g.B.Board.grid c.args.board.now) c.args.objects.now c.loop-index.index _ c.loop-index.common
+    c.rows_holding.result c.both-common.result c.size-width.ensures.shape c.loop-index-test.true
+    (get_or_default c.args.objects.now c.loop-index.index _ _ c.loop-index-test.true) c.both-common.ensures
+    c.loop-index.invariant c.rows_holding.ensures
 
 pub returns : goal.returns
 returns g c =
-    subst (λ (objects : List ObjectId). NonePassOutside (has_each objects) (g.B.Board.grid c.args.board.now) c.loop-index.common)
+    subst (λ (objects : List ObjectId). NonePassOutside (has_each objects) (g.B.Board.grid c.args.board.now)
+    c.loop-index.common)
     (take_all c.loop-index.index c.args.objects.now c.loop-index-test.false) c.loop-index.invariant

@@ -12,4 +12,5 @@ returns g c =
     c.both.ensures
     ∙ ap (λ (columns : List Bool). both_columns columns c.row_columns.result) c.below.ensures
     ∙ ap (λ (width : ℕ). both_columns (columns_below width) c.row_columns.result) c.size-width.ensures.width
-    ∙ within-known grid.width c.row_columns.result (λ x. list_any (holds_any c.args.objects.now) (cell_at grid (x * grid.height + c.args.row))) c.row_columns.ensures
+    ∙ within-known grid.width c.row_columns.result (λ x.
+    list_any (holds_any c.args.objects.now) (cell_at grid (x * grid.height + c.args.row))) c.row_columns.ensures

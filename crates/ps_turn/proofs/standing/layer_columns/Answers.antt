@@ -10,11 +10,14 @@ use Rattle.ps_turn.proofs.standing.layer_columns.Goals as goal
 pub loop-index-preserved : goal.loop-index-preserved
 loop-index-preserved g c =
     c.either-holding.ensures
-    ∙ layer_more (g.B.Board.grid c.args.board.now) c.args.objects.now c.args.layer.0 c.args.row c.loop-index.index c.loop-index.holding c.holders.result _
-    c.loop-index-test.true (get_or_default c.args.objects.now c.loop-index.index _ _ c.loop-index-test.true) c.loop-index.invariant c.holders.ensures
+    ∙ layer_more (g.B.Board.grid c.args.board.now) c.args.objects.now c.args.layer.0 c.args.row c.loop-index.index
+    c.loop-index.holding c.holders.result _
+    c.loop-index-test.true (get_or_default c.args.objects.now c.loop-index.index _ _ c.loop-index-test.true)
+    c.loop-index.invariant c.holders.ensures
 
 pub returns : goal.returns
 returns g c =
     let grid : Grid = g.B.Board.grid c.args.board.now in
     c.loop-index.invariant
-    ∙ ap (λ (objects : List ObjectId). row_slots (holds_any objects) grid c.args.layer.0 c.args.row) (take_all c.loop-index.index c.args.objects.now c.loop-index-test.false)
+    ∙ ap (λ (objects : List ObjectId). row_slots (holds_any objects) grid c.args.layer.0 c.args.row)
+    (take_all c.loop-index.index c.args.objects.now c.loop-index-test.false)

@@ -9,4 +9,5 @@ use Rattle.ps_turn.proofs.standing.row_columns.Given as goal
 abbrev pub invariant-loop-layer : goal.invariant-loop-layer
 invariant-loop-layer g l =
     let grid : Grid = g.B.Board.grid l.board in
-    (x : ℕ) → x < grid.width → column_at l.holding x ≡ list_any (holds_any l.objects) (take l.layer (cell_at grid (x * grid.height + l.row)))
+    (x : ℕ) → x < grid.width → column_at l.holding x ≡ list_any (holds_any l.objects)
+    (take l.layer (cell_at grid (x * grid.height + l.row)))

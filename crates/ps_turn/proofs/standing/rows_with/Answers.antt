@@ -12,10 +12,13 @@ loop-index-init g c = held-none (g.B.Board.grid c.args.board.now) c.none-rows.re
 
 pub loop-index-preserved : goal.loop-index-preserved
 loop-index-preserved g c =
-    held-more (g.B.Board.grid c.args.board.now) c.args.objects.now c.loop-index.index _ c.loop-index.rows c.rows_holding.result c.either-rows.result c.size.ensures.shape c.loop-index-test.true
-    (get_or_default c.args.objects.now c.loop-index.index _ _ c.loop-index-test.true) c.either-rows.ensures c.loop-index.invariant c.rows_holding.ensures
+    held-more (g.B.Board.grid c.args.board.now) c.args.objects.now c.loop-index.index _ c.loop-index.rows
+    c.rows_holding.result c.either-rows.result c.size.ensures.shape c.loop-index-test.true
+    (get_or_default c.args.objects.now c.loop-index.index _ _ c.loop-index-test.true) c.either-rows.ensures
+    c.loop-index.invariant c.rows_holding.ensures
 
 pub returns : goal.returns
 returns g c =
-    subst (λ (objects : List ObjectId). NonePassOutside (list_any (holds_any objects)) (g.B.Board.grid c.args.board.now) c.loop-index.rows)
+    subst (λ (objects : List ObjectId). NonePassOutside (list_any (holds_any objects))
+    (g.B.Board.grid c.args.board.now) c.loop-index.rows)
     (take_all c.loop-index.index c.args.objects.now c.loop-index-test.false) c.loop-index.invariant

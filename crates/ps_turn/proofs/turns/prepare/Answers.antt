@@ -12,5 +12,6 @@ pub returns-in-Some-clause-prepared : goal.returns-in-Some-clause-prepared
 returns-in-Some-clause-prepared g c =
     let start : Grid = g.B.Board.grid c.args.board.now in
     c.give_motion.ensures.moved
-    ∙ ap₂ (λ (moved : List ObjectId) (motion : Motion). with_motion moved motion start) c.players.ensures c.motion_for.ensures
+    ∙ ap₂ (λ (moved : List ObjectId) (motion : Motion).
+    with_motion moved motion start) c.players.ensures c.motion_for.ensures
     ∙ ap (λ (input : Option Input). prepared c.args.game.now.names input start) (sym c.in-Some.is)

@@ -16,6 +16,7 @@ returns-in-Ok-clause-outcome g c =
     c.outcome.ensures.outcome
     ∙ ap (outcome_of script c.args.input before)
     (c.in-Ok.ensures.played
-    ∙ ap (λ (t : Option (List ℕ)). played (script_with c.args.game.now (plain t) (late t)) c.args.input (g.B.Board.grid c.args.after.now)) c.requires.table
+    ∙ ap (λ (t : Option (List ℕ)). played (script_with c.args.game.now (plain t) (late t)) c.args.input
+    (g.B.Board.grid c.args.after.now)) c.requires.table
     ∙ ap (played script c.args.input) c.requires.equal)
     ∙ sym (turns_are_outcomes script c.args.input before)

@@ -11,7 +11,8 @@ returns-then-is_empty g c =
     let grid : Grid = g.B.Board.grid c.args.board.now in
     let subject : Meaning = meaning_shown c.args.win.now.subject in
     let place : Option Meaning = option_map meaning_shown c.args.win.now.place in
-    rows_none (is_in subject) (is_place place) grid c.args.row c.columns_meant-with_subject.result c.columns_meant-with_subject.ensures (c.is_empty.ensures.none c.if-is_empty.true)
+    rows_none (is_in subject) (is_place place) grid c.args.row c.columns_meant-with_subject.result
+    c.columns_meant-with_subject.ensures (c.is_empty.ensures.none c.if-is_empty.true)
 
 pub returns : goal.returns
 returns g c =
@@ -19,4 +20,5 @@ returns g c =
     let subject : Meaning = meaning_shown c.args.win.now.subject in
     let place : Option Meaning = option_map meaning_shown c.args.win.now.place in
     c.both.ensures
-    ∙ rows_met (is_in subject) (is_place place) grid c.args.row c.columns_meant-with_subject.result c.columns_of_place.result c.columns_meant-with_subject.ensures c.columns_of_place.ensures
+    ∙ rows_met (is_in subject) (is_place place) grid c.args.row c.columns_meant-with_subject.result
+    c.columns_of_place.result c.columns_meant-with_subject.ensures c.columns_of_place.ensures

@@ -12,7 +12,9 @@ invariant-loop-row g l =
     let grid : Grid = g.B.Board.grid l.board in
     record {
       low : AreBelow grid.height l.left;
-      passed : ArePassed (λ row. (x : ℕ) → x < grid.width → is_met (meaning_shown l.win.subject) (option_map meaning_shown l.win.place) (cell_at grid (x * grid.height + row)) ≡ false) grid.height l.left;
+      passed : ArePassed (λ row. (x : ℕ) → x < grid.width →
+          is_met (meaning_shown l.win.subject) (option_map meaning_shown l.win.place)
+          (cell_at grid (x * grid.height + row)) ≡ false) grid.height l.left;
     }
 
 abbrev pub decreases-loop-row : goal.decreases-loop-row

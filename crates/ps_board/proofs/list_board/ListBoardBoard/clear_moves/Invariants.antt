@@ -4,4 +4,5 @@ use Rattle.ps_board.proofs.list_board.ListBoardBoard.clear_moves.Given as goal
 
 -- the slots passed by are at rest
 abbrev pub invariant-loop-slot : goal.invariant-loop-slot
-invariant-loop-slot l = l.slot-items ≡ map slot_at_rest (take l.slot-index l.initial.slot-items) ++ drop l.slot-index l.initial.slot-items
+invariant-loop-slot l = l.slot-items ≡ map slot_at_rest (take l.slot-index l.initial.slot-items) ++ drop l.slot-index
+    l.initial.slot-items

@@ -11,7 +11,9 @@ loop-column-preserved c =
     let o = c.args.other.now in
     let same : ℕ → Type 0 = λ column.
     objects_in (get_or (first_chunks b.layers (b.width * b.height) b.slots.items) (column * b.height + c.args.row) [])
-    ≡ objects_in (get_or (first_chunks o.layers (o.width * o.height) o.slots.items) (column * b.height + c.args.row) []) in
+    ≡ objects_in (get_or (first_chunks o.layers (o.width * o.height) o.slots.items) (column * b.height + c.args.row)
+    []) in
     let low : c.loop-column.column < SIDE_LIMIT = omega (arith, c.loop-column-test.true, b.columns) in
     rw c.with-differing.ensures
-    (one_differs same c.loop-column.differing c.loop-column.column c.same_cell-same.result low c.same_cell-same.ensures c.loop-column.invariant)
+    (one_differs same c.loop-column.differing c.loop-column.column c.same_cell-same.result low c.same_cell-same.ensures
+    c.loop-column.invariant)

@@ -8,5 +8,7 @@ use Rattle.ps_board.proofs.list_board.ListBoardBoard.differing.Given as goal
 abbrev pub invariant-loop-column : goal.invariant-loop-column
 invariant-loop-column l =
     (column : ℕ) → column < l.column → column_at l.differing column ≡ false →
-    objects_in (get_or (first_chunks l.self.layers (l.self.width * l.self.height) l.self.slots.items) (column * l.self.height + l.row) [])
-    ≡ objects_in (get_or (first_chunks l.other.layers (l.other.width * l.other.height) l.other.slots.items) (column * l.self.height + l.row) [])
+    objects_in (get_or (first_chunks l.self.layers (l.self.width * l.self.height) l.self.slots.items)
+    (column * l.self.height + l.row) [])
+    ≡ objects_in (get_or (first_chunks l.other.layers (l.other.width * l.other.height) l.other.slots.items)
+    (column * l.self.height + l.row) [])

@@ -8,4 +8,5 @@ use Rattle.ps_board.proofs.list_board.ListBoardBoard.holders.Given as goal
 abbrev pub invariant-loop-column : goal.invariant-loop-column
 invariant-loop-column l =
     l.holding
-    ≡ scanned (λ x. slot_holds l.object (slot_in l.self.layers (l.self.width * l.self.height) l.self.slots.items (x * l.self.height + l.row) l.layer.0)) l.column
+    ≡ scanned (λ x. slot_holds l.object (slot_in l.self.layers (l.self.width * l.self.height) l.self.slots.items
+    (x * l.self.height + l.row) l.layer.0)) l.column

@@ -8,4 +8,5 @@ use Rattle.ps_board.proofs.list_board.ListBoardBoard.movers.Given as goal
 abbrev pub invariant-loop-column : goal.invariant-loop-column
 invariant-loop-column l =
     l.moving
-    ≡ scanned (λ x. is_moving (slot_in l.self.layers (l.self.width * l.self.height) l.self.slots.items (x * l.self.height + l.row) l.layer.0)) l.column
+    ≡ scanned (λ x. is_moving (slot_in l.self.layers (l.self.width * l.self.height) l.self.slots.items
+    (x * l.self.height + l.row) l.layer.0)) l.column

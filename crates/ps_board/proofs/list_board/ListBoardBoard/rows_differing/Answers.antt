@@ -2,4 +2,5 @@ use Rattle.ps_board.proofs.AllRows.{none_outside}
 use Rattle.ps_board.proofs.list_board.ListBoardBoard.rows_differing.Goals as goal
 
 pub returns : goal.returns
-returns c = λ row under none. absurd (none_outside c.args.self.now.height c.below.result c.args.self.now.rows c.below.ensures row under none)
+returns c = λ row under none. absurd (none_outside c.args.self.now.height c.below.result c.args.self.now.rows
+    c.below.ensures row under none)

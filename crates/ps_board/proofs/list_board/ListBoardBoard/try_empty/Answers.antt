@@ -11,5 +11,7 @@ pub returns-clause-grid : goal.returns-clause-grid
 returns-clause-grid c =
     let n : ℕ = c.args.width * c.args.height in
     let made : c.in_ok-slots.slots.items ≡ replicate (n * c.args.layers) Bare = search (rules, common_steps) in
-    ap (λ (cells : List (List Slot)). let g : Grid = record { width = c.args.width; height = c.args.height; layers = c.args.layers; cells = cells } in g)
-    (ap (λ (xs : List Slot). first_chunks c.args.layers n xs) made ∙ first_chunks-replicate c.args.layers n (n * c.args.layers) Bare refl)
+    ap (λ (cells : List (List Slot)). let g : Grid =
+    record { width = c.args.width; height = c.args.height; layers = c.args.layers; cells = cells } in g)
+    (ap (λ (xs : List Slot). first_chunks c.args.layers n xs) made
+    ∙ first_chunks-replicate c.args.layers n (n * c.args.layers) Bare refl)

@@ -12,20 +12,26 @@ pub returns-then-contains_key-clause-again : goal.returns-then-contains_key-clau
 returns-then-contains_key-clause-again c =
     let name : List ℕ = folded c.args.written.now in
     let same : c.as_str.result.now ≡ name = search rules in
-    let found : is_some (lookup (λ k. bytes_eq name (string_bytes k)) c.self.inside.names.entries) ≡ true = rw (← same) (sym c.if-contains_key.ensures) in
-    sym (sym (is_some-lookup-shown name c.self.inside.names.entries ∙ ap (λ (d : List Named). list_any (bytes_eq name) (keys d)) c.self.view_is) ∙ found)
+    let found : is_some (lookup (λ k. bytes_eq name (string_bytes k)) c.self.inside.names.entries) ≡ true =
+    rw (← same) (sym c.if-contains_key.ensures) in
+    sym (sym (is_some-lookup-shown name c.self.inside.names.entries
+    ∙ ap (λ (d : List Named). list_any (bytes_eq name) (keys d)) c.self.view_is) ∙ found)
 
 pub returns-clause-again : goal.returns-clause-again
 returns-clause-again c =
     let name : List ℕ = folded c.args.written.now in
     let same : c.as_str.result.now ≡ name = search rules in
-    let none : is_some (lookup (λ k. bytes_eq name (string_bytes k)) c.self.inside.names.entries) ≡ false = rw (← same) (sym c.if-contains_key.ensures) in
-    sym (sym (is_some-lookup-shown name c.self.inside.names.entries ∙ ap (λ (d : List Named). list_any (bytes_eq name) (keys d)) c.self.view_is) ∙ none)
+    let none : is_some (lookup (λ k. bytes_eq name (string_bytes k)) c.self.inside.names.entries) ≡ false =
+    rw (← same) (sym c.if-contains_key.ensures) in
+    sym (sym (is_some-lookup-shown name c.self.inside.names.entries
+    ∙ ap (λ (d : List Named). list_any (bytes_eq name) (keys d)) c.self.view_is) ∙ none)
 
 pub returns-clause-new : goal.returns-clause-new
 returns-clause-new c = λ _.
     let name : List ℕ = folded c.args.written.now in
     let same : c.as_str.result.now ≡ name = search rules in
-    let none : is_some (lookup (λ k. bytes_eq name (string_bytes k)) c.self.inside.names.entries) ≡ false = rw (← same) (sym c.if-contains_key.ensures) in
-    insert-named c.self.inside.names c.insert.new.self.entries c.in_ok-name.name c.one_character-character.result c.args.mention c.args.written.now c.args.self.now
+    let none : is_some (lookup (λ k. bytes_eq name (string_bytes k)) c.self.inside.names.entries) ≡ false =
+    rw (← same) (sym c.if-contains_key.ensures) in
+    insert-named c.self.inside.names c.insert.new.self.entries c.in_ok-name.name c.one_character-character.result
+    c.args.mention c.args.written.now c.args.self.now
     c.self.view_is c.in_ok-insert.ensures.entries c.in_ok-name.ensures.ok c.one_character-character.ensures none

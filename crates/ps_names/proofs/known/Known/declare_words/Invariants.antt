@@ -7,6 +7,8 @@ use Rattle.ps_names.proofs.known.Known.declare_words.Given as goal
 abbrev pub invariant-loop-word : goal.invariant-loop-word
 invariant-loop-word l =
     record {
-      again : are_declared_again (keys l.self) (map text_of (drop l.word-index l.words)) ≡ are_declared_again (keys l.initial.self) (map text_of l.words);
-      new : l.self ++ map (named_as (mention_shown l.mention)) (map text_of (drop l.word-index l.words)) ≡ l.initial.self ++ map (named_as (mention_shown l.mention)) (map text_of l.words);
+      again : are_declared_again (keys l.self) (map text_of (drop l.word-index l.words)) ≡ are_declared_again
+          (keys l.initial.self) (map text_of l.words);
+      new : l.self ++ map (named_as (mention_shown l.mention)) (map text_of (drop l.word-index l.words)) ≡
+          l.initial.self ++ map (named_as (mention_shown l.mention)) (map text_of l.words);
     }

@@ -6,6 +6,7 @@ use Rattle.ps_names.proofs.reach.Reach.wait_for.Given as goal
 abbrev pub invariant-loop-behind : goal.invariant-loop-behind
 invariant-loop-behind l =
     record {
-      waits : waiting l.self ≡ mentions_shown (drop (length l.mentions - l.behind) l.mentions) ++ waiting l.initial.self;
+      waits : waiting l.self ≡ mentions_shown (drop (length l.mentions - l.behind) l.mentions) ++ waiting
+          l.initial.self;
       reached : reached_shown l.self ≡ reached_shown l.initial.self;
     }

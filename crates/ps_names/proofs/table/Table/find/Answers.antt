@@ -16,5 +16,7 @@ returns c =
     let known : List Named = c.self.inside.known in
     let none : slice_get known c.loop-place.place ≡ None = slice_get_past known c.loop-place.place (omega arith) in
     let end : drop c.loop-place.place c.args.self.now ≡ [] =
-    ap (λ (t : List (Named × Option Meaning)). drop c.loop-place.place t) (sym c.self.view_is) ∙ zip-left known (meanings_shown c.self.inside.meanings.items) c.loop-place.place none in
-    ap (λ (t : List (Named × Option Meaning)). lookup (bytes_eq (folded c.args.name.now)) (entries_with t)) (sym end) ∙ c.loop-place.invariant
+    ap (λ (t : List (Named × Option Meaning)). drop c.loop-place.place t) (sym c.self.view_is)
+    ∙ zip-left known (meanings_shown c.self.inside.meanings.items) c.loop-place.place none in
+    ap (λ (t : List (Named × Option Meaning)). lookup (bytes_eq (folded c.args.name.now)) (entries_with t)) (sym end)
+    ∙ c.loop-place.invariant

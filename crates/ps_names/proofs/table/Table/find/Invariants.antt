@@ -6,4 +6,5 @@ use Rattle.ps_names.specs.Tables.{entries_with}
 use Rattle.ps_names.proofs.table.Table.find.Given as goal
 
 abbrev pub invariant-loop-place : goal.invariant-loop-place
-invariant-loop-place l = lookup (bytes_eq (folded l.name)) (entries_with (drop l.place l.self)) ≡ lookup (bytes_eq (folded l.name)) (entries_with l.self)
+invariant-loop-place l = lookup (bytes_eq (folded l.name)) (entries_with (drop l.place l.self)) ≡ lookup
+    (bytes_eq (folded l.name)) (entries_with l.self)

@@ -16,6 +16,8 @@ returns c =
     let known : List Named = c.self.inside.known in
     let none : slice_get known c.loop-place.place ≡ None = slice_get_past known c.loop-place.place (omega arith) in
     let end : drop c.loop-place.place c.args.self.now ≡ [] =
-    ap (λ (t : List (Named × Option Meaning)). drop c.loop-place.place t) (sym c.self.view_is) ∙ zip-left known (meanings_shown c.self.inside.meanings.items) c.loop-place.place none in
+    ap (λ (t : List (Named × Option Meaning)). drop c.loop-place.place t) (sym c.self.view_is)
+    ∙ zip-left known (meanings_shown c.self.inside.meanings.items) c.loop-place.place none in
     sym (append-nil (glyphs_shown c.loop-place.made.items))
-    ∙ ap (λ (t : List (Named × Option Meaning)). glyphs_shown c.loop-place.made.items ++ filter_map glyph_named t) (sym end) ∙ c.loop-place.invariant
+    ∙ ap (λ (t : List (Named × Option Meaning)).
+    glyphs_shown c.loop-place.made.items ++ filter_map glyph_named t) (sym end) ∙ c.loop-place.invariant

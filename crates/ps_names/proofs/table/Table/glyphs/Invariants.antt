@@ -5,4 +5,5 @@ use Rattle.ps_names.specs.Tables.{glyph_named}
 use Rattle.ps_names.proofs.table.Table.glyphs.Given as goal
 
 abbrev pub invariant-loop-place : goal.invariant-loop-place
-invariant-loop-place l = glyphs_shown l.made.items ++ filter_map glyph_named (drop l.place l.self) ≡ filter_map glyph_named l.self
+invariant-loop-place l = glyphs_shown l.made.items ++ filter_map glyph_named (drop l.place l.self) ≡ filter_map
+    glyph_named l.self

@@ -4,4 +4,5 @@ use Rattle.ps_names.specs.Tables.{meaning_with}
 use Rattle.ps_names.proofs.table.Table.new.Given as goal
 
 abbrev pub invariant-loop-place : goal.invariant-loop-place
-invariant-loop-place l = meanings_shown l.meanings.items ++ map (meaning_with (meanings_shown l.legend)) (drop l.place l.fn.known) ≡ map (meaning_with (meanings_shown l.legend)) l.fn.known
+invariant-loop-place l = meanings_shown l.meanings.items ++ map (meaning_with (meanings_shown l.legend))
+    (drop l.place l.fn.known) ≡ map (meaning_with (meanings_shown l.legend)) l.fn.known

@@ -16,11 +16,15 @@ returns-in-Some-clause-found g c = λ yes.
     let few : length c.args.row.now.parts ≤ 3 = c.args.row.now.few in
     let same : length c.as_slice-count.result.now ≡ length c.args.row.now.parts = ap length c.as_slice-count.ensures in
     let long : length c.seek.new.way ≡ length c.args.row.now.parts =
-    c.in-Some.ensures.long ∙ length-take-le (length c.as_slice-count.result.now) c.args.self.now.way (omega (arith, few, room, same)) ∙ same in
+    c.in-Some.ensures.long ∙ length-take-le (length c.as_slice-count.result.now) c.args.self.now.way
+    (omega (arith, few, room, same)) ∙ same in
     let found = rw c.as_slice-starts.ensures.value at c.in-Some.ensures.some in
-    found-in-front fits c.args.row.now.axis grid.height c.args.row.now.parts c.args.self.now.starts.items c.args.self.now.lines c.in-Some.line
-    (all_places grid.height c.args.row.now c.args.self.now) c.seek.new.way (drop (length c.as_slice-count.result.now) c.args.self.now.way) long
-    (ap (λ (ls : List ℕ). from_first fits (places_on_lines c.args.row.now.axis grid.height c.args.row.now.parts c.args.self.now.starts.items ls)) (sym (positions-all c.args.self.now.lines)) ∙ found)
+    found-in-front fits c.args.row.now.axis grid.height c.args.row.now.parts c.args.self.now.starts.items
+    c.args.self.now.lines c.in-Some.line
+    (all_places grid.height c.args.row.now c.args.self.now) c.seek.new.way
+    (drop (length c.as_slice-count.result.now) c.args.self.now.way) long
+    (ap (λ (ls : List ℕ). from_first fits (places_on_lines c.args.row.now.axis grid.height c.args.row.now.parts
+    c.args.self.now.starts.items ls)) (sym (positions-all c.args.self.now.lines)) ∙ found)
 
 pub returns-in-Some-clause-among : goal.returns-in-Some-clause-among
 returns-in-Some-clause-among g c = λ yes.
@@ -28,7 +32,8 @@ returns-in-Some-clause-among g c = λ yes.
     let few : length c.args.row.now.parts ≤ 3 = c.args.row.now.few in
     let same : length c.as_slice-count.result.now ≡ length c.args.row.now.parts = ap length c.as_slice-count.ensures in
     let long : length c.seek.new.way ≡ length c.args.row.now.parts =
-    c.in-Some.ensures.long ∙ length-take-le (length c.as_slice-count.result.now) c.args.self.now.way (omega (arith, few, room, same)) ∙ same in
+    c.in-Some.ensures.long ∙ length-take-le (length c.as_slice-count.result.now) c.args.self.now.way
+    (omega (arith, few, room, same)) ∙ same in
     let among = rw c.as_slice-starts.ensures.value at c.in-Some.ensures.among in
     among-in-front c.args.row.now.parts c.args.self.now.starts.items c.args.self.now.lines c.in-Some.line c.seek.new.way
     (drop (length c.as_slice-count.result.now) c.args.self.now.way) long among
@@ -38,4 +43,5 @@ returns-in-None-clause-none g c = λ out.
     let grid : Grid = g.B.Board.grid c.args.board.now in
     let fits : List ℕ → Bool = place_fits grid (g.B.Board.table c.args.board.now) c.args.row.now.parts in
     let none = rw c.as_slice-starts.ensures.value at (c.in-None.ensures.none refl) in
-    ap (λ (ls : List ℕ). from_first fits (places_on_lines c.args.row.now.axis grid.height c.args.row.now.parts c.args.self.now.starts.items ls)) (sym (positions-all c.args.self.now.lines)) ∙ none
+    ap (λ (ls : List ℕ). from_first fits (places_on_lines c.args.row.now.axis grid.height c.args.row.now.parts
+    c.args.self.now.starts.items ls)) (sym (positions-all c.args.self.now.lines)) ∙ none

@@ -13,7 +13,10 @@ returns-in-Some-clause-found g c = λ yes.
     let few : length c.args.row.now.parts ≤ 3 = c.args.row.now.few in
     let same : length c.as_slice-count.result.now ≡ length c.args.row.now.parts = ap length c.as_slice-count.ensures in
     let long : length c.seek_on.new.way ≡ length c.args.row.now.parts =
-    c.in-Some.ensures.long ∙ length-take-le (length c.as_slice-count.result.now) c.args.self.now.way (omega (arith, few, room, same)) ∙ same in
+    c.in-Some.ensures.long ∙ length-take-le (length c.as_slice-count.result.now) c.args.self.now.way
+    (omega (arith, few, room, same)) ∙ same in
     let found = rw (c.as_slice-starts.ensures.value, c.as_slice-count.ensures) at c.in-Some.ensures.some in
-    found-in-front fits c.args.row.now.axis grid.height c.args.row.now.parts c.args.self.now.starts.items c.args.self.now.lines c.in-Some.line
-    (places_behind grid.height c.args.row.now c.args.self.now) c.seek_on.new.way (drop (length c.as_slice-count.result.now) c.args.self.now.way) long found
+    found-in-front fits c.args.row.now.axis grid.height c.args.row.now.parts c.args.self.now.starts.items
+    c.args.self.now.lines c.in-Some.line
+    (places_behind grid.height c.args.row.now c.args.self.now) c.seek_on.new.way
+    (drop (length c.as_slice-count.result.now) c.args.self.now.way) long found

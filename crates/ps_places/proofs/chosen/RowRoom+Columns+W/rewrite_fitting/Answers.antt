@@ -22,7 +22,8 @@ loop-number-init g c =
     record {
       rewritten = refl;
       fit = sym
-          (place-fits-way grid (g.B.Board.table c.args.board.now) c.args.row.now.axis c.args.self.now.line parts way long)
+          (place-fits-way grid (g.B.Board.table c.args.board.now) c.args.row.now.axis c.args.self.now.line parts way
+          long)
           ∙ c.requires.fits;
       spaced = (0, c.requires.spaced);
       table = refl;

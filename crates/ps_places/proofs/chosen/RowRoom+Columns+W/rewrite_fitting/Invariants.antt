@@ -21,7 +21,8 @@ invariant-loop-number g l =
       fit :
           way_fits (g.B.Board.grid l.board) table l.row.axis l.self.line (drop l.number l.row.parts)
           (drop l.number (way_of l.row l.self)) ≡ true;
-      spaced : (from : ℕ) × IsSpaced (part_sizes (drop l.number l.row.parts)) from (drop l.number (way_of l.row l.self));
+      spaced : (from : ℕ) × IsSpaced (part_sizes (drop l.number l.row.parts)) from
+          (drop l.number (way_of l.row l.self));
       table : g.B.Board.table l.board ≡ table;
       sides : sides_of (g.B.Board.grid l.board) ≡ sides_of (g.B.Board.grid l.fn.board);
     }

@@ -10,18 +10,23 @@ set_cell-requires-clause-column g c = rw c.loop-plane.invariant.1 c.requires.col
 pub set_cell-requires-clause-plane : goal.set_cell-requires-clause-plane
 set_cell-requires-clause-plane g c =
     let below : c.loop-plane.plane-index < length c.args.planes.now = omega arith in
-    let whole : (get_or c.args.planes.now c.loop-plane.plane-index 0 + 1) * c.args.self.now.height ≤ length c.args.self.now.words.items =
-    c.requires.planes (get_or c.args.planes.now c.loop-plane.plane-index 0) (listed_at c.args.planes.now c.loop-plane.plane-index 0 below) in
-    let long : (get_or c.args.planes.now c.loop-plane.plane-index 0 + 1) * c.args.self.now.height ≤ c.args.self.now.words.len = omega (arith, whole, c.args.self.now.words.ok.0) in
+    let whole : (get_or c.args.planes.now c.loop-plane.plane-index 0 + 1) * c.args.self.now.height ≤ length
+    c.args.self.now.words.items =
+    c.requires.planes (get_or c.args.planes.now c.loop-plane.plane-index 0)
+    (listed_at c.args.planes.now c.loop-plane.plane-index 0 below) in
+    let long : (get_or c.args.planes.now c.loop-plane.plane-index 0 + 1) * c.args.self.now.height ≤
+    c.args.self.now.words.len = omega (arith, whole, c.args.self.now.words.ok.0) in
     rw (c.loop-plane.invariant.1, c.loop-plane.invariant.2) long
 
 pub loop-plane-preserved : goal.loop-plane-preserved
 loop-plane-preserved g c =
     let below : c.loop-plane.plane-index < length c.args.planes.now = omega arith in
     let plane : ℕ = get_or c.args.planes.now c.loop-plane.plane-index 0 in (
-      changed_more c.args.self.now.height c.args.cell c.args.chosen c.loop-plane.self.words.items _ c.args.planes.now c.loop-plane.plane-index _ below
+      changed_more c.args.self.now.height c.args.cell c.args.chosen c.loop-plane.self.words.items _ c.args.planes.now
+          c.loop-plane.plane-index _ below
           (c.set_cell.ensures.words
-          ∙ ap (λ (h : ℕ). with_cell h c.loop-plane.self.words.items c.args.cell plane c.is_chosen.result) c.loop-plane.invariant.1
+          ∙ ap (λ (h : ℕ). with_cell h c.loop-plane.self.words.items c.args.cell plane c.is_chosen.result)
+          c.loop-plane.invariant.1
           ∙ ap (with_cell c.args.self.now.height c.loop-plane.self.words.items c.args.cell plane) c.is_chosen.ensures)
           c.loop-plane.invariant.0,
       c.set_cell.ensures.height ∙ c.loop-plane.invariant.1,
@@ -31,7 +36,8 @@ loop-plane-preserved g c =
 pub returns-clause-words : goal.returns-clause-words
 returns-clause-words g c =
     let end : length c.args.planes.now ≤ c.loop-plane.plane-index = omega arith in
-    changed_all c.args.self.now.height c.args.cell c.args.chosen c.loop-plane.self.words.items c.args.planes.now c.loop-plane.plane-index _ end c.loop-plane.invariant.0
+    changed_all c.args.self.now.height c.args.cell c.args.chosen c.loop-plane.self.words.items c.args.planes.now
+    c.loop-plane.plane-index _ end c.loop-plane.invariant.0
 
 pub returns-clause-height : goal.returns-clause-height
 returns-clause-height g c = c.loop-plane.invariant.1

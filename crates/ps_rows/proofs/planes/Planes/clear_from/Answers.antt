@@ -9,5 +9,6 @@ returns-clause-words g c =
     let enough = behind_plane p.height p.index.len c.loop-plane.plane reached in
     let within : c.args.first * p.height ≤ length p.words.items = omega (arith, c.requires, p.words.ok.0) in
     let whole : length p.words.items ≤ c.loop-plane.plane * p.height = omega (arith, enough, p.whole, p.words.ok.0) in
-    all_cleared p.height c.args.first c.loop-plane.plane p.words.items c.loop-plane.self.words.items p.some_row within whole
+    all_cleared p.height c.args.first c.loop-plane.plane p.words.items c.loop-plane.self.words.items p.some_row within
+    whole
     (sym c.loop-plane.self.words.ok.0 ∙ c.loop-plane.invariant.2 ∙ p.words.ok.0) c.loop-plane.invariant.0

@@ -14,11 +14,15 @@ pub returns-then-is_empty-clause-words : goal.returns-then-is_empty-clause-words
 returns-then-is_empty-clause-words g c =
     let p = c.args.self.now in
     let plane : ℕ = c.args.plane in
-    let counted : plane < p.index.len = plane_indexed p.index.len p.height plane p.words.len p.some_row p.whole c.requires in
+    let counted : plane < p.index.len = plane_indexed p.index.len p.height plane p.words.len p.some_row p.whole
+    c.requires in
     let own : plane < length p.index.items = omega (arith, counted, p.index.ok.0) in
     let none : set_columns (row_of p.index.items plane) ≡ [] =
-    ap set_columns (sym (get_or_read p.index.items _ _ own c.index.ensures no_columns)) ∙ c.is_empty.ensures.none c.if-is_empty.true in
-    plane_blank p.height plane [] p.words.items (unmarked_plane p.index.len p.height plane p.words.items p.index.items p.rows counted p.marked none) (λ row under. refl)
+    ap set_columns (sym (get_or_read p.index.items _ _ own c.index.ensures no_columns))
+    ∙ c.is_empty.ensures.none c.if-is_empty.true in
+    plane_blank p.height plane [] p.words.items
+    (unmarked_plane p.index.len p.height plane p.words.items p.index.items p.rows counted p.marked none)
+    (λ row under. refl)
 
 pub invariant_of-self-clause-marked : goal.invariant_of-self-clause-marked
 invariant_of-self-clause-marked g c =
@@ -26,12 +30,16 @@ invariant_of-self-clause-marked g c =
     let left : List (List Bool) = c.clear_plane.new.words in
     let long : length left ≡ p.words.len = omega (arith, c.clear_plane.auto.words, c.as_mut_slice.ensures.len) in
     let B : List (List Bool) → Type 0 = λ ws. ArePlanesOf p.height c.args.plane (c.args.plane + 1) [] ws left in
-    let D : List (List Bool) → Type 0 = λ ws. ArePlanesOf p.height c.args.plane (c.args.plane + 1) [] p.words.items ws in
-    let changed : ArePlanesOf p.height c.args.plane (c.args.plane + 1) [] p.words.items (with_items p.words left).items =
+    let D : List (List Bool) → Type 0 = λ ws. ArePlanesOf p.height c.args.plane (c.args.plane + 1) [] p.words.items ws
+    in
+    let changed : ArePlanesOf p.height c.args.plane (c.args.plane + 1) [] p.words.items (with_items p.words left).items
+    =
     subst D (sym (with_items_is p.words left long)) (subst B c.as_mut_slice.ensures.value c.clear_plane.ensures) in
-    let counted : c.args.plane < p.index.len = plane_indexed p.index.len p.height c.args.plane p.words.len p.some_row p.whole c.requires in
+    let counted : c.args.plane < p.index.len =
+    plane_indexed p.index.len p.height c.args.plane p.words.len p.some_row p.whole c.requires in
     let own : c.args.plane < length p.index.items = omega (arith, counted, p.index.ok.0) in
-    marked_plane p.index.len p.height c.args.plane c.none.result [] p.words.items (with_items p.words left).items p.index.items own changed p.marked (λ row under clear. refl)
+    marked_plane p.index.len p.height c.args.plane c.none.result [] p.words.items (with_items p.words left).items
+    p.index.items own changed p.marked (λ row under clear. refl)
 
 pub invariant_of-self-clause-sets : goal.invariant_of-self-clause-sets
 invariant_of-self-clause-sets g c =
@@ -39,7 +47,10 @@ invariant_of-self-clause-sets g c =
     let left : List (List Bool) = c.clear_plane.new.words in
     let long : length left ≡ p.words.len = omega (arith, c.clear_plane.auto.words, c.as_mut_slice.ensures.len) in
     let B : List (List Bool) → Type 0 = λ ws. ArePlanesOf p.height c.args.plane (c.args.plane + 1) [] ws left in
-    let D : List (List Bool) → Type 0 = λ ws. ArePlanesOf p.height c.args.plane (c.args.plane + 1) [] p.words.items ws in
-    let changed : ArePlanesOf p.height c.args.plane (c.args.plane + 1) [] p.words.items (with_items p.words left).items =
+    let D : List (List Bool) → Type 0 = λ ws. ArePlanesOf p.height c.args.plane (c.args.plane + 1) [] p.words.items ws
+    in
+    let changed : ArePlanesOf p.height c.args.plane (c.args.plane + 1) [] p.words.items (with_items p.words left).items
+    =
     subst D (sym (with_items_is p.words left long)) (subst B c.as_mut_slice.ensures.value c.clear_plane.ensures) in
-    sets_planes p.height c.args.plane (c.args.plane + 1) [] p.words.items (with_items p.words left).items p.some_row changed (λ place. set_where (λ x. false)) p.sets
+    sets_planes p.height c.args.plane (c.args.plane + 1) [] p.words.items (with_items p.words left).items p.some_row
+    changed (λ place. set_where (λ x. false)) p.sets

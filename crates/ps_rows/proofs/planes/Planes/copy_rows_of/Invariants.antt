@@ -11,10 +11,13 @@ invariant-loop-row g l =
     record {
       low : AreBelow l.self.height l.left;
       wanted : (row : ℕ) → row < SIDE_LIMIT → column_at l.left row ≡ true → column_at l.fn.rows row ≡ true;
-      passed : ArePassed (λ row. column_at l.fn.rows row ≡ true → row_of l.other.words.items (l.plane * l.self.height + row) ≡ row_of l.self.words.items (l.plane * l.self.height + row))
+      passed : ArePassed (λ row. column_at l.fn.rows row ≡ true →
+          row_of l.other.words.items (l.plane * l.self.height + row) ≡ row_of l.self.words.items
+          (l.plane * l.self.height + row))
           l.self.height l.left;
       elsewhere : (plane row : ℕ) → row < l.self.height → (plane ≡ l.plane → column_at l.fn.rows row ≡ false) →
-          row_of l.other.words.items (plane * l.self.height + row) ≡ row_of l.initial.other.words.items (plane * l.self.height + row);
+          row_of l.other.words.items (plane * l.self.height + row) ≡ row_of l.initial.other.words.items
+          (plane * l.self.height + row);
       height : l.other.height ≡ l.self.height;
       count : l.other.words.len ≡ l.initial.other.words.len;
     }

@@ -7,4 +7,5 @@ use Rattle.ps_rows.proofs.planes.Planes.differing_rows.Given as goal
 abbrev pub invariant-loop-row : goal.invariant-loop-row
 invariant-loop-row g l =
     (row : ℕ) → row < l.row → column_at l.rows row ≡ false →
-    row_of l.self.words.items (l.plane * l.self.height + row) ≡ row_of l.other.words.items (l.plane * l.self.height + row)
+    row_of l.self.words.items (l.plane * l.self.height + row) ≡ row_of l.other.words.items
+    (l.plane * l.self.height + row)

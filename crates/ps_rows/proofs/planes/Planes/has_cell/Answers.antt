@@ -5,4 +5,5 @@ use Rattle.ps_rows.proofs.planes.Planes.has_cell.Goals as goal
 
 pub returns : goal.returns
 unfolding has_cell
-returns g c = c.has.ensures ∙ ap (λ (word : List Bool). column_at word (c.args.cell / c.args.self.now.height)) c.row.ensures
+returns g c = c.has.ensures ∙ ap (λ (word : List Bool).
+    column_at word (c.args.cell / c.args.self.now.height)) c.row.ensures

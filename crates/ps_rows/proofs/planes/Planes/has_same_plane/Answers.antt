@@ -7,6 +7,8 @@ pub returns-then-is_empty : goal.returns-then-is_empty
 returns-then-is_empty g c = λ yes.
     let p = c.args.self.now in
     let o = c.args.other.now in
-    neither_marked p.index.len o.index.len p.height o.height c.args.plane p.words.len o.words.len p.words.items o.words.items p.index.items o.index.items p.some_row p.rows c.requires.height p.whole o.whole
+    neither_marked p.index.len o.index.len p.height o.height c.args.plane p.words.len o.words.len p.words.items
+    o.words.items p.index.items o.index.items p.some_row p.rows c.requires.height p.whole o.whole
     c.requires.here c.requires.there p.marked o.marked
-    (ap set_columns (sym (c.either.ensures ∙ ap₂ either_columns c.rows_of.ensures c.rows_of-2.ensures)) ∙ c.is_empty.ensures.none c.if-is_empty.true)
+    (ap set_columns (sym (c.either.ensures ∙ ap₂ either_columns c.rows_of.ensures c.rows_of-2.ensures))
+    ∙ c.is_empty.ensures.none c.if-is_empty.true)

@@ -12,4 +12,5 @@ returns-clause-words g c = rw (c.set_row.ensures.words, c.with-word.ensures, c.r
 pub set_row-requires-clause-set : goal.set_row-requires-clause-set
 set_row-requires-clause-set g c =
     let P : List Bool → Type 0 = λ set. IsSet set in
-    subst P (sym c.with-word.ensures) (set_where (λ x. if nat_eq x (c.args.cell / c.args.self.now.height) then c.args.on else column_at c.row.result x))
+    subst P (sym c.with-word.ensures) (set_where (λ x.
+    if nat_eq x (c.args.cell / c.args.self.now.height) then c.args.on else column_at c.row.result x))

@@ -11,18 +11,24 @@ pub invariant_of-self-clause-marked : goal.invariant_of-self-clause-marked
 invariant_of-self-clause-marked g c =
     let p = c.args.self.now in
     let plane : ℕ = c.args.plane in
-    let counted : plane < p.index.len = plane_indexed p.index.len p.height plane p.words.len p.some_row p.whole c.requires.plane in
+    let counted : plane < p.index.len = plane_indexed p.index.len p.height plane p.words.len p.some_row p.whole
+    c.requires.plane in
     let own : plane < length p.index.items = omega (arith, counted, p.index.ok.0) in
-    let within : plane * p.height + c.args.row < length p.words.items = omega (arith, c.requires.plane, c.requires.row, p.words.ok.0) in
+    let within : plane * p.height + c.args.row < length p.words.items =
+    omega (arith, c.requires.plane, c.requires.row, p.words.ok.0) in
     let mark : c.with.result ≡ with_column (row_of p.index.items plane) c.args.row (not c.is_empty.result) =
-    c.with.ensures ∙ ap (λ (w : List Bool). with_column w c.args.row (not c.is_empty.result)) (get_or_read p.index.items _ _ own c.index.ensures no_columns) in
+    c.with.ensures ∙ ap (λ (w : List Bool). with_column w c.args.row (not c.is_empty.result))
+    (get_or_read p.index.items _ _ own c.index.ensures no_columns) in
     let P : List Bool → Type 0 =
-    λ made. AreRowsMarked p.index.len p.height (slice_set p.words.items (plane * p.height + c.args.row) c.args.word) (slice_set p.index.items plane made) in
+    λ made. AreRowsMarked p.index.len p.height (slice_set p.words.items (plane * p.height + c.args.row) c.args.word)
+    (slice_set p.index.items plane made) in
     subst P (sym mark)
-    (marked_row p.index.len p.height p.words.items p.index.items plane c.args.row c.args.word c.is_empty.result p.rows c.requires.row own within c.requires.set c.is_empty.ensures.none p.marked)
+    (marked_row p.index.len p.height p.words.items p.index.items plane c.args.row c.args.word c.is_empty.result p.rows
+    c.requires.row own within c.requires.set c.is_empty.ensures.none p.marked)
 
 pub invariant_of-self-clause-sets : goal.invariant_of-self-clause-sets
 invariant_of-self-clause-sets g c =
     let p = c.args.self.now in
-    let within : c.args.plane * p.height + c.args.row < length p.words.items = omega (arith, c.requires.plane, c.requires.row, p.words.ok.0) in
+    let within : c.args.plane * p.height + c.args.row < length p.words.items =
+    omega (arith, c.requires.plane, c.requires.row, p.words.ok.0) in
     sets_row p.words.items (c.args.plane * p.height + c.args.row) c.args.word within c.requires.set p.sets

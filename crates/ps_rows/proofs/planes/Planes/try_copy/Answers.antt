@@ -11,8 +11,10 @@ invariant_of-result-clause-marked g c =
     let Q : List (List Bool) → Type 0 = λ is. AreRowsMarked index.len p.height p.words.items is in
     let N : ℕ → Type 0 = λ n. AreRowsMarked n p.height p.words.items p.index.items in
     let many : index.len ≡ p.index.len = c.in_ok-index.ensures.len ∙ c.deref-2.ensures.len in
-    subst P (sym (c.in_ok-words.ensures.items ∙ c.deref.ensures.value)) (subst Q (sym (c.in_ok-index.ensures.items ∙ c.deref-2.ensures.value)) (subst N (sym many) p.marked))
+    subst P (sym (c.in_ok-words.ensures.items ∙ c.deref.ensures.value))
+    (subst Q (sym (c.in_ok-index.ensures.items ∙ c.deref-2.ensures.value)) (subst N (sym many) p.marked))
 
 pub invariant_of-result-clause-sets : goal.invariant_of-result-clause-sets
 invariant_of-result-clause-sets g c =
-    sets_same c.args.self.now.words.items c.in_ok-words.words.items (c.in_ok-words.ensures.items ∙ c.deref.ensures.value) c.args.self.now.sets
+    sets_same c.args.self.now.words.items c.in_ok-words.words.items (c.in_ok-words.ensures.items
+    ∙ c.deref.ensures.value) c.args.self.now.sets

@@ -9,11 +9,13 @@ invariant_of-result-clause-marked g c =
     let n = c.args.count * c.args.height in
     let index = c.in_ok-index.index in
     let P : List (List Bool) → Type 0 = λ ws. AreRowsMarked index.len c.args.height ws index.items in
-    subst P (sym (c.in_ok-words.ensures.items_if_clones_equal (λ copy same. same) ∙ ap (λ (set : List Bool). replicate n set) c.none.ensures))
+    subst P (sym (c.in_ok-words.ensures.items_if_clones_equal (λ copy same. same)
+    ∙ ap (λ (set : List Bool). replicate n set) c.none.ensures))
     (marked_none index.len c.args.height n index.items)
 
 pub invariant_of-result-clause-sets : goal.invariant_of-result-clause-sets
 invariant_of-result-clause-sets g c =
     let n = c.args.count * c.args.height in
     sets_same (replicate n no_columns) c.in_ok-words.words.items
-    (c.in_ok-words.ensures.items_if_clones_equal (λ copy same. same) ∙ ap (λ (set : List Bool). replicate n set) c.none.ensures) (sets_none n)
+    (c.in_ok-words.ensures.items_if_clones_equal (λ copy same. same)
+    ∙ ap (λ (set : List Bool). replicate n set) c.none.ensures) (sets_none n)

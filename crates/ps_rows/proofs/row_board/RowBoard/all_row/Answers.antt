@@ -10,14 +10,16 @@ use Rattle.ps_rows.proofs.row_board.RowBoard.all_row.Goals as goal
 pub loop-sought-init : goal.loop-sought-init
 loop-sought-init g c =
     let b = c.args.self.now in
-    all_none (grid_shown b.members.table.items b.width b.planes.height b.layers b.planes.words.items) c.args.row is_held_in b.columns b.all_columns b.all
+    all_none (grid_shown b.members.table.items b.width b.planes.height b.layers b.planes.words.items) c.args.row
+    is_held_in b.columns b.all_columns b.all
 
 pub loop-sought-preserved : goal.loop-sought-preserved
 loop-sought-preserved g c =
     let b = c.args.self.now in
     let below : c.loop-sought.sought-index < length c.args.objects.now = omega arith in
     rw c.both-word.ensures
-    (all_more (grid_shown b.members.table.items b.width b.planes.height b.layers b.planes.words.items) c.args.row is_held_in b.columns c.args.objects.now c.loop-sought.sought-index _
+    (all_more (grid_shown b.members.table.items b.width b.planes.height b.layers b.planes.words.items) c.args.row
+    is_held_in b.columns c.args.objects.now c.loop-sought.sought-index _
     c.loop-sought.word c.object_row.result below c.loop-sought.invariant c.object_row.ensures)
 
 pub returns : goal.returns
@@ -25,5 +27,6 @@ returns g c =
     let b = c.args.self.now in
     let end : length c.args.objects.now ≤ c.loop-sought.sought-index = omega arith in
     let P : List LayeredObject → Type 0 =
-    λ xs. IsRowOf (grid_shown b.members.table.items b.width b.planes.height b.layers b.planes.words.items) c.args.row c.loop-sought.word (held_all xs) in
+    λ xs. IsRowOf (grid_shown b.members.table.items b.width b.planes.height b.layers b.planes.words.items) c.args.row
+    c.loop-sought.word (held_all xs) in
     subst P (take_all c.loop-sought.sought-index c.args.objects.now end) c.loop-sought.invariant

@@ -20,18 +20,30 @@ returns g c =
     let columns : List Bool = c.args.columns in
     let gone : List Bool = c.gone_row.result in
     let own : c.own_write-own.result ≡ own_write (Some table) c.args.layer write.layers =
-    c.own_write-own.ensures ∙ ap (λ (writes : List LayerWrite). own_write (Some table) c.args.layer writes) c.as_slice.ensures in
-    let P : List LayeredObject → Type 0 = λ xs. IsRowOf (grid_shown table b.width b.planes.height b.layers b.planes.words.items) c.args.row gone (one_goes xs c.args.layer) in
+    c.own_write-own.ensures ∙ ap (λ (writes : List LayerWrite).
+    own_write (Some table) c.args.layer writes) c.as_slice.ensures in
+    let P : List LayeredObject → Type 0 = λ xs.
+    IsRowOf (grid_shown table b.width b.planes.height b.layers b.planes.words.items) c.args.row gone
+    (one_goes xs c.args.layer) in
     let freed : c.both-freed.result ≡ both_columns columns gone = c.both-freed.ensures in
-    let kept : c.both-kept.result ≡ both_columns (columns_without columns (both_columns columns gone)) c.kept_row.result =
-    c.both-kept.ensures ∙ ap (λ (set : List Bool). both_columns set c.kept_row.result) (c.without.ensures ∙ ap (columns_without columns) freed) in
-    let objects : c.objects_change-objects.result ≡ objects_change (own_write (Some table) c.args.layer write.layers) columns (both_columns columns gone) =
-    c.objects_change-objects.ensures ∙ ap₂ (λ (o : Option LayerWrite) (f : List Bool). objects_change o columns f) own freed in
+    let kept : c.both-kept.result ≡ both_columns (columns_without columns (both_columns columns gone))
+    c.kept_row.result =
+    c.both-kept.ensures ∙ ap (λ (set : List Bool). both_columns set c.kept_row.result) (c.without.ensures
+    ∙ ap (columns_without columns) freed) in
+    let objects : c.objects_change-objects.result ≡ objects_change (own_write (Some table) c.args.layer write.layers)
+    columns (both_columns columns gone) =
+    c.objects_change-objects.ensures ∙ ap₂ (λ (o : Option LayerWrite) (f : List Bool).
+    objects_change o columns f) own freed in
     let motions : c.motions_change.result
-    ≡ motions_change c.motions_from-first.result (own_write (Some table) c.args.layer write.layers) columns (both_columns columns gone)
+    ≡ motions_change c.motions_from-first.result (own_write (Some table) c.args.layer write.layers) columns
+    (both_columns columns gone)
     (both_columns (columns_without columns (both_columns columns gone)) c.kept_row.result) =
-    c.motions_change.ensures ∙ ap₂ (λ (o : Option LayerWrite) (f : List Bool). motions_change c.motions_from-first.result o columns f c.both-kept.result) own freed
-    ∙ ap (motions_change c.motions_from-first.result (own_write (Some table) c.args.layer write.layers) columns (both_columns columns gone)) kept in
-    layer_changed table b.width b.planes.height b.layers b.planes.words.items c.args.layer c.args.row b.planes.some_row b.columns c.requires.row c.requires.layer write columns gone c.kept_row.result
-    c.requires.within (subst P c.as_slice-2.ensures c.gone_row.ensures) (λ moves. c.kept_row.ensures (ap moves_kept own ∙ moves)) c.motions_from-first.result c.objects_change-objects.result
+    c.motions_change.ensures ∙ ap₂ (λ (o : Option LayerWrite) (f : List Bool).
+    motions_change c.motions_from-first.result o columns f c.both-kept.result) own freed
+    ∙ ap (motions_change c.motions_from-first.result (own_write (Some table) c.args.layer write.layers) columns
+    (both_columns columns gone)) kept in
+    layer_changed table b.width b.planes.height b.layers b.planes.words.items c.args.layer c.args.row b.planes.some_row
+    b.columns c.requires.row c.requires.layer write columns gone c.kept_row.result
+    c.requires.within (subst P c.as_slice-2.ensures c.gone_row.ensures) (λ moves.
+    c.kept_row.ensures (ap moves_kept own ∙ moves)) c.motions_from-first.result c.objects_change-objects.result
     c.motions_change.result c.motions_from-first.ensures.first objects motions

@@ -17,7 +17,8 @@ has_one cell objects = list_any (is_held_in cell) objects
 pub loop-objects-init : goal.loop-objects-init
 loop-objects-init g c =
     let b = c.args.self.now in
-    all_none (grid_shown b.members.table.items b.width b.planes.height b.layers b.planes.words.items) c.args.row has_one b.columns b.all_columns b.all
+    all_none (grid_shown b.members.table.items b.width b.planes.height b.layers b.planes.words.items) c.args.row
+    has_one b.columns b.all_columns b.all
 
 pub loop-objects-preserved : goal.loop-objects-preserved
 loop-objects-preserved g c =
@@ -27,7 +28,8 @@ loop-objects-preserved g c =
     let below : at_index < length c.args.lists.now = omega arith in
     let P : List LayeredObject → Type 0 = λ xs. IsRowOf grid c.args.row c.any_row.result (held_any xs) in
     rw c.both-word.ensures
-    (all_more grid c.args.row has_one b.columns c.args.lists.now at_index c.objects-item.result c.loop-objects.word c.any_row.result below c.loop-objects.invariant
+    (all_more grid c.args.row has_one b.columns c.args.lists.now at_index c.objects-item.result c.loop-objects.word
+    c.any_row.result below c.loop-objects.invariant
     (subst P (c.as_slice.ensures ∙ c.objects-item.is) c.any_row.ensures))
 
 pub returns : goal.returns
@@ -35,5 +37,6 @@ returns g c =
     let b = c.args.self.now in
     let end : length c.args.lists.now ≤ c.loop-objects.objects-index = omega arith in
     let P : List (List LayeredObject) → Type 0 =
-    λ xs. IsRowOf (grid_shown b.members.table.items b.width b.planes.height b.layers b.planes.words.items) c.args.row c.loop-objects.word (held_of_each xs) in
+    λ xs. IsRowOf (grid_shown b.members.table.items b.width b.planes.height b.layers b.planes.words.items) c.args.row
+    c.loop-objects.word (held_of_each xs) in
     subst P (take_all c.loop-objects.objects-index c.args.lists.now end) c.loop-objects.invariant

@@ -6,4 +6,5 @@ use Rattle.ps_rows.proofs.row_board.RowBoard.lists_row.Given as goal
 -- the word of those passed by
 abbrev pub invariant-loop-objects : goal.invariant-loop-objects
 invariant-loop-objects g l =
-    IsRowOf (grid_shown l.self.members.table.items l.self.width l.self.planes.height l.self.layers l.self.planes.words.items) l.row l.word (held_of_each (take l.objects-index l.lists))
+    IsRowOf (grid_shown l.self.members.table.items l.self.width l.self.planes.height l.self.layers
+    l.self.planes.words.items) l.row l.word (held_of_each (take l.objects-index l.lists))

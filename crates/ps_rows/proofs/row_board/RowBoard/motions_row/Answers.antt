@@ -10,14 +10,16 @@ use Rattle.ps_rows.proofs.row_board.RowBoard.motions_row.Goals as goal
 pub loop-test-init : goal.loop-test-init
 loop-test-init g c =
     let b = c.args.self.now in
-    all_none (grid_shown b.members.table.items b.width b.planes.height b.layers b.planes.words.items) c.args.row moves_as_asked b.columns b.all_columns b.all
+    all_none (grid_shown b.members.table.items b.width b.planes.height b.layers b.planes.words.items) c.args.row
+    moves_as_asked b.columns b.all_columns b.all
 
 pub loop-test-preserved : goal.loop-test-preserved
 loop-test-preserved g c =
     let b = c.args.self.now in
     let below : c.loop-test.test-index < length c.args.tests.now = omega arith in
     rw c.both-word.ensures
-    (all_more (grid_shown b.members.table.items b.width b.planes.height b.layers b.planes.words.items) c.args.row moves_as_asked b.columns c.args.tests.now c.loop-test.test-index _
+    (all_more (grid_shown b.members.table.items b.width b.planes.height b.layers b.planes.words.items) c.args.row
+    moves_as_asked b.columns c.args.tests.now c.loop-test.test-index _
     c.loop-test.word c.motion_row.result below c.loop-test.invariant c.motion_row.ensures)
 
 pub returns : goal.returns
@@ -25,5 +27,6 @@ returns g c =
     let b = c.args.self.now in
     let end : length c.args.tests.now ≤ c.loop-test.test-index = omega arith in
     let P : List MotionTest → Type 0 =
-    λ xs. IsRowOf (grid_shown b.members.table.items b.width b.planes.height b.layers b.planes.words.items) c.args.row c.loop-test.word (moved_all xs) in
+    λ xs. IsRowOf (grid_shown b.members.table.items b.width b.planes.height b.layers b.planes.words.items) c.args.row
+    c.loop-test.word (moved_all xs) in
     subst P (take_all c.loop-test.test-index c.args.tests.now end) c.loop-test.invariant

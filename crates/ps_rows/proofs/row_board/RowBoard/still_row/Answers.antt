@@ -14,4 +14,5 @@ returns-in-Still g c = λ x h.
 
 pub returns-in_default : goal.returns-in_default
 returns-in_default g c = λ x h.
-    ap (λ (set : List Bool). column_at set x) c.none.ensures ∙ none_at x ∙ sym (not_rest c.args.motion c.in_default.not-Still)
+    ap (λ (set : List Bool). column_at set x) c.none.ensures ∙ none_at x
+    ∙ sym (not_rest c.args.motion c.in_default.not-Still)

@@ -11,7 +11,8 @@ abbrev pub invariant-loop-layer : goal.invariant-loop-layer
 invariant-loop-layer g l =
     let b = l.fn.self in
     let start = grid_shown b.members.table.items b.width b.planes.height b.layers b.planes.words.items in
-    let now = grid_shown l.self.members.table.items l.self.width l.self.planes.height l.self.layers l.self.planes.words.items in
+    let now = grid_shown l.self.members.table.items l.self.width l.self.planes.height l.self.layers
+    l.self.planes.words.items in
     let after = slot_after (write_in_room (Some b.members.table.items) (write_shown l.write)) in
     let chosen = in_columns b.planes.height l.row l.columns in
     record {

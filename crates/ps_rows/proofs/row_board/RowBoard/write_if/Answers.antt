@@ -8,11 +8,13 @@ use Rattle.ps_rows.proofs.row_board.RowBoard.write_if.Goals as goal
 pub returns-clause-slots : goal.returns-clause-slots
 returns-clause-slots g c =
     let b = c.args.self.now in
-    slots_untouched (Some b.members.table.items) (write_shown c.args.write.now) (grid_shown b.members.table.items b.width b.planes.height b.layers b.planes.words.items)
+    slots_untouched (Some b.members.table.items) (write_shown c.args.write.now)
+    (grid_shown b.members.table.items b.width b.planes.height b.layers b.planes.words.items)
     (in_columns b.planes.height c.args.row c.args.columns) c.args.layer (sym c.touches.ensures ∙ c.if-touches.false)
 
 pub returns-clause-quiet : goal.returns-clause-quiet
 returns-clause-quiet g c = λ none.
     let b = c.args.self.now in
-    left_untouched (Some b.members.table.items) (write_shown c.args.write.now) (grid_shown b.members.table.items b.width b.planes.height b.layers b.planes.words.items)
+    left_untouched (Some b.members.table.items) (write_shown c.args.write.now)
+    (grid_shown b.members.table.items b.width b.planes.height b.layers b.planes.words.items)
     (in_columns b.planes.height c.args.row c.args.columns) c.args.layer (sym c.touches.ensures ∙ c.if-touches.false)

@@ -6,18 +6,21 @@ use Rattle.ps_rows.specs.Members.{on_layer}
 use Rattle.ps_rows.specs.RowChanges.{AreRowsLeft, IsLayerWritten}
 use Rattle.ps_rows.specs.Showing.{motion_planes, motions_from}
 use Rattle.ps_rows.proofs.Puts.{planes_whole}
-use Rattle.ps_rows.proofs.LayerWritten.{listed_below, motions_again, motions_left, objects_again, objects_left, slots_left, slots_written}
+use Rattle.ps_rows.proofs.LayerWritten.{listed_below, motions_again, motions_left, objects_again, objects_left}
+use Rattle.ps_rows.proofs.LayerWritten.{slots_left, slots_written}
 use Rattle.ps_rows.proofs.row_board.RowBoard.write_layer.Goals as goal
 
 pub change_layer-requires-clause-planes : goal.change_layer-requires-clause-planes
 change_layer-requires-clause-planes g c =
     let b = c.args.self.now in
-    rw c.of-places.ensures (planes_whole b.members.table.items b.layers b.planes.height b.planes.words.items c.args.layer (sym b.planes.words.ok.0 ∙ b.whole))
+    rw c.of-places.ensures (planes_whole b.members.table.items b.layers b.planes.height b.planes.words.items
+    c.args.layer (sym b.planes.words.ok.0 ∙ b.whole))
 
 pub change_layer-requires-clause-below : goal.change_layer-requires-clause-below
 change_layer-requires-clause-below g c =
     let b = c.args.self.now in
-    listed_below b.members.table.items c.args.layer c.of-places.result.now c.motions_from-first.result c.of-places.ensures c.motions_from-first.ensures.first
+    listed_below b.members.table.items c.args.layer c.of-places.result.now c.motions_from-first.result
+    c.of-places.ensures c.motions_from-first.ensures.first
 
 pub invariant_of-self-clause-objects : goal.invariant_of-self-clause-objects
 invariant_of-self-clause-objects g c =
@@ -25,11 +28,17 @@ invariant_of-self-clause-objects g c =
     let table : List ℕ = b.members.table.items in
     let after : ℕ → Slot → Slot = slot_after (write_in_room (Some table) (write_shown c.args.write.now)) in
     let P : List ℕ → Type 0 =
-    λ places. IsLayerWritten b.planes.height c.args.row b.planes.words.items c.change_layer.new.planes.words.items places c.layer_change-objects.result.0 c.motions_from-first.result c.layer_change-objects.result.1 in
+    λ places. IsLayerWritten b.planes.height c.args.row b.planes.words.items c.change_layer.new.planes.words.items
+    places c.layer_change-objects.result.0 c.motions_from-first.result c.layer_change-objects.result.1 in
     let Q : ℕ → Type 0 =
-    λ first. IsLayerWritten b.planes.height c.args.row b.planes.words.items c.change_layer.new.planes.words.items (on_layer table c.args.layer) c.layer_change-objects.result.0 first c.layer_change-objects.result.1 in
-    let made : Q (motions_from table c.args.layer) = subst Q c.motions_from-first.ensures.first (subst P c.of-places.ensures c.change_layer.ensures.words) in
-    rw c.change_layer.ensures.height (objects_again table b.width b.planes.height b.layers b.planes.words.items c.change_layer.new.planes.words.items c.args.layer c.args.row c.args.columns after c.layer_change-objects.result.0 c.layer_change-objects.result.1 b.planes.some_row b.columns c.requires.row c.requires.layer c.layer_change-objects.ensures made b.objects b.motions)
+    λ first. IsLayerWritten b.planes.height c.args.row b.planes.words.items c.change_layer.new.planes.words.items
+    (on_layer table c.args.layer) c.layer_change-objects.result.0 first c.layer_change-objects.result.1 in
+    let made : Q (motions_from table c.args.layer) =
+    subst Q c.motions_from-first.ensures.first (subst P c.of-places.ensures c.change_layer.ensures.words) in
+    rw c.change_layer.ensures.height (objects_again table b.width b.planes.height b.layers b.planes.words.items
+    c.change_layer.new.planes.words.items c.args.layer c.args.row c.args.columns after
+    c.layer_change-objects.result.0 c.layer_change-objects.result.1 b.planes.some_row b.columns c.requires.row
+    c.requires.layer c.layer_change-objects.ensures made b.objects b.motions)
 
 pub invariant_of-self-clause-motions : goal.invariant_of-self-clause-motions
 invariant_of-self-clause-motions g c =
@@ -37,11 +46,17 @@ invariant_of-self-clause-motions g c =
     let table : List ℕ = b.members.table.items in
     let after : ℕ → Slot → Slot = slot_after (write_in_room (Some table) (write_shown c.args.write.now)) in
     let P : List ℕ → Type 0 =
-    λ places. IsLayerWritten b.planes.height c.args.row b.planes.words.items c.change_layer.new.planes.words.items places c.layer_change-objects.result.0 c.motions_from-first.result c.layer_change-objects.result.1 in
+    λ places. IsLayerWritten b.planes.height c.args.row b.planes.words.items c.change_layer.new.planes.words.items
+    places c.layer_change-objects.result.0 c.motions_from-first.result c.layer_change-objects.result.1 in
     let Q : ℕ → Type 0 =
-    λ first. IsLayerWritten b.planes.height c.args.row b.planes.words.items c.change_layer.new.planes.words.items (on_layer table c.args.layer) c.layer_change-objects.result.0 first c.layer_change-objects.result.1 in
-    let made : Q (motions_from table c.args.layer) = subst Q c.motions_from-first.ensures.first (subst P c.of-places.ensures c.change_layer.ensures.words) in
-    rw c.change_layer.ensures.height (motions_again table b.width b.planes.height b.layers b.planes.words.items c.change_layer.new.planes.words.items c.args.layer c.args.row c.args.columns after c.layer_change-objects.result.0 c.layer_change-objects.result.1 b.planes.some_row b.columns c.requires.row c.requires.layer c.layer_change-objects.ensures made b.objects b.motions)
+    λ first. IsLayerWritten b.planes.height c.args.row b.planes.words.items c.change_layer.new.planes.words.items
+    (on_layer table c.args.layer) c.layer_change-objects.result.0 first c.layer_change-objects.result.1 in
+    let made : Q (motions_from table c.args.layer) =
+    subst Q c.motions_from-first.ensures.first (subst P c.of-places.ensures c.change_layer.ensures.words) in
+    rw c.change_layer.ensures.height (motions_again table b.width b.planes.height b.layers b.planes.words.items
+    c.change_layer.new.planes.words.items c.args.layer c.args.row c.args.columns after
+    c.layer_change-objects.result.0 c.layer_change-objects.result.1 b.planes.some_row b.columns c.requires.row
+    c.requires.layer c.layer_change-objects.ensures made b.objects b.motions)
 
 pub returns-clause-slots : goal.returns-clause-slots
 returns-clause-slots g c =
@@ -49,11 +64,17 @@ returns-clause-slots g c =
     let table : List ℕ = b.members.table.items in
     let after : ℕ → Slot → Slot = slot_after (write_in_room (Some table) (write_shown c.args.write.now)) in
     let P : List ℕ → Type 0 =
-    λ places. IsLayerWritten b.planes.height c.args.row b.planes.words.items c.change_layer.new.planes.words.items places c.layer_change-objects.result.0 c.motions_from-first.result c.layer_change-objects.result.1 in
+    λ places. IsLayerWritten b.planes.height c.args.row b.planes.words.items c.change_layer.new.planes.words.items
+    places c.layer_change-objects.result.0 c.motions_from-first.result c.layer_change-objects.result.1 in
     let Q : ℕ → Type 0 =
-    λ first. IsLayerWritten b.planes.height c.args.row b.planes.words.items c.change_layer.new.planes.words.items (on_layer table c.args.layer) c.layer_change-objects.result.0 first c.layer_change-objects.result.1 in
-    let made : Q (motions_from table c.args.layer) = subst Q c.motions_from-first.ensures.first (subst P c.of-places.ensures c.change_layer.ensures.words) in
-    rw c.change_layer.ensures.height (slots_written table b.width b.planes.height b.layers b.planes.words.items c.change_layer.new.planes.words.items c.args.layer c.args.row c.args.columns after c.layer_change-objects.result.0 c.layer_change-objects.result.1 b.planes.some_row b.columns c.requires.row c.requires.layer c.layer_change-objects.ensures made b.objects b.motions)
+    λ first. IsLayerWritten b.planes.height c.args.row b.planes.words.items c.change_layer.new.planes.words.items
+    (on_layer table c.args.layer) c.layer_change-objects.result.0 first c.layer_change-objects.result.1 in
+    let made : Q (motions_from table c.args.layer) =
+    subst Q c.motions_from-first.ensures.first (subst P c.of-places.ensures c.change_layer.ensures.words) in
+    rw c.change_layer.ensures.height (slots_written table b.width b.planes.height b.layers b.planes.words.items
+    c.change_layer.new.planes.words.items c.args.layer c.args.row c.args.columns after
+    c.layer_change-objects.result.0 c.layer_change-objects.result.1 b.planes.some_row b.columns c.requires.row
+    c.requires.layer c.layer_change-objects.ensures made b.objects b.motions)
 
 pub returns-clause-quiet : goal.returns-clause-quiet
 returns-clause-quiet g c = λ none.
@@ -61,11 +82,17 @@ returns-clause-quiet g c = λ none.
     let table : List ℕ = b.members.table.items in
     let after : ℕ → Slot → Slot = slot_after (write_in_room (Some table) (write_shown c.args.write.now)) in
     let P : List ℕ → Type 0 =
-    λ places. IsLayerWritten b.planes.height c.args.row b.planes.words.items c.change_layer.new.planes.words.items places c.layer_change-objects.result.0 c.motions_from-first.result c.layer_change-objects.result.1 in
+    λ places. IsLayerWritten b.planes.height c.args.row b.planes.words.items c.change_layer.new.planes.words.items
+    places c.layer_change-objects.result.0 c.motions_from-first.result c.layer_change-objects.result.1 in
     let Q : ℕ → Type 0 =
-    λ first. IsLayerWritten b.planes.height c.args.row b.planes.words.items c.change_layer.new.planes.words.items (on_layer table c.args.layer) c.layer_change-objects.result.0 first c.layer_change-objects.result.1 in
-    let made : Q (motions_from table c.args.layer) = subst Q c.motions_from-first.ensures.first (subst P c.of-places.ensures c.change_layer.ensures.words) in
-    slots_left table b.width b.planes.height b.layers b.planes.words.items c.change_layer.new.planes.words.items c.args.layer c.args.row c.args.columns after c.layer_change-objects.result.0 c.layer_change-objects.result.1 b.planes.some_row b.columns c.requires.row c.requires.layer c.layer_change-objects.ensures made b.objects b.motions (c.change_layer.ensures.quiet none)
+    λ first. IsLayerWritten b.planes.height c.args.row b.planes.words.items c.change_layer.new.planes.words.items
+    (on_layer table c.args.layer) c.layer_change-objects.result.0 first c.layer_change-objects.result.1 in
+    let made : Q (motions_from table c.args.layer) =
+    subst Q c.motions_from-first.ensures.first (subst P c.of-places.ensures c.change_layer.ensures.words) in
+    slots_left table b.width b.planes.height b.layers b.planes.words.items c.change_layer.new.planes.words.items
+    c.args.layer c.args.row c.args.columns after c.layer_change-objects.result.0 c.layer_change-objects.result.1
+    b.planes.some_row b.columns c.requires.row c.requires.layer c.layer_change-objects.ensures made b.objects
+    b.motions (c.change_layer.ensures.quiet none)
 
 pub returns-clause-left : goal.returns-clause-left
 returns-clause-left g c = λ all.
@@ -73,12 +100,24 @@ returns-clause-left g c = λ all.
     let table : List ℕ = b.members.table.items in
     let after : ℕ → Slot → Slot = slot_after (write_in_room (Some table) (write_shown c.args.write.now)) in
     let P : List ℕ → Type 0 =
-    λ places. IsLayerWritten b.planes.height c.args.row b.planes.words.items c.change_layer.new.planes.words.items places c.layer_change-objects.result.0 c.motions_from-first.result c.layer_change-objects.result.1 in
+    λ places. IsLayerWritten b.planes.height c.args.row b.planes.words.items c.change_layer.new.planes.words.items
+    places c.layer_change-objects.result.0 c.motions_from-first.result c.layer_change-objects.result.1 in
     let Q : ℕ → Type 0 =
-    λ first. IsLayerWritten b.planes.height c.args.row b.planes.words.items c.change_layer.new.planes.words.items (on_layer table c.args.layer) c.layer_change-objects.result.0 first c.layer_change-objects.result.1 in
-    let made : Q (motions_from table c.args.layer) = subst Q c.motions_from-first.ensures.first (subst P c.of-places.ensures c.change_layer.ensures.words) in
-    let A : List ℕ → Type 0 = λ places. AreRowsLeft b.planes.height c.args.row c.layer_change-objects.result.0 b.planes.words.items places in
-    let B : ℕ → Type 0 = λ first. AreRowsLeft b.planes.height c.args.row c.layer_change-objects.result.1 b.planes.words.items (motion_planes first) in
+    λ first. IsLayerWritten b.planes.height c.args.row b.planes.words.items c.change_layer.new.planes.words.items
+    (on_layer table c.args.layer) c.layer_change-objects.result.0 first c.layer_change-objects.result.1 in
+    let made : Q (motions_from table c.args.layer) =
+    subst Q c.motions_from-first.ensures.first (subst P c.of-places.ensures c.change_layer.ensures.words) in
+    let A : List ℕ → Type 0 = λ places. AreRowsLeft b.planes.height c.args.row c.layer_change-objects.result.0
+    b.planes.words.items places in
+    let B : ℕ → Type 0 = λ first. AreRowsLeft b.planes.height c.args.row c.layer_change-objects.result.1
+    b.planes.words.items (motion_planes first) in
     c.change_layer.ensures.left
-    (subst A (sym c.of-places.ensures) (objects_left table b.width b.planes.height b.layers b.planes.words.items c.change_layer.new.planes.words.items c.args.layer c.args.row c.args.columns after c.layer_change-objects.result.0 c.layer_change-objects.result.1 b.planes.some_row b.columns c.requires.row c.requires.layer c.layer_change-objects.ensures made b.objects b.motions all))
-    (subst B (sym c.motions_from-first.ensures.first) (motions_left table b.width b.planes.height b.layers b.planes.words.items c.change_layer.new.planes.words.items c.args.layer c.args.row c.args.columns after c.layer_change-objects.result.0 c.layer_change-objects.result.1 b.planes.some_row b.columns c.requires.row c.requires.layer c.layer_change-objects.ensures made b.objects b.motions all))
+    (subst A (sym c.of-places.ensures) (objects_left table b.width b.planes.height b.layers b.planes.words.items
+    c.change_layer.new.planes.words.items c.args.layer c.args.row c.args.columns after
+    c.layer_change-objects.result.0 c.layer_change-objects.result.1 b.planes.some_row b.columns c.requires.row
+    c.requires.layer c.layer_change-objects.ensures made b.objects b.motions all))
+    (subst B (sym c.motions_from-first.ensures.first)
+    (motions_left table b.width b.planes.height b.layers b.planes.words.items c.change_layer.new.planes.words.items
+    c.args.layer c.args.row c.args.columns after c.layer_change-objects.result.0 c.layer_change-objects.result.1
+    b.planes.some_row b.columns c.requires.row c.requires.layer c.layer_change-objects.ensures made b.objects
+    b.motions all))

@@ -9,20 +9,24 @@ invariant_of-self-clause-objects g c =
     let b = c.args.self.now in
     let table : List ℕ = b.members.table.items in
     rw (c.clear_from.ensures.words, c.clear_from.ensures.height, c.count-first.ensures.value)
-    (rested_objects table b.layers b.planes.height (b.width * b.planes.height) b.planes.words.items b.planes.some_row (sym b.planes.words.ok.0 ∙ b.whole) b.objects)
+    (rested_objects table b.layers b.planes.height (b.width * b.planes.height) b.planes.words.items b.planes.some_row
+    (sym b.planes.words.ok.0 ∙ b.whole) b.objects)
 
 pub invariant_of-self-clause-motions : goal.invariant_of-self-clause-motions
 invariant_of-self-clause-motions g c =
     let b = c.args.self.now in
     let table : List ℕ = b.members.table.items in
     rw (c.clear_from.ensures.words, c.clear_from.ensures.height, c.count-first.ensures.value)
-    (rested_motions table b.layers b.planes.height (b.width * b.planes.height) b.planes.words.items b.planes.some_row (sym b.planes.words.ok.0 ∙ b.whole))
+    (rested_motions table b.layers b.planes.height (b.width * b.planes.height) b.planes.words.items b.planes.some_row
+    (sym b.planes.words.ok.0 ∙ b.whole))
 
 pub returns-clause-grid : goal.returns-clause-grid
 returns-clause-grid g c =
     let b = c.args.self.now in
     let table : List ℕ = b.members.table.items in
     let so : c.clear_from.new.self.words.items ≡ cleared_from (length table * b.planes.height) b.planes.words.items =
-    c.clear_from.ensures.words ∙ ap (λ (first : ℕ). cleared_from (first * b.planes.height) b.planes.words.items) c.count-first.ensures.value in
+    c.clear_from.ensures.words ∙ ap (λ (first : ℕ).
+    cleared_from (first * b.planes.height) b.planes.words.items) c.count-first.ensures.value in
     rw c.clear_from.ensures.height
-    (rest_grid table b.width b.planes.height b.layers b.planes.words.items c.clear_from.new.self.words.items b.planes.some_row (sym b.planes.words.ok.0 ∙ b.whole) so)
+    (rest_grid table b.width b.planes.height b.layers b.planes.words.items c.clear_from.new.self.words.items
+    b.planes.some_row (sym b.planes.words.ok.0 ∙ b.whole) so)

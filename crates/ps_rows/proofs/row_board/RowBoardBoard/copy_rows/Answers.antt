@@ -87,7 +87,8 @@ returns-clause-copied g c =
     let so : c.clear_from.new.self.words.items ≡ cleared_from (length table * height) copied =
     c.clear_from.ensures.words ∙ rw (c.copy_rows.ensures.height, c.count-objects.ensures.value) refl in
     rw (c.clear_from.ensures.height, c.copy_rows.ensures.height, tables, c.requires.width, c.requires.layers)
-    (rows_copied table height c.args.rows.now b.planes.words.items o.planes.words.items copied b.planes.some_row are b.width b.layers b.columns whole
+    (rows_copied table height c.args.rows.now b.planes.words.items o.planes.words.items copied b.planes.some_row are
+    b.width b.layers b.columns whole
     c.clear_from.new.self.words.items so)
 
 pub returns-clause-left : goal.returns-clause-left
@@ -108,6 +109,14 @@ returns-clause-left g c =
     c.requires.layers c.requires.height o.whole in
     let so : c.clear_from.new.self.words.items ≡ cleared_from (length table * height) copied =
     c.clear_from.ensures.words ∙ rw (c.copy_rows.ensures.height, c.count-objects.ensures.value) refl in
-    rw (c.clear_from.ensures.height, c.copy_rows.ensures.height, tables, c.requires.width, c.requires.height, c.requires.layers)
-    (rows_left table height c.args.rows.now b.planes.words.items o.planes.words.items copied b.planes.some_row are b.width b.layers b.columns whole
+    rw (
+      c.clear_from.ensures.height,
+      c.copy_rows.ensures.height,
+      tables,
+      c.requires.width,
+      c.requires.height,
+      c.requires.layers,
+    )
+    (rows_left table height c.args.rows.now b.planes.words.items o.planes.words.items copied b.planes.some_row are
+    b.width b.layers b.columns whole
     c.clear_from.new.self.words.items so)

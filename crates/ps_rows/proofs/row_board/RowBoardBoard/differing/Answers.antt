@@ -7,7 +7,10 @@ pub returns : goal.returns
 returns g c =
     let b = c.args.self.now in
     let o = c.args.other.now in
-    let tables : o.members.table.items ≡ b.members.table.items = same_Some o.members.table.items b.members.table.items c.requires.table in
+    let tables : o.members.table.items ≡ b.members.table.items =
+    same_Some o.members.table.items b.members.table.items c.requires.table in
     rw (tables, c.requires.layers, c.requires.height, c.requires.width)
-    (others_same b.members.table.items b.width b.planes.height b.layers b.planes.words.items o.planes.words.items c.args.row c.differing_row.result c.requires.row
-    b.columns (rw (c.count-objects.ensures.value, c.as_slice-here.ensures.value, c.as_slice-there.ensures.value) at c.differing_row.ensures))
+    (others_same b.members.table.items b.width b.planes.height b.layers b.planes.words.items o.planes.words.items
+    c.args.row c.differing_row.result c.requires.row
+    b.columns (rw (c.count-objects.ensures.value, c.as_slice-here.ensures.value, c.as_slice-there.ensures.value) at
+    c.differing_row.ensures))

@@ -14,6 +14,8 @@ returns g c =
     let b = c.args.self.now in
     let grid : Grid = grid_shown b.members.table.items b.width b.planes.height b.layers b.planes.words.items in
     c.both.ensures
-    ∙ columns-agree (λ x. column_at b.all_columns x && column_at c.object_row.result x) (λ x. slot_holds c.args.object (slot_at grid (x * b.planes.height + c.args.row) c.args.layer.0))
+    ∙ columns-agree (λ x. column_at b.all_columns x && column_at c.object_row.result x) (λ x.
+    slot_holds c.args.object (slot_at grid (x * b.planes.height + c.args.row) c.args.layer.0))
     (row_cut grid c.args.row c.args.layer.0 b.all_columns c.object_row.result (slot_holds c.args.object)
-    (cells_long b.members.table.items b.layers b.planes.height b.planes.words.items (b.width * b.planes.height)) (wide_of b.all_columns b.width b.all) c.object_row.ensures refl)
+    (cells_long b.members.table.items b.layers b.planes.height b.planes.words.items (b.width * b.planes.height))
+    (wide_of b.all_columns b.width b.all) c.object_row.ensures refl)

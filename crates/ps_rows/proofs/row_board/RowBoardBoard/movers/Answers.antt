@@ -14,6 +14,8 @@ returns g c =
     let b = c.args.self.now in
     let grid : Grid = grid_shown b.members.table.items b.width b.planes.height b.layers b.planes.words.items in
     c.without.ensures
-    ∙ columns-agree (λ x. column_at b.all_columns x && not (column_at c.motion_row.result x)) (λ x. is_moving (slot_at grid (x * b.planes.height + c.args.row) c.args.layer.0))
-    (movers_cut grid c.args.row c.args.layer.0 b.all_columns c.motion_row.result (cells_long b.members.table.items b.layers b.planes.height b.planes.words.items (b.width * b.planes.height))
+    ∙ columns-agree (λ x. column_at b.all_columns x && not (column_at c.motion_row.result x)) (λ x.
+    is_moving (slot_at grid (x * b.planes.height + c.args.row) c.args.layer.0))
+    (movers_cut grid c.args.row c.args.layer.0 b.all_columns c.motion_row.result
+    (cells_long b.members.table.items b.layers b.planes.height b.planes.words.items (b.width * b.planes.height))
     (wide_of b.all_columns b.width b.all) c.motion_row.ensures)

@@ -9,9 +9,11 @@ pub returns-clause-value : goal.returns-clause-value
 returns-clause-value g c =
     let b = c.args.self.now in
     c.object_of.ensures ∙ ap (option_map numbered) c.object_number.ensures
-    ∙ object_read b.members.table.items b.layers b.planes.height b.planes.words.items (b.width * b.planes.height) c.args.cell c.args.layer.0 c.requires.0 c.requires.1
+    ∙ object_read b.members.table.items b.layers b.planes.height b.planes.words.items (b.width * b.planes.height)
+    c.args.cell c.args.layer.0 c.requires.0 c.requires.1
 
 pub returns-clause-room : goal.returns-clause-room
 returns-clause-room g c =
     let b = c.args.self.now in
-    shown_room b.members.table.items b.planes.height b.planes.words.items c.args.cell c.args.layer.0 c.object_of.result (c.object_of.ensures ∙ ap (option_map numbered) c.object_number.ensures)
+    shown_room b.members.table.items b.planes.height b.planes.words.items c.args.cell c.args.layer.0 c.object_of.result
+    (c.object_of.ensures ∙ ap (option_map numbered) c.object_number.ensures)

@@ -8,7 +8,8 @@ use Rattle.ps_rows.proofs.row_board.RowBoardBoard.put.Goals as goal
 pub put_slot-requires-clause-objects : goal.put_slot-requires-clause-objects
 put_slot-requires-clause-objects g c =
     let b = c.args.self.now in
-    rw c.of-objects.ensures (planes_whole b.members.table.items b.layers b.planes.height b.planes.words.items c.args.layer.0 (sym b.planes.words.ok.0 ∙ b.whole))
+    rw c.of-objects.ensures (planes_whole b.members.table.items b.layers b.planes.height b.planes.words.items
+    c.args.layer.0 (sym b.planes.words.ok.0 ∙ b.whole))
 
 pub invariant_of-self-clause-objects : goal.invariant_of-self-clause-objects
 invariant_of-self-clause-objects g c =
@@ -16,13 +17,16 @@ invariant_of-self-clause-objects g c =
     let table : List ℕ = b.members.table.items in
     let layer : ℕ = c.args.layer.0 in
     let number : Option ℕ = c.number_of-object.result in
-    let so : c.put_slot.new.planes.words.items ≡ with_slot_in b.planes.height c.args.cell (on_layer table layer) number (motions_from table layer) c.args.motion b.planes.words.items =
+    let so : c.put_slot.new.planes.words.items ≡ with_slot_in b.planes.height c.args.cell (on_layer table layer) number
+    (motions_from table layer) c.args.motion b.planes.words.items =
     c.put_slot.ensures.words ∙ rw (c.of-objects.ensures, c.motions_from-first.ensures.first) refl in
     let put =
-    put_facts table b.width b.planes.height b.layers b.planes.words.items c.args.cell layer number c.args.object c.args.motion b.planes.some_row b.columns c.requires.place.0 c.requires.place.1
+    put_facts table b.width b.planes.height b.layers b.planes.words.items c.args.cell layer number c.args.object
+    c.args.motion b.planes.some_row b.columns c.requires.place.0 c.requires.place.1
     (sym b.planes.words.ok.0 ∙ b.whole) c.number_of-object.ensures c.requires.still c.requires.room in
     rw (so, c.put_slot.ensures.height)
-    (objects_kept table b.layers b.planes.height (b.width * b.planes.height) b.planes.words.items c.args.cell layer number c.args.motion put b.objects)
+    (objects_kept table b.layers b.planes.height (b.width * b.planes.height) b.planes.words.items c.args.cell layer
+    number c.args.motion put b.objects)
 
 pub invariant_of-self-clause-motions : goal.invariant_of-self-clause-motions
 invariant_of-self-clause-motions g c =
@@ -30,13 +34,16 @@ invariant_of-self-clause-motions g c =
     let table : List ℕ = b.members.table.items in
     let layer : ℕ = c.args.layer.0 in
     let number : Option ℕ = c.number_of-object.result in
-    let so : c.put_slot.new.planes.words.items ≡ with_slot_in b.planes.height c.args.cell (on_layer table layer) number (motions_from table layer) c.args.motion b.planes.words.items =
+    let so : c.put_slot.new.planes.words.items ≡ with_slot_in b.planes.height c.args.cell (on_layer table layer) number
+    (motions_from table layer) c.args.motion b.planes.words.items =
     c.put_slot.ensures.words ∙ rw (c.of-objects.ensures, c.motions_from-first.ensures.first) refl in
     let put =
-    put_facts table b.width b.planes.height b.layers b.planes.words.items c.args.cell layer number c.args.object c.args.motion b.planes.some_row b.columns c.requires.place.0 c.requires.place.1
+    put_facts table b.width b.planes.height b.layers b.planes.words.items c.args.cell layer number c.args.object
+    c.args.motion b.planes.some_row b.columns c.requires.place.0 c.requires.place.1
     (sym b.planes.words.ok.0 ∙ b.whole) c.number_of-object.ensures c.requires.still c.requires.room in
     rw (so, c.put_slot.ensures.height)
-    (motions_kept table b.layers b.planes.height (b.width * b.planes.height) b.planes.words.items c.args.cell layer number c.args.motion put b.motions)
+    (motions_kept table b.layers b.planes.height (b.width * b.planes.height) b.planes.words.items c.args.cell layer
+    number c.args.motion put b.motions)
 
 pub returns-clause-grid : goal.returns-clause-grid
 returns-clause-grid g c =
@@ -44,11 +51,14 @@ returns-clause-grid g c =
     let table : List ℕ = b.members.table.items in
     let layer : ℕ = c.args.layer.0 in
     let number : Option ℕ = c.number_of-object.result in
-    let so : c.put_slot.new.planes.words.items ≡ with_slot_in b.planes.height c.args.cell (on_layer table layer) number (motions_from table layer) c.args.motion b.planes.words.items =
+    let so : c.put_slot.new.planes.words.items ≡ with_slot_in b.planes.height c.args.cell (on_layer table layer) number
+    (motions_from table layer) c.args.motion b.planes.words.items =
     c.put_slot.ensures.words ∙ rw (c.of-objects.ensures, c.motions_from-first.ensures.first) refl in
     let put =
-    put_facts table b.width b.planes.height b.layers b.planes.words.items c.args.cell layer number c.args.object c.args.motion b.planes.some_row b.columns c.requires.place.0 c.requires.place.1
+    put_facts table b.width b.planes.height b.layers b.planes.words.items c.args.cell layer number c.args.object
+    c.args.motion b.planes.some_row b.columns c.requires.place.0 c.requires.place.1
     (sym b.planes.words.ok.0 ∙ b.whole) c.number_of-object.ensures c.requires.still c.requires.room in
     rw c.put_slot.ensures.height
-    (put_grid table b.width b.planes.height b.layers b.planes.words.items c.put_slot.new.planes.words.items c.args.cell layer number c.args.object c.args.motion put
+    (put_grid table b.width b.planes.height b.layers b.planes.words.items c.put_slot.new.planes.words.items c.args.cell
+    layer number c.args.object c.args.motion put
     c.number_of-object.ensures so)

@@ -7,4 +7,5 @@ use Rattle.ps_rows.proofs.row_board.RowBoardBoard.rows_moving_any.Given as goal
 -- the rows of the planes passed by
 abbrev pub invariant-loop-plane : goal.invariant-loop-plane
 invariant-loop-plane g l =
-    (plane row : ℕ) → row < SIDE_LIMIT → length l.self.members.table.items ≤ plane → plane < l.plane → column_at l.rows row ≡ false → column_at (row_of l.self.planes.index.items plane) row ≡ false
+    (plane row : ℕ) → row < SIDE_LIMIT → length l.self.members.table.items ≤ plane → plane < l.plane →
+    column_at l.rows row ≡ false → column_at (row_of l.self.planes.index.items plane) row ≡ false

@@ -7,16 +7,20 @@ pub returns-then-not-same_layer : goal.returns-then-not-same_layer
 returns-then-not-same_layer g c =
     let b = c.args.self.now in
     let o = c.args.other.now in
-    let tables : o.members.table.items ≡ b.members.table.items = same_Some o.members.table.items b.members.table.items c.requires.table in
+    let tables : o.members.table.items ≡ b.members.table.items =
+    same_Some o.members.table.items b.members.table.items c.requires.table in
     let on : c.loop-layer.layer < b.layers = c.loop-layer-test.true in
     rw (tables, c.requires.layers, c.requires.height, c.requires.width)
-    (board_other b.members.table.items b.width b.planes.height b.layers b.planes.words.items o.planes.words.items c.loop-layer.layer c.same_layer.result on c.if-not-same_layer.true c.same_layer.ensures.other)
+    (board_other b.members.table.items b.width b.planes.height b.layers b.planes.words.items o.planes.words.items
+    c.loop-layer.layer c.same_layer.result on c.if-not-same_layer.true c.same_layer.ensures.other)
 
 pub returns : goal.returns
 returns g c =
     let b = c.args.self.now in
     let o = c.args.other.now in
-    let tables : o.members.table.items ≡ b.members.table.items = same_Some o.members.table.items b.members.table.items c.requires.table in
+    let tables : o.members.table.items ≡ b.members.table.items =
+    same_Some o.members.table.items b.members.table.items c.requires.table in
     let end : b.layers ≤ c.loop-layer.layer = c.loop-layer-test.false in
     rw (tables, c.requires.layers, c.requires.height, c.requires.width)
-    (board_same b.members.table.items b.width b.planes.height b.layers b.planes.words.items o.planes.words.items (λ layer low. c.loop-layer.invariant layer (omega arith)))
+    (board_same b.members.table.items b.width b.planes.height b.layers b.planes.words.items o.planes.words.items
+    (λ layer low. c.loop-layer.invariant layer (omega arith)))

@@ -12,6 +12,8 @@ returns-clause-shape g c =
       rows = b.planes.rows;
       some_layer = b.some_layer;
       few_layers = b.few_layers;
-      cells = cells_long b.members.table.items b.layers b.planes.height b.planes.words.items (b.width * b.planes.height);
-      slots = slots_long b.members.table.items b.layers b.planes.height b.planes.words.items (b.width * b.planes.height);
+      cells = cells_long b.members.table.items b.layers b.planes.height b.planes.words.items
+          (b.width * b.planes.height);
+      slots = slots_long b.members.table.items b.layers b.planes.height b.planes.words.items
+          (b.width * b.planes.height);
     }

@@ -7,20 +7,24 @@ pub invariant_of-result-clause-objects : goal.invariant_of-result-clause-objects
 invariant_of-result-clause-objects g c =
     let table : List ℕ = c.in_ok-members.members.table.items in
     let count : ℕ = (c.count.result + 5 * c.args.layers) * c.args.height in
-    rw (c.in_ok-planes.ensures.words, c.in_ok-planes.ensures.height) (empty_objects table c.args.layers c.args.height (c.args.width * c.args.height) count)
+    rw (c.in_ok-planes.ensures.words, c.in_ok-planes.ensures.height)
+    (empty_objects table c.args.layers c.args.height (c.args.width * c.args.height) count)
 
 pub invariant_of-result-clause-motions : goal.invariant_of-result-clause-motions
 invariant_of-result-clause-motions g c =
     let table : List ℕ = c.in_ok-members.members.table.items in
     let count : ℕ = (c.count.result + 5 * c.args.layers) * c.args.height in
-    rw (c.in_ok-planes.ensures.words, c.in_ok-planes.ensures.height) (empty_motions table c.args.layers c.args.height (c.args.width * c.args.height) count)
+    rw (c.in_ok-planes.ensures.words, c.in_ok-planes.ensures.height)
+    (empty_motions table c.args.layers c.args.height (c.args.width * c.args.height) count)
 
 pub returns-clause-grid : goal.returns-clause-grid
 returns-clause-grid g c =
     let table : List ℕ = c.in_ok-members.members.table.items in
     let count : ℕ = (c.count.result + 5 * c.args.layers) * c.args.height in
     rw c.in_ok-planes.ensures.height
-    (new_grid table c.args.width c.args.height c.args.layers count c.in_ok-planes.planes.words.items c.in_ok-planes.ensures.words)
+    (new_grid table c.args.width c.args.height c.args.layers count c.in_ok-planes.planes.words.items
+    c.in_ok-planes.ensures.words)
 
 pub returns-clause-room : goal.returns-clause-room
-returns-clause-room g c = have_room c.in_ok-members.members.table.items c.args.own_layers.now c.in_ok-members.ensures.table
+returns-clause-room g c = have_room c.in_ok-members.members.table.items c.args.own_layers.now
+    c.in_ok-members.ensures.table

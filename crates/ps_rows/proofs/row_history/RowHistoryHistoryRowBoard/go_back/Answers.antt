@@ -7,18 +7,21 @@ use Rattle.ps_rows.proofs.row_history.RowHistoryHistoryRowBoard.go_back.Goals as
 pub returns-in_default-pop_back : goal.returns-in_default-pop_back
 returns-in_default-pop_back g c =
     rw c.take.ensures.after
-    (gone_all _ c.self.inside.latest c.in-Some.latest c.self.inside.steps.items c.in-Some.ensures.value c.in_default-pop_back.ensures.value
+    (gone_all _ c.self.inside.latest c.in-Some.latest c.self.inside.steps.items c.in-Some.ensures.value
+    c.in_default-pop_back.ensures.value
     ∙ ap (λ (history : HistoryShown). boards_before history.boards) c.self.view_is)
 
 pub taken-board-requires : goal.taken-board-requires
 taken-board-requires g c =
-    gone_leads _ c.self.inside.latest c.in-Some.latest c.in-Some-pop_back.step c.self.inside.steps.items c.in-Some.ensures.value c.in-Some-pop_back.ensures.value c.self.invariant.1.0
+    gone_leads _ c.self.inside.latest c.in-Some.latest c.in-Some-pop_back.step c.self.inside.steps.items
+    c.in-Some.ensures.value c.in-Some-pop_back.ensures.value c.self.invariant.1.0
 
 pub invariant_of-self-2 : goal.invariant_of-self-2
 invariant_of-self-2 g c = (
   ap (λ ring. ring.capacity) c.pop_back.ensures.items ∙ c.self.invariant.0,
   (
-    gone_are _ c.self.inside.latest c.in-Some.latest c.taken-board.result.0 c.in-Some-pop_back.step c.self.inside.steps.items c.pop_back.new.self.items c.in-Some.ensures.value c.in-Some-pop_back.ensures.value
+    gone_are _ c.self.inside.latest c.in-Some.latest c.taken-board.result.0 c.in-Some-pop_back.step
+        c.self.inside.steps.items c.pop_back.new.self.items c.in-Some.ensures.value c.in-Some-pop_back.ensures.value
         (ap (λ ring. ring.items) c.pop_back.ensures.items) c.taken-board.ensures.forth c.self.invariant.1.0,
     tt,
   ),
@@ -26,6 +29,7 @@ invariant_of-self-2 g c = (
 
 pub returns : goal.returns
 returns g c =
-    gone_boards _ c.self.inside.latest c.in-Some.latest c.taken-board.result.0 c.in-Some-pop_back.step c.self.inside.steps.items c.pop_back.new.self.items c.in-Some.ensures.value c.in-Some-pop_back.ensures.value
+    gone_boards _ c.self.inside.latest c.in-Some.latest c.taken-board.result.0 c.in-Some-pop_back.step
+    c.self.inside.steps.items c.pop_back.new.self.items c.in-Some.ensures.value c.in-Some-pop_back.ensures.value
     (ap (λ ring. ring.items) c.pop_back.ensures.items) c.taken-board.ensures.forth
     ∙ ap (λ (history : HistoryShown). boards_before history.boards) c.self.view_is

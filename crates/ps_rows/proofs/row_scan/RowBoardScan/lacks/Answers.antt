@@ -25,10 +25,12 @@ returns g c = λ e.
           b.planes.some_row b.planes.whole b.whole,
     ) in
     let object : ℕ = (c.args.object.now.object).0 in
-    let none : set_columns (row_of b.planes.index.items object) ≡ [] = ap set_columns (sym c.rows_of.ensures) ∙ c.is_empty.ensures.none e in
+    let none : set_columns (row_of b.planes.index.items object) ≡ [] = ap set_columns (sym c.rows_of.ensures)
+    ∙ c.is_empty.ensures.none e in
     nowhere_by_rows b.members.table.items b.width b.planes.height b.layers b.planes.words.items c.args.object.now
     b.planes.some_row
     (λ row low. not_marked b.members.table.items b.width b.planes.height b.layers b.planes.words.items
     b.planes.index.items b.planes.index.len row c.args.object.now b.planes.some_row b.columns low b.objects counted
     b.planes.marked
-    (sym c.is_on.ensures ∙ c.if-not-is_on.false) (none_in (row_of b.planes.index.items object) row none (omega (arith, low, b.planes.rows))))
+    (sym c.is_on.ensures ∙ c.if-not-is_on.false)
+    (none_in (row_of b.planes.index.items object) row none (omega (arith, low, b.planes.rows))))

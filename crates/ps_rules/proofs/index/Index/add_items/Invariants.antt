@@ -7,4 +7,5 @@ use Rattle.ps_rules.proofs.index.Index.add_items.Given as goal
 
 abbrev pub invariant-loop-item : goal.invariant-loop-item
 invariant-loop-item l = (key : Key)
-    → found_from (found_at l.self key) (numbers (filter (has_key key) (items_shown (drop l.item-index l.items)))) ≡ found_from (found_at l.initial.self key) (numbers (filter (has_key key) (items_shown l.items)))
+    → found_from (found_at l.self key) (numbers (filter (has_key key) (items_shown (drop l.item-index l.items)))) ≡
+    found_from (found_at l.initial.self key) (numbers (filter (has_key key) (items_shown l.items)))

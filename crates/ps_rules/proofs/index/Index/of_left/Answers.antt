@@ -16,12 +16,16 @@ loop-cell-preserved c =
     let here : drop i c.args.cells.now ≡ c.cell-item.result ∷ drop (i + 1) c.args.cells.now =
     drop-at c.cell-item.result c.args.cells.now i (i + 1) c.loop-cell-test.true c.cell-item.is next in
     λ key. rw (c.in_ok-add_items.ensures key, c.as_slice.ensures) (
-    sym (found_behind (found_at c.loop-cell.index key) (has_key key) (cell_shown c.cell-item.result.now).left (left_of (cell_list_shown (drop (i + 1) c.args.cells.now))))
-    ∙ ap (λ (cells : List (Bor CellPair)). found_from (found_at c.loop-cell.index key) (numbers (filter (has_key key) (left_of (cell_list_shown cells))))) (sym here)
+    sym (found_behind (found_at c.loop-cell.index key) (has_key key) (cell_shown c.cell-item.result.now).left
+    (left_of (cell_list_shown (drop (i + 1) c.args.cells.now))))
+    ∙ ap (λ (cells : List (Bor CellPair)). found_from (found_at c.loop-cell.index key)
+    (numbers (filter (has_key key) (left_of (cell_list_shown cells))))) (sym here)
     ∙ c.loop-cell.invariant key
     )
 
 pub returns : goal.returns
 returns c = λ key.
-    sym (at_drop_all (λ (cells : List (Bor CellPair)). found_from (found_at c.loop-cell.index key) (numbers (filter (has_key key) (left_of (cell_list_shown cells))))) c.args.cells.now c.loop-cell.cell-index (omega arith))
+    sym (at_drop_all (λ (cells : List (Bor CellPair)).
+    found_from (found_at c.loop-cell.index key) (numbers (filter (has_key key) (left_of (cell_list_shown cells)))))
+    c.args.cells.now c.loop-cell.cell-index (omega arith))
     ∙ c.loop-cell.invariant key

@@ -8,4 +8,6 @@ use Rattle.ps_rules.proofs.index.Index.of_left.Given as goal
 
 abbrev pub invariant-loop-cell : goal.invariant-loop-cell
 invariant-loop-cell l = (key : Key)
-    → found_from (found_at l.index key) (numbers (filter (has_key key) (left_of (cell_list_shown (drop l.cell-index l.cells))))) ≡ found_from Nothing (numbers (filter (has_key key) (left_of (cell_list_shown l.cells))))
+    → found_from (found_at l.index key) (numbers
+    (filter (has_key key) (left_of (cell_list_shown (drop l.cell-index l.cells))))) ≡ found_from Nothing
+    (numbers (filter (has_key key) (left_of (cell_list_shown l.cells))))

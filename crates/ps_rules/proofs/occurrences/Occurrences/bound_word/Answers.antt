@@ -11,5 +11,9 @@ pub returns : goal.returns
 returns c =
     c.here_or_only.ensures (numbers (filter (moves_so c.args.word) (left_items (rule_shown c.self.inside.rule.now))))
     (c.word.ensures ∙ c.self.invariant.1 (Moving c.args.word))
-    ∙ ap (λ (items : List Item). here_or_only (numbers (filter (λ item. names_it (meaning_shown c.args.meaning.now) item && moves_so c.args.word item) (items_shown items))) (numbers (filter (moves_so c.args.word) (left_items (rule_shown c.self.inside.rule.now))))) c.as_slice.ensures
-    ∙ ap (λ (rule : SourceRule). bound_word rule (cell_shown c.args.cell.now) c.args.word (meaning_shown c.args.meaning.now)) c.self.view_is
+    ∙ ap (λ (items : List Item). here_or_only (numbers
+    (filter (λ item. names_it (meaning_shown c.args.meaning.now) item && moves_so c.args.word item)
+    (items_shown items))) (numbers (filter (moves_so c.args.word)
+    (left_items (rule_shown c.self.inside.rule.now))))) c.as_slice.ensures
+    ∙ ap (λ (rule : SourceRule). bound_word rule (cell_shown c.args.cell.now) c.args.word
+    (meaning_shown c.args.meaning.now)) c.self.view_is

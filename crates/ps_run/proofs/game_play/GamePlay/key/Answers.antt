@@ -10,12 +10,14 @@ use Rattle.ps_run.proofs.game_play.GamePlay.key.Goals as goal
 pub returns-in-Ok : goal.returns-in-Ok
 returns-in-Ok c =
     turned_as _ _ _ _ _ _ _ c.self.view_is
-    (turned_in c.self.inside.game c.self.inside.plain.now c.self.inside.late.now _ _ c.args.key _ _ _ c.self.invariant.0 (turned_here _ _ _ _ _ _ _ c.in-Ok.ensures))
+    (turned_in c.self.inside.game c.self.inside.plain.now c.self.inside.late.now _ _ c.args.key _ _ _
+    c.self.invariant.0 (turned_here _ _ _ _ _ _ _ c.in-Ok.ensures))
 
 pub returns-in-Err-Memory : goal.returns-in-Err-Memory
 returns-in-Err-Memory c =
     turned_as _ _ _ _ _ _ _ c.self.view_is
-    (turned_in c.self.inside.game c.self.inside.plain.now c.self.inside.late.now _ _ c.args.key _ _ _ c.self.invariant.0 (turned_not _ _ _ _ _ _ _ _ c.in-Err-Memory.ensures))
+    (turned_in c.self.inside.game c.self.inside.plain.now c.self.inside.late.now _ _ c.args.key _ _ _
+    c.self.invariant.0 (turned_not _ _ _ _ _ _ _ _ c.in-Err-Memory.ensures))
 
 pub returns-in_err-next : goal.returns-in_err-next
 returns-in_err-next c =
@@ -25,10 +27,15 @@ returns-in_err-next c =
 
 pub returns : goal.returns
 returns c =
-    let keyed : IsKeyed (play_in c.self.inside.play) (play_in c.key.new.self) c.args.key c.args.output.now c.key.new.output (Err (Elsewhere c.in-Err-Elsewhere.entry)) =
-    subst (λ (stop : Stop). IsKeyed (play_in c.self.inside.play) (play_in c.key.new.self) c.args.key c.args.output.now c.key.new.output (Err stop)) c.in-Err-Elsewhere.field-0-is c.in-Err-Elsewhere.ensures in
-    let begun : HasBegun (script_on c.self.inside.game c.self.inside.plain.now c.self.inside.late.now) c.in-Err-Elsewhere.entry (play_in c.replace-before.new.dest) c.key.new.output c.go_on.new.output =
-    subst (λ (play : SizedPlay). HasBegun (script_on c.self.inside.game c.self.inside.plain.now c.self.inside.late.now) c.in-Err-Elsewhere.entry (play_in play) c.key.new.output c.go_on.new.output) (sym c.replace-before.ensures.after)
+    let keyed : IsKeyed (play_in c.self.inside.play) (play_in c.key.new.self) c.args.key c.args.output.now
+    c.key.new.output (Err (Elsewhere c.in-Err-Elsewhere.entry)) =
+    subst (λ (stop : Stop). IsKeyed (play_in c.self.inside.play) (play_in c.key.new.self) c.args.key c.args.output.now
+    c.key.new.output (Err stop)) c.in-Err-Elsewhere.field-0-is c.in-Err-Elsewhere.ensures in
+    let begun : HasBegun (script_on c.self.inside.game c.self.inside.plain.now c.self.inside.late.now)
+    c.in-Err-Elsewhere.entry (play_in c.replace-before.new.dest) c.key.new.output c.go_on.new.output =
+    subst (λ (play : SizedPlay). HasBegun (script_on c.self.inside.game c.self.inside.plain.now c.self.inside.late.now)
+    c.in-Err-Elsewhere.entry (play_in play) c.key.new.output c.go_on.new.output)
+    (sym c.replace-before.ensures.after)
     c.in_ok-next.ensures in
     turned_as _ _ _ _ _ _ _ c.self.view_is
     (turned_in c.self.inside.game c.self.inside.plain.now c.self.inside.late.now _ _ c.args.key _ _ _ c.self.invariant.0

@@ -4,13 +4,15 @@ use Rattle.ps_run.proofs.play.Play.play_byte.Goals as goal
 
 pub returns-in-None-clause-played : goal.returns-in-None-clause-played
 returns-in-None-clause-played g c = λ before read played.
-    rw c.next.ensures.held (silent_byte _ before _ _ c.args.self.now.keys read c.args.byte (sym c.in-None.ensures.key) played)
+    rw c.next.ensures.held (silent_byte _ before _ _ c.args.self.now.keys read c.args.byte (sym c.in-None.ensures.key)
+    played)
 
 pub returns-in-Some-clause-played : goal.returns-in-Some-clause-played
 returns-in-Some-clause-played g c = if_ok c.play_key.result
     (λ session written before read played.
     rw (c.play_key.ensures.keys, c.next.ensures.held)
-    (key_byte _ before _ _ _ _ c.args.self.now.keys read c.args.byte c.in-Some.key (sym c.in-Some.ensures.key) session written played))
+    (key_byte _ before _ _ _ _ c.args.self.now.keys read c.args.byte c.in-Some.key (sym c.in-Some.ensures.key) session
+    written played))
     c.play_key.ensures.session c.play_key.ensures.written
 
 pub returns-in-Some-clause-stops : goal.returns-in-Some-clause-stops

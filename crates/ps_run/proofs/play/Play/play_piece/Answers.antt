@@ -6,4 +6,5 @@ pub returns-in-Err-clause-stops : goal.returns-in-Err-clause-stops
 returns-in-Err-clause-stops g c = λ before read played.
     let stops = rw c.loop-byte.invariant.plays at c.in-Err.ensures.stops in
     piece_stops c.in-Err.fault _ before _ read c.args.piece.now c.loop-byte.byte-index c.loop-byte-test.true
-    (stops before (read ++ take c.loop-byte.byte-index c.args.piece.now) (c.loop-byte.invariant.played before read played))
+    (stops before (read ++ take c.loop-byte.byte-index c.args.piece.now)
+    (c.loop-byte.invariant.played before read played))

@@ -14,6 +14,7 @@ invariant-loop-byte g l =
     record {
       plays : script_in l.self.game ≡ script_in l.fn.self.game;
       well : (g.W.ByteWriter.state l.writer).has_failed ≡ false;
-      played : (before : WriterState) (read : List ℕ) → HavePlayed script before from l.fn.self.game.session l.fn.self.keys read
+      played : (before : WriterState) (read : List ℕ) →
+          HavePlayed script before from l.fn.self.game.session l.fn.self.keys read
           → HavePlayed script before now l.self.game.session l.self.keys (read ++ take l.byte-index l.piece);
     }

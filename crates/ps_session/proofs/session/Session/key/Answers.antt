@@ -13,7 +13,10 @@ invariant_of-self-2 g c =
     ap (λ (stage : StageValue). stage.game) c.commit.ensures.stage ∙ c.prepare-done.ensures.game
     ∙ c.in-Ok-Some.ensures.game ∙ c.forget_text.ensures.game in
     let here : IsOnTable table c.next_at-found.new.location = rw c.in-Ok-Some.ensures.same c.self.invariant.0 in
-    let answers : AnswersOnTable table c.in-Ok-Some.field-0 = rw (← c.forget_text.ensures.game) c.in-Ok-Some.ensures.table in
-    let comes : AnswersOnTable table (Some c.in-Ok-Some.next) = subst (AnswersOnTable table) c.in-Ok-Some.field-0-is answers in
-    let before : AreOnTable table (g.H.History.boards c.prepare-done.new.history) = rw c.prepare-done.ensures.boards c.self.invariant.1 in
+    let answers : AnswersOnTable table c.in-Ok-Some.field-0 =
+    rw (← c.forget_text.ensures.game) c.in-Ok-Some.ensures.table in
+    let comes : AnswersOnTable table (Some c.in-Ok-Some.next) =
+    subst (AnswersOnTable table) c.in-Ok-Some.field-0-is answers in
+    let before : AreOnTable table (g.H.History.boards c.prepare-done.new.history) =
+    rw c.prepare-done.ensures.boards c.self.invariant.1 in
     rw game (c.commit.ensures.location table here comes, c.commit.ensures.boards table before here)

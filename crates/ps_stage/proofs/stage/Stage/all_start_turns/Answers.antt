@@ -7,6 +7,8 @@ use Rattle.ps_stage.proofs.stage.Stage.all_start_turns.Goals as goal
 
 pub returns-clause-came : goal.returns-clause-came
 returns-clause-came g c history =
-    let script : Script = script_for g.B.Board.table_for c.args.self.now.game (g.R.Rules.meant c.args.rules.now.plain) (g.R.Rules.meant c.args.rules.now.late) in
-    ap (after c.args.self.now.text) (all_starts script (play_of history c.args.level.now) c.again_limit-most.result c.again_limit-most.ensures)
+    let script : Script = script_for g.B.Board.table_for c.args.self.now.game (g.R.Rules.meant c.args.rules.now.plain)
+    (g.R.Rules.meant c.args.rules.now.late) in
+    ap (after c.args.self.now.text) (all_starts script (play_of history c.args.level.now) c.again_limit-most.result
+    c.again_limit-most.ensures)
     ∙ c.in_ok-pending.ensures.came history

@@ -13,7 +13,8 @@ use Rattle.ps_stage.proofs.stage.Stage.begin.Goals as goal
 pub enter_level-requires-clause-playable : goal.enter_level-requires-clause-playable
 enter_level-requires-clause-playable g c =
     let within : c.args.entry < length c.entries-entries.result.now = omega arith in
-    playable_at c.args.self.now.game.names c.entries-entries.result.now c.args.self.now.game.entries c.args.entry _ c.in-Level.level c.entries-entries.ensures.entries within c.index-entries-entry.is
+    playable_at c.args.self.now.game.names c.entries-entries.result.now c.args.self.now.game.entries c.args.entry _
+    c.in-Level.level c.entries-entries.ensures.entries within c.index-entries-entry.is
     (ap entry_shown c.in-Level.is) c.entries-entries.ensures.playable
 
 pub enter_level-requires-clause-fits : goal.enter_level-requires-clause-fits
@@ -25,20 +26,26 @@ enter_level-requires-clause-fits g c =
 pub returns-in_ok-tell-in-Message-clause-came : goal.returns-in_ok-tell-in-Message-clause-came
 returns-in_ok-tell-in-Message-clause-came g c =
     let script : Script =
-    script_for g.B.Board.table_for c.args.self.now.game (g.R.Rules.meant c.args.rules.now.plain) (g.R.Rules.meant c.args.rules.now.late) in
+    script_for g.B.Board.table_for c.args.self.now.game (g.R.Rules.meant c.args.rules.now.plain)
+    (g.R.Rules.meant c.args.rules.now.late) in
     let within : c.args.entry < length c.entries-entries.result.now = omega arith in
     ap (λ (o : Option Meant). after c.args.self.now.text (entered script c.args.entry o))
-    (entry_found c.entries-entries.result.now c.args.self.now.game.entries c.args.entry _ c.entries-entries.ensures.entries within c.index-entries-entry.is)
-    ∙ ap (λ (x : Entry). after c.args.self.now.text (entered script c.args.entry (Some (entry_shown x)))) c.in-Message.is
+    (entry_found c.entries-entries.result.now c.args.self.now.game.entries c.args.entry _
+    c.entries-entries.ensures.entries within c.index-entries-entry.is)
+    ∙ ap (λ (x : Entry). after c.args.self.now.text (entered script c.args.entry (Some (entry_shown x))))
+    c.in-Message.is
     ∙ rw (c.in_ok-tell-in-Message.ensures.told, c.as_str.ensures, c.new-number.ensures) refl
 
 pub returns-in_ok-location-in-Level-clause-came : goal.returns-in_ok-location-in-Level-clause-came
 returns-in_ok-location-in-Level-clause-came g c =
     let script : Script =
-    script_for g.B.Board.table_for c.args.self.now.game (g.R.Rules.meant c.args.rules.now.plain) (g.R.Rules.meant c.args.rules.now.late) in
+    script_for g.B.Board.table_for c.args.self.now.game (g.R.Rules.meant c.args.rules.now.plain)
+    (g.R.Rules.meant c.args.rules.now.late) in
     let within : c.args.entry < length c.entries-entries.result.now = omega arith in
     ap (λ (o : Option Meant). after c.args.self.now.text (entered script c.args.entry o))
-    (entry_found c.entries-entries.result.now c.args.self.now.game.entries c.args.entry _ c.entries-entries.ensures.entries within c.index-entries-entry.is)
+    (entry_found c.entries-entries.result.now c.args.self.now.game.entries c.args.entry _
+    c.entries-entries.ensures.entries within c.index-entries-entry.is)
     ∙ ap (λ (x : Entry). after c.args.self.now.text (entered script c.args.entry (Some (entry_shown x)))) c.in-Level.is
-    ∙ ap (λ (n : ℕ). after c.args.self.now.text (entered script n (Some (LevelEntry c.in-Level.level)))) (sym c.new-number.ensures)
+    ∙ ap (λ (n : ℕ). after c.args.self.now.text (entered script n (Some (LevelEntry c.in-Level.level))))
+    (sym c.new-number.ensures)
     ∙ c.in_ok-location-in-Level.ensures.came

@@ -12,7 +12,8 @@ use Rattle.ps_stage.proofs.stage.Stage.finish_key.Goals as goal
 
 pub returns-in-Ok-clause-came : goal.returns-in-Ok-clause-came
 returns-in-Ok-clause-came g c history first =
-    let script : Script = script_for g.B.Board.table_for c.args.self.now.game (g.R.Rules.meant c.args.rules.now.plain) (g.R.Rules.meant c.args.rules.now.late) in
+    let script : Script = script_for g.B.Board.table_for c.args.self.now.game (g.R.Rules.meant c.args.rules.now.plain)
+    (g.R.Rules.meant c.args.rules.now.late) in
     let behind : List Grid = history_behind c.args.history_change history first.board in
     ap (λ (end : KeyEnd). key_end_step script end (play_of behind c.args.level) c.args.self.now.text) c.in-Won.is
     ∙ c.in-Ok.ensures.came behind
@@ -20,8 +21,13 @@ returns-in-Ok-clause-came g c history first =
 
 pub returns-in-Err-clause-stopped : goal.returns-in-Err-clause-stopped
 returns-in-Err-clause-stopped g c history first =
-    let script : Script = script_for g.B.Board.table_for c.args.self.now.game (g.R.Rules.meant c.args.rules.now.plain) (g.R.Rules.meant c.args.rules.now.late) in
+    let script : Script = script_for g.B.Board.table_for c.args.self.now.game (g.R.Rules.meant c.args.rules.now.plain)
+    (g.R.Rules.meant c.args.rules.now.late) in
     let behind : List Grid = history_behind c.args.history_change history first.board in
-    subst (λ (end : KeyEnd). IsStopped script c.in-Err.stop (key_end_step script end (play_of behind c.args.level) c.args.self.now.text) c.keep_level.new.self.text) (sym c.in-Won.is)
-    (subst (λ (stage : StageValue). IsStopped script c.in-Err.stop (after c.args.self.now.text (level_done script (play_of behind c.args.level))) stage.text) (sym c.keep_level.ensures)
+    subst (λ (end : KeyEnd). IsStopped script c.in-Err.stop
+    (key_end_step script end (play_of behind c.args.level) c.args.self.now.text) c.keep_level.new.self.text)
+    (sym c.in-Won.is)
+    (subst (λ (stage : StageValue). IsStopped script c.in-Err.stop
+    (after c.args.self.now.text (level_done script (play_of behind c.args.level))) stage.text)
+    (sym c.keep_level.ensures)
     (c.in-Err.ensures.stopped behind))

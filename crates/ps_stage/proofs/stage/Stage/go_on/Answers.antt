@@ -12,14 +12,19 @@ use Rattle.ps_stage.proofs.stage.Stage.go_on.Goals as goal
 
 pub returns-in-Ok-clause-came : goal.returns-in-Ok-clause-came
 returns-in-Ok-clause-came g c history =
-    let script : Script = script_for g.B.Board.table_for c.args.self.now.game (g.R.Rules.meant c.args.rules.now.plain) (g.R.Rules.meant c.args.rules.now.late) in
-    ap (λ (pending : Pending). after c.args.self.now.text (gone_on script (play_of history c.args.level.now) (pending_shown pending))) c.in-LevelDone.is
+    let script : Script = script_for g.B.Board.table_for c.args.self.now.game (g.R.Rules.meant c.args.rules.now.plain)
+    (g.R.Rules.meant c.args.rules.now.late) in
+    ap (λ (pending : Pending). after c.args.self.now.text
+    (gone_on script (play_of history c.args.level.now) (pending_shown pending))) c.in-LevelDone.is
     ∙ c.in-Ok.ensures.came history
 
 pub returns-in-Err-clause-stopped : goal.returns-in-Err-clause-stopped
 returns-in-Err-clause-stopped g c history =
-    let script : Script = script_for g.B.Board.table_for c.args.self.now.game (g.R.Rules.meant c.args.rules.now.plain) (g.R.Rules.meant c.args.rules.now.late) in
-    subst (λ (pending : Pending). IsStopped script c.in-Err.stop (after c.args.self.now.text (gone_on script (play_of history c.args.level.now) (pending_shown pending))) c.level_done.new.self.text)
+    let script : Script = script_for g.B.Board.table_for c.args.self.now.game (g.R.Rules.meant c.args.rules.now.plain)
+    (g.R.Rules.meant c.args.rules.now.late) in
+    subst (λ (pending : Pending). IsStopped script c.in-Err.stop
+    (after c.args.self.now.text (gone_on script (play_of history c.args.level.now) (pending_shown pending)))
+    c.level_done.new.self.text)
     (sym c.in-LevelDone.is) (c.in-Err.ensures.stopped history)
 
 pub returns-in-Err-finish_key-clause-stopped : goal.returns-in-Err-finish_key-clause-stopped
@@ -29,17 +34,25 @@ returns-in-Err-finish_key-clause-stopped g c history =
     let late = g.R.Rules.meant c.args.rules.now.late in
     let here : Script = script_for table_for c.args.self.now.game plain late in
     let inside : Script = script_for table_for c.self.inside.game plain late in
-    let then : Script = script_for table_for c.key_turns.new.self.game (g.R.Rules.meant c.key_turns.new.rules.plain) (g.R.Rules.meant c.key_turns.new.rules.late) in
+    let then : Script = script_for table_for c.key_turns.new.self.game (g.R.Rules.meant c.key_turns.new.rules.plain)
+    (g.R.Rules.meant c.key_turns.new.rules.late) in
     let same : then ≡ inside =
-    same_script table_for c.self.inside.game c.key_turns.new.self.game plain late (g.R.Rules.meant c.key_turns.new.rules.plain) (g.R.Rules.meant c.key_turns.new.rules.late)
+    same_script table_for c.self.inside.game c.key_turns.new.self.game plain late
+    (g.R.Rules.meant c.key_turns.new.rules.plain) (g.R.Rules.meant c.key_turns.new.rules.late)
     c.in_ok-end-in-KeyAgain.ensures.game c.in_ok-end-in-KeyAgain.ensures.plain c.in_ok-end-in-KeyAgain.ensures.late in
-    let ended : after c.args.self.now.text (gone_on here (play_of history c.args.level.now) (pending_shown c.args.pending))
+    let ended : after c.args.self.now.text (gone_on here (play_of history c.args.level.now)
+    (pending_shown c.args.pending))
     ≡ key_end_step then c.in_ok-end-in-KeyAgain.end (play_of history c.key_turns.new.level) c.key_turns.new.self.text =
-    ap (λ (pending : Pending). after c.args.self.now.text (gone_on here (play_of history c.args.level.now) (pending_shown pending))) c.in-KeyAgain.is
-    ∙ ap (λ (stage : StageValue). after stage.text (key_turns (script_for table_for stage.game plain late) c.in-KeyAgain.left (play_of history c.args.level.now))) (sym c.self.view_is)
-    ∙ ap (λ (level : Standing). after c.self.inside.text (key_turns inside c.in-KeyAgain.left (play_of history level))) (sym c.in_ok-next-in-KeyAgain.ensures)
+    ap (λ (pending : Pending). after c.args.self.now.text
+    (gone_on here (play_of history c.args.level.now) (pending_shown pending))) c.in-KeyAgain.is
+    ∙ ap (λ (stage : StageValue). after stage.text
+    (key_turns (script_for table_for stage.game plain late) c.in-KeyAgain.left (play_of history c.args.level.now)))
+    (sym c.self.view_is)
+    ∙ ap (λ (level : Standing). after c.self.inside.text (key_turns inside c.in-KeyAgain.left (play_of history level)))
+    (sym c.in_ok-next-in-KeyAgain.ensures)
     ∙ c.in_ok-end-in-KeyAgain.ensures.came history
-    ∙ ap (λ (script : Script). key_end_step script c.in_ok-end-in-KeyAgain.end (play_of history c.key_turns.new.level) c.key_turns.new.self.text) (sym same) in
+    ∙ ap (λ (script : Script). key_end_step script c.in_ok-end-in-KeyAgain.end (play_of history c.key_turns.new.level)
+    c.key_turns.new.self.text) (sym same) in
     stopped_as here then c.in-Err-finish_key.stop _ _ c.finish_key.new.self.text
     (same ∙ ap (λ (stage : StageValue). script_for table_for stage.game plain late) c.self.view_is)
     ended (c.in-Err-finish_key.ensures.stopped history c.args.level.now)

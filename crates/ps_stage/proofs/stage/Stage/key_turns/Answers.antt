@@ -11,19 +11,26 @@ use Rattle.ps_stage.proofs.stage.Stage.key_turns.Goals as goal
 pub returns-in-Ends-clause-came : goal.returns-in-Ends-clause-came
 returns-in-Ends-clause-came g c history =
     let count : c.loop-left.left ≡ suc (c.loop-left.left - 1) = omega arith in
-    let script : Script = script_for g.B.Board.table_for c.args.self.now.game (g.R.Rules.meant c.args.rules.now.plain) (g.R.Rules.meant c.args.rules.now.late) in
+    let script : Script = script_for g.B.Board.table_for c.args.self.now.game (g.R.Rules.meant c.args.rules.now.plain)
+    (g.R.Rules.meant c.args.rules.now.late) in
     one_more key_turns g.B.Board.table_for c.args.self.now.game c.loop-left.self.game
     (g.R.Rules.meant c.args.rules.now.plain) (g.R.Rules.meant c.args.rules.now.late)
-    (g.R.Rules.meant c.loop-left.rules.plain) (g.R.Rules.meant c.loop-left.rules.late) c.args.self.now.text c.loop-left.self.text
-    c.args.most c.loop-left.left (c.loop-left.left - 1) (play_of history c.args.level.now) (play_of history c.loop-left.level)
-    (λ (s : Script) (turns : Play → Step). key_told_step s c.in_ok-end.field-0 (play_of history c.key_turn.new.level) c.key_turn.new.self.text turns)
-    c.loop-left.invariant.game c.loop-left.invariant.plain c.loop-left.invariant.late count (c.loop-left.invariant.rest history) (c.in_ok-end.ensures.told history)
-    ∙ ap (λ (told : KeyTold). key_told_step script told (play_of history c.key_turn.new.level) c.key_turn.new.self.text (key_turns script (c.loop-left.left - 1))) c.in-Ends.is
+    (g.R.Rules.meant c.loop-left.rules.plain) (g.R.Rules.meant c.loop-left.rules.late) c.args.self.now.text
+    c.loop-left.self.text
+    c.args.most c.loop-left.left (c.loop-left.left - 1) (play_of history c.args.level.now)
+    (play_of history c.loop-left.level)
+    (λ (s : Script) (turns : Play → Step). key_told_step s c.in_ok-end.field-0 (play_of history c.key_turn.new.level)
+    c.key_turn.new.self.text turns)
+    c.loop-left.invariant.game c.loop-left.invariant.plain c.loop-left.invariant.late count
+    (c.loop-left.invariant.rest history) (c.in_ok-end.ensures.told history)
+    ∙ ap (λ (told : KeyTold). key_told_step script told (play_of history c.key_turn.new.level) c.key_turn.new.self.text
+    (key_turns script (c.loop-left.left - 1))) c.in-Ends.is
 
 pub loop-left-preserved : goal.loop-left-preserved
 loop-left-preserved g c =
     let count : c.loop-left.left ≡ suc (c.loop-left.left - 1) = omega arith in
-    let script : Script = script_for g.B.Board.table_for c.args.self.now.game (g.R.Rules.meant c.args.rules.now.plain) (g.R.Rules.meant c.args.rules.now.late) in
+    let script : Script = script_for g.B.Board.table_for c.args.self.now.game (g.R.Rules.meant c.args.rules.now.plain)
+    (g.R.Rules.meant c.args.rules.now.late) in
     record {
       game = c.in_ok-end.ensures.game ∙ c.loop-left.invariant.game;
       plain = c.in_ok-end.ensures.plain ∙ c.loop-left.invariant.plain;
@@ -32,9 +39,14 @@ loop-left-preserved g c =
       rest = λ history.
           one_more key_turns g.B.Board.table_for c.args.self.now.game c.loop-left.self.game
           (g.R.Rules.meant c.args.rules.now.plain) (g.R.Rules.meant c.args.rules.now.late)
-          (g.R.Rules.meant c.loop-left.rules.plain) (g.R.Rules.meant c.loop-left.rules.late) c.args.self.now.text c.loop-left.self.text
-          c.args.most c.loop-left.left (c.loop-left.left - 1) (play_of history c.args.level.now) (play_of history c.loop-left.level)
-          (λ (s : Script) (turns : Play → Step). key_told_step s c.in_ok-end.field-0 (play_of history c.key_turn.new.level) c.key_turn.new.self.text turns)
-          c.loop-left.invariant.game c.loop-left.invariant.plain c.loop-left.invariant.late count (c.loop-left.invariant.rest history) (c.in_ok-end.ensures.told history)
-          ∙ ap (λ (told : KeyTold). key_told_step script told (play_of history c.key_turn.new.level) c.key_turn.new.self.text (key_turns script (c.loop-left.left - 1))) c.in-GoesOn.is;
+          (g.R.Rules.meant c.loop-left.rules.plain) (g.R.Rules.meant c.loop-left.rules.late) c.args.self.now.text
+          c.loop-left.self.text
+          c.args.most c.loop-left.left (c.loop-left.left - 1) (play_of history c.args.level.now)
+          (play_of history c.loop-left.level)
+          (λ (s : Script) (turns : Play → Step).
+          key_told_step s c.in_ok-end.field-0 (play_of history c.key_turn.new.level) c.key_turn.new.self.text turns)
+          c.loop-left.invariant.game c.loop-left.invariant.plain c.loop-left.invariant.late count
+          (c.loop-left.invariant.rest history) (c.in_ok-end.ensures.told history)
+          ∙ ap (λ (told : KeyTold). key_told_step script told (play_of history c.key_turn.new.level)
+          c.key_turn.new.self.text (key_turns script (c.loop-left.left - 1))) c.in-GoesOn.is;
     }

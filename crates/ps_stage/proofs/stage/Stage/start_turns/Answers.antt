@@ -13,12 +13,17 @@ returns-in-Stops-clause-came g c history =
     let count : c.loop-left.left ≡ suc (c.loop-left.left - 1) = omega arith in
     one_more start_turns g.B.Board.table_for c.args.self.now.game c.loop-left.self.game
     (g.R.Rules.meant c.args.rules.now.plain) (g.R.Rules.meant c.args.rules.now.late)
-    (g.R.Rules.meant c.loop-left.rules.plain) (g.R.Rules.meant c.loop-left.rules.late) c.args.self.now.text c.loop-left.self.text
-    c.args.most c.loop-left.left (c.loop-left.left - 1) (play_of history c.args.level.now) (play_of history c.loop-left.level)
-    (λ (script : Script) (turns : Play → Step). told_step c.in_ok-pending.field-0 (play_of history c.start_turn.new.level) c.start_turn.new.self.text turns)
-    c.loop-left.invariant.game c.loop-left.invariant.plain c.loop-left.invariant.late count (c.loop-left.invariant.rest history) (c.in_ok-pending.ensures.told history)
+    (g.R.Rules.meant c.loop-left.rules.plain) (g.R.Rules.meant c.loop-left.rules.late) c.args.self.now.text
+    c.loop-left.self.text
+    c.args.most c.loop-left.left (c.loop-left.left - 1) (play_of history c.args.level.now)
+    (play_of history c.loop-left.level)
+    (λ (script : Script) (turns : Play → Step).
+    told_step c.in_ok-pending.field-0 (play_of history c.start_turn.new.level) c.start_turn.new.self.text turns)
+    c.loop-left.invariant.game c.loop-left.invariant.plain c.loop-left.invariant.late count
+    (c.loop-left.invariant.rest history) (c.in_ok-pending.ensures.told history)
     ∙ ap (λ (told : StartTold). told_step told (play_of history c.start_turn.new.level) c.start_turn.new.self.text
-    (start_turns (script_for g.B.Board.table_for c.args.self.now.game (g.R.Rules.meant c.args.rules.now.plain) (g.R.Rules.meant c.args.rules.now.late)) (c.loop-left.left - 1))) c.in-Stops.is
+    (start_turns (script_for g.B.Board.table_for c.args.self.now.game (g.R.Rules.meant c.args.rules.now.plain)
+    (g.R.Rules.meant c.args.rules.now.late)) (c.loop-left.left - 1))) c.in-Stops.is
 
 pub loop-left-preserved : goal.loop-left-preserved
 loop-left-preserved g c =
@@ -31,10 +36,16 @@ loop-left-preserved g c =
       rest = λ history.
           one_more start_turns g.B.Board.table_for c.args.self.now.game c.loop-left.self.game
           (g.R.Rules.meant c.args.rules.now.plain) (g.R.Rules.meant c.args.rules.now.late)
-          (g.R.Rules.meant c.loop-left.rules.plain) (g.R.Rules.meant c.loop-left.rules.late) c.args.self.now.text c.loop-left.self.text
-          c.args.most c.loop-left.left (c.loop-left.left - 1) (play_of history c.args.level.now) (play_of history c.loop-left.level)
-          (λ (script : Script) (turns : Play → Step). told_step c.in_ok-pending.field-0 (play_of history c.start_turn.new.level) c.start_turn.new.self.text turns)
-          c.loop-left.invariant.game c.loop-left.invariant.plain c.loop-left.invariant.late count (c.loop-left.invariant.rest history) (c.in_ok-pending.ensures.told history)
+          (g.R.Rules.meant c.loop-left.rules.plain) (g.R.Rules.meant c.loop-left.rules.late) c.args.self.now.text
+          c.loop-left.self.text
+          c.args.most c.loop-left.left (c.loop-left.left - 1) (play_of history c.args.level.now)
+          (play_of history c.loop-left.level)
+          (λ (script : Script) (turns : Play → Step).
+          told_step c.in_ok-pending.field-0 (play_of history c.start_turn.new.level) c.start_turn.new.self.text
+          turns)
+          c.loop-left.invariant.game c.loop-left.invariant.plain c.loop-left.invariant.late count
+          (c.loop-left.invariant.rest history) (c.in_ok-pending.ensures.told history)
           ∙ ap (λ (told : StartTold). told_step told (play_of history c.start_turn.new.level) c.start_turn.new.self.text
-          (start_turns (script_for g.B.Board.table_for c.args.self.now.game (g.R.Rules.meant c.args.rules.now.plain) (g.R.Rules.meant c.args.rules.now.late)) (c.loop-left.left - 1))) c.in-GoesOn.is;
+          (start_turns (script_for g.B.Board.table_for c.args.self.now.game (g.R.Rules.meant c.args.rules.now.plain)
+          (g.R.Rules.meant c.args.rules.now.late)) (c.loop-left.left - 1))) c.in-GoesOn.is;
     }

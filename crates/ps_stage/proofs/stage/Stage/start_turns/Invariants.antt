@@ -12,11 +12,13 @@ decreases-loop-left g l = l.left
 -- what is left comes to the same as all
 abbrev pub invariant-loop-left : goal.invariant-loop-left
 invariant-loop-left g l =
-    let script : Script = script_for g.B.Board.table_for l.fn.self.game (g.R.Rules.meant l.fn.rules.plain) (g.R.Rules.meant l.fn.rules.late) in
+    let script : Script = script_for g.B.Board.table_for l.fn.self.game (g.R.Rules.meant l.fn.rules.plain)
+    (g.R.Rules.meant l.fn.rules.late) in
     record {
       game : l.self.game ≡ l.fn.self.game;
       plain : g.R.Rules.meant l.rules.plain ≡ g.R.Rules.meant l.fn.rules.plain;
       late : g.R.Rules.meant l.rules.late ≡ g.R.Rules.meant l.fn.rules.late;
       table : l.level.table ≡ l.fn.level.table;
-      rest : (history : List Grid) → after l.fn.self.text (start_turns script l.most (play_of history l.fn.level)) ≡ after l.self.text (start_turns script l.left (play_of history l.level));
+      rest : (history : List Grid) → after l.fn.self.text (start_turns script l.most (play_of history l.fn.level)) ≡
+          after l.self.text (start_turns script l.left (play_of history l.level));
     }

@@ -11,21 +11,25 @@ use Rattle.ps_stage.proofs.stage.Stage.started.Goals as goal
 
 pub returns-in-Stops-clause-came : goal.returns-in-Stops-clause-came
 returns-in-Stops-clause-came g c history =
-    let script : Script = script_for g.B.Board.table_for c.args.self.now.game (g.R.Rules.meant c.args.rules.now.plain) (g.R.Rules.meant c.args.rules.now.late) in
+    let script : Script = script_for g.B.Board.table_for c.args.self.now.game (g.R.Rules.meant c.args.rules.now.plain)
+    (g.R.Rules.meant c.args.rules.now.late) in
     let next : Play = play_of history c.show_level.new.level in
     shown_first script (play_of history c.args.level.now) next c.args.self.now.text c.show_level.new.self.text
     (λ (play : Play). start_told play c.args.message.now c.args.again AGAIN_LIMIT (all_start_turns script))
-    (ap (play_of history) c.show_level.ensures.level) (c.in_ok-show_level.ensures.shown history script.plain script.late)
+    (ap (play_of history) c.show_level.ensures.level)
+    (c.in_ok-show_level.ensures.shown history script.plain script.late)
     ∙ c.in_ok-pending.ensures.told next (all_start_turns script)
     ∙ ap (λ (told : StartTold). told_step told next c.tell_start.new.self.text (all_start_turns script)) c.in-Stops.is
 
 pub returns-in_ok-pending-in-GoesOn-clause-came : goal.returns-in_ok-pending-in-GoesOn-clause-came
 returns-in_ok-pending-in-GoesOn-clause-came g c history =
-    let script : Script = script_for g.B.Board.table_for c.args.self.now.game (g.R.Rules.meant c.args.rules.now.plain) (g.R.Rules.meant c.args.rules.now.late) in
+    let script : Script = script_for g.B.Board.table_for c.args.self.now.game (g.R.Rules.meant c.args.rules.now.plain)
+    (g.R.Rules.meant c.args.rules.now.late) in
     let next : Play = play_of history c.show_level.new.level in
     shown_first script (play_of history c.args.level.now) next c.args.self.now.text c.show_level.new.self.text
     (λ (play : Play). start_told play c.args.message.now c.args.again AGAIN_LIMIT (all_start_turns script))
-    (ap (play_of history) c.show_level.ensures.level) (c.in_ok-show_level.ensures.shown history script.plain script.late)
+    (ap (play_of history) c.show_level.ensures.level)
+    (c.in_ok-show_level.ensures.shown history script.plain script.late)
     ∙ c.in_ok-pending.ensures.told next (all_start_turns script)
     ∙ ap (λ (told : StartTold). told_step told next c.tell_start.new.self.text (all_start_turns script)) c.in-GoesOn.is
     ∙ rw (c.in_ok-pending.ensures.game, c.show_level.ensures.game) at (c.in_ok-pending-in-GoesOn.ensures.came history)

@@ -13,7 +13,8 @@ returns-in-Ok-clause-came g c history =
     let turned = sym c.in_ok-message.ensures.outcome ∙ ap tried_outcome c.in-Done.is in
     let next : c.in-Done.next ≡ with_done c.args.level.now c.in-Done.done c.in-Done.next.board =
     subst (IsNext c.args.level.now) c.in-Done.is c.in_ok-message.ensures.next in
-    tried_done g.B.Board.table_for _ _ _ _ _ _ c.args.level.now c.in-Done.next history c.in-Done.done c.args.input c.self.view_is turned next
+    tried_done g.B.Board.table_for _ _ _ _ _ _ c.args.level.now c.in-Done.next history c.in-Done.done c.args.input
+    c.self.view_is turned next
     c.in_ok-message.ensures.plain c.in_ok-message.ensures.late
     ∙ c.in-Ok.ensures.came history c.args.level.now
 
@@ -23,7 +24,9 @@ returns-clause-stopped g c = λ history.
     let next : c.in-Done.next ≡ with_done c.args.level.now c.in-Done.done c.in-Done.next.board =
     subst (IsNext c.args.level.now) c.in-Done.is c.in_ok-message.ensures.next in
     stopped_as _ _ c.in-Err.stop _ _ c.follow_key.new.self.text
-    (same_script g.B.Board.table_for _ _ _ _ _ _ (ap (λ (stage : StageValue). stage.game) c.self.view_is) c.in_ok-message.ensures.plain c.in_ok-message.ensures.late)
-    (tried_done g.B.Board.table_for _ _ _ _ _ _ c.args.level.now c.in-Done.next history c.in-Done.done c.args.input c.self.view_is turned next
+    (same_script g.B.Board.table_for _ _ _ _ _ _ (ap (λ (stage : StageValue). stage.game) c.self.view_is)
+    c.in_ok-message.ensures.plain c.in_ok-message.ensures.late)
+    (tried_done g.B.Board.table_for _ _ _ _ _ _ c.args.level.now c.in-Done.next history c.in-Done.done c.args.input
+    c.self.view_is turned next
     c.in_ok-message.ensures.plain c.in_ok-message.ensures.late)
     (c.in-Err.ensures.stopped history c.args.level.now)

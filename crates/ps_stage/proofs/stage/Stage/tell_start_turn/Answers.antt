@@ -10,8 +10,10 @@ pub returns-clause-told : goal.returns-clause-told
 returns-clause-told g c history plain late turns =
     let script : Script = script_of c.args.self.now.game plain late in
     let changed : c.args.done.now.changed ≡ true = search rules in
-    ap (after c.args.self.now.text) (start_of script (play_of history c.args.level.now) c.args.done.now c.args.left turns changed)
-    ∙ shown_first script (play_of history c.args.level.now) (play_of history c.show_level.new.level) c.args.self.now.text c.show_level.new.self.text
+    ap (after c.args.self.now.text) (start_of script (play_of history c.args.level.now) c.args.done.now c.args.left
+    turns changed)
+    ∙ shown_first script (play_of history c.args.level.now) (play_of history c.show_level.new.level)
+    c.args.self.now.text c.show_level.new.self.text
     (λ (play : Play). start_told play c.args.done.now.message c.args.done.now.again c.args.left turns)
     (ap (play_of history) c.show_level.ensures.level) (c.in_ok-show_level.ensures.shown history plain late)
     ∙ c.in_ok-told.ensures.told (play_of history c.show_level.new.level) turns
