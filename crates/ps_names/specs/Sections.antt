@@ -10,18 +10,25 @@ use Rattle.ps_model.specs.names.Names.{Meaning}
 use Rattle.ps_model.specs.text.WrittenLines.{WrittenLine}
 use Rattle.ps_model.specs.names.ObjectLines.{ObjectText, object_names}
 use Rattle.ps_model.specs.names.LegendLines.{declarations}
-use Rattle.ps_model.specs.names.Meanings.{LegendName, legend_names, legend_meanings, is_aggregate}
+use Rattle.ps_model.specs.names.Meanings.{LegendName, legend_name, legend_names, legend_meanings, is_aggregate}
 use Rattle.ps_model.specs.names.LayerLines.{Layer, layers_found}
 use Rattle.ps_model.specs.names.DeclarationFaults.{object_faults, form_faults, naming_faults}
 use Rattle.ps_model.specs.names.NameFaults.{folded_names, is_bad_background}
-use Rattle.ps_names.specs.Known.{Named, named_object}
+use Rattle.ps_names.specs.Known.{Named, mentions_of_names, named_object}
 use Rattle.ps_names.specs.LegendShown.{named_line}
 use Rattle.ps_names.specs.Wholes.{no_layers, missing, faults_of_lines, lines_of_name, shared_layers}
 
+-- names that are known, and behind them those that legend lines declare
+abbrev pub known_with : List Named → List WrittenLine → List Named
+known_with known lines = known ++ map named_line (enumerate_from 0 (declarations lines))
+
 -- the names that objects and legend lines declare
 abbrev pub known_of : List ObjectText → List WrittenLine → List Named
-known_of objects lines = map named_object (object_names objects) ++ map named_line
-    (enumerate_from 0 (declarations lines))
+known_of objects lines = known_with (map named_object (object_names objects)) lines
+
+-- the names of the legend where these names are known
+abbrev pub legend_among : List Named → List WrittenLine → List LegendName
+legend_among known lines = map (legend_name (mentions_of_names known)) (declarations lines)
 
 -- the names of the legend
 abbrev pub legend_of : List ObjectText → List WrittenLine → List LegendName

@@ -1,7 +1,7 @@
 //! What the sections give, one behind the other.
 
 ghost use Rattle.std.specs.Prelude.{◌≡◌, ◌≤◌, ◌<◌, ◌++◌, [], Some, IfOk, OnOk, IfErr, length, map, List, unwrap_or};
-ghost use Rattle.ps_model.specs.names.DeclarationFaults.{layer_faults};
+ghost use Rattle.ps_model.specs.names.DeclarationFaults.{form_faults, layer_faults};
 ghost use Rattle.ps_model.specs.text.Faults.{first_fault};
 ghost use Rattle.ps_model.specs.names.LayerLines.{layers_of_lines};
 ghost use Rattle.ps_model.specs.declared.limits.TheConstants.{OBJECT_LIMIT, LAYER_LIMIT};
@@ -10,8 +10,10 @@ ghost use Rattle.ps_names.specs.LegendNames.{legend_shown};
 ghost use Rattle.ps_names.specs.LinesShown.{objects_shown, lines_shown};
 ghost use Rattle.ps_names.specs.MeaningSteps.{meanings_shown};
 ghost use Rattle.ps_names.specs.NamesShown.{layer_numbers_shown};
+ghost use Rattle.ps_names.specs.Known.{keys};
 ghost use Rattle.ps_names.specs.Sections.{declared_of, declaring_faults, layering_of, faults_of_whole};
-ghost use Rattle.ps_names.specs.SectionsShown.{declared_seen, layering_seen};
+ghost use Rattle.ps_names.specs.Sections.{known_with, legend_among, legend_with, legend_faults};
+ghost use Rattle.ps_names.specs.SectionsShown.{declared_seen, layering_seen, legend_seen};
 ghost use Rattle.ps_model.specs.text.Reads.{ReadsAs};
 ghost use Rattle.ps_names.specs.Tables.{entries_with};
 
@@ -44,6 +46,23 @@ pub struct Layering {
     pub count: u32,
 }
 
+/// Reads what LEGEND declares, and takes its names into those that are known. `Refused`: a line has a fault.
+pub fn declared_legend<'a>(
+    alloc: Global,
+    known: &mut Known,
+    lines: &[WrittenLine<'a>],
+) -> Result<Legend<'a>, Refusal>
+    requires few { length lines.now ≤ 4294967295 }
+    ensures reads { ReadsAs legend_seen result
+        (legend_with (legend_among (known_with known.old (lines_shown lines.now)) (lines_shown lines.now)))
+        (form_faults (keys known.old) (lines_shown lines.now)
+        ++ legend_faults (legend_among (known_with known.old (lines_shown lines.now)) (lines_shown lines.now))) }
+    ensures known { OnOk result (known.new ≡ known_with known.old (lines_shown lines.now)) }
+{
+    let declarations = declare_legend(alloc, known, lines)?;
+    read_legend(alloc, known, &declarations)
+}
+
 /// Reads what OBJECTS and LEGEND declare. `Refused`: a line of theirs has a fault.
 pub fn declare_names<'a>(
     alloc: Global,
@@ -57,8 +76,7 @@ pub fn declare_names<'a>(
     ensures few { OnOk result (length objects.now ≤ OBJECT_LIMIT) }
 {
     let mut known = known_objects(alloc, objects)?;
-    let declarations = declare_legend(alloc, &mut known, lines)?;
-    let legend = read_legend(alloc, &known, &declarations)?;
+    let legend = declared_legend(alloc, &mut known, lines)?;
     Ok(Declared { known, legend })
 }
 
