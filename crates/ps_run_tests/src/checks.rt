@@ -1,14 +1,32 @@
 //! Texts that are checked, and the lines on them.
 
-use crate::games::PUSHING;
+use crate::games::{NAMES, PUSH, PUSHING, repeated};
 use ps_check::{CheckFault, check};
 use ps_devices::MemoryWriter;
+use ps_model::TEXT_LIMIT;
 use std::test::Fail;
 
 #[test]
 fn tells_how_large_a_game_is(rt: HostRuntime) -> Result<(), Fail> {
     let mut writer = MemoryWriter::new(rt.alloc(), 100, 7)?;
     assert_eq!(rt; check(rt.alloc(), PUSHING, &mut writer), Ok(true));
+    assert_eq!(rt;
+        writer.bytes(),
+        b"ok: objects 9, layers 4, rules 1, levels 1\n".as_slice()
+    );
+    Ok(())
+}
+
+/// Of a text as long as one may be, too, most of it a comment.
+#[test]
+fn tells_how_large_the_longest_game_is(rt: HostRuntime) -> Result<(), Fail> {
+    let front = "(";
+    let back = format!(in rt.alloc(); ")\n{NAMES}{PUSH}")?;
+    let room = TEXT_LIMIT.saturating_sub(back.as_bytes().len().saturating_add(front.len()));
+    let text = repeated(&rt, front, "-", room, back.as_str());
+    assert_eq!(rt; text.as_bytes().len(), TEXT_LIMIT);
+    let mut writer = MemoryWriter::new(rt.alloc(), 100, 1)?;
+    assert_eq!(rt; check(rt.alloc(), text.as_bytes(), &mut writer), Ok(true));
     assert_eq!(rt;
         writer.bytes(),
         b"ok: objects 9, layers 4, rules 1, levels 1\n".as_slice()

@@ -22,8 +22,17 @@ enum Asked<'w> {
 }
 
 /// The words of a command line that asks for something, and what they ask for.
-const LINES: [(&[&str], Asked<'static>); 8] = [
+const LINES: [(&[&str], Asked<'static>); 11] = [
     (&["ps_play", "a.game"], Asked::Play("a.game")),
+    (&["ps_play", "long.game"], Asked::Play("long.game")),
+    (
+        &["ps_play", "long.game", "--keys", "a.keys"],
+        Asked::PlayFrom("long.game", "a.keys"),
+    ),
+    (
+        &["ps_play", "--check", "long.game"],
+        Asked::Check("long.game"),
+    ),
     (&["ps_play", "--", "--explain"], Asked::Play("--explain")),
     (
         &["ps_play", "a.game", "--keys", "a.keys"],
@@ -59,6 +68,22 @@ const OTHER_LINES: [&[&str]; 14] = [
     &["ps_play", "--help"],
     &["ps_play", "--version"],
 ];
+
+/// The words of command lines on files that hold no game, and the fault of each.
+const REFUSED_LINES: [(&[&str], &str); 6] = [
+    (&["ps_play", "cut.game"], CUT),
+    (&["ps_play", "cut.game", "--keys", "a.keys"], CUT),
+    (&["ps_play", "cut.game", "--check"], CUT),
+    (&["ps_play", "too-long.game"], TOO_LONG),
+    (&["ps_play", "--keys=a.keys", "too-long.game"], TOO_LONG),
+    (&["ps_play", "--check", "too-long.game"], TOO_LONG),
+];
+
+/// The fault of the text that ends before its levels: its last line is the eleventh.
+const CUT: &str = "line 11: GM2 NoSection\n";
+
+/// The fault of a text that is longer than one may be.
+const TOO_LONG: &str = "line 1: TX2 TooLong\n";
 
 /// What is shown of the game where it is quit at once.
 const QUIT: &str = "= T\n# level 1\n#P*O#\n\n* quit\n";
@@ -140,6 +165,25 @@ fn knows_what_is_asked_for(rt: HostRuntime) {
     }
     for words in OTHER_LINES {
         assert!(rt; is_other(&obey(&rt, words)));
+    }
+}
+
+/// A fault is told on standard error where a game is played, and on the screen where a text is checked; no key is asked
+/// for, and the status is 1.
+#[test]
+fn tells_the_fault_of_a_file(rt: HostRuntime) {
+    for (words, fault) in REFUSED_LINES {
+        let outcome = obey(&rt, words);
+        let (shown, complained) = if words.contains(&"--check") {
+            (fault, "")
+        } else {
+            ("", fault)
+        };
+        assert_eq!(rt; outcome.status, 1);
+        assert_eq!(rt; outcome.reads, 0);
+        assert_eq!(rt; outcome.screen.bytes(), shown.as_bytes());
+        assert_eq!(rt; outcome.kept.complained.as_str(), complained);
+        assert!(rt; outcome.kept.printed.is_empty());
     }
 }
 

@@ -12,14 +12,18 @@ pub const NAMES: &str =
 pub const PUSH: &str =
     "RULES\n[ > Player | Crate ] -> [ > Player | > Crate ]\nWINCONDITIONS\nAll Target on Crate\nLEVELS\n#P*O#\n";
 
-/// The whole text of it, which has the names above.
+/// The whole text of it, which has the names above; its last byte is a cell of its level.
 pub const PUSHING: &[u8] =
     b"title T\nOBJECTS\nBackground .\ngreen\nWall #\nbrown\nPlayer P\nwhite\nCrate *\norange\nTarget O\nblue\n\
 A\nred\nB\npink\nC\ngray\nD\nblack\nLEGEND\n@ = Crate and Target\nAT = A or Target\n\
 COLLISIONLAYERS\nBackground\nTarget\nPlayer, Wall, Crate\nA B C D\n\
-RULES\n[ > Player | Crate ] -> [ > Player | > Crate ]\nWINCONDITIONS\nAll Target on Crate\nLEVELS\n#P*O#\n";
+RULES\n[ > Player | Crate ] -> [ > Player | > Crate ]\nWINCONDITIONS\nAll Target on Crate\nLEVELS\n#P*O#";
 
-/// What is written of it with the key `d`.
+/// A text that ends before its levels.
+pub const CUT_SHORT: &[u8] =
+    b"OBJECTS\nBackground .\ngreen\nPlayer P\nwhite\nLEGEND\nCOLLISIONLAYERS\nBackground\nPlayer\nRULES\nWINCONDITIONS\n";
+
+/// What is written of [`PUSHING`] with the key `d`.
 pub const PUSHED: &str = "= T\n# level 1\n#P*O#\n\n#.P@#\n\n* level 1 done\n* the end\n";
 
 /// A text that has `part` so many times between its front and its back.

@@ -2,7 +2,8 @@
 
 ghost use Rattle.std.specs.Prelude.{IsErr};
 
-use crate::games::PUSHING;
+use crate::games::{CUT_SHORT, PUSHING};
+use ps_model::TEXT_LIMIT;
 use std::alloc::{Allocator, Global};
 use std::cell::RefCell;
 use std::env::FillError;
@@ -15,8 +16,9 @@ use std::rt::{Env, Files};
 /// The keys of each file of keys.
 const KEYS: &[u8] = b"q";
 
-/// A machine with the words of a command line. Each file whose name ends with `.keys` has the same keys, and each other
-/// one the game [`PUSHING`].
+/// A machine with the words of a command line. Each file whose name ends with `.keys` has the same keys, `cut.game` a
+/// text that ends before its levels, and each other one the game [`PUSHING`], with line feeds before it in `long.game`
+/// and `too-long.game`: so many that it has as many bytes as a text may have, and one more.
 #[derive(Drop)]
 pub struct Machine<'w> {
     alloc: Global,
@@ -139,13 +141,34 @@ impl Env for Machine<'_> {
 /// A file that is read from its front on, and of which nothing else can be had.
 #[derive(Drop)]
 pub struct OpenedFile {
+    /// How many line feeds are still to come before the rest.
+    feeds: usize,
     rest: &'static [u8],
 }
 
 impl Read for OpenedFile {
     fn read(&mut self, buf: &mut [u8]) -> io::Result<usize> {
-        self.rest.read(buf)
+        if self.feeds == 0 {
+            return self.rest.read(buf);
+        }
+        let count = self.feeds.min(buf.len());
+        buf[..count].fill(b'\n');
+        self.feeds -= count;
+        Ok(count)
     }
+}
+
+/// The file of that name.
+fn file_of(name: &str) -> OpenedFile {
+    let room = TEXT_LIMIT.saturating_sub(PUSHING.len());
+    let (feeds, rest) = match name {
+        "cut.game" => (0, CUT_SHORT),
+        "long.game" => (room, PUSHING),
+        "too-long.game" => (room.saturating_add(1), PUSHING),
+        _ if name.ends_with(".keys") => (0, KEYS),
+        _ => (0, PUSHING),
+    };
+    OpenedFile { feeds, rest }
 }
 
 impl Write for OpenedFile {
@@ -190,12 +213,7 @@ impl Files for Machine<'_> {
     fn open_file(&self, _how: &OpenOptions, path: &str) -> io::Result<OpenedFile> {
         let name = String::from_str(self.alloc, path)?;
         self.add(&self.opened, name, "\n")?;
-        let rest = if path.ends_with(".keys") {
-            KEYS
-        } else {
-            PUSHING
-        };
-        Ok(OpenedFile { rest })
+        Ok(file_of(path))
     }
 
     fn open_dir(&self, _path: &str) -> io::Result<OpenedFile> {
