@@ -1,4 +1,4 @@
-//! Rows written on both kinds of boards, which must tell and show the same.
+//! Rows written on boards as a list of slots, on which no game is played, and writes that no rule of a game makes.
 
 use ps_board::{Board, Columns, ListBoard, OneWord};
 use ps_match::Scan;
@@ -45,24 +45,32 @@ fn write_of(
     })
 }
 
+/// What a slot shows.
+type Slot = (Option<ObjectId>, Motion);
+
 /// Writes the first three columns of the lower of two rows, where an object acts, another rests, and none stands; in
 /// the fourth column an object rests.
-fn write_row(rt: &impl Abort, alloc: Global, write: &CellWrite, changes: bool) -> Result<(), Fail> {
-    let mut rows = RowBoard::<OneWord>::try_empty(alloc, 4, 2, 2, &OWN_LAYERS)?;
+fn write_row(
+    rt: &impl Abort,
+    alloc: Global,
+    write: &CellWrite,
+    changes: bool,
+    wanted: &[Slot],
+) -> Result<(), Fail> {
     let mut list = ListBoard::try_empty(alloc, 4, 2, 2, &OWN_LAYERS)?;
-    rows.put(1, HIGHER, Some(ObjectId(0)), Motion::Acting);
     list.put(1, HIGHER, Some(ObjectId(0)), Motion::Acting);
-    rows.put(3, HIGHER, Some(ObjectId(2)), Motion::Still);
     list.put(3, HIGHER, Some(ObjectId(2)), Motion::Still);
-    rows.put(7, HIGHER, Some(ObjectId(0)), Motion::Still);
     list.put(7, HIGHER, Some(ObjectId(0)), Motion::Still);
-    assert_eq!(rt; rows.rewrite(write, 1, &Columns::below(3)), changes);
     assert_eq!(rt; list.rewrite(write, 1, &Columns::below(3)), changes);
     for cell in 0..8u32 {
-        assert_eq!(rt; rows.object(cell, HIGHER), list.object(cell, HIGHER));
-        assert_eq!(rt; rows.motion(cell, HIGHER), list.motion(cell, HIGHER));
+        let shown = (list.object(cell, HIGHER), list.motion(cell, HIGHER));
+        let slot = match wanted.get(cell as usize) {
+            Some(slot) => *slot,
+            None => (None, Motion::Still),
+        };
+        assert_eq!(rt; shown, slot, "in cell {cell}");
     }
-    assert!(rt; !rows.rewrite(write, 1, &Columns::none()));
+    assert!(rt; !list.rewrite(write, 1, &Columns::none()));
     Ok(())
 }
 
@@ -87,83 +95,123 @@ fn a_cell_is_written_and_no_other_one(rt: HostRuntime) -> Result<(), Fail> {
 
 #[test]
 fn an_object_is_put_with_a_motion(rt: HostRuntime) -> Result<(), Fail> {
-    let put = ObjectWrite::Put(ObjectId(0));
-    write_row(
-        &rt,
-        rt.alloc(),
-        &write_of(rt.alloc(), None, put, Some(RIGHT))?,
-        true,
-    )
+    let bare = (None, Motion::Still);
+    let last = (Some(ObjectId(0)), Motion::Still);
+    let write = write_of(rt.alloc(), None, ObjectWrite::Put(ObjectId(0)), Some(RIGHT))?;
+    let wanted = [
+        bare,
+        (Some(ObjectId(0)), RIGHT),
+        bare,
+        (Some(ObjectId(0)), RIGHT),
+        bare,
+        (Some(ObjectId(0)), RIGHT),
+        bare,
+        last,
+    ];
+    write_row(&rt, rt.alloc(), &write, true, &wanted)?;
+    Ok(())
 }
 
 #[test]
 fn an_object_is_put_and_keeps_the_motion_there(rt: HostRuntime) -> Result<(), Fail> {
-    let put = ObjectWrite::Put(ObjectId(2));
-    write_row(
-        &rt,
-        rt.alloc(),
-        &write_of(rt.alloc(), None, put, None)?,
-        true,
-    )
+    let bare = (None, Motion::Still);
+    let last = (Some(ObjectId(0)), Motion::Still);
+    let write = write_of(rt.alloc(), None, ObjectWrite::Put(ObjectId(2)), None)?;
+    let wanted = [
+        bare,
+        (Some(ObjectId(2)), Motion::Acting),
+        bare,
+        (Some(ObjectId(2)), Motion::Still),
+        bare,
+        (Some(ObjectId(2)), Motion::Still),
+        bare,
+        last,
+    ];
+    write_row(&rt, rt.alloc(), &write, true, &wanted)?;
+    Ok(())
 }
 
 #[test]
 fn an_object_goes_and_takes_its_motion_along(rt: HostRuntime) -> Result<(), Fail> {
-    let gone = Some(ObjectId(0));
-    write_row(
-        &rt,
-        rt.alloc(),
-        &write_of(rt.alloc(), gone, ObjectWrite::Leave, None)?,
-        true,
-    )
+    let bare = (None, Motion::Still);
+    let last = (Some(ObjectId(0)), Motion::Still);
+    let write = write_of(rt.alloc(), Some(ObjectId(0)), ObjectWrite::Leave, None)?;
+    let wanted = [
+        bare,
+        bare,
+        bare,
+        (Some(ObjectId(2)), Motion::Still),
+        bare,
+        bare,
+        bare,
+        last,
+    ];
+    write_row(&rt, rt.alloc(), &write, true, &wanted)?;
+    Ok(())
 }
 
 #[test]
 fn what_stands_is_moved_and_nothing_else(rt: HostRuntime) -> Result<(), Fail> {
-    let gone = Some(ObjectId(0));
-    write_row(
-        &rt,
+    let bare = (None, Motion::Still);
+    let last = (Some(ObjectId(0)), Motion::Still);
+    let write = write_of(
         rt.alloc(),
-        &write_of(rt.alloc(), gone, ObjectWrite::Leave, Some(RIGHT))?,
-        true,
+        Some(ObjectId(0)),
+        ObjectWrite::Leave,
+        Some(RIGHT),
     )?;
-    write_row(
-        &rt,
-        rt.alloc(),
-        &write_of(rt.alloc(), None, ObjectWrite::Leave, Some(RIGHT))?,
-        true,
-    )
+    let wanted = [
+        bare,
+        bare,
+        bare,
+        (Some(ObjectId(2)), RIGHT),
+        bare,
+        bare,
+        bare,
+        last,
+    ];
+    write_row(&rt, rt.alloc(), &write, true, &wanted)?;
+    let write = write_of(rt.alloc(), None, ObjectWrite::Leave, Some(RIGHT))?;
+    let wanted = [
+        bare,
+        (Some(ObjectId(0)), RIGHT),
+        bare,
+        (Some(ObjectId(2)), RIGHT),
+        bare,
+        bare,
+        bare,
+        last,
+    ];
+    write_row(&rt, rt.alloc(), &write, true, &wanted)?;
+    Ok(())
 }
 
 #[test]
 fn a_layer_is_cleared(rt: HostRuntime) -> Result<(), Fail> {
-    write_row(
-        &rt,
-        rt.alloc(),
-        &write_of(rt.alloc(), None, ObjectWrite::Clear, None)?,
-        true,
-    )
+    let bare = (None, Motion::Still);
+    let last = (Some(ObjectId(0)), Motion::Still);
+    let write = write_of(rt.alloc(), None, ObjectWrite::Clear, None)?;
+    let wanted = [bare, bare, bare, bare, bare, bare, bare, last];
+    write_row(&rt, rt.alloc(), &write, true, &wanted)?;
+    Ok(())
 }
 
 #[test]
 fn nothing_written_changes_nothing(rt: HostRuntime) -> Result<(), Fail> {
-    write_row(
-        &rt,
-        rt.alloc(),
-        &write_of(rt.alloc(), None, ObjectWrite::Leave, None)?,
-        false,
-    )
-}
-
-#[test]
-fn an_object_that_goes_and_is_put_again_changes_nothing(rt: HostRuntime) -> Result<(), Fail> {
-    let mut board = RowBoard::<OneWord>::try_empty(rt.alloc(), 4, 2, 2, &OWN_LAYERS)?;
-    board.put(3, HIGHER, Some(ObjectId(2)), Motion::Still);
-    let put = ObjectWrite::Put(ObjectId(2));
-    let write = write_of(rt.alloc(), Some(ObjectId(2)), put, None)?;
-    let second = Columns::none().with(1, true);
-    assert!(&rt; !board.rewrite(&write, 1, &second));
-    assert!(&rt; board.rewrite(&write, 0, &second));
+    let bare = (None, Motion::Still);
+    let last = (Some(ObjectId(0)), Motion::Still);
+    let write = write_of(rt.alloc(), None, ObjectWrite::Leave, None)?;
+    let wanted = [
+        bare,
+        (Some(ObjectId(0)), Motion::Acting),
+        bare,
+        (Some(ObjectId(2)), Motion::Still),
+        bare,
+        bare,
+        bare,
+        last,
+    ];
+    write_row(&rt, rt.alloc(), &write, false, &wanted)?;
     Ok(())
 }
 

@@ -1,4 +1,5 @@
-//! Boards of rows: on which rows an object stands, and something moves.
+//! Boards of rows: on which rows an object stands, and something moves. A board may tell more rows than that; this one
+//! doesn't.
 
 use ps_board::{Board, OneWord};
 use ps_match::Scan;
