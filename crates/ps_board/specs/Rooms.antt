@@ -1,6 +1,5 @@
 -- Where an object may stand. A board may keep a table of the layer of each object of its game, and then each object has
--- room on
--- its own layer alone; a board without a table takes any object on any layer.
+-- room on its own layer alone; a board without a table takes any object on any layer.
 use Rattle.std.specs.Prelude.{◌≡◌, ℕ, Bool, true, Option, Some, None, List, map, slice_get}
 use Rattle.ps_model.specs.declared.pieces.ObjectId.{ObjectId}
 use Rattle.ps_model.specs.declared.pieces.LayerId.{LayerId}

@@ -1,6 +1,5 @@
 -- Rows of a grid, layer by layer: the columns in which something holds of the slot there. No column beyond the width is
--- in such a
--- set, since there the slot is bare.
+-- in such a set, since there the slot is bare.
 use Rattle.std.specs.Prelude.{◌≡◌, ◌<◌, ℕ, ◌+◌, ◌*◌, Bool, false, not, List}
 use Rattle.std.specs.List.{list_any}
 use Rattle.ps_model.specs.declared.pieces.ObjectId.{ObjectId}

@@ -1,6 +1,5 @@
 -- Compact programs run as the lines that they are made of mean: turning a rule round and leaving out one that can do
--- nothing
--- change no round.
+-- nothing change no round.
 use Rattle.std.proofs.Common.{◌≡◌, Bool, true, false, not, cond, List, [], ◌∷◌, map, flat_map, reverse, refl, sym}
 use Rattle.std.proofs.Common.{subst, ap, ap₂, ◌∙◌}
 use Rattle.std.specs.Prelude.{All}

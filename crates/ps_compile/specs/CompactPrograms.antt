@@ -1,6 +1,5 @@
 -- Compiled programs of the rules that can do something, all facing down or right: what is compiled of a game. A rule
--- that
--- faces up or left is turned round; of several rules that are the same each stays.
+-- that faces up or left is turned round; of several rules that are the same each stays.
 use Rattle.std.specs.Prelude.{Bool, true, false, not, if◌then◌else◌, List, map, filter}
 use Rattle.ps_model.specs.declared.pieces.Direction.{Direction}
 use Rattle.ps_model.specs.declared.pieces.Direction.TheVariants.{Up, Down, Left, Right}

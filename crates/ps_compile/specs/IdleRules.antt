@@ -1,6 +1,5 @@
 -- Compiled rules that can do nothing, as their masks and writes tell at once: those with a cell that asks for what it
--- bars;
--- and those that ask nothing of the turn and leave each cell that they fit as it is.
+-- bars; and those that ask nothing of the turn and leave each cell that they fit as it is.
 use Rattle.std.specs.Prelude.{Bool, ◌&&◌, ◌||◌, not, is_some}
 use Rattle.std.specs.List.{list_all, list_any}
 use Rattle.ps_model.specs.rules.SourceRules.{Commands}

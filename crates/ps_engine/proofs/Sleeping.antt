@@ -1,6 +1,5 @@
 -- Rows whose cells' writes wake none of their own masks: what doesn't fit now fits nowhere later, so that a combination
--- which can't be
--- applied can be left out for good.
+-- which can't be applied can be left out for good.
 use Rattle.std.proofs.Common.{◌≡◌, ◌∙◌, ℕ, zero, suc, Bool, true, false, Option, Some, None, List, [], ◌∷◌, fold}
 use Rattle.std.proofs.Common.{filter, cond, refl, sym, ap}
 use Rattle.std.specs.Prelude.{All, slice_get, slice_set}

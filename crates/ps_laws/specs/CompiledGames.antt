@@ -1,6 +1,5 @@
 -- What compiled rules of a game are: their rows are whole, and what a write puts is an object of the game, which it
--- puts
--- on that object's own layer.
+-- puts on that object's own layer.
 use Rattle.std.specs.Prelude.{◌≡◌, ℕ, ◌<◌, List, All, ⊤}
 use Rattle.ps_model.specs.declared.rules.Part.{Part}
 use Rattle.ps_model.specs.declared.compiled.ObjectWrite.{ObjectWrite}

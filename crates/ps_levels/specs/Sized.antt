@@ -11,8 +11,7 @@ abbrev pub AreBelow : ℕ → List ObjectId → Type 0
 AreBelow count objects = All (λ object. object.0 < count) objects
 
 -- a level has a column and a row, no more than a board may have, and a cell for each column and row; and its objects
--- are the
--- game's, if the game has any
+-- are the game's, if the game has any
 pub record IsSized (names : Names) (level : Level) : Type 0 where
   pub some_column : 1 ≤ level.width
   pub columns : level.width ≤ SIDE_LIMIT

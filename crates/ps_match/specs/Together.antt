@@ -1,6 +1,5 @@
 -- Cells of a grid that are rewritten together: each cell that is chosen becomes what is made of it, and each other one
--- stays
--- as it was.
+-- stays as it was.
 use Rattle.std.specs.Prelude.{ℕ, ◌/◌, ◌%◌, nat_eq, Bool, ◌&&◌, not, if◌then◌else◌, List, length, map}
 use Rattle.std.specs.List.{list_any, range_with_len}
 use Rattle.ps_model.specs.declared.pieces.Slot.{Slot}

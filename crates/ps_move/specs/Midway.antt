@@ -1,6 +1,5 @@
 -- A movement that has begun: some objects went to their targets and are at rest there, and the others stand where they
--- stood,
--- each with its motion.
+-- stood, each with its motion.
 use Rattle.std.specs.Prelude.{◌≡◌, ℕ, Bool, true, false}
 use Rattle.ps_model.specs.declared.pieces.ObjectId.{ObjectId}
 use Rattle.ps_model.specs.declared.pieces.Motion.{Motion}

@@ -8,24 +8,20 @@ use Rattle.ps_move.specs.Visits.{way, is_going}
 use Rattle.ps_move.specs.Midway.{IsMidway}
 
 -- the cell that is visited next on layer `l`, when the visits have come to a layer of a cell: below that layer the cell
--- had
--- its visit
+-- had its visit
 abbrev pub next_on : ℕ × ℕ → ℕ → ℕ
 next_on place l = elim (nat_lt l place.1) [ true ↦ place.0 + 1 | false ↦ place.0 ]
 
 -- visits that go on from cell `next` to the last one, and then from the first, come to cell `from` before cell `to`:
--- where
--- `from` had its visit in this pass, `to` lies between it and the next; and where the visit of `to` is still to come,
--- `from`
--- lies before it
+-- where `from` had its visit in this pass, `to` lies between it and the next; and where the visit of `to` is still to
+-- come, `from` lies before it
 pub record ComesBefore (next from to : ℕ) : Type 0 where
   pub behind : from < next → from < to
   pub over : from < next → to < next
   pub ahead : next ≤ to → from < to
 
 -- when the objects that can go now have their visit: `now` is the grid `before` after some objects went, `went` says
--- whether
--- any went in this pass, and the visits have come to a place, a layer of a cell
+-- whether any went in this pass, and the visits have come to a place, a layer of a cell
 pub record InTime (before now : Grid) (went : Bool) (place : ℕ × ℕ) : Type 0 where
   -- where the target was bare from the start, the visit is still to come in this pass
   pub to_bare : (layer from to : ℕ) → layer < now.layers → way now layer from ≡ Some to →
@@ -42,8 +38,7 @@ abbrev pub going_on : Grid → ℕ → ℕ
 going_on g layer = count_by (λ cell. is_going (slice_index_or cell layer Bare)) g.cells
 
 -- the object of a cell won its target, and a chain leads from it to a bare cell. Its links, and the objects of the
--- layer that
--- still have a direction for motion, are together no more than the cells
+-- layer that still have a direction for motion, are together no more than the cells
 pub record HasWon (before now : Grid) (layer from : ℕ) : Type 0 where
   pub to : ℕ
   pub wins : winner before layer to ≡ Some from
@@ -52,8 +47,7 @@ pub record HasWon (before now : Grid) (layer from : ℕ) : Type 0 where
   pub chain : slides_within before layer links from ≡ true
 
 -- a movement that has begun, and has come to a place: each object that went had won its target, and each that can go
--- now is
--- visited in time
+-- now is visited in time
 pub record IsInOrder (before now : Grid) (went : Bool) (place : ℕ × ℕ) : Type 0 where
   pub midway : IsMidway before now
   pub won : (layer from : ℕ) → midway.goes layer from ≡ true → HasWon before now layer from

@@ -8,10 +8,8 @@ use Rattle.ps_move.specs.Visits.{going_count}
 use Rattle.ps_move.specs.Order.{IsInOrder}
 
 -- the visits from one place, a layer of a cell, to another lead from one grid to another, and tell whether any object
--- went:
--- then fewer have a direction for motion, and else nothing changed. Where an object was still, or none stood, none is
--- about to do
--- something afterwards
+-- went: then fewer have a direction for motion, and else nothing changed. Where an object was still, or none stood,
+-- none is about to do something afterwards
 pub record IsPart (went : Bool) (old new : Grid) (first last : ℕ × ℕ) : Type 0 where
   pub shape : IsGrid old → IsGrid new
   pub width : new.width ≡ old.width

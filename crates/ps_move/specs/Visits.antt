@@ -1,6 +1,5 @@
 -- One visit of a movement: the object that stands on a layer of a cell goes to its target, if that is bare now. It is
--- at
--- rest as soon as it went, so that it goes one cell at most.
+-- at rest as soon as it went, so that it goes one cell at most.
 use Rattle.std.specs.Prelude.{ℕ, Bool, true, false, Option, Some, None, count_by, sum_by}
 use Rattle.ps_model.specs.declared.pieces.Motion.TheVariants.{Still, Going, Acting}
 use Rattle.ps_model.specs.declared.pieces.Slot.{Slot}

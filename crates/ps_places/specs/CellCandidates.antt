@@ -11,8 +11,7 @@ use Rattle.ps_board.specs.ColumnSets.{column_at}
 use Rattle.ps_places.specs.Lines.{step_along}
 
 -- the cell doesn't fit, where its part has its first cell on another row of the grid; if the part goes down, there must
--- be room for
--- the cell
+-- be room for the cell
 pub record HasCellOnlyOn (g : Grid) (mask : CellMask) (axis : Axis) (steps : ℕ) (rows : List Bool) : Type 0 where
   pub at : (row x : ℕ) → row < g.height → (axis ≡ Down → row + steps < g.height) → column_at rows row ≡ false →
       fits_there (meaning_of_mask (mask_shown mask))

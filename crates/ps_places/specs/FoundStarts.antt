@@ -40,8 +40,7 @@ pub record BeginInSets (g : Grid) (table : Option (List ℕ)) (axis : Axis) (par
   pub at : (number : ℕ) → number < count → AreWhere (begins_on g table axis line (part_of parts number)) (sets number)
 
 -- a line is one of those found, and the first parts begin there at the positions of their sets; or else a part begins
--- nowhere
--- on it
+-- nowhere on it
 pub record IsLineFound (g : Grid) (table : Option (List ℕ)) (axis : Axis) (parts : List (List CompiledCell))
     (starts : List (List Bool)) (lines : List Bool) (count line : ℕ) : Type 0 where
   pub found : column_at lines line ≡ true →
@@ -60,8 +59,7 @@ pub record HaveWaysOnlyOn (g : Grid) (table : Option (List ℕ)) (axis : Axis) (
   pub at : (row : ℕ) → row < line_count axis g → column_at rows row ≡ false → HasNoWay g table axis parts row
 
 -- the set of a column with a row added, if the column is one of these: in place of what stood there, where nothing was
--- found
--- yet
+-- found yet
 abbrev pub with_row : List Bool → List Bool → ℕ → List Bool → ℕ → List Bool
 with_row columns found row set x =
     if column_at columns x then with_column (if column_at found x then set else no_columns) row true else set
@@ -74,8 +72,7 @@ pub record IsRowAdded (old : List (List Bool)) (count number : ℕ) (columns fou
   pub others : (x other : ℕ) → other < count → other ≢ number → set_of new count x other ≡ set_of old count x other
 
 -- a part that goes down begins in columns of a set at the positions of its sets, if the column is found, and else
--- nowhere; the
--- columns found are of those, and no other set changes
+-- nowhere; the columns found are of those, and no other set changes
 pub record IsPartFound (g : Grid) (table : Option (List ℕ)) (part : List CompiledCell) (within : List Bool)
     (count number : ℕ) (old new : List (List Bool)) (found : List Bool) : Type 0 where
   pub begins : (x : ℕ) → column_at found x ≡ true → AreWhere (begins_on g table Down x part) (set_of new count x number)

@@ -1,6 +1,5 @@
 -- The lines of a board along an axis: its columns, whose cells follow each other downwards, or its rows, whose cells
--- follow each
--- other to the right. A cell has a position on its line, counted from the line's topmost or leftmost cell.
+-- follow each other to the right. A cell has a position on its line, counted from the line's topmost or leftmost cell.
 use Rattle.std.specs.Prelude.{ℕ, ◌+◌, ◌*◌, Bool, Option, List, map, length}
 use Rattle.std.specs.List.{range_with_len}
 use Rattle.ps_model.specs.board.Grid.{Grid}

@@ -1,6 +1,5 @@
 -- The ways in which the parts of a row lie on a line, where each has a set of positions: a way is a list of positions,
--- one for each
--- part, each part behind the one before. The position of the last part changes fastest.
+-- one for each part, each part behind the one before. The position of the last part changes fastest.
 use Rattle.std.specs.Prelude.{ℕ, ◌+◌, nat_le, Bool, if◌then◌else◌, List, [], ◌∷◌, ◌++◌, map, filter}
 use Rattle.std.specs.List.{flat_map}
 use Rattle.ps_board.specs.ColumnSets.{set_columns}

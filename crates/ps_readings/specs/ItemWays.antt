@@ -1,6 +1,5 @@
 -- In how many ways a rule's items can be read in one direction: the product of the moves that each item's word leaves
--- and of the
--- members of each fixed property.
+-- and of the members of each fixed property.
 use Rattle.std.specs.Prelude.{ℕ, ◌*◌, if◌then◌else◌, Some, None, List, [], ◌∷◌, length}
 use Rattle.ps_model.specs.declared.pieces.Direction.TheVariants.{Up}
 use Rattle.ps_model.specs.meaning.Directions.{turned, is_several}

@@ -1,6 +1,5 @@
 -- The ways to take one item of each list, from one way on, in their order: the first list's item changes slowest. A
--- wheel is a list
--- with the place of the item that it shows.
+-- wheel is a list with the place of the item that it shows.
 use Rattle.std.specs.Prelude.{◌+◌, nat_eq, nat_lt, Bool, if◌then◌else◌, Option, Some, None, List, [], ◌∷◌, ◌++◌, length}
 use Rattle.std.specs.Prelude.{map, drop, slice_get}
 use Rattle.std.specs.Option.{option_to_list}
@@ -38,8 +37,7 @@ abbrev pub at_next : {A : Type 0} → Wheel A → Wheel A
 at_next wheel = record wheel { place = wheel.place + 1 }
 
 -- a wheel before others that show their next way; where they have none, the wheel shows its next item, if it has one,
--- and they
--- their first ones
+-- and they their first ones
 abbrev pub carried : {A : Type 0} → Wheel A → List (Wheel A) → Option (List (Wheel A)) → Option (List (Wheel A))
 carried wheel wheels (Some next) = Some (wheel ∷ next)
 carried wheel wheels None = if nat_lt (wheel.place + 1) (length wheel.items) then Some

@@ -4,8 +4,7 @@ use Rattle.ps_board.specs.ColumnSets.{column_at}
 use Rattle.ps_rows.specs.Planes.{row_of}
 
 -- behind a change the planes from the first up to the end are those of a source, and all others are what they were;
--- those of no
--- rows have no columns
+-- those of no rows have no columns
 pub record ArePlanesOf (height first end : ℕ) (source before after : List (List Bool)) : Type 0 where
   pub below : (plane row : ℕ) → row < height → plane < first →
       row_of after (plane * height + row) ≡ row_of before (plane * height + row)
@@ -15,8 +14,7 @@ pub record ArePlanesOf (height first end : ℕ) (source before after : List (Lis
       row_of after (plane * height + row) ≡ row_of source (plane * height + row)
 
 -- behind a change those rows of the planes from the first up to the end that are in a set are a source's, and all
--- others are what
--- they were
+-- others are what they were
 pub record AreRowsOf (height first end : ℕ) (rows : List Bool) (source before after : List (List Bool)) : Type 0 where
   pub below : (plane row : ℕ) → row < height → plane < first →
       row_of after (plane * height + row) ≡ row_of before (plane * height + row)

@@ -1,6 +1,5 @@
 -- Planes of rows, each a set of columns, as one flat list: row y of a plane is the set at plane * height + y, and the
--- set says
--- whether the plane has the cell in each column of that row.
+-- set says whether the plane has the cell in each column of that row.
 use Rattle.std.specs.Prelude.{ℕ, ◌+◌, ◌*◌, ◌/◌, ◌%◌, ◌≡◌, ◌≤◌, nat_eq, length, Bool, true, Option, List, [], ◌∷◌}
 use Rattle.std.specs.Prelude.{slice_index_or, slice_set}
 use Rattle.std.specs.List.{list_any}

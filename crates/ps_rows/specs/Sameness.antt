@@ -39,8 +39,7 @@ HasUnlike all of column word =
     column_at of x ≡ column_at of column)
 
 -- a set has each column of a row, of all those of a board, that isn't in one of so many planes, the first ones, as one
--- of them is,
--- and hasn't that one
+-- of them is, and hasn't that one
 abbrev pub HasUnlikeOf : ℕ → ℕ → ℕ → List (List Bool) → List Bool → ℕ → List Bool → Type 0
 HasUnlikeOf height row planes words all column word =
     (column_at word column ≡ false)

@@ -43,8 +43,7 @@ pub record IsKeyed {A : Type 0} (old new : GameInPlay) (key : Key) (before now :
   pub unended : OnErr result (ending_of old.session ≡ None)
 
 -- a key is played to its end: the game is where the key leads, and what it writes is added. Where memory was wanting,
--- the
--- game hadn't ended
+-- the game hadn't ended
 pub record IsTurned {A E : Type 0} (old new : GameInPlay) (key : Key) (before now : List ℕ) (result : Result A E) :
     Type 0 where
   pub script : script_in new ≡ script_in old

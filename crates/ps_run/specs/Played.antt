@@ -26,8 +26,7 @@ HasTakenAndFailed before now text =
     (now.empty_calls ≡ before.empty_calls)
 
 -- the keys of these bytes are played: the session is theirs, what they leave of an arrow is held, and the writer, which
--- was
--- well before, has taken the front that is theirs
+-- was well before, has taken the front that is theirs
 pub record HavePlayed (script : Script) (before now : WriterState) (current : Session) (kept : Held) (read : List ℕ) :
     Type 0 where
   pub was_well : before.has_failed ≡ false
@@ -36,8 +35,7 @@ pub record HavePlayed (script : Script) (before now : WriterState) (current : Se
   pub wrote : HasTaken before now (whole_front script read)
 
 -- memory was refused at a byte of a piece that brings a key: the texts of the keys before it are written, and nothing
--- else; the
--- game went on behind them
+-- else; the game went on behind them
 pub record WantsMemory (script : Script) (before now : WriterState) (read piece : List ℕ) : Type 0 where
   pub was_well : before.has_failed ≡ false
   pub count : ℕ
@@ -46,8 +44,7 @@ pub record WantsMemory (script : Script) (before now : WriterState) (read piece 
   pub wanting : length (keys_of (read ++ take count piece)) < length (keys_of (read ++ piece))
 
 -- the writer failed at a text of a piece: what it took has the texts of the keys before the piece, and is cut off from
--- those
--- of all its keys
+-- those of all its keys
 pub record CannotWrite (script : Script) (before now : WriterState) (read piece : List ℕ) : Type 0 where
   pub was_well : before.has_failed ≡ false
   pub taken : List ℕ

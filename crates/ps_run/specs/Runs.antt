@@ -49,9 +49,8 @@ pub record Stands (script : Script) (had has : ReaderState) (before now : Writer
   pub played : HavePlayed script before now session kept (read reading)
 
 -- memory was refused in play: the texts of the keys of some bytes are written, whole; of all that were read before the
--- last
--- call, and perhaps of some that it gave. The game went on behind them, and more keys were read, or the last call gave
--- nothing
+-- last call, and perhaps of some that it gave. The game went on behind them, and more keys were read, or the last call
+-- gave nothing
 pub record StopsInPlay (script : Script) (told : Told) : Type 0 where
   pub reads : ReadsInTurn script told.reading told.left
   pub reader_is_well : ReaderIsWell told

@@ -1,6 +1,5 @@
 -- The keys that a session ignores. In a level options have some ignored; at a message all are but `x` and `q`; after
--- the end
--- every one is.
+-- the end every one is.
 use Rattle.std.specs.Prelude.{◌≡◌, Bool, true, false}
 use Rattle.ps_model.specs.declared.options.Options.{Options}
 use Rattle.ps_model.specs.declared.play.Input.{Input}

@@ -1,6 +1,5 @@
 -- What playing needs of a level and of a game: the sides of levels are those of a board, for which the words of its
--- sets have
--- room, and their objects are the game's, which has some.
+-- sets have room, and their objects are the game's, which has some.
 use Rattle.std.specs.Prelude.{ℕ, ◌≤◌, ◌<◌, List, Option, All, ⊤}
 use Rattle.ps_model.specs.declared.pieces.ObjectId.{ObjectId}
 use Rattle.ps_model.specs.names.Names.{Names, layer_of, object_count}

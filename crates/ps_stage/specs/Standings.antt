@@ -34,8 +34,7 @@ script_of parts plain late = record {
 }
 
 -- that game with the programs that its rules are on its own boards, by the table that a board has for layers and by
--- what
--- the rules are on boards of a table
+-- what the rules are on boards of a table
 abbrev pub script_for : (List ℕ → Option (List ℕ)) → SessionParts → (Option (List ℕ) → List Section) →
     (Option (List ℕ) → List Section) → Script
 script_for table_for parts plain late = script_of parts (plain (table_for parts.names.layers))

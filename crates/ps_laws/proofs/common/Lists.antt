@@ -1,6 +1,5 @@
 -- Lists: parts of an empty one, tests of some element, what a filter leaves, a write beside, and lists for the numbers
--- of a
--- range.
+-- of a range.
 use Rattle.std.proofs.Common.{◌≡◌, ◌≢◌, ◌+◌, ◌<◌, ◌≤◌, ℕ, zero, suc, Bool, false, ◌||◌, List, [], ◌∷◌, ◌++◌, map}
 use Rattle.std.proofs.Common.{filter}
 use Rattle.std.proofs.Common.{flat_map, slice_get, slice_set, refl, ◌∙◌, ap, ap₂, arith}

@@ -1,8 +1,6 @@
 -- The walk through the lines of RULES, for whatever programs are made of them. Where each rule of the lines has
--- something, the groups
--- that are made of such rules are all that a program has; and where the groups that two ways make of such rules are
--- related, both
--- programs are, section by section.
+-- something, the groups that are made of such rules are all that a program has; and where the groups that two ways make
+-- of such rules are related, both programs are, section by section.
 use Rattle.std.proofs.Common.{List, [], ◌∷◌, map, filter, flat_map, filter_map}
 use Rattle.std.specs.Prelude.{All}
 use Rattle.std.specs.List.{AllZip, slice_split}

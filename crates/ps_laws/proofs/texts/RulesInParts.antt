@@ -1,6 +1,5 @@
 -- Rules that are read from lines without faults have whole rows: an ellipsis first or last in a row, right behind
--- another
--- one, or behind two others, is a fault.
+-- another one, or behind two others, is a fault.
 use Rattle.std.proofs.Common.{◌≡◌, ℕ, ◌+◌, ◌<◌, ◌≤◌, Bool, true, false, ◌&&◌, ◌||◌, Option, Some, None, List, [], ◌∷◌}
 use Rattle.std.proofs.Common.{◌++◌, length, map, filter, cond, reverse, append_assoc, refl, sym, subst, ap, ◌∙◌, arith}
 use Rattle.std.specs.Prelude.{All, IfSome, ⊤, drop, slice_index_or}

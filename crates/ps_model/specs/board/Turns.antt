@@ -1,6 +1,5 @@
 -- One turn: every object of Player gets the key's motion, if there is one; then come the plain program, the movement
--- and the late
--- program. What comes of it is the first of four outcomes whose condition holds.
+-- and the late program. What comes of it is the first of four outcomes whose condition holds.
 use Rattle.std.specs.Prelude.{ℕ, Bool, true, false, ◌&&◌, ◌||◌, not, if◌then◌else◌, Option, Some, None, List, [], ◌∷◌}
 use Rattle.std.specs.Prelude.{filter}
 use Rattle.std.specs.List.{list_all, list_any, range_with_len}
@@ -45,8 +44,7 @@ script_of game = record {
 }
 
 -- a turn that is done: the board; whether it differs from that before; the first message; and whether a checkpoint is
--- set, the
--- level is won, and the turn is to come again
+-- set, the level is won, and the turn is to come again
 pub record Done : Type 0 where
   pub board : Grid
   pub changed : Bool
@@ -125,8 +123,7 @@ done_with script last changed =
     }
 
 -- the outcome of a turn whose last state this is: blocked, where the game asks for a move of the Player, and each cell
--- that had one
--- still has one; blocked by `cancel`; restarted by `restart`; or done
+-- that had one still has one; blocked by `cancel`; restarted by `restart`; or done
 abbrev pub outcome_of : Script → Option Input → Grid → State → Outcome
 outcome_of script input g last =
     if is_held script input g last.grid then Blocked None

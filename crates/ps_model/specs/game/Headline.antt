@@ -195,8 +195,7 @@ abbrev pub HasGame : List ℕ → Type 0
 HasGame text = (script : Script) × (script_of_text text ≡ Some script)
 
 -- what an answer says of the text, whatever the devices tell: a refusal names its first fault, and a text that was
--- played
--- has a game
+-- played has a game
 abbrev pub IsTrueOfText : List ℕ → Answer → Type 0
 IsTrueOfText text (Ends ending) = HasGame text
 IsTrueOfText text (Refuses fault) = first_fault (faults text) ≡ Some fault

@@ -1,19 +1,14 @@
 -- What the devices of a run tell of it. A reader tells at any time whether a call has failed, how many bytes its last
--- call
--- gave, how many calls it has had and how many of them gave nothing or had another room than a run asks for, and
--- perhaps
--- the bytes that it still has to give; a writer tells likewise. What they tell before a run and behind it says what the
--- run
--- read and wrote, and how it called them.
+-- call gave, how many calls it has had and how many of them gave nothing or had another room than a run asks for, and
+-- perhaps the bytes that it still has to give; a writer tells likewise. What they tell before a run and behind it says
+-- what the run read and wrote, and how it called them.
 use Rattle.std.specs.Prelude.{◌≡◌, ℕ, ◌+◌, ◌-◌, ◌^◌, ◌≤◌, Bool, true, false, ⊤, ◌⊎◌, Option, Some, None, option_map}
 use Rattle.std.specs.Prelude.{List, [], ◌∷◌, ◌++◌, length}
 use Rattle.std.specs.List.{concat}
 
 -- what a reader tells of itself: the bytes that it has left, or nothing of them; whether a call has failed; how many
--- bytes
--- its last call gave; how many calls it has counted; and of those how many gave nothing without failing, and how many
--- had
--- room for fewer bytes than a run asks for at a time, or for more
+-- bytes its last call gave; how many calls it has counted; and of those how many gave nothing without failing, and how
+-- many had room for fewer bytes than a run asks for at a time, or for more
 pub record ReaderState : Type 0 where
   pub remaining : Option (List ℕ)
   pub has_failed : Bool
@@ -23,8 +18,7 @@ pub record ReaderState : Type 0 where
   pub odd_sized_calls : ℕ
 
 -- what a writer tells of itself: the bytes that it has taken, or nothing of them; whether a call has failed; how many
--- calls
--- it has counted; and how many of those were handed no byte
+-- calls it has counted; and how many of those were handed no byte
 pub record WriterState : Type 0 where
   pub contents : Option (List ℕ)
   pub has_failed : Bool
@@ -37,8 +31,7 @@ pub data Call : Type 0 where
   Fails : Call
 
 -- what a run asks of its reader: nothing at all; or a call and more calls, which are told by the pieces that all but
--- the
--- last one gave, in order, and by the last one
+-- the last one gave, in order, and by the last one
 pub data ReaderCalls : Type 0 where
   Unasked : ReaderCalls
   Asked : List (List ℕ) → Call → ReaderCalls
@@ -133,8 +126,7 @@ pub record Tells (reader_before reader_after : ReaderState) (writer_before write
   pub writer_was_well : writer_before.has_failed ≡ false
   pub writer_failed : writer_after.has_failed ≡ told.writer_failed
   -- the bytes that the writer has taken are those that it had taken, and then those that were written; there were no
-  -- more
-  -- writes than bytes written, but for one that failed, and each of them was handed a byte or more
+  -- more writes than bytes written, but for one that failed, and each of them was handed a byte or more
   pub wrote : writer_after.contents ≡ option_map (λ known. known ++ told.wrote) writer_before.contents
   pub writes : writer_after.calls ≤ writer_before.calls + (length told.wrote + idle_writes told.writer_failed)
   pub no_empty_write : writer_after.empty_calls ≡ writer_before.empty_calls

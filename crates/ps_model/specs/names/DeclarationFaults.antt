@@ -1,6 +1,6 @@
 -- The faults of the lines of OBJECTS, LEGEND and COLLISIONLAYERS, line by line: of OBJECTS, of LEGEND by the form of
--- its lines,
--- of LEGEND again by what they name, and of COLLISIONLAYERS. Within a line they stand in the order of their codes.
+-- its lines, of LEGEND again by what they name, and of COLLISIONLAYERS. Within a line they stand in the order of their
+-- codes.
 use Rattle.std.specs.Prelude.{ℕ, suc, ◌==◌, Bool, false, ◌||◌, not, Option, List, [], ◌∷◌, ◌++◌, length, map, flat_map}
 use Rattle.std.specs.Prelude.{option_to_list}
 use Rattle.std.specs.Option.{is_none}
@@ -31,8 +31,7 @@ are_declared_again before (name ∷ names) = list_any (bytes_eq (folded name)) b
 -- OBJECTS -------------------------------------------------------------------------------------------------------------
 
 -- a bad object, NA1: its name line has over two words or a second name of over one character, or no colours stand right
--- below,
--- or one to four rows of a sprite
+-- below, or one to four rows of a sprite
 abbrev pub is_bad_object : ObjectText → Bool
 is_bad_object object = not (names_well object.words) || not (is_whole object)
 
@@ -82,8 +81,7 @@ puts_property_in_aggregate And meanings = list_any is_property meanings
 puts_property_in_aggregate Or meanings = false
 
 -- the faults of the legend name at a place, whose mentions mean this; a name that nothing declares is NA4, a name that
--- stands
--- for itself NA5
+-- stands for itself NA5
 abbrev pub faults_of_legend_name : List LegendName → ℕ → LegendName → List (Option Meaning) → List Fault
 faults_of_legend_name legend place name meanings =
     when (not name.all_declared) UnknownName name.line
@@ -100,8 +98,7 @@ naming_faults legend meanings =
 -- COLLISIONLAYERS -----------------------------------------------------------------------------------------------------
 
 -- the faults of the layer of a number: a name that nothing declares, NA4; an aggregate, NA8; one layer over the limit,
--- NA14; and
--- a line without a name, NA16
+-- NA14; and a line without a name, NA16
 abbrev pub faults_of_layer : ℕ × Layer → List Fault
 faults_of_layer numbered =
     let layer : Layer = numbered.1 in

@@ -1,7 +1,6 @@
 -- The lines of COLLISIONLAYERS. Each line is a layer; earlier lines lie below later ones. Commas and blanks part its
--- names: a
--- property stands for its members, a synonym for its object. An object that several lines name belongs to the last of
--- them.
+-- names: a property stands for its members, a synonym for its object. An object that several lines name belongs to the
+-- last of them.
 use Rattle.std.specs.Prelude.{ℕ, Option, None, List, map, flat_map, filter}
 use Rattle.std.specs.List.{enumerate_from, range_with_len, last_or}
 use Rattle.std.specs.Str.{bytes_eq}

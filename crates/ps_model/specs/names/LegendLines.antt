@@ -1,6 +1,5 @@
 -- The lines of LEGEND. `X = Y` makes X another name for Y, a synonym; `X = A and B` makes it an aggregate, all of the
--- names that
--- `and` joins; `X = A or B` a property, any of the names that `or` joins. Key words may be names.
+-- names that `and` joins; `X = A or B` a property, any of the names that `or` joins. Key words may be names.
 use Rattle.std.specs.Prelude.{ℕ, Bool, ◌&&◌, ◌||◌, Option, None, Some, option_map, List, [], ◌∷◌, if◌then◌else◌, drop}
 use Rattle.std.specs.Prelude.{codes, filter_map}
 use Rattle.std.specs.List.{list_any}

@@ -1,9 +1,7 @@
 -- What the names of LEGEND stand for. A legend line may name what any other legend line declares, above it or below. A
--- synonym
--- stands for what its name stands for: a synonym of a property or of an aggregate is one and the same as that.
--- Properties of
--- properties and aggregates of aggregates are flattened: their objects are listed once each, where they are first
--- mentioned.
+-- synonym stands for what its name stands for: a synonym of a property or of an aggregate is one and the same as that.
+-- Properties of properties and aggregates of aggregates are flattened: their objects are listed once each, where they
+-- are first mentioned.
 use Rattle.std.specs.Prelude.{ℕ, zero, suc, ◌+◌, nat_eq, Bool, true, false, Option, None, Some, is_some}
 use Rattle.std.specs.Prelude.{option_and_then, List, [], ◌∷◌, ◌++◌, length, map, filter_map, sum_by, slice_get}
 use Rattle.std.specs.Prelude.{slice_index_or}
@@ -86,8 +84,7 @@ mentions_of legend (OfObject object) = []
 mentions_of legend (OfLine place) = mentions_of_name (slice_get legend place)
 
 -- a list to which mentions are added, in so many steps at most: one that the list has already is passed over; another
--- is put at
--- its end, and then what the mention's own line mentions is added before the others
+-- is put at its end, and then what the mention's own line mentions is added before the others
 abbrev pub with_mentioned : List LegendName → ℕ → List Mention → List Mention → List Mention
 with_mentioned legend steps listed [] = listed
 with_mentioned legend zero listed (mention ∷ others) = listed
@@ -101,8 +98,7 @@ abbrev pub mention_count : List LegendName → ℕ
 mention_count legend = sum_by (λ name. length name.mentions) legend
 
 -- these mentions and all that they mention through legend lines, each once, where it is first mentioned; as the
--- mentions of a
--- line are added once at most, the steps are enough
+-- mentions of a line are added once at most, the steps are enough
 abbrev pub all_mentioned : List LegendName → List Mention → List Mention
 all_mentioned legend mentions = with_mentioned legend (length mentions + mention_count legend) [] mentions
 

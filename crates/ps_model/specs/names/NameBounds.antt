@@ -1,6 +1,5 @@
 -- What holds of the names of every game: objects and layers are no more than the limits; each object lies on one of the
--- layers;
--- and every object that a name or a glyph speaks of is one of the game's.
+-- layers; and every object that a name or a glyph speaks of is one of the game's.
 use Rattle.std.specs.Prelude.{ℕ, ◌≤◌, ◌<◌, All}
 use Rattle.ps_model.specs.declared.limits.TheConstants.{OBJECT_LIMIT, LAYER_LIMIT}
 use Rattle.ps_model.specs.names.Names.{Meaning, Names, members, object_count}

@@ -1,6 +1,5 @@
 -- The faults of the names of a text, in the order in which they are told: the lines of OBJECTS, LEGEND and
--- COLLISIONLAYERS, one
--- by one; then what is wrong with the whole, kind by kind, and each kind by its lines.
+-- COLLISIONLAYERS, one by one; then what is wrong with the whole, kind by kind, and each kind by its lines.
 use Rattle.std.specs.Prelude.{ℕ, nat_eq, Bool, false, ◌||◌, not, Option, List, [], ◌∷◌, ◌++◌, map, flat_map, filter}
 use Rattle.std.specs.Prelude.{zip, slice_index_or, codes}
 use Rattle.std.specs.Option.{is_none}

@@ -8,8 +8,7 @@ use Rattle.ps_model.specs.declared.pieces.ObjectId.{ObjectId}
 use Rattle.ps_model.specs.text.Lines.{folded}
 
 -- a name stands for one object, for all of a list (an aggregate) or for any of a list (a property); the last two keep
--- the
--- number of the legend line that declares them
+-- the number of the legend line that declares them
 pub data Meaning : Type 0 where
   One : ObjectId → Meaning
   AllOf : ℕ → List ObjectId → Meaning

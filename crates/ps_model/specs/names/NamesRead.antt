@@ -1,8 +1,6 @@
 -- The names of a game, as the sections OBJECTS, LEGEND and COLLISIONLAYERS declare them: the names of the objects
--- first, then
--- those of the legend, each in order of declaration; and the layers. Where a section has a fault, what it declares
--- without
--- that is read all the same.
+-- first, then those of the legend, each in order of declaration; and the layers. Where a section has a fault, what it
+-- declares without that is read all the same.
 use Rattle.std.specs.Prelude.{ℕ, Option, None, Some, option_map, unwrap_or, List, ◌++◌, length, map, filter_map, zip}
 use Rattle.ps_model.specs.declared.pieces.ObjectId.{ObjectId}
 use Rattle.ps_model.specs.declared.texts.Cut.TheVariants.{Legend, Layers}

@@ -1,6 +1,5 @@
 -- What the prelude of a game says: its title, which options are set, and the size of its rooms. A line of the prelude
--- is
--- known by its first word; what no line here names is read past.
+-- is known by its first word; what no line here names is read past.
 use Rattle.std.specs.Prelude.{ℕ, Bool, ◌&&◌, Option, unwrap_or, option_map, option_and_then, List, [], find}
 use Rattle.std.specs.Prelude.{slice_index_or, codes}
 use Rattle.std.specs.List.{list_any}
