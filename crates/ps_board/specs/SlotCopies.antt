@@ -1,6 +1,5 @@
 -- Slots that were copied from one list to another, those of some rows. A list has so many layers of each cell, and the
--- cells of
--- each column with so many rows.
+-- cells of each column with so many rows.
 use Rattle.std.specs.Prelude.{◌≡◌, ◌<◌, ◌/◌, ◌%◌, ℕ, Bool, true, false, List, length, slice_index_or}
 use Rattle.ps_model.specs.declared.pieces.Slot.{Slot}
 use Rattle.ps_model.specs.declared.pieces.Slot.TheVariants.{Bare}

@@ -1,6 +1,5 @@
 -- Runs that aren't right, whatever the game: what a run may answer leaves no room for them. Each law says of one of
--- them
--- that it isn't allowed.
+-- them that it isn't allowed.
 use Rattle.std.specs.Prelude.{◌≡◌, ◌≢◌, ℕ, ◌+◌, ◌<◌, ◌≤◌, true, false, Some, List, [], ◌∷◌, ◌++◌, length, ◌⊎◌}
 use Rattle.std.specs.List.{concat}
 use Rattle.ps_model.specs.declared.play.Ending.TheVariants.{EndOfKeys}
@@ -48,8 +47,7 @@ NoWantWithoutKey =
     (GaveNothing told.reading → ⊥) → Answers text told WantsMemory → ⊥
 
 -- the texts of all keys that were read are written, each of which has something, no call gave nothing, and the run
--- answers
--- that it wants memory
+-- answers that it wants memory
 abbrev pub NoWantBehindAllKeys : Type 0
 NoWantBehindAllKeys =
     (text : List ℕ) (told : Told) (script : Script) →
@@ -60,17 +58,22 @@ NoWantBehindAllKeys =
 
 -- calls ---------------------------------------------------------------------------------------------------------------
 
+-- a piece is one of several
+abbrev pub IsAmong : List ℕ → List (List ℕ) → Type 0
+IsAmong piece pieces = (before behind : List (List ℕ)) × (pieces ≡ before ++ piece ∷ behind)
+
 -- the run made more calls than it may
 abbrev pub NoMoreCalls : Type 0
 NoMoreCalls =
     (text : List ℕ) (told : Told) (answer : Answer) (earlier : List (List ℕ)) (last : Call) →
     told.reading ≡ Asked earlier last → READ_LIMIT ≤ length earlier → Answers text told answer → ⊥
 
--- a call gave more bytes than one may ask for
+-- a call gave more bytes than one may ask for, be it the last one or one before it
 abbrev pub NoLongCall : Type 0
 NoLongCall =
-    (text : List ℕ) (told : Told) (answer : Answer) (earlier : List (List ℕ)) (piece : List ℕ) →
-    told.reading ≡ Asked earlier (Gives piece) → CALL_LIMIT < length piece → Answers text told answer → ⊥
+    (text : List ℕ) (told : Told) (answer : Answer) (earlier : List (List ℕ)) (last : Call) (piece : List ℕ) →
+    told.reading ≡ Asked earlier last → (last ≡ Gives piece) ⊎ IsAmong piece earlier → CALL_LIMIT < length piece →
+    Answers text told answer → ⊥
 
 -- the run called the reader behind a call that gave nothing
 abbrev pub NoCallBehindEnd : Type 0
@@ -79,8 +82,7 @@ NoCallBehindEnd =
     told.reading ≡ Asked (before ++ [] ∷ behind) last → Answers text told answer → ⊥
 
 -- a call of the reader had room for fewer bytes than a run asks for at a time, or for more: so no run asks for a byte
--- at a
--- time, not even one that stops at the last call that it makes, and none asks for 5,000 and tells of two calls
+-- at a time, not even one that stops at the last call that it makes, and none asks for 5,000 and tells of two calls
 abbrev pub NoOddSizedCall : Type 0
 NoOddSizedCall =
     (text : List ℕ) (reader_before reader_after : ReaderState) (writer_before writer_after : WriterState)
@@ -89,8 +91,7 @@ NoOddSizedCall =
     RunsRightly text reader_before reader_after writer_before writer_after answer → ⊥
 
 -- two calls of the reader gave nothing: however the bytes of the others are cut into pieces, one of the two was behind
--- the
--- end of the keys, or had no room
+-- the end of the keys, or had no room
 abbrev pub NoSecondEmptyCall : Type 0
 NoSecondEmptyCall =
     (text : List ℕ) (reader_before reader_after : ReaderState) (writer_before writer_after : WriterState)
@@ -146,8 +147,7 @@ NoRunOnFailedDevices =
 -- writing -------------------------------------------------------------------------------------------------------------
 
 -- the reader wasn't called, and the run has written all that is written before a key, or more, and answers that it
--- can't
--- write
+-- can't write
 abbrev pub NoWritingUnasked : Type 0
 NoWritingUnasked =
     (text : List ℕ) (told : Told) (script : Script) →

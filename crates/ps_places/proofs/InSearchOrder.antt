@@ -1,6 +1,5 @@
 -- What is done from each cell of a grid, in the order in which cells are searched: if one more cell comes to one more
--- that is
--- done, all cells come to all.
+-- that is done, all cells come to all.
 use Rattle.std.proofs.Common.{◌≡◌, ◌≢◌, ◌∙◌, ℕ, zero, suc, ◌+◌, ◌*◌, ◌/◌, ◌%◌, ◌<◌, ◌≤◌, ◌||◌, ◌&&◌, inl, inr, Bool}
 use Rattle.std.proofs.Common.{true, false}
 use Rattle.std.proofs.Common.{List, [], ◌∷◌, ◌++◌, length, map, fold, refl, sym, ap, arith}

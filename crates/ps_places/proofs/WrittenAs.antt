@@ -1,6 +1,5 @@
 -- A grid of which each cell has become something, and whether one of them is another than it was: in several steps,
--- each of which
--- rewrites cells that are as they were.
+-- each of which rewrites cells that are as they were.
 use Rattle.std.proofs.Common.{◌≡◌, ◌∙◌, ℕ, zero, suc, ◌+◌, ◌<◌, ◌≤◌, ◌||◌, inl, inr, Bool, true, false, not, Option}
 use Rattle.std.proofs.Common.{Some, None}
 use Rattle.std.proofs.Common.{List, [], length, map, refl, sym, ap, ap₂, arith}

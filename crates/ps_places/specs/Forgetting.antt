@@ -29,8 +29,7 @@ abbrev pub IsAmong : CompiledRow → Room → Type 0
 IsAmong row room = IsPlaceOf room.lines room.starts.items row.parts room.line (way_of row room)
 
 -- places are forgotten: the same one is chosen, and the same ones are behind it. Those that are left are the same for
--- each kind of
--- which the one that is chosen is the first.
+-- each kind of which the one that is chosen is the first.
 pub record HaveForgotten (height : ℕ) (row : CompiledRow) (old new : Room) : Type 0 where
   pub at : place_at height row new ≡ place_at height row old
   pub later : places_behind height row new ≡ places_behind height row old

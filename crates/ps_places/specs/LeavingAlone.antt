@@ -1,6 +1,5 @@
 -- Places of a part that leave each other alone: cells of it that may lie on one cell of the board don't both change it,
--- and what one
--- of them asks for stays where the other changes it.
+-- and what one of them asks for stays where the other changes it.
 use Rattle.std.specs.Prelude.{◌≡◌, ℕ, ◌+◌, ◌<◌, Bool, true, false, ◌&&◌, ◌||◌, not, if◌then◌else◌, Some, List, length}
 use Rattle.std.specs.Prelude.{slice_get}
 use Rattle.ps_model.specs.declared.limits.TheConstants.{SIDE_LIMIT}

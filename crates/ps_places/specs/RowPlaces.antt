@@ -1,6 +1,5 @@
 -- The places of a row of a rule, as what is kept of it tells: lines of the board, and on each of them a set of
--- positions for each
--- part.
+-- positions for each part.
 use Rattle.std.specs.Prelude.{ℕ, ◌+◌, ◌*◌, Bool, Option, List, [], ◌∷◌, ◌++◌, map, take, drop, length}
 use Rattle.std.specs.List.{flat_map}
 use Rattle.ps_model.specs.board.Grid.{Grid}

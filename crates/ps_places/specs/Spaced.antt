@@ -5,8 +5,7 @@ use Rattle.ps_places.specs.Room.{Room}
 use Rattle.ps_places.specs.RowPlaces.{part_sizes, way_of}
 
 -- the first of parts of these sizes begins at a position or behind it, and each other one at the end of the part before
--- it or
--- behind that
+-- it or behind that
 abbrev pub IsSpaced : List ℕ → ℕ → List ℕ → Type 0
 IsSpaced [] from way = ⊤
 IsSpaced (size ∷ sizes) from [] = ⊤

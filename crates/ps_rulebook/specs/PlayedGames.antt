@@ -1,6 +1,5 @@
 -- A game that is played by its compiled programs: the script that turns of these programs play, and when it has the
--- runs of
--- the game as it is written.
+-- runs of the game as it is written.
 use Rattle.std.specs.Prelude.{◌≡◌, ℕ, Option, Some, List}
 use Rattle.ps_model.specs.declared.pieces.LayerId.{LayerId}
 use Rattle.ps_model.specs.declared.rules.Part.TheVariants.{Plain, Late}
@@ -35,8 +34,7 @@ abbrev pub GivesRoom : (List ℕ → Option (List ℕ)) → Type 0
 GivesRoom table_for = (layers : List LayerId) → HaveRoom (table_for (layer_numbers layers)) layers
 
 -- two programs are compiled of these names and lines: each comes to what its part of the lines means on grids of the
--- game,
--- and can run as it is on boards where each object has room on its own layer
+-- game, and can run as it is on boards where each object has room on its own layer
 pub record AreCompiled (names : Names) (lines : List RuleLine) (plain late : List model.CompiledSection) : Type 0 where
   pub plain_alike : RunsAlike names Plain lines plain
   pub late_alike : RunsAlike names Late lines late

@@ -8,10 +8,11 @@ use Rattle.std.proofs.lemmas.Bool.{both_ways}
 use Rattle.ps_model.specs.board.Turns.{Script}
 use Rattle.ps_model.specs.game.Outputs.{output, front}
 use Rattle.ps_model.specs.game.Tellings.{Call, Gives, Fails, ReaderCalls, Unasked, Asked, Told, read, all_bytes}
-use Rattle.ps_model.specs.game.Tellings.{has_failing_call, last_behind, empty_pieces, empty_reads}
+use Rattle.ps_model.specs.game.Tellings.{bytes_of_call, has_failing_call, last_behind, empty_pieces, empty_reads}
 use Rattle.ps_model.specs.game.Headline.{Answer, Ends, Refuses, WantsMemory, CannotRead, CannotWrite, Answers, IsFront}
 use Rattle.ps_model.specs.game.Headline.{IsCutOff, IsPiece, AsksInTurn, ReadsInTurn, GaveNothing, IsTrueOfText}
 use Rattle.ps_model.specs.game.Headline.{script_of_text, texts_of}
+use Rattle.ps_model.specs.declared.limits.TheConstants.{CALL_LIMIT}
 use Rattle.ps_laws.specs.Fronts.{whole_front}
 use Rattle.ps_model.specs.declared.play.Key.{Key}
 use Rattle.ps_model.specs.session.Keys.{keys_of}
@@ -60,9 +61,20 @@ pub no_more_calls : NoMoreCalls
 no_more_calls text told answer earlier last is more right =
     below _ _ (asked_in_turn text told answer earlier last is right).2.calls more
 
+-- of pieces that are such, one among them is
+among : (before behind : List (List ℕ)) (piece : List ℕ) → All IsPiece (before ++ piece ∷ behind) → IsPiece piece
+among [] behind piece all = All-head IsPiece piece behind all
+among (first ∷ before) behind piece all =
+    among before behind piece (All-tail IsPiece first (before ++ piece ∷ behind) all)
+
 pub no_long_call : NoLongCall
-no_long_call text told answer earlier piece is long right =
-    above _ _ (asked_in_turn text told answer earlier (Gives piece) is right).2.few long
+no_long_call text told answer earlier last piece is (inl gives) long right =
+    let few : length (bytes_of_call last) ≤ CALL_LIMIT = (asked_in_turn text told answer earlier last is right).2.few in
+    above _ _ (rw gives at few) long
+no_long_call text told answer earlier last piece is (inr (before, behind, split)) long right =
+    let pieces : All IsPiece earlier = (asked_in_turn text told answer earlier last is right).2.pieces in
+    let one : IsPiece piece = among before behind piece (rw split at pieces) in
+    above _ _ one.few long
 
 no_empty : (before behind : List (List ℕ)) → All IsPiece (before ++ [] ∷ behind) → ⊥
 no_empty [] behind all = let piece : IsPiece [] = All-head IsPiece [] behind all in let no = piece.some in omega arith
