@@ -24,3 +24,13 @@ never_less old new most counted held =
           omega arith)
       | inr above ↦ (let e : new ≡ old = held above in omega arith)
     ]
+
+-- one call more, where all calls before it took less than they were handed
+pub few_more : (old_calls calls new_calls old_short short new_short : ℕ) → calls + old_short ≤ old_calls + short →
+    new_calls ≤ calls + 1 → short ≤ new_short → new_calls + old_short ≤ old_calls + (1 + new_short)
+few_more old_calls calls new_calls old_short short new_short so_far one more = omega arith
+
+-- and it took less, too
+pub short_more : (old_calls calls new_calls old_short short new_short : ℕ) → calls + old_short ≤ old_calls + short →
+    new_calls ≡ calls + 1 → new_short ≡ short + 1 → new_calls + old_short ≤ old_calls + new_short
+short_more old_calls calls new_calls old_short short new_short so_far one more = omega arith

@@ -28,6 +28,7 @@ impl<T: Drop> FromStd<T> {
         ensures last { result.stream.last ≡ 0 }
         ensures empty_calls { result.stream.empty_calls ≡ 0 }
         ensures odd_sized_calls { result.stream.odd_sized_calls ≡ 0 }
+        ensures short_calls { result.stream.short_calls ≡ 0 }
     {
         FromStd {
             stream: Stream::new(stream),
@@ -93,6 +94,7 @@ impl<T: Write + Drop> ByteWriter for FromStd<T> {
       has_failed = device.stream.failed;
       calls = device.stream.calls;
       empty_calls = device.stream.empty_calls;
+      short_calls = device.stream.short_calls;
     } };
 
     /// One write to the stream, which is handed all of `bytes`, takes a front of them and nothing else.
@@ -116,6 +118,12 @@ impl<T: Write + Drop> ByteWriter for FromStd<T> {
         ensures some { 0 < length bytes.now → self.new.stream.empty_calls ≡ self.old.stream.empty_calls }
         ensures none { most_calls ≤ self.old.stream.calls
             → self.new.stream.empty_calls ≡ self.old.stream.empty_calls }
+        ensures short { IfOk result (λ count. count < length bytes.now
+            → self.new.stream.short_calls ≡ self.old.stream.short_calls + 1) }
+        ensures whole { IfOk result (λ count. count ≡ length bytes.now
+            → self.new.stream.short_calls ≡ self.old.stream.short_calls) }
+        ensures unshortened { OnErr result (self.new.stream.short_calls ≡ self.old.stream.short_calls) }
+        ensures shorts { self.old.stream.short_calls ≤ self.new.stream.short_calls }
     {
         self.stream.write_once(bytes)
     }

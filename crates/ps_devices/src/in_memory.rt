@@ -166,7 +166,9 @@ pub struct MemoryWriter {
     failed: bool,
     calls: u64,
     empty_calls: u64,
+    short_calls: u64,
     ghost empty: { empty_calls ≤ calls },
+    ghost short: { short_calls ≤ calls },
     ghost within: { vec_len bytes ≤ room },
     ghost reserved: { room ≤ vec_capacity bytes },
 }
@@ -183,6 +185,7 @@ impl MemoryWriter {
         ensures has_failed { IfOk result (λ writer. (⟦<MemoryWriter as ByteWriter>⟧.state writer).has_failed ≡ false) }
         ensures calls { IfOk result (λ writer. (⟦<MemoryWriter as ByteWriter>⟧.state writer).calls ≡ 0) }
         ensures empty_calls { IfOk result (λ writer. (⟦<MemoryWriter as ByteWriter>⟧.state writer).empty_calls ≡ 0) }
+        ensures short_calls { IfOk result (λ writer. (⟦<MemoryWriter as ByteWriter>⟧.state writer).short_calls ≡ 0) }
         ensures room { IfOk result (λ writer. writer.room ≡ room) }
         ensures piece { IfOk result (λ writer. writer.piece ≡ piece) }
     {
@@ -193,6 +196,7 @@ impl MemoryWriter {
             failed: false,
             calls: 0,
             empty_calls: 0,
+            short_calls: 0,
         })
     }
 
@@ -210,6 +214,7 @@ impl ByteWriter for MemoryWriter {
       has_failed = device.failed;
       calls = device.calls;
       empty_calls = device.empty_calls;
+      short_calls = device.short_calls;
     } };
 
     /// Takes as much as there is room for, but no more than a piece; it fails where it has no room left for some bytes,
@@ -237,6 +242,12 @@ impl ByteWriter for MemoryWriter {
             → self.new.empty_calls ≡ self.old.empty_calls + 1 }
         ensures some { 0 < length bytes.now → self.new.empty_calls ≡ self.old.empty_calls }
         ensures none { most_calls ≤ self.old.calls → self.new.empty_calls ≡ self.old.empty_calls }
+        ensures short { IfOk result (λ count. count < length bytes.now
+            → self.new.short_calls ≡ self.old.short_calls + 1) }
+        ensures whole { IfOk result (λ count. count ≡ length bytes.now
+            → self.new.short_calls ≡ self.old.short_calls) }
+        ensures unshortened { OnErr result (self.new.short_calls ≡ self.old.short_calls) }
+        ensures shorts { self.old.short_calls ≤ self.new.short_calls }
     {
         if self.calls == u64::MAX {
             self.failed = true;
@@ -255,6 +266,7 @@ impl ByteWriter for MemoryWriter {
         if count == 0 && !bytes.is_empty() {
             self.failed = true;
         }
+        self.short_calls = counted(self.short_calls, count < bytes.len());
         let (front, _) = bytes.split_at(count);
         match self.bytes.extend_from_slice(front) {
             Ok(()) => Ok(count),

@@ -13,8 +13,9 @@ use ps_model::CALL_LIMIT;
 use std::io::{Read, Write};
 
 /// A stream, whether a call of it failed, how many calls it has had, what the last one was given room for or handed,
-/// and what it moved; how many calls gave nothing without failing or were handed nothing, and for how many reads the
-/// caller had room for another number of bytes than `CALL_LIMIT`.
+/// and what it moved; how many calls gave nothing without failing or were handed nothing, how many writes took fewer
+/// bytes than they were handed, and for how many reads the caller had room for another number of bytes than
+/// `CALL_LIMIT`.
 #[derive(Drop)]
 pub(super) struct Stream<T> {
     stream: T,
@@ -24,8 +25,10 @@ pub(super) struct Stream<T> {
     last: usize,
     empty_calls: u64,
     odd_sized_calls: u64,
+    short_calls: u64,
     ghost empty: { empty_calls ≤ calls },
     ghost odd_sized: { odd_sized_calls ≤ calls },
+    ghost short: { short_calls ≤ calls },
 }
 
 impl<T: Drop> Stream<T> {
@@ -38,6 +41,7 @@ impl<T: Drop> Stream<T> {
         ensures last { result.last ≡ 0 }
         ensures empty_calls { result.empty_calls ≡ 0 }
         ensures odd_sized_calls { result.odd_sized_calls ≡ 0 }
+        ensures short_calls { result.short_calls ≡ 0 }
     {
         Stream {
             stream,
@@ -47,6 +51,7 @@ impl<T: Drop> Stream<T> {
             last: 0,
             empty_calls: 0,
             odd_sized_calls: 0,
+            short_calls: 0,
         }
     }
 
@@ -63,6 +68,7 @@ impl<T: Drop> Stream<T> {
         ensures held { OnErr result (self.new.calls ≡ self.old.calls) }
         ensures empty { self.new.empty_calls ≡ self.old.empty_calls }
         ensures odd_sized { self.new.odd_sized_calls ≡ self.old.odd_sized_calls }
+        ensures short { self.new.short_calls ≡ self.old.short_calls }
     {
         self.asked = asked;
         self.last = 0;
@@ -144,6 +150,12 @@ impl<T: Write + Drop> Stream<T> {
             → self.new.empty_calls ≡ self.old.empty_calls + 1 }
         ensures some { 0 < length bytes.now → self.new.empty_calls ≡ self.old.empty_calls }
         ensures none { most_calls ≤ self.old.calls → self.new.empty_calls ≡ self.old.empty_calls }
+        ensures short { IfOk result (λ count. count < length bytes.now
+            → self.new.short_calls ≡ self.old.short_calls + 1) }
+        ensures whole { IfOk result (λ count. count ≡ length bytes.now
+            → self.new.short_calls ≡ self.old.short_calls) }
+        ensures unshortened { OnErr result (self.new.short_calls ≡ self.old.short_calls) }
+        ensures shorts { self.old.short_calls ≤ self.new.short_calls }
     {
         self.count_call(bytes.len())?;
         if bytes.is_empty() {
@@ -153,6 +165,9 @@ impl<T: Write + Drop> Stream<T> {
             Ok(count) => {
                 self.last = count;
                 self.failed = count == 0 && !bytes.is_empty();
+                if count < bytes.len() {
+                    self.short_calls += 1;
+                }
                 Ok(count)
             }
             Err(_) => {

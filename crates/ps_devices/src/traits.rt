@@ -59,8 +59,8 @@ pub trait ByteReader: Drop {
 /// What bytes are written to, a piece at a time.
 pub trait ByteWriter: Drop {
     /// What it tells of itself: the bytes that it has taken, or `None` of a writer that doesn't tell; whether a call
-    /// has failed, and a failure stays told; how many calls it has had, at most `u64::MAX`; and how many of those
-    /// were handed no byte.
+    /// has failed, and a failure stays told; how many calls it has had, at most `u64::MAX`; and of those how many were
+    /// handed no byte, and how many took fewer bytes than they were handed, without failing.
     ghost state: { Self → WriterState };
 
     /// Takes a front of `bytes` and says how many bytes it has. A writer that takes none, where there
@@ -86,11 +86,18 @@ pub trait ByteWriter: Drop {
             → (state self.new).empty_calls ≡ (state self.old).empty_calls + 1 }
         ensures some { 0 < length bytes.now → (state self.new).empty_calls ≡ (state self.old).empty_calls }
         ensures none { most_calls ≤ (state self.old).calls
-            → (state self.new).empty_calls ≡ (state self.old).empty_calls };
+            → (state self.new).empty_calls ≡ (state self.old).empty_calls }
+        ensures short { IfOk result (λ count. count < length bytes.now
+            → (state self.new).short_calls ≡ (state self.old).short_calls + 1) }
+        ensures whole { IfOk result (λ count. count ≡ length bytes.now
+            → (state self.new).short_calls ≡ (state self.old).short_calls) }
+        ensures unshortened { OnErr result ((state self.new).short_calls ≡ (state self.old).short_calls) }
+        ensures shorts { (state self.old).short_calls ≤ (state self.new).short_calls };
 }
 
-/// Writes all of `bytes`, in order and nothing else, by as many calls as it takes: each is handed some, and takes a
-/// byte or more where it doesn't fail; none comes behind a failure or behind the last byte.
+/// Writes all of `bytes`, in order and nothing else, by as many calls as it takes: each is handed all that is left, and
+/// takes a byte or more where it doesn't fail; none comes behind a failure or behind the last byte. So there is one
+/// call, and one more for each that took less than it was handed.
 ///
 /// # Errors
 ///
@@ -104,10 +111,14 @@ pub fn write_whole<W: ByteWriter>(bytes: &[u8], writer: &mut W) -> Result<(), Fa
     ensures called { OnOk result (0 < length bytes.now → (W.state writer.old).calls < (W.state writer.new).calls) }
     ensures front { OnErr result ((count : ℕ) × (count < length bytes.now)
         × Grows (W.state writer.old).contents (W.state writer.new).contents (take count bytes.now)
-        × ((W.state writer.new).calls ≤ (W.state writer.old).calls + (count + 1))) }
+        × ((W.state writer.new).calls ≤ (W.state writer.old).calls + (count + 1))
+        × (1 ≤ count → (W.state writer.old).calls < (W.state writer.new).calls)) }
     ensures told { OnErr result ((W.state writer.new).has_failed ≡ true) }
     ensures counts { (W.state writer.old).calls ≤ (W.state writer.new).calls }
     ensures none_empty { (W.state writer.new).empty_calls ≡ (W.state writer.old).empty_calls }
+    ensures shorts { (W.state writer.old).short_calls ≤ (W.state writer.new).short_calls }
+    ensures few { (W.state writer.new).calls + (W.state writer.old).short_calls
+        ≤ (W.state writer.old).calls + (1 + (W.state writer.new).short_calls) }
 {
     let mut done = 0usize;
     while done < bytes.len() {

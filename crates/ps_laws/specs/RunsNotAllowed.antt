@@ -2,6 +2,7 @@
 -- them that it isn't allowed.
 use Rattle.std.specs.Prelude.{◌≡◌, ◌≢◌, ℕ, ◌+◌, ◌<◌, ◌≤◌, true, false, Some, List, [], ◌∷◌, ◌++◌, length, ◌⊎◌}
 use Rattle.std.specs.List.{concat}
+use Rattle.ps_model.specs.declared.play.Ending.{Ending}
 use Rattle.ps_model.specs.declared.play.Ending.TheVariants.{EndOfKeys}
 use Rattle.ps_model.specs.declared.limits.TheConstants.{READ_LIMIT, CALL_LIMIT}
 use Rattle.ps_model.specs.board.Turns.{Script}
@@ -10,7 +11,7 @@ use Rattle.ps_model.specs.game.Outputs.{front, output}
 use Rattle.ps_model.specs.game.Tellings.{ReaderState, WriterState, Call, Gives, Unasked, Asked, Told, Tells, read}
 use Rattle.ps_model.specs.game.Tellings.{all_bytes, has_failing_call}
 use Rattle.ps_model.specs.game.Headline.{Answer, WantsMemory, CannotRead, CannotWrite, Answers, GaveNothing, IsFront}
-use Rattle.ps_model.specs.game.Headline.{RunsRightly}
+use Rattle.ps_model.specs.game.Headline.{Ends, RunsRightly, text_count}
 use Rattle.ps_model.specs.game.Headline.{IsTrueOfText, script_of_text, texts_of}
 
 -- reading behind the ending -------------------------------------------------------------------------------------------
@@ -153,6 +154,29 @@ NoWritingUnasked =
     (text : List ℕ) (told : Told) (script : Script) →
     script_of_text text ≡ Some script → told.reading ≡ Unasked → IsFront (texts_of script []) told.wrote →
     Answers text told CannotWrite → ⊥
+
+-- the writer has counted no call, and the run answers an ending: so something was handed to each writer, also to one
+-- that tells none of its bytes
+abbrev pub NoEndingUnwritten : Type 0
+NoEndingUnwritten =
+    (text : List ℕ) (reader_before reader_after : ReaderState) (writer_before writer_after : WriterState)
+    (ending : Ending) → writer_after.calls ≡ writer_before.calls →
+    RunsRightly text reader_before reader_after writer_before writer_after (Ends ending) → ⊥
+
+-- the run wrote something, and the writer has counted no call
+abbrev pub NoWriteUncounted : Type 0
+NoWriteUncounted =
+    (reader_before reader_after : ReaderState) (writer_before writer_after : WriterState) (told : Told) →
+    1 ≤ length told.wrote → writer_after.calls ≡ writer_before.calls →
+    Tells reader_before reader_after writer_before writer_after told → ⊥
+
+-- the run called the writer more often than it has texts to write, but for one more call for each that took less than it
+-- was handed: so a text isn't handed on in pieces that the writer didn't ask for
+abbrev pub NoTextInPieces : Type 0
+NoTextInPieces =
+    (text : List ℕ) (reader_before reader_after : ReaderState) (writer_before writer_after : WriterState) (told : Told)
+    (answer : Answer) → text_count told.reading + told.short_writes < told.writes →
+    Tells reader_before reader_after writer_before writer_after told → Answers text told answer → ⊥
 
 -- a write was handed no byte
 abbrev pub NoEmptyWrite : Type 0

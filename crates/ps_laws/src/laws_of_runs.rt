@@ -14,6 +14,7 @@ ghost use Rattle.ps_laws.specs.RunsNotAllowed.{NoMoreCalls, NoLongCall, NoCallBe
 ghost use Rattle.ps_laws.specs.RunsNotAllowed.{NoOddSizedCall, NoSecondEmptyCall, NoCallBehindEmptyOne, NoEmptyWrite};
 ghost use Rattle.ps_laws.specs.RunsNotAllowed.{ReadFaultIsTold, WriteFaultIsTold, NoReadFaultUnasked};
 ghost use Rattle.ps_laws.specs.RunsNotAllowed.{NoWriteFaultUnfailed, NoRunOnFailedDevices, NoWritingUnasked};
+ghost use Rattle.ps_laws.specs.RunsNotAllowed.{NoEndingUnwritten, NoWriteUncounted, NoTextInPieces};
 ghost use Rattle.ps_laws.specs.RunsNotAllowed.{WritesFronts, AnswersAreTrueOfTexts};
 ghost use Rattle.ps_laws.specs.OneGame.{AtMostOneGame, FaultBarsGame, FaultlessIsGame, GameIsFaultless, GameOrFault};
 ghost use Rattle.ps_laws.specs.OneGame.{FirstIsFault, HiddenAreBehind};
@@ -69,9 +70,9 @@ pub fn ends_of_output()
 {}
 
 /// Runs that aren't allowed, whatever the game: calls of the reader behind the ending, behind its end, too many or too
-/// long, or with room for more or fewer bytes than a run asks for; writes of nothing; answers that tell of a failure
-/// that wasn't, or don't tell of one that was; wanting memory where nothing was to be made; and writing what isn't to
-/// be written.
+/// long, or with room for more or fewer bytes than a run asks for; writes of nothing, none where something is written,
+/// or more of them than there are texts, where the writer takes each whole; answers that tell of a failure that wasn't,
+/// or don't tell of one that was; wanting memory where nothing was to be made; and writing what isn't to be written.
 pub fn runs_not_allowed()
     ensures no_call_behind_ending { NoCallBehindEnding }
     ensures no_read_fault_behind_ending { NoReadFaultBehindEnding }
@@ -85,6 +86,9 @@ pub fn runs_not_allowed()
     ensures no_second_empty_call { NoSecondEmptyCall }
     ensures no_call_behind_empty_one { NoCallBehindEmptyOne }
     ensures no_empty_write { NoEmptyWrite }
+    ensures no_ending_unwritten { NoEndingUnwritten }
+    ensures no_write_uncounted { NoWriteUncounted }
+    ensures no_text_in_pieces { NoTextInPieces }
     ensures reads_what_was_there { ReadsWhatWasThere }
     ensures read_fault_is_told { ReadFaultIsTold }
     ensures write_fault_is_told { WriteFaultIsTold }

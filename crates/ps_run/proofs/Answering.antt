@@ -1,28 +1,23 @@
 -- From a run by other rules to a run on a text.
-use Rattle.std.proofs.Common.{◌≡◌, ◌∙◌, ℕ, ◌≤◌, ◌+◌, List, [], ◌++◌, length, take, inl, inr, Option, Some, None, refl}
-use Rattle.std.proofs.Common.{sym, ap, arith, Result, Ok, Err}
+use Rattle.std.proofs.Common.{◌≡◌, ◌∙◌, ℕ, ◌+◌, List, ◌++◌, length, take, inl, inr}
+use Rattle.std.proofs.Common.{sym, ap, arith, Ok, Err}
 use Rattle.std.specs.Prelude.{option_map}
 use Rattle.std.specs.List.{concat}
 use Rattle.std.proofs.lemmas.Grind.{common_steps}
 use Rattle.std.proofs.lemmas.List.{length-append}
-use Rattle.ps_model.specs.declared.play.Ending.{Ending}
-use Rattle.ps_model.specs.declared.play.Ending.TheVariants.{EndOfKeys}
 use Rattle.ps_model.specs.declared.play.Key.{Key}
 use Rattle.ps_model.specs.board.Turns.{Script, script_of}
 use Rattle.ps_model.specs.session.Keys.{keys_of}
-use Rattle.ps_model.specs.session.HeldKeys.{held, before_held}
-use Rattle.ps_model.specs.game.Games.{Game, game}
-use Rattle.ps_model.specs.game.Outputs.{Output, output, front, output_of_keys, opening_step, ending_of, texts_of_keys}
-use Rattle.ps_model.specs.game.Headline.{Answer, Answers, GoesOn, IsFront, IsCutOff, ReadsInTurn, IsCutOffWriting}
-use Rattle.ps_model.specs.game.Headline.{IsWholeBefore, texts_of, ending_behind, script_of_text, StopsForMemory}
-use Rattle.ps_model.specs.game.Tellings.{ReaderCalls, Unasked, Asked, Told, Call, read, read_before}
+use Rattle.ps_model.specs.session.HeldKeys.{held}
+use Rattle.ps_model.specs.game.Outputs.{Output, output_of_keys, opening_step, ending_of, texts_of_keys}
+use Rattle.ps_model.specs.game.Headline.{GoesOn, ReadsInTurn, IsCutOffWriting}
+use Rattle.ps_model.specs.game.Headline.{IsWholeBefore, texts_of, StopsForMemory}
+use Rattle.ps_model.specs.game.Tellings.{ReaderCalls, Unasked, Asked, Told, read, read_before}
 use Rattle.ps_laws.specs.AlikeScripts.{SameRuns}
-use Rattle.ps_laws.specs.Fronts.{whole_front}
 use Rattle.ps_laws.proofs.keys.KeysInPieces.{keys_of-append}
-use Rattle.ps_run.specs.declared.faults.RunFault.{RunFault}
 use Rattle.ps_run.specs.declared.faults.RunFault.TheVariants as fault
-use Rattle.ps_run.specs.Runs.{IsSo, StopsInPlay}
-use Rattle.ps_run.specs.Answering.{AnswersCarryOver, answer_of}
+use Rattle.ps_run.specs.Runs.{StopsInPlay}
+use Rattle.ps_run.specs.Answering.{AnswersCarryOver}
 use Rattle.ps_run.proofs.Telling.{whole_is}
 
 same_going_on : (a b : Script) → SameRuns a b → (bytes : List ℕ) → GoesOn a bytes → GoesOn b bytes
@@ -94,6 +89,7 @@ stops a b same told so =
       wrote = so.wrote ∙ (same.whole_fronts so.behind
           ∙ (whole_is b so.behind ∙ ap (λ (keys : List Key).
           start.text ++ texts_of_keys b start.session keys) (all_keys so.behind ∙ sym first)));
+      few_writes = so.few_writes;
     }
 
 pub answers_carry_over : AnswersCarryOver
@@ -110,6 +106,7 @@ answers_carry_over text played script is same told (Ok ending) so =
         wrote = so.wrote ∙ ap (λ (out : Output). out.written) (same.outputs (read told.reading ++ told.left));
         brought = sym (ap (λ (out : Output). out.ending) (same.outputs (read told.reading))) ∙ so.brought;
         silent = so.silent;
+        few_writes = so.few_writes;
       },
     )
 answers_carry_over text played script is same told (Err (fault.Refused refused)) so = absurd so
@@ -125,6 +122,7 @@ answers_carry_over text played script is same told (Err fault.Read) so =
         cause = so.cause;
         goes_on = same_going_on script source same (read told.reading) so.goes_on;
         wrote = so.wrote ∙ same_texts script source same (read told.reading);
+        few_writes = so.few_writes;
       },
     )
 answers_carry_over text played script is same told (Err fault.Write) so =
@@ -137,5 +135,6 @@ answers_carry_over text played script is same told (Err fault.Write) so =
         cause = so.cause;
         wrote = same_cut script source same told so.wrote;
         whole_before = same_whole script source same told.reading told.wrote so.whole_before;
+        few_writes = so.few_writes;
       },
     )

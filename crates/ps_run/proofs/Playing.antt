@@ -1,5 +1,5 @@
 -- What bytes do, one after the other.
-use Rattle.std.proofs.Common.{◌≡◌, ◌∙◌, ℕ, zero, suc, ◌+◌, ◌<◌, ◌≤◌, ◌-◌, List, [], ◌∷◌, ◌++◌, length, take, drop}
+use Rattle.std.proofs.Common.{◌≡◌, ◌∙◌, inl, inr, ℕ, zero, suc, ◌+◌, ◌<◌, ◌≤◌, ◌-◌, List, [], ◌∷◌, ◌++◌, length, take, drop}
 use Rattle.std.proofs.Common.{get_or, Option, Some, None, refl, sym, subst, ap, append_assoc, append-nil, arith, Result}
 use Rattle.std.proofs.Common.{Ok, Err}
 use Rattle.std.specs.Prelude.{OnOk, IfErr, option_to_list}
@@ -23,37 +23,115 @@ use Rattle.ps_devices.specs.Devices.{Grows}
 use Rattle.ps_devices.proofs.Pieces.{grows_twice}
 use Rattle.ps_run.specs.declared.faults.PieceFault.{PieceFault}
 use Rattle.ps_run.specs.declared.faults.PieceFault.TheVariants.{Memory, Write}
-use Rattle.ps_run.specs.Played.{HavePlayed, HasTaken, HasTakenAndFailed, IsCutOffAt, StopsAs, StopsAtText}
+use Rattle.ps_run.specs.Played.{HasCounted, HavePlayed, HasTaken, HasTakenAndFailed, IsCutOffAt, StopsAs, StopsAtText}
+use Rattle.std.proofs.lemmas.Bool.{cases_lt}
+
+-- of two texts one has a byte, where both together have one
+some_of_both : (first second whole before now later : ℕ) → whole ≡ first + second → 1 ≤ whole →
+    (1 ≤ first → before < now) → (1 ≤ second → now < later) → before ≤ now → now ≤ later → before < later
+some_of_both first second whole before now later long some front back up on =
+    elim (cases_lt 0 first) [
+      | inl below ↦ (let here : 1 ≤ first = omega (arith, below) in
+          let called : before < now = front here in omega (arith, called, on))
+      | inr above ↦ (let there : 1 ≤ second = omega (arith, above, long, some) in
+          let called : now < later = back there in omega (arith, called, up))
+    ]
+
+few_of_both : (calls shorts mid_calls mid_shorts new_calls new_shorts count more : ℕ) →
+    mid_calls + shorts ≤ calls + (count + mid_shorts) → new_calls + mid_shorts ≤ mid_calls + (more + new_shorts) →
+    new_calls + shorts ≤ calls + ((count + more) + new_shorts)
+few_of_both calls shorts mid_calls mid_shorts new_calls new_shorts count more first second = omega arith
+
+two_up : (a b c : ℕ) → a ≤ b → b ≤ c → a ≤ c
+two_up a b c first second = omega arith
+
+-- texts counted one after the other
+pub counted_twice :
+    (before now later : WriterState) (first second whole : List ℕ) (count more : ℕ) → HasCounted before now first count →
+    HasCounted now later second more → whole ≡ first ++ second → HasCounted before later whole (count + more)
+counted_twice before now later first second whole count more one other same =
+    let long : length whole ≡ length first + length second = ap length same ∙ length-append first second in
+    record {
+      more = two_up before.calls now.calls later.calls one.more other.more;
+      shorts = two_up before.short_calls now.short_calls later.short_calls one.shorts other.shorts;
+      called = λ some. some_of_both (length first) (length second) (length whole) before.calls now.calls later.calls long
+          some one.called other.called one.more other.more;
+      few = few_of_both before.calls before.short_calls now.calls now.short_calls later.calls later.short_calls count more
+          one.few other.few;
+    }
+
+few_of_more : (calls shorts new_calls new_shorts count more : ℕ) → new_calls + shorts ≤ calls + (count + new_shorts) →
+    count ≤ more → new_calls + shorts ≤ calls + (more + new_shorts)
+few_of_more calls shorts new_calls new_shorts count more few within = omega arith
+
+-- more texts allow what fewer do
+pub counted_of_more : (before now : WriterState) (text : List ℕ) (count more : ℕ) → HasCounted before now text count →
+    count ≤ more → HasCounted before now text more
+counted_of_more before now text count more counted within = record {
+  more = counted.more;
+  shorts = counted.shorts;
+  called = counted.called;
+  few = few_of_more before.calls before.short_calls now.calls now.short_calls count more counted.few within;
+}
 
 -- texts taken one after the other
 pub taken_twice :
-    (before now later : WriterState) (first second whole : List ℕ) → HasTaken before now first →
-    HasTaken now later second → whole ≡ first ++ second → HasTaken before later whole
-taken_twice before now later first second whole (grows, calls, none) (grows_more, more_calls, no_more) same =
+    (before now later : WriterState) (first second whole : List ℕ) (count more : ℕ) → HasTaken before now first count →
+    HasTaken now later second more → whole ≡ first ++ second → HasTaken before later whole (count + more)
+taken_twice before now later first second whole count more (grows, calls, none, counted)
+    (grows_more, more_calls, no_more, counted_more) same =
     let long : length whole ≡ length first + length second = ap length same ∙ length-append first second in (
       grows_twice before.contents now.contents later.contents first second whole grows grows_more same,
-      omega arith,
+      omega (arith, calls, more_calls, long),
       no_more ∙ none,
+      counted_twice before now later first second whole count more counted counted_more same,
     )
 
 -- a text taken, and then some of another
 pub taken_and_failed :
-    (before now later : WriterState) (first second whole : List ℕ) → HasTaken before now first →
-    HasTakenAndFailed now later second → whole ≡ first ++ second → HasTakenAndFailed before later whole
-taken_and_failed before now later first second whole (grows, calls, none) (grows_more, more_calls, no_more) same =
+    (before now later : WriterState) (first second whole : List ℕ) (count more : ℕ) → HasTaken before now first count →
+    HasTakenAndFailed now later second more → whole ≡ first ++ second →
+    HasTakenAndFailed before later whole (count + more)
+taken_and_failed before now later first second whole count more (grows, calls, none, counted)
+    (grows_more, more_calls, no_more, counted_more) same =
     let long : length whole ≡ length first + length second = ap length same ∙ length-append first second in (
       grows_twice before.contents now.contents later.contents first second whole grows grows_more same,
-      omega arith,
+      omega (arith, calls, more_calls, long),
       no_more ∙ none,
+      counted_twice before now later first second whole count more counted counted_more same,
     )
 
 -- nothing more was taken
 pub taken_no_more :
-    (before now later : WriterState) (text : List ℕ) → HasTaken before now text → later.contents ≡ now.contents →
-    later.calls ≡ now.calls → later.empty_calls ≡ now.empty_calls →
-    HasTaken before later text
-taken_no_more before now later text (grows, calls, none) same same_calls no_more =
-    (same ∙ grows, omega arith, no_more ∙ none)
+    (before now later : WriterState) (text : List ℕ) (count : ℕ) → HasTaken before now text count →
+    later.contents ≡ now.contents → later.calls ≡ now.calls → later.empty_calls ≡ now.empty_calls →
+    later.short_calls ≡ now.short_calls → HasTaken before later text count
+taken_no_more before now later text count (grows, calls, none, counted) same same_calls no_more same_shorts = (
+  same ∙ grows,
+  omega (arith, calls, same_calls),
+  no_more ∙ none,
+  record {
+    more = rw same_calls counted.more;
+    shorts = rw same_shorts counted.shorts;
+    called = λ some. rw same_calls (counted.called some);
+    few = rw (same_calls, same_shorts) counted.few;
+  },
+)
+
+-- how many keys bytes bring with one more byte that brings a key, and with one that brings none
+pub one_key_more : (read : List ℕ) (byte : ℕ) (kept : Held) (key : Key) → keys.bytes_of kept ≡ keys.held read →
+    keys.key_behind kept byte ≡ Some key → length (keys_of (read ++ byte ∷ [])) ≡ length (keys_of read) + 1
+one_key_more read byte kept key held brings =
+    ap length (sym (read_byte_by_byte read byte kept held).0
+    ∙ ap (λ (k : Option Key). keys_of read ++ option_to_list k) brings)
+    ∙ length-append (keys_of read) (key ∷ [])
+
+pub no_key_more : (read : List ℕ) (byte : ℕ) (kept : Held) → keys.bytes_of kept ≡ keys.held read →
+    keys.key_behind kept byte ≡ None → length (keys_of (read ++ byte ∷ [])) ≡ length (keys_of read)
+no_key_more read byte kept held none =
+    ap length (sym (read_byte_by_byte read byte kept held).0
+    ∙ ap (λ (k : Option Key). keys_of read ++ option_to_list k) none
+    ∙ append-nil (keys_of read))
 
 -- a byte that brings no key
 pub silent_byte :
@@ -67,14 +145,14 @@ silent_byte script before now session kept read byte none played =
       was_well = played.was_well;
       session = played.session ∙ sym quiet.1;
       held = (read_byte_by_byte read byte kept played.held).1;
-      wrote = rw quiet.0 played.wrote;
+      wrote = rw (quiet.0, no_key_more read byte kept played.held none) played.wrote;
     }
 
 -- a byte that brings a key
 pub key_byte :
     (script : Script) (before now later : WriterState) (session next : Session) (kept : Held) (read : List ℕ) (byte : ℕ)
     (key : Key) → keys.key_behind kept byte ≡ Some key →
-    next ≡ (key_step script session key).session → HasTaken now later (key_step script session key).text →
+    next ≡ (key_step script session key).session → HasTaken now later (key_step script session key).text 1 →
     HavePlayed script before now session kept read →
     HavePlayed script before later next (keys.held_behind kept byte) (read ++ byte ∷ [])
 key_byte script before now later session next kept read byte key brings steps taken played =
@@ -83,10 +161,11 @@ key_byte script before now later session next kept read byte key brings steps ta
       was_well = played.was_well;
       session = steps ∙ ap (λ (s : Session). (key_step script s key).session) played.session ∙ sym wrote.1;
       held = (read_byte_by_byte read byte kept played.held).1;
-      wrote = taken_twice before now later (whole_front script read) (key_step script session key).text
-          (whole_front script (read ++ byte ∷ [])) played.wrote taken
+      wrote = rw (one_key_more read byte kept key played.held brings)
+          (taken_twice before now later (whole_front script read) (key_step script session key).text
+          (whole_front script (read ++ byte ∷ [])) (length (keys_of read) + 1) 1 played.wrote taken
           (wrote.0 ∙ ap (λ (s : Session). whole_front script read ++ (key_step script s key).text)
-          (sym played.session));
+          (sym played.session)));
     }
 
 -- what is cut off stays so behind a text
@@ -120,13 +199,13 @@ pub byte_stops :
 byte_stops Memory script before now later session kept read byte key brings unended stops played =
     let same : read ++ take 0 (byte ∷ []) ≡ read = append-nil read in
     let one : length (keys_of (read ++ byte ∷ [])) ≡ length (keys_of read) + 1 =
-    ap length (sym (read_byte_by_byte read byte kept played.held).0
-    ∙ ap (λ (k : Option Key). keys_of read ++ option_to_list k) brings)
-    ∙ length-append (keys_of read) (key ∷ []) in
+    one_key_more read byte kept key played.held brings in
     record {
       was_well = played.was_well;
       count = 0;
-      wrote = rw same (taken_no_more before now later (whole_front script read) played.wrote stops.0 stops.1 stops.2);
+      wrote = rw same
+          (taken_no_more before now later (whole_front script read) (length (keys_of read) + 1) played.wrote stops.0
+          stops.1 stops.2 stops.3);
       goes_on = rw same (ap ending_of (sym played.session) ∙ unended refl);
       wanting = rw same (omega (arith, one));
     }
@@ -137,8 +216,9 @@ byte_stops Write script before now later session kept read byte key brings unend
     record {
       was_well = played.was_well;
       taken = whole_front script read ++ stops.taken;
-      wrote = taken_and_failed before now later (whole_front script read) stops.taken
-          (whole_front script read ++ stops.taken) played.wrote stops.wrote refl;
+      wrote = rw (one_key_more read byte kept key played.held brings)
+          (taken_and_failed before now later (whole_front script read) stops.taken
+          (whole_front script read ++ stops.taken) (length (keys_of read) + 1) 1 played.wrote stops.wrote refl);
       whole_before = (stops.taken, refl);
       cut_off = cut_off_behind (whole_front script read) stops.taken (key_step script session key).text _ stops.cut_off
           whole;
@@ -187,6 +267,26 @@ fewer_keys first second =
     ap length (keys_of-append first second) ∙ length-append (keys_of first) (keys_of (keys.held first ++ second)) in
     omega (arith, parts)
 
+-- the bytes of a piece up to one bring no more keys than the piece does
+keys_to : (read piece : List ℕ) (i : ℕ) → i < length piece →
+    length (keys_of ((read ++ take i piece) ++ get_or piece i 0 ∷ [])) ≤ length (keys_of (read ++ piece))
+keys_to read piece i within =
+    let upto : length (keys_of ((read ++ take i piece) ++ get_or piece i 0 ∷ [])) ≡ length
+    (keys_of (read ++ take (i + 1) piece)) =
+    ap (λ bytes. length (keys_of bytes)) (piece_to read piece i within) in
+    let all = fewer_keys (read ++ take (i + 1) piece) (drop (i + 1) piece) in
+    let whole : length (keys_of ((read ++ take (i + 1) piece) ++ drop (i + 1) piece)) ≡ length
+    (keys_of (read ++ piece)) =
+    ap (λ bytes. length (keys_of bytes)) (append_assoc read (take (i + 1) piece) (drop (i + 1) piece)
+    ∙ ap (λ bytes. read ++ bytes) (take-append-drop (i + 1) piece)) in
+    omega (arith, upto, all, whole)
+
+less_up : (a b c : ℕ) → a < b → b ≤ c → a < c
+less_up a b c first second = omega arith
+
+one_up : (a b : ℕ) → a ≤ b → a + 1 ≤ b + 1
+one_up a b up = omega arith
+
 -- a piece that stops at one of its bytes
 pub piece_stops :
     (fault : PieceFault) (script : Script) (before now : WriterState) (read piece : List ℕ) (i : ℕ) → i < length piece →
@@ -199,16 +299,7 @@ piece_stops Memory script before now read piece i within stops =
       count = part.0;
       wrote = rw (← part.1) stops.wrote;
       goes_on = rw (← part.1) stops.goes_on;
-      wanting = rw (← part.1)
-          (let upto : length (keys_of ((read ++ take i piece) ++ get_or piece i 0 ∷ [])) ≡ length
-          (keys_of (read ++ take (i + 1) piece)) =
-          ap (λ bytes. length (keys_of bytes)) (piece_to read piece i within) in
-          let all = fewer_keys (read ++ take (i + 1) piece) (drop (i + 1) piece) in
-          let whole : length (keys_of ((read ++ take (i + 1) piece) ++ drop (i + 1) piece)) ≡ length
-          (keys_of (read ++ piece)) =
-          ap (λ bytes. length (keys_of bytes)) (append_assoc read (take (i + 1) piece) (drop (i + 1) piece)
-          ∙ ap (λ bytes. read ++ bytes) (take-append-drop (i + 1) piece)) in
-          omega (arith, stops.wanting, upto, all, whole));
+      wanting = rw (← part.1) (less_up _ _ _ stops.wanting (keys_to read piece i within));
     }
 piece_stops Write script before now read piece i within stops =
     let rest : (read ++ take (i + 1) piece) ++ drop (i + 1) piece ≡ read ++ piece =
@@ -221,7 +312,13 @@ piece_stops Write script before now read piece i within stops =
     record {
       was_well = stops.was_well;
       taken = stops.taken;
-      wrote = stops.wrote;
+      wrote = (
+        stops.wrote.0,
+        stops.wrote.1,
+        stops.wrote.2,
+        counted_of_more before now stops.taken _ (length (keys_of (read ++ piece)) + 1) stops.wrote.3
+            (one_up _ _ (keys_to read piece i within)),
+      );
       whole_before = front_twice _ _ _ (front_of_piece script read (take i piece)) stops.whole_before;
       cut_off = cut_off_before stops.taken _ _ upto behind;
     }
@@ -230,8 +327,10 @@ piece_stops Write script before now read piece i within stops =
 pub written_front :
     (old new : WriterState) (bytes text : List ℕ) (count : ℕ) → bytes ≡ text → count < length bytes →
     Grows old.contents new.contents (take count bytes) → new.calls ≤ old.calls + (count + 1) →
-    new.empty_calls ≡ old.empty_calls → IsCutOffAt old new text
-written_front old new bytes text count same within grows calls none =
+    new.empty_calls ≡ old.empty_calls → old.calls ≤ new.calls → old.short_calls ≤ new.short_calls →
+    (1 ≤ count → old.calls < new.calls) → new.calls + old.short_calls ≤ old.calls + (1 + new.short_calls) →
+    IsCutOffAt old new text
+written_front old new bytes text count same within grows calls none more shorts called few =
     let long : length (take count bytes) ≡ count = grind (arith, common_steps) in
     let short : length (drop count bytes) ≡ length bytes - count = grind (arith, common_steps) in
     record {
@@ -241,8 +340,22 @@ written_front old new bytes text count same within grows calls none =
         some = omega arith;
         is = sym same ∙ sym (take-append-drop count bytes);
       };
-      wrote = (grows, omega arith, none);
+      wrote = (
+        grows,
+        omega (arith, long, calls),
+        none,
+        record { more = more; shorts = shorts; called = λ some. called (rw (← long) some); few = few },
+      );
     }
+
+-- a writer that took a text whole
+pub written_whole :
+    (old new : WriterState) (text : List ℕ) → Grows old.contents new.contents text →
+    new.calls ≤ old.calls + length text → new.empty_calls ≡ old.empty_calls → old.calls ≤ new.calls →
+    old.short_calls ≤ new.short_calls → (0 < length text → old.calls < new.calls) →
+    new.calls + old.short_calls ≤ old.calls + (1 + new.short_calls) → HasTaken old new text 1
+written_whole old new text grows calls none more shorts called few =
+    (grows, calls, none, record { more = more; shorts = shorts; called = called; few = few })
 
 -- what follows from two facts of a result that is Ok
 pub if_ok : {A E : Type 0} {P Q R : Type 0} (result : Result A E) → (P → Q → R) → OnOk result P → OnOk result Q →
@@ -259,9 +372,10 @@ if_err (Err error) follows p = follows error refl p
 
 -- what an output has that was empty before a text was added is the text
 pub text_taken : {A E : Type 0} (result : Result A E) (before now : WriterState) (output old text : List ℕ) →
-    output ≡ old ++ text → old ≡ [] → OnOk result (HasTaken before now output) → OnOk result (HasTaken before now text)
+    output ≡ old ++ text → old ≡ [] → OnOk result (HasTaken before now output 1) →
+    OnOk result (HasTaken before now text 1)
 text_taken (Ok value) before now output old text e none taken =
-    subst (HasTaken before now) (e ∙ ap (λ (bytes : List ℕ). bytes ++ text) none) taken
+    subst (λ (bytes : List ℕ). HasTaken before now bytes 1) (e ∙ ap (λ (bytes : List ℕ). bytes ++ text) none) taken
 text_taken (Err error) before now output old text e none taken = tt
 
 pub text_stopped : {A : Type 0} (result : Result A PieceFault) (before now : WriterState) (output old text : List ℕ) →

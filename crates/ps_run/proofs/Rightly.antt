@@ -1,7 +1,6 @@
 -- From how a run came to its answer to what may be said of it on a text.
-use Rattle.std.proofs.Common.{◌≡◌, ◌≤◌, ◌++◌, ℕ, Bool, false, List, [], Option, Some, None, inl, inr, refl, sym}
+use Rattle.std.proofs.Common.{◌≡◌, ◌≤◌, ℕ, false, List, [], Option, Some, None, inl, inr, refl}
 use Rattle.std.proofs.Common.{append-nil, arith, Result, Ok, Err}
-use Rattle.std.specs.Prelude.{option_map}
 use Rattle.ps_model.specs.declared.faults.Fault.{Fault}
 use Rattle.ps_model.specs.declared.play.Ending.{Ending}
 use Rattle.ps_model.specs.declared.refusal.Refusal.{Refusal}
@@ -9,15 +8,16 @@ use Rattle.ps_model.specs.declared.refusal.Refusal.TheVariants.{Refused, Memory}
 use Rattle.ps_model.specs.board.Turns.{Script, script_of}
 use Rattle.ps_model.specs.text.Faults.{first_fault}
 use Rattle.ps_model.specs.game.Games.{Game, game, faults}
-use Rattle.ps_model.specs.game.Headline.{Answer, Ends, Refuses, WantsMemory, CannotRead, CannotWrite, RunsRightly}
+use Rattle.ps_model.specs.game.Headline.{Refuses, WantsMemory, RunsRightly}
 use Rattle.ps_model.specs.game.Headline.{IsTrueOfText}
-use Rattle.ps_model.specs.game.Tellings.{ReaderState, WriterState, Unasked, Told, Tells}
+use Rattle.ps_model.specs.game.Tellings.{ReaderState, WriterState, Unasked, Tells}
 use Rattle.ps_laws.specs.AlikeScripts.{SameRuns}
 use Rattle.ps_devices.specs.Devices.{Grows, Loses}
 use Rattle.ps_run.specs.declared.faults.RunFault.{RunFault}
 use Rattle.ps_run.specs.declared.faults.RunFault.TheVariants as fault
 use Rattle.ps_run.specs.Faults.{fault_of}
 use Rattle.ps_run.specs.Answering.{answer_of}
+use Rattle.ps_run.specs.Played.{HasCounted}
 use Rattle.ps_run.specs.Runs.{ComesOrStops}
 use Rattle.ps_run.proofs.Answering.{answers_carry_over}
 use Rattle.ps_run.proofs.Telling.{told_of, tells_of}
@@ -30,18 +30,27 @@ nothing_taken : (contents : Option (List ℕ)) → Grows contents contents []
 nothing_taken None = refl
 nothing_taken (Some known) = rw (append-nil known) refl
 
+-- a writer that wasn't called has counted nothing
+uncalled : (before : WriterState) → HasCounted before before [] 0
+uncalled before = record {
+  more = omega arith;
+  shorts = omega arith;
+  called = λ some. let none : 1 ≤ 0 = some in absurd (omega (arith, none));
+  few = omega arith;
+}
+
 -- devices that weren't called tell so
 untouched : (had : ReaderState) (before : WriterState) → had.has_failed ≡ false → before.has_failed ≡ false →
-    Tells had had before before (told_of Unasked had.remaining [] false)
+    Tells had had before before (told_of before before Unasked had.remaining [] false)
 untouched had before heard well =
     tells_of had had before before Unasked [] false heard heard (nothing_given had.remaining) refl refl (omega arith)
-    refl well well (nothing_taken before.contents) (omega arith) refl
+    refl well well (nothing_taken before.contents) (omega arith) refl 0 (uncalled before)
 
 -- memory was refused before anything was asked for and anything written
 pub wants_memory : (text : List ℕ) (had : ReaderState) (before : WriterState) → had.has_failed ≡ false →
     before.has_failed ≡ false → RunsRightly text had had before before WantsMemory
 wants_memory text had before heard well = record {
-  told = told_of Unasked had.remaining [] false;
+  told = told_of before before Unasked had.remaining [] false;
   tells = untouched had before heard well;
   answers = inl (record { asked_nothing = refl; wrote_nothing = refl; writer_is_well = refl });
 }
@@ -51,7 +60,7 @@ pub refuses : (text : List ℕ) (refused : Fault) (had : ReaderState) (before : 
     before.has_failed ≡ false → first_fault (faults text) ≡ Some refused →
     RunsRightly text had had before before (Refuses refused)
 refuses text refused had before heard well is = record {
-  told = told_of Unasked had.remaining [] false;
+  told = told_of before before Unasked had.remaining [] false;
   tells = untouched had before heard well;
   answers = record { is_first = is; asked_nothing = refl; wrote_nothing = refl; writer_is_well = refl };
 }

@@ -1,5 +1,5 @@
 -- How the calls of a run add up to its answer.
-use Rattle.std.proofs.Common.{◌≡◌, ◌∙◌, ◌⊎◌, ℕ, ◌+◌, ◌<◌, ◌≤◌, inl, inr, false, true, List, [], ◌∷◌, ◌++◌, length, take}
+use Rattle.std.proofs.Common.{◌≡◌, ◌∙◌, ◌⊎◌, ℕ, ◌+◌, ◌<◌, ◌≤◌, inl, inr, false, true, List, [], ◌++◌, length, take}
 use Rattle.std.proofs.Common.{drop, Option, Some, None, refl, sym, ap, append_assoc, append-nil, arith, Ok, Err}
 use Rattle.std.specs.List.{concat}
 use Rattle.std.proofs.lemmas.Bool.{cases_lt}
@@ -10,7 +10,8 @@ use Rattle.ps_model.specs.declared.play.Ending.{Ending}
 use Rattle.ps_model.specs.declared.play.Ending.TheVariants.{EndOfKeys}
 use Rattle.ps_model.specs.board.Turns.{Script}
 use Rattle.ps_model.specs.session.Sessions.{Session}
-use Rattle.ps_model.specs.game.Headline.{IsFront, IsCutOff, IsPiece, GoesOn, AsksInTurn, texts_of}
+use Rattle.ps_model.specs.game.Headline.{GoesOn, texts_of, last_texts, text_count}
+use Rattle.ps_model.specs.session.Keys.{keys_of}
 use Rattle.ps_model.specs.game.Outputs.{Output, ending_of, output, opening_step, end_of_keys_line}
 use Rattle.ps_model.specs.declared.held.Held.TheVariants.{Nothing}
 use Rattle.ps_laws.proofs.sessions.SessionSteps.{fronts_are_texts}
@@ -26,8 +27,8 @@ use Rattle.ps_run.specs.declared.faults.PieceFault.{PieceFault}
 use Rattle.ps_run.specs.declared.faults.PieceFault.TheVariants as piece
 use Rattle.ps_run.specs.declared.faults.RunFault.TheVariants as fault
 use Rattle.ps_run.specs.Played.{HavePlayed, HasTaken, StopsAs, StopsAtText}
-use Rattle.ps_run.specs.Runs.{HasAsked, IsAsked, Stands, Comes, call_count}
-use Rattle.ps_run.proofs.Playing.{taken_twice, taken_and_failed, taken_no_more, cut_off_behind, front_of_piece}
+use Rattle.ps_run.specs.Runs.{IsAsked, Stands, Comes, call_count}
+use Rattle.ps_run.proofs.Playing.{taken_twice, taken_and_failed, taken_no_more, cut_off_behind}
 use Rattle.ps_run.proofs.Telling as tells
 
 nothing_given : (mid left : Option (List ℕ)) → left ≡ mid → Loses mid left []
@@ -78,14 +79,14 @@ ended_before script had has before now session kept count ending was_well is_wel
     output_once_ended script bytes left ending ended in
     let some_calls : now.calls ≤ before.calls + length (whole_front script bytes) = stands.played.wrote.1 in
     record {
-      told = tells.told_of stands.reading has.remaining (whole_front script bytes) false;
+      told = tells.told_of before now stands.reading has.remaining (whole_front script bytes) false;
       tells = tells.tells_of had has before now stands.reading (whole_front script bytes) false was_well
           (is_well ∙ sym (tells.is_well script stands.reading stands.is_asked)) stands.given stands.last
           (tells.counts_so_far script had.calls has.calls count stands.reading stands.is_asked stands.counted
           stands.calls)
           (tells.empty_so_far script had.empty_calls has.empty_calls stands.reading stands.is_asked stands.none_empty)
           stands.same_room stands.played.was_well writer_well stands.played.wrote.0 (omega arith)
-          stands.played.wrote.2;
+          stands.played.wrote.2 (length (keys_of bytes) + 1) stands.played.wrote.3;
       is_so = record {
         reads = tells.asked_so_far script stands.reading left stands.is_asked;
         reader_is_well = tells.is_well script stands.reading stands.is_asked;
@@ -94,6 +95,9 @@ ended_before script had has before now session kept count ending was_well is_wel
         wrote = ap (λ (out : Output). out.written) (sym whole);
         brought = ap (λ (out : Output). out.ending) (output_of_ended script bytes ending ended);
         silent = λ end. absurd (ends_otherwise script bytes (ended ∙ ap Some end));
+        few_writes = tells.few_writes before now (whole_front script bytes) (length (keys_of bytes) + 1)
+            (text_count stands.reading) stands.played.wrote.3
+            (tells.no_more (length (keys_of bytes)) (last_texts stands.reading));
       };
     }
 
@@ -126,12 +130,13 @@ call_failed script had mid has before now session kept count was_well writer_wel
       | inr above ↦ inr (let stays : has.calls ≡ mid.calls = held above in (rw stays above, rw long (stays ∙ so_far)))
     ] in
     record {
-      told = tells.told_of (Asked pieces Fails) has.remaining (whole_front script bytes) false;
+      told = tells.told_of before now (Asked pieces Fails) has.remaining (whole_front script bytes) false;
       tells = tells.tells_of had has before now (Asked pieces Fails) (whole_front script bytes) false was_well told
           (rw joined (rw same stands.given)) last counts
           (tells.empty_at_failure script had.empty_calls has.empty_calls stands.reading stands.is_asked
           (none ∙ stands.none_empty)) (room ∙ stands.same_room)
-          stands.played.was_well writer_well stands.played.wrote.0 (omega arith) stands.played.wrote.2;
+          stands.played.was_well writer_well stands.played.wrote.0 (omega arith) stands.played.wrote.2
+          (length (keys_of bytes) + 1) stands.played.wrote.3;
       is_so = record {
         reads = tells.asks script stands.reading Fails (tells.left_of has.remaining) stands.is_asked on
             (rw stands.counted few) (omega arith) (λ none. cc);
@@ -139,6 +144,9 @@ call_failed script had mid has before now session kept count was_well writer_wel
         cause = tt;
         goes_on = rw joined on;
         wrote = rw joined (tells.whole_is script bytes);
+        few_writes = rw joined
+            (tells.few_writes before now (whole_front script bytes) (length (keys_of bytes) + 1)
+            (length (keys_of bytes) + (1 + 0)) stands.played.wrote.3 (tells.no_more (length (keys_of bytes)) 0));
       };
     }
   where
@@ -201,12 +209,13 @@ limit_reached script had has before now session kept count was_well is_well writ
     let left : List ℕ = tells.left_of has.remaining in
     let some_calls : now.calls ≤ before.calls + length (whole_front script bytes) = played.wrote.1 in
     record {
-      told = tells.told_of (Asked earlier (Gives piece)) has.remaining (whole_front script bytes) false;
+      told = tells.told_of before now (Asked earlier (Gives piece)) has.remaining (whole_front script bytes) false;
       tells = tells.tells_of had has before now (Asked earlier (Gives piece)) (whole_front script bytes) false was_well
           is_well given last
           (tells.counts_so_far script had.calls has.calls count (Asked earlier (Gives piece)) asked counted calls)
           (tells.empty_so_far script had.empty_calls has.empty_calls (Asked earlier (Gives piece)) asked none) room
-          played.was_well writer_well played.wrote.0 (omega arith) played.wrote.2;
+          played.was_well writer_well played.wrote.0 (omega arith) played.wrote.2 (length (keys_of bytes) + 1)
+          played.wrote.3;
       is_so = record {
         reads = tells.asked_so_far script (Asked earlier (Gives piece)) left asked;
         writer_is_well = refl;
@@ -217,6 +226,9 @@ limit_reached script had has before now session kept count was_well is_well writ
         );
         goes_on = tells.goes_on script bytes (unended script before now session kept bytes played e);
         wrote = tells.whole_is script bytes;
+        few_writes = tells.few_writes before now (whole_front script bytes) (length (keys_of bytes) + 1)
+            (text_count (Asked earlier (Gives piece))) played.wrote.3
+            (tells.no_more (length (keys_of bytes)) (last_texts (Asked earlier (Gives piece))));
       };
     }
 limit_reached script had has before now session kept count was_well is_well writer_well all
@@ -230,7 +242,7 @@ pub keys_ended :
     (stands : Stands script had mid before now session kept count) → ending_of session ≡ None →
     Loses mid.remaining has.remaining [] → IsSpent has.remaining → has.last ≡ 0 → has.calls ≡ mid.calls + 1 →
     has.empty_calls ≡ mid.empty_calls + 1 → has.odd_sized_calls ≡ mid.odd_sized_calls →
-    HasTaken now later end_of_keys_line → Comes script had has before later (Ok EndOfKeys)
+    HasTaken now later end_of_keys_line 1 → Comes script had has before later (Ok EndOfKeys)
 keys_ended script had mid has before now later session kept count was_well is_well writer_well few stands e gives spent
     last calls one room taken =
     let bytes : List ℕ = read stands.reading in
@@ -251,18 +263,21 @@ keys_ended script had mid has before now later session kept count was_well is_we
       ending =
           EndOfKeys;
     } = output_of_unended script bytes quiet in
-    let wrote : HasTaken before later (whole_front script bytes ++ end_of_keys_line) =
-    taken_twice before now later (whole_front script bytes) end_of_keys_line _ stands.played.wrote taken refl in
+    let wrote : HasTaken before later (whole_front script bytes ++ end_of_keys_line)
+    ((length (keys_of bytes) + 1) + 1) =
+    taken_twice before now later (whole_front script bytes) end_of_keys_line _ (length (keys_of bytes) + 1) 1
+    stands.played.wrote taken refl in
     let some_calls : later.calls ≤ before.calls + length (whole_front script bytes ++ end_of_keys_line) = wrote.1 in
     record {
-      told = tells.told_of (Asked pieces (Gives [])) has.remaining (whole_front script bytes ++ end_of_keys_line) false;
+      told = tells.told_of before later (Asked pieces (Gives [])) has.remaining
+          (whole_front script bytes ++ end_of_keys_line) false;
       tells = tells.tells_of had has before later (Asked pieces (Gives []))
           (whole_front script bytes ++ end_of_keys_line) false was_well is_well
           (rw joined (tells.added_nothing had.remaining mid.remaining has.remaining bytes stands.given gives)) last
           (tells.counted_one had.calls mid.calls has.calls count (length pieces) long so_far calls)
           (tells.empty_at_end script had.empty_calls mid.empty_calls has.empty_calls stands.reading stands.is_asked
           stands.none_empty one) (room ∙ stands.same_room)
-          stands.played.was_well writer_well wrote.0 (omega arith) wrote.2;
+          stands.played.was_well writer_well wrote.0 (omega arith) wrote.2 ((length (keys_of bytes) + 1) + 1) wrote.3;
       is_so = record {
         reads = tells.asks script stands.reading (Gives []) left stands.is_asked on (rw stands.counted few)
             (omega arith) (λ none. empty);
@@ -272,6 +287,10 @@ keys_ended script had mid has before now later session kept count was_well is_we
         wrote = rw all (ap (λ (out : Output). out.written) (sym whole));
         brought = rw joined (ap (λ (out : Output). out.ending) whole);
         silent = λ end. refl;
+        few_writes = rw joined
+            (tells.few_writes before later (whole_front script bytes ++ end_of_keys_line)
+            ((length (keys_of bytes) + 1) + 1) (length (keys_of bytes) + (1 + 1)) wrote.3
+            (tells.one_line_more (length (keys_of bytes))));
       };
     }
 
@@ -297,18 +316,20 @@ keys_ended_unwritten piece.Memory script had mid has before now later session ke
     let joined : concat pieces ++ [] ≡ bytes = append-nil (concat pieces) ∙ same in
     let long : length pieces ≡ count = tells.count_pieces script stands.reading stands.is_asked ∙ stands.counted in
     let so_far : mid.calls ≡ had.calls + count = stands.calls in
-    let wrote : HasTaken before later (whole_front script bytes) =
-    taken_no_more before now later (whole_front script bytes) stands.played.wrote stops.0 stops.1 stops.2 in
+    let wrote : HasTaken before later (whole_front script bytes) (length (keys_of bytes) + 1) =
+    taken_no_more before now later (whole_front script bytes) (length (keys_of bytes) + 1) stands.played.wrote stops.0
+    stops.1 stops.2 stops.3 in
     let some_calls : later.calls ≤ before.calls + length (whole_front script bytes) = wrote.1 in
     record {
-      told = tells.told_of (Asked pieces (Gives [])) has.remaining (whole_front script bytes) false;
+      told = tells.told_of before later (Asked pieces (Gives [])) has.remaining (whole_front script bytes) false;
       tells = tells.tells_of had has before later (Asked pieces (Gives [])) (whole_front script bytes) false was_well
           is_well
           (rw joined (tells.added_nothing had.remaining mid.remaining has.remaining bytes stands.given gives)) last
           (tells.counted_one had.calls mid.calls has.calls count (length pieces) long so_far calls)
           (tells.empty_at_end script had.empty_calls mid.empty_calls has.empty_calls stands.reading stands.is_asked
           stands.none_empty one) (room ∙ stands.same_room)
-          stands.played.was_well (writer_well refl) wrote.0 (omega arith) wrote.2;
+          stands.played.was_well (writer_well refl) wrote.0 (omega arith) wrote.2 (length (keys_of bytes) + 1)
+          wrote.3;
       is_so = record {
         reads = tells.asks script stands.reading (Gives []) left stands.is_asked on (rw stands.counted few)
             (omega arith) (λ none. tells.left_is_spent has.remaining spent);
@@ -320,6 +341,9 @@ keys_ended_unwritten piece.Memory script had mid has before now later session ke
         goes_on = on;
         wanting = inr refl;
         wrote = refl;
+        few_writes = rw joined
+            (tells.few_writes before later (whole_front script bytes) (length (keys_of bytes) + 1)
+            (length (keys_of bytes) + (1 + 1)) wrote.3 (tells.no_more (length (keys_of bytes)) 1));
       };
     }
 keys_ended_unwritten piece.Write script had mid has before now later session kept count was_well is_well writer_well
@@ -340,16 +364,17 @@ keys_ended_unwritten piece.Write script had mid has before now later session kep
       ending =
           EndOfKeys;
     } = output_of_unended script bytes quiet in
-    let wrote = taken_and_failed before now later (whole_front script bytes) stops.taken taken stands.played.wrote
-    stops.wrote refl in
+    let wrote = taken_and_failed before now later (whole_front script bytes) stops.taken taken
+    (length (keys_of bytes) + 1) 1 stands.played.wrote stops.wrote refl in
     record {
-      told = tells.told_of (Asked pieces (Gives [])) has.remaining taken true;
+      told = tells.told_of before later (Asked pieces (Gives [])) has.remaining taken true;
       tells = tells.tells_of had has before later (Asked pieces (Gives [])) taken true was_well is_well
           (rw joined (tells.added_nothing had.remaining mid.remaining has.remaining bytes stands.given gives)) last
           (tells.counted_one had.calls mid.calls has.calls count (length pieces) long so_far calls)
           (tells.empty_at_end script had.empty_calls mid.empty_calls has.empty_calls stands.reading stands.is_asked
           stands.none_empty one) (room ∙ stands.same_room)
-          stands.played.was_well (writer_failed refl) wrote.0 wrote.1 wrote.2;
+          stands.played.was_well (writer_failed refl) wrote.0 wrote.1 wrote.2 ((length (keys_of bytes) + 1) + 1)
+          wrote.3;
       is_so = record {
         reads = tells.asks script stands.reading (Gives []) left stands.is_asked on (rw stands.counted few)
             (omega arith) (λ none. tells.left_is_spent has.remaining spent);
@@ -362,6 +387,9 @@ keys_ended_unwritten piece.Write script had mid has before now later session kep
               (ap (λ (out : Output). out.written) whole)),
         );
         whole_before = rw same (stops.taken, ap (λ front. front ++ stops.taken) (tells.whole_is script bytes));
+        few_writes = rw joined
+            (tells.few_writes before later taken ((length (keys_of bytes) + 1) + 1) (length (keys_of bytes) + (1 + 1))
+            wrote.3 (tells.one_line_more (length (keys_of bytes))));
       };
     }
 
@@ -392,14 +420,15 @@ piece_unwritten piece.Memory script had mid has before now later session kept co
     let behind : List ℕ = bytes ++ take stopped.count given in
     let some_calls : later.calls ≤ before.calls + length (whole_front script behind) = stopped.wrote.1 in
     record {
-      told = tells.told_of (Asked pieces (Gives given)) has.remaining (whole_front script behind) false;
+      told = tells.told_of before later (Asked pieces (Gives given)) has.remaining (whole_front script behind) false;
       tells = tells.tells_of had has before later (Asked pieces (Gives given)) (whole_front script behind) false
           was_well is_well
           (rw same (loses_twice had.remaining mid.remaining has.remaining bytes given stands.given gives)) last
           (tells.counted_one had.calls mid.calls has.calls count (length pieces) long so_far calls)
           (tells.empty_at_piece script had.empty_calls has.empty_calls stands.reading given stands.is_asked some
           (none ∙ stands.none_empty)) (room ∙ stands.same_room)
-          stands.played.was_well (writer_well refl) stopped.wrote.0 (omega arith) stopped.wrote.2;
+          stands.played.was_well (writer_well refl) stopped.wrote.0 (omega arith) stopped.wrote.2
+          (length (keys_of behind) + 1) stopped.wrote.3;
       is_so = record {
         reads = tells.asks script stands.reading (Gives given) left stands.is_asked on (rw stands.counted few) short
             (λ same. absurd (gave_some given same some));
@@ -415,6 +444,11 @@ piece_unwritten piece.Memory script had mid has before now later session kept co
         goes_on = tells.goes_on script behind stopped.goes_on;
         wanting = inl (rw same stopped.wanting);
         wrote = refl;
+        few_writes = rw same
+            (tells.few_writes before later (whole_front script behind) (length (keys_of behind) + 1)
+            (length (keys_of (bytes ++ given)) + (1 + last_texts (Asked pieces (Gives given)))) stopped.wrote.3
+            (tells.fewer_texts (length (keys_of behind)) (length (keys_of (bytes ++ given)))
+            (last_texts (Asked pieces (Gives given))) stopped.wanting));
       };
     }
 piece_unwritten piece.Write script had mid has before now later session kept count given was_well is_well writer_well
@@ -429,13 +463,14 @@ piece_unwritten piece.Write script had mid has before now later session kept cou
     let so_far : mid.calls ≡ had.calls + count = stands.calls in
     let stopped = stops bytes stands.played in
     record {
-      told = tells.told_of (Asked pieces (Gives given)) has.remaining stopped.taken true;
+      told = tells.told_of before later (Asked pieces (Gives given)) has.remaining stopped.taken true;
       tells = tells.tells_of had has before later (Asked pieces (Gives given)) stopped.taken true was_well is_well
           (rw same (loses_twice had.remaining mid.remaining has.remaining bytes given stands.given gives)) last
           (tells.counted_one had.calls mid.calls has.calls count (length pieces) long so_far calls)
           (tells.empty_at_piece script had.empty_calls has.empty_calls stands.reading given stands.is_asked some
           (none ∙ stands.none_empty)) (room ∙ stands.same_room)
-          stands.played.was_well (writer_failed refl) stopped.wrote.0 stopped.wrote.1 stopped.wrote.2;
+          stands.played.was_well (writer_failed refl) stopped.wrote.0 stopped.wrote.1 stopped.wrote.2
+          (length (keys_of (bytes ++ given)) + 1) stopped.wrote.3;
       is_so = record {
         reads = tells.asks script stands.reading (Gives given) left stands.is_asked on (rw stands.counted few) short
             (λ same. absurd (gave_some given same some));
@@ -443,6 +478,10 @@ piece_unwritten piece.Write script had mid has before now later session kept cou
         cause = refl;
         wrote = inl (rw same (rw (← tells.whole_is script (bytes ++ given)) stopped.cut_off));
         whole_before = rw same (rw (← tells.whole_is script bytes) stopped.whole_before);
+        few_writes = rw same
+            (tells.few_writes before later stopped.taken (length (keys_of (bytes ++ given)) + 1)
+            (length (keys_of (bytes ++ given)) + (1 + last_texts (Asked pieces (Gives given)))) stopped.wrote.3
+            (tells.no_more (length (keys_of (bytes ++ given))) (last_texts (Asked pieces (Gives given)))));
       };
     }
 
@@ -454,7 +493,8 @@ opening_is script = fronts_are_texts script [] ∙ append-nil (opening_step scri
 pub opened :
     (script : Script) (before now : WriterState) (made start : List ℕ) (session : Session) → before.has_failed ≡ false →
     start ≡ [] → made ≡ start ++ (opening_step script).text →
-    session ≡ (opening_step script).session → HasTaken before now made → HavePlayed script before now session Nothing []
+    session ≡ (opening_step script).session → HasTaken before now made 1 →
+    HavePlayed script before now session Nothing []
 opened script before now made start session was_well empty shown begins taken = record {
   was_well = was_well;
   session = begins;
@@ -474,16 +514,17 @@ opening_unwritten piece.Write script had before now made start never reader_well
     let same : made ≡ texts_of script [] =
     shown ∙ (ap (λ s. s ++ (opening_step script).text) empty ∙ (sym (opening_is script) ∙ tells.whole_is script [])) in
     record {
-      told = tells.told_of Unasked had.remaining stops.taken true;
+      told = tells.told_of before now Unasked had.remaining stops.taken true;
       tells = tells.tells_of had had before now Unasked stops.taken true reader_well reader_well
           (nothing_given had.remaining had.remaining refl) refl refl (omega arith) refl was_well
           (failed refl) stops.wrote.0 stops.wrote.1
-          stops.wrote.2;
+          stops.wrote.2 1 stops.wrote.3;
       is_so = record {
         reads = tt;
         reader_is_well = refl;
         cause = refl;
         wrote = inl (rw (← same) stops.cut_off);
         whole_before = tt;
+        few_writes = tells.few_writes before now stops.taken 1 (text_count Unasked) stops.wrote.3 (omega arith);
       };
     }

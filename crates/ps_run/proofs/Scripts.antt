@@ -1,6 +1,5 @@
 -- Scripts of games that are played by sections of their rules.
 use Rattle.std.proofs.Common.{◌≡◌, ◌∙◌, ℕ, List, Option, Some, refl, sym}
-use Rattle.ps_model.specs.board.Turns.{Script}
 use Rattle.ps_program.specs.declared.program.CompiledSection.{CompiledSection}
 use Rattle.ps_stage.specs.Standings.{SessionParts, script_for}
 use Rattle.ps_stage.proofs.Scripts.{same_script}

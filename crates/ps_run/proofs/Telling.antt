@@ -1,6 +1,6 @@
 -- What the devices tell of a run whose calls are known.
-use Rattle.std.proofs.Common.{◌≡◌, ◌∙◌, ℕ, zero, suc, ◌+◌, ◌<◌, ◌≤◌, Bool, false, true, List, [], ◌∷◌, ◌++◌, length}
-use Rattle.std.proofs.Common.{Option, Some, None, refl, sym, ap, append_assoc, append-nil, arith}
+use Rattle.std.proofs.Common.{◌≡◌, ◌∙◌, ℕ, zero, suc, ◌+◌, ◌-◌, ◌<◌, ◌≤◌, Bool, false, List, [], ◌∷◌, ◌++◌, length}
+use Rattle.std.proofs.Common.{Option, Some, None, refl, ap, append-nil, arith}
 use Rattle.std.specs.List.{All, concat}
 use Rattle.std.proofs.lemmas.List.{length-append}
 use Rattle.std.proofs.lemmas.List.Elements.{All-append}
@@ -17,7 +17,8 @@ use Rattle.ps_laws.proofs.keys.Fronts.{output_of_unended}
 use Rattle.ps_laws.proofs.runs.RunsNotAllowed.{no_empty_piece}
 use Rattle.ps_devices.specs.Devices.{Grows, Loses, IsSpent}
 use Rattle.ps_devices.proofs.Pieces.{loses_twice}
-use Rattle.ps_run.specs.Runs.{HasAsked, IsAsked, call_count}
+use Rattle.ps_run.specs.Runs.{IsAsked, call_count}
+use Rattle.ps_run.specs.Played.{HasCounted}
 
 -- the pieces of calls that are behind
 abbrev pub pieces_of : ReaderCalls → List (List ℕ)
@@ -160,14 +161,44 @@ empty_at_end script before mid after reading asked same more =
     rw first (omega (arith, same, more))
 
 -- a run, by its calls and its writes
-abbrev pub told_of : ReaderCalls → Option (List ℕ) → List ℕ → Bool → Told
-told_of reading remaining wrote failed = record {
+abbrev pub told_of : WriterState → WriterState → ReaderCalls → Option (List ℕ) → List ℕ → Bool → Told
+told_of before now reading remaining wrote failed = record {
   reading = reading;
   left = left_of remaining;
-  wrote =
-      wrote;
+  wrote = wrote;
   writer_failed = failed;
+  writes = now.calls - before.calls;
+  short_writes = now.short_calls - before.short_calls;
 }
+
+-- what was counted, by what is told before and behind it
+pub by_count : (before now : ℕ) → before ≤ now → now ≡ before + (now - before)
+by_count before now more = omega arith
+
+-- no more calls than texts, but for one more for each that took less than it was handed
+pub few_writes :
+    (before now : WriterState) (text : List ℕ) (count texts : ℕ) → HasCounted before now text count → count ≤ texts →
+    now.calls - before.calls ≤ texts + (now.short_calls - before.short_calls)
+few_writes before now text count texts counted within =
+    fewer before.calls now.calls before.short_calls now.short_calls count texts counted.more counted.shorts counted.few
+    within
+  where
+    fewer : (calls new_calls shorts new_shorts count texts : ℕ) → calls ≤ new_calls → shorts ≤ new_shorts →
+        new_calls + shorts ≤ calls + (count + new_shorts) → count ≤ texts →
+        new_calls - calls ≤ texts + (new_shorts - shorts)
+    fewer calls new_calls shorts new_shorts count texts more short few within = omega arith
+
+-- the texts of the opening and of keys are no more than those, and some
+pub no_more : (keys some : ℕ) → keys + 1 ≤ keys + (1 + some)
+no_more keys some = omega arith
+
+-- and with the last line
+pub one_line_more : (keys : ℕ) → (keys + 1) + 1 ≤ keys + (1 + 1)
+one_line_more keys = omega arith
+
+-- fewer keys have fewer texts
+pub fewer_texts : (fewer keys some : ℕ) → fewer < keys → fewer + 1 ≤ keys + (1 + some)
+fewer_texts fewer keys some less = omega arith
 
 pub tells_of :
     (had has : ReaderState) (before now : WriterState) (reading : ReaderCalls) (wrote : List ℕ) (failed : Bool) →
@@ -177,9 +208,10 @@ pub tells_of :
     has.empty_calls ≡ had.empty_calls + empty_reads reading → has.odd_sized_calls ≡ had.odd_sized_calls →
     before.has_failed ≡ false → now.has_failed ≡ failed → Grows before.contents now.contents wrote →
     now.calls ≤ before.calls + (length wrote + idle_writes failed) →
-    now.empty_calls ≡ before.empty_calls → Tells had has before now (told_of reading has.remaining wrote failed)
+    now.empty_calls ≡ before.empty_calls → (count : ℕ) → HasCounted before now wrote count →
+    Tells had has before now (told_of before now reading has.remaining wrote failed)
 tells_of had has before now reading wrote failed was_well is gives last counts empty room writer_well writer_is grows
-    calls none = record {
+    calls none count counted = record {
       reader_was_well = was_well;
       reader_failed = is;
       read = gives;
@@ -191,9 +223,18 @@ tells_of had has before now reading wrote failed was_well is gives last counts e
       writer_was_well = writer_well;
       writer_failed = writer_is;
       wrote = grows;
-      writes = calls;
+      calls_of_writer = by_count before.calls now.calls counted.more;
+      short_calls = by_count before.short_calls now.short_calls counted.shorts;
       no_empty_write = none;
+      writes = within before.calls now.calls (length wrote + idle_writes failed) calls;
+      some_writes = λ some. one before.calls now.calls (counted.called some);
     }
+  where
+    within : (before now most : ℕ) → now ≤ before + most → now - before ≤ most
+    within before now most few = omega arith
+
+    one : (before now : ℕ) → before < now → 1 ≤ now - before
+    one before now more = omega arith
 
 -- nothing is left of a reader that has come to its end
 pub left_is_spent : (remaining : Option (List ℕ)) → IsSpent remaining → left_of remaining ≡ []

@@ -1,5 +1,5 @@
 -- What a run answers, as the definitions say it, and what is so of it on the source of its rules.
-use Rattle.std.specs.Prelude.{◌≡◌, List, Option, Some, Result, Ok, Err, ℕ}
+use Rattle.std.specs.Prelude.{◌≡◌, List, Some, Result, Ok, Err, ℕ}
 use Rattle.ps_model.specs.declared.play.Ending.{Ending}
 use Rattle.ps_model.specs.board.Turns.{Script, script_of}
 use Rattle.ps_model.specs.game.Games.{Game, game}

@@ -1,5 +1,5 @@
 -- How far a run has come with the bytes that it has read.
-use Rattle.std.specs.Prelude.{◌≡◌, ℕ, ◌+◌, ◌<◌, ◌≤◌, Bool, false, Option, None, List, ◌++◌, length, take}
+use Rattle.std.specs.Prelude.{◌≡◌, ℕ, ◌+◌, ◌<◌, ◌≤◌, false, None, List, ◌++◌, length, take}
 use Rattle.ps_model.specs.declared.held.Held.{Held}
 use Rattle.ps_model.specs.board.Turns.{Script}
 use Rattle.ps_model.specs.session.HeldKeys as keys
@@ -13,17 +13,26 @@ use Rattle.ps_devices.specs.Devices.{Grows}
 use Rattle.ps_run.specs.declared.faults.PieceFault.{PieceFault}
 use Rattle.ps_run.specs.declared.faults.PieceFault.TheVariants.{Memory, Write}
 
--- a writer has taken the text, by no more calls than it has bytes, each of which was handed some
-abbrev pub HasTaken : WriterState → WriterState → List ℕ → Type 0
-HasTaken before now text =
+-- how a writer counts the calls by which it took a text, which is one of several or more of them, so many: it took back
+-- no count; there was a call, if the text has a byte; and there were no more calls than texts, but for one more for each
+-- that took less than it was handed
+pub record HasCounted (before now : WriterState) (text : List ℕ) (count : ℕ) : Type 0 where
+  pub more : before.calls ≤ now.calls
+  pub shorts : before.short_calls ≤ now.short_calls
+  pub called : 1 ≤ length text → before.calls < now.calls
+  pub few : now.calls + before.short_calls ≤ before.calls + (count + now.short_calls)
+
+-- a writer has taken the text of so many, by no more calls than it has bytes, each of which was handed some
+abbrev pub HasTaken : WriterState → WriterState → List ℕ → ℕ → Type 0
+HasTaken before now text count =
     Grows before.contents now.contents text × (now.calls ≤ before.calls + length text) ×
-    (now.empty_calls ≡ before.empty_calls)
+    (now.empty_calls ≡ before.empty_calls) × HasCounted before now text count
 
 -- a writer has taken the text, and then a call failed
-abbrev pub HasTakenAndFailed : WriterState → WriterState → List ℕ → Type 0
-HasTakenAndFailed before now text =
+abbrev pub HasTakenAndFailed : WriterState → WriterState → List ℕ → ℕ → Type 0
+HasTakenAndFailed before now text count =
     Grows before.contents now.contents text × (now.calls ≤ before.calls + (length text + 1)) ×
-    (now.empty_calls ≡ before.empty_calls)
+    (now.empty_calls ≡ before.empty_calls) × HasCounted before now text count
 
 -- the keys of these bytes are played: the session is theirs, what they leave of an arrow is held, and the writer, which
 -- was well before, has taken the front that is theirs
@@ -32,7 +41,7 @@ pub record HavePlayed (script : Script) (before now : WriterState) (current : Se
   pub was_well : before.has_failed ≡ false
   pub session : current ≡ session_of script read
   pub held : keys.bytes_of kept ≡ keys.held read
-  pub wrote : HasTaken before now (whole_front script read)
+  pub wrote : HasTaken before now (whole_front script read) (length (keys_of read) + 1)
 
 -- memory was refused at a byte of a piece that brings a key: the texts of the keys before it are written, and nothing
 -- else; the game went on behind them
@@ -40,6 +49,7 @@ pub record WantsMemory (script : Script) (before now : WriterState) (read piece 
   pub was_well : before.has_failed ≡ false
   pub count : ℕ
   pub wrote : HasTaken before now (whole_front script (read ++ take count piece))
+      (length (keys_of (read ++ take count piece)) + 1)
   pub goes_on : ending_of (session_of script (read ++ take count piece)) ≡ None
   pub wanting : length (keys_of (read ++ take count piece)) < length (keys_of (read ++ piece))
 
@@ -48,7 +58,7 @@ pub record WantsMemory (script : Script) (before now : WriterState) (read piece 
 pub record CannotWrite (script : Script) (before now : WriterState) (read piece : List ℕ) : Type 0 where
   pub was_well : before.has_failed ≡ false
   pub taken : List ℕ
-  pub wrote : HasTakenAndFailed before now taken
+  pub wrote : HasTakenAndFailed before now taken (length (keys_of (read ++ piece)) + 1)
   pub whole_before : IsFront (whole_front script read) taken
   pub cut_off : IsCutOff taken (whole_front script (read ++ piece))
 
@@ -61,11 +71,11 @@ StopsAs Write script before now read piece = CannotWrite script before now read 
 pub record IsCutOffAt (before now : WriterState) (text : List ℕ) : Type 0 where
   pub taken : List ℕ
   pub cut_off : IsCutOff taken text
-  pub wrote : HasTakenAndFailed before now taken
+  pub wrote : HasTakenAndFailed before now taken 1
 
 -- a text was to be written, and wasn't: memory was refused before it was whole, and nothing is written; or the writer
 -- failed, and took some of it, but not all
 abbrev pub StopsAtText : PieceFault → WriterState → WriterState → List ℕ → Type 0
 StopsAtText Memory before now text = (now.contents ≡ before.contents) × (now.calls ≡ before.calls) ×
-    (now.empty_calls ≡ before.empty_calls)
+    (now.empty_calls ≡ before.empty_calls) × (now.short_calls ≡ before.short_calls)
 StopsAtText Write before now text = IsCutOffAt before now text

@@ -1,5 +1,5 @@
 -- How a run of a script comes to its answer.
-use Rattle.std.specs.Prelude.{◌≡◌, ℕ, ◌+◌, ◌<◌, ◌≤◌, ◌⊎◌, ⊤, List, [], ◌++◌, length, Result, Ok, Err}
+use Rattle.std.specs.Prelude.{◌≡◌, ℕ, ◌+◌, ◌<◌, ◌≤◌, ◌⊎◌, ⊤, List, length, Result, Ok, Err}
 use Rattle.std.specs.List.{All, concat}
 use Rattle.ps_model.specs.declared.limits.TheConstants.{READ_LIMIT}
 use Rattle.ps_model.specs.declared.held.Held.{Held}
@@ -8,7 +8,7 @@ use Rattle.ps_model.specs.board.Turns.{Script}
 use Rattle.ps_model.specs.session.Keys.{keys_of}
 use Rattle.ps_model.specs.session.Sessions.{Session}
 use Rattle.ps_model.specs.game.Headline.{IsFront, IsPiece, GaveNothing, GoesOn, ReadsInTurn, ReaderIsWell, WriterIsWell}
-use Rattle.ps_model.specs.game.Headline.{EndsAsMeant, CannotReadRightly, CannotWriteRightly}
+use Rattle.ps_model.specs.game.Headline.{EndsAsMeant, CannotReadRightly, CannotWriteRightly, HasFewWrites}
 use Rattle.ps_model.specs.game.Tellings.{ReaderState, WriterState, Gives, Fails, ReaderCalls, Unasked, Asked, Told}
 use Rattle.ps_model.specs.game.Tellings.{Tells, read, read_before, last_behind}
 use Rattle.ps_laws.specs.Fronts.{whole_front}
@@ -61,6 +61,7 @@ pub record StopsInPlay (script : Script) (told : Told) : Type 0 where
   pub goes_on : GoesOn script behind
   pub wanting : (length (keys_of behind) < length (keys_of (read told.reading))) ⊎ GaveNothing told.reading
   pub wrote : told.wrote ≡ whole_front script behind
+  pub few_writes : HasFewWrites told
 
 -- what is so by the answer
 abbrev pub IsSo : Script → Told → Result Ending RunFault → Type 0

@@ -25,7 +25,7 @@ pub struct Play<'g> {
 /// Writes what the output has.
 pub fn write_output<W: ByteWriter>(output: &OutputText, writer: &mut W) -> Result<(), PieceFault>
     requires { (W.state writer.old).has_failed ≡ false }
-    ensures written { OnOk result (HasTaken (W.state writer.old) (W.state writer.new) output.now) }
+    ensures written { OnOk result (HasTaken (W.state writer.old) (W.state writer.new) output.now 1) }
     ensures stops { IfErr result (λ fault. StopsAtText fault (W.state writer.old) (W.state writer.new) output.now) }
     ensures well { result ≢ Err PieceFault.Write → (W.state writer.new).has_failed ≡ false }
     ensures told { result ≡ Err PieceFault.Write → (W.state writer.new).has_failed ≡ true }
@@ -47,7 +47,7 @@ impl<'g> Play<'g> {
             OnOk result (self.new.game.session ≡ (key_step script self.old.game.session key).session) }
         ensures written { let script = script_in self.old.game in
             let text = (key_step script self.old.game.session key).text in
-            OnOk result (HasTaken (W.state writer.old) (W.state writer.new) text) }
+            OnOk result (HasTaken (W.state writer.old) (W.state writer.new) text 1) }
         ensures stops { let script = script_in self.old.game in
             let text = (key_step script self.old.game.session key).text in
             IfErr result (λ fault. StopsAtText fault (W.state writer.old) (W.state writer.new) text) }
@@ -120,7 +120,7 @@ impl<'g> Play<'g> {
     /// Writes that the keys have ended.
     fn end_keys<W: ByteWriter>(&mut self, writer: &mut W) -> Result<(), PieceFault>
         requires { (W.state writer.old).has_failed ≡ false }
-        ensures written { OnOk result (HasTaken (W.state writer.old) (W.state writer.new) end_of_keys_line) }
+        ensures written { OnOk result (HasTaken (W.state writer.old) (W.state writer.new) end_of_keys_line 1) }
         ensures stops { IfErr result (λ fault.
             StopsAtText fault (W.state writer.old) (W.state writer.new) end_of_keys_line) }
         ensures well { result ≢ Err PieceFault.Write → (W.state writer.new).has_failed ≡ false }

@@ -1,6 +1,6 @@
 -- Whole runs that are right, worked by hand: the reader gives a byte at a call, or all that it has; the writer takes all,
 -- or fails within a frame; memory is refused before anything is written, or behind a frame.
-use Rattle.std.proofs.Common.{◌<◌, ◌≡◌, ℕ, inl, inr, List, [], ◌∷◌, refl, Some, true, false, arith}
+use Rattle.std.proofs.Common.{◌<◌, ◌≤◌, ◌≡◌, ℕ, inl, inr, List, [], ◌∷◌, refl, Some, true, false, arith}
 use Rattle.std.specs.Prelude.{codes}
 use Rattle.std.specs.Str.{chars, is_utf8}
 use Rattle.std.specs.Str.Lossy.{utf8_valid_len}
@@ -36,7 +36,7 @@ a_byte : (byte : ℕ) → IsPiece (byte ∷ [])
 a_byte byte = record { some = omega arith; few = omega arith }
 
 -- a byte at a call, and a byte that isn't read behind the ending
-byte_by_byte : Answers walk (record { reading = Asked ((100 ∷ []) ∷ (100 ∷ []) ∷ []) (Gives (codes "q")); left = codes "d"; wrote = codes "= T\n# level 1\nP..\n\n.P.\n\n..P\n\n* quit\n"; writer_failed = false }) (Ends Quit)
+byte_by_byte : Answers walk (record { reading = Asked ((100 ∷ []) ∷ (100 ∷ []) ∷ []) (Gives (codes "q")); left = codes "d"; wrote = codes "= T\n# level 1\nP..\n\n.P.\n\n..P\n\n* quit\n"; writer_failed = false; writes = 4; short_writes = 0 }) (Ends Quit)
 unfolding chars digits is_utf8 utf8_valid_len encode group program_run all_start_turns all_key_turns turn opening_step
 byte_by_byte = (
   script,
@@ -55,11 +55,12 @@ byte_by_byte = (
     wrote = refl;
     brought = refl;
     silent = λ e. absurd (cc);
+    few_writes = (let few : 4 ≤ 4 = omega arith in few);
   },
 )
 
 -- all keys at a call, and then none
-keys_end : Answers walk (record { reading = Asked ((100 ∷ []) ∷ []) (Gives []); left = []; wrote = codes "= T\n# level 1\nP..\n\n.P.\n\n* end of keys\n"; writer_failed = false }) (Ends EndOfKeys)
+keys_end : Answers walk (record { reading = Asked ((100 ∷ []) ∷ []) (Gives []); left = []; wrote = codes "= T\n# level 1\nP..\n\n.P.\n\n* end of keys\n"; writer_failed = false; writes = 4; short_writes = 1 }) (Ends EndOfKeys)
 unfolding chars digits is_utf8 utf8_valid_len encode group program_run all_start_turns all_key_turns turn opening_step
 keys_end = (
   script,
@@ -72,6 +73,7 @@ keys_end = (
     wrote = refl;
     brought = refl;
     silent = λ e. refl;
+    few_writes = (let few : 4 ≤ 4 = omega arith in few);
   },
 )
 
@@ -84,14 +86,14 @@ abbrev reader_after : ReaderState
 reader_after = record { remaining = Some []; has_failed = false; last = 0; calls = 5; empty_calls = 2; odd_sized_calls = 2 }
 
 abbrev writer_before : WriterState
-writer_before = record { contents = Some (codes "?"); has_failed = false; calls = 1; empty_calls = 0 }
+writer_before = record { contents = Some (codes "?"); has_failed = false; calls = 1; empty_calls = 0; short_calls = 0 }
 
 abbrev writer_after : WriterState
-writer_after = record { contents = Some (codes "?= T\n# level 1\nP..\n\n.P.\n\n* end of keys\n"); has_failed = false; calls = 5; empty_calls = 0 }
+writer_after = record { contents = Some (codes "?= T\n# level 1\nP..\n\n.P.\n\n* end of keys\n"); has_failed = false; calls = 5; empty_calls = 0; short_calls = 1 }
 
 keys_end_as_told : RunsRightly walk reader_before reader_after writer_before writer_after (Ends EndOfKeys)
 keys_end_as_told = record {
-  told = record { reading = Asked ((100 ∷ []) ∷ []) (Gives []); left = []; wrote = codes "= T\n# level 1\nP..\n\n.P.\n\n* end of keys\n"; writer_failed = false };
+  told = record { reading = Asked ((100 ∷ []) ∷ []) (Gives []); left = []; wrote = codes "= T\n# level 1\nP..\n\n.P.\n\n* end of keys\n"; writer_failed = false; writes = 4; short_writes = 1 };
   tells = record {
     reader_was_well = refl;
     reader_failed = refl;
@@ -104,14 +106,17 @@ keys_end_as_told = record {
     writer_was_well = refl;
     writer_failed = refl;
     wrote = refl;
-    writes = omega arith;
+    calls_of_writer = refl;
+    short_calls = refl;
     no_empty_write = refl;
+    writes = omega arith;
+    some_writes = λ some. omega arith;
   };
   answers = keys_end;
 }
 
 -- the writer fails within the second key's frame
-cut_off : Answers walk (record { reading = Asked ((100 ∷ []) ∷ []) (Gives (codes "dd")); left = codes "q"; wrote = codes "= T\n# level 1\nP..\n\n.P.\n\n.."; writer_failed = true }) CannotWrite
+cut_off : Answers walk (record { reading = Asked ((100 ∷ []) ∷ []) (Gives (codes "dd")); left = codes "q"; wrote = codes "= T\n# level 1\nP..\n\n.P.\n\n.."; writer_failed = true; writes = 4; short_writes = 1 }) CannotWrite
 unfolding chars digits is_utf8 utf8_valid_len encode group program_run all_start_turns all_key_turns turn opening_step
 cut_off = (
   script,
@@ -122,11 +127,12 @@ cut_off = (
     cause = refl;
     wrote = inl (record { rest = codes "P\n\n..P\n\n"; some = omega arith; is = refl });
     whole_before = (codes "..", refl);
+    few_writes = (let few : 4 ≤ 5 = omega arith in few);
   },
 )
 
 -- the writer fails within the line that says that the keys ended
-end_cut_off : Answers walk (record { reading = Asked [] (Gives []); left = []; wrote = codes "= T\n# level 1\nP..\n\n* en"; writer_failed = true }) CannotWrite
+end_cut_off : Answers walk (record { reading = Asked [] (Gives []); left = []; wrote = codes "= T\n# level 1\nP..\n\n* en"; writer_failed = true; writes = 3; short_writes = 1 }) CannotWrite
 unfolding chars digits is_utf8 utf8_valid_len encode group program_run all_start_turns all_key_turns turn opening_step
 end_cut_off = (
   script,
@@ -137,11 +143,12 @@ end_cut_off = (
     cause = refl;
     wrote = inr (refl, record { rest = codes "d of keys\n"; some = omega arith; is = refl });
     whole_before = (codes "* en", refl);
+    few_writes = (let few : 3 ≤ 3 = omega arith in few);
   },
 )
 
 -- the reader fails behind two keys
-reading_fails : Answers walk (record { reading = Asked ((100 ∷ []) ∷ (100 ∷ []) ∷ []) Fails; left = []; wrote = codes "= T\n# level 1\nP..\n\n.P.\n\n..P\n\n"; writer_failed = false }) CannotRead
+reading_fails : Answers walk (record { reading = Asked ((100 ∷ []) ∷ (100 ∷ []) ∷ []) Fails; left = []; wrote = codes "= T\n# level 1\nP..\n\n.P.\n\n..P\n\n"; writer_failed = false; writes = 3; short_writes = 0 }) CannotRead
 unfolding chars digits is_utf8 utf8_valid_len encode group program_run all_start_turns all_key_turns turn opening_step
 reading_fails = (
   script,
@@ -152,14 +159,15 @@ reading_fails = (
     cause = tt;
     goes_on = refl;
     wrote = refl;
+    few_writes = (let few : 3 ≤ 3 = omega arith in few);
   },
 )
 
 -- memory is refused for the opening; or for the second of two keys
-at_once : Answers walk (record { reading = Unasked; left = codes "d"; wrote = []; writer_failed = false }) WantsMemory
+at_once : Answers walk (record { reading = Unasked; left = codes "d"; wrote = []; writer_failed = false; writes = 0; short_writes = 0 }) WantsMemory
 at_once = inl (record { asked_nothing = refl; wrote_nothing = refl; writer_is_well = refl })
 
-behind_a_frame : Answers walk (record { reading = Asked [] (Gives (codes "dd")); left = []; wrote = codes "= T\n# level 1\nP..\n\n.P.\n\n"; writer_failed = false }) WantsMemory
+behind_a_frame : Answers walk (record { reading = Asked [] (Gives (codes "dd")); left = []; wrote = codes "= T\n# level 1\nP..\n\n.P.\n\n"; writer_failed = false; writes = 2; short_writes = 0 }) WantsMemory
 unfolding chars digits is_utf8 utf8_valid_len encode group program_run all_start_turns all_key_turns turn opening_step
 behind_a_frame = inr (
   script,
@@ -173,10 +181,11 @@ behind_a_frame = inr (
     goes_on = refl;
     wanting = inl (let fewer : 1 < 2 = omega arith in fewer);
     wrote = refl;
+    few_writes = (let few : 2 ≤ 3 = omega arith in few);
   },
 )
 
 -- a text is refused, and neither device is called
-no_section : Answers [] (record { reading = Unasked; left = codes "d"; wrote = []; writer_failed = false }) (Refuses (record { kind = kind.NoSection; line = 1 }))
+no_section : Answers [] (record { reading = Unasked; left = codes "d"; wrote = []; writer_failed = false; writes = 0; short_writes = 0 }) (Refuses (record { kind = kind.NoSection; line = 1 }))
 unfolding chars is_utf8 utf8_valid_len encode
 no_section = record { is_first = refl; asked_nothing = refl; wrote_nothing = refl; writer_is_well = refl }

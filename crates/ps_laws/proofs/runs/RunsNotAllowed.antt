@@ -8,10 +8,10 @@ use Rattle.std.proofs.lemmas.Bool.{both_ways}
 use Rattle.ps_model.specs.board.Turns.{Script}
 use Rattle.ps_model.specs.game.Outputs.{output, front}
 use Rattle.ps_model.specs.game.Tellings.{Call, Gives, Fails, ReaderCalls, Unasked, Asked, Told, read, all_bytes}
-use Rattle.ps_model.specs.game.Tellings.{bytes_of_call, has_failing_call, last_behind, empty_pieces, empty_reads}
+use Rattle.ps_model.specs.game.Tellings.{Tells, idle_writes, bytes_of_call, has_failing_call, last_behind, empty_pieces, empty_reads}
 use Rattle.ps_model.specs.game.Headline.{Answer, Ends, Refuses, WantsMemory, CannotRead, CannotWrite, Answers, IsFront}
 use Rattle.ps_model.specs.game.Headline.{IsCutOff, IsPiece, AsksInTurn, ReadsInTurn, GaveNothing, IsTrueOfText}
-use Rattle.ps_model.specs.game.Headline.{script_of_text, texts_of}
+use Rattle.ps_model.specs.game.Headline.{script_of_text, texts_of, text_count}
 use Rattle.ps_model.specs.declared.limits.TheConstants.{CALL_LIMIT}
 use Rattle.ps_laws.specs.Fronts.{whole_front}
 use Rattle.ps_model.specs.declared.play.Key.{Key}
@@ -19,6 +19,7 @@ use Rattle.ps_model.specs.session.Keys.{keys_of}
 use Rattle.ps_laws.specs.RunsNotAllowed.{NoWantBehindAllKeys, NoWantWithoutKey}
 use Rattle.ps_laws.specs.RunsNotAllowed.{NoCallBehindEnding, NoReadFaultBehindEnding, NoWantBehindEnding, NoMoreCalls}
 use Rattle.ps_laws.specs.RunsNotAllowed.{NoLongCall, NoCallBehindEnd, NoOddSizedCall, NoSecondEmptyCall}
+use Rattle.ps_laws.specs.RunsNotAllowed.{NoEndingUnwritten, NoWriteUncounted, NoTextInPieces}
 use Rattle.ps_laws.specs.RunsNotAllowed.{NoCallBehindEmptyOne, NoEmptyWrite, ReadsWhatWasThere, ReadFaultIsTold}
 use Rattle.ps_laws.specs.RunsNotAllowed.{WriteFaultIsTold, NoReadFaultUnasked, NoWriteFaultUnfailed}
 use Rattle.ps_laws.specs.RunsNotAllowed.{NoRunOnFailedDevices, NoWritingUnasked, WritesFronts, AnswersAreTrueOfTexts}
@@ -90,6 +91,41 @@ same_count before after same more = omega arith
 pub no_odd_sized_call : NoOddSizedCall
 no_odd_sized_call text reader_before reader_after writer_before writer_after answer more right =
     same_count reader_before.odd_sized_calls reader_after.odd_sized_calls right.tells.same_room more
+
+pub no_write_uncounted : NoWriteUncounted
+no_write_uncounted reader_before reader_after writer_before writer_after told some same tells =
+    uncounted writer_before.calls writer_after.calls told.writes same tells.calls_of_writer (tells.some_writes some)
+  where
+    uncounted : (before after writes : ℕ) → after ≡ before → after ≡ before + writes → 1 ≤ writes → ⊥
+    uncounted before after writes same counts some = omega arith
+
+pub no_ending_unwritten : NoEndingUnwritten
+no_ending_unwritten text reader_before reader_after writer_before writer_after ending same right =
+    let told : Told = right.told in
+    let ends = right.answers.2 in
+    let some : 1 ≤ length told.wrote = rw ends.wrote (some_output right.answers.0 (all_bytes told)) in
+    no_write_uncounted reader_before reader_after writer_before writer_after told some same right.tells
+
+none_written : (told : Told) → told.wrote ≡ [] → told.writer_failed ≡ false →
+    told.writes ≤ length told.wrote + idle_writes told.writer_failed → told.writes ≤ 0
+none_written told nothing well few = rw (nothing, well) at few
+
+none_more : (limit writes : ℕ) → writes ≤ 0 → limit < writes → ⊥
+none_more limit writes none more = omega arith
+
+pub no_text_in_pieces : NoTextInPieces
+no_text_in_pieces text reader_before reader_after writer_before writer_after told (Ends ending) more tells
+    (script, found, right) = above _ _ right.few_writes more
+no_text_in_pieces text reader_before reader_after writer_before writer_after told (Refuses fault) more tells right =
+    none_more _ _ (none_written told right.wrote_nothing right.writer_is_well tells.writes) more
+no_text_in_pieces text reader_before reader_after writer_before writer_after told WantsMemory more tells (inl right) =
+    none_more _ _ (none_written told right.wrote_nothing right.writer_is_well tells.writes) more
+no_text_in_pieces text reader_before reader_after writer_before writer_after told WantsMemory more tells
+    (inr (script, found, right)) = above _ _ right.few_writes more
+no_text_in_pieces text reader_before reader_after writer_before writer_after told CannotRead more tells
+    (script, found, right) = above _ _ right.few_writes more
+no_text_in_pieces text reader_before reader_after writer_before writer_after told CannotWrite more tells
+    (script, found, right) = above _ _ right.few_writes more
 
 pub no_empty_write : NoEmptyWrite
 no_empty_write text reader_before reader_after writer_before writer_after answer more right =

@@ -3,7 +3,7 @@
 -- refused, keys can't be read or the output can't be written, it stops and says so, and has written a front of it, as
 -- said below. Whatever it answers, it asks for no more keys once those that it has read have ended the game.
 use Rattle.std.specs.Prelude.{◌≡◌, ◌≢◌, ℕ, ◌+◌, ◌<◌, ◌≤◌, true, false, ⊤, ◌⊎◌, Option, Some, option_map, List, [], ◌++◌}
-use Rattle.std.specs.Prelude.{length, take}
+use Rattle.std.specs.Prelude.{◌∷◌, length, take}
 use Rattle.std.specs.List.{All, concat}
 use Rattle.ps_model.specs.declared.faults.Fault.{Fault}
 use Rattle.ps_model.specs.declared.play.Ending.{Ending}
@@ -93,6 +93,24 @@ ReaderIsWell told = has_failing_call told.reading ≡ false
 abbrev pub WriterIsWell : Told → Type 0
 WriterIsWell told = told.writer_failed ≡ false
 
+-- writing -------------------------------------------------------------------------------------------------------------
+
+-- the line that says that there are no more keys, where the last call gave nothing: as a number of texts
+abbrev pub last_texts : ReaderCalls → ℕ
+last_texts Unasked = 0
+last_texts (Asked earlier (Gives [])) = 1
+last_texts (Asked earlier (Gives (byte ∷ bytes))) = 0
+last_texts (Asked earlier Fails) = 0
+
+-- how many texts a run can have written: the opening, one for each key that was read, and that line
+abbrev pub text_count : ReaderCalls → ℕ
+text_count reading = length (keys_of (read reading)) + (1 + last_texts reading)
+
+-- a text is written by one call where the writer takes it whole: there were no more calls than texts, but for one more
+-- for each call that took fewer bytes than it was handed
+abbrev pub HasFewWrites : Told → Type 0
+HasFewWrites told = told.writes ≤ text_count told.reading + told.short_writes
+
 -- answers -------------------------------------------------------------------------------------------------------------
 
 -- the run ended: it wrote the output of all bytes and nothing else, and that output ends so
@@ -105,6 +123,7 @@ pub record EndsAsMeant (script : Script) (told : Told) (ending : Ending) : Type 
   -- it was brought by what was read: by a key of it, or, if the keys ended, by a call that gave nothing
   pub brought : (output script (read told.reading)).ending ≡ ending
   pub silent : ending ≡ EndOfKeys → GaveNothing told.reading
+  pub few_writes : HasFewWrites told
 
 -- the text was refused: that is its first fault, and no key was asked for and nothing written
 pub record RefusesRightly (text : List ℕ) (told : Told) (fault : Fault) : Type 0 where
@@ -131,6 +150,7 @@ pub record StopsForMemory (script : Script) (told : Told) : Type 0 where
   pub goes_on : ending_behind script (read told.reading) keys ≡ EndOfKeys
   pub wanting : (keys < length (keys_of (read told.reading))) ⊎ GaveNothing told.reading
   pub wrote : told.wrote ≡ front script (read told.reading) keys
+  pub few_writes : HasFewWrites told
 
 -- memory was refused at once, or in play
 abbrev pub WantsMemoryRightly : List ℕ → Told → Type 0
@@ -150,6 +170,7 @@ pub record CannotReadRightly (script : Script) (told : Told) : Type 0 where
   pub cause : ReadsNoMore told.reading
   pub goes_on : GoesOn script (read told.reading)
   pub wrote : told.wrote ≡ texts_of script (read told.reading)
+  pub few_writes : HasFewWrites told
 
 -- what was written is cut off from what was to be written: from the texts of the keys read, or, where there are no more
 -- keys, from the output, which says so
@@ -170,6 +191,7 @@ pub record CannotWriteRightly (script : Script) (told : Told) : Type 0 where
   pub cause : told.writer_failed ≡ true
   pub wrote : IsCutOffWriting script told
   pub whole_before : IsWholeBefore script told.reading told.wrote
+  pub few_writes : HasFewWrites told
 
 -- what a run may answer
 abbrev pub Answers : List ℕ → Told → Answer → Type 0

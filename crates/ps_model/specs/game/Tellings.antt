@@ -18,12 +18,14 @@ pub record ReaderState : Type 0 where
   pub odd_sized_calls : ℕ
 
 -- what a writer tells of itself: the bytes that it has taken, or nothing of them; whether a call has failed; how many
--- calls it has counted; and how many of those were handed no byte
+-- calls it has counted; and of those how many were handed no byte, and how many took fewer bytes than they were handed,
+-- without failing
 pub record WriterState : Type 0 where
   pub contents : Option (List ℕ)
   pub has_failed : Bool
   pub calls : ℕ
   pub empty_calls : ℕ
+  pub short_calls : ℕ
 
 -- a call of a reader: it gives bytes, none where the reader is at its end, or it fails
 pub data Call : Type 0 where
@@ -44,6 +46,9 @@ pub record Told : Type 0 where
   -- the bytes that the writer took in it, and whether a write failed in it
   pub wrote : List ℕ
   pub writer_failed : Bool
+  -- how many calls the writer counted in it, and how many of those took fewer bytes than they were handed
+  pub writes : ℕ
+  pub short_writes : ℕ
 
 -- the bytes that a call gave
 abbrev pub bytes_of_call : Call → List ℕ
@@ -125,8 +130,12 @@ pub record Tells (reader_before reader_after : ReaderState) (writer_before write
   -- no call of the writer had failed before; one has now exactly if one failed in the run
   pub writer_was_well : writer_before.has_failed ≡ false
   pub writer_failed : writer_after.has_failed ≡ told.writer_failed
-  -- the bytes that the writer has taken are those that it had taken, and then those that were written; there were no
-  -- more writes than bytes written, but for one that failed, and each of them was handed a byte or more
+  -- the bytes that the writer has taken are those that it had taken, and then those that were written
   pub wrote : writer_after.contents ≡ option_map (λ known. known ++ told.wrote) writer_before.contents
-  pub writes : writer_after.calls ≤ writer_before.calls + (length told.wrote + idle_writes told.writer_failed)
+  -- it has counted the calls of the run. Each was handed a byte or more, and each took a byte or more but for one that
+  -- failed, so there were no more of them than bytes written; where some were written, there was a call
+  pub calls_of_writer : writer_after.calls ≡ writer_before.calls + told.writes
+  pub short_calls : writer_after.short_calls ≡ writer_before.short_calls + told.short_writes
   pub no_empty_write : writer_after.empty_calls ≡ writer_before.empty_calls
+  pub writes : told.writes ≤ length told.wrote + idle_writes told.writer_failed
+  pub some_writes : 1 ≤ length told.wrote → 1 ≤ told.writes

@@ -13,6 +13,13 @@ invariant-loop-done g l = record {
   called : 0 < l.done → (g.W.ByteWriter.state l.initial.writer).calls < (g.W.ByteWriter.state l.writer).calls;
   counts : (g.W.ByteWriter.state l.initial.writer).calls ≤ (g.W.ByteWriter.state l.writer).calls;
   none_empty : (g.W.ByteWriter.state l.writer).empty_calls ≡ (g.W.ByteWriter.state l.initial.writer).empty_calls;
+  shorts : (g.W.ByteWriter.state l.initial.writer).short_calls ≤ (g.W.ByteWriter.state l.writer).short_calls;
+  -- where something is left, each call took less than it was handed
+  so_far : l.done < length l.bytes →
+      (g.W.ByteWriter.state l.writer).calls + (g.W.ByteWriter.state l.initial.writer).short_calls
+      ≤ (g.W.ByteWriter.state l.initial.writer).calls + (g.W.ByteWriter.state l.writer).short_calls;
+  few : (g.W.ByteWriter.state l.writer).calls + (g.W.ByteWriter.state l.initial.writer).short_calls
+      ≤ (g.W.ByteWriter.state l.initial.writer).calls + (1 + (g.W.ByteWriter.state l.writer).short_calls);
 }
 
 abbrev pub decreases-loop-done : goal.decreases-loop-done

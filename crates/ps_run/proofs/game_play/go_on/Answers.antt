@@ -1,4 +1,4 @@
-use Rattle.std.proofs.Common.{◌≡◌, ◌∙◌, ◌≤◌, ℕ, sym, subst, ap}
+use Rattle.std.proofs.Common.{◌≤◌, sym, subst}
 use Rattle.ps_model.specs.declared.limits.TheConstants.{SIDE_LIMIT}
 use Rattle.ps_stage.specs.Sides.{side_at}
 use Rattle.ps_stage.specs.Standings.{SessionParts}

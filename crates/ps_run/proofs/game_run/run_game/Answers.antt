@@ -1,4 +1,4 @@
-use Rattle.std.proofs.Common.{◌≡◌, ap, inr, Err}
+use Rattle.std.proofs.Common.{ap, inr, Err}
 use Rattle.ps_model.specs.board.Turns.{Script}
 use Rattle.ps_run.specs.GamesInPlay.{script_on}
 use Rattle.ps_run.proofs.Running as runs

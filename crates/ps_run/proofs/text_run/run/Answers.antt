@@ -1,4 +1,4 @@
-use Rattle.std.proofs.Common.{◌≡◌, ◌<◌, ◌≤◌, List, Some, ap, arith}
+use Rattle.std.proofs.Common.{◌≡◌, ◌<◌, List, Some, ap, arith}
 use Rattle.ps_model.specs.names.Names.{Names, object_count}
 use Rattle.ps_model.specs.rules.SourceRules.{RuleLine}
 use Rattle.ps_model.specs.meaning.Compiled.{CompiledSection}

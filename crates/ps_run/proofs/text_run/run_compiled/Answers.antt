@@ -1,4 +1,4 @@
-use Rattle.std.proofs.Common.{◌≡◌, List, ℕ, sym, subst}
+use Rattle.std.proofs.Common.{List, sym, subst}
 use Rattle.ps_model.specs.board.Turns.{Script, script_of}
 use Rattle.ps_model.specs.game.Games.{Game}
 use Rattle.ps_model.specs.meaning.Compiled as model

@@ -1,5 +1,4 @@
-use Rattle.std.proofs.Common.{◌≡◌, ◌≤◌, ◌∙◌, ℕ, List, [], Err, length, take, refl, sym, ap, arith, rules}
-use Rattle.std.proofs.lemmas.Grind.{common_steps}
+use Rattle.std.proofs.Common.{◌≡◌, ◌≤◌, ◌∙◌, [], Err, length, take, refl, sym, ap, arith, rules}
 use Rattle.ps_model.specs.declared.limits.TheConstants.{CALL_LIMIT}
 use Rattle.ps_devices.specs.Devices.{Loses}
 use Rattle.ps_devices.proofs.Calls.{one_call}

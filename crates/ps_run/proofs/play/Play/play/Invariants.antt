@@ -1,4 +1,4 @@
-use Rattle.std.proofs.Common.{◌≡◌, List, [], false}
+use Rattle.std.proofs.Common.{◌≡◌, [], false}
 use Rattle.ps_model.specs.board.Turns.{Script}
 use Rattle.ps_model.specs.game.Tellings.{ReaderState, WriterState}
 use Rattle.ps_run.specs.GamesInPlay.{script_in}

@@ -1,4 +1,4 @@
-use Rattle.std.proofs.Common.{◌≡◌, ◌++◌, ◌∷◌, [], sym, ◌∙◌, ap, Err}
+use Rattle.std.proofs.Common.{sym, ◌∙◌, ap, Err}
 use Rattle.ps_run.proofs.Playing.{silent_byte, key_byte, byte_stops, if_ok, if_err}
 use Rattle.ps_run.proofs.play.Play.play_byte.Goals as goal
 

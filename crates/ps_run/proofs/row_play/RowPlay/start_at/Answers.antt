@@ -1,8 +1,7 @@
-use Rattle.std.proofs.Common.{◌≡◌, ◌∙◌, ◌++◌, ℕ, List, refl, sym, ap}
+use Rattle.std.proofs.Common.{◌∙◌, ◌++◌, refl, sym, ap}
 use Rattle.ps_model.specs.board.Turns.{Script}
 use Rattle.ps_model.specs.session.StartSteps.{enter}
 use Rattle.ps_rulebook.specs.PlayedGames.{meant_of}
-use Rattle.ps_run.specs.GamesInPlay.{script_on}
 use Rattle.ps_run.proofs.Scripts.{script_is, script_same}
 use Rattle.ps_run.proofs.row_play.RowPlay.start_at.Goals as goal
 
