@@ -40,3 +40,7 @@ check_words text = elim (game text) [ Some read ↦ game_words read | None ↦ r
 -- the line that a check writes
 abbrev pub check_line : List ℕ → List ℕ
 check_line text = check_words text ++ codes "\n"
+
+-- the line on a text that is one of several, by its name
+abbrev pub named_line : List ℕ → List ℕ → List ℕ
+named_line name text = name ++ (codes ": " ++ check_line text)

@@ -6,6 +6,6 @@ mod faults;
 mod finding;
 mod sizes;
 
-pub use checking::check;
+pub use checking::{check, check_named};
 pub use faults::CheckFault;
 pub use ps_devices::ByteWriter;

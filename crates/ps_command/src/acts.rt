@@ -1,11 +1,11 @@
 //! What is done for a command line.
 
-ghost use Rattle.std.specs.Prelude.{◌≡◌, ◌≤◌, false};
+ghost use Rattle.std.specs.Prelude.{◌≡◌, ◌≤◌, false, OnOk};
 
 use crate::command::{Asked, read_command};
 use crate::explanations::explanation;
 use crate::stops::{Stop, stop_for, tell};
-use ps_check::check;
+use ps_check::{check, check_named};
 use ps_devices::{ByteReader, ByteWriter, FromStd};
 use ps_model::TEXT_LIMIT;
 use ps_run::{RunFault, run};
@@ -35,7 +35,7 @@ pub fn run_command_line<
 }
 
 /// Does what the command line asks for: plays a game, checks one, or says what a fault is.
-fn act<R: Env + Files + AllocGlobal + Print, I: ByteReader, O: ByteWriter>(
+fn act<R: Env + Files + AllocGlobal + Print + Eprint, I: ByteReader, O: ByteWriter>(
     rt: &R,
     keys: &mut I,
     screen: &mut O,
@@ -50,6 +50,7 @@ fn act<R: Env + Files + AllocGlobal + Print, I: ByteReader, O: ByteWriter>(
     match read_command(rt.alloc(), &words)? {
         Asked::Explanation(code) => explain(rt, code),
         Asked::Check(path) => check_text(rt, path, screen),
+        Asked::CheckAll(paths) => check_texts(rt, &paths, screen),
         Asked::Play(path) => {
             let text = read_game_file(rt, path).map_err(|error| stop_for(error, Stop::Game))?;
             play(rt, &text, keys, screen)
@@ -101,6 +102,54 @@ fn check_text<R: Files + AllocGlobal, O: ByteWriter>(
     } else {
         Err(Stop::NotAccepted)
     }
+}
+
+/// Says of each of several files on the screen whether its text is a game. It is well where all are.
+fn check_texts<R: Files + AllocGlobal + Eprint, O: ByteWriter>(
+    rt: &R,
+    paths: &[&str],
+    screen: &mut O,
+) -> Result<(), Stop>
+    requires well { (O.state screen.old).has_failed ≡ false }
+{
+    let mut all = true;
+    for path in paths {
+        let accepted = check_one(rt, *path, screen)?;
+        all = all && accepted;
+    }
+    if all { Ok(()) } else { Err(Stop::NotAccepted) }
+}
+
+/// Says of one of several files whether its text is a game, and answers that. A file that can't be read is told of on
+/// standard error, and holds none.
+fn check_one<R: Files + AllocGlobal + Eprint, O: ByteWriter>(
+    rt: &R,
+    path: &str,
+    screen: &mut O,
+) -> Result<bool, Stop>
+    requires well { (O.state screen.old).has_failed ≡ false }
+    ensures well { OnOk result ((O.state screen.new).has_failed ≡ false) }
+{
+    match read_game_file(rt, path) {
+        Ok(text) => {
+            let accepted = check_named(rt.alloc(), path, &text, screen)?;
+            Ok(accepted)
+        }
+        Err(error) => {
+            tell_unread(rt, path, error)?;
+            Ok(false)
+        }
+    }
+}
+
+/// Tells on standard error that one of several files can't be read, unless it can't for want of memory.
+fn tell_unread<R: AllocGlobal + Eprint>(rt: &R, path: &str, error: io::Error) -> Result<(), Stop> {
+    if error.kind() == io::ErrorKind::OutOfMemory {
+        return Err(Stop::Run(RunFault::Memory));
+    }
+    let line = format!(in rt.alloc(); "{path}: cannot read game")?;
+    let _ = rt.eprintln(line);
+    Ok(())
 }
 
 /// Writes what the fault of a code is.

@@ -16,7 +16,7 @@ A fault of the game is told on standard error, as `line 30: RU7 Unbound`; --chec
 on standard output.";
 
 /// What a command line asks for.
-#[derive(Clone, Copy, PartialEq, Eq, Debug)]
+#[derive(Drop)]
 pub enum Asked<'w> {
     /// That the game in this file be played, with keys from standard input.
     Play(&'w str),
@@ -24,6 +24,8 @@ pub enum Asked<'w> {
     PlayFrom(&'w str, &'w str),
     /// Whether the text in this file is a game.
     Check(&'w str),
+    /// Whether the text in each of these files is a game.
+    CheckAll(Vec<&'w str>),
     /// What the fault of this code is.
     Explanation(&'w str),
 }
@@ -35,15 +37,16 @@ pub fn read_command<'w, S: AsStr>(alloc: Global, words: &'w [S]) -> Result<Asked
         .about("Plays a game of PuzzleScript at a terminal")
         .after_help(AFTER_HELP)
         .arg(game_argument(alloc)?)?
+        .arg(further_argument(alloc)?)?
         .arg(check_option(alloc))?
         .arg(keys_option(alloc))?
         .arg(explain_option(alloc)?)?;
     let matches = command.try_get_matches_from(words)?;
-    asked_by(&matches)
+    asked_by(alloc, &matches)
 }
 
 /// What the matches of a command line ask for.
-fn asked_by<'w>(matches: &ArgMatches<'w>) -> Result<Asked<'w>, Stop> {
+fn asked_by<'w>(alloc: Global, matches: &ArgMatches<'w>) -> Result<Asked<'w>, Stop> {
     if let Some(code) = matches.get_str("explain") {
         return Ok(Asked::Explanation(code));
     }
@@ -51,7 +54,10 @@ fn asked_by<'w>(matches: &ArgMatches<'w>) -> Result<Asked<'w>, Stop> {
         return Err(Stop::Game);
     };
     if matches.get_flag("check") {
-        return Ok(Asked::Check(path));
+        return match matches.get_strs("FURTHER") {
+            None => Ok(Asked::Check(path)),
+            Some(further) => Ok(Asked::CheckAll(all_paths(alloc, path, further)?)),
+        };
     }
     match matches.get_str("keys") {
         Some(file) => Ok(Asked::PlayFrom(path, file)),
@@ -67,12 +73,35 @@ fn game_argument(alloc: Global) -> Result<Arg<'static>, AllocError> {
         .required_unless_present("explain")
 }
 
+/// A first path and all further ones.
+fn all_paths<'w>(
+    alloc: Global,
+    first: &'w str,
+    further: &[&'w str],
+) -> Result<Vec<&'w str>, AllocError> {
+    let mut paths = Vec::new(alloc);
+    paths.push(first)?;
+    for path in further {
+        paths.push(*path)?;
+    }
+    Ok(paths)
+}
+
+/// Further texts behind `GAME`, which are checked as well.
+fn further_argument(alloc: Global) -> Result<Arg<'static>, AllocError> {
+    Arg::new(alloc, "FURTHER")
+        .help("With --check, further texts; each is told of in a line that begins with its name")
+        .action(ArgAction::Append)
+        .num_args(1..)
+        .requires_arg("check")
+}
+
 /// `--check`.
 fn check_option(alloc: Global) -> Arg<'static> {
     Arg::new(alloc, "check")
         .long("check")
         .help(
-            "Says whether the text is a game, and how large, or which fault it has; plays nothing",
+            "Says whether each text is a game, and how large, or which fault it has; plays nothing",
         )
         .action(ArgAction::SetTrue)
 }
@@ -93,5 +122,5 @@ fn explain_option(alloc: Global) -> Result<Arg<'static>, AllocError> {
         .value_name("CODE")
         .help("Says in a sentence what the fault of this code is, as RU7")
         .action(ArgAction::Set)
-        .conflicts_with_all(&["GAME", "check", "keys"])
+        .conflicts_with_all(&["GAME", "FURTHER", "check", "keys"])
 }

@@ -175,7 +175,7 @@ const EXPLANATIONS: [(FaultKind, &str); 45] = [
     ),
 ];
 
-/// What the fault of this code is, as `RU7`, in a sentence; nothing, where no fault has the code.
+/// What the fault of this code is, as `RU7`, in capitals or not, in a sentence; nothing, where no fault has the code.
 pub fn explanation(code: &str) -> Option<&'static str> {
     for (kind, sentence) in EXPLANATIONS {
         if has_code(kind, code) {
@@ -185,10 +185,10 @@ pub fn explanation(code: &str) -> Option<&'static str> {
     None
 }
 
-/// Whether a cause of refusal has this code: whether its words begin with the code and a blank.
+/// Whether a cause of refusal has this code: whether its words begin with the code, in capitals or not, and a blank.
 fn has_code(kind: FaultKind, code: &str) -> bool {
     match kind.words().split_once(' ') {
-        Some((own, _name)) => own == code,
+        Some((own, _name)) => own.eq_ignore_ascii_case(code),
         None => false,
     }
 }

@@ -187,6 +187,44 @@ fn tells_the_fault_of_a_file(rt: HostRuntime) {
     }
 }
 
+/// The words of command lines on several files, what is told of them on the screen and on standard error, and the status.
+const MANY_FILES: [(&[&str], &str, &str, u8); 3] = [
+    (
+        &["ps_play", "--check", "a.game", "long.game"],
+        "a.game: ok: objects 9, layers 4, rules 1, levels 1\n\
+        long.game: ok: objects 9, layers 4, rules 1, levels 1\n",
+        "",
+        0,
+    ),
+    (
+        &["ps_play", "a.game", "cut.game", "b.game", "--check"],
+        "a.game: ok: objects 9, layers 4, rules 1, levels 1\n\
+        cut.game: line 11: GM2 NoSection\n\
+        b.game: ok: objects 9, layers 4, rules 1, levels 1\n",
+        "",
+        1,
+    ),
+    (
+        &["ps_play", "--check", "lost.game", "a.game"],
+        "a.game: ok: objects 9, layers 4, rules 1, levels 1\n",
+        "lost.game: cannot read game\n",
+        1,
+    ),
+];
+
+/// Several files are checked one after the other, also behind one that can't be read or holds no game.
+#[test]
+fn checks_many_files(rt: HostRuntime) {
+    for (words, shown, complained, status) in MANY_FILES {
+        let outcome = obey(&rt, words);
+        assert_eq!(rt; outcome.status, status);
+        assert_eq!(rt; outcome.reads, 0);
+        assert_eq!(rt; outcome.screen.bytes(), shown.as_bytes());
+        assert_eq!(rt; outcome.kept.complained.as_str(), complained);
+        assert!(rt; outcome.kept.printed.is_empty());
+    }
+}
+
 /// What is printed for a code, or nothing, where it is told that no fault has it.
 fn explained(rt: &(impl Abort + AllocGlobal), code: &str) -> Option<String> {
     let outcome = obey(rt, &["ps_play", "--explain", code]);
@@ -208,6 +246,7 @@ fn explains_codes_alone(rt: HostRuntime) {
         ("TX1", "The text isn't UTF-8.\n"),
         ("LV4", "LEVELS has no level; messages are none.\n"),
         ("NA11", "Nothing declares `Player`.\n"),
+        ("na11", "Nothing declares `Player`.\n"),
     ] {
         let printed = explained(&rt, code);
         assert_eq!(rt; printed.as_ref().map(|text| text.as_str()), Some(sentence));
@@ -216,7 +255,7 @@ fn explains_codes_alone(rt: HostRuntime) {
         "",
         "RU",
         "RU15",
-        "ru7",
+        "ru",
         "RU7 ",
         "RU7 Unbound",
         "Unbound",

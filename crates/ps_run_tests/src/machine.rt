@@ -18,7 +18,7 @@ const KEYS: &[u8] = b"q";
 
 /// A machine with the words of a command line. Each file whose name ends with `.keys` has the same keys, `cut.game` a
 /// text that ends before its levels, and each other one the game [`PUSHING`], with line feeds before it in `long.game`
-/// and `too-long.game`: so many that it has as many bytes as a text may have, and one more.
+/// and `too-long.game`: so many that it has as many bytes as a text may have, and one more. There is no `lost.game`.
 #[derive(Drop)]
 pub struct Machine<'w> {
     alloc: Global,
@@ -211,6 +211,9 @@ impl Files for Machine<'_> {
     type Dir = OpenedFile;
 
     fn open_file(&self, _how: &OpenOptions, path: &str) -> io::Result<OpenedFile> {
+        if path == "lost.game" {
+            return Err(io::Error::from(ErrorKind::NotFound));
+        }
         let name = String::from_str(self.alloc, path)?;
         self.add(&self.opened, name, "\n")?;
         Ok(file_of(path))

@@ -1,0 +1,6 @@
+use Rattle.std.proofs.Common.{◌≡◌, false}
+use Rattle.ps_command.proofs.acts.check_texts.Given as goal
+
+-- the screen is well
+abbrev pub invariant-loop-path : goal.invariant-loop-path
+invariant-loop-path g l = (g.O.ByteWriter.state l.screen).has_failed ≡ false
