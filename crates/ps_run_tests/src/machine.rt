@@ -31,7 +31,7 @@ pub struct Machine<'w> {
 /// What has happened on a machine.
 #[derive(Drop)]
 pub struct Kept {
-    /// The names of the files that were opened, each in a line.
+    /// The names of the files that were to be opened, each in a line.
     pub opened: String,
     /// What standard output got.
     pub printed: String,
@@ -58,6 +58,12 @@ impl<'w> Machine<'w> {
             printed: self.printed.into_inner(),
             complained: self.complained.into_inner(),
         }
+    }
+
+    /// Keeps the name of a file that is opened.
+    fn keep_opened(&self, path: &str) -> io::Result<()> {
+        let name = String::from_str(self.alloc, path)?;
+        self.add(&self.opened, name, "\n")
     }
 
     /// Writes a value and an end behind what a text has.
@@ -158,7 +164,15 @@ impl Read for OpenedFile {
     }
 }
 
-/// The file of that name.
+/// The file of that name, if there is one.
+fn opened(name: &str) -> io::Result<OpenedFile> {
+    if name == "lost.game" {
+        return Err(io::Error::from(ErrorKind::NotFound));
+    }
+    Ok(file_of(name))
+}
+
+/// What the file of that name has.
 fn file_of(name: &str) -> OpenedFile {
     let room = TEXT_LIMIT.saturating_sub(PUSHING.len());
     let (feeds, rest) = match name {
@@ -211,12 +225,10 @@ impl Files for Machine<'_> {
     type Dir = OpenedFile;
 
     fn open_file(&self, _how: &OpenOptions, path: &str) -> io::Result<OpenedFile> {
-        if path == "lost.game" {
-            return Err(io::Error::from(ErrorKind::NotFound));
+        match self.keep_opened(path) {
+            Ok(()) => opened(path),
+            Err(error) => Err(error),
         }
-        let name = String::from_str(self.alloc, path)?;
-        self.add(&self.opened, name, "\n")?;
-        Ok(file_of(path))
     }
 
     fn open_dir(&self, _path: &str) -> io::Result<OpenedFile> {
