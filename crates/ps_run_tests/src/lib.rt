@@ -1,6 +1,7 @@
 //! Tests of runs and of what stands around them, by public calls: runs with devices, and with memory, of their own,
-//! devices by themselves, checks of texts, and command lines. Games of which a text, keys and an output say all are
-//! played by `ps_cases`. They stand above the crates that they test, since a crate with tests is proved twice.
+//! devices by themselves, checks of texts, and command lines; and of each public call that can be refused memory. Games
+//! of which a text, keys and an output say all are played by `ps_cases`. They stand above the crates that they test,
+//! since a crate with tests is proved twice.
 #![tactic(auto)]
 
 #[cfg(test)]
@@ -21,6 +22,28 @@ mod playable;
 #[cfg(test)]
 mod refusals;
 #[cfg(test)]
+mod refused_boards;
+#[cfg(test)]
+mod refused_calls;
+#[cfg(test)]
+mod refused_frames;
+#[cfg(test)]
 mod refused_keys;
 #[cfg(test)]
+mod refused_outputs;
+#[cfg(test)]
+mod refused_rules;
+#[cfg(test)]
+mod refused_runs;
+#[cfg(test)]
+mod refused_sessions;
+#[cfg(test)]
+mod refused_stages;
+#[cfg(test)]
+mod refused_texts;
+#[cfg(test)]
+mod refused_turns;
+#[cfg(test)]
 mod watched;
+#[cfg(test)]
+mod whole_text;

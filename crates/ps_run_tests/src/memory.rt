@@ -8,7 +8,7 @@ use ps_run::{RunFault, run};
 use std::process::Abort;
 
 /// How many of the texts, from the first on, `written` is made of, if it is made of whole ones.
-fn whole_texts(written: &[u8], texts: &[&str]) -> Option<usize> {
+pub fn whole_texts(written: &[u8], texts: &[&str]) -> Option<usize> {
     let mut rest = written;
     let mut count = 0usize;
     for text in texts {

@@ -23,10 +23,10 @@ const RIGHT: Key = Key::Move(Input::Right);
 const ACTION: Key = Key::Move(Input::Action);
 
 /// A key, what it writes, and what the player may do behind it.
-type Step<'a> = (Key, &'a str, Phase);
+pub type Step<'a> = (Key, &'a str, Phase);
 
 /// Whether bytes are an opening and the texts of these steps, and nothing else.
-fn are_texts(bytes: &[u8], opening: &str, steps: &[Step<'_>]) -> bool {
+pub fn are_texts(bytes: &[u8], opening: &str, steps: &[Step<'_>]) -> bool {
     let Some(mut rest) = bytes.strip_prefix(opening.as_bytes()) else {
         return false;
     };
@@ -40,7 +40,7 @@ fn are_texts(bytes: &[u8], opening: &str, steps: &[Step<'_>]) -> bool {
 }
 
 /// Whether memory is refused now.
-fn is_refused(alloc: Global) -> bool {
+pub fn is_refused(alloc: Global) -> bool {
     Vec::<u8>::with_capacity(alloc, 1).is_err()
 }
 
