@@ -16,7 +16,7 @@ use std::alloc::Global;
 /// Writes a line on a text, ended by a line feed, and answers whether the text is a game. Of a game the line is
 /// `ok: objects N, layers N, rules N, levels N`, with numbers in decimal: rules as they are written, without the starts
 /// and ends of loops, and levels without messages. Of any other text it is that of the first fault, as
-/// `line 30: RU7 Unbound`.
+/// `line 30: RU7 Unbound`. The line is written by one call where the writer takes it whole.
 ///
 /// # Errors
 ///
@@ -30,6 +30,8 @@ pub fn check<W: ByteWriter>(alloc: Global, text: &[u8], writer: &mut W) -> Resul
     ensures called { OnOk result ((W.state writer.old).calls < (W.state writer.new).calls) }
     ensures calls { OnOk result
         ((W.state writer.new).calls ≤ (W.state writer.old).calls + length (check_line text.now)) }
+    ensures few { (W.state writer.new).calls + (W.state writer.old).short_calls
+        ≤ (W.state writer.old).calls + (1 + (W.state writer.new).short_calls) }
     ensures uncalled { result ≡ Err CheckFault.Memory → writer.new ≡ writer.old }
     ensures cut { result ≡ Err CheckFault.Write → IsCutOffLine (W.state writer.old) (W.state writer.new)
         (check_line text.now) }
@@ -62,6 +64,8 @@ pub fn check_named<W: ByteWriter>(
     ensures called { OnOk result ((W.state writer.old).calls < (W.state writer.new).calls) }
     ensures calls { OnOk result
         ((W.state writer.new).calls ≤ (W.state writer.old).calls + length (named_line name.now text.now)) }
+    ensures few { (W.state writer.new).calls + (W.state writer.old).short_calls
+        ≤ (W.state writer.old).calls + (1 + (W.state writer.new).short_calls) }
     ensures uncalled { result ≡ Err CheckFault.Memory → writer.new ≡ writer.old }
     ensures cut { result ≡ Err CheckFault.Write → IsCutOffLine (W.state writer.old) (W.state writer.new)
         (named_line name.now text.now) }

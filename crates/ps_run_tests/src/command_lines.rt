@@ -187,7 +187,8 @@ fn tells_the_fault_of_a_file(rt: HostRuntime) {
     }
 }
 
-/// The words of command lines on several files, what is told of them on the screen and on standard error, and the status.
+/// The words of command lines on several files, what is told of them on the screen and on standard error, and the
+/// status.
 const MANY_FILES: [(&[&str], &str, &str, u8); 3] = [
     (
         &["ps_play", "--check", "a.game", "long.game"],

@@ -21,7 +21,8 @@ RULES\n[ > Player | Crate ] -> [ > Player | > Crate ]\nWINCONDITIONS\nAll Target
 
 /// A text that ends before its levels.
 pub const CUT_SHORT: &[u8] =
-    b"OBJECTS\nBackground .\ngreen\nPlayer P\nwhite\nLEGEND\nCOLLISIONLAYERS\nBackground\nPlayer\nRULES\nWINCONDITIONS\n";
+    b"OBJECTS\nBackground .\ngreen\nPlayer P\nwhite\nLEGEND\nCOLLISIONLAYERS\nBackground\nPlayer\n\
+RULES\nWINCONDITIONS\n";
 
 /// What is written of [`PUSHING`] with the key `d`.
 pub const PUSHED: &str = "= T\n# level 1\n#P*O#\n\n#.P@#\n\n* level 1 done\n* the end\n";

@@ -1,7 +1,7 @@
 //! Tests of values that no output of a game shows, by public calls: boards as a list of slots, on which no game is
 //! played; which rows and columns a board of rows tells; how many passes a movement takes; how many rules are compiled;
-//! which cell of a rule writes alone; and pieces of keys. What a game shows is played by `ps_cases`. They stand above the
-//! crates that they test, since a crate with tests is proved twice.
+//! which cell of a rule writes alone; and pieces of keys. What a game shows is played by `ps_cases`. They stand above
+//! the crates that they test, since a crate with tests is proved twice.
 #![tactic(auto)]
 
 #[cfg(test)]
