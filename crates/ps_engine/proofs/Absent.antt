@@ -71,7 +71,7 @@ module _ {X Y : Type 0} (f : X → List Y) where
 abbrev pub all_cells : List (List CompiledCell) → List CompiledCell
 all_cells parts = flat_map (λ part. part) parts
 
-cells_meaning-all : (table : Option (List ℕ)) (parts : List (List CompiledCell)) →
+pub cells_meaning-all : (table : Option (List ℕ)) (parts : List (List CompiledCell)) →
     cells_meaning table parts ≡ map (cell_meaning table) (all_cells parts)
 cells_meaning-all table [] = refl
 cells_meaning-all table (part ∷ parts) =

@@ -22,3 +22,8 @@ pub mod RowsAsleep
 pub mod Forgetting
 pub mod RoomsForgetting
 pub mod ComingBack
+pub mod Unchanged
+pub mod Idle
+pub mod Stirred
+pub mod TopicsKept
+pub mod Waking

@@ -50,7 +50,7 @@ fits_within h a n fits = by (slice_get h.cells n) refl fits where
 
 -- a cell put where it stands
 
-put_again : (r : Rewritten) (n : ℕ) (cell : List Slot) → slice_get (r.grid).cells n ≡ Some cell →
+pub put_again : (r : Rewritten) (n : ℕ) (cell : List Slot) → slice_get (r.grid).cells n ≡ Some cell →
     with_cell r n cell cell ≡ r
 put_again r n cell is =
     let cells : List (List Slot) = (r.grid).cells in

@@ -5,3 +5,6 @@ pub mod OneCell
 pub mod Rooms
 pub mod Writing
 pub mod Watching
+pub mod TopicsAsked
+pub mod Watched
+pub mod Waking

@@ -86,6 +86,15 @@ fn choose_first<'r, B: Scan>(board: &B, rule: &CompiledRule<'r>, rooms: &mut [Ro
     true
 }
 
+/// Whether a rule is known to have no combination. No memory is taken.
+pub fn is_idle<'r, B: Scan>(board: &B, rule: &CompiledRule<'r>, rooms: &mut [RoomFor<B>]) -> bool
+    requires { length rule.now.rows ≤ length rooms.old }
+    ensures idle { result ≡ true → combinations_on (B.grid board.now) (rule_meaning (B.table board.now) rule.now) ≡ [] }
+    ensures long { length rooms.new ≡ length rooms.old }
+{
+    lacks_needed(board, rule) || !choose_first(board, rule, rooms)
+}
+
 /// An attempt of a rule that rewrites cells, its combinations walked one after the other: each is applied if every row
 /// still fits, and the rule's commands enter the queue, if it has one. Answers whether a cell changed. No memory is
 /// taken.

@@ -10,8 +10,10 @@ mod one_part;
 mod programs;
 mod rooms;
 mod rounds;
+mod topics_asked;
 mod walking;
 mod watch;
+mod watched;
 mod watching;
 mod writing;
 
@@ -21,3 +23,4 @@ pub use ps_match::{ListBoard, Scan};
 pub use ps_places::RoomFor;
 pub use rooms::rooms_for;
 pub use watch::KeptBoards;
+pub use watched::WatchedProgram;

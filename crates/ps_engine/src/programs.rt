@@ -1,6 +1,6 @@
 //! Runs of programs.
 
-ghost use Rattle.std.specs.Prelude.{◌≡◌, IfOk, OnOk, length};
+ghost use Rattle.std.specs.Prelude.{◌≡◌, ◌<◌, ℕ, IfOk, List, OnOk, Option, Some, false, length, slice_get, true};
 ghost use Rattle.ps_model.specs.board.Attempts.{State};
 ghost use Rattle.ps_model.specs.board.Programs.{Progress, looped, program_run, section_run, sections_run};
 ghost use Rattle.ps_model.specs.meaning.Compiled.{meaning_of_program};
@@ -9,21 +9,27 @@ ghost use Rattle.ps_engine.specs.RulesInRoom.{groups_meaning, section_meaning, s
 ghost use Rattle.ps_engine.specs.Rooms.{GroupsHaveRooms, SectionHasRooms, SectionsHaveRooms};
 ghost use Rattle.ps_board.specs.Runnable.{IsRunnable};
 ghost use Rattle.ps_match.specs.InRoom.{sides_of};
+ghost use Rattle.ps_model.specs.board.Grid.{Grid};
+ghost use Rattle.ps_engine.specs.Waking.{IsSameBut};
+ghost use Rattle.ps_program.specs.declared.program.CompiledSection.{CompiledSection};
 
 use crate::lent_queue::LentQueue;
 use crate::rounds::{pass, play_group};
 use crate::watch::{KeptBoards, Watch};
-use ps_match::Scan;
+use crate::watched::WatchedProgram;
+use ps_match::{Columns, Scan, Topics, recall_shape};
 use ps_model::{Memory, REPEAT_LIMIT};
 use ps_places::RoomFor;
 use ps_program::{CompiledRule, CompiledSection};
 use ps_text::List;
 
-/// How far a run has come: the repeats that are left for its loops, and whether one more was due than there were.
+/// How far a run has come: the repeats that are left for its loops, whether one more was due than there were, and whether
+/// the last section may have changed the board.
 #[derive(Clone, Copy)]
 struct Left {
     repeats: u32,
     stopped: bool,
+    changed: bool,
 }
 
 /// A loop with so many repeats left: a pass, and a repeat while the last pass changed something, without whole periods
@@ -45,6 +51,7 @@ fn play_loop<'r, B: Scan>(
         let after : State = record { grid = B.grid board.new; queue = queue.new } in
         let all = looped (groups_meaning (B.table board.old) groups.now) repeats before in
         IfOk result (λ left. record { state = after; repeats = left.repeats; stopped = left.stopped } ≡ all) }
+    ensures changed { IfOk result (λ left. left.changed ≡ true) }
     ensures table { B.table board.new ≡ B.table board.old }
     ensures sides { sides_of (B.grid board.new) ≡ sides_of (B.grid board.old) }
     ensures rooms { length rooms.new ≡ length rooms.old }
@@ -57,12 +64,14 @@ fn play_loop<'r, B: Scan>(
             return Ok(Left {
                 repeats: left,
                 stopped: false,
+                changed: true,
             });
         }
         if left == 0 {
             return Ok(Left {
                 repeats: 0,
                 stopped: true,
+                changed: true,
             });
         }
         left = watch.step(left - 1, board, queue, &mut kept.of_passes)?;
@@ -87,16 +96,18 @@ fn play_section<'r, B: Scan>(
         let after : State = record { grid = B.grid board.new; queue = queue.new } in
         let all = section_run (section_meaning (B.table board.old) section.now) repeats before in
         IfOk result (λ left. record { state = after; repeats = left.repeats; stopped = left.stopped } ≡ all) }
+    ensures unchanged { IfOk result (λ left. left.changed ≡ false → B.grid board.new ≡ B.grid board.old) }
     ensures table { B.table board.new ≡ B.table board.old }
     ensures sides { sides_of (B.grid board.new) ≡ sides_of (B.grid board.old) }
     ensures rooms { length rooms.new ≡ length rooms.old }
 {
     match section {
         CompiledSection::Group(rules) => {
-            let _changed = play_group(rules.as_slice(), board, queue, rooms, &mut kept.of_rounds)?;
+            let changed = play_group(rules.as_slice(), board, queue, rooms, &mut kept.of_rounds)?;
             Ok(Left {
                 repeats,
                 stopped: false,
+                changed,
             })
         }
         CompiledSection::Loop(groups) => {
@@ -137,6 +148,118 @@ fn play_sections<'r, B: Scan>(
     Ok(())
 }
 
+/// A section of a program with so many repeats left, unless it is known to be a group that has no place. The board differs
+/// from what is kept in these topics alone.
+///
+/// # Errors
+///
+/// `Memory`, as for a section.
+fn play_next<'r, 's: 'r, B: Scan>(
+    program: &mut WatchedProgram<'_, 's, B>,
+    number: usize,
+    stirred: Topics,
+    repeats: u32,
+    board: &mut B,
+    queue: &mut LentQueue<'r>,
+    rooms: &mut [RoomFor<B>],
+    kept: &mut KeptBoards<B>,
+) -> Result<Left, Memory>
+    requires number { number < length program.old.sections }
+    requires rooms { SectionsHaveRooms (length rooms.old) program.old.sections }
+    requires same { (g : Grid) (table : Option (List ℕ)) → program.old.kept ≡ Some (g, table) →
+        IsSameBut stirred (B.grid board.old) (B.table board.old) g table }
+    ensures section { (section : CompiledSection) → slice_get program.old.sections number ≡ Some section →
+        let before : State = record { grid = B.grid board.old; queue = queue.old } in
+        let after : State = record { grid = B.grid board.new; queue = queue.new } in
+        let all = section_run (section_meaning (B.table board.old) section) repeats before in
+        IfOk result (λ left. record { state = after; repeats = left.repeats; stopped = left.stopped } ≡ all) }
+    ensures unchanged { IfOk result (λ left. left.changed ≡ false → B.grid board.new ≡ B.grid board.old) }
+    ensures table { B.table board.new ≡ B.table board.old }
+    ensures sides { sides_of (B.grid board.new) ≡ sides_of (B.grid board.old) }
+    ensures rooms { length rooms.new ≡ length rooms.old }
+    ensures program { program.new ≡ program.old }
+{
+    if program.passes(number, stirred, board, rooms) {
+        return Ok(Left {
+            repeats,
+            stopped: false,
+            changed: false,
+        });
+    }
+    let sections: &[CompiledSection<'r>] = program.sections();
+    play_section(&sections[number], repeats, board, queue, rooms, kept)
+}
+
+/// The sections of a program in order, as `play_sections`, but for groups that are known to have no place. What the board
+/// shows is kept.
+///
+/// # Errors
+///
+/// `Memory`, as for a section; those before it have been played.
+fn play_watched<'r, 's: 'r, B: Scan>(
+    program: &mut WatchedProgram<'_, 's, B>,
+    board: &mut B,
+    queue: &mut LentQueue<'r>,
+    rooms: &mut [RoomFor<B>],
+    kept: &mut KeptBoards<B>,
+) -> Result<(), Memory>
+    requires rooms { SectionsHaveRooms (length rooms.old) program.old.sections }
+    requires kept { program.old.kept ≡ Some (B.grid board.old, B.table board.old) }
+    ensures run { let before : State = record { grid = B.grid board.old; queue = queue.old } in
+        let after : State = record { grid = B.grid board.new; queue = queue.new } in
+        let sections = program.old.sections in
+        OnOk result (after ≡ program_run (sections_meaning (B.table board.old) sections) before) }
+    ensures table { B.table board.new ≡ B.table board.old }
+    ensures sides { sides_of (B.grid board.new) ≡ sides_of (B.grid board.old) }
+    ensures rooms { length rooms.new ≡ length rooms.old }
+    ensures program { program.new ≡ program.old }
+{
+    recall_shape(board);
+    let mut repeats = REPEAT_LIMIT;
+    let mut stirred: Topics = Columns::none();
+    for number in 0..program.sections().len() {
+        let left = play_next(program, number, stirred, repeats, board, queue, rooms, kept)?;
+        if left.stopped {
+            return Ok(());
+        }
+        repeats = left.repeats;
+        if left.changed {
+            stirred = program.stirred_on(board);
+        }
+    }
+    Ok(())
+}
+
+/// The sections of a program in order, under a watch where that pays.
+///
+/// # Errors
+///
+/// `Memory`, as for a section, or where the program begins to be watched.
+fn play_program<'r, 's: 'r, B: Scan>(
+    program: &mut WatchedProgram<'_, 's, B>,
+    board: &mut B,
+    queue: &mut LentQueue<'r>,
+    rooms: &mut [RoomFor<B>],
+    kept: &mut KeptBoards<B>,
+) -> Result<(), Memory>
+    requires { SectionsHaveRooms (length rooms.old) program.old.sections }
+    ensures run { let before : State = record { grid = B.grid board.old; queue = queue.old } in
+        let after : State = record { grid = B.grid board.new; queue = queue.new } in
+        let sections = program.old.sections in
+        OnOk result (after ≡ program_run (sections_meaning (B.table board.old) sections) before) }
+    ensures table { B.table board.new ≡ B.table board.old }
+    ensures sides { sides_of (B.grid board.new) ≡ sides_of (B.grid board.old) }
+    ensures rooms { length rooms.new ≡ length rooms.old }
+    ensures sections { program.new.sections ≡ program.old.sections }
+{
+    let watches = program.begin(board)?;
+    if watches {
+        return play_watched(program, board, queue, rooms, kept);
+    }
+    let sections: &[CompiledSection<'r>] = program.sections();
+    play_sections(sections, board, queue, rooms, kept)
+}
+
 /// A run of a program: its sections in order, until a loop would need one more repeat than are allowed for all loops
 /// together. There is a room for each row of a rule.
 ///
@@ -145,26 +268,29 @@ fn play_sections<'r, B: Scan>(
 ///
 /// # Errors
 ///
-/// `Memory`, where a group makes many rounds, or a loop many passes, and no board alike has been kept before. A part of
-/// the program may have been run.
-pub fn run_program<'r, B: Scan>(
-    sections: &[CompiledSection<'r>],
+/// `Memory`, where a group makes many rounds, or a loop many passes, and no board alike has been kept before, or where
+/// the program begins to be watched. A part of the program may have been run.
+pub fn run_program<'r, 's: 'r, B: Scan>(
+    program: &mut WatchedProgram<'_, 's, B>,
     board: &mut B,
     queue: &mut LentQueue<'r>,
     rooms: &mut [RoomFor<B>],
     kept: &mut KeptBoards<B>,
 ) -> Result<(), Memory>
-    requires { SectionsHaveRooms (length rooms.old) sections.now }
+    requires { SectionsHaveRooms (length rooms.old) program.old.sections }
     ensures run { let before : State = record { grid = B.grid board.old; queue = queue.old } in
         let after : State = record { grid = B.grid board.new; queue = queue.new } in
-        OnOk result (after ≡ program_run (sections_meaning (B.table board.old) sections.now) before) }
+        let sections = program.old.sections in
+        OnOk result (after ≡ program_run (sections_meaning (B.table board.old) sections) before) }
     ensures exact { let before : State = record { grid = B.grid board.old; queue = queue.old } in
         let after : State = record { grid = B.grid board.new; queue = queue.new } in
-        IsRunnable (B.table board.old) (sections_shown sections.now)
-        → OnOk result (after ≡ program_run (meaning_of_program (sections_shown sections.now)) before) }
+        let sections = sections_shown program.old.sections in
+        IsRunnable (B.table board.old) sections
+        → OnOk result (after ≡ program_run (meaning_of_program sections) before) }
     ensures table { B.table board.new ≡ B.table board.old }
     ensures sides { sides_of (B.grid board.new) ≡ sides_of (B.grid board.old) }
     ensures rooms { length rooms.new ≡ length rooms.old }
+    ensures sections { program.new.sections ≡ program.old.sections }
 {
-    play_sections(sections, board, queue, rooms, kept)
+    play_program(program, board, queue, rooms, kept)
 }

@@ -1,6 +1,5 @@
 -- All rows of a board, as a set of their numbers.
-use Rattle.std.proofs.Common.{◌≡◌, ℕ, ◌<◌, Bool, List, arith}
-use Rattle.ps_model.specs.declared.limits.TheConstants.{SIDE_LIMIT}
+use Rattle.std.proofs.Common.{◌≡◌, ℕ, Bool, List, arith}
 use Rattle.ps_model.specs.declared.compiled.LayeredObject.{LayeredObject}
 use Rattle.ps_model.specs.declared.compiled.MotionTest.{MotionTest}
 use Rattle.ps_model.specs.board.Grid.{Grid, IsGrid}

@@ -1,7 +1,7 @@
 -- A layer that a write has nothing for stays as it is.
-use Rattle.std.proofs.Common.{◌≡◌, ◌∙◌, ℕ, Bool, false, ◌||◌, ◌&&◌, not, Option, None, List, [], ◌∷◌, refl, sym, ap}
+use Rattle.std.proofs.Common.{◌≡◌, ◌∙◌, ℕ, Bool, false, ◌||◌, ◌&&◌, not, Option, None, List, [], ◌∷◌, refl, ap}
 use Rattle.std.proofs.Common.{ap₂}
-use Rattle.std.specs.Prelude.{nat_eq, find, slice_set}
+use Rattle.std.specs.Prelude.{nat_eq, slice_set}
 use Rattle.std.specs.List.{list_any}
 use Rattle.std.proofs.lemmas.Bool.{or_parts}
 use Rattle.std.proofs.lemmas.List.{set-get_or}

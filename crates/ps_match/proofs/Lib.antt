@@ -6,3 +6,4 @@ pub mod RowWritten
 pub mod LeftAlone
 pub mod AllRows
 pub mod RowsAhead
+pub mod TopicSets

@@ -1,10 +1,9 @@
 -- The writes of a layer whose objects have room there.
-use Rattle.std.proofs.Common.{◌≡◌, ℕ, Bool, true, false, ◌&&◌, ◌⊎◌, inl, inr, Option, Some, None, List, [], ◌∷◌, refl}
+use Rattle.std.proofs.Common.{◌≡◌, ℕ, Bool, true, ◌&&◌, inl, inr, Option, Some, None, List, [], ◌∷◌, refl}
 use Rattle.std.proofs.Common.{sym, ap, subst, ◌∙◌, filter}
 use Rattle.std.specs.Prelude.{nat_eq, find}
 use Rattle.std.proofs.lemmas.Bool.{cases_Bool, and_parts, eqb-true}
 use Rattle.std.proofs.lemmas.Option.{none-some, same_Some}
-use Rattle.ps_model.specs.declared.pieces.ObjectId.{ObjectId}
 use Rattle.ps_model.specs.declared.pieces.Motion.{Motion}
 use Rattle.ps_model.specs.declared.pieces.Slot.{Slot}
 use Rattle.ps_model.specs.declared.pieces.Slot.TheVariants.{Bare, Holds}
@@ -12,7 +11,7 @@ use Rattle.ps_model.specs.declared.compiled.LayeredObject.{LayeredObject}
 use Rattle.ps_model.specs.declared.compiled.LayerWrite.{LayerWrite}
 use Rattle.ps_model.specs.declared.compiled.ObjectWrite.{ObjectWrite}
 use Rattle.ps_model.specs.declared.compiled.ObjectWrite.TheVariants.{Put, Leave, Clear}
-use Rattle.ps_model.specs.meaning.Compiled.{CellWrite, is_gone, object_written, slot_freed, slot_written, write_on}
+use Rattle.ps_model.specs.meaning.Compiled.{CellWrite, is_gone, object_written, slot_freed, slot_written}
 use Rattle.ps_board.specs.Rooms.{HasRoom}
 use Rattle.ps_board.specs.Runnable.{has_room_for, object_has_room}
 use Rattle.ps_match.specs.InRoom.{SlotHasRoom, is_own_write, own_write, slot_after, write_in_room}

@@ -2,3 +2,4 @@ pub mod InRoom
 pub mod Together
 pub mod Touches
 pub mod Nowhere
+pub mod Topics

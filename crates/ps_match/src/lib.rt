@@ -12,6 +12,7 @@ mod rooms;
 mod scan;
 mod scanning;
 mod slots;
+mod topics;
 mod writing;
 
 pub use ps_board::{Board, ColumnWords, Columns, ListBoard, recall_shape};
@@ -20,4 +21,5 @@ pub use rewriting_ahead::rewrite_ahead;
 pub use rooms::Rooms;
 pub use scan::Scan;
 pub use slots::own_write;
+pub use topics::{Topics, motion_topic, object_topic, with_topic};
 pub use writing::{touches, write_cell};

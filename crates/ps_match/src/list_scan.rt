@@ -4,6 +4,7 @@ use crate::fitting::fits_cell;
 use crate::rewriting::rewrite_row;
 use crate::scan::Scan;
 use crate::scanning::scan_row;
+use crate::topics::Topics;
 use crate::writing::write_cell;
 use ps_board::{Board, Columns, ListBoard, ManyWords, WORDS_LIMIT};
 use ps_model::{LayeredObject, MotionTest};
@@ -37,6 +38,11 @@ impl Scan for ListBoard {
     fn rows_moving(&self, _test: &MotionTest) -> Columns<ManyWords<WORDS_LIMIT>> {
         let (_width, height) = self.size();
         Columns::below(height)
+    }
+
+    /// All topics: to know which, this board would have to look at each cell.
+    fn topics_differing(&self, _other: &ListBoard) -> Topics {
+        Columns::all()
     }
 
     fn write(&mut self, write: &CellWrite, cell: u32, changed: bool) -> bool {

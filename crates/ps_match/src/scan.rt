@@ -9,7 +9,9 @@ ghost use Rattle.ps_model.specs.meaning.Compiled.{cell_written};
 ghost use Rattle.ps_match.specs.InRoom.{meaning_of_mask, meaning_of_write, sides_of, write_in_room};
 ghost use Rattle.ps_match.specs.Together.{is_on_row, rewritten_where};
 ghost use Rattle.ps_match.specs.Nowhere.{HasMovesIn, HasRowsIn, IsNowhere};
+ghost use Rattle.ps_match.specs.Topics.{DifferOnlyAbout};
 
+use crate::topics::Topics;
 use ps_board::{Board, Columns};
 use ps_model::{LayeredObject, MotionTest};
 use ps_program::{CellMask, CellWrite};
@@ -41,6 +43,16 @@ pub trait Scan: Board {
     /// be more of them than have it, and all of them, as a board needn't look for it.
     fn rows_moving(&self, test: &MotionTest) -> Columns<Self::Words>
         ensures { HasMovesIn (Self.grid self.now) test.now result };
+
+    /// Topics, as a set of their numbers, outside of which another board of the same size, with as many layers and the
+    /// same room, has the same objects and motions in each cell. There may be more of them, and all of them, as a board
+    /// needn't look for it.
+    fn topics_differing(&self, other: &Self) -> Topics
+        requires width { (Self.grid other.now).width ≡ (Self.grid self.now).width }
+        requires height { (Self.grid other.now).height ≡ (Self.grid self.now).height }
+        requires layers { (Self.grid other.now).layers ≡ (Self.grid self.now).layers }
+        requires table { Self.table other.now ≡ Self.table self.now }
+        ensures { DifferOnlyAbout result (Self.grid self.now) (Self.grid other.now) };
 
     /// Writes a cell, and answers whether it changed, or something had `changed` before. Beyond the board nothing is
     /// written, and an object that has no room on a layer isn't put there.

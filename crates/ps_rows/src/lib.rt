@@ -16,6 +16,7 @@ mod row_history;
 mod row_scan;
 mod sameness;
 mod scanning;
+mod topics;
 
 pub use ps_board::{Board, History};
 pub use ps_match::{Columns, Rooms, Scan};

@@ -5,12 +5,12 @@ ghost use Rattle.std.specs.Prelude.{false, length, nat_eq, nat_lt, true};
 ghost use Rattle.std.specs.Prelude.{option_map, slice_get, vec_len};
 ghost use Rattle.ps_model.specs.board.Movement.{is_number};
 ghost use Rattle.ps_model.specs.declared.limits.TheConstants.{LAYER_LIMIT, SIDE_LIMIT};
-ghost use Rattle.ps_board.specs.ColumnSets.{columns_below};
+ghost use Rattle.ps_board.specs.ColumnSets.{columns_below, no_columns};
 ghost use Rattle.ps_rows.specs.Planes.{HavePlanes, row_of};
 ghost use Rattle.ps_program.specs.ProgramShown.{write_shown};
 ghost use Rattle.ps_rows.specs.RowDifferences.{rows_changed};
 ghost use Rattle.ps_rows.specs.RowTests.{IsRowOf, IsWithin};
-ghost use Rattle.ps_rows.specs.Sameness.{IsSameLayer};
+ghost use Rattle.ps_rows.specs.Sameness.{DifferOnlyOnRows, IsSameLayer};
 ghost use Rattle.ps_rows.specs.Showing.{AreMotionsShown, AreObjectsShown, cleared_from, grid_shown};
 ghost use Rattle.ps_rows.specs.Showing.{motions_from, numbered, object_shown, with_slot_in};
 ghost use Rattle.ps_rows.specs.SlotsWritten.{AreSlotsLeft, AreSlotsWritten, in_columns};
@@ -138,6 +138,25 @@ impl<W: ColumnWords> RowBoard<W> {
             result ≡ (nat_lt layer self.now.layers && own) }
     {
         layer < self.layers && self.members.is_on(object, layer)
+    }
+
+    /// The number of objects.
+    pub(crate) fn objects(&self) -> u32
+        ensures { result ≡ length self.now.members.table.items }
+    {
+        self.members.count()
+    }
+
+    /// Whether a plane has the same rows on another board.
+    pub(crate) fn has_same_plane(&self, other: &RowBoard<W>, plane: u32) -> bool
+        requires height { other.now.planes.height ≡ self.now.planes.height }
+        requires layers { other.now.layers ≡ self.now.layers }
+        requires table { other.now.members.table.items ≡ self.now.members.table.items }
+        requires plane { plane < motions_from self.now.members.table.items self.now.layers }
+        ensures { let p = self.now.planes in result ≡ true →
+            DifferOnlyOnRows p.height plane p.words.items other.now.planes.words.items no_columns }
+    {
+        self.planes.has_same_plane(&other.planes, plane)
     }
 
     /// Where an object stands on a layer.

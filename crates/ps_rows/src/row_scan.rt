@@ -3,7 +3,7 @@
 use crate::motions::motion_plane;
 use crate::row_board::RowBoard;
 use ps_board::{Board, ColumnWords};
-use ps_match::{Columns, Rooms, Scan};
+use ps_match::{Columns, Rooms, Scan, Topics};
 use ps_model::{LayerId, LayeredObject, MotionTest, ObjectId};
 use ps_program::{CellMask, CellWrite};
 
@@ -52,6 +52,12 @@ impl<W: ColumnWords> Scan for RowBoard<W> {
             Some(plane) => self.rows_of(plane),
             None => Columns::below(height),
         }
+    }
+
+    /// Those of the planes that aren't the same, looked at by the index first.
+    fn topics_differing(&self, other: &RowBoard<W>) -> Topics {
+        let objects = self.differing_objects(other);
+        objects.either(self.differing_motions(other))
     }
 
     /// A cell is a row of which one column is written.

@@ -3,7 +3,7 @@
 ghost use Rattle.std.specs.Prelude.{◌≡◌, IfOk};
 
 use crate::queues::{lent, owned};
-use ps_engine::{KeptBoards, RoomFor, Scan, rooms_for, run_program};
+use ps_engine::{KeptBoards, RoomFor, Scan, WatchedProgram, rooms_for, run_program};
 use ps_model::Memory;
 use ps_program::CompiledSection;
 use ps_turn::{Queue, Rules};
@@ -11,13 +11,14 @@ use std::alloc::Global;
 use std::marker::Model;
 
 /// The rules of one part of a turn: the sections of a compiled program, lent, and what their runs need besides the
-/// board. It is made once, so that a run takes no memory but for a message, and, where a group makes many rounds for
-/// the first time, or a loop many passes, for a board that is kept.
+/// board. It is made once, so that a run takes no memory but for a message, and for boards that are kept: where a group
+/// makes many rounds for the first time, or a loop many passes, and where a program of many groups is run for the first
+/// time on boards of a size.
 #[derive(Drop)]
 pub struct GameRules<'p, 'r, B: Scan> {
     /// Where the message of a run takes memory from.
     alloc: Global,
-    sections: &'p [CompiledSection<'r>],
+    program: WatchedProgram<'p, 'r, B>,
     /// Room for the rows of a rule.
     rooms: Vec<RoomFor<B>>,
     /// For rounds and passes that come back.
@@ -31,9 +32,9 @@ impl<'p, 'r, B: Scan> Model for GameRules<'p, 'r, B> {
 
     ghost Value = { List CompiledSection };
 
-    ghost view = { λ r. r.sections.now };
+    ghost view = { λ r. r.program.sections };
 
-    ghost invariant = { λ r. SectionsHaveRooms (vec_len r.rooms) r.sections.now };
+    ghost invariant = { λ r. SectionsHaveRooms (vec_len r.rooms) r.program.sections };
 }
 
 impl<'p, 'r, B: Scan> GameRules<'p, 'r, B> {
@@ -45,9 +46,10 @@ impl<'p, 'r, B: Scan> GameRules<'p, 'r, B> {
         ensures { IfOk result (λ rules. rules ≡ sections.entry.now) }
     {
         let rooms = rooms_for(alloc, sections)?;
+        let program = WatchedProgram::try_new(alloc, sections)?;
         Ok(GameRules {
             alloc,
-            sections,
+            program,
             rooms,
             kept: KeptBoards::new(alloc),
         })
@@ -63,7 +65,7 @@ impl<'p, 'r, B: Scan> Rules<B> for GameRules<'p, 'r, B> {
         let after = {
             let mut during = lent(queue);
             let rooms = self.rooms.as_mut_slice();
-            run_program(self.sections, board, &mut during, rooms, &mut self.kept)?;
+            run_program(&mut self.program, board, &mut during, rooms, &mut self.kept)?;
             owned(self.alloc, during)?
         };
         *queue = after;

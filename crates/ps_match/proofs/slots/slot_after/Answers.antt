@@ -1,5 +1,4 @@
 use Rattle.std.proofs.Common.{◌≡◌, ℕ, ◌∙◌, Option, Some, None, List, sym, ap}
-use Rattle.ps_model.specs.declared.pieces.Slot.{Slot}
 use Rattle.ps_model.specs.declared.compiled.LayeredObject.{LayeredObject}
 use Rattle.ps_model.specs.declared.compiled.LayerWrite.{LayerWrite}
 use Rattle.ps_model.specs.meaning.Compiled.{CellWrite, object_written, slot_freed, slot_written}

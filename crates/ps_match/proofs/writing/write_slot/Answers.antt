@@ -1,10 +1,9 @@
-use Rattle.std.proofs.Common.{◌≡◌, ◌∙◌, ℕ, ◌||◌, Bool, false, not, Option, List, sym, ap, rules}
+use Rattle.std.proofs.Common.{◌≡◌, ◌∙◌, ℕ, ◌||◌, false, not, Option, List, sym, ap, rules}
 use Rattle.ps_model.specs.declared.pieces.Slot.{Slot}
 use Rattle.ps_model.specs.board.Grid.{Grid, slot_at, with_slot}
 use Rattle.ps_model.specs.board.Attempts.{same_slot}
 use Rattle.ps_model.specs.meaning.Compiled.{CellWrite}
 use Rattle.ps_program.specs.ProgramShown.{write_shown}
-use Rattle.ps_match.specs.InRoom.{slot_after, write_in_room}
 use Rattle.ps_match.specs.Touches.{touches}
 use Rattle.ps_match.proofs.OwnWrites.{room_after}
 use Rattle.ps_match.proofs.LeftAlone.{no_change, same_grid, untouched}

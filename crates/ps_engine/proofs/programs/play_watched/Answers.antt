@@ -1,0 +1,93 @@
+use Rattle.std.proofs.Common.{◌≡◌, ◌∙◌, ℕ, ◌+◌, ◌<◌, Bool, true, false, Option, Some, List, length, refl, sym, ap, ap₂, subst, arith}
+use Rattle.std.specs.Prelude.{slice_get}
+use Rattle.std.proofs.lemmas.Option.{get_or_from_slice_get}
+use Rattle.ps_model.specs.declared.limits.TheConstants.{REPEAT_LIMIT}
+use Rattle.ps_model.specs.board.Grid.{Grid}
+use Rattle.ps_model.specs.board.Attempts.{State}
+use Rattle.ps_model.specs.board.Programs.{Progress, section_run}
+use Rattle.ps_program.specs.declared.program.CompiledSection.{CompiledSection}
+use Rattle.ps_match.specs.Topics.{DifferOnlyAbout}
+use Rattle.ps_engine.specs.RulesInRoom.{section_meaning, sections_meaning}
+use Rattle.ps_engine.specs.Watched.{Watching}
+use Rattle.ps_engine.proofs.Sequences.{program_is, sections_on, sections_stop}
+use Rattle.ps_engine.proofs.Stirred.{differ_none}
+use Rattle.ps_engine.proofs.Waking.{found_at}
+use Rattle.ps_engine.proofs.programs.play_watched.Goals as goal
+use Rattle.ps_engine.proofs.programs.play_watched.Goals.{then-left-2, else-left-2}
+
+pub loop-number-init : goal.loop-number-init
+loop-number-init g c =
+    record {
+      run = program_is (sections_meaning (g.B.Board.table c.args.board.now) c.args.program.now.sections) REPEAT_LIMIT
+          (record { grid = g.B.Board.grid c.args.board.now; queue = c.args.queue.now }) refl;
+      table = refl;
+      sides = refl;
+      differ = differ_none c.none-stirred.result (g.B.Board.grid c.args.board.now) (g.B.Board.grid c.args.board.now)
+          refl;
+      program = refl;
+    }
+
+pub returns-then-left-clause-run : goal.returns-then-left-clause-run
+returns-then-left-clause-run g c =
+    let table = g.B.Board.table c.args.board.now in
+    let sections : List CompiledSection = c.args.program.now.sections in
+    let n : ℕ = c.loop-number.number in
+    let low : n < length sections = omega (arith, c.loop-number-test.true, ap length c.sections-number-end.ensures) in
+    let at = found_at sections n low in
+    let now : State = record { grid = g.B.Board.grid c.loop-number.board; queue = c.loop-number.queue } in
+    let next : State = record { grid = g.B.Board.grid c.play_next.new.board; queue = c.play_next.new.queue } in
+    let left = c.in_ok-left.left in
+    let stop : left.stopped ≡ true = c.if-left.true in
+    let made : (let p : Progress = record { state = next; repeats = left.repeats; stopped = true } in p) ≡ section_run
+    (section_meaning table at.0) c.loop-number.repeats now =
+    ap (λ (b : Bool). let p : Progress = record { state = next; repeats = left.repeats; stopped = b } in p) (sym stop)
+    ∙ c.in_ok-left.ensures.section at.0 (ap (λ (w : Watching). slice_get w.sections n) c.loop-number.invariant.program
+    ∙ at.1)
+    ∙ ap (λ (t : Option (List ℕ)). section_run (section_meaning t at.0) c.loop-number.repeats now)
+    c.loop-number.invariant.table in
+    sections_stop (section_meaning table) sections n at.0 c.loop-number.repeats left.repeats now next low
+    (sym (get_or_from_slice_get sections n at.0 at.0 at.1)) made ∙ c.loop-number.invariant.run
+
+pub loop-number-preserved : goal.loop-number-preserved
+loop-number-preserved g c =
+    let table = g.B.Board.table c.args.board.now in
+    let start : Grid = g.B.Board.grid c.args.board.now in
+    let sections : List CompiledSection = c.args.program.now.sections in
+    let n : ℕ = c.loop-number.number in
+    let low : n < length sections = omega (arith, c.loop-number-test.true, ap length c.sections-number-end.ensures) in
+    let at = found_at sections n low in
+    let now : State = record { grid = g.B.Board.grid c.loop-number.board; queue = c.loop-number.queue } in
+    let next : State = record { grid = g.B.Board.grid c.play_next.new.board; queue = c.play_next.new.queue } in
+    let left = c.in_ok-left.left in
+    let on : left.stopped ≡ false = c.if-left.false in
+    let made : (let p : Progress = record { state = next; repeats = left.repeats; stopped = false } in p) ≡ section_run
+    (section_meaning table at.0) c.loop-number.repeats now =
+    ap (λ (b : Bool). let p : Progress = record { state = next; repeats = left.repeats; stopped = b } in p) (sym on)
+    ∙ c.in_ok-left.ensures.section at.0 (ap (λ (w : Watching). slice_get w.sections n) c.loop-number.invariant.program
+    ∙ at.1)
+    ∙ ap (λ (t : Option (List ℕ)). section_run (section_meaning t at.0) c.loop-number.repeats now)
+    c.loop-number.invariant.table in
+    let program : c.play_next.new.program ≡ c.args.program.now =
+    c.in_ok-left.ensures.program ∙ c.loop-number.invariant.program in
+    let tables : g.B.Board.table c.play_next.new.board ≡ table = c.in_ok-left.ensures.table
+    ∙ c.loop-number.invariant.table in
+    let sides = c.in_ok-left.ensures.sides ∙ c.loop-number.invariant.sides in
+    record {
+      run = sections_on (section_meaning table) sections n at.0 c.loop-number.repeats left.repeats now next low
+          (sym (get_or_from_slice_get sections n at.0 at.0 at.1)) made ∙ c.loop-number.invariant.run;
+      table = tables;
+      sides = sides;
+      differ = elim c.if-left-2.branch [
+        | then-left-2 w ↦
+            subst (λ (stirred : List Bool). DifferOnlyAbout stirred (g.B.Board.grid c.play_next.new.board) start)
+            (sym w.stirred-is)
+            (w.stirred_on-stirred.ensures start table
+            (ap (λ (p : Watching). p.kept) program ∙ c.requires.kept) (sym sides) (sym tables))
+        | else-left-2 w ↦
+            subst (λ (stirred : List Bool). DifferOnlyAbout stirred (g.B.Board.grid c.play_next.new.board) start)
+            (sym w.stirred-is)
+            (subst (λ (grid : Grid). DifferOnlyAbout c.loop-number.stirred grid start)
+            (sym (c.in_ok-left.ensures.unchanged w.if-left-2.false)) c.loop-number.invariant.differ)
+      ];
+      program = program;
+    }

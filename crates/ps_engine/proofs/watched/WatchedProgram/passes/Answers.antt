@@ -1,0 +1,64 @@
+use Rattle.std.proofs.Common.{◌≡◌, ◌∙◌, ℕ, Bool, true, not, Option, Some, List, [], refl, sym, ap, subst}
+use Rattle.std.specs.Prelude.{option_map, slice_get}
+use Rattle.std.specs.Option.{is_some}
+use Rattle.std.proofs.lemmas.Option.{get_or_from_slice_get, slice_get-get_or}
+use Rattle.ps_model.specs.board.Grid.{Grid}
+use Rattle.ps_board.specs.ColumnSets.{both_columns, set_columns}
+use Rattle.ps_program.specs.declared.program.CompiledSection.{CompiledSection}
+use Rattle.ps_engine.specs.Waking.{IsSameBut}
+use Rattle.ps_engine.specs.Watched.{IsIdleOn, Watching}
+use Rattle.ps_engine.specs.declared.watched.SectionWatch.{SectionWatch}
+use Rattle.ps_engine.proofs.Waking.{known_idle, known_noted, section_there, watch_same, watch_there}
+use Rattle.ps_engine.proofs.watched.WatchedProgram.passes.Goals as goal
+
+pub returns-then-index-clause-idle : goal.returns-then-index-clause-idle
+returns-then-index-clause-idle g c = λ section at e.
+    let n : ℕ = c.args.number in
+    let inside = c.self.inside in
+    let watch : SectionWatch = c.index-2.result.now in
+    let here : slice_get inside.sections.now n ≡ Some section =
+    ap (λ (w : Watching). slice_get w.sections n) c.self.view_is ∙ at in
+    let there : slice_get inside.watches.items n ≡ Some watch =
+    watch_there inside.sections.now inside.watches.items n section watch here c.self.invariant.0 c.index-2.ensures in
+    let first : c.index.result.now ≡ watch =
+    watch_same inside.watches.items n c.index.result.now watch c.index.ensures there in
+    let apart : set_columns (both_columns watch.topics c.args.stirred) ≡ [] =
+    subst (λ (w : SectionWatch). set_columns (both_columns w.topics c.args.stirred) ≡ []) first
+    (c.is_apart.ensures c.if-not-is_apart.false) in
+    known_idle (λ board. (g.B.Board.grid board, g.B.Board.table board)) inside.sections.now inside.watches.items n section
+    watch c.args.stirred (g.B.Board.grid c.args.board.now) (g.B.Board.table c.args.board.now)
+    c.recall_shape.ensures.shape here there apart inside.board
+    (c.is_none.ensures ∙ ap not c.if-is_none.false) c.self.invariant.1
+    (λ k t is. c.requires.same k t (sym (ap (λ (w : Watching). w.kept) c.self.view_is) ∙ is))
+    c.if-index.true
+
+pub invariant_of-self-2 : goal.invariant_of-self-2
+invariant_of-self-2 g c =
+    let n : ℕ = c.args.number in
+    let inside = c.self.inside in
+    let section : CompiledSection = c.index-sections-number.result in
+    let watch : SectionWatch = c.index.result.now in
+    let here : slice_get inside.sections.now n ≡ Some section =
+    section_there inside.sections.now c.args.self.now.sections n section (ap (λ (w : Watching). w.sections) c.self.view_is) c.requires.number
+    c.index-sections-number.is in
+    let there : slice_get inside.watches.items n ≡ Some watch =
+    watch_there inside.sections.now inside.watches.items n section watch here c.self.invariant.0 c.index.ensures in (
+      c.note.ensures.long ∙ c.self.invariant.0,
+      known_noted (λ board. (g.B.Board.grid board, g.B.Board.table board)) inside.sections.now inside.watches.items n
+          section watch c.args.stirred (g.B.Board.grid c.args.board.now) (g.B.Board.table c.args.board.now)
+          c.recall_shape.ensures.shape here there (c.is_apart.ensures c.if-not-is_apart.false) inside.board
+          c.is_idle_section-idle.result c.note.new.watches.items c.self.invariant.1
+          (λ k t is. c.requires.same k t (sym (ap (λ (w : Watching). w.kept) c.self.view_is) ∙ is))
+          c.is_idle_section-idle.ensures.idle (c.note.ensures.noted watch there),
+    )
+
+pub returns-clause-idle : goal.returns-clause-idle
+returns-clause-idle g c = λ section at e.
+    let n : ℕ = c.args.number in
+    let here : slice_get c.self.inside.sections.now n ≡ Some section =
+    ap (λ (w : Watching). slice_get w.sections n) c.self.view_is ∙ at in
+    let own : c.index-sections-number.result ≡ section =
+    c.index-sections-number.is ∙ get_or_from_slice_get c.self.inside.sections.now n section
+    c.index-sections-number.result here in
+    subst (λ (s : CompiledSection). IsIdleOn (g.B.Board.grid c.args.board.now) (g.B.Board.table c.args.board.now) s) own
+    (c.is_idle_section-idle.ensures.idle e)

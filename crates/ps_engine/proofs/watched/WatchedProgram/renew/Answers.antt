@@ -1,0 +1,35 @@
+use Rattle.std.proofs.Common.{◌≡◌, ◌∙◌, Option, List, Some, ℕ, refl, sym, ap, subst, length}
+use Rattle.std.specs.Prelude.{option_map}
+use Rattle.ps_model.specs.board.Grid.{Grid}
+use Rattle.ps_engine.specs.Watched.{AreKnown}
+use Rattle.ps_engine.proofs.Waking.{known_woken, two_same}
+use Rattle.ps_engine.proofs.watched.WatchedProgram.renew.Goals as goal
+
+pub invariant_of-self-then-not-is_alike : goal.invariant_of-self-then-not-is_alike
+invariant_of-self-then-not-is_alike g c = (
+  c.self.invariant.0,
+  subst (λ (kept : Option (Grid × Option (List ℕ))). AreKnown kept c.self.inside.sections.now
+      c.self.inside.watches.items)
+      (ap (option_map (λ board. (g.B.Board.grid board, g.B.Board.table board))) c.in-Some.is) c.self.invariant.1,
+)
+
+pub invariant_of-self-2 : goal.invariant_of-self-2
+invariant_of-self-2 g c =
+    let kept = c.in-Some.kept in
+    let known = subst (λ (shown : Option (Grid × Option (List ℕ))). AreKnown shown c.self.inside.sections.now
+    c.self.inside.watches.items)
+    (ap (option_map (λ board. (g.B.Board.grid board, g.B.Board.table board))) c.in-Some.is) c.self.invariant.1 in
+    let after = known_woken (g.B.Board.grid kept) (g.B.Board.grid c.args.board.now) (g.B.Board.table c.args.board.now)
+    (g.B.Board.table kept) c.topics_differing-stirred.result c.self.inside.sections.now c.self.inside.watches.items
+    c.wake.new.watches.items c.recall_shape-2.ensures.shape c.recall_shape.ensures.shape
+    (c.if-not-is_alike.ensures.width refl) (c.if-not-is_alike.ensures.height refl)
+    (c.if-not-is_alike.ensures.table refl)
+    c.topics_differing-stirred.ensures known c.wake.ensures.woken in (
+      c.wake.ensures.long ∙ c.self.invariant.0,
+      subst (λ (shown : Option (Grid × Option (List ℕ))). AreKnown shown c.self.inside.sections.now
+          c.wake.new.watches.items)
+          (two_same (g.B.Board.grid c.args.board.now) (g.B.Board.grid c.copy_into.new.other)
+          (g.B.Board.table c.args.board.now) (g.B.Board.table c.copy_into.new.other) c.copy_into.ensures.grid
+          c.copy_into.ensures.table)
+          after,
+    )

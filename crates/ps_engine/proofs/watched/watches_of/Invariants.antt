@@ -1,0 +1,14 @@
+use Rattle.std.proofs.Common.{◌≡◌, ℕ, Some, length}
+use Rattle.std.specs.Prelude.{slice_get}
+use Rattle.ps_program.specs.declared.program.CompiledSection.{CompiledSection}
+use Rattle.ps_engine.specs.declared.watched.SectionWatch.{SectionWatch}
+use Rattle.ps_engine.specs.Waking.{AreUnknown}
+use Rattle.ps_engine.proofs.watched.watches_of.Given as goal
+
+-- what the sections passed by ask about
+abbrev pub invariant-loop-section : goal.invariant-loop-section
+invariant-loop-section l =
+    record {
+      long : length l.watches.items ≡ l.section-index;
+      unknown : AreUnknown l.sections l.watches.items;
+    }

@@ -1,0 +1,354 @@
+//! Groups that are known to have no place. A group's places are told by what its rules ask about: where a board differs
+//! from another one in nothing of it, the group has no place on the one if it has none on the other. So one board is
+//! kept, and of each section whether it is a group that has no place there; and a run passes over such a group as long
+//! as nothing that it asks about has changed.
+
+ghost use Rattle.std.specs.Prelude.{◌≡◌, ◌<◌, ℕ, [], IfOk, List, OnOk, Option, Some, length, slice_get, slice_set, true};
+ghost use Rattle.ps_board.specs.ColumnSets.{both_columns, set_columns};
+ghost use Rattle.ps_match.specs.InRoom.{sides_of};
+ghost use Rattle.ps_match.specs.Topics.{DifferOnlyAbout};
+ghost use Rattle.ps_program.specs.declared.program.CompiledSection.{CompiledSection};
+ghost use Rattle.ps_engine.specs.Rooms.{HaveRooms, SectionHasRooms, SectionsHaveRooms};
+ghost use Rattle.ps_model.specs.board.Grid.{Grid};
+ghost use Rattle.ps_engine.specs.Watched.{AreIdleOn, IsIdleOn};
+ghost use Rattle.ps_engine.specs.declared.watched.SectionWatch.{SectionWatch};
+ghost use Rattle.ps_engine.specs.Waking.{AreForgotten, AreUnknown, AreWoken, IsSameBut, IsWoken};
+
+use crate::attempts::is_idle;
+use crate::topics_asked::topics_of_section;
+use ps_match::{Columns, Scan, Topics, recall_shape};
+use ps_model::Memory;
+use ps_places::RoomFor;
+use ps_program::{CompiledRule, CompiledSection};
+use std::alloc::Global;
+use std::marker::Model;
+
+/// A program of fewer sections isn't watched: to compare boards would cost more than there is to gain.
+const LEAST_SECTIONS: usize = 16;
+
+/// Nor is one on a board of more cells for each section.
+const CELLS_OF_SECTION: usize = 256;
+
+/// After so many runs more of little gain a program rests.
+const PATIENCE: u32 = 2;
+
+/// For so many runs it isn't watched then.
+const REST: u32 = 32;
+
+/// What is known of a section.
+#[derive(Clone, Copy)]
+pub struct SectionWatch {
+    /// What its rules ask about, if it is a group.
+    pub topics: Topics,
+    /// It is a group that has no place on the board that is kept.
+    pub quiet: bool,
+}
+
+/// How the runs before went: how many of little gain there were last, and for how many more the program rests.
+#[derive(Clone, Copy)]
+struct Pace {
+    misses: u32,
+    rest: u32,
+}
+
+/// The sections of a program, lent, with what is known of them, and the board that is kept, if one is. Contracts see the
+/// sections and what the board shows.
+#[derive(Drop)]
+pub struct WatchedProgram<'p, 'r, B: Scan> {
+    alloc: Global,
+    sections: &'p [CompiledSection<'r>],
+    watches: Vec<SectionWatch>,
+    board: Option<B>,
+    /// How many sections were passed over since the board was last renewed.
+    gains: usize,
+    pace: Pace,
+}
+
+impl<'p, 'r, B: Scan> Model for WatchedProgram<'p, 'r, B> {
+    ghost use Rattle.std.specs.Prelude.{◌≡◌, length, option_map};
+    ghost use Rattle.ps_engine.specs.Watched.{AreKnown, Watching};
+
+    ghost Value = { Watching };
+
+    ghost view = { λ w. record {
+      sections = w.sections.now;
+      kept = option_map (λ board. (B.grid board, B.table board)) w.board;
+    } };
+
+    ghost invariant = { λ w. (length w.watches.items ≡ length w.sections.now)
+        × AreKnown (option_map (λ board. (B.grid board, B.table board)) w.board) w.sections.now w.watches.items };
+}
+
+/// Whether to watch so many sections can pay on a board.
+fn pays<B: Scan>(sections: usize, board: &B) -> bool {
+    let (width, height) = board.size();
+    let cells = width as usize * height as usize;
+    LEAST_SECTIONS <= sections && cells <= sections.saturating_mul(CELLS_OF_SECTION)
+}
+
+/// How it goes on behind a run, of little gain or not.
+fn next_pace(pace: Pace, little: bool) -> Pace {
+    if 0 < pace.rest {
+        return Pace {
+            misses: 0,
+            rest: pace.rest - 1,
+        };
+    }
+    if !little {
+        return Pace { misses: 0, rest: 0 };
+    }
+    if pace.misses < PATIENCE {
+        return Pace {
+            misses: pace.misses + 1,
+            rest: 0,
+        };
+    }
+    Pace {
+        misses: 0,
+        rest: REST,
+    }
+}
+
+/// Whether no rule has a combination, as far as a look tells. No memory is taken.
+fn are_idle<B: Scan>(rules: &[CompiledRule], board: &B, rooms: &mut [RoomFor<B>]) -> bool
+    requires { HaveRooms (length rooms.old) rules.now }
+    ensures idle { result ≡ true → AreIdleOn (B.grid board.now) (B.table board.now) rules.now }
+    ensures rooms { length rooms.new ≡ length rooms.old }
+{
+    for rule in rules {
+        if !is_idle(board, rule, rooms) {
+            return false;
+        }
+    }
+    true
+}
+
+/// Whether a section is a group of which no rule has a combination, as far as a look tells. No memory is taken.
+fn is_idle_section<B: Scan>(section: &CompiledSection, board: &B, rooms: &mut [RoomFor<B>]) -> bool
+    requires { SectionHasRooms (length rooms.old) section.now }
+    ensures idle { result ≡ true → IsIdleOn (B.grid board.now) (B.table board.now) section.now }
+    ensures rooms { length rooms.new ≡ length rooms.old }
+{
+    match section {
+        CompiledSection::Group(rules) => are_idle(rules.as_slice(), board, rooms),
+        CompiledSection::Loop(_) => false,
+    }
+}
+
+/// What is still known of a section, where something has changed.
+fn woken(watch: SectionWatch, stirred: Topics) -> SectionWatch
+    ensures { IsWoken stirred watch result }
+{
+    SectionWatch {
+        topics: watch.topics,
+        quiet: watch.quiet && watch.topics.both(stirred).is_empty(),
+    }
+}
+
+/// Of sections that ask about what has changed it isn't known any more that they are quiet.
+fn wake(watches: &mut Vec<SectionWatch>, stirred: Topics)
+    ensures woken { AreWoken stirred watches.old.items watches.new.items }
+    ensures long { length watches.new.items ≡ length watches.old.items }
+{
+    for number in 0..watches.len() {
+        watches[number] = woken(watches[number], stirred);
+    }
+}
+
+/// Nothing is known of these sections, but what they ask about.
+///
+/// # Errors
+///
+/// `Memory`.
+fn watches_of(alloc: Global, sections: &[CompiledSection]) -> Result<Vec<SectionWatch>, Memory>
+    ensures long { IfOk result (λ watches. length watches.items ≡ length sections.now) }
+    ensures unknown { IfOk result (λ watches. AreUnknown sections.now watches.items) }
+{
+    let mut watches = Vec::with_capacity(alloc, sections.len())?;
+    for section in sections {
+        watches.push(SectionWatch {
+            topics: topics_of_section(section),
+            quiet: false,
+        })?;
+    }
+    Ok(watches)
+}
+
+/// Whether a section asks about none of these topics.
+fn is_apart(watch: SectionWatch, stirred: Topics) -> bool
+    ensures { result ≡ true → set_columns (both_columns watch.topics stirred) ≡ [] }
+{
+    watch.topics.both(stirred).is_empty()
+}
+
+/// It is known now whether a section is quiet.
+fn note(watches: &mut Vec<SectionWatch>, number: usize, quiet: bool)
+    requires { number < length watches.old.items }
+    ensures noted { (watch : SectionWatch) → slice_get watches.old.items number ≡ Some watch →
+        watches.new.items ≡ slice_set watches.old.items number (record { topics = watch.topics; quiet = quiet }) }
+    ensures long { length watches.new.items ≡ length watches.old.items }
+{
+    let topics = watches[number].topics;
+    watches[number] = SectionWatch { topics, quiet };
+}
+
+/// Of no section it is known any more that it is quiet.
+fn forget(watches: &mut Vec<SectionWatch>)
+    ensures forgotten { AreForgotten watches.old.items watches.new.items }
+    ensures long { length watches.new.items ≡ length watches.old.items }
+{
+    for number in 0..watches.len() {
+        watches[number] = SectionWatch {
+            topics: watches[number].topics,
+            quiet: false,
+        };
+    }
+}
+
+impl<'p, 'r, B: Scan> WatchedProgram<'p, 'r, B> {
+    /// A program of these sections, of which nothing is known, without a board.
+    ///
+    /// # Errors
+    ///
+    /// `Memory`.
+    pub fn try_new(
+        alloc: Global,
+        sections: &'p [CompiledSection<'r>],
+    ) -> Result<WatchedProgram<'p, 'r, B>, Memory>
+        ensures { IfOk result (λ program. program.sections ≡ sections.entry.now) }
+    {
+        let watches = watches_of(alloc, sections)?;
+        Ok(WatchedProgram {
+            alloc,
+            sections,
+            watches,
+            board: None,
+            gains: 0,
+            pace: Pace { misses: 0, rest: 0 },
+        })
+    }
+
+    /// The sections.
+    pub fn sections(&self) -> &'p [CompiledSection<'r>]
+        ensures { result.now ≡ self.now.sections }
+    {
+        self.sections
+    }
+
+    /// Whether the next run is to be watched on a board, by what there is to gain.
+    fn is_due(&mut self, board: &B) -> bool
+        ensures { self.new ≡ self.old }
+    {
+        if !pays(self.sections.len(), board) {
+            return false;
+        }
+        let little = self.board.is_some() && self.gains < self.sections.len() / 4;
+        self.pace = next_pace(self.pace, little);
+        self.gains = 0;
+        self.pace.rest == 0
+    }
+
+    /// Keeps what a board shows in place of what was kept, if that is of the same size and game; answers whether it is.
+    /// Groups that ask about nothing that has changed stay known.
+    fn renew(&mut self, board: &B) -> bool
+        ensures sections { self.new.sections ≡ self.old.sections }
+        ensures kept { result ≡ true → self.new.kept ≡ Some (B.grid board.now, B.table board.now) }
+    {
+        recall_shape(board);
+        let Some(kept) = &mut self.board else {
+            return false;
+        };
+        if !board.is_alike(kept) {
+            return false;
+        }
+        recall_shape(kept);
+        let stirred = board.topics_differing(kept);
+        wake(&mut self.watches, stirred);
+        board.copy_into(kept);
+        true
+    }
+
+    /// Keeps what a board shows, on a copy of it. Nothing is known any more.
+    ///
+    /// # Errors
+    ///
+    /// `Memory`.
+    fn keep(&mut self, board: &B) -> Result<(), Memory>
+        ensures sections { self.new.sections ≡ self.old.sections }
+        ensures kept { OnOk result (self.new.kept ≡ Some (B.grid board.now, B.table board.now)) }
+    {
+        let copy = board.try_copy(self.alloc)?;
+        forget(&mut self.watches);
+        self.board = Some(copy);
+        Ok(())
+    }
+
+    /// Begins a run on a board. Answers whether it is watched: then what the board shows is kept. Groups that ask about
+    /// nothing that has changed since the last time stay known.
+    ///
+    /// # Errors
+    ///
+    /// `Memory`, where no board is kept, or one of another size or game.
+    pub fn begin(&mut self, board: &B) -> Result<bool, Memory>
+        ensures sections { self.new.sections ≡ self.old.sections }
+        ensures kept { IfOk result (λ watches. watches ≡ true →
+            self.new.kept ≡ Some (B.grid board.now, B.table board.now)) }
+    {
+        if !self.is_due(board) {
+            return Ok(false);
+        }
+        if self.renew(board) {
+            return Ok(true);
+        }
+        self.keep(board)?;
+        Ok(true)
+    }
+
+    /// Whether a section may be passed over on a board, which differs from what is kept in these topics alone: it is a
+    /// group of which no rule has a combination. No memory is taken.
+    pub fn passes(
+        &mut self,
+        number: usize,
+        stirred: Topics,
+        board: &B,
+        rooms: &mut [RoomFor<B>],
+    ) -> bool
+        requires number { number < length self.old.sections }
+        requires rooms { SectionsHaveRooms (length rooms.old) self.old.sections }
+        requires same { (g : Grid) (table : Option (List ℕ)) → self.old.kept ≡ Some (g, table) →
+            IsSameBut stirred (B.grid board.now) (B.table board.now) g table }
+        ensures idle { (section : CompiledSection) → slice_get self.old.sections number ≡ Some section →
+            result ≡ true → IsIdleOn (B.grid board.now) (B.table board.now) section }
+        ensures program { self.new ≡ self.old }
+        ensures rooms { length rooms.new ≡ length rooms.old }
+    {
+        recall_shape(board);
+        if self.board.is_none() || !is_apart(self.watches[number], stirred) {
+            return false;
+        }
+        if self.watches[number].quiet {
+            self.gains = self.gains.saturating_add(1);
+            return true;
+        }
+        let sections = self.sections;
+        let idle = is_idle_section(&sections[number], board, rooms);
+        note(&mut self.watches, number, idle);
+        idle
+    }
+
+    /// The topics about which a board, of the same size, with as many layers and the same room, differs from what is
+    /// kept; all of them, where nothing is.
+    pub fn stirred_on(&self, board: &B) -> Topics
+        ensures { (g : Grid) (table : Option (List ℕ)) → self.now.kept ≡ Some (g, table) →
+            sides_of g ≡ sides_of (B.grid board.now) → table ≡ B.table board.now →
+            DifferOnlyAbout result (B.grid board.now) g }
+    {
+        let Some(kept) = &self.board else {
+            return Columns::all();
+        };
+        if !board.is_alike(kept) {
+            return Columns::all();
+        }
+        board.topics_differing(kept)
+    }
+}
