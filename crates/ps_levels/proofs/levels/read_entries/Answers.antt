@@ -14,7 +14,7 @@ use Rattle.std.specs.Prelude.{All}
 use Rattle.ps_levels.specs.Sized.{HasColumn, IsSizedEntry}
 use Rattle.ps_levels.proofs.SizedLevels.{sized-levels}
 use Rattle.ps_levels.proofs.EntrySteps.{levels-fine, no-level}
-use Rattle.ps_levels.proofs.levels.read_levels.Goals as goal
+use Rattle.ps_levels.proofs.levels.read_entries.Goals as goal
 
 pub returns-then-not-has_level-clause-read : goal.returns-then-not-has_level-clause-read
 returns-then-not-has_level-clause-read c = (

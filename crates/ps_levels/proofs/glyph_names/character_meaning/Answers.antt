@@ -8,7 +8,7 @@ use Rattle.ps_model.specs.session.LevelFaults.{character_meaning}
 use Rattle.ps_model.specs.text.Lines.{folded}
 use Rattle.ps_model.specs.names.Names.{Names, Meaning, meaning_of}
 use Rattle.ps_levels.proofs.Letters.{folded_character}
-use Rattle.ps_levels.proofs.glyphs.character_meaning.Goals as goal
+use Rattle.ps_levels.proofs.glyph_names.character_meaning.Goals as goal
 
 -- the name that a character alone is
 by_name : (names : Names) (character lower : ℕ) (name : List ℕ) (found : Option Meaning) →

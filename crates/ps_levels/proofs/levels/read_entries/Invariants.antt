@@ -5,7 +5,7 @@ use Rattle.ps_model.specs.text.LineNumbers.{lines_between}
 use Rattle.std.specs.Prelude.{All}
 use Rattle.ps_levels.specs.Sized.{HasColumn}
 use Rattle.ps_levels.specs.EntriesShown.{entries_shown}
-use Rattle.ps_levels.proofs.levels.read_levels.Given as goal
+use Rattle.ps_levels.proofs.levels.read_entries.Given as goal
 
 abbrev pub invariant-loop-line : goal.invariant-loop-line
 invariant-loop-line l =
