@@ -1,5 +1,7 @@
 pub mod Orders
 pub mod HarmlessTexts
+pub mod Rows
+pub mod Corners
 pub mod LineKinds
 pub mod Screens
 pub mod ToldLines

@@ -1,11 +1,14 @@
--- What the rows of a terminal show: the last frame at the top, and below it a line each for the title, the level, the
+-- What the rows of a terminal show: the last frame at the top, and below it a line each for the title, the level and the
 -- keys, and what is told last.
-use Rattle.std.specs.Prelude.{ℕ, suc, ◌-◌, max, nat_le, if◌then◌else◌, List, [], ◌∷◌, ◌++◌, length, take, map, codes}
-use Rattle.std.specs.Prelude.{slice_index_or}
+use Rattle.std.specs.Prelude.{ℕ, suc, ◌-◌, max, if◌then◌else◌, List, [], ◌∷◌, ◌++◌, length, map, codes}
+use Rattle.std.specs.Prelude.{encode_utf8}
 use Rattle.std.specs.List.{flat_map, range_with_len}
 use Rattle.std.specs.Str.{bytes_eq}
+use Rattle.ps_view.specs.declared.corners.Corner.{Corner}
 use Rattle.ps_view.specs.declared.sizes.Size.{Size}
-use Rattle.ps_view.specs.HarmlessTexts.{row_of}
+use Rattle.ps_view.specs.HarmlessTexts.{harmless_text}
+use Rattle.ps_view.specs.Rows.{cut, wrapped, shortened}
+use Rattle.ps_view.specs.Corners.{frame_part, row_in}
 use Rattle.ps_view.specs.Orders.{drawn_row}
 
 -- what is told beside the board: the line of the title, that of the level, and the last of all others. Each is empty
@@ -19,30 +22,27 @@ pub record Told : Type 0 where
 abbrev pub keys_line : List ℕ
 keys_line = codes "w a s d move, x act, z undo, r restart, q quit"
 
--- the lines below a frame
-abbrev pub lines_told : Told → List (List ℕ)
-lines_told told = told.title ∷ told.level ∷ keys_line ∷ told.news ∷ []
+-- the rows of what is told last: it may take all but the three lines above it, and three rows of a frame
+abbrev pub news_rows : Size → List ℕ → List (List ℕ)
+news_rows size news = shortened (size.rows - 6) (wrapped size.columns (harmless_text news))
 
--- the mark that says that there are more rows: three dots, in UTF-8
-abbrev pub more_rows : List ℕ
-more_rows = 226 ∷ 128 ∷ 166 ∷ []
-
--- the rows of a frame that so many rows of a terminal show: all; or where they don't fit, the first, and a mark
-abbrev pub rows_seen : ℕ → List (List ℕ) → List (List ℕ)
-rows_seen rows frame = if nat_le (length frame) rows then frame else take (rows - 1) frame ++ more_rows ∷ []
+-- the rows below a frame
+abbrev pub rows_below : Size → Told → List (List ℕ)
+rows_below size told =
+    cut size.columns (harmless_text told.title) ∷ cut size.columns (harmless_text told.level)
+    ∷ cut size.columns (harmless_text keys_line) ∷ news_rows size told.news
 
 -- the rows of a terminal from the top, as far as they show something
-abbrev pub screen_of : Size → List (List ℕ) → Told → List (List ℕ)
-screen_of size frame told = map (row_of size.columns) (rows_seen (size.rows - 4) frame ++ lines_told told)
-
--- what a row of a screen shows, by its place from 0
-abbrev pub row_at : List (List ℕ) → ℕ → List ℕ
-row_at screen place = slice_index_or screen place []
+abbrev pub screen_of : Size → Corner → List (List ℕ) → Told → List (List ℕ)
+screen_of size corner frame told =
+    let below : List (List ℕ) = rows_below size told in
+    frame_part (size.rows - length below) size.columns corner frame ++ below
 
 -- a row is drawn where it shows something else than before
 abbrev pub row_change : List (List ℕ) → List (List ℕ) → ℕ → List ℕ
 row_change before screen place =
-    if bytes_eq (row_at before place) (row_at screen place) then [] else drawn_row (suc place) (row_at screen place)
+    if bytes_eq (row_in before place) (row_in screen place) then []
+    else drawn_row (suc place) (flat_map encode_utf8 (row_in screen place))
 
 -- what makes one screen of another: the rows that show something else, from the top
 abbrev pub changes : List (List ℕ) → List (List ℕ) → List ℕ

@@ -1,21 +1,25 @@
 -- The view of a run: what a terminal of some size is handed for the bytes of the run's output. Bytes are gathered until
--- a line feed ends their line; then the line is told, and where it changes what the screen shows, the rows that change
--- are drawn.
-use Rattle.std.specs.Prelude.{ℕ, ◌==◌, Bool, true, false, List, [], ◌∷◌, ◌++◌, length, codes}
+-- a line feed ends their line; then the line is told. A whole frame, a message and the ending are drawn at once, by the
+-- rows that they change; the title and the level with what comes next.
+use Rattle.std.specs.Prelude.{ℕ, ◌-◌, ◌==◌, Bool, true, false, List, [], ◌∷◌, ◌++◌, length, codes}
+use Rattle.ps_view.specs.declared.corners.Corner.{Corner}
 use Rattle.ps_view.specs.declared.sizes.Size.{Size}
 use Rattle.ps_view.specs.declared.line_kinds.LineKind.{LineKind}
 use Rattle.ps_view.specs.declared.line_kinds.LineKind.TheVariants.{Title, Level, Message, LevelDone, Ending, Empty, Row}
+use Rattle.ps_view.specs.HarmlessTexts.{harmless_text}
 use Rattle.ps_view.specs.LineKinds.{kind_of}
 use Rattle.ps_view.specs.Orders.{opening_orders, at_row, closing_orders}
+use Rattle.ps_view.specs.Corners.{corner_moved}
 use Rattle.ps_view.specs.Screens.{Told, screen_of, changes}
 
--- a view: the size of the terminal; what is told beside the board; the rows of the last whole frame, and those of the
--- frame that has begun; the bytes of the line that has begun; what the rows of the terminal show; whether anything was
--- drawn yet; and whether the ending was
+-- a view: the size of the terminal; what is told beside the board; the rows of the last whole frame, as characters, the
+-- corner of the part of it that is shown, and the rows of the frame that has begun; the bytes of the line that has begun;
+-- what the rows of the terminal show; whether anything was drawn yet; and whether the ending was
 pub record View : Type 0 where
   pub size : Size
   pub told : Told
   pub frame : List (List ℕ)
+  pub corner : Corner
   pub begun : List (List ℕ)
   pub line : List ℕ
   pub screen : List (List ℕ)
@@ -27,12 +31,17 @@ pub record Step : Type 0 where
   pub view : View
   pub bytes : List ℕ
 
+-- the upper left corner of a frame
+abbrev pub first_corner : Corner
+first_corner = record { top = 0; left = 0 }
+
 -- a view before the first byte
 abbrev pub blank_view : Size → View
 blank_view size = record {
   size = size;
   told = record { title = []; level = []; news = [] };
   frame = [];
+  corner = first_corner;
   begun = [];
   line = [];
   screen = [];
@@ -57,7 +66,7 @@ with_screen view screen = record view { screen = screen; is_open = true }
 
 -- the rows that the view changes are drawn
 abbrev pub drawn : View → Step
-drawn view = let screen : List (List ℕ) = screen_of view.size view.frame view.told in record {
+drawn view = let screen : List (List ℕ) = screen_of view.size view.corner view.frame view.told in record {
   view = with_screen view screen;
   bytes = opening view.is_open ++ changes view.screen screen;
 }
@@ -78,10 +87,12 @@ with_title view title = record view {
   line = [];
 }
 
--- the view with another level, of which nothing is told yet
+-- the view with another level, of which no frame has come yet
 abbrev pub with_level : View → List ℕ → View
 with_level view level = record view {
   told = record { title = view.told.title; level = level; news = [] };
+  frame = [];
+  corner = first_corner;
   line = [];
 }
 
@@ -92,30 +103,40 @@ with_news view news = record view {
   line = [];
 }
 
+-- the corner of the frame that has begun: there is room for it above four lines
+abbrev pub corner_of_begun : View → Corner
+corner_of_begun view = corner_moved (view.size.rows - 4) view.size.columns view.corner view.frame view.begun
+
 -- the view with the frame that has begun in place of the last one; what was told last is gone past
 abbrev pub with_frame : View → View
 with_frame view = record view {
   told = record { title = view.told.title; level = view.told.level; news = [] };
   frame = view.begun;
+  corner = corner_of_begun view;
   begun = [];
   line = [];
 }
 
 -- the view with one row more of the frame that has begun
 abbrev pub with_row : View → List ℕ → View
-with_row view row = record view { begun = view.begun ++ row ∷ []; line = [] }
+with_row view row = record view { begun = view.begun ++ harmless_text row ∷ []; line = [] }
+
+-- the view on the way to the next line
+abbrev pub with_next_line : View → View
+with_next_line view = record view { line = [] }
 
 -- what stands behind a message until it is gone past: the key that goes past it
 abbrev pub go_on : List ℕ
 go_on = codes " [x]"
 
--- a line that has ended, by what it is. A row of a frame waits for the empty line that ends the frame. Whatever is told
--- or shown behind a message takes its place
+-- a line that has ended, by what it is. A row of a frame waits for the empty line that ends the frame, the title and the
+-- level for what is drawn next. That a level is done isn't shown: what comes next is told in the same text. What is drawn
+-- behind a message takes its place
 abbrev pub line_told : View → LineKind → Step
-line_told view Title = drawn (with_title view view.line)
-line_told view Level = drawn (with_level view view.line)
+line_told view Title = quietly (with_title view view.line)
+line_told view Level = quietly (with_level view view.line)
 line_told view Message = drawn (with_news view (view.line ++ go_on))
-line_told view LevelDone = drawn (with_news view view.line)
+line_told view LevelDone = quietly (with_next_line view)
 line_told view Ending = left (drawn (with_news view view.line))
 line_told view Empty = drawn (with_frame view)
 line_told view Row = quietly (with_row view view.line)

@@ -1,11 +1,14 @@
 //! What makes one screen of another.
 
-ghost use Rattle.std.specs.Prelude.{◌≡◌, ◌<◌, ◌++◌, OnOk, slice_index_or, []};
+ghost use Rattle.std.specs.Prelude.{◌≡◌, ◌<◌, ◌++◌, OnOk, encode_utf8};
+ghost use Rattle.std.specs.List.{flat_map};
 ghost use Rattle.ps_view.specs.Orders.{at_row, closing_orders};
-ghost use Rattle.ps_view.specs.Screens.{changes, row_at, row_change};
+ghost use Rattle.ps_view.specs.Screens.{changes, row_change};
 ghost use Rattle.ps_view.specs.Views.{opening};
 
+use crate::cells::row_in;
 use crate::lines::Line;
+use crate::texts::Text;
 use ps_model::Memory;
 use std::alloc::Global;
 
@@ -18,14 +21,14 @@ const CLEAR_ROW: &[u8] = b"\x1b[2K";
 /// Goes below the row of the cursor, clears all from there on, and shows the cursor.
 const CLOSING_ORDERS: &[u8] = b"\r\n\x1b[J\x1b[?25h";
 
-/// What a row of a screen shows, by its place from 0.
-fn row_at(screen: &[Line], place: usize) -> &[u8]
-    ensures { result.now ≡ row_at screen.now place }
+/// Adds characters.
+fn add_characters(characters: &[char], orders: &mut Line) -> Result<(), Memory>
+    ensures { OnOk result (orders.new ≡ orders.old ++ flat_map encode_utf8 characters.now) }
 {
-    match screen.get(place) {
-        Some(row) => row.bytes(),
-        None => &[],
+    for character in characters {
+        orders.add_character(*character)?;
     }
+    Ok(())
 }
 
 /// Adds that the cursor goes to the left end of a row, by its number from 1.
@@ -39,21 +42,21 @@ fn add_at_row(alloc: Global, number: usize, orders: &mut Line) -> Result<(), Mem
 /// Adds what draws a row, where it shows something else than before.
 fn add_row_change(
     alloc: Global,
-    before: &[Line],
-    screen: &[Line],
+    before: &[Text],
+    screen: &[Text],
     place: usize,
     orders: &mut Line,
 ) -> Result<(), Memory>
     requires { place < usize.MAX }
     ensures { OnOk result (orders.new ≡ orders.old ++ row_change before.now screen.now place) }
 {
-    let row = row_at(screen, place);
-    if row_at(before, place) == row {
+    let row = row_in(screen, place);
+    if row_in(before, place) == row {
         return Ok(());
     }
     add_at_row(alloc, place + 1, orders)?;
     orders.add(CLEAR_ROW)?;
-    orders.add(row)
+    add_characters(row, orders)
 }
 
 /// Adds what makes one screen of another: the rows that show something else, from the top.
@@ -63,8 +66,8 @@ fn add_row_change(
 /// `Memory`, and some of it may have been added.
 pub fn add_changes(
     alloc: Global,
-    before: &[Line],
-    screen: &[Line],
+    before: &[Text],
+    screen: &[Text],
     orders: &mut Line,
 ) -> Result<(), Memory>
     ensures { OnOk result (orders.new ≡ orders.old ++ changes before.now screen.now) }

@@ -5,15 +5,22 @@
 //! tell the title, the level, the keys and what is told last.
 #![tactic(auto)]
 
+mod cells;
 mod changes;
+mod corners;
 mod harmless_texts;
+mod lent;
 mod line_kinds;
 mod lines;
+mod parts;
+mod rows;
 mod screens;
 mod sizes;
+mod texts;
 mod viewed;
 mod views;
 
+pub use lent::Lent;
 pub use ps_devices::{ByteWriter, Failed};
 pub use ps_model::Memory;
 pub use sizes::Size;

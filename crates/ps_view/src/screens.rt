@@ -1,24 +1,26 @@
 //! What the rows of a terminal show.
 
-ghost use Rattle.std.specs.Prelude.{◌≡◌, ◌++◌, ◌-◌, ◌∷◌, [], map, IfOk, OnOk};
-ghost use Rattle.ps_view.specs.HarmlessTexts.{row_of};
-ghost use Rattle.ps_view.specs.Screens.{lines_told, rows_seen, screen_of};
+ghost use Rattle.std.specs.Prelude.{◌≡◌, ◌++◌, ◌∷◌, [], IfOk, OnOk};
+ghost use Rattle.ps_view.specs.HarmlessTexts.{harmless_text};
+ghost use Rattle.ps_view.specs.Rows.{cut};
+ghost use Rattle.ps_view.specs.Screens.{news_rows, rows_below, screen_of};
 ghost use Rattle.ps_view.specs.ToldLines.{told_of};
 
-use crate::harmless_texts::row_of;
+use crate::corners::Corner;
+use crate::harmless_texts::harmless_text;
 use crate::lines::Line;
+use crate::parts::add_frame_part;
+use crate::rows::{cut, shortened, wrapped};
 use crate::sizes::Size;
+use crate::texts::Text;
 use ps_model::Memory;
 use std::alloc::Global;
 
 /// What the keys do.
 const KEYS_LINE: &[u8] = b"w a s d move, x act, z undo, r restart, q quit";
 
-/// The mark that says that there are more rows.
-const MORE_ROWS: &str = "…";
-
-/// How many lines stand below a frame.
-const LINES_TOLD: usize = 4;
+/// How many rows are kept from what is told last: three lines stand above it, and three rows of a frame.
+const ROWS_KEPT: usize = 6;
 
 /// What is told beside the board. Each line is empty until it comes.
 #[derive(Drop)]
@@ -33,48 +35,37 @@ fn add_line(
     alloc: Global,
     columns: usize,
     line: &[u8],
-    screen: &mut Vec<Line>,
+    screen: &mut Vec<Text>,
 ) -> Result<(), Memory>
-    ensures { OnOk result (screen.new.items ≡ screen.old.items ++ map (row_of columns) (line.now ∷ [])) }
+    ensures { OnOk result (screen.new.items ≡ screen.old.items ++ cut columns (harmless_text line.now) ∷ []) }
 {
-    let row = row_of(alloc, columns, line)?;
+    let text = harmless_text(alloc, line)?;
+    let row = cut(alloc, columns, text)?;
     screen.push(row)?;
     Ok(())
 }
 
-/// Adds what rows show of lines.
-fn add_lines(
-    alloc: Global,
-    columns: usize,
-    lines: &[Line],
-    screen: &mut Vec<Line>,
-) -> Result<(), Memory>
-    ensures { OnOk result (screen.new.items ≡ screen.old.items ++ map (row_of columns) lines.now) }
+/// The rows of what is told last.
+fn news_rows(alloc: Global, size: Size, news: &[u8]) -> Result<Vec<Text>, Memory>
+    ensures { IfOk result (λ rows. rows.items ≡ news_rows size news.now) }
 {
-    for line in lines {
-        add_line(alloc, columns, line.bytes(), screen)?;
-    }
-    Ok(())
+    let text = harmless_text(alloc, news)?;
+    let rows = wrapped(alloc, size.columns(), text.characters())?;
+    shortened(alloc, size.rows() - ROWS_KEPT, rows)
 }
 
-/// Adds what so many rows show of a frame: all of it; or where it doesn't fit, the first rows and a mark.
-fn add_frame(
-    alloc: Global,
-    columns: usize,
-    rows: usize,
-    frame: &[Line],
-    screen: &mut Vec<Line>,
-) -> Result<(), Memory>
-    ensures { OnOk result (screen.new.items ≡ screen.old.items ++ map (row_of columns) (rows_seen rows frame.now)) }
+/// The rows below a frame.
+fn rows_below(alloc: Global, size: Size, told: &ToldLines) -> Result<Vec<Text>, Memory>
+    ensures { IfOk result (λ below. below.items ≡ rows_below size (told_of told.now)) }
 {
-    if frame.len() <= rows {
-        add_lines(alloc, columns, frame, screen)?;
-        return Ok(());
-    }
-    let (first, _) = frame.split_at(rows.saturating_sub(1));
-    add_lines(alloc, columns, first, screen)?;
-    add_line(alloc, columns, MORE_ROWS.as_bytes(), screen)?;
-    Ok(())
+    let mut below = Vec::new(alloc);
+    let columns = size.columns();
+    add_line(alloc, columns, told.title.bytes(), &mut below)?;
+    add_line(alloc, columns, told.level.bytes(), &mut below)?;
+    add_line(alloc, columns, KEYS_LINE, &mut below)?;
+    let mut news = news_rows(alloc, size, told.news.bytes())?;
+    below.append(&mut news)?;
+    Ok(below)
 }
 
 /// What the rows of a terminal show from the top: a frame, and the lines below it. There are at most as many as the
@@ -86,18 +77,16 @@ fn add_frame(
 pub fn screen_of(
     alloc: Global,
     size: Size,
-    frame: &[Line],
+    corner: Corner,
+    frame: &[Text],
     told: &ToldLines,
-) -> Result<Vec<Line>, Memory>
-    ensures { IfOk result (λ screen. screen.items ≡ screen_of size frame.now (told_of told.now)) }
+) -> Result<Vec<Text>, Memory>
+    ensures { IfOk result (λ screen. screen.items ≡ screen_of size corner frame.now (told_of told.now)) }
 {
+    let mut below = rows_below(alloc, size, told)?;
+    let rows = size.rows().saturating_sub(below.len());
     let mut screen = Vec::new(alloc);
-    let columns = size.columns();
-    let rows = size.rows() - LINES_TOLD;
-    add_frame(alloc, columns, rows, frame, &mut screen)?;
-    add_line(alloc, columns, told.title.bytes(), &mut screen)?;
-    add_line(alloc, columns, told.level.bytes(), &mut screen)?;
-    add_line(alloc, columns, KEYS_LINE, &mut screen)?;
-    add_line(alloc, columns, told.news.bytes(), &mut screen)?;
+    add_frame_part(alloc, rows, size.columns(), corner, frame, &mut screen)?;
+    screen.append(&mut below)?;
     Ok(screen)
 }

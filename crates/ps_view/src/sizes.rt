@@ -2,27 +2,27 @@
 
 ghost use Rattle.std.specs.Prelude.{◌≤◌, ◌≡◌, ◌⊎◌, ◌<◌, None, IfSome};
 
-/// How many rows the lines below a frame take, and one row of a frame.
-const LEAST_ROWS: usize = 5;
+/// How many rows a view has room in: there are three lines, two rows for what is told last, and three for a frame.
+const LEAST_ROWS: usize = 8;
 
-/// How many columns the widest character covers.
-const LEAST_COLUMNS: usize = 2;
+/// How many columns a view has room in.
+const LEAST_COLUMNS: usize = 16;
 
 /// How many rows and columns a terminal has.
 #[derive(Clone, Copy, PartialEq, Eq, Debug)]
 pub struct Size {
     rows: usize,
     columns: usize,
-    ghost tall: { 5 ≤ rows },
-    ghost wide: { 2 ≤ columns },
+    ghost tall: { 8 ≤ rows },
+    ghost wide: { 16 ≤ columns },
 }
 
 impl Size {
-    /// A size of so many rows and columns, if a view has room there: 5 rows or more and 2 columns or more.
+    /// A size of so many rows and columns, if a view has room there: 8 rows or more and 16 columns or more.
     pub fn new(rows: usize, columns: usize) -> Option<Size>
         ensures rows { IfSome result (λ size. size.rows ≡ rows) }
         ensures columns { IfSome result (λ size. size.columns ≡ columns) }
-        ensures small { result ≡ None → (rows < 5) ⊎ (columns < 2) }
+        ensures small { result ≡ None → (rows < 8) ⊎ (columns < 16) }
     {
         if rows < LEAST_ROWS || columns < LEAST_COLUMNS {
             return None;
@@ -30,14 +30,14 @@ impl Size {
         Some(Size { rows, columns })
     }
 
-    /// How many rows, 5 or more.
+    /// How many rows, 8 or more.
     pub fn rows(self) -> usize
         ensures { result ≡ self.rows }
     {
         self.rows
     }
 
-    /// How many columns, 2 or more.
+    /// How many columns, 16 or more.
     pub fn columns(self) -> usize
         ensures { result ≡ self.columns }
     {

@@ -3,13 +3,16 @@
 ghost use Rattle.std.specs.Prelude.{◌≡◌, ◌++◌, List, ℕ, OnOk, false, true, ◌==◌};
 ghost use Rattle.ps_view.specs.LineKinds.{kind_of};
 ghost use Rattle.ps_view.specs.Views.{blank_view, byte_step, drawn, handed_on, left, line_told, view_behind};
-ghost use Rattle.ps_view.specs.declared.line_kinds.LineKind.TheVariants.{Title, Level, Message, LevelDone, Ending, Empty, Row};
+ghost use Rattle.ps_view.specs.declared.line_kinds.LineKind.TheVariants.{Title, Level, Message, Ending, Empty, Row};
 
 use crate::changes::{add_changes, add_closing, add_opening};
+use crate::corners::{Corner, corner_moved};
+use crate::harmless_texts::harmless_text;
 use crate::line_kinds::{LineKind, kind_of};
 use crate::lines::Line;
 use crate::screens::{ToldLines, screen_of};
 use crate::sizes::Size;
+use crate::texts::Text;
 use ps_model::Memory;
 use std::alloc::Global;
 use std::marker::Model;
@@ -18,16 +21,23 @@ use std::mem;
 /// What stands behind a message until it is gone past: the key that goes past it.
 const GO_ON: &[u8] = b" [x]";
 
+/// The upper left corner of a frame.
+const FIRST_CORNER: Corner = Corner { top: 0, left: 0 };
+
+/// How many rows stand below a frame where nothing is told last.
+const ROWS_BELOW: usize = 4;
+
 /// A view of an output as far as its bytes have come.
 #[derive(Drop)]
 pub struct TerminalView {
     alloc: Global,
     size: Size,
     told: ToldLines,
-    frame: Vec<Line>,
-    begun: Vec<Line>,
+    frame: Vec<Text>,
+    corner: Corner,
+    begun: Vec<Text>,
     line: Line,
-    screen: Vec<Line>,
+    screen: Vec<Text>,
     is_open: bool,
     is_over: bool,
 }
@@ -42,6 +52,7 @@ impl Model for TerminalView {
       size = view.size;
       told = told_of view.told;
       frame = view.frame.items;
+      corner = view.corner;
       begun = view.begun.items;
       line = view.line;
       screen = view.screen.items;
@@ -64,6 +75,7 @@ impl TerminalView {
                 news: Line::new(alloc),
             },
             frame: Vec::new(alloc),
+            corner: FIRST_CORNER,
             begun: Vec::new(alloc),
             line: Line::new(alloc),
             screen: Vec::new(alloc),
@@ -108,35 +120,42 @@ impl TerminalView {
             (orders.new ≡ orders.old ++ (line_told self.old (kind_of self.old.line)).bytes) }
     {
         match kind_of(self.line.bytes()) {
-            LineKind::Title => self.tell_title(orders),
-            LineKind::Level => self.tell_level(orders),
+            LineKind::Title => {
+                self.tell_title();
+                Ok(())
+            }
+            LineKind::Level => {
+                self.tell_level();
+                Ok(())
+            }
             LineKind::Message => self.tell_message(orders),
-            LineKind::LevelDone => self.tell_level_done(orders),
+            LineKind::LevelDone => {
+                self.line.clear();
+                Ok(())
+            }
             LineKind::Ending => self.tell_ending(orders),
             LineKind::Empty => self.end_frame(orders),
             LineKind::Row => self.add_row(),
         }
     }
 
-    /// Tells the title.
-    fn tell_title(&mut self, orders: &mut Line) -> Result<(), Memory>
-        ensures view { OnOk result (self.new ≡ (line_told self.old Title).view) }
-        ensures added { OnOk result (orders.new ≡ orders.old ++ (line_told self.old Title).bytes) }
+    /// Keeps the title.
+    fn tell_title(&mut self)
+        ensures { self.new ≡ (line_told self.old Title).view }
     {
         mem::swap(&mut self.told.title, &mut self.line);
         self.line.clear();
-        self.draw(orders)
     }
 
-    /// Tells which level starts.
-    fn tell_level(&mut self, orders: &mut Line) -> Result<(), Memory>
-        ensures view { OnOk result (self.new ≡ (line_told self.old Level).view) }
-        ensures added { OnOk result (orders.new ≡ orders.old ++ (line_told self.old Level).bytes) }
+    /// Keeps which level starts, and forgets the last frame.
+    fn tell_level(&mut self)
+        ensures { self.new ≡ (line_told self.old Level).view }
     {
         mem::swap(&mut self.told.level, &mut self.line);
         self.line.clear();
         self.told.news.clear();
-        self.draw(orders)
+        self.frame.clear();
+        self.corner = FIRST_CORNER;
     }
 
     /// Tells a message.
@@ -150,22 +169,14 @@ impl TerminalView {
         self.draw(orders)
     }
 
-    /// Tells that a level is done.
-    fn tell_level_done(&mut self, orders: &mut Line) -> Result<(), Memory>
-        ensures view { OnOk result (self.new ≡ (line_told self.old LevelDone).view) }
-        ensures added { OnOk result (orders.new ≡ orders.old ++ (line_told self.old LevelDone).bytes) }
-    {
-        mem::swap(&mut self.told.news, &mut self.line);
-        self.line.clear();
-        self.draw(orders)
-    }
-
     /// Tells the ending, and leaves the terminal.
     fn tell_ending(&mut self, orders: &mut Line) -> Result<(), Memory>
         ensures view { OnOk result (self.new ≡ (line_told self.old Ending).view) }
         ensures added { OnOk result (orders.new ≡ orders.old ++ (line_told self.old Ending).bytes) }
     {
-        self.tell_level_done(orders)?;
+        mem::swap(&mut self.told.news, &mut self.line);
+        self.line.clear();
+        self.draw(orders)?;
         add_closing(self.alloc, self.screen.len(), orders)?;
         self.is_over = true;
         Ok(())
@@ -176,6 +187,9 @@ impl TerminalView {
         ensures view { OnOk result (self.new ≡ (line_told self.old Empty).view) }
         ensures added { OnOk result (orders.new ≡ orders.old ++ (line_told self.old Empty).bytes) }
     {
+        let rows = self.size.rows() - ROWS_BELOW;
+        let columns = self.size.columns();
+        self.corner = corner_moved(rows, columns, self.corner, &self.frame, &self.begun);
         mem::swap(&mut self.frame, &mut self.begun);
         self.begun.clear();
         self.line.clear();
@@ -187,8 +201,9 @@ impl TerminalView {
     fn add_row(&mut self) -> Result<(), Memory>
         ensures { OnOk result (self.new ≡ (line_told self.old Row).view) }
     {
-        let row = mem::replace(&mut self.line, Line::new(self.alloc));
+        let row = harmless_text(self.alloc, self.line.bytes())?;
         self.begun.push(row)?;
+        self.line.clear();
         Ok(())
     }
 
@@ -197,7 +212,7 @@ impl TerminalView {
         ensures view { OnOk result (self.new ≡ (drawn self.old).view) }
         ensures added { OnOk result (orders.new ≡ orders.old ++ (drawn self.old).bytes) }
     {
-        let screen = screen_of(self.alloc, self.size, &self.frame, &self.told)?;
+        let screen = screen_of(self.alloc, self.size, self.corner, &self.frame, &self.told)?;
         add_opening(self.is_open, orders)?;
         add_changes(self.alloc, &self.screen, &screen, orders)?;
         self.screen = screen;

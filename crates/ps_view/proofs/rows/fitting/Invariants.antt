@@ -1,6 +1,6 @@
 use Rattle.std.proofs.Common.{◌≡◌, ◌+◌, drop}
-use Rattle.ps_view.specs.HarmlessTexts.{fitting}
-use Rattle.ps_view.proofs.harmless_texts.fitting.Given as goal
+use Rattle.ps_view.specs.Rows.{fitting}
+use Rattle.ps_view.proofs.rows.fitting.Given as goal
 
 -- the characters passed by fit, and so do those that fit into the columns that are left
 abbrev pub invariant-loop-place : goal.invariant-loop-place
