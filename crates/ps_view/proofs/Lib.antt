@@ -1,2 +1,5 @@
 pub mod Steps
 pub mod ShownRows
+pub mod HarmlessRows
+pub mod HarmlessViews
+pub mod Heights

@@ -7,3 +7,4 @@ pub mod Screens
 pub mod ToldLines
 pub mod Views
 pub mod Pieces
+pub mod Bounds

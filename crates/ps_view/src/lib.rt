@@ -9,6 +9,7 @@ mod cells;
 mod changes;
 mod corners;
 mod harmless_texts;
+mod laws;
 mod lent;
 mod line_kinds;
 mod lines;
@@ -20,6 +21,7 @@ mod texts;
 mod viewed;
 mod views;
 
+pub use laws::{pieces_are_as_the_whole, screens_are_harmless, screens_fit};
 pub use lent::Lent;
 pub use ps_devices::{ByteWriter, Failed};
 pub use ps_model::Memory;

@@ -1,0 +1,5 @@
+use Rattle.ps_view.proofs.Heights.{screens_fit}
+use Rattle.ps_view.proofs.laws.screens_fit.Goals as goal
+
+pub returns : goal.returns
+returns c = screens_fit
