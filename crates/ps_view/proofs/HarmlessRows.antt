@@ -1,27 +1,17 @@
 -- Rows without orders: of which all others are made.
-use Rattle.std.proofs.Common.{◌≡◌, ℕ, ◌+◌, ◌-◌, ◌==◌, Bool, true, false, cond, List, [], ◌∷◌, ◌++◌, length, take, drop, map}
-use Rattle.std.proofs.Common.{refl, arith, get_or}
-use Rattle.std.specs.Prelude.{All, nat_lt, nat_le}
+use Rattle.std.proofs.Common.{◌≡◌, ℕ, ◌-◌, ◌==◌, Bool, true, false, cond, List, [], ◌∷◌, ◌++◌, length, take}
+use Rattle.std.proofs.Common.{drop}
+use Rattle.std.proofs.Common.{refl, get_or}
+use Rattle.std.specs.Prelude.{All, nat_le}
 use Rattle.std.specs.Str.{chars}
 use Rattle.std.specs.Str.Lossy.{utf8_lossy}
 use Rattle.std.proofs.lemmas.List.Elements.{All-nil, All-cons, All-append, All-take, All-drop, All-map}
 use Rattle.ps_view.specs.HarmlessTexts.{is_order, harmless, harmless_text, columns_of}
 use Rattle.ps_view.specs.Rows.{more_mark, fitting, cut, wrapped, wrapped_behind, shortened}
-use Rattle.ps_view.specs.Corners.{edge, part_from, frame_part, room_across}
+use Rattle.ps_view.specs.Corners.{part_from, frame_part, room_across}
 use Rattle.ps_view.specs.declared.corners.Corner.{Corner}
 use Rattle.ps_view.specs.Bounds.{IsHarmlessRow, AreHarmlessRows}
-
--- the first element, and the others
-first_of : {X : Type 0} (P : X → Type 0) (x : X) (xs : List X) → All P (x ∷ xs) → P x
-first_of P x xs all = all 0 x (omega arith)
-
-others_of : {X : Type 0} (P : X → Type 0) (x : X) (xs : List X) → All P (x ∷ xs) → All P xs
-others_of P x xs all = All-drop P 1 (x ∷ xs) all
-
--- one of two
-either : {X : Type 0} (P : X → Type 0) (b : Bool) (x y : X) → P x → P y → P (cond b x y)
-either P true x y p q = p
-either P false x y p q = q
+use Rattle.ps_view.proofs.Such.{first_of, others_of, either, part_is_such}
 
 -- a character that was made harmless is
 made_harmless : (c : ℕ) (b : Bool) → is_order c ≡ b → is_order (cond b 183 c) ≡ false
@@ -46,7 +36,8 @@ none_alone = All-nil (λ (c : ℕ). is_order c ≡ false)
 -- a text that is cut
 pub cut_is_harmless : (columns : ℕ) (text : List ℕ) → IsHarmlessRow text → IsHarmlessRow (cut columns text)
 cut_is_harmless columns text is =
-    either IsHarmlessRow (fitting columns text == length text) text (take (fitting (columns - 1) text) text ++ more_mark ∷ [])
+    either IsHarmlessRow (fitting columns text == length text) text
+    (take (fitting (columns - 1) text) text ++ more_mark ∷ [])
     is (All-append (λ (c : ℕ). is_order c ≡ false) (take (fitting (columns - 1) text) text) (more_mark ∷ [])
     (All-take (λ (c : ℕ). is_order c ≡ false) (fitting (columns - 1) text) text is) mark_alone)
 
@@ -83,20 +74,7 @@ shortened_are_harmless most rows are =
     (All-cons IsHarmlessRow (more_mark ∷ []) (drop (length rows - 1) rows) mark_alone
     (All-drop IsHarmlessRow (length rows - 1) rows are)))
 
--- a part of a list whose elements and edges are all such
-part_is_such : {X : Type 0} (P : X → Type 0) (room place : ℕ) (mark blank : X) (items : List X) → P mark → P blank →
-    All P items → All P (part_from room place mark blank items)
-part_is_such P room place mark blank items m b all =
-    let before : Bool = nat_lt 0 place in
-    let behind : Bool = nat_lt (place + (room - 2)) (length items) in
-    let shown = take (room - 2) (drop place items) in
-    either (All P) (nat_le (length items) room) items
-    ((edge mark blank before ∷ shown) ++ edge mark blank behind ∷ []) all
-    (All-append P (edge mark blank before ∷ shown) (edge mark blank behind ∷ [])
-    (All-cons P (edge mark blank before) shown (either P before mark blank m b)
-    (All-take P (room - 2) (drop place items) (All-drop P place items all)))
-    (All-cons P (edge mark blank behind) [] (either P behind mark blank m b) (All-nil P)))
-
+-- a part of a frame
 pub part_is_harmless : (rows columns : ℕ) (corner : Corner) (frame : List (List ℕ)) → AreHarmlessRows frame →
     AreHarmlessRows (frame_part rows columns corner frame)
 part_is_harmless rows columns corner frame are =

@@ -1,5 +1,5 @@
 -- Views whose rows have no orders: from the first byte on.
-use Rattle.std.proofs.Common.{◌≡◌, ℕ, ◌-◌, ◌==◌, Bool, true, false, List, [], ◌∷◌, ◌++◌, length}
+use Rattle.std.proofs.Common.{ℕ, ◌-◌, ◌==◌, true, false, List, [], ◌∷◌, ◌++◌, length}
 use Rattle.std.proofs.lemmas.List.Elements.{All-nil, All-cons, All-append}
 use Rattle.ps_view.specs.declared.line_kinds.LineKind.{LineKind}
 use Rattle.ps_view.specs.declared.line_kinds.LineKind.TheVariants.{Title, Level, Message, LevelDone, Ending, Empty, Row}
@@ -10,8 +10,9 @@ use Rattle.ps_view.specs.LineKinds.{kind_of}
 use Rattle.ps_view.specs.Rows.{cut, wrapped}
 use Rattle.ps_view.specs.Corners.{frame_part}
 use Rattle.ps_view.specs.Screens.{Told, keys_line, news_rows, rows_below, screen_of}
-use Rattle.ps_view.specs.Views.{View, Step, blank_view, quietly, drawn, left, with_title, with_level, with_news, with_frame}
-use Rattle.ps_view.specs.Views.{with_row, with_byte, with_next_line, go_on, line_told, byte_step, view_behind}
+use Rattle.ps_view.specs.Views.{View, Step, blank_view, quietly, drawn, with_news}
+use Rattle.ps_view.specs.Views.{with_frame}
+use Rattle.ps_view.specs.Views.{with_byte, go_on, line_told, byte_step, view_behind}
 use Rattle.ps_view.specs.Bounds.{IsHarmlessRow, AreHarmlessRows, ScreensAreHarmless}
 use Rattle.ps_view.proofs.HarmlessRows.{text_is_harmless, cut_is_harmless, wrapped_is_harmless, shortened_are_harmless}
 use Rattle.ps_view.proofs.HarmlessRows.{part_is_harmless}
@@ -107,4 +108,5 @@ bytes_keep_harmless view (byte ∷ bytes) is =
 
 pub screens_are_harmless : ScreensAreHarmless
 screens_are_harmless size output =
-    (bytes_keep_harmless (blank_view size) output (record { frame = no_rows; begun = no_rows; screen = no_rows })).screen
+    let none : IsHarmless (blank_view size) = record { frame = no_rows; begun = no_rows; screen = no_rows } in
+    (bytes_keep_harmless (blank_view size) output none).screen

@@ -1,7 +1,6 @@
 -- How many rows a screen has.
-use Rattle.std.proofs.Common.{◌≡◌, ℕ, suc, ◌+◌, ◌-◌, ◌≤◌, Bool, true, false, cond, List, [], ◌∷◌, ◌++◌, length, take, drop, map}
-use Rattle.std.proofs.Common.{refl, arith}
-use Rattle.std.specs.Prelude.{nat_lt, nat_le}
+use Rattle.std.proofs.Common.{ℕ, ◌+◌, ◌-◌, ◌≤◌, List, [], length}
+use Rattle.std.proofs.Common.{arith}
 use Rattle.std.proofs.lemmas.Bool.Decides.{nat_tests}
 use Rattle.std.proofs.lemmas.Grind.{common_steps}
 use Rattle.std.proofs.lemmas.List.{length-map}
@@ -10,7 +9,7 @@ use Rattle.ps_view.specs.declared.sizes.Size.{Size}
 use Rattle.ps_view.specs.HarmlessTexts.{harmless_text}
 use Rattle.ps_view.specs.Rows.{shortened, wrapped}
 use Rattle.ps_view.specs.Corners.{part_from, frame_part}
-use Rattle.ps_view.specs.Screens.{Told, rows_below, news_rows, screen_of}
+use Rattle.ps_view.specs.Screens.{Told, rows_below, news_rows}
 use Rattle.ps_view.specs.Bounds.{ScreensFit}
 
 -- rows that are shortened are as few as they may be
@@ -18,7 +17,7 @@ shortened_few : (most : ℕ) (rows : List (List ℕ)) → 2 ≤ most → length 
 shortened_few most rows some = grind (arith, common_steps, nat_tests)
 
 -- a part has room
-part_few : {A : Type 0} (room place : ℕ) (mark blank : A) (items : List A) → 2 ≤ room →
+pub part_few : {A : Type 0} (room place : ℕ) (mark blank : A) (items : List A) → 2 ≤ room →
     length (part_from room place mark blank items) ≤ room
 part_few room place mark blank items some = grind (arith, common_steps, nat_tests)
 

@@ -1,7 +1,8 @@
 -- Rows that are shown: parts of frames, and what stands below them.
-use Rattle.std.proofs.Common.{◌≡◌, ◌∙◌, ℕ, suc, zero, ◌+◌, ◌-◌, ◌<◌, ◌≤◌, Bool, List, [], ◌∷◌, ◌++◌, length, take, drop, map}
+use Rattle.std.proofs.Common.{◌≡◌, ◌∙◌, ℕ, suc, zero, ◌+◌, ◌-◌, ◌<◌, ◌≤◌, Bool, List, [], ◌∷◌, ◌++◌, length, take}
+use Rattle.std.proofs.Common.{drop, map}
 use Rattle.std.proofs.Common.{refl, sym, ap, arith, append_assoc, min}
-use Rattle.std.specs.Prelude.{nat_lt, nat_le}
+use Rattle.std.specs.Prelude.{nat_lt}
 use Rattle.std.proofs.lemmas.Grind.{common_steps}
 use Rattle.std.proofs.lemmas.List.{map-append}
 use Rattle.ps_view.specs.Rows.{cut, more_mark}
@@ -44,7 +45,8 @@ part_cut room place mark blank items from long is = grind (arith, common_steps)
 pub frame_parted : (shown : List ℕ → List ℕ) (rows top : ℕ) (frame from part before one two all : List (List ℕ))
     (first last : List ℕ) → rows < length frame → from ≡ drop (min top (length frame)) frame →
     part ≡ take (min (rows - 2) (length from)) from →
-    first ≡ edge (more_mark ∷ []) [] (nat_lt 0 top) → last ≡ edge (more_mark ∷ []) [] (nat_lt (rows - 2) (length from)) →
+    first ≡ edge (more_mark ∷ []) [] (nat_lt 0 top) →
+    last ≡ edge (more_mark ∷ []) [] (nat_lt (rows - 2) (length from)) →
     one ≡ before ++ shown first ∷ [] → two ≡ one ++ map shown part → all ≡ two ++ shown last ∷ [] →
     all ≡ before ++ map shown (part_from rows top (more_mark ∷ []) [] frame)
 frame_parted shown rows top frame from part before one two all first last long is cut begins ends h i j =

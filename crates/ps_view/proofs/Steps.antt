@@ -1,5 +1,6 @@
 -- A view, bytes and pieces further; and lists that grow by one more.
-use Rattle.std.proofs.Common.{◌≡◌, ◌∙◌, ℕ, suc, zero, ◌+◌, ◌<◌, List, [], ◌∷◌, ◌++◌, length, take, get_or, refl, sym, ap}
+use Rattle.std.proofs.Common.{◌≡◌, ◌∙◌, ℕ, suc, zero, ◌+◌, ◌<◌, List, [], ◌∷◌, ◌++◌, length, take, get_or, refl, sym}
+use Rattle.std.proofs.Common.{ap}
 use Rattle.std.proofs.Common.{append_assoc, append-nil, arith}
 use Rattle.std.proofs.lemmas.List.{take_more}
 use Rattle.std.specs.List.{flat_map, range_with_len}
@@ -15,12 +16,14 @@ view_behind-append view (byte ∷ first) second = view_behind-append (byte_step 
 pub handed_on-append : PiecesAreAsTheWhole
 handed_on-append view [] second = refl
 handed_on-append view (byte ∷ first) second =
-    ap (λ (rest : List ℕ). (byte_step view byte).bytes ++ rest) (handed_on-append (byte_step view byte).view first second)
+    ap (λ (rest : List ℕ). (byte_step view byte).bytes ++ rest)
+    (handed_on-append (byte_step view byte).view first second)
     ∙ sym (append_assoc (byte_step view byte).bytes (handed_on (byte_step view byte).view first) _)
 
 -- one byte more of a piece
 pub view_behind-more : (view : View) (bytes : List ℕ) (place : ℕ) → place < length bytes →
-    view_behind view (take (place + 1) bytes) ≡ (byte_step (view_behind view (take place bytes)) (get_or bytes place 0)).view
+    view_behind view (take (place + 1) bytes)
+    ≡ (byte_step (view_behind view (take place bytes)) (get_or bytes place 0)).view
 view_behind-more view bytes place within =
     rw (take_more bytes place 0 within) (view_behind-append view (take place bytes) (get_or bytes place 0 ∷ []))
 

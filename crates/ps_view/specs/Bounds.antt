@@ -1,8 +1,8 @@
--- What holds of every screen: it has no more rows than the terminal, and no character in it is an order.
-use Rattle.std.specs.Prelude.{◌≡◌, ℕ, ◌≤◌, false, List, length, All}
+-- What holds of every screen: it has no more rows and columns than the terminal, and no character in it is an order.
+use Rattle.std.specs.Prelude.{◌≡◌, ℕ, ◌+◌, ◌≤◌, false, List, [], ◌∷◌, length, All}
 use Rattle.ps_view.specs.declared.corners.Corner.{Corner}
 use Rattle.ps_view.specs.declared.sizes.Size.{Size}
-use Rattle.ps_view.specs.HarmlessTexts.{is_order}
+use Rattle.ps_view.specs.HarmlessTexts.{columns_of, is_order}
 use Rattle.ps_view.specs.Screens.{Told, screen_of}
 use Rattle.ps_view.specs.Views.{blank_view, view_behind}
 
@@ -22,3 +22,13 @@ ScreensAreHarmless = (size : Size) (output : List ℕ) → AreHarmlessRows (view
 abbrev pub ScreensFit : Type 0
 ScreensFit = (size : Size) (corner : Corner) (frame : List (List ℕ)) (told : Told) →
     length (screen_of size corner frame told) ≤ size.rows
+
+-- how many columns a row covers
+abbrev pub covered : List ℕ → ℕ
+covered [] = 0
+covered (character ∷ others) = columns_of character + covered others
+
+-- and no row goes past the last column
+abbrev pub RowsFit : Type 0
+RowsFit = (size : Size) (corner : Corner) (frame : List (List ℕ)) (told : Told) →
+    All (λ row. covered row ≤ size.columns) (screen_of size corner frame told)

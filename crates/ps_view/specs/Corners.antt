@@ -1,5 +1,6 @@
--- The part of a frame that is shown where the frame is larger than the terminal has room for. It is known by its upper
--- left corner, and moves by as little as shows the first cell that changed. At each edge a mark says that there is more.
+-- The part of a frame that is shown where the frame is larger than the terminal has room for. It is known by its
+-- upper left corner, and moves by as little as shows the first cell that changed. At each edge a mark says that there
+-- is more.
 use Rattle.std.specs.Prelude.{ℕ, suc, ◌+◌, ◌-◌, ◌/◌, ◌==◌, nat_eq, nat_lt, nat_le, Bool, true, false, if◌then◌else◌}
 use Rattle.std.specs.Prelude.{List, [], ◌∷◌, ◌++◌, length, take, drop, map, fold, max, min, slice_index_or}
 use Rattle.std.specs.Str.{bytes_eq}
@@ -49,8 +50,8 @@ alike same (item ∷ first) (other ∷ second) = elim (same item other) [
   | false ↦ 0
 ]
 
--- where a part that begins at a place, of so many items, begins then, so that it shows the item at another place: as near
--- as may be
+-- where a part that begins at a place, of so many items, begins then, so that it shows the item at another place: as
+-- near as may be
 abbrev pub moved : ℕ → ℕ → ℕ → ℕ
 moved size place shown =
     if nat_lt shown place then shown else (if nat_lt (shown - place) size then place else shown - (size - 1))

@@ -1,6 +1,6 @@
--- What the rows of a terminal show: the last frame at the top, and below it a line each for the title, the level and the
--- keys, and what is told last.
-use Rattle.std.specs.Prelude.{ℕ, suc, ◌-◌, max, if◌then◌else◌, List, [], ◌∷◌, ◌++◌, length, map, codes}
+-- What the rows of a terminal show: the last frame at the top, and below it a line each for the title, the level and
+-- the keys, and what is told last.
+use Rattle.std.specs.Prelude.{ℕ, suc, ◌-◌, max, if◌then◌else◌, List, [], ◌∷◌, ◌++◌, length, codes}
 use Rattle.std.specs.Prelude.{encode_utf8}
 use Rattle.std.specs.List.{flat_map, range_with_len}
 use Rattle.std.specs.Str.{bytes_eq}

@@ -12,9 +12,9 @@ use Rattle.ps_view.specs.Orders.{opening_orders, at_row, closing_orders}
 use Rattle.ps_view.specs.Corners.{corner_moved}
 use Rattle.ps_view.specs.Screens.{Told, screen_of, changes}
 
--- a view: the size of the terminal; what is told beside the board; the rows of the last whole frame, as characters, the
--- corner of the part of it that is shown, and the rows of the frame that has begun; the bytes of the line that has begun;
--- what the rows of the terminal show; whether anything was drawn yet; and whether the ending was
+-- a view: the size of the terminal; what is told beside the board; the rows of the last whole frame, as characters,
+-- the corner of the part of it that is shown, and the rows of the frame that has begun; the bytes of the line that
+-- has begun; what the rows of the terminal show; whether anything was drawn yet; and whether the ending was
 pub record View : Type 0 where
   pub size : Size
   pub told : Told
@@ -129,9 +129,9 @@ with_next_line view = record view { line = [] }
 abbrev pub go_on : List ℕ
 go_on = codes " [x]"
 
--- a line that has ended, by what it is. A row of a frame waits for the empty line that ends the frame, the title and the
--- level for what is drawn next. That a level is done isn't shown: what comes next is told in the same text. What is drawn
--- behind a message takes its place
+-- a line that has ended, by what it is. A row of a frame waits for the empty line that ends the frame, the title and
+-- the level for what is drawn next. That a level is done isn't shown: what comes next is told in the same text. What
+-- is drawn behind a message takes its place
 abbrev pub line_told : View → LineKind → Step
 line_told view Title = quietly (with_title view view.line)
 line_told view Level = quietly (with_level view view.line)

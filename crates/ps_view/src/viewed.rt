@@ -1,6 +1,7 @@
 //! A device above another.
 
-ghost use Rattle.std.specs.Prelude.{◌≡◌, ◌+◌, ◌<◌, ◌≤◌, ◌||◌, ℕ, None, true, false, length, take, IfOk, OnOk, OnErr, IsErr};
+ghost use Rattle.std.specs.Prelude.{◌≡◌, ◌+◌, ◌<◌, ◌≤◌, ◌||◌, ℕ, None, true, false, length, take, IfOk, OnOk, OnErr};
+ghost use Rattle.std.specs.Prelude.{IsErr};
 ghost use Rattle.ps_devices.specs.Devices.{Grows, most_calls};
 ghost use Rattle.ps_view.specs.Views.{blank_view, handed_on, view_behind};
 

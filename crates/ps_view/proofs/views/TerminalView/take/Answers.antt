@@ -1,5 +1,5 @@
-use Rattle.std.proofs.Common.{◌≡◌, ◌∙◌, ◌++◌, ℕ, List, append_assoc, take, sym, ap, ap₂, get_or}
-use Rattle.ps_view.specs.Views.{View, byte_step, handed_on, view_behind}
+use Rattle.std.proofs.Common.{◌∙◌, ◌++◌, ℕ, List, append_assoc, take, sym, ap, ap₂, get_or}
+use Rattle.ps_view.specs.Views.{View, byte_step, handed_on}
 use Rattle.ps_view.proofs.Steps.{view_behind-more, handed_on-more}
 use Rattle.ps_view.proofs.views.TerminalView.take.Goals as goal
 
@@ -9,7 +9,8 @@ loop-byte-preserved c =
     let byte = get_or c.args.bytes.now place 0 in
     let start = c.args.self.now in
     record {
-      view = c.in_ok-take_byte.ensures.view ∙ ap (λ (view : View). (byte_step view byte).view) c.loop-byte.invariant.view
+      view = c.in_ok-take_byte.ensures.view
+          ∙ ap (λ (view : View). (byte_step view byte).view) c.loop-byte.invariant.view
           ∙ sym (view_behind-more start c.args.bytes.now place c.loop-byte-test.true);
       added = c.in_ok-take_byte.ensures.added
           ∙ ap₂ (λ (orders : List ℕ) (view : View). orders ++ (byte_step view byte).bytes) c.loop-byte.invariant.added
