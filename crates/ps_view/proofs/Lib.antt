@@ -5,3 +5,4 @@ pub mod HarmlessRows
 pub mod HarmlessViews
 pub mod Heights
 pub mod Widths
+mod ViewRows
