@@ -76,7 +76,8 @@ wrapped_wide_text : wrapped 3 (codes "漢漢a") ≡ codes "漢" ∷ codes "漢a"
 unfolding unicode_width
 wrapped_wide_text = refl
 
-shortened_text : shortened 3 (codes "a" ∷ codes "b" ∷ codes "c" ∷ codes "d" ∷ []) ≡ codes "a" ∷ codes "…" ∷ codes "d" ∷ []
+shortened_text : shortened 3 (codes "a" ∷ codes "b" ∷ codes "c" ∷ codes "d" ∷ [])
+    ≡ codes "a" ∷ codes "…" ∷ codes "d" ∷ []
 shortened_text = refl
 
 -- parts of frames -----------------------------------------------------------------------------------------------------
