@@ -4,17 +4,14 @@ ghost use Rattle.std.specs.Prelude.{◌≡◌, ◌≤◌, false, OnOk};
 
 use crate::command::{Asked, read_command};
 use crate::explanations::explanation;
+use crate::files::read_game_file;
+use crate::playing::play_asked;
 use crate::stops::{Stop, stop_for, tell};
 use ps_check::{check, check_named};
-use ps_devices::{ByteReader, ByteWriter, FromStd};
-use ps_model::TEXT_LIMIT;
-use ps_run::{RunFault, run};
-use std::io::Read;
+use ps_devices::{ByteReader, ByteWriter};
+use ps_run::RunFault;
 use std::rt::{Env, Files};
-use std::{env, fs, io};
-
-/// How many bytes of a game are read at most: one more than a game may have, so that a longer one is known.
-const MOST_READ: u64 = TEXT_LIMIT as u64 + 1;
+use std::{env, io};
 
 /// Does what the command line asks for, with keys from `keys`, unless it names a file of keys, and frames to `screen`.
 /// Gives the status to end with: 0 where a run ended, a text was accepted or what was asked for was told, 1 at a
@@ -51,41 +48,8 @@ fn act<R: Env + Files + AllocGlobal + Print + Eprint, I: ByteReader, O: ByteWrit
         Asked::Explanation(code) => explain(rt, code),
         Asked::Check(path) => check_text(rt, path, screen),
         Asked::CheckAll(paths) => check_texts(rt, &paths, screen),
-        Asked::Play(path) => {
-            let text = read_game_file(rt, path).map_err(|error| stop_for(error, Stop::Game))?;
-            play(rt, &text, keys, screen)
-        }
-        Asked::PlayFrom(path, file) => play_from(rt, path, file, screen),
+        Asked::Play(asked) => play_asked(rt, asked, keys, screen),
     }
-}
-
-/// Plays a game with keys from a reader.
-fn play<R: AllocGlobal, I: ByteReader, O: ByteWriter>(
-    rt: &R,
-    text: &[u8],
-    keys: &mut I,
-    screen: &mut O,
-) -> Result<(), Stop>
-    requires heard { (I.state keys.old).has_failed ≡ false }
-    requires well { (O.state screen.old).has_failed ≡ false }
-{
-    let _ending = run(rt.alloc(), text, keys, screen)?;
-    Ok(())
-}
-
-/// Plays a game with keys from a file, which is opened once the game's text was read.
-fn play_from<R: Files + AllocGlobal, O: ByteWriter>(
-    rt: &R,
-    path: &str,
-    file: &str,
-    screen: &mut O,
-) -> Result<(), Stop>
-    requires well { (O.state screen.old).has_failed ≡ false }
-{
-    let text = read_game_file(rt, path).map_err(|error| stop_for(error, Stop::Game))?;
-    let file = fs::open(rt, file).map_err(|error| stop_for(error, Stop::Run(RunFault::Read)))?;
-    let mut keys = FromStd::new(file);
-    play(rt, &text, &mut keys, screen)
 }
 
 /// Says on the screen whether the text of a file is a game.
@@ -158,11 +122,4 @@ fn explain<R: Print>(rt: &R, code: &str) -> Result<(), Stop> {
         return Err(Stop::NoSuchCode);
     };
     rt.println(sentence).map_err(|_| Stop::Run(RunFault::Write))
-}
-
-/// The first bytes of a file, at most `MOST_READ`.
-fn read_game_file<R: Files + AllocGlobal>(rt: &R, path: &str) -> io::Result<Vec<u8>> {
-    let mut text = Vec::new(rt.alloc());
-    fs::open(rt, path)?.take(MOST_READ).read_to_end(&mut text)?;
-    Ok(text)
 }

@@ -7,6 +7,9 @@
 mod acts;
 mod command;
 mod explanations;
+mod files;
+mod playing;
+mod sizes;
 mod stops;
 
 pub use acts::run_command_line;
