@@ -9,3 +9,4 @@ pub mod SlotsWritten
 pub mod PlaneCopies
 pub mod RowDifferences
 pub mod RowHistories
+pub mod LayersTouched

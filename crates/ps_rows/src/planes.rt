@@ -1,15 +1,16 @@
 //! Planes of rows, each row a set of columns, as one flat list of sets, with an index of their rows.
 
-ghost use Rattle.std.specs.Prelude.{◌≡◌, ◌+◌, ◌*◌, ◌/◌, ◌%◌, ◌<◌, ◌≤◌, ℕ, ◌∷◌, [], IfOk, find, length, replicate};
-ghost use Rattle.std.specs.Prelude.{nat_lt, slice_set, true, vec_len};
+ghost use Rattle.std.specs.Prelude.{◌≡◌, ◌+◌, ◌*◌, ◌/◌, ◌%◌, ◌^◌, ◌<◌, ◌≤◌, ℕ, ◌∷◌, [], IfOk, false, find, length};
+ghost use Rattle.std.specs.Prelude.{nat_eq, nat_lt, replicate, slice_set, true, vec_len};
+ghost use Rattle.std.specs.List.{list_any};
 ghost use Rattle.ps_model.specs.board.Movement.{is_number};
 ghost use Rattle.ps_model.specs.declared.limits.TheConstants.{SIDE_LIMIT};
-ghost use Rattle.ps_board.specs.ColumnSets.{no_columns};
+ghost use Rattle.ps_board.specs.ColumnSets.{column_at, no_columns};
 ghost use Rattle.ps_rows.specs.Planes.{AreSets, HavePlanes, IsSet, has_cell, row_of, with_cell, with_cell_in};
 ghost use Rattle.ps_rows.specs.PlaneCopies.{ArePlanesOf, AreRowsOf};
 ghost use Rattle.ps_rows.specs.RowIndex.{AreRowsMarked};
 ghost use Rattle.ps_rows.specs.Sameness.{DifferOnlyOnRows};
-ghost use Rattle.ps_rows.specs.Showing.{cleared_from};
+ghost use Rattle.ps_rows.specs.Showing.{cleared_from, motion_planes};
 
 use ps_board::{ColumnWords, Columns};
 use ps_model::Memory;
@@ -141,6 +142,21 @@ impl<W: ColumnWords> Planes<W> {
         ensures { result ≡ row_of self.now.index.items plane }
     {
         self.index[plane as usize]
+    }
+
+    /// The rows that one of five planes from the first on may have a column in.
+    pub fn five_rows_of(&self, first: u32) -> Columns<W>
+        requires few { first + 4 < 2 ^ 32 }
+        requires planes { (first + 5) * self.now.height ≤ vec_len self.now.words }
+        ensures { let p = self.now in (plane row : ℕ) → list_any (nat_eq plane) (motion_planes first) ≡ true →
+            row < p.height → column_at result row ≡ false →
+            row_of p.words.items (plane * p.height + row) ≡ no_columns }
+    {
+        self.rows_of(first)
+            .either(self.rows_of(first + 1))
+            .either(self.rows_of(first + 2))
+            .either(self.rows_of(first + 3))
+            .either(self.rows_of(first + 4))
     }
 
     /// Gives a row of a plane these columns.
