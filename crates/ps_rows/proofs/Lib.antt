@@ -32,3 +32,4 @@ pub mod CopiesShown
 pub mod OneCell
 pub mod RowDifferences
 pub mod RowHistories
+pub mod Untouched
