@@ -1,9 +1,9 @@
 -- Two boards of the same size for the same game show the same where their planes have the same cells.
 use Rattle.std.proofs.Common.{◌≡◌, ℕ, ◌+◌, ◌*◌, ◌/◌, ◌%◌, ◌<◌, ◌≤◌, inl, inr, Bool, true, false, ◌&&◌, Option}
-use Rattle.std.proofs.Common.{Some, None, List, [], ◌∷◌, get_or, refl, sym, ap, ap₂, ◌∙◌, arith}
+use Rattle.std.proofs.Common.{Some, None, List, [], get_or, refl, sym, ap, ◌∙◌, arith}
 use Rattle.std.specs.Prelude.{nat_eq, slice_get, option_map}
 use Rattle.std.specs.List.{list_any}
-use Rattle.std.proofs.lemmas.Bool.{cases_eq, cases_lt, cases_Bool, and_parts, false≢true, lt-ltb, le-ltb}
+use Rattle.std.proofs.lemmas.Bool.{cases_eq, cases_lt, cases_Bool, false≢true, lt-ltb, le-ltb}
 use Rattle.std.proofs.lemmas.Nat.{mul-add-lt, div-mul-add, mod-mul-add, mod_below, div_below}
 use Rattle.std.proofs.Math.Bool.{and-true, and-false}
 use Rattle.ps_model.specs.declared.pieces.ObjectId.{ObjectId}
@@ -11,13 +11,11 @@ use Rattle.ps_model.specs.declared.pieces.Direction.TheVariants.{Up, Down, Left,
 use Rattle.ps_model.specs.declared.pieces.Motion.{Motion}
 use Rattle.ps_model.specs.declared.pieces.Motion.TheVariants.{Going, Acting}
 use Rattle.ps_model.specs.declared.pieces.Slot.{Slot}
-use Rattle.ps_model.specs.declared.pieces.Slot.TheVariants.{Bare, Holds}
-use Rattle.ps_model.specs.board.Attempts.{same_slot, same_cell}
+use Rattle.ps_model.specs.declared.pieces.Slot.TheVariants.{Bare}
 use Rattle.ps_model.specs.board.Grid.{motion_in, object_in, slot_of}
 use Rattle.ps_model.specs.board.Movement.{is_number}
 use Rattle.ps_model.specs.board.Turns.{same_cells}
 use Rattle.ps_model.specs.meaning.Fitting.{same_motion}
-use Rattle.ps_model.specs.names.Names.{same_object}
 use Rattle.ps_laws.proofs.common.SameThings.{same_cells-own, same_cells-true}
 use Rattle.ps_rows.specs.Planes.{has_cell, row_of}
 use Rattle.ps_rows.specs.Members.{on_layer}

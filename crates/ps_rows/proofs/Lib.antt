@@ -33,3 +33,4 @@ pub mod OneCell
 pub mod RowDifferences
 pub mod RowHistories
 pub mod LayersTouched
+pub mod Untouched

@@ -1,16 +1,14 @@
 -- Rows that are changed by what differs.
 use Rattle.std.proofs.Common.{◌≡◌, ◌≢◌, ◌∙◌, ℕ, ◌+◌, ◌*◌, ◌-◌, ◌<◌, ◌≤◌, inl, inr, Bool, true, false, not, List, []}
 use Rattle.std.proofs.Common.{◌∷◌, ◌++◌, length, get_or, drop, refl, sym, ap, arith}
-use Rattle.std.specs.Prelude.{nat_lt, if◌then◌else◌, slice_set}
-use Rattle.std.proofs.lemmas.Bool.{cases_Bool, cases_eq, cases_lt, le-ltb, lt-ltb}
+use Rattle.std.specs.Prelude.{if◌then◌else◌, slice_set}
+use Rattle.std.proofs.lemmas.Bool.{cases_eq, cases_lt, le-ltb, lt-ltb}
 use Rattle.std.proofs.lemmas.List.{at_drop_all, at_drop_more, get_or_default, get_or-set_other, get_or-set_same}
 use Rattle.std.proofs.lemmas.List.{length-set, same_lists, set_past}
-use Rattle.ps_model.specs.declared.limits.TheConstants.{SIDE_LIMIT}
 use Rattle.ps_board.specs.ColumnSets.{column_at, no_columns, unlike_columns}
-use Rattle.ps_rows.specs.Planes.{AreSets, IsSet, row_of}
+use Rattle.ps_rows.specs.Planes.{IsSet, row_of}
 use Rattle.ps_rows.specs.RowDifferences.{Difference, Lead, LeadBothWays, row_changed, rows_changed}
 use Rattle.ps_rows.specs.Sameness.{DifferOnlyOnRows}
-use Rattle.ps_rows.specs.declared.row_differences.RowDifference.{RowDifference}
 use Rattle.ps_rows.proofs.Sets.{none_at, same_set, set_where, unlike_at}
 
 -- sets ----------------------------------------------------------------------------------------------------------------

@@ -2,7 +2,7 @@ use Rattle.std.proofs.Common.{◌≡◌, ◌+◌, ◌*◌, ◌<◌, ◌∙◌, �
 use Rattle.std.proofs.Common.{rules}
 use Rattle.ps_board.specs.ColumnSets.{set_columns, unlike_columns}
 use Rattle.ps_rows.specs.Planes.{row_of}
-use Rattle.ps_rows.specs.RowDifferences.{Difference, LeadBothWays}
+use Rattle.ps_rows.specs.RowDifferences.{LeadBothWays}
 use Rattle.ps_rows.proofs.RowDifferences.{both_more, both_plane, both_same}
 use Rattle.ps_rows.proofs.Sets.{same_by_unlike, same_set}
 use Rattle.ps_rows.proofs.row_differences.add_differences.Goals as goal

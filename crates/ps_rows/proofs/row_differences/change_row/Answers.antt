@@ -1,9 +1,9 @@
-use Rattle.std.proofs.Common.{◌≡◌, ◌∙◌, ℕ, ◌+◌, ◌*◌, ◌<◌, ◌≤◌, Bool, List, length, sym, ap, arith, subst}
+use Rattle.std.proofs.Common.{◌∙◌, ℕ, ◌+◌, ◌*◌, ◌<◌, ◌≤◌, Bool, List, length, sym, ap, arith, subst}
 use Rattle.std.specs.Prelude.{slice_set}
 use Rattle.std.proofs.Math.Nat.{mul-le-mul_left}
 use Rattle.std.proofs.lemmas.Bool.{ltb-false}
 use Rattle.ps_board.specs.ColumnSets.{unlike_columns}
-use Rattle.ps_rows.specs.Planes.{IsSet, row_of}
+use Rattle.ps_rows.specs.Planes.{IsSet}
 use Rattle.ps_rows.proofs.RowDifferences.{changed_below, changed_beyond, changed_inside, unlike_set}
 use Rattle.ps_rows.proofs.row_differences.change_row.Goals as goal
 

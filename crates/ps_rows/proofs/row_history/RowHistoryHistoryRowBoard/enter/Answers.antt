@@ -1,5 +1,5 @@
-use Rattle.std.proofs.Common.{◌≡◌, ◌∙◌, ap, sym, ◌++◌, ◌∷◌, [], List, Option, Some}
-use Rattle.ps_board.specs.Histories.{BoardShown, boards_kept}
+use Rattle.std.proofs.Common.{◌∙◌, ap, ◌++◌, ◌∷◌, []}
+use Rattle.ps_board.specs.Histories.{boards_kept}
 use Rattle.ps_rows.specs.RowHistories.{HistoryShown}
 use Rattle.ps_rows.proofs.RowHistories.{entered_are, entered_boards, first_are, first_boards, ready_leads}
 use Rattle.ps_rows.proofs.row_history.RowHistoryHistoryRowBoard.enter.Goals as goal

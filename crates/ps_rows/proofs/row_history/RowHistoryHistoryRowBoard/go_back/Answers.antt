@@ -1,4 +1,4 @@
-use Rattle.std.proofs.Common.{◌≡◌, ◌∙◌, ap, sym, refl}
+use Rattle.std.proofs.Common.{◌∙◌, ap}
 use Rattle.ps_board.specs.Histories.{boards_before}
 use Rattle.ps_rows.specs.RowHistories.{HistoryShown}
 use Rattle.ps_rows.proofs.RowHistories.{gone_all, gone_are, gone_boards, gone_leads}
