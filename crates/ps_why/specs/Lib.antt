@@ -1,0 +1,5 @@
+pub mod Causes
+pub mod Declarations
+pub mod NamesShown
+pub mod Objects
+pub mod Wording
