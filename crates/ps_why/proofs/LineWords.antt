@@ -22,14 +22,14 @@ pub each_word : (text : List ℕ) (line : ℕ) (cut : Cut) (words : List Word) �
     All (IsSliceOf text) words → All (IsWordOf text line) words
 each_word text line cut words c spans slices = λ k d less.
     let same : map span_of words ≡ map (span_at (line_at text line))
-        (words_under (cut_of (line_at text line).section) (line_at text line).bytes) =
+    (words_under (cut_of (line_at text line).section) (line_at text line).bytes) =
     spans ∙ ap (λ (c : Cut). map (span_at (line_at text line)) (words_under c (line_at text line).bytes)) c in
     let span : Span = span_of (get_or words k d) in
     let within : k < length (map (span_at (line_at text line))
-        (words_under (cut_of (line_at text line).section) (line_at text line).bytes)) =
+    (words_under (cut_of (line_at text line).section) (line_at text line).bytes)) =
     rw (← same, length-map) less in
     let here : span ≡ get_or (map (span_at (line_at text line))
-        (words_under (cut_of (line_at text line).section) (line_at text line).bytes)) k span =
+    (words_under (cut_of (line_at text line).section) (line_at text line).bytes)) k span =
     part-at span_of words k d span less ∙ ap (λ (spans : List Span). get_or spans k span) same in
     record { span = (k, (within, here)); bytes = slices k d less }
 

@@ -11,10 +11,7 @@ pub enum Hint<'a> {
     /// A name that is declared and is written much like the word.
     Near(Named<'a>),
     /// A character of the word that isn't ASCII, and what it looks like, in words.
-    Strange {
-        character: char,
-        like: &'static str,
-    },
+    Strange { character: char, like: &'static str },
     /// The word is `and` or `or`, which join names on the right of a line of LEGEND.
     Joins,
 }
@@ -25,11 +22,19 @@ pub enum Cause<'a> {
     /// No more is told than the fault.
     Untold,
     /// The word is declared neither in OBJECTS nor in LEGEND.
-    Undeclared { word: Word<'a>, hint: Hint<'a> },
+    Undeclared {
+        word: Word<'a>,
+        hint: Hint<'a>,
+    },
     /// The word is no key word of rules, and declared neither in OBJECTS nor in LEGEND.
-    Meaningless { word: Word<'a>, hint: Hint<'a> },
+    Meaningless {
+        word: Word<'a>,
+        hint: Hint<'a>,
+    },
     /// The object of that name has no layer: the name stands in no line of COLLISIONLAYERS.
-    Unlayered { word: Word<'a> },
+    Unlayered {
+        word: Word<'a>,
+    },
     /// A character of a row, the first word of the line, is no name. Its column counts from 1, at the row's first
     /// character.
     UnknownGlyph {
@@ -38,7 +43,10 @@ pub enum Cause<'a> {
         column: usize,
     },
     /// A row has characters on both sides of a blank, which stands right behind its first word.
-    BrokenRow { row: Word<'a>, blank: Blank },
+    BrokenRow {
+        row: Word<'a>,
+        blank: Blank,
+    },
 }
 
 /// What parts the words of a line.

@@ -42,11 +42,7 @@ fn first_unknown(names: &[Named<'_>], characters: &[char]) -> Option<usize>
 }
 
 /// The first character of a row, a word, that is no name; its characters are given.
-fn unknown_glyph<'a>(
-    names: &[Named<'_>],
-    row: Word<'a>,
-    characters: &[char],
-) -> Option<Cause<'a>>
+fn unknown_glyph<'a>(names: &[Named<'_>], row: Word<'a>, characters: &[char]) -> Option<Cause<'a>>
     ensures { (text : List ℕ) (line : ℕ) → names_shown names.now ≡ declared text →
         characters.now ≡ chars row.entry.text.now → IsWordOf text line row.entry → IfSome result (IsToldAt text line) }
 {

@@ -56,24 +56,21 @@ fn are_within_two(a: &[u8], b: &[u8]) -> bool {
 
 /// How many bytes a word has at least that is compared with names which one edit makes of it, and two.
 const LEAST_FOR_ONE: usize = 3;
+
 const LEAST_FOR_TWO: usize = 5;
 
 /// Whether a name is so near to a word.
 fn is_within(distance: Distance, word: &str, name: &str) -> bool {
     match distance {
-        Distance::One =>
-            word.len() >= LEAST_FOR_ONE && are_within_one(word.as_bytes(), name.as_bytes()),
-        Distance::Two =>
-            word.len() >= LEAST_FOR_TWO && are_within_two(word.as_bytes(), name.as_bytes()),
+        Distance::One => word.len() >= LEAST_FOR_ONE
+            && are_within_one(word.as_bytes(), name.as_bytes()),
+        Distance::Two => word.len() >= LEAST_FOR_TWO
+            && are_within_two(word.as_bytes(), name.as_bytes()),
     }
 }
 
 /// The first of the names that is so near to a word.
-fn first_within<'a>(
-    distance: Distance,
-    names: &[Named<'a>],
-    word: &str,
-) -> Option<Named<'a>>
+fn first_within<'a>(distance: Distance, names: &[Named<'a>], word: &str) -> Option<Named<'a>>
     ensures { IfSome result (IsAmong names.now) }
 {
     for at in 0..names.len() {

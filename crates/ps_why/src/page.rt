@@ -1,7 +1,9 @@
 //! A line of a text as it is shown, with a mark below the words that a detail is about.
 
-ghost use Rattle.std.specs.Prelude.{◌≤◌, length};
+ghost use Rattle.std.specs.Prelude.{◌≡◌, ◌≤◌, IfOk, length, string_bytes};
+ghost use Rattle.ps_why.specs.Shown.{is_order, shown_character, shown_characters, shown_text};
 
+use crate::strange::characters_in;
 use ps_model::Memory;
 use std::alloc::Global;
 
@@ -68,34 +70,54 @@ fn line_bytes(text: &[u8], line: u32) -> LineBytes
     }
 }
 
-/// The character, or a point in place of one that a terminal takes as an order.
-fn shown(character: char) -> char {
+/// Whether a terminal takes the character as an order: those below 32 but for the tab, 127, and U+0080 to U+009F.
+fn is_order(character: char) -> bool
+    ensures { result ≡ is_order character }
+{
     let code = character as u32;
-    if code == 9 {
-        return character;
-    }
-    if code < 32 || (code >= 127 && code < 160) {
+    (code < 32 && code != 9) || (code >= 127 && code < 160)
+}
+
+/// The character, or a point in place of one that a terminal takes as an order.
+fn shown_character(character: char) -> char
+    ensures { result ≡ shown_character character }
+{
+    if is_order(character) {
         return '·';
     }
     character
 }
 
-/// Puts a text last, as it is shown.
-pub fn push_shown(page: &mut String, text: &str) -> Result<(), Memory> {
-    for character in text.chars() {
-        page.push(shown(character))?;
+/// The characters as a text in which none is an order.
+fn shown_characters(alloc: Global, characters: &[char]) -> Result<String, Memory>
+    ensures { IfOk result (λ shown. string_bytes shown ≡ shown_characters characters.now) }
+{
+    let mut made = String::new(alloc);
+    for at in 0..characters.len() {
+        made.push(shown_character(characters[at]))?;
     }
-    Ok(())
+    Ok(made)
+}
+
+/// A text with points in place of characters that a terminal takes as orders.
+pub fn shown(alloc: Global, text: &str) -> Result<String, Memory>
+    ensures { IfOk result (λ made. string_bytes made ≡ shown_text text.now) }
+{
+    let characters = characters_in(alloc, text)?;
+    let made = shown_characters(alloc, &characters)?;
+    Ok(made)
 }
 
 /// Puts the front of a line last, as it is shown, where it is UTF-8.
-fn push_front(page: &mut String, line: &[u8]) -> Result<(), Memory> {
+fn push_front(alloc: Global, page: &mut String, line: &[u8]) -> Result<(), Memory> {
     let front = &line[..line.len().min(MOST_SHOWN)];
-    let shown = match std::str::from_utf8(front) {
+    let text = match std::str::from_utf8(front) {
         Ok(text) => text,
         Err(_) => "",
     };
-    push_shown(page, shown)
+    let shown = shown(alloc, text)?;
+    page.push_str(&shown)?;
+    Ok(())
 }
 
 /// Whether the byte goes on with a character that has begun before it.
@@ -129,25 +151,23 @@ fn push_caret(page: &mut String, byte: u8, is_marked: bool) -> Result<(), Memory
     Ok(())
 }
 
-/// Puts a line of a text last, behind its number, and below it the mark, if there is one.
-pub fn push_line(
+/// A line of a text behind its number, and below it the mark, if there is one.
+pub fn line_shown(
     alloc: Global,
-    page: &mut String,
     text: &[u8],
     line: u32,
     mark: Option<Mark>,
-) -> Result<(), Memory> {
+) -> Result<String, Memory> {
     let bytes = line_bytes(text, line);
     let raw = &text[bytes.from..bytes.to];
-    let number = format!(in alloc; "{line:>6}  ")?;
-    page.push_str(&number)?;
-    push_front(page, raw)?;
+    let mut page = format!(in alloc; "{line:>6}  ")?;
+    push_front(alloc, &mut page, raw)?;
     page.push('\n')?;
     let Some(mark) = mark else {
-        return Ok(());
+        return Ok(page);
     };
     page.push_str("        ")?;
-    push_carets(page, raw, bytes.from, mark)?;
+    push_carets(&mut page, raw, bytes.from, mark)?;
     page.push('\n')?;
-    Ok(())
+    Ok(page)
 }

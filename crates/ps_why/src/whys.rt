@@ -1,13 +1,14 @@
 //! What is told of a fault of a text.
 
-ghost use Rattle.std.specs.Prelude.{◌≡◌, IfOk};
+ghost use Rattle.std.specs.Prelude.{◌≡◌, IfOk, string_bytes};
 ghost use Rattle.ps_model.specs.text.LineNumbers.{HasLine};
 ghost use Rattle.ps_why.specs.Causes.{IsToldAt};
+ghost use Rattle.ps_why.specs.Shown.{TellsTruth};
 
 use crate::causes::Cause;
 use crate::glyphs::glyph_cause;
 use crate::layers::unlayered_cause;
-use crate::page::{Mark, push_line, push_shown};
+use crate::page::{Mark, line_shown, shown};
 use crate::rule_words::meaningless_cause;
 use crate::undeclared::undeclared_cause;
 use crate::wording::sentence;
@@ -27,8 +28,9 @@ fn cause_at<'a>(
     ensures { IfOk result (IsToldAt source.now fault.line) }
 {
     match fault.kind {
-        FaultKind::UnknownName | FaultKind::UnknownWinName =>
-            undeclared_cause(alloc, source, fault.line),
+        FaultKind::UnknownName | FaultKind::UnknownWinName => undeclared_cause(
+            alloc, source, fault.line,
+        ),
         FaultKind::UnknownWord => meaningless_cause(alloc, source, fault.line),
         FaultKind::NoLayer => unlayered_cause(alloc, source, fault.line),
         FaultKind::UnknownGlyph => glyph_cause(alloc, text, source, fault.line),
@@ -104,50 +106,42 @@ fn mark_of(cause: Cause<'_>) -> Option<Mark> {
     }
 }
 
-/// What is told of a fault of a text, in lines: the line that has it, by its number, with a mark below the words that
-/// it is about, and a sentence. Where no more is told than the fault, that is its line alone; of bytes that are no text,
-/// nothing.
+/// What is told of a fault.
+#[derive(Drop, Debug)]
+pub struct Told {
+    /// The line that has the fault, behind its number, and below it a mark under the words that it is about, if there
+    /// are such. Each line ends with a line feed. Of bytes that are no text, nothing.
+    pub line: String,
+    /// A sentence or two, without a line feed. Empty where no more is told than the fault.
+    pub sentence: String,
+}
+
+/// What is told of a fault of a text that was read.
+fn told_of(alloc: Global, text: &[u8], source: &Source, fault: Fault) -> Result<Told, Memory>
+    requires { source.now ≡ text.now }
+    ensures { IfOk result (λ told. TellsTruth text.now fault.line (string_bytes told.sentence)) }
+{
+    let cause = cause_of(alloc, text, source, fault)?;
+    let line = line_shown(alloc, text, fault.line, mark_of(cause))?;
+    let words = sentence(alloc, cause)?;
+    let sentence = shown(alloc, &words)?;
+    Ok(Told { line, sentence })
+}
+
+/// What is told of a fault of a text. The sentence is that of a cause that is true of the text.
 ///
 /// # Errors
 ///
 /// `Memory` if a growth was refused.
-pub fn why(alloc: Global, text: &[u8], fault: Fault) -> Result<Told, Memory> {
+pub fn why(alloc: Global, text: &[u8], fault: Fault) -> Result<Told, Memory>
+    ensures { IfOk result (λ told. TellsTruth text.now fault.line (string_bytes told.sentence)) }
+{
     match Source::read(alloc, text) {
-        Ok(source) => why_of_source(alloc, text, &source, fault),
+        Ok(source) => told_of(alloc, text, &source, fault),
         Err(Refusal::Memory) => Err(Memory),
         Err(Refusal::Refused(_)) => Ok(Told {
-            page: String::new(alloc),
-            is_told: false,
+            line: String::new(alloc),
+            sentence: String::new(alloc),
         }),
     }
-}
-
-/// What is told of a fault.
-#[derive(Drop, Debug)]
-pub struct Told {
-    /// The fault's line, and what is told of it.
-    pub page: String,
-    /// Whether more is told than the line.
-    pub is_told: bool,
-}
-
-/// What is told of a fault of a text that was read.
-fn why_of_source(
-    alloc: Global,
-    text: &[u8],
-    source: &Source,
-    fault: Fault,
-) -> Result<Told, Memory>
-    requires { source.now ≡ text.now }
-{
-    let cause = cause_of(alloc, text, source, fault)?;
-    let mut page = String::new(alloc);
-    push_line(alloc, &mut page, text, fault.line, mark_of(cause))?;
-    let words = sentence(alloc, cause)?;
-    let is_told = !words.is_empty();
-    if is_told {
-        push_shown(&mut page, &words)?;
-        page.push('\n')?;
-    }
-    Ok(Told { page, is_told })
 }

@@ -96,8 +96,7 @@ fn meaningless_words(alloc: Global, word: &str, hint: Hint<'_>) -> Result<String
     ensures { IfOk result (λ words. string_bytes words ≡ meaningless_words word.now hint.entry) }
 {
     let more = hint_words(alloc, hint)?;
-    let words = format!(
-        in alloc;
+    let words = format!(in alloc;
         "`{word}` is no key word, and is declared neither in OBJECTS nor in LEGEND.{more}"
     )?;
     Ok(words)
@@ -116,8 +115,7 @@ fn glyph_words(alloc: Global, character: char, column: usize) -> Result<String, 
     ensures { IfOk result (λ words. string_bytes words ≡ glyph_words character column) }
 {
     let code = code_words(alloc, character)?;
-    let words = format!(
-        in alloc;
+    let words = format!(in alloc;
         "`{character}` ({code}) in column {column} is declared neither in OBJECTS nor in LEGEND."
     )?;
     Ok(words)
@@ -142,7 +140,9 @@ pub fn sentence(alloc: Global, cause: Cause<'_>) -> Result<String, Memory>
         Cause::Meaningless { word, hint } => meaningless_words(alloc, word.text(), hint),
         Cause::Unlayered { word } => unlayered_words(alloc, word.text()),
         Cause::UnknownGlyph {
-            character, column, ..
+            character,
+            column,
+            ..
         } => glyph_words(alloc, character, column),
         Cause::BrokenRow { row, blank } => broken_words(alloc, row.text(), blank),
     }
