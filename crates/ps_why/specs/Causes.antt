@@ -1,5 +1,5 @@
 -- What is told of a fault, and when that is true of the text.
-use Rattle.std.specs.Prelude.{◌≡◌, ◌≤◌, ◌<◌, ℕ, ◌+◌, ◌-◌, Bool, false, true, ⊤, Some, None, List, [], ◌∷◌, map, is_some, codes}
+use Rattle.std.specs.Prelude.{◌≡◌, ◌≤◌, ◌<◌, ℕ, nat_eq, ◌+◌, ◌-◌, Bool, ◌&&◌, Option, IfSome, false, true, ⊤, Some, None, List, [], ◌∷◌, map, is_some, codes}
 use Rattle.std.specs.Prelude.{slice_get, encode_utf8, slice_index_or}
 use Rattle.std.specs.List.{IsAmong, list_any}
 use Rattle.std.specs.Map.{lookup}
@@ -10,10 +10,10 @@ use Rattle.ps_model.specs.declared.texts.Cut.TheVariants as cuts
 use Rattle.ps_model.specs.declared.texts.Section.{Section}
 use Rattle.ps_model.specs.declared.texts.Section.TheVariants.{Prelude, Objects, Legend, Sounds, Layers, Rules, Wins}
 use Rattle.ps_model.specs.declared.texts.Section.TheVariants.{Levels}
-use Rattle.ps_model.specs.text.LineNumbers.{line_at}
+use Rattle.ps_model.specs.text.LineNumbers.{line_at, HasLine}
 use Rattle.ps_model.specs.text.Lines.{Line, lines_of, folded}
 use Rattle.ps_model.specs.text.RuleWords.{words_under}
-use Rattle.ps_model.specs.text.Sections.{section_lines}
+use Rattle.ps_model.specs.text.Sections.{section_lines, rank, header_lines, has_section}
 use Rattle.ps_model.specs.text.Words.{word_texts}
 use Rattle.ps_model.specs.rules.RuleSymbols.{key_words}
 use Rattle.ps_text.specs.WordViews.{IsSliceOf, span_at}
@@ -24,7 +24,8 @@ use Rattle.ps_why.specs.declared.causes.Hint.{Hint}
 use Rattle.ps_why.specs.declared.causes.Hint.TheVariants.{Nothing, Near, Strange, Joins}
 use Rattle.ps_why.specs.declared.causes.Cause.{Cause}
 use Rattle.ps_why.specs.declared.causes.Cause.TheVariants.{Untold, Undeclared, Meaningless, Unlayered, UnknownGlyph}
-use Rattle.ps_why.specs.declared.causes.Cause.TheVariants.{BrokenRow}
+use Rattle.ps_why.specs.declared.causes.Cause.TheVariants.{BrokenRow, LateHeader, MissingSection, Twice}
+use Rattle.ps_why.specs.declared.names.Named.{Named}
 use Rattle.ps_why.specs.Declarations.{is_declared, IsDeclaredAt}
 
 -- words ---------------------------------------------------------------------------------------------------------------
@@ -115,6 +116,41 @@ pub record IsBrokenRow (text : List ℕ) (line : ℕ) (row : Word) (blank : Blan
   pub behind : row.span.end < further.span.start
   pub parts : slice_index_or text row.span.end 0 ≡ byte_of blank
 
+-- a line above is a header of the same section or of a later one
+pub record IsLaterHeader (text : List ℕ) (line above : ℕ) : Type 0 where
+  pub there : HasLine text above
+  pub higher : above < line
+  pub header : (line_at text above).is_header ≡ true
+  pub later : rank (line_at text line).section ≤ rank (line_at text above).section
+
+-- the line is a header, one stands above that belongs below it, and these are their sections
+pub record IsLateHeader (text : List ℕ) (line : ℕ) (header : Word) (section : Section) (above : ℕ) (other : Section) :
+    Type 0 where
+  pub stands : IsWordOf text line header
+  pub own : (line_at text line).section ≡ section
+  pub below : IsLaterHeader text line above
+  pub belongs_below : (line_at text above).section ≡ other
+
+-- the line begins the section
+abbrev pub begins : Section → Line → Bool
+begins section line = line.is_header && nat_eq (rank section) (rank line.section)
+
+-- a line of the text is no header
+abbrev pub IsNoHeader : List ℕ → ℕ → Type 0
+IsNoHeader text line = HasLine text line × ((line_at text line).is_header ≡ false)
+
+-- no line is a header of the section, nor is that line
+pub record IsMissing (text : List ℕ) (section : Section) (like : Option ℕ) : Type 0 where
+  pub missing : has_section (header_lines (lines_of text)) section ≡ false
+  pub unlike : IfSome like (IsNoHeader text)
+
+-- a word of the line is declared above it
+pub record IsTwice (text : List ℕ) (line : ℕ) (word : Word) (first : Named) : Type 0 where
+  pub stands : IsWordOf text line word
+  pub declared_there : IsDeclaredAt text first.line first.name.now
+  pub above : first.line < line
+  pub same : bytes_eq (folded word.text.now) (folded first.name.now) ≡ true
+
 -- what is told of a line is true of the text
 abbrev pub IsToldAt : List ℕ → ℕ → Cause → Type 0
 IsToldAt text line Untold = ⊤
@@ -123,3 +159,6 @@ IsToldAt text line (Meaningless word hint) = IsMeaningless text line word hint
 IsToldAt text line (Unlayered word) = IsUnlayered text line word
 IsToldAt text line (UnknownGlyph row character column) = IsUnknownGlyph text line row character column
 IsToldAt text line (BrokenRow row blank) = IsBrokenRow text line row blank
+IsToldAt text line (LateHeader header section above other) = IsLateHeader text line header section above other
+IsToldAt text line (MissingSection section like) = IsMissing text section like
+IsToldAt text line (Twice word first) = IsTwice text line word first

@@ -1,5 +1,5 @@
 -- What is told of a fault, in words.
-use Rattle.std.specs.Prelude.{ℕ, true, List, [], ◌++◌, codes, nat_lt, if◌then◌else◌, encode_utf8}
+use Rattle.std.specs.Prelude.{ℕ, nat_eq, true, Option, Some, None, List, [], ◌++◌, codes, nat_lt, if◌then◌else◌, encode_utf8}
 use Rattle.std.specs.Fmt.{decimal, digits}
 use Rattle.ps_why.specs.declared.names.Named.{Named}
 use Rattle.ps_why.specs.declared.causes.Blank.{Blank}
@@ -8,7 +8,12 @@ use Rattle.ps_why.specs.declared.causes.Hint.{Hint}
 use Rattle.ps_why.specs.declared.causes.Hint.TheVariants.{Nothing, Near, Strange, Joins}
 use Rattle.ps_why.specs.declared.causes.Cause.{Cause}
 use Rattle.ps_why.specs.declared.causes.Cause.TheVariants.{Untold, Undeclared, Meaningless, Unlayered, UnknownGlyph}
-use Rattle.ps_why.specs.declared.causes.Cause.TheVariants.{BrokenRow}
+use Rattle.ps_why.specs.declared.causes.Cause.TheVariants.{BrokenRow, LateHeader, MissingSection, Twice}
+use Rattle.std.specs.Str.{bytes_eq}
+use Rattle.ps_model.specs.text.Sections.{rank}
+use Rattle.ps_model.specs.declared.texts.Section.{Section}
+use Rattle.ps_model.specs.declared.texts.Section.TheVariants.{Prelude, Objects, Legend, Sounds, Layers, Rules, Wins}
+use Rattle.ps_model.specs.declared.texts.Section.TheVariants.{Levels}
 
 -- the zeros before the digits of a character's code, of which there are four at least
 abbrev pub zeros : ℕ → List ℕ
@@ -60,6 +65,44 @@ glyph_words character column = codes "`" ++ (encode_utf8 character ++ (codes "` 
 abbrev pub broken_words : List ℕ → Blank → List ℕ
 broken_words row blank = blank_words blank ++ (codes " parts the row behind `" ++ (row ++ codes "`."))
 
+-- the word of a section's header
+abbrev pub section_name : Section → List ℕ
+section_name Prelude = codes "the prelude"
+section_name Objects = codes "OBJECTS"
+section_name Legend = codes "LEGEND"
+section_name Sounds = codes "SOUNDS"
+section_name Layers = codes "COLLISIONLAYERS"
+section_name Rules = codes "RULES"
+section_name Wins = codes "WINCONDITIONS"
+section_name Levels = codes "LEVELS"
+
+-- that a header stands below one that belongs below it
+abbrev pub late_words : Section → ℕ → Section → List ℕ
+late_words section above other =
+    if nat_eq (rank section) (rank other)
+    then codes "Line " ++ (decimal above ++ (codes " begins " ++ (section_name section ++ codes " already.")))
+    else section_name section ++ (codes " has to stand above " ++ (section_name other ++ (codes ", which begins in line "
+    ++ (decimal above ++ codes "."))))
+
+-- that a line isn't a header, behind a blank, if there is one
+abbrev pub like_words : Option ℕ → List ℕ
+like_words None = []
+like_words (Some line) = codes " Line " ++ (decimal line ++ codes " isn't one: a header is that word alone.")
+
+-- that a section isn't there
+abbrev pub missing_words : Section → Option ℕ → List ℕ
+missing_words section like = codes "There is no header " ++ (section_name section ++ (codes "." ++ like_words like))
+
+-- that names are one which are written otherwise
+abbrev pub case_words : List ℕ → List ℕ → List ℕ
+case_words word name = if bytes_eq name word then [] else codes ": upper and lower case are one"
+
+-- that a word is declared above
+abbrev pub twice_words : List ℕ → Named → List ℕ
+twice_words word first =
+    codes "Line " ++ (decimal first.line ++ (codes " declares `" ++ (first.name.now ++ (codes "` already" ++
+    (case_words word first.name.now ++ codes ".")))))
+
 -- what is told of a fault
 abbrev pub sentence : Cause → List ℕ
 sentence Untold = []
@@ -68,3 +111,6 @@ sentence (Meaningless word hint) = meaningless_words word.text.now hint
 sentence (Unlayered word) = unlayered_words word.text.now
 sentence (UnknownGlyph row character column) = glyph_words character column
 sentence (BrokenRow row blank) = broken_words row.text.now blank
+sentence (LateHeader header section above other) = late_words section above other
+sentence (MissingSection section like) = missing_words section like
+sentence (Twice word first) = twice_words word.text.now first

@@ -1,6 +1,7 @@
 //! Why a text has a fault, where more can be told than the fault itself.
 
 use crate::names::Named;
+use ps_model::Section;
 use ps_text::Word;
 
 /// What is told of a word that isn't a name here.
@@ -46,6 +47,23 @@ pub enum Cause<'a> {
     BrokenRow {
         row: Word<'a>,
         blank: Blank,
+    },
+    /// The header of a section stands below one of the same section or of a later one, which is at that line.
+    LateHeader {
+        header: Word<'a>,
+        section: Section,
+        above: u32,
+        other: Section,
+    },
+    /// No line is a header of the section; a line that is written much like one isn't it.
+    MissingSection {
+        section: Section,
+        like: Option<u32>,
+    },
+    /// The word is declared above its line.
+    Twice {
+        word: Word<'a>,
+        first: Named<'a>,
     },
 }
 

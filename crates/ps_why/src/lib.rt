@@ -6,6 +6,7 @@
 
 mod causes;
 mod glyphs;
+mod headers;
 mod hints;
 mod key_words;
 mod layers;
@@ -16,6 +17,7 @@ mod objects;
 mod page;
 mod rule_words;
 mod strange;
+mod twice;
 mod undeclared;
 mod whys;
 mod wording;

@@ -29,7 +29,7 @@ pub struct Named<'a> {
 }
 
 /// The place of a section among the sections.
-fn rank(section: Section) -> u32
+pub fn rank(section: Section) -> u32
     ensures { result ≡ rank section }
 {
     match section {

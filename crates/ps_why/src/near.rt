@@ -35,7 +35,7 @@ fn behind_first(bytes: &[u8]) -> &[u8] {
 }
 
 /// Whether an edit at most makes one of the other.
-fn are_within_one(a: &[u8], b: &[u8]) -> bool {
+pub fn are_within_one(a: &[u8], b: &[u8]) -> bool {
     let front = same_front(a, b);
     let a = &a[front..];
     let b = &b[front..];

@@ -7,9 +7,11 @@ ghost use Rattle.ps_why.specs.Shown.{TellsTruth};
 
 use crate::causes::Cause;
 use crate::glyphs::glyph_cause;
+use crate::headers::{late_cause, missing_cause};
 use crate::layers::unlayered_cause;
 use crate::page::{Mark, line_shown, shown};
 use crate::rule_words::meaningless_cause;
+use crate::twice::twice_cause;
 use crate::undeclared::undeclared_cause;
 use crate::wording::sentence;
 use ps_model::{Fault, FaultKind, Memory, Refusal};
@@ -33,6 +35,9 @@ fn cause_at<'a>(
         ),
         FaultKind::UnknownWord => meaningless_cause(alloc, source, fault.line),
         FaultKind::NoLayer => unlayered_cause(alloc, source, fault.line),
+        FaultKind::SectionOrder => late_cause(alloc, source, fault.line),
+        FaultKind::NoSection => missing_cause(alloc, source),
+        FaultKind::Twice => twice_cause(alloc, source, fault.line),
         FaultKind::UnknownGlyph => glyph_cause(alloc, text, source, fault.line),
         _ => Ok(Cause::Untold),
     }
@@ -97,10 +102,12 @@ fn mark_of_character(word: Word<'_>, column: usize) -> Option<Mark> {
 /// What the mark of a cause stands below.
 fn mark_of(cause: Cause<'_>) -> Option<Mark> {
     match cause {
-        Cause::Untold => None,
+        Cause::Untold | Cause::MissingSection { .. } => None,
         Cause::Undeclared { word, .. }
         | Cause::Meaningless { word, .. }
-        | Cause::Unlayered { word } => mark_of_word(word),
+        | Cause::Unlayered { word }
+        | Cause::Twice { word, .. } => mark_of_word(word),
+        Cause::LateHeader { header, .. } => mark_of_word(header),
         Cause::UnknownGlyph { row, column, .. } => mark_of_character(row, column),
         Cause::BrokenRow { row, .. } => mark_behind(row),
     }

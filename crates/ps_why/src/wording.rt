@@ -3,10 +3,11 @@
 ghost use Rattle.std.specs.Prelude.{◌≡◌, IfOk, string_bytes};
 ghost use Rattle.ps_why.specs.Wording.{zeros, code_words, sentence, hint_words, blank_words, near_words, strange_words};
 ghost use Rattle.ps_why.specs.Wording.{undeclared_words, meaningless_words, unlayered_words, glyph_words, broken_words};
+ghost use Rattle.ps_why.specs.Wording.{section_name, late_words, like_words, missing_words, case_words, twice_words};
 
 use crate::causes::{Blank, Cause, Hint};
-use crate::names::Named;
-use ps_model::Memory;
+use crate::names::{Named, rank};
+use ps_model::{Memory, Section};
 use ps_text::Word;
 use std::alloc::Global;
 
@@ -130,6 +131,80 @@ fn broken_words(alloc: Global, row: &str, blank: Blank) -> Result<String, Memory
     Ok(words)
 }
 
+/// The word of a section's header.
+fn section_name(section: Section) -> &'static str
+    ensures { result.now ≡ section_name section }
+{
+    match section {
+        Section::Prelude => "the prelude",
+        Section::Objects => "OBJECTS",
+        Section::Legend => "LEGEND",
+        Section::Sounds => "SOUNDS",
+        Section::Layers => "COLLISIONLAYERS",
+        Section::Rules => "RULES",
+        Section::Wins => "WINCONDITIONS",
+        Section::Levels => "LEVELS",
+    }
+}
+
+/// That a header stands below one that belongs below it.
+fn late_words(alloc: Global, section: Section, above: u32, other: Section) -> Result<String, Memory>
+    ensures { IfOk result (λ words. string_bytes words ≡ late_words section above other) }
+{
+    let name = section_name(section);
+    let further = section_name(other);
+    if rank(section) == rank(other) {
+        let words = format!(in alloc; "Line {above} begins {name} already.")?;
+        return Ok(words);
+    }
+    let words = format!(in alloc;
+        "{name} has to stand above {further}, which begins in line {above}."
+    )?;
+    Ok(words)
+}
+
+/// That a line isn't a header, behind a blank, if there is one.
+fn like_words(alloc: Global, like: Option<u32>) -> Result<String, Memory>
+    ensures { IfOk result (λ words. string_bytes words ≡ like_words like) }
+{
+    let Some(line) = like else {
+        return Ok(String::new(alloc));
+    };
+    let words = format!(in alloc; " Line {line} isn't one: a header is that word alone.")?;
+    Ok(words)
+}
+
+/// That a section isn't there.
+fn missing_words(alloc: Global, section: Section, like: Option<u32>) -> Result<String, Memory>
+    ensures { IfOk result (λ words. string_bytes words ≡ missing_words section like) }
+{
+    let name = section_name(section);
+    let more = like_words(alloc, like)?;
+    let words = format!(in alloc; "There is no header {name}.{more}")?;
+    Ok(words)
+}
+
+/// That names are one which are written otherwise.
+fn case_words(word: &str, name: &str) -> &'static str
+    ensures { result.now ≡ case_words word.now name.now }
+{
+    if name == word {
+        return "";
+    }
+    ": upper and lower case are one"
+}
+
+/// That a word is declared above.
+fn twice_words(alloc: Global, word: &str, first: Named<'_>) -> Result<String, Memory>
+    ensures { IfOk result (λ words. string_bytes words ≡ twice_words word.now first.entry) }
+{
+    let line = first.line;
+    let name = first.name;
+    let case = case_words(word, name);
+    let words = format!(in alloc; "Line {line} declares `{name}` already{case}.")?;
+    Ok(words)
+}
+
 /// What is told of a fault: a sentence or two, and nothing where nothing is told.
 pub fn sentence(alloc: Global, cause: Cause<'_>) -> Result<String, Memory>
     ensures { IfOk result (λ words. string_bytes words ≡ sentence cause.entry) }
@@ -145,5 +220,13 @@ pub fn sentence(alloc: Global, cause: Cause<'_>) -> Result<String, Memory>
             ..
         } => glyph_words(alloc, character, column),
         Cause::BrokenRow { row, blank } => broken_words(alloc, row.text(), blank),
+        Cause::LateHeader {
+            section,
+            above,
+            other,
+            ..
+        } => late_words(alloc, section, above, other),
+        Cause::MissingSection { section, like } => missing_words(alloc, section, like),
+        Cause::Twice { word, first } => twice_words(alloc, word.text(), first),
     }
 }
