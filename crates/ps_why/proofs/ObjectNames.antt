@@ -1,5 +1,6 @@
 -- The names of OBJECTS, line by line.
-use Rattle.std.proofs.Common.{◌≡◌, ℕ, zero, suc, ◌+◌, ◌-◌, Bool, true, false, List, [], ◌∷◌, ◌++◌, refl, sym, ap, ◌∙◌, take, arith}
+use Rattle.std.proofs.Common.{◌≡◌, ℕ, zero, suc, ◌+◌, ◌-◌, Bool, true, false, List, [], ◌∷◌, ◌++◌, refl, sym, ap, ◌∙◌}
+use Rattle.std.proofs.Common.{take, arith}
 use Rattle.std.specs.Prelude.{nat_lt}
 use Rattle.std.proofs.lemmas.Bool.Decides.{nat_tests}
 use Rattle.std.specs.List.{flat_map, prefix_len}
@@ -23,8 +24,8 @@ skips line others e = rw (e, objects_below) refl
 
 -- a line that names an object
 names : (line : Line) (others : List Line) → is_blank_line line ≡ false →
-    flat_map names_of_object (objects_below 0 (line ∷ others)) ≡ declared_in line.number (words_of_line line) ++ flat_map
-    names_of_object (objects_below (lines_below others) others)
+    flat_map names_of_object (objects_below 0 (line ∷ others)) ≡ declared_in line.number (words_of_line line)
+    ++ flat_map names_of_object (objects_below (lines_below others) others)
 names line others e = rw (e, objects_below) refl
 
 between-by : (line : Line) (others : List Line) (blank : Bool) → is_blank_line line ≡ blank → AreThose others →
@@ -64,7 +65,8 @@ below_colours-by line others (suc rows) false false r e ih = rw (r, some rows, e
 
 are_those : (lines : List Line) → AreThose lines
 are_those [] = record { between = refl; below_name = refl; below_colours = none } where
-  none : (rows : ℕ) → names_from (BelowColours rows) [] ≡ flat_map names_of_object (objects_below (prefix_len is_sprite_row (take rows [])) [])
+  none : (rows : ℕ) → names_from (BelowColours rows) [] ≡ flat_map names_of_object
+      (objects_below (prefix_len is_sprite_row (take rows [])) [])
   none zero = refl
   none (suc rows) = refl
 are_those (line ∷ others) =
@@ -76,5 +78,6 @@ are_those (line ∷ others) =
     }
 
 -- the names of OBJECTS, line by line
-pub objects-line_by_line : (lines : List Line) → names_from Between lines ≡ flat_map names_of_object (object_texts lines)
+pub objects-line_by_line : (lines : List Line) →
+    names_from Between lines ≡ flat_map names_of_object (object_texts lines)
 objects-line_by_line lines = (are_those lines).between

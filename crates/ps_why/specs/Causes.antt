@@ -1,10 +1,10 @@
 -- What is told of a fault, and when that is true of the text.
-use Rattle.std.specs.Prelude.{◌≡◌, ◌≤◌, ◌<◌, ℕ, nat_eq, ◌+◌, ◌-◌, Bool, ◌&&◌, Option, IfSome, false, true, ⊤, Some, None, List, [], ◌∷◌, map, is_some, codes}
+use Rattle.std.specs.Prelude.{◌≡◌, ◌≤◌, ◌<◌, ℕ, nat_eq, ◌-◌, Bool, false, true, ◌&&◌, ⊤, Option, Some, is_some}
+use Rattle.std.specs.Prelude.{IfSome, List, [], ◌∷◌, map, codes}
 use Rattle.std.specs.Prelude.{slice_get, encode_utf8, slice_index_or}
 use Rattle.std.specs.List.{IsAmong, list_any}
 use Rattle.std.specs.Map.{lookup}
 use Rattle.std.specs.Str.{bytes_eq, chars}
-use Rattle.ps_model.specs.declared.faults.Fault.{Fault}
 use Rattle.ps_model.specs.declared.texts.Cut.{Cut}
 use Rattle.ps_model.specs.declared.texts.Cut.TheVariants as cuts
 use Rattle.ps_model.specs.declared.texts.Section.{Section}

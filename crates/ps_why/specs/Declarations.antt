@@ -1,6 +1,6 @@
 -- Which names a text declares, and where: the words of the name lines of OBJECTS, and the word before the `=` of a line
 -- of LEGEND.
-use Rattle.std.specs.Prelude.{◌≡◌, ℕ, Bool, true, List, [], ◌++◌, map, flat_map, option_to_list}
+use Rattle.std.specs.Prelude.{ℕ, Bool, List, ◌++◌, map, flat_map, option_to_list}
 use Rattle.std.specs.List.{list_any, IsAmong}
 use Rattle.std.specs.Str.{bytes_eq}
 use Rattle.ps_model.specs.declared.texts.Cut.TheVariants.{Legend as AtLegend}

@@ -1,7 +1,7 @@
 -- The lines of OBJECTS read one after the other: each stands between objects, right below a name line, or below the
 -- colours of an object, where rows of a sprite may stand.
-use Rattle.std.specs.Prelude.{ℕ, zero, suc, ◌-◌, ◌==◌, nat_lt, Bool, true, false, ◌&&◌, ◌||◌, not, if◌then◌else◌, List, [], ◌∷◌}
-use Rattle.std.specs.Prelude.{◌++◌, length, map}
+use Rattle.std.specs.Prelude.{ℕ, ◌-◌, ◌==◌, nat_lt, Bool, false, ◌&&◌, not, if◌then◌else◌, List, [], ◌∷◌, ◌++◌}
+use Rattle.std.specs.Prelude.{length}
 use Rattle.std.specs.List.{list_all}
 use Rattle.ps_model.specs.text.Lines.{Line, is_blank_line, words_of_line}
 use Rattle.ps_model.specs.names.ObjectLines.{is_sprite_word, is_sprite_row}

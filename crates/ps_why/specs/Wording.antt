@@ -1,5 +1,6 @@
 -- What is told of a fault, in words.
-use Rattle.std.specs.Prelude.{ℕ, nat_eq, true, Option, Some, None, List, [], ◌++◌, codes, nat_lt, if◌then◌else◌, encode_utf8}
+use Rattle.std.specs.Prelude.{ℕ, nat_eq, nat_lt, true, if◌then◌else◌, Option, Some, None, List, [], ◌++◌, codes}
+use Rattle.std.specs.Prelude.{encode_utf8}
 use Rattle.std.specs.Fmt.{decimal, digits}
 use Rattle.ps_why.specs.declared.names.Named.{Named}
 use Rattle.ps_why.specs.declared.causes.Blank.{Blank}
@@ -36,7 +37,8 @@ near_words named = codes " Line " ++ (decimal named.line ++ (codes " declares `"
 
 -- that a character of the word looks like another
 abbrev pub strange_words : ℕ → List ℕ → List ℕ
-strange_words character like = codes " Its character " ++ (code_words character ++ (codes " looks like " ++ (like ++ codes ".")))
+strange_words character like =
+    codes " Its character " ++ (code_words character ++ (codes " looks like " ++ (like ++ codes ".")))
 
 -- what is told of a word, behind a blank
 abbrev pub hint_words : Hint → List ℕ
@@ -47,11 +49,14 @@ hint_words Joins = codes " `and` and `or` join names in LEGEND alone."
 
 -- that a word is declared nowhere
 abbrev pub undeclared_words : List ℕ → Hint → List ℕ
-undeclared_words word hint = codes "`" ++ (word ++ (codes "` is declared neither in OBJECTS nor in LEGEND." ++ hint_words hint))
+undeclared_words word hint =
+    codes "`" ++ (word ++ (codes "` is declared neither in OBJECTS nor in LEGEND." ++ hint_words hint))
 
 -- that a word of a rule means nothing
 abbrev pub meaningless_words : List ℕ → Hint → List ℕ
-meaningless_words word hint = codes "`" ++ (word ++ (codes "` is no key word, and is declared neither in OBJECTS nor in LEGEND." ++ hint_words hint))
+meaningless_words word hint =
+    codes "`" ++ (word ++ (codes "` is no key word, and is declared neither in OBJECTS nor in LEGEND."
+    ++ hint_words hint))
 
 -- that an object has no layer
 abbrev pub unlayered_words : List ℕ → List ℕ
@@ -59,7 +64,9 @@ unlayered_words word = codes "No line of COLLISIONLAYERS has `" ++ (word ++ code
 
 -- that a character is no name
 abbrev pub glyph_words : ℕ → ℕ → List ℕ
-glyph_words character column = codes "`" ++ (encode_utf8 character ++ (codes "` (" ++ (code_words character ++ (codes ") in column " ++ (decimal column ++ codes " is declared neither in OBJECTS nor in LEGEND.")))))
+glyph_words character column =
+    codes "`" ++ (encode_utf8 character ++ (codes "` (" ++ (code_words character ++ (codes ") in column "
+    ++ (decimal column ++ codes " is declared neither in OBJECTS nor in LEGEND.")))))
 
 -- that a blank parts a row
 abbrev pub broken_words : List ℕ → Blank → List ℕ
@@ -81,8 +88,8 @@ abbrev pub late_words : Section → ℕ → Section → List ℕ
 late_words section above other =
     if nat_eq (rank section) (rank other)
     then codes "Line " ++ (decimal above ++ (codes " begins " ++ (section_name section ++ codes " already.")))
-    else section_name section ++ (codes " has to stand above " ++ (section_name other ++ (codes ", which begins in line "
-    ++ (decimal above ++ codes "."))))
+    else section_name section ++ (codes " has to stand above " ++ (section_name other ++
+    (codes ", which begins in line " ++ (decimal above ++ codes "."))))
 
 -- that a line isn't a header, behind a blank, if there is one
 abbrev pub like_words : Option ℕ → List ℕ

@@ -115,8 +115,8 @@ fn letters_of(alloc: Global, words: &[Word<'_>]) -> Result<String, Memory> {
     Ok(letters)
 }
 
-/// Whether words are written much like a header: its word with others behind it, or words of whose letters an edit makes
-/// it.
+/// Whether words are written much like a header: its word with others behind it, or words whose letters one edit makes
+/// the header's.
 fn are_like(alloc: Global, words: &[Word<'_>], header: &str) -> Result<bool, Memory> {
     if words.is_empty() || words.len() > MOST_WORDS {
         return Ok(false);

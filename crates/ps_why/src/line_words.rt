@@ -8,6 +8,9 @@ use ps_model::{Cut, Memory, Section};
 use ps_text::{Source, Word, words};
 use std::alloc::Global;
 
+/// How many words of a line are looked at most, so that no line takes long.
+pub const MOST_WORDS: usize = 4096;
+
 /// How the lines of a section are cut.
 fn cut_of(section: Section) -> Cut
     ensures { result ≡ cut_of section }

@@ -1,7 +1,6 @@
 //! The names that a text declares.
 
-ghost use Rattle.std.specs.Prelude.{◌≡◌, ◌++◌, ◌≤◌, ℕ, List, [], IfOk, OnOk, map, option_map, option_to_list, true, false};
-ghost use Rattle.std.specs.Prelude.{if◌then◌else◌, flat_map};
+ghost use Rattle.std.specs.Prelude.{◌≡◌, ◌++◌, List, [], IfOk, OnOk, map, option_map, if◌then◌else◌, flat_map};
 ghost use Rattle.std.specs.List.{list_any};
 ghost use Rattle.ps_model.specs.declared.texts.Section.TheVariants.{Objects, Legend};
 ghost use Rattle.ps_model.specs.declared.texts.Cut.TheVariants.{Legend as AtLegend};
@@ -10,7 +9,8 @@ ghost use Rattle.ps_model.specs.text.LineNumbers.{HasLine, line_at};
 ghost use Rattle.ps_model.specs.text.Lines.{Line, lines_of};
 ghost use Rattle.ps_model.specs.text.Sections.{rank};
 ghost use Rattle.ps_text.specs.WordViews.{text_of};
-ghost use Rattle.ps_why.specs.Declarations.{declared, declared_in, is_one_of, object_names, legend_names, names_of_line};
+ghost use Rattle.ps_why.specs.Declarations.{declared, declared_in, is_one_of, object_names, legend_names};
+ghost use Rattle.ps_why.specs.Declarations.{names_of_line};
 ghost use Rattle.ps_why.specs.NamesShown.{names_shown, own_line, is_own};
 ghost use Rattle.ps_why.specs.Objects.{names_from};
 

@@ -10,14 +10,11 @@ ghost use Rattle.ps_why.specs.NamesShown.{names_shown};
 use crate::causes::Cause;
 use crate::hints::hint_of;
 use crate::key_words::is_key_word;
-use crate::line_words::words_of;
+use crate::line_words::{MOST_WORDS, words_of};
 use crate::names::{Named, declared_names, is_among};
 use ps_model::Memory;
 use ps_text::{Source, Word};
 use std::alloc::Global;
-
-/// How many words of a line are looked at most, so that no line takes long.
-const MOST_WORDS: usize = 4096;
 
 /// Whether a word is neither a key word nor among the names.
 fn is_meaningless(alloc: Global, names: &[Named<'_>], word: &str) -> Result<bool, Memory>

@@ -9,14 +9,11 @@ ghost use Rattle.ps_why.specs.NamesShown.{names_shown};
 
 use crate::causes::Cause;
 use crate::hints::hint_of;
-use crate::line_words::words_of;
+use crate::line_words::{MOST_WORDS, words_of};
 use crate::names::{Named, declared_names, is_among};
 use ps_model::{Memory, Section};
 use ps_text::{Source, Word};
 use std::alloc::Global;
-
-/// How many words of a line are looked at most, so that no line takes long.
-const MOST_WORDS: usize = 4096;
 
 /// Whether the word at a place of a line of that section, counted from 0, is a name that it speaks of: every second one
 /// behind the `=` of a line of LEGEND, every second one of a line of WINCONDITIONS, and each elsewhere.

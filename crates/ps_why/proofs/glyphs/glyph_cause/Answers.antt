@@ -1,6 +1,5 @@
-use Rattle.std.proofs.Common.{◌≡◌, ◌<◌, ◌∙◌, sym, ap, rules, arith, length, All, List, ℕ}
+use Rattle.std.proofs.Common.{◌≡◌, ◌<◌, ◌∙◌, ap, rules, arith, length, All}
 use Rattle.std.specs.Str.{chars}
-use Rattle.ps_text.specs.declared.cutting.Word.{Word}
 use Rattle.ps_why.specs.Causes.{IsWordOf}
 use Rattle.ps_why.specs.Declarations.{declared}
 use Rattle.ps_why.specs.NamesShown.{names_shown}

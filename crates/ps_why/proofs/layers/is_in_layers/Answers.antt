@@ -1,12 +1,10 @@
-use Rattle.std.proofs.Common.{◌≡◌, ◌+◌, ◌++◌, ◌∙◌, sym, ap, arith, rules, false, List}
+use Rattle.std.proofs.Common.{◌≡◌, ◌+◌, ◌∙◌, sym, ap, arith, rules, false}
 use Rattle.std.specs.List.{list_any}
-use Rattle.std.proofs.lemmas.Grind.{common_steps}
 use Rattle.ps_model.specs.declared.texts.Section.TheVariants.{Layers}
-use Rattle.ps_model.specs.text.Lines.{Line}
 use Rattle.ps_model.specs.text.LineNumbers.{line_at}
 use Rattle.ps_why.specs.Causes.{has_word}
 use Rattle.ps_why.specs.NamesShown.{own_line, own_lines_from}
-use Rattle.ps_why.proofs.OwnLines.{own-step, own-end, any-behind}
+use Rattle.ps_why.proofs.OwnLines.{own-step, any-behind}
 use Rattle.ps_why.proofs.layers.is_in_layers.Goals as goal
 
 pub loop-line-preserved : goal.loop-line-preserved

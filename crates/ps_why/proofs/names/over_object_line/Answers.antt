@@ -1,4 +1,4 @@
-use Rattle.std.proofs.Common.{◌≡◌, ◌++◌, ◌∙◌, sym, ap, refl, rules, true, map, List, append_assoc}
+use Rattle.std.proofs.Common.{◌≡◌, ◌++◌, ◌∙◌, ap, refl, rules, true, map, append_assoc}
 use Rattle.ps_model.specs.declared.texts.Section.TheVariants.{Objects}
 use Rattle.ps_model.specs.names.ObjectLines.{is_sprite_row}
 use Rattle.ps_model.specs.text.LineNumbers.{line_at}
@@ -18,6 +18,16 @@ returns c others =
     c.is_row-is_row.ensures ∙ ap (λ items. is_row (map text_of items)) c.deref.ensures.value ∙ ap is_row texts in
     let next : c.place_below.result ≡ place_below c.args.place (is_blank_line line) (is_sprite_row line) =
     rw (c.place_below.ensures, c.is_blank_line-is_blank.ensures, row) refl in
-    let added : names_shown c.push_names_if.new.names.items ≡ names_shown c.args.names.now.items ++ names_at c.args.place line =
-    rw (c.in_ok-push_names_if.ensures, c.names_object.ensures, c.is_blank_line-is_blank.ensures, row, c.deref-2.ensures.value, texts, line_at-number c.args.source.now c.args.line c.requires.0 c.requires.1) refl in
-    rw (own, next, added) (append_assoc (names_shown c.args.names.now.items) (names_at c.args.place line) (names_from (place_below c.args.place (is_blank_line line) (is_sprite_row line)) others))
+    let added : names_shown c.push_names_if.new.names.items ≡ names_shown c.args.names.now.items
+    ++ names_at c.args.place line =
+    rw (
+      c.in_ok-push_names_if.ensures,
+      c.names_object.ensures,
+      c.is_blank_line-is_blank.ensures,
+      row,
+      c.deref-2.ensures.value,
+      texts,
+      line_at-number c.args.source.now c.args.line c.requires.0 c.requires.1,
+    ) refl in
+    rw (own, next, added) (append_assoc (names_shown c.args.names.now.items) (names_at c.args.place line)
+    (names_from (place_below c.args.place (is_blank_line line) (is_sprite_row line)) others))

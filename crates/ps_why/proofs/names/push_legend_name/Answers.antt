@@ -13,7 +13,8 @@ use Rattle.ps_why.proofs.names.push_legend_name.Goals as goal
 pub returns : goal.returns
 returns c =
     let own : is_own Legend (line_at c.args.source.now c.args.line) ≡ true = search rules in
-    let name : name_declared (word_texts AtLegend (line_at c.args.source.now c.args.line).bytes) ≡ Some c.in-Some.name.now =
+    let name : name_declared (word_texts AtLegend (line_at c.args.source.now c.args.line).bytes) ≡ Some
+    c.in-Some.name.now =
     sym (c.in-Some.ensures ∙ ap (λ items. name_declared (map text_of items)) c.deref.ensures.value
     ∙ ap name_declared c.in_ok-words.ensures.texts) in
     rw (

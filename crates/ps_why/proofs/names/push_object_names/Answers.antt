@@ -1,11 +1,9 @@
-use Rattle.std.proofs.Common.{◌≡◌, ◌+◌, ◌++◌, ◌<◌, ◌∙◌, sym, ap, arith, rules, length, List, []}
+use Rattle.std.proofs.Common.{◌+◌, ◌++◌, ◌∙◌, sym, ap, arith, List}
 use Rattle.std.proofs.lemmas.List.{append-nil}
 use Rattle.ps_model.specs.declared.texts.Section.TheVariants.{Objects}
-use Rattle.ps_model.specs.text.Lines.{Line, lines_of}
-use Rattle.ps_model.specs.text.LineNumbers.{line_at}
-use Rattle.ps_why.specs.declared.objects.Place.TheVariants.{Between}
+use Rattle.ps_model.specs.text.Lines.{Line}
 use Rattle.ps_why.specs.Declarations.{Declared}
-use Rattle.ps_why.specs.NamesShown.{names_shown, own_line, own_lines_from}
+use Rattle.ps_why.specs.NamesShown.{names_shown, own_lines_from}
 use Rattle.ps_why.specs.Objects.{names_from}
 use Rattle.ps_why.proofs.ObjectNames.{objects-line_by_line}
 use Rattle.ps_why.proofs.OwnLines.{own-step, own-end}

@@ -1,4 +1,4 @@
-use Rattle.std.proofs.Common.{◌≡◌, ◌∙◌, sym, ap}
+use Rattle.std.proofs.Common.{◌∙◌, sym, ap}
 use Rattle.std.proofs.lemmas.Str.{chars-nil}
 use Rattle.ps_why.specs.declared.causes.Cause.TheVariants.{Untold}
 use Rattle.ps_why.specs.Shown.{shown_characters}

@@ -1,4 +1,3 @@
-use Rattle.std.proofs.Common.{◌≡◌}
 use Rattle.ps_why.proofs.wording.undeclared_words.Goals as goal
 
 pub returns : goal.returns
