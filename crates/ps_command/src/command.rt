@@ -26,6 +26,9 @@ pub enum Asked<'w> {
     Check(&'w str),
     /// Whether the text in each of these files is a game.
     CheckAll(Vec<&'w str>),
+    /// The same, and below a fault what is to be mended.
+    CheckWhy(&'w str),
+    CheckAllWhy(Vec<&'w str>),
     /// What the fault of this code is.
     Explanation(&'w str),
 }
@@ -39,6 +42,7 @@ pub fn read_command<'w, S: AsStr>(alloc: Global, words: &'w [S]) -> Result<Asked
         .arg(game_argument(alloc)?)?
         .arg(further_argument(alloc)?)?
         .arg(check_option(alloc))?
+        .arg(why_option(alloc)?)?
         .arg(keys_option(alloc))?
         .arg(explain_option(alloc)?)?;
     let matches = command.try_get_matches_from(words)?;
@@ -54,15 +58,34 @@ fn asked_by<'w>(alloc: Global, matches: &ArgMatches<'w>) -> Result<Asked<'w>, St
         return Err(Stop::Game);
     };
     if matches.get_flag("check") {
-        return match matches.get_strs("FURTHER") {
-            None => Ok(Asked::Check(path)),
-            Some(further) => Ok(Asked::CheckAll(all_paths(alloc, path, further)?)),
-        };
+        return asked_check(alloc, matches, path);
     }
     match matches.get_str("keys") {
         Some(file) => Ok(Asked::PlayFrom(path, file)),
         None => Ok(Asked::Play(path)),
     }
+}
+
+/// What the matches of a command line ask for that checks texts, the first of which is in this file.
+fn asked_check<'w>(
+    alloc: Global,
+    matches: &ArgMatches<'w>,
+    path: &'w str,
+) -> Result<Asked<'w>, Stop> {
+    let why = matches.get_flag("why");
+    let Some(further) = matches.get_strs("FURTHER") else {
+        return Ok(if why {
+            Asked::CheckWhy(path)
+        } else {
+            Asked::Check(path)
+        });
+    };
+    let paths = all_paths(alloc, path, further)?;
+    Ok(if why {
+        Asked::CheckAllWhy(paths)
+    } else {
+        Asked::CheckAll(paths)
+    })
 }
 
 /// `GAME`.
@@ -106,6 +129,17 @@ fn check_option(alloc: Global) -> Arg<'static> {
         .action(ArgAction::SetTrue)
 }
 
+/// `--why`.
+fn why_option(alloc: Global) -> Result<Arg<'static>, AllocError> {
+    Arg::new(alloc, "why")
+        .long("why")
+        .help(
+            "With --check, shows below a fault its line of the text, and says what is to be mended",
+        )
+        .action(ArgAction::SetTrue)
+        .requires_arg("check")
+}
+
 /// `--keys FILE`.
 fn keys_option(alloc: Global) -> Arg<'static> {
     Arg::new(alloc, "keys")
@@ -122,5 +156,5 @@ fn explain_option(alloc: Global) -> Result<Arg<'static>, AllocError> {
         .value_name("CODE")
         .help("Says in a sentence what the fault of this code is, as RU7")
         .action(ArgAction::Set)
-        .conflicts_with_all(&["GAME", "FURTHER", "check", "keys"])
+        .conflicts_with_all(&["GAME", "FURTHER", "check", "why", "keys"])
 }
