@@ -108,14 +108,26 @@ pub fn shown(alloc: Global, text: &str) -> Result<String, Memory>
     Ok(made)
 }
 
+/// The longest front of bytes that is UTF-8.
+fn valid_front(bytes: &[u8]) -> &str {
+    match std::str::from_utf8(bytes) {
+        Ok(text) => text,
+        Err(error) => valid_or_none(&bytes[..error.valid_up_to()]),
+    }
+}
+
+/// The bytes as a text, or else none of them.
+fn valid_or_none(bytes: &[u8]) -> &str {
+    match std::str::from_utf8(bytes) {
+        Ok(text) => text,
+        Err(_) => "",
+    }
+}
+
 /// Puts the front of a line last, as it is shown, where it is UTF-8.
 fn push_front(alloc: Global, page: &mut String, line: &[u8]) -> Result<(), Memory> {
     let front = &line[..line.len().min(MOST_SHOWN)];
-    let text = match std::str::from_utf8(front) {
-        Ok(text) => text,
-        Err(_) => "",
-    };
-    let shown = shown(alloc, text)?;
+    let shown = shown(alloc, valid_front(front))?;
     page.push_str(&shown)?;
     Ok(())
 }
