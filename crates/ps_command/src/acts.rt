@@ -3,6 +3,7 @@
 ghost use Rattle.std.specs.Prelude.{◌≡◌, ◌≤◌, false, OnOk};
 
 use crate::command::{Asked, read_command};
+use crate::details::{Detail, show_detail};
 use crate::explanations::explanation;
 use crate::files::read_game_file;
 use crate::playing::play_asked;
@@ -10,6 +11,7 @@ use crate::stops::{Stop, stop_for, tell};
 use ps_check::{check, check_named};
 use ps_devices::{ByteReader, ByteWriter};
 use ps_run::RunFault;
+use std::alloc::Global;
 use std::rt::{Env, Files};
 use std::{env, io};
 
@@ -46,8 +48,10 @@ fn act<R: Env + Files + AllocGlobal + Print + Eprint, I: ByteReader, O: ByteWrit
         .map_err(|_| Stop::Run(RunFault::Memory))?;
     match read_command(rt.alloc(), &words)? {
         Asked::Explanation(code) => explain(rt, code),
-        Asked::Check(path) => check_text(rt, path, screen),
-        Asked::CheckAll(paths) => check_texts(rt, &paths, screen),
+        Asked::Check(path) => check_text(rt, path, Detail::Line, screen),
+        Asked::CheckWhy(path) => check_text(rt, path, Detail::Why, screen),
+        Asked::CheckAll(paths) => check_texts(rt, &paths, Detail::Line, screen),
+        Asked::CheckAllWhy(paths) => check_texts(rt, &paths, Detail::Why, screen),
         Asked::Play(asked) => play_asked(rt, asked, keys, screen),
     }
 }
@@ -56,29 +60,31 @@ fn act<R: Env + Files + AllocGlobal + Print + Eprint, I: ByteReader, O: ByteWrit
 fn check_text<R: Files + AllocGlobal, O: ByteWriter>(
     rt: &R,
     path: &str,
+    detail: Detail,
     screen: &mut O,
 ) -> Result<(), Stop>
     requires well { (O.state screen.old).has_failed ≡ false }
 {
     let text = read_game_file(rt, path).map_err(|error| stop_for(error, Stop::Game))?;
     if check(rt.alloc(), &text, screen)? {
-        Ok(())
-    } else {
-        Err(Stop::NotAccepted)
+        return Ok(());
     }
+    show_detail(rt.alloc(), &text, detail, screen)?;
+    Err(Stop::NotAccepted)
 }
 
 /// Says of each of several files on the screen whether its text is a game. It is well where all are.
 fn check_texts<R: Files + AllocGlobal + Eprint, O: ByteWriter>(
     rt: &R,
     paths: &[&str],
+    detail: Detail,
     screen: &mut O,
 ) -> Result<(), Stop>
     requires well { (O.state screen.old).has_failed ≡ false }
 {
     let mut all = true;
     for path in paths {
-        let accepted = check_one(rt, *path, screen)?;
+        let accepted = check_one(rt, *path, detail, screen)?;
         all = all && accepted;
     }
     if all { Ok(()) } else { Err(Stop::NotAccepted) }
@@ -89,21 +95,37 @@ fn check_texts<R: Files + AllocGlobal + Eprint, O: ByteWriter>(
 fn check_one<R: Files + AllocGlobal + Eprint, O: ByteWriter>(
     rt: &R,
     path: &str,
+    detail: Detail,
     screen: &mut O,
 ) -> Result<bool, Stop>
     requires well { (O.state screen.old).has_failed ≡ false }
     ensures well { OnOk result ((O.state screen.new).has_failed ≡ false) }
 {
     match read_game_file(rt, path) {
-        Ok(text) => {
-            let accepted = check_named(rt.alloc(), path, &text, screen)?;
-            Ok(accepted)
-        }
+        Ok(text) => check_bytes(rt.alloc(), path, &text, detail, screen),
         Err(error) => {
             tell_unread(rt, path, error)?;
             Ok(false)
         }
     }
+}
+
+/// Says of the text of one of several files whether it is a game, and answers that.
+fn check_bytes<O: ByteWriter>(
+    alloc: Global,
+    path: &str,
+    text: &[u8],
+    detail: Detail,
+    screen: &mut O,
+) -> Result<bool, Stop>
+    requires well { (O.state screen.old).has_failed ≡ false }
+    ensures well { OnOk result ((O.state screen.new).has_failed ≡ false) }
+{
+    if check_named(alloc, path, text, screen)? {
+        return Ok(true);
+    }
+    show_detail(alloc, text, detail, screen)?;
+    Ok(false)
 }
 
 /// Tells on standard error that one of several files can't be read, unless it can't for want of memory.

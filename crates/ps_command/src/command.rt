@@ -37,6 +37,9 @@ pub enum Asked<'w> {
     Check(&'w str),
     /// Whether the text in each of these files is a game.
     CheckAll(Vec<&'w str>),
+    /// The same, and below a fault what is to be mended.
+    CheckWhy(&'w str),
+    CheckAllWhy(Vec<&'w str>),
     /// What the fault of this code is.
     Explanation(&'w str),
 }
@@ -50,6 +53,7 @@ pub fn read_command<'w, S: AsStr>(alloc: Global, words: &'w [S]) -> Result<Asked
         .arg(game_argument(alloc)?)?
         .arg(further_argument(alloc)?)?
         .arg(check_option(alloc))?
+        .arg(why_option(alloc)?)?
         .arg(keys_option(alloc))?
         .arg(view_option(alloc))?
         .arg(explain_option(alloc)?)?;
@@ -70,14 +74,33 @@ fn asked_by<'w>(alloc: Global, matches: &ArgMatches<'w>) -> Result<Asked<'w>, St
         Some(word) => Some(size_of(word)?),
     };
     if matches.get_flag("check") {
-        return match matches.get_strs("FURTHER") {
-            None => Ok(Asked::Check(path)),
-            Some(further) => Ok(Asked::CheckAll(all_paths(alloc, path, further)?)),
-        };
+        return asked_check(alloc, matches, path);
     }
     let keys = matches.get_str("keys");
     let game = path;
     Ok(Asked::Play(Play { game, keys, size }))
+}
+
+/// What the matches of a command line ask for that checks texts, the first of which is in this file.
+fn asked_check<'w>(
+    alloc: Global,
+    matches: &ArgMatches<'w>,
+    path: &'w str,
+) -> Result<Asked<'w>, Stop> {
+    let why = matches.get_flag("why");
+    let Some(further) = matches.get_strs("FURTHER") else {
+        return Ok(if why {
+            Asked::CheckWhy(path)
+        } else {
+            Asked::Check(path)
+        });
+    };
+    let paths = all_paths(alloc, path, further)?;
+    Ok(if why {
+        Asked::CheckAllWhy(paths)
+    } else {
+        Asked::CheckAll(paths)
+    })
 }
 
 /// `GAME`.
@@ -121,6 +144,17 @@ fn check_option(alloc: Global) -> Arg<'static> {
         .action(ArgAction::SetTrue)
 }
 
+/// `--why`.
+fn why_option(alloc: Global) -> Result<Arg<'static>, AllocError> {
+    Arg::new(alloc, "why")
+        .long("why")
+        .help(
+            "With --check, shows below a fault its line of the text, and says what is to be mended",
+        )
+        .action(ArgAction::SetTrue)
+        .requires_arg("check")
+}
+
 /// `--keys FILE`.
 fn keys_option(alloc: Global) -> Arg<'static> {
     Arg::new(alloc, "keys")
@@ -146,5 +180,5 @@ fn explain_option(alloc: Global) -> Result<Arg<'static>, AllocError> {
         .value_name("CODE")
         .help("Says in a sentence what the fault of this code is, as RU7")
         .action(ArgAction::Set)
-        .conflicts_with_all(&["GAME", "FURTHER", "check", "keys", "view"])
+        .conflicts_with_all(&["GAME", "FURTHER", "check", "why", "keys", "view"])
 }

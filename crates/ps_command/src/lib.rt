@@ -6,6 +6,7 @@
 
 mod acts;
 mod command;
+mod details;
 mod explanations;
 mod files;
 mod playing;
