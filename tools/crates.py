@@ -4,9 +4,9 @@ import pathlib
 TOP = pathlib.Path(__file__).resolve().parent.parent
 
 
-def read_uses():
+def read_uses(top=TOP):
     """Of each crate in crates.txt the names of those that it stands on, its own and the toolchain's."""
-    lines = [line.partition("#")[0].partition(":") for line in (TOP / "crates.txt").read_text().splitlines()]
+    lines = [line.partition("#")[0].partition(":") for line in (top / "crates.txt").read_text().splitlines()]
     return {name.split()[0]: rest.split() for name, colon, rest in lines if colon}
 
 

@@ -3,18 +3,17 @@
 ghost use Rattle.std.specs.Prelude.{◌≡◌, ◌≤◌, false, OnOk};
 
 use crate::command::{Asked, read_command};
+use crate::details::{Detail, show_detail};
 use crate::explanations::explanation;
+use crate::files::read_game_file;
+use crate::playing::play_asked;
 use crate::stops::{Stop, stop_for, tell};
 use ps_check::{check, check_named};
-use ps_devices::{ByteReader, ByteWriter, FromStd};
-use ps_model::TEXT_LIMIT;
-use ps_run::{RunFault, run};
-use std::io::Read;
+use ps_devices::{ByteReader, ByteWriter};
+use ps_run::RunFault;
+use std::alloc::Global;
 use std::rt::{Env, Files};
-use std::{env, fs, io};
-
-/// How many bytes of a game are read at most: one more than a game may have, so that a longer one is known.
-const MOST_READ: u64 = TEXT_LIMIT as u64 + 1;
+use std::{env, io};
 
 /// Does what the command line asks for, with keys from `keys`, unless it names a file of keys, and frames to `screen`.
 /// Gives the status to end with: 0 where a run ended, a text was accepted or what was asked for was told, 1 at a
@@ -49,72 +48,43 @@ fn act<R: Env + Files + AllocGlobal + Print + Eprint, I: ByteReader, O: ByteWrit
         .map_err(|_| Stop::Run(RunFault::Memory))?;
     match read_command(rt.alloc(), &words)? {
         Asked::Explanation(code) => explain(rt, code),
-        Asked::Check(path) => check_text(rt, path, screen),
-        Asked::CheckAll(paths) => check_texts(rt, &paths, screen),
-        Asked::Play(path) => {
-            let text = read_game_file(rt, path).map_err(|error| stop_for(error, Stop::Game))?;
-            play(rt, &text, keys, screen)
-        }
-        Asked::PlayFrom(path, file) => play_from(rt, path, file, screen),
+        Asked::Check(path) => check_text(rt, path, Detail::Line, screen),
+        Asked::CheckWhy(path) => check_text(rt, path, Detail::Why, screen),
+        Asked::CheckAll(paths) => check_texts(rt, &paths, Detail::Line, screen),
+        Asked::CheckAllWhy(paths) => check_texts(rt, &paths, Detail::Why, screen),
+        Asked::Play(asked) => play_asked(rt, asked, keys, screen),
     }
-}
-
-/// Plays a game with keys from a reader.
-fn play<R: AllocGlobal, I: ByteReader, O: ByteWriter>(
-    rt: &R,
-    text: &[u8],
-    keys: &mut I,
-    screen: &mut O,
-) -> Result<(), Stop>
-    requires heard { (I.state keys.old).has_failed ≡ false }
-    requires well { (O.state screen.old).has_failed ≡ false }
-{
-    let _ending = run(rt.alloc(), text, keys, screen)?;
-    Ok(())
-}
-
-/// Plays a game with keys from a file, which is opened once the game's text was read.
-fn play_from<R: Files + AllocGlobal, O: ByteWriter>(
-    rt: &R,
-    path: &str,
-    file: &str,
-    screen: &mut O,
-) -> Result<(), Stop>
-    requires well { (O.state screen.old).has_failed ≡ false }
-{
-    let text = read_game_file(rt, path).map_err(|error| stop_for(error, Stop::Game))?;
-    let file = fs::open(rt, file).map_err(|error| stop_for(error, Stop::Run(RunFault::Read)))?;
-    let mut keys = FromStd::new(file);
-    play(rt, &text, &mut keys, screen)
 }
 
 /// Says on the screen whether the text of a file is a game.
 fn check_text<R: Files + AllocGlobal, O: ByteWriter>(
     rt: &R,
     path: &str,
+    detail: Detail,
     screen: &mut O,
 ) -> Result<(), Stop>
     requires well { (O.state screen.old).has_failed ≡ false }
 {
     let text = read_game_file(rt, path).map_err(|error| stop_for(error, Stop::Game))?;
     if check(rt.alloc(), &text, screen)? {
-        Ok(())
-    } else {
-        Err(Stop::NotAccepted)
+        return Ok(());
     }
+    show_detail(rt.alloc(), &text, detail, screen)?;
+    Err(Stop::NotAccepted)
 }
 
 /// Says of each of several files on the screen whether its text is a game. It is well where all are.
 fn check_texts<R: Files + AllocGlobal + Eprint, O: ByteWriter>(
     rt: &R,
     paths: &[&str],
+    detail: Detail,
     screen: &mut O,
 ) -> Result<(), Stop>
     requires well { (O.state screen.old).has_failed ≡ false }
 {
     let mut all = true;
     for path in paths {
-        let accepted = check_one(rt, *path, screen)?;
+        let accepted = check_one(rt, *path, detail, screen)?;
         all = all && accepted;
     }
     if all { Ok(()) } else { Err(Stop::NotAccepted) }
@@ -125,21 +95,37 @@ fn check_texts<R: Files + AllocGlobal + Eprint, O: ByteWriter>(
 fn check_one<R: Files + AllocGlobal + Eprint, O: ByteWriter>(
     rt: &R,
     path: &str,
+    detail: Detail,
     screen: &mut O,
 ) -> Result<bool, Stop>
     requires well { (O.state screen.old).has_failed ≡ false }
     ensures well { OnOk result ((O.state screen.new).has_failed ≡ false) }
 {
     match read_game_file(rt, path) {
-        Ok(text) => {
-            let accepted = check_named(rt.alloc(), path, &text, screen)?;
-            Ok(accepted)
-        }
+        Ok(text) => check_bytes(rt.alloc(), path, &text, detail, screen),
         Err(error) => {
             tell_unread(rt, path, error)?;
             Ok(false)
         }
     }
+}
+
+/// Says of the text of one of several files whether it is a game, and answers that.
+fn check_bytes<O: ByteWriter>(
+    alloc: Global,
+    path: &str,
+    text: &[u8],
+    detail: Detail,
+    screen: &mut O,
+) -> Result<bool, Stop>
+    requires well { (O.state screen.old).has_failed ≡ false }
+    ensures well { OnOk result ((O.state screen.new).has_failed ≡ false) }
+{
+    if check_named(alloc, path, text, screen)? {
+        return Ok(true);
+    }
+    show_detail(alloc, text, detail, screen)?;
+    Ok(false)
 }
 
 /// Tells on standard error that one of several files can't be read, unless it can't for want of memory.
@@ -158,11 +144,4 @@ fn explain<R: Print>(rt: &R, code: &str) -> Result<(), Stop> {
         return Err(Stop::NoSuchCode);
     };
     rt.println(sentence).map_err(|_| Stop::Run(RunFault::Write))
-}
-
-/// The first bytes of a file, at most `MOST_READ`.
-fn read_game_file<R: Files + AllocGlobal>(rt: &R, path: &str) -> io::Result<Vec<u8>> {
-    let mut text = Vec::new(rt.alloc());
-    fs::open(rt, path)?.take(MOST_READ).read_to_end(&mut text)?;
-    Ok(text)
 }

@@ -1,9 +1,22 @@
 //! The command line.
 
+use crate::sizes::size_of;
 use crate::stops::Stop;
 use clap::{Arg, ArgAction, ArgMatches, Command};
+use ps_view::Size;
 use std::alloc::{AllocError, Global};
 use std::convert::AsStr;
+
+/// A game that is to be played.
+#[derive(Clone, Copy)]
+pub struct Play<'w> {
+    /// The file with the game's text.
+    pub game: &'w str,
+    /// The file with the keys; standard input, where none is named.
+    pub keys: Option<&'w str>,
+    /// The size of the terminal on which the board is to stay in place, if it is.
+    pub size: Option<Size>,
+}
 
 /// The version, which `--version` tells.
 const VERSION: &str = "0.2.0";
@@ -18,14 +31,15 @@ on standard output.";
 /// What a command line asks for.
 #[derive(Drop)]
 pub enum Asked<'w> {
-    /// That the game in this file be played, with keys from standard input.
-    Play(&'w str),
-    /// That the game in this file be played, with keys from that file.
-    PlayFrom(&'w str, &'w str),
+    /// That a game be played.
+    Play(Play<'w>),
     /// Whether the text in this file is a game.
     Check(&'w str),
     /// Whether the text in each of these files is a game.
     CheckAll(Vec<&'w str>),
+    /// The same, and below a fault what is to be mended.
+    CheckWhy(&'w str),
+    CheckAllWhy(Vec<&'w str>),
     /// What the fault of this code is.
     Explanation(&'w str),
 }
@@ -39,7 +53,9 @@ pub fn read_command<'w, S: AsStr>(alloc: Global, words: &'w [S]) -> Result<Asked
         .arg(game_argument(alloc)?)?
         .arg(further_argument(alloc)?)?
         .arg(check_option(alloc))?
+        .arg(why_option(alloc)?)?
         .arg(keys_option(alloc))?
+        .arg(view_option(alloc))?
         .arg(explain_option(alloc)?)?;
     let matches = command.try_get_matches_from(words)?;
     asked_by(alloc, &matches)
@@ -53,16 +69,38 @@ fn asked_by<'w>(alloc: Global, matches: &ArgMatches<'w>) -> Result<Asked<'w>, St
     let Some(path) = matches.get_str("GAME") else {
         return Err(Stop::Game);
     };
+    let size = match matches.get_str("view") {
+        None => None,
+        Some(word) => Some(size_of(word)?),
+    };
     if matches.get_flag("check") {
-        return match matches.get_strs("FURTHER") {
-            None => Ok(Asked::Check(path)),
-            Some(further) => Ok(Asked::CheckAll(all_paths(alloc, path, further)?)),
-        };
+        return asked_check(alloc, matches, path);
     }
-    match matches.get_str("keys") {
-        Some(file) => Ok(Asked::PlayFrom(path, file)),
-        None => Ok(Asked::Play(path)),
-    }
+    let keys = matches.get_str("keys");
+    let game = path;
+    Ok(Asked::Play(Play { game, keys, size }))
+}
+
+/// What the matches of a command line ask for that checks texts, the first of which is in this file.
+fn asked_check<'w>(
+    alloc: Global,
+    matches: &ArgMatches<'w>,
+    path: &'w str,
+) -> Result<Asked<'w>, Stop> {
+    let why = matches.get_flag("why");
+    let Some(further) = matches.get_strs("FURTHER") else {
+        return Ok(if why {
+            Asked::CheckWhy(path)
+        } else {
+            Asked::Check(path)
+        });
+    };
+    let paths = all_paths(alloc, path, further)?;
+    Ok(if why {
+        Asked::CheckAllWhy(paths)
+    } else {
+        Asked::CheckAll(paths)
+    })
 }
 
 /// `GAME`.
@@ -106,12 +144,32 @@ fn check_option(alloc: Global) -> Arg<'static> {
         .action(ArgAction::SetTrue)
 }
 
+/// `--why`.
+fn why_option(alloc: Global) -> Result<Arg<'static>, AllocError> {
+    Arg::new(alloc, "why")
+        .long("why")
+        .help(
+            "With --check, shows below a fault its line of the text, and says what is to be mended",
+        )
+        .action(ArgAction::SetTrue)
+        .requires_arg("check")
+}
+
 /// `--keys FILE`.
 fn keys_option(alloc: Global) -> Arg<'static> {
     Arg::new(alloc, "keys")
         .long("keys")
         .value_name("FILE")
         .help("Takes the keys from a file in place of standard input")
+        .action(ArgAction::Set)
+}
+
+/// `--view ROWSxCOLUMNS`.
+fn view_option(alloc: Global) -> Arg<'static> {
+    Arg::new(alloc, "view")
+        .long("view")
+        .value_name("ROWSxCOLUMNS")
+        .help("Keeps the board in place on a terminal of so many rows and columns, as 24x80")
         .action(ArgAction::Set)
 }
 
@@ -122,5 +180,5 @@ fn explain_option(alloc: Global) -> Result<Arg<'static>, AllocError> {
         .value_name("CODE")
         .help("Says in a sentence what the fault of this code is, as RU7")
         .action(ArgAction::Set)
-        .conflicts_with_all(&["GAME", "FURTHER", "check", "keys"])
+        .conflicts_with_all(&["GAME", "FURTHER", "check", "why", "keys", "view"])
 }

@@ -185,6 +185,16 @@ pub fn explanation(code: &str) -> Option<&'static str> {
     None
 }
 
+/// What a fault is, in a sentence.
+pub fn sentence_of(kind: FaultKind) -> &'static str {
+    for (other, sentence) in EXPLANATIONS {
+        if other == kind {
+            return sentence;
+        }
+    }
+    ""
+}
+
 /// Whether a cause of refusal has this code: whether its words begin with the code, in capitals or not, and a blank.
 fn has_code(kind: FaultKind, code: &str) -> bool {
     match kind.words().split_once(' ') {

@@ -6,7 +6,11 @@
 
 mod acts;
 mod command;
+mod details;
 mod explanations;
+mod files;
+mod playing;
+mod sizes;
 mod stops;
 
 pub use acts::run_command_line;

@@ -9,6 +9,12 @@ use ps_run::RunFault;
 use std::alloc::AllocError;
 use std::io;
 
+/// What is told where no size of a terminal is given.
+const NO_SIZE: &str =
+    "error: --view takes rows, x and columns, as 24x80: from 8 rows and 16 columns on
+
+For more information, try '--help'.";
+
 /// Why the program ends in place of a run's end.
 #[derive(Drop)]
 pub enum Stop {
@@ -18,6 +24,8 @@ pub enum Stop {
     NotText,
     /// The command line asks what a fault is, by a code that no fault has.
     NoSuchCode,
+    /// The command line gives no size of a terminal where it is to, or one that is too small.
+    NoSize,
     /// The game can't be read.
     Game,
     /// The text that was checked is no game, which the check has said already.
@@ -85,6 +93,10 @@ pub fn tell<R: Print + Eprint>(rt: &R, stop: Stop) -> u8
         }
         Stop::NoSuchCode => {
             let _ = rt.eprintln("error: no fault has this code");
+            return 2;
+        }
+        Stop::NoSize => {
+            let _ = rt.eprintln(NO_SIZE);
             return 2;
         }
         Stop::Game => {

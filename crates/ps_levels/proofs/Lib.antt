@@ -8,3 +8,5 @@ mod StretchSteps
 mod EntrySteps
 mod WrittenRows
 mod SizedLevels
+mod ObjectSpans
+mod GlyphMeanings

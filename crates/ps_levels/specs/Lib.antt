@@ -4,3 +4,4 @@ pub mod RowFaults
 pub mod LevelRowsAt
 pub mod EntriesShown
 pub mod Sized
+pub mod ObjectSpans

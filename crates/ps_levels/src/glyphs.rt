@@ -8,32 +8,23 @@ ghost use Rattle.ps_model.specs.board.Levels.{shown_objects};
 ghost use Rattle.ps_names.specs.Shown.{meaning_shown};
 ghost use Rattle.ps_levels.specs.Cells.{cells_shown, meaning_seen, meanings_shown, is_unknown, objects_of};
 
+use crate::glyph_names::GlyphNames;
 use ps_model::{Memory, ObjectId};
-use ps_names::{Meaning, Names};
+use ps_names::Meaning;
 use std::alloc::Global;
-use std::slice;
-
-/// What a character stands for, if it is a name, whatever the case of its letter.
-fn character_meaning<'a>(names: &'a Names, character: char) -> Option<&'a Meaning>
-    ensures { meaning_seen result ≡ character_meaning names.now character }
-{
-    let mut buffer = [0u8; 4];
-    let name = character.to_ascii_lowercase().encode_utf8(&mut buffer);
-    names.meaning(name)
-}
 
 /// What each of the characters stands for.
 pub fn meanings<'a>(
     alloc: Global,
-    names: &'a Names,
+    names: &GlyphNames<'a>,
     characters: &[char],
 ) -> Result<Vec<Option<&'a Meaning>>, Memory>
     ensures { IfOk result (λ found.
         meanings_shown found.items ≡ map (character_meaning names.now) characters.now) }
 {
-    let mut found = Vec::new(alloc);
+    let mut found = Vec::with_capacity(alloc, characters.len())?;
     for character in characters {
-        found.push(character_meaning(names, *character))?;
+        found.push(names.meaning(*character))?;
     }
     Ok(found)
 }
@@ -89,7 +80,7 @@ pub fn cells_of<'a>(
 ) -> Result<Vec<&'a [ObjectId]>, Memory>
     ensures { IfOk result (λ cells. cells_shown cells.items ≡ map objects_of (meanings_shown meanings.now)) }
 {
-    let mut cells = Vec::new(alloc);
+    let mut cells = Vec::with_capacity(alloc, meanings.len())?;
     for meaning in meanings {
         cells.push(objects_of(*meaning))?;
     }

@@ -1,14 +1,14 @@
 //! The ground of a level: each cell has an object on the layer of Background.
 
-ghost use Rattle.std.specs.Prelude.{◌≡◌, IfOk, nat_eq, find, slice_index_or, unwrap_or};
+ghost use Rattle.std.specs.Prelude.{◌≡◌, ◌++◌, ◌∷◌, [], IfOk, OnOk, nat_eq, find, slice_index_or, unwrap_or};
 ghost use Rattle.std.specs.List.{flat_map};
 ghost use Rattle.ps_model.specs.names.Names.{backgrounds, layer_of};
 ghost use Rattle.ps_model.specs.board.Levels.{with_ground, grounded, background_layer};
 ghost use Rattle.ps_levels.specs.Cells.{cells_shown};
 
+use crate::cells::Cells;
 use ps_model::{Memory, ObjectId};
 use ps_names::Names;
-use ps_text::List;
 use std::alloc::Global;
 
 /// The first object of `Background`; the number 0 of names without one, which no game has.
@@ -46,40 +46,34 @@ fn first_on(names: &Names, layer: u32, cells: &[&[ObjectId]], other: ObjectId) -
     other
 }
 
-/// A cell's objects, with the filler where none lies on the layer of Background.
-fn filled(
-    alloc: Global,
+/// Adds a cell with these objects, and with the filler where none lies on the layer of Background.
+fn add_filled(
     names: &Names,
     layer: u32,
     filler: ObjectId,
     objects: &[ObjectId],
-) -> Result<List<ObjectId>, Memory>
+    cells: &mut Cells,
+) -> Result<(), Memory>
     requires { layer ≡ background_layer names.now }
-    ensures { IfOk result (λ made. made ≡ with_ground names.now filler objects.now) }
+    ensures { OnOk result (cells.new ≡ cells.old ++ with_ground names.now filler objects.now ∷ []) }
 {
-    let mut items = Vec::from_slice(alloc, objects)?;
     if object_on(names, layer, objects).is_some() {
-        return Ok(List::from_vec(items));
+        return cells.push(objects, None);
     }
-    items.push(filler)?;
-    Ok(List::from_vec(items))
+    cells.push(objects, Some(filler))
 }
 
 /// The cells of a level from what their characters show: a cell without an object on the layer of Background gets the
 /// first such object that the level shows, or else the first of Background.
-pub fn fill_ground(
-    alloc: Global,
-    names: &Names,
-    cells: &[&[ObjectId]],
-) -> Result<List<List<ObjectId>>, Memory>
+pub fn fill_ground(alloc: Global, names: &Names, cells: &[&[ObjectId]]) -> Result<Cells, Memory>
     ensures { IfOk result (λ made. made ≡ grounded names.now (cells_shown cells.now)) }
 {
     let background = background(names);
     let layer = names.layer_of(background).0;
     let filler = first_on(names, layer, cells, background);
-    let mut made = Vec::new(alloc);
+    let mut made = Cells::with_room(alloc, cells.len())?;
     for objects in cells {
-        made.push(filled(alloc, names, layer, filler, objects)?)?;
+        add_filled(names, layer, filler, objects, &mut made)?;
     }
-    Ok(List::from_vec(made))
+    Ok(made)
 }

@@ -10,13 +10,14 @@ ghost use Rattle.ps_levels.specs.Cells.{rows_shown};
 ghost use Rattle.ps_levels.specs.LevelRowsAt.{HasFirstRow, rows_at};
 ghost use Rattle.ps_levels.specs.RowFaults.{level_faults_by};
 
+use crate::cells::Cells;
 use crate::columns::in_columns;
+use crate::glyph_names::GlyphNames;
 use crate::ground::fill_ground;
 use crate::row_text::characters_of;
 use crate::rows::add_rows;
 use ps_model::{ENTRY_LIMIT, Fault, FaultKind, Memory, ObjectId, Refusal};
-use ps_names::Names;
-use ps_text::{List, Source};
+use ps_text::Source;
 use std::alloc::Global;
 use std::marker::Model;
 use std::ops::Range;
@@ -27,7 +28,7 @@ use std::ops::Range;
 pub struct Level {
     width: u32,
     height: u32,
-    cells: List<List<ObjectId>>,
+    cells: Cells,
 }
 
 impl Model for Level {
@@ -54,10 +55,10 @@ impl Level {
     }
 
     /// The objects of each cell: the cell in column x and row y, each from 0, has the number x * height + y.
-    pub fn cells(&self) -> &[List<ObjectId>]
+    pub fn cells(&self) -> &Cells
         ensures { result.now ≡ self.now.cells }
     {
-        self.cells.as_slice()
+        &self.cells
     }
 }
 
@@ -66,7 +67,7 @@ impl Level {
 fn read_rows<'a>(
     alloc: Global,
     source: &Source,
-    names: &'a Names,
+    names: &GlyphNames<'a>,
     lines: Range<u32>,
     width: usize,
     place: usize,
@@ -105,7 +106,7 @@ fn width_of(alloc: Global, source: &Source, line: u32) -> Result<usize, Memory>
 pub fn read_level(
     alloc: Global,
     source: &Source,
-    names: &Names,
+    names: &GlyphNames<'_>,
     lines: Range<u32>,
     place: usize,
 ) -> Result<Level, Refusal>
@@ -119,7 +120,7 @@ pub fn read_level(
     let width = width_of(alloc, source, lines.start)?;
     let rows = read_rows(alloc, source, names, lines, width, place)?;
     let cells = in_columns(alloc, &rows, width)?;
-    let cells = fill_ground(alloc, names, &cells)?;
+    let cells = fill_ground(alloc, names.names(), &cells)?;
     Ok(Level {
         width: width as u32,
         height: rows.len() as u32,

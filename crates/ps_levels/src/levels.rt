@@ -16,6 +16,7 @@ ghost use Rattle.ps_levels.specs.EntriesShown.{entries_shown, is_level_entry, le
 ghost use Rattle.ps_levels.specs.LevelRowsAt.{HasFirstLine, HasFirstRow};
 ghost use Rattle.ps_levels.specs.Sized.{HasColumn, IsSizedEntry};
 
+use crate::glyph_names::GlyphNames;
 use crate::level::{Level, read_level};
 use crate::stretch::{is_message, level_end};
 use ps_model::{ENTRY_LIMIT, Fault, FaultKind, Refusal};
@@ -71,7 +72,7 @@ fn add_message(
 fn add_level(
     alloc: Global,
     source: &Source,
-    names: &Names,
+    names: &GlyphNames<'_>,
     lines: Range<u32>,
     entries: &mut Vec<Entry>,
 ) -> Result<u32, Refusal>
@@ -99,7 +100,7 @@ fn add_level(
 fn add_entry(
     alloc: Global,
     source: &Source,
-    names: &Names,
+    names: &GlyphNames<'_>,
     lines: Range<u32>,
     entries: &mut Vec<Entry>,
 ) -> Result<u32, Refusal>
@@ -147,6 +148,33 @@ fn has_level(entries: &[Entry]) -> bool
     false
 }
 
+/// Reads LEVELS as `read_levels` does, by the names of its characters.
+fn read_entries(
+    alloc: Global,
+    source: &Source,
+    lines: Range<u32>,
+    names: &GlyphNames<'_>,
+) -> Result<Vec<Entry>, Refusal>
+    requires { HasLines source.now lines.start lines.end }
+    ensures read { ReadsAs (λ entries. entries_shown entries.items) result
+        (entries_read names.now (lines_between source.now lines.start lines.end))
+        (level_faults names.now (lines.start - 1) (lines_between source.now lines.start lines.end)) }
+    ensures sized { AreBounded names.now
+        → IfOk result (λ entries. All (IsSizedEntry names.now) (entries_shown entries.items)) }
+{
+    let header = lines.start - 1;
+    let mut entries = Vec::new(alloc);
+    let mut line = lines.start;
+    while line < lines.end {
+        line = add_entry(alloc, source, names, line..lines.end, &mut entries)?;
+    }
+    if !has_level(&entries) {
+        let kind = FaultKind::NoLevel;
+        return Err(Refusal::Refused(Fault { kind, line: header }));
+    }
+    Ok(entries)
+}
+
 /// Reads LEVELS, given by the numbers of the lines right below its header up to the next header, counted from 1. The
 /// entries are in the order of their lines. Takes time linear in these lines.
 ///
@@ -168,15 +196,6 @@ pub fn read_levels(
     ensures sized { AreBounded names.now
         → IfOk result (λ entries. All (IsSizedEntry names.now) (entries_shown entries.items)) }
 {
-    let header = lines.start - 1;
-    let mut entries = Vec::new(alloc);
-    let mut line = lines.start;
-    while line < lines.end {
-        line = add_entry(alloc, source, names, line..lines.end, &mut entries)?;
-    }
-    if !has_level(&entries) {
-        let kind = FaultKind::NoLevel;
-        return Err(Refusal::Refused(Fault { kind, line: header }));
-    }
-    Ok(entries)
+    let glyphs = GlyphNames::try_new(alloc, names)?;
+    read_entries(alloc, source, lines, &glyphs)
 }

@@ -1,7 +1,9 @@
 //! The sections of a game that stand below its rules: its win conditions, and its levels and messages.
 #![tactic(auto)]
 
+mod cells;
 mod columns;
+mod glyph_names;
 mod glyphs;
 mod ground;
 mod level;
@@ -11,6 +13,7 @@ mod rows;
 mod stretch;
 mod wins;
 
+pub use cells::Cells;
 pub use level::Level;
 pub use levels::{Entry, read_levels};
 pub use wins::{Win, read_wins};

@@ -9,10 +9,11 @@ ghost use Rattle.ps_model.specs.text.LineNumbers.{HasLine, HasLines, here, line_
 ghost use Rattle.ps_levels.specs.Cells.{cells_shown, meanings_shown, rows_shown};
 ghost use Rattle.ps_levels.specs.RowFaults.{faults_of_meanings};
 
+use crate::glyph_names::GlyphNames;
 use crate::glyphs::{cells_of, has_property, has_unknown, meanings};
 use crate::row_text::characters_of;
 use ps_model::{Fault, FaultKind, Memory, ObjectId, Refusal, SIDE_LIMIT};
-use ps_names::{Meaning, Names};
+use ps_names::Meaning;
 use ps_text::Source;
 use std::alloc::Global;
 use std::ops::Range;
@@ -88,7 +89,7 @@ fn front<'s, 'a>(meanings: &'s [Option<&'a Meaning>], count: usize) -> &'s [Opti
 fn read_row<'a>(
     alloc: Global,
     source: &Source,
-    names: &'a Names,
+    names: &GlyphNames<'a>,
     line: u32,
     width: usize,
     place: usize,
@@ -113,7 +114,7 @@ fn read_row<'a>(
 fn add_row<'a>(
     alloc: Global,
     source: &Source,
-    names: &'a Names,
+    names: &GlyphNames<'a>,
     line: u32,
     width: usize,
     rows: &mut Vec<Vec<&'a [ObjectId]>>,
@@ -135,7 +136,7 @@ fn add_row<'a>(
 pub fn add_rows<'a>(
     alloc: Global,
     source: &Source,
-    names: &'a Names,
+    names: &GlyphNames<'a>,
     lines: Range<u32>,
     width: usize,
     rows: &mut Vec<Vec<&'a [ObjectId]>>,

@@ -1,5 +1,6 @@
 //! Plays a game of PuzzleScript at a terminal: `ps_play GAME`, with keys from standard input and frames to standard
-//! output. `ps_play GAME --check` says whether a text is a game, `ps_play --explain CODE` what a fault is.
+//! output. `ps_play GAME --view 24x80` keeps the board in place on a terminal of 24 rows and 80 columns, `ps_play GAME
+//! --check` says whether a text is a game, `ps_play --explain CODE` what a fault is.
 #![tactic(auto)]
 
 use ps_command::run_command_line;

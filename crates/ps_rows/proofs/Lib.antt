@@ -33,3 +33,5 @@ pub mod OneCell
 pub mod RowDifferences
 pub mod RowHistories
 pub mod TopicsTold
+pub mod LayersTouched
+pub mod Untouched

@@ -1,17 +1,19 @@
 -- The index of the rows of planes, behind a change of the planes.
 use Rattle.std.proofs.Common.{◌≡◌, ◌≢◌, ◌∙◌, ℕ, ◌+◌, ◌*◌, ◌<◌, ◌≤◌, inl, inr, false, not, List, length, replicate, sym}
 use Rattle.std.proofs.Common.{ap, arith, Bool, true, subst, []}
-use Rattle.std.specs.Prelude.{slice_set}
+use Rattle.std.specs.Prelude.{nat_eq, slice_set}
+use Rattle.std.specs.List.{list_any}
 use Rattle.std.proofs.Math.Nat.{mul-le-mul_left}
-use Rattle.std.proofs.lemmas.Bool.{cases_eq, cases_lt, not-false}
+use Rattle.std.proofs.lemmas.Bool.{cases_eq, cases_lt, false≢true, not-false, or_parts}
 use Rattle.std.proofs.lemmas.Nat.{same_from_place}
 use Rattle.std.proofs.lemmas.List.{get_or-set_same, get_or-set_other}
 use Rattle.ps_rows.specs.RowIndex.{AreRowsMarked}
-use Rattle.ps_rows.specs.Showing.{motions_from}
-use Rattle.ps_rows.proofs.Sets.{none_set, set_where, with_other, with_same}
+use Rattle.ps_rows.specs.Showing.{motion_planes, motions_from}
+use Rattle.ps_rows.proofs.Moves.{five_false, five_high}
+use Rattle.ps_rows.proofs.Sets.{either_at, none_set, set_where, with_other, with_same}
 use Rattle.ps_rows.proofs.Puts.{plane_whole}
 use Rattle.ps_rows.proofs.Rests.{blank_word}
-use Rattle.ps_board.specs.ColumnSets.{column_at, no_columns, set_columns, with_column}
+use Rattle.ps_board.specs.ColumnSets.{column_at, either_columns, no_columns, set_columns, with_column}
 use Rattle.ps_model.specs.declared.limits.TheConstants.{SIDE_LIMIT}
 use Rattle.ps_rows.specs.Planes.{AreSets, IsSet, row_of}
 
@@ -98,3 +100,49 @@ sets_none count = λ place.
 -- each row of planes that are the same
 pub sets_same : (words more : List (List Bool)) → more ≡ words → AreSets words → AreSets more
 sets_same words more e are = let P : List (List Bool) → Type 0 = λ ws. AreSets ws in subst P (sym e) are
+
+-- a row that none of five planes has marked
+pub five_unmarked : (count height first long : ℕ) (words index : List (List Bool)) (rows : List Bool) → 0 < height →
+    height ≤ SIDE_LIMIT → long ≡ count * height → (first + 5) * height ≤ long →
+    AreRowsMarked count height words index →
+    rows ≡ either_columns (either_columns (either_columns (either_columns (row_of index first)
+    (row_of index (first + 1))) (row_of index (first + 2))) (row_of index (first + 3))) (row_of index (first + 4)) →
+    (plane row : ℕ) → list_any (nat_eq plane) (motion_planes first) ≡ true → row < height →
+    column_at rows row ≡ false → row_of words (plane * height + row) ≡ no_columns
+five_unmarked count height first long words index rows some short whole enough marked is plane row listed under none =
+    let word : ℕ → List Bool = λ p. row_of index p in
+    let two : List Bool = either_columns (word first) (word (first + 1)) in
+    let three : List Bool = either_columns two (word (first + 2)) in
+    let four : List Bool = either_columns three (word (first + 3)) in
+    let low : row < SIDE_LIMIT = omega (arith, under, short) in
+    let fourth = or_parts (column_at four row) (column_at (word (first + 4)) row)
+    (sym (either_at four (word (first + 4)) row low) ∙ sym (ap (λ (set : List Bool). column_at set row) is) ∙ none) in
+    let third = or_parts (column_at three row) (column_at (word (first + 3)) row)
+    (sym (either_at three (word (first + 3)) row low) ∙ fourth.0) in
+    let second = or_parts (column_at two row) (column_at (word (first + 2)) row)
+    (sym (either_at two (word (first + 2)) row low) ∙ third.0) in
+    let one = or_parts (column_at (word first) row) (column_at (word (first + 1)) row)
+    (sym (either_at (word first) (word (first + 1)) row low) ∙ second.0) in
+    let last : (first + 4 + 1) * height ≤ long = omega arith in
+    let counted : first + 4 < count = plane_indexed count height (first + 4) long some whole last in
+    let high : plane < first + 5 = five_high first plane listed in
+    let clear : column_at (word plane) row ≡ false =
+    elim (cases_lt plane first) [
+      | inl less ↦ absurd (false≢true (sym (five_false first plane (inl less)) ∙ listed))
+      | inr from ↦ elim (cases_eq plane first) [
+        | inl e ↦ ap (λ (p : ℕ). column_at (word p) row) e ∙ one.0
+        | inr n ↦ elim (cases_eq plane (first + 1)) [
+          | inl e ↦ ap (λ (p : ℕ). column_at (word p) row) e ∙ one.1
+          | inr m ↦ elim (cases_eq plane (first + 2)) [
+            | inl e ↦ ap (λ (p : ℕ). column_at (word p) row) e ∙ second.1
+            | inr k ↦ elim (cases_eq plane (first + 3)) [
+              | inl e ↦ ap (λ (p : ℕ). column_at (word p) row) e ∙ third.1
+              | inr j ↦
+                  let e : plane ≡ first + 4 = omega (arith, high, from, n, m, k, j) in
+                  ap (λ (p : ℕ). column_at (word p) row) e ∙ fourth.1
+            ]
+          ]
+        ]
+      ]
+    ] in
+    marked plane row (omega (arith, high, counted)) under clear

@@ -1,6 +1,6 @@
 -- Rows of planes behind a change.
 use Rattle.std.proofs.Common.{◌≡◌, ◌≢◌, ◌∙◌, ℕ, ◌+◌, ◌*◌, ◌<◌, ◌≤◌, inl, inr, Bool, true, false, not, ◌&&◌, ◌||◌, List}
-use Rattle.std.proofs.Common.{[], length, get_or, take, refl, sym, ap, ap₂, subst, arith}
+use Rattle.std.proofs.Common.{Option, None, [], length, get_or, take, refl, sym, ap, ap₂, subst, arith}
 use Rattle.std.specs.Prelude.{nat_eq, slice_set, if◌then◌else◌}
 use Rattle.std.specs.List.{list_any}
 use Rattle.std.proofs.lemmas.Bool.{cases_Bool, cases_eq, eq-eqb, eqb-true, or_parts, false_from_ne_true, false≢true}
@@ -90,6 +90,21 @@ pub rows_kept : (h row : ℕ) (change : Change) (words : List (List Bool)) (plan
 rows_kept h row change words planes none = record {
   long = refl;
   there = λ p x listed low. sym (bit_kept change none p x (column_at (row_of words (p * h + row)) x) low);
+  elsewhere = λ p y inside apart. refl;
+}
+
+-- a change that sets nothing, where no plane has a column in the row
+pub rows_clear : (h row : ℕ) (change : Change) (words : List (List Bool)) (planes : List ℕ) → change.plane ≡ None →
+    ((p : ℕ) → list_any (nat_eq p) planes ≡ true → row_of words (p * h + row) ≡ no_columns) →
+    AreRowsChanged h row change words words planes
+rows_clear h row change words planes unnamed clear = record {
+  long = refl;
+  there = λ p x listed low.
+      let none : column_at (row_of words (p * h + row)) x ≡ false =
+      ap (λ (w : List Bool). column_at w x) (clear p listed) ∙ none_at x in
+      none
+      ∙ sym (ap₂ (λ (b : Bool) (n : Option ℕ). (b && not (column_at change.cleared x)) ||
+      (is_number n p && column_at change.set x)) none unnamed);
   elsewhere = λ p y inside apart. refl;
 }
 

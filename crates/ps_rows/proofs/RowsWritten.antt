@@ -1,9 +1,9 @@
 -- Layers of a row written one after the other come to its cells written.
 use Rattle.std.proofs.Common.{◌≡◌, ◌∙◌, ℕ, zero, suc, ◌+◌, ◌*◌, ◌/◌, ◌%◌, ◌<◌, ◌≤◌, inl, inr, Bool, true, false, not}
-use Rattle.std.proofs.Common.{◌&&◌, Option, List, [], ◌∷◌, length, get_or, refl, sym, ap, ap₂, arith}
+use Rattle.std.proofs.Common.{◌&&◌, ◌||◌, Option, List, [], ◌∷◌, length, get_or, refl, sym, ap, ap₂, arith}
 use Rattle.std.specs.Prelude.{nat_eq, nat_lt, if◌then◌else◌}
 use Rattle.std.specs.List.{list_any, range_with_len}
-use Rattle.std.proofs.lemmas.Bool.{and_parts, cases_Bool, cases_eq, eq-eqb, ne_eqb, lt-ltb, le-ltb, or_parts}
+use Rattle.std.proofs.lemmas.Bool.{and_parts, cases_Bool, cases_eq, eq-eqb, eqb-true, le-ltb, lt-ltb, ne_eqb, or_parts}
 use Rattle.std.proofs.lemmas.Bool.{false≢true, not-false}
 use Rattle.std.proofs.lemmas.List.{same_lists, get_or_default}
 use Rattle.ps_model.specs.declared.pieces.Slot.{Slot}
@@ -33,27 +33,30 @@ slot_when b new old = if b then new else old
 -- layers --------------------------------------------------------------------------------------------------------------
 
 module _ (g : Grid) (chosen : ℕ → Bool) (after : ℕ → Slot → Slot) where
-  pub slots_none : AreSlotsWritten g g chosen (λ l. nat_lt l 0) after
-  slots_none = λ c l inside below.
-      sym (ap (λ (b : Bool). slot_when (chosen c && b) (after l (slot_at g c l)) (slot_at g c l))
-      (le-ltb l 0 (omega arith))
-      ∙ ap (λ (b : Bool). slot_when b (after l (slot_at g c l)) (slot_at g c l)) (and-false (chosen c)))
+  -- other words for the same layers
+  pub slots_as : (now : Grid) (on more : ℕ → Bool) → ((l : ℕ) → l < g.layers → more l ≡ on l) →
+      AreSlotsWritten g now chosen on after → AreSlotsWritten g now chosen more after
+  slots_as now on more same so = λ c l inside below.
+      so c l inside below
+      ∙ ap (λ (b : Bool). slot_when (chosen c && b) (after l (slot_at g c l)) (slot_at g c l)) (sym (same l below))
 
-  pub left_none : AreSlotsLeft g chosen (λ l. nat_lt l 0) after
-  left_none = λ c l inside below here on. absurd (false≢true (sym (le-ltb l 0 (omega arith)) ∙ on))
+  pub left_as : (on more : ℕ → Bool) → ((l : ℕ) → l < g.layers → more l ≡ on l) →
+      AreSlotsLeft g chosen on after → AreSlotsLeft g chosen more after
+  left_as on more same so = λ c l inside below here also. so c l inside below here (sym (same l below) ∙ also)
 
-  module _ (now : Grid) (count : ℕ) (so : AreSlotsWritten g now chosen (λ l. nat_lt l count) after) where
+  -- one layer more
+  module _ (now : Grid) (on : ℕ → Bool) (so : AreSlotsWritten g now chosen on after) (count : ℕ)
+      (off : on count ≡ false) where
     slot_still : (c l : ℕ) → c < g.width * g.height → l < g.layers → l ≡ count → slot_at now c l ≡ slot_at g c l
     slot_still c l inside below e =
         so c l inside below
-        ∙ ap (λ (b : Bool). slot_when (chosen c && b) (after l (slot_at g c l)) (slot_at g c l))
-        (le-ltb l count (omega arith))
+        ∙ ap (λ (b : Bool). slot_when (chosen c && b) (after l (slot_at g c l)) (slot_at g c l)) (ap on e ∙ off)
         ∙ ap (λ (b : Bool). slot_when b (after l (slot_at g c l)) (slot_at g c l)) (and-false (chosen c))
 
-    pub slots_next : (next : Grid) → now.width ≡ g.width → now.height ≡ g.height → now.layers ≡ g.layers →
-        AreSlotsWritten now next chosen (λ l. nat_eq l count) after →
-        AreSlotsWritten g next chosen (λ l. nat_lt l (count + 1)) after
-    slots_next next wide high deep step = λ c l inside below.
+    pub slots_next : (next : Grid) (more : ℕ → Bool) → ((l : ℕ) → l < g.layers → more l ≡ (nat_eq l count || on l)) →
+        now.width ≡ g.width → now.height ≡ g.height → now.layers ≡ g.layers →
+        AreSlotsWritten now next chosen (λ l. nat_eq l count) after → AreSlotsWritten g next chosen more after
+    slots_next next more same wide high deep step = λ c l inside below.
         let inside_now : c < now.width * now.height = rw (wide, high) inside in
         let below_now : l < now.layers = rw deep below in
         step c l inside_now below_now ∙ elim (cases_eq l count) [
@@ -61,73 +64,77 @@ module _ (g : Grid) (chosen : ℕ → Bool) (after : ℕ → Slot → Slot) wher
               ap₂ (λ (b : Bool) (s : Slot). slot_when (chosen c && b) (after l s) s) (eq-eqb l count e)
               (slot_still c l inside below e)
               ∙ sym (ap (λ (b : Bool). slot_when (chosen c && b) (after l (slot_at g c l)) (slot_at g c l))
-              (lt-ltb l (count + 1) (omega arith)))
+              (same l below ∙ ap (λ (b : Bool). b || on l) (eq-eqb l count e)))
           | inr n ↦
               ap (λ (b : Bool). slot_when (chosen c && b) (after l (slot_at now c l)) (slot_at now c l))
               (ne_eqb l count n)
               ∙ ap (λ (b : Bool). slot_when b (after l (slot_at now c l)) (slot_at now c l)) (and-false (chosen c))
               ∙ so c l inside below
               ∙ sym (ap (λ (b : Bool). slot_when (chosen c && b) (after l (slot_at g c l)) (slot_at g c l))
-              (lt_next l count n))
+              (same l below ∙ ap (λ (b : Bool). b || on l) (ne_eqb l count n)))
         ]
 
-    pub left_next : now.width ≡ g.width → now.height ≡ g.height → now.layers ≡ g.layers →
-        AreSlotsLeft g chosen (λ l. nat_lt l count) after → AreSlotsLeft now chosen (λ l. nat_eq l count) after →
-        AreSlotsLeft g chosen (λ l. nat_lt l (count + 1)) after
-    left_next wide high deep front step = λ c l inside below here on. elim (cases_eq l count) [
+    pub left_next : (more : ℕ → Bool) → ((l : ℕ) → l < g.layers → more l ≡ (nat_eq l count || on l)) →
+        now.width ≡ g.width → now.height ≡ g.height → now.layers ≡ g.layers →
+        AreSlotsLeft g chosen on after → AreSlotsLeft now chosen (λ l. nat_eq l count) after →
+        AreSlotsLeft g chosen more after
+    left_next more same wide high deep front step = λ c l inside below here also. elim (cases_eq l count) [
       | inl e ↦
           let inside_now : c < now.width * now.height = rw (wide, high) inside in
           let below_now : l < now.layers = rw deep below in
           ap (λ (s : Slot). same_slot s (after l s)) (sym (slot_still c l inside below e))
           ∙ step c l inside_now below_now here (eq-eqb l count e)
-      | inr n ↦ front c l inside below here (sym (lt_next l count n) ∙ on)
+      | inr n ↦ front c l inside below here
+          (sym (same l below ∙ ap (λ (b : Bool). b || on l) (ne_eqb l count n)) ∙ also)
     ]
 
     pub left_here : now.width ≡ g.width → now.height ≡ g.height → now.layers ≡ g.layers →
         AreSlotsLeft g chosen (λ l. true) after → AreSlotsLeft now chosen (λ l. nat_eq l count) after
-    left_here wide high deep all = λ c l inside below here on.
+    left_here wide high deep all = λ c l inside below here also.
         let inside_g : c < g.width * g.height = rw (← wide, ← high) inside in
         let below_g : l < g.layers = rw (← deep) below in
         let e : l ≡ count = elim (cases_eq l count)
-        [ inl e ↦ e | inr n ↦ absurd (false≢true (sym (ne_eqb l count n) ∙ on)) ] in
+        [ inl e ↦ e | inr n ↦ absurd (false≢true (sym (ne_eqb l count n) ∙ also)) ] in
         ap (λ (s : Slot). same_slot s (after l s)) (slot_still c l inside_g below_g e)
         ∙ all c l inside_g below_g here refl
 
-    pub slots_all : g.layers ≤ count → AreSlotsWritten g now chosen (λ l. true) after
-    slots_all end = λ c l inside below.
-        so c l inside below ∙ ap (λ (b : Bool).
-        slot_when (chosen c && b) (after l (slot_at g c l)) (slot_at g c l)) (lt-ltb l count (omega arith))
+-- the layers below the next one
+pub next_below : (count l : ℕ) → nat_lt l (count + 1) ≡ (nat_eq l count || nat_lt l count)
+next_below count l = elim (cases_eq l count) [
+  | inl e ↦
+      lt-ltb l (count + 1) (omega arith)
+      ∙ sym (ap (λ (b : Bool). b || nat_lt l count) (eq-eqb l count e))
+  | inr n ↦ lt_next l count n ∙ sym (ap (λ (b : Bool). b || nat_lt l count) (ne_eqb l count n))
+]
 
-    pub left_all : g.layers ≤ count → AreSlotsLeft g chosen (λ l. nat_lt l count) after →
-        AreSlotsLeft g chosen (λ l. true) after
-    left_all end front = λ c l inside below here on. front c l inside below here (lt-ltb l count (omega arith))
+-- a layer that the write doesn't touch, and layers
+pub one_untouched : (write : CellWrite) (layer : ℕ) → touches write layer ≡ false → (l : ℕ) →
+    nat_eq l layer ≡ true → touches write l ≡ false
+one_untouched write layer none l same = ap (touches write) (eqb-true l layer same) ∙ none
 
--- a layer that the write doesn't touch
-module _ (table : Option (List ℕ)) (write : CellWrite) (g : Grid) (chosen : ℕ →
-    Bool) (layer : ℕ) (none : touches write layer ≡ false) where
+module _ (table : Option (List ℕ)) (write : CellWrite) (g : Grid) (chosen on : ℕ → Bool)
+    (none : (l : ℕ) → l < g.layers → on l ≡ true → touches write l ≡ false) where
   abbrev kept : ℕ → Slot → Slot
   kept = slot_after (write_in_room table write)
 
-  pub slots_untouched : AreSlotsWritten g g chosen (λ l. nat_eq l layer) kept
-  slots_untouched = λ c l inside below. elim (cases_eq l layer) [
-    | inl e ↦
+  pub slots_untouched : AreSlotsWritten g g chosen on kept
+  slots_untouched = λ c l inside below. elim (cases_Bool (on l)) [
+    | inl sure ↦
         let same : kept l (slot_at g c l) ≡ slot_at g c l =
-        untouched table l write (slot_at g c l) (ap (touches write) e ∙ none) in
-        sym (ap (λ (s : Slot). slot_when (chosen c && nat_eq l layer) s (slot_at g c l)) same
-        ∙ either (chosen c && nat_eq l layer) (slot_at g c l))
-    | inr n ↦
-        sym (ap (λ (b : Bool). slot_when (chosen c && b) (kept l (slot_at g c l)) (slot_at g c l)) (ne_eqb l layer n)
+        untouched table l write (slot_at g c l) (none l below sure) in
+        sym (ap (λ (s : Slot). slot_when (chosen c && on l) s (slot_at g c l)) same
+        ∙ either (chosen c && on l) (slot_at g c l))
+    | inr never ↦
+        sym (ap (λ (b : Bool). slot_when (chosen c && b) (kept l (slot_at g c l)) (slot_at g c l)) never
         ∙ ap (λ (b : Bool). slot_when b (kept l (slot_at g c l)) (slot_at g c l)) (and-false (chosen c)))
   ] where
     either : (b : Bool) (s : Slot) → slot_when b s s ≡ s
     either true s = refl
     either false s = refl
 
-  pub left_untouched : AreSlotsLeft g chosen (λ l. nat_eq l layer) kept
-  left_untouched = λ c l inside below here on.
-      let e : l ≡ layer = elim (cases_eq l layer)
-      [ inl e ↦ e | inr n ↦ absurd (false≢true (sym (ne_eqb l layer n) ∙ on)) ] in
-      ap (same_slot (slot_at g c l)) (untouched table l write (slot_at g c l) (ap (touches write) e ∙ none))
+  pub left_untouched : AreSlotsLeft g chosen on kept
+  left_untouched = λ c l inside below here sure.
+      ap (same_slot (slot_at g c l)) (untouched table l write (slot_at g c l) (none l below sure))
       ∙ same_slot-own (slot_at g c l)
 
 -- cells ---------------------------------------------------------------------------------------------------------------

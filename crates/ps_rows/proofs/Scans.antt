@@ -5,6 +5,7 @@ use Rattle.std.specs.Prelude.{nat_lt, slice_get, option_map}
 use Rattle.std.specs.List.{list_all, list_any, range_with_len}
 use Rattle.std.proofs.lemmas.Bool.{cases_lt, and_parts, false_from_ne_true, false≢true, ltb-true, lt-ltb}
 use Rattle.std.proofs.lemmas.Bool.{le-ltb}
+use Rattle.std.proofs.Math.Bool.{and-true}
 use Rattle.std.proofs.lemmas.Option.{none-some}
 use Rattle.std.proofs.lemmas.Nat.{mul-add-lt, div-mul-add, mod-mul-add}
 use Rattle.std.proofs.lemmas.List.{get_or_past}
@@ -26,8 +27,8 @@ use Rattle.ps_laws.proofs.common.SameThings.{is_number-true}
 use Rattle.ps_rows.specs.Planes.{has_cell, row_of}
 use Rattle.ps_rows.specs.Showing.{numbered, motions_from, motion_plane, object_shown, motion_shown, slot_shown}
 use Rattle.ps_rows.specs.Showing.{cell_shown, cells_shown, grid_shown, AreObjectsShown, AreMotionsShown}
-use Rattle.ps_rows.specs.RowTests.{IsRowOf, IsWithin, held, held_all, held_any, held_of_each, moved, moved_all}
-use Rattle.ps_rows.specs.RowTests.{five_rows}
+use Rattle.ps_rows.specs.RowTests.{IsPartOf, IsRowOf, IsWithin, held, held_all, held_any, held_of_each, moved}
+use Rattle.ps_rows.specs.RowTests.{five_rows, is_free, moved_all, narrowed}
 use Rattle.ps_rows.proofs.Sets.{both_at, either_at, none_at, wide_of, wide_on, without_at}
 use Rattle.ps_rows.proofs.Listed.{same_tests}
 use Rattle.ps_rows.proofs.Rests.{slot_read, object_room}
@@ -232,44 +233,72 @@ module _ (table : List ℕ) (width height layers : ℕ) (words : List (List Bool
 
 -- a whole mask --------------------------------------------------------------------------------------------------------
 
-and4 : (a b c d : Bool) → ((((true && a) && b) && c) && d) ≡ (a && (b && (c && d)))
-and4 true true true d = refl
-and4 true true false d = refl
-and4 true false c d = refl
+and4 : (a b c d : Bool) → ((a && b) && (c && d)) ≡ (a && (b && (c && d)))
+and4 true b c d = refl
 and4 false b c d = refl
 
-pub mask_inside : (g : Grid) (row : ℕ) (full needed barred listed moving : List Bool) (mask : CellMask) →
-    g.width ≤ SIDE_LIMIT →
+-- the cells that have all that it needs, and nothing that it bars
+pub free_inside : (g : Grid) (row : ℕ) (full needed barred : List Bool) (mask : CellMask) → g.width ≤ SIDE_LIMIT →
     full ≡ columns_below g.width → IsRowOf g row needed (held_all mask.needed) →
     IsRowOf g row barred (held_any mask.barred) →
+    IsRowOf g row (columns_without (both_columns full needed) barred) (is_free mask)
+free_inside g row full needed barred mask narrow is a b = λ x h.
+    let low : x < SIDE_LIMIT = omega (arith, h, narrow) in
+    without_at (both_columns full needed) barred x low
+    ∙ ap₂ (λ (p q : Bool). p && not q)
+    (both_at full needed x low ∙ ap₂ (λ (p q : Bool). p && q) (wide_on full g.width narrow is x h) (a x h))
+    (b x h)
+
+pub free_within : (g : Grid) (full needed barred : List Bool) → full ≡ columns_below g.width →
+    IsWithin g (columns_without (both_columns full needed) barred)
+free_within g full needed barred is = λ x off low.
+    let none : column_at full x ≡ false = wide_of full g.width is x low ∙ le-ltb x g.width off in
+    without_at (both_columns full needed) barred x low
+    ∙ ap (λ (b : Bool). b && not (column_at barred x))
+    (both_at full needed x low ∙ ap (λ (b : Bool). b && column_at needed x) none)
+
+-- those of a set that have one object of each list, and the motions
+and3 : (a b c : Bool) → ((a && b) && c) ≡ (a && (b && c))
+and3 true b c = refl
+and3 false b c = refl
+
+pub narrowed_inside : (g : Grid) (row : ℕ) (columns listed moving : List Bool) (mask : CellMask) →
+    g.width ≤ SIDE_LIMIT →
     IsRowOf g row listed (held_of_each mask.one_of) → IsRowOf g row moving (moved_all mask.motions) →
-    IsRowOf g row (both_columns (both_columns (columns_without (both_columns full needed) barred) listed) moving)
-    (mask_fits mask)
-mask_inside g row full needed barred listed moving mask narrow is a b c d = λ x h.
+    IsPartOf g row columns (both_columns (both_columns columns listed) moving) (narrowed mask)
+narrowed_inside g row columns listed moving mask narrow a b = λ x h.
     let low : x < SIDE_LIMIT = omega (arith, h, narrow) in
     let cell : List Slot = cell_at g (x * g.height + row) in
     let both : Bool → Bool → Bool = λ p q. p && q in
-    both_at (both_columns (columns_without (both_columns full needed) barred) listed) moving x low
-    ∙ ap₂ both
-    (both_at (columns_without (both_columns full needed) barred) listed x low
-    ∙ ap₂ both
-    (without_at (both_columns full needed) barred x low
-    ∙ ap₂ (λ (p q : Bool). p && not q) (both_at full needed x low
-    ∙ ap₂ both (wide_on full g.width narrow is x h) (a x h))
-    (b x h))
-    (c x h))
-    (d x h)
+    both_at (both_columns columns listed) moving x low
+    ∙ ap₂ both (both_at columns listed x low ∙ ap (λ (p : Bool). column_at columns x && p) (a x h)) (b x h)
+    ∙ and3 (column_at columns x) (held_of_each mask.one_of cell) (moved_all mask.motions cell)
+
+pub narrowed_within : (g : Grid) (columns listed moving : List Bool) → IsWithin g columns →
+    IsWithin g (both_columns (both_columns columns listed) moving)
+narrowed_within g columns listed moving within = λ x off low.
+    both_at (both_columns columns listed) moving x low
+    ∙ ap (λ (b : Bool). b && column_at moving x)
+    (both_at columns listed x low ∙ ap (λ (b : Bool). b && column_at listed x) (within x off low))
+
+-- they fit
+pub mask_narrowed : (g : Grid) (row : ℕ) (free word : List Bool) (mask : CellMask) →
+    IsRowOf g row free (is_free mask) →
+    IsPartOf g row free word (narrowed mask) → IsRowOf g row word (mask_fits mask)
+mask_narrowed g row free word mask a b = λ x h.
+    let cell : List Slot = cell_at g (x * g.height + row) in
+    b x h ∙ ap (λ (p : Bool). p && narrowed mask cell) (a x h)
     ∙ and4 (held_all mask.needed cell) (not (held_any mask.barred cell)) (held_of_each mask.one_of cell)
     (moved_all mask.motions cell)
 
-pub mask_within : (g : Grid) (full needed other listed moving : List Bool) → full ≡ columns_below g.width →
-    IsWithin g (both_columns (both_columns (columns_without (both_columns full needed) other) listed) moving)
-mask_within g full needed other listed moving is = λ x off low.
-    let none : column_at full x ≡ false = wide_of full g.width is x low ∙ le-ltb x g.width off in
-    both_at (both_columns (columns_without (both_columns full needed) other) listed) moving x low
-    ∙ ap (λ (b : Bool). b && column_at moving x)
-    (both_at (columns_without (both_columns full needed) other) listed x low
-    ∙ ap (λ (b : Bool). b && column_at listed x)
-    (without_at (both_columns full needed) other x low
-    ∙ ap (λ (b : Bool). b && not (column_at other x))
-    (both_at full needed x low ∙ ap (λ (b : Bool). b && column_at needed x) none)))
+-- and where there are no lists and no motions, those that are free do
+pub mask_free : (g : Grid) (row : ℕ) (free : List Bool) (mask : CellMask) → mask.one_of ≡ [] → mask.motions ≡ [] →
+    IsRowOf g row free (is_free mask) → IsRowOf g row free (mask_fits mask)
+mask_free g row free mask lists motions a = λ x h.
+    let cell : List Slot = cell_at g (x * g.height + row) in
+    let all : narrowed mask cell ≡ true =
+    ap₂ (λ (p q : Bool). p && q) (ap (λ (xs : List (List LayeredObject)). held_of_each xs cell) lists)
+    (ap (λ (xs : List MotionTest). moved_all xs cell) motions) in
+    a x h ∙ sym (and-true (is_free mask cell)) ∙ sym (ap (λ (p : Bool). is_free mask cell && p) all)
+    ∙ and4 (held_all mask.needed cell) (not (held_any mask.barred cell)) (held_of_each mask.one_of cell)
+    (moved_all mask.motions cell)

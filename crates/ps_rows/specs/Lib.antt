@@ -10,3 +10,4 @@ pub mod PlaneCopies
 pub mod RowDifferences
 pub mod RowHistories
 pub mod PlaneTopics
+pub mod LayersTouched

@@ -1,11 +1,11 @@
 -- Sets of columns as the cells of a row of a grid that pass a test.
-use Rattle.std.specs.Prelude.{◌≡◌, ◌<◌, ◌≤◌, ◌+◌, ◌*◌, ℕ, Bool, false, List}
+use Rattle.std.specs.Prelude.{◌≡◌, ◌<◌, ◌≤◌, ◌+◌, ◌*◌, ◌&&◌, ℕ, Bool, false, not, List}
 use Rattle.std.specs.List.{list_all, list_any}
 use Rattle.ps_model.specs.declared.pieces.Slot.{Slot}
 use Rattle.ps_model.specs.declared.compiled.LayeredObject.{LayeredObject}
 use Rattle.ps_model.specs.declared.compiled.MotionTest.{MotionTest}
 use Rattle.ps_model.specs.board.Grid.{Grid, cell_at}
-use Rattle.ps_model.specs.meaning.Compiled.{is_held_in, moves_as_asked}
+use Rattle.ps_model.specs.meaning.Compiled.{CellMask, is_held_in, moves_as_asked}
 use Rattle.ps_model.specs.declared.limits.TheConstants.{SIDE_LIMIT}
 use Rattle.ps_board.specs.ColumnSets.{column_at, either_columns}
 use Rattle.ps_rows.specs.Planes.{row_of}
@@ -36,6 +36,18 @@ moved test cell = moves_as_asked cell test
 
 abbrev pub moved_all : List MotionTest → List Slot → Bool
 moved_all tests cell = list_all (moves_as_asked cell) tests
+
+-- all that a mask needs and nothing that it bars, and what else it asks
+abbrev pub is_free : CellMask → List Slot → Bool
+is_free mask cell = held_all mask.needed cell && not (held_any mask.barred cell)
+
+abbrev pub narrowed : CellMask → List Slot → Bool
+narrowed mask cell = held_of_each mask.one_of cell && moved_all mask.motions cell
+
+-- of the columns of a set those whose cells pass the test
+abbrev pub IsPartOf : Grid → ℕ → List Bool → List Bool → (List Slot → Bool) → Type 0
+IsPartOf g row columns word test = (x : ℕ) → x < g.width →
+    column_at word x ≡ (column_at columns x && test (cell_at g (x * g.height + row)))
 
 -- the columns of a row that one of five planes has
 abbrev pub five_rows : ℕ → List (List Bool) → ℕ → ℕ → List Bool

@@ -47,7 +47,7 @@ pub fn first_motion<W: ColumnWords>(planes: &Planes<W>, cell: u32, first: u32) -
     Motion::Still
 }
 
-/// Gives a cell this motion alone.
+/// Gives a cell this motion alone. Rest is given to a row without motions by leaving it as it is.
 pub fn choose_motion<W: ColumnWords>(planes: &mut Planes<W>, cell: u32, first: u32, motion: Motion)
     requires column { cell / planes.old.height < W.limit }
     requires few { first + 4 < 2 ^ 32 }
@@ -58,6 +58,9 @@ pub fn choose_motion<W: ColumnWords>(planes: &mut Planes<W>, cell: u32, first: u
     ensures height { planes.new.height ≡ planes.old.height }
     ensures count { vec_len planes.new.words ≡ vec_len planes.old.words }
 {
+    if matches!(motion, Motion::Still) && planes.is_unmarked(first, cell % planes.height) {
+        return;
+    }
     let motions = [first, first + 1, first + 2, first + 3, first + 4];
     planes.choose_plane(cell, &motions, motion_plane(first, motion));
 }

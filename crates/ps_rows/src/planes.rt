@@ -1,15 +1,16 @@
 //! Planes of rows, each row a set of columns, as one flat list of sets, with an index of their rows.
 
-ghost use Rattle.std.specs.Prelude.{◌≡◌, ◌+◌, ◌*◌, ◌/◌, ◌%◌, ◌<◌, ◌≤◌, ℕ, ◌∷◌, [], IfOk, find, length, replicate};
-ghost use Rattle.std.specs.Prelude.{nat_lt, slice_set, true, vec_len};
+ghost use Rattle.std.specs.Prelude.{◌≡◌, ◌+◌, ◌*◌, ◌/◌, ◌%◌, ◌^◌, ◌<◌, ◌≤◌, ℕ, ◌∷◌, [], IfOk, false, find, length};
+ghost use Rattle.std.specs.Prelude.{nat_eq, nat_lt, replicate, slice_set, true, vec_len};
+ghost use Rattle.std.specs.List.{list_any};
 ghost use Rattle.ps_model.specs.board.Movement.{is_number};
 ghost use Rattle.ps_model.specs.declared.limits.TheConstants.{SIDE_LIMIT};
-ghost use Rattle.ps_board.specs.ColumnSets.{no_columns};
+ghost use Rattle.ps_board.specs.ColumnSets.{column_at, no_columns, with_column};
 ghost use Rattle.ps_rows.specs.Planes.{AreSets, HavePlanes, IsSet, has_cell, row_of, with_cell, with_cell_in};
 ghost use Rattle.ps_rows.specs.PlaneCopies.{ArePlanesOf, AreRowsOf};
 ghost use Rattle.ps_rows.specs.RowIndex.{AreRowsMarked};
 ghost use Rattle.ps_rows.specs.Sameness.{DifferOnlyOnRows};
-ghost use Rattle.ps_rows.specs.Showing.{cleared_from};
+ghost use Rattle.ps_rows.specs.Showing.{cleared_from, motion_planes};
 
 use ps_board::{ColumnWords, Columns};
 use ps_model::Memory;
@@ -143,6 +144,21 @@ impl<W: ColumnWords> Planes<W> {
         self.index[plane as usize]
     }
 
+    /// The rows that one of five planes from the first on may have a column in.
+    pub fn five_rows_of(&self, first: u32) -> Columns<W>
+        requires few { first + 4 < 2 ^ 32 }
+        requires planes { (first + 5) * self.now.height ≤ vec_len self.now.words }
+        ensures { let p = self.now in (plane row : ℕ) → list_any (nat_eq plane) (motion_planes first) ≡ true →
+            row < p.height → column_at result row ≡ false →
+            row_of p.words.items (plane * p.height + row) ≡ no_columns }
+    {
+        self.rows_of(first)
+            .either(self.rows_of(first + 1))
+            .either(self.rows_of(first + 2))
+            .either(self.rows_of(first + 3))
+            .either(self.rows_of(first + 4))
+    }
+
     /// Gives a row of a plane these columns.
     pub fn set_row(&mut self, plane: u32, row: u32, word: Columns<W>)
         requires row { row < self.old.height }
@@ -165,16 +181,34 @@ impl<W: ColumnWords> Planes<W> {
         self.row(plane, cell % self.height).has(cell / self.height)
     }
 
-    /// Puts a cell into a plane, or takes it away.
-    fn set_cell(&mut self, cell: u32, plane: u32, on: bool)
-        requires column { cell / self.old.height < W.limit }
+    /// Whether a row of five planes, from that one on, is known to have no column: none of them has it marked.
+    pub fn is_unmarked(&self, first: u32, row: u32) -> bool
+        requires row { row < self.now.height }
+        requires few { first + 4 < 2 ^ 32 }
+        requires planes { (first + 5) * self.now.height ≤ vec_len self.now.words }
+        ensures { result ≡ true → (plane : ℕ) → first ≤ plane → plane ≤ first + 4 →
+            row_of self.now.words.items (plane * self.now.height + row) ≡ no_columns }
+    {
+        let upright = self.rows_of(first).either(self.rows_of(first + 1));
+        let across = self.rows_of(first + 2).either(self.rows_of(first + 3));
+        let rows = upright.either(across).either(self.rows_of(first + 4));
+        !rows.has(row)
+    }
+
+    /// Puts the cell of a row and a column into a plane, or takes it away. A row that isn't marked has nothing to take.
+    fn set_cell(&mut self, row: u32, column: u32, plane: u32, on: bool)
+        requires row { row < self.old.height }
+        requires column { column < W.limit }
         requires plane { (plane + 1) * self.old.height ≤ vec_len self.old.words }
-        ensures words { self.new.words.items ≡ with_cell self.old.height self.old.words.items cell plane on }
+        ensures words { let p = self.old in let place = plane * p.height + row in
+            self.new.words.items ≡ slice_set p.words.items place (with_column (row_of p.words.items place) column on) }
         ensures height { self.new.height ≡ self.old.height }
         ensures count { vec_len self.new.words ≡ vec_len self.old.words }
     {
-        let row = cell % self.height;
-        let word = self.row(plane, row).with(cell / self.height, on);
+        if !on && !self.rows_of(plane).has(row) {
+            return;
+        }
+        let word = self.row(plane, row).with(column, on);
         self.set_row(plane, row, word);
     }
 
@@ -187,8 +221,10 @@ impl<W: ColumnWords> Planes<W> {
         ensures height { self.new.height ≡ self.old.height }
         ensures count { vec_len self.new.words ≡ vec_len self.old.words }
     {
+        let row = cell % self.height;
+        let column = cell / self.height;
         for plane in planes {
-            self.set_cell(cell, *plane, is_chosen(chosen, *plane));
+            self.set_cell(row, column, *plane, is_chosen(chosen, *plane));
         }
     }
 

@@ -1,6 +1,11 @@
 //! A row of the board rewritten in many columns at once, layer by layer.
 
-ghost use Rattle.std.specs.Prelude.{◌≡◌, ◌+◌, ◌*◌, ◌<◌, ◌≤◌, ℕ, Some, false, nat_eq, true};
+ghost use Rattle.std.specs.Prelude.{◌≡◌, ◌+◌, ◌*◌, ◌<◌, ◌≤◌, ◌&&◌, ◌||◌, ℕ, Some, false, nat_eq, nat_lt, true};
+ghost use Rattle.ps_model.specs.declared.limits.TheConstants.{SIDE_LIMIT};
+ghost use Rattle.ps_board.specs.ColumnSets.{column_at};
+ghost use Rattle.ps_board.specs.declared.one_word.TheConstants.{WORD_BITS};
+ghost use Rattle.ps_match.specs.Touches.{touches};
+ghost use Rattle.ps_rows.specs.LayersTouched.{is_reached, is_written, loses_one};
 ghost use Rattle.ps_model.specs.meaning.Compiled.{cell_written};
 ghost use Rattle.ps_program.specs.ProgramShown.{write_shown};
 ghost use Rattle.ps_match.specs.InRoom.{write_in_room};
@@ -10,12 +15,64 @@ ghost use Rattle.ps_rows.specs.RowTests.{IsRowOf, IsWithin};
 ghost use Rattle.ps_rows.specs.SlotsWritten.{AreSlotsLeft, AreSlotsWritten, IsLayerChange};
 ghost use Rattle.ps_rows.specs.SlotsWritten.{goes_from, in_columns, one_goes, slot_by, stands_on};
 
-use crate::changes::{RowChange, motions_change, moves_kept, objects_change};
+use crate::changes::{RowChange, layer_changes, moves_kept};
 use crate::row_board::RowBoard;
-use ps_board::{Board, ColumnWords, Columns};
+use ps_board::{Board, ColumnWords, Columns, OneWord, WORD_BITS};
 use ps_match::{own_write, touches};
 use ps_model::{LayerId, LayerWrite, LayeredObject};
 use ps_program::CellWrite;
+
+/// A set of layers below `WORD_BITS` with one more, if it is such a one of so many layers.
+fn with_layer(layers: Columns<OneWord>, layer: LayerId, count: u32) -> Columns<OneWord>
+    ensures { (x : ℕ) → x < SIDE_LIMIT →
+        column_at result x ≡ (column_at layers x || (is_reached count x && nat_eq layer.0 x)) }
+{
+    if layer.0 < count && layer.0 < WORD_BITS {
+        return layers.with(layer.0, true);
+    }
+    layers
+}
+
+/// A set of layers below `WORD_BITS` with those from which objects go, of so many layers.
+fn with_layers_left(
+    layers: Columns<OneWord>,
+    gone: &[LayeredObject],
+    count: u32,
+) -> Columns<OneWord>
+    ensures { (x : ℕ) → x < SIDE_LIMIT →
+        column_at result x ≡ (column_at layers x || (is_reached count x && loses_one gone.now x)) }
+{
+    let mut all = layers;
+    for each in gone {
+        all = with_layer(all, each.layer, count);
+    }
+    all
+}
+
+/// A set of layers below `WORD_BITS` with those that are written, of so many layers.
+fn with_layers_written(
+    layers: Columns<OneWord>,
+    writes: &[LayerWrite],
+    count: u32,
+) -> Columns<OneWord>
+    ensures { (x : ℕ) → x < SIDE_LIMIT →
+        column_at result x ≡ (column_at layers x || (is_reached count x && is_written writes.now x)) }
+{
+    let mut all = layers;
+    for each in writes {
+        all = with_layer(all, each.layer, count);
+    }
+    all
+}
+
+/// The layers below `WORD_BITS` that a write touches, of so many layers.
+fn touched_layers(write: &CellWrite, count: u32) -> Columns<OneWord>
+    ensures { (x : ℕ) → x < SIDE_LIMIT →
+        column_at result x ≡ (is_reached count x && touches (write_shown write.now) x) }
+{
+    let left = with_layers_left(Columns::none(), write.gone.as_slice(), count);
+    with_layers_written(left, write.layers.as_slice(), count)
+}
 
 impl<W: ColumnWords> RowBoard<W> {
     /// Where an object stands, if it goes from that layer.
@@ -56,6 +113,7 @@ impl<W: ColumnWords> RowBoard<W> {
     }
 
     /// What a write makes of a layer in columns of a row: of the planes of its objects, and of those of its motions.
+    #[inline(always)]
     pub(crate) fn layer_change(
         &self,
         write: &CellWrite,
@@ -75,11 +133,13 @@ impl<W: ColumnWords> RowBoard<W> {
         let freed = columns.both(self.gone_row(write.gone.as_slice(), layer, row));
         let kept = columns.without(freed).both(self.kept_row(own, layer, row));
         let first = self.motions_from(layer);
-        let objects = objects_change(own, columns, freed);
-        (objects, motions_change(first, own, columns, freed, kept))
+        layer_changes(first, own, columns, freed, kept)
     }
 
     /// Writes a layer of a row in these columns, if the write touches it, and answers whether one of its slots changed.
+    ///
+    /// For a layer beyond `WORD_BITS`, which few games have.
+    #[inline(never)]
     fn write_if(&mut self, write: &CellWrite, layer: u32, row: u32, columns: Columns<W>) -> bool
         requires layer { layer < self.old.layers }
         requires row { row < self.old.planes.height }
@@ -104,6 +164,33 @@ impl<W: ColumnWords> RowBoard<W> {
         false
     }
 
+    /// Writes the layers below `WORD_BITS` of a row in these columns, and answers whether one of its slots changed.
+    /// Those that the write doesn't touch are passed over.
+    fn write_touched(&mut self, write: &CellWrite, row: u32, columns: Columns<W>) -> bool
+        requires row { row < self.old.planes.height }
+        requires within { IsWithin (⟦<RowBoard<W> as Board>⟧.grid self.old) columns }
+        ensures slots { let after = slot_by self.old.members.table.items (write_shown write.now) in
+            AreSlotsWritten (⟦<RowBoard<W> as Board>⟧.grid self.old) (⟦<RowBoard<W> as Board>⟧.grid self.new)
+            (in_columns self.old.planes.height row columns) (λ l. nat_lt l WORD_BITS) after }
+        ensures quiet { let after = slot_by self.old.members.table.items (write_shown write.now) in
+            result ≡ false → AreSlotsLeft (⟦<RowBoard<W> as Board>⟧.grid self.old)
+            (in_columns self.old.planes.height row columns) (λ l. nat_lt l WORD_BITS) after }
+        ensures left { let after = slot_by self.old.members.table.items (write_shown write.now) in
+            AreSlotsLeft (⟦<RowBoard<W> as Board>⟧.grid self.old)
+            (in_columns self.old.planes.height row columns) (λ l. true) after → result ≡ false }
+        ensures width { self.new.width ≡ self.old.width }
+        ensures height { self.new.planes.height ≡ self.old.planes.height }
+        ensures layers { self.new.layers ≡ self.old.layers }
+        ensures table { self.new.members.table.items ≡ self.old.members.table.items }
+    {
+        let mut any = false;
+        let mut left = touched_layers(write, self.layers());
+        while let Some(layer) = left.take_first() {
+            any |= self.write_layer(write, layer, row, columns);
+        }
+        any
+    }
+
     /// Writes a row in these columns, and answers whether one of its cells changed.
     pub(crate) fn write_columns(&mut self, write: &CellWrite, row: u32, columns: Columns<W>) -> bool
         requires row { row < self.old.planes.height }
@@ -117,8 +204,8 @@ impl<W: ColumnWords> RowBoard<W> {
         ensures layers { self.new.layers ≡ self.old.layers }
         ensures table { self.new.members.table.items ≡ self.old.members.table.items }
     {
-        let mut any = false;
-        for layer in 0..self.layers() {
+        let mut any = self.write_touched(write, row, columns);
+        for layer in WORD_BITS..self.layers() {
             any |= self.write_if(write, layer, row, columns);
         }
         any

@@ -184,6 +184,7 @@ impl<W: ColumnWords> RowBoard<W> {
     }
 
     /// Writes a layer of a row in these columns, and answers whether one of its slots changed.
+    #[inline(always)]
     pub(crate) fn write_layer(
         &mut self,
         write: &CellWrite,

@@ -1,14 +1,14 @@
 //! A row of the board against a mask, all its cells at once.
 
-ghost use Rattle.std.specs.Prelude.{◌≡◌, ◌+◌, ◌^◌, ◌<◌, ℕ};
+ghost use Rattle.std.specs.Prelude.{◌≡◌, ◌+◌, ◌^◌, ◌<◌, ℕ, [], true};
 ghost use Rattle.ps_model.specs.declared.pieces.Motion.TheVariants.{Still};
 ghost use Rattle.ps_model.specs.meaning.Compiled.{mask_fits};
 ghost use Rattle.ps_model.specs.meaning.Fitting.{same_motion};
 ghost use Rattle.ps_program.specs.ProgramShown.{mask_shown};
 ghost use Rattle.ps_board.specs.ColumnSets.{column_at};
 ghost use Rattle.ps_rows.specs.Planes.{IsSet};
-ghost use Rattle.ps_rows.specs.RowTests.{IsRowOf, IsWithin, held, held_all, held_any};
-ghost use Rattle.ps_rows.specs.RowTests.{five_rows, held_of_each, moved, moved_all};
+ghost use Rattle.ps_rows.specs.RowTests.{IsPartOf, IsRowOf, IsWithin, held, held_all, held_any};
+ghost use Rattle.ps_rows.specs.RowTests.{five_rows, held_of_each, is_free, moved, moved_all, narrowed};
 ghost use Rattle.ps_rows.specs.Showing.{motions_from};
 
 use crate::motions::motion_plane;
@@ -17,6 +17,14 @@ use ps_board::{Board, ColumnWords, Columns};
 use ps_model::{LayeredObject, Motion, MotionTest};
 use ps_program::CellMask;
 use ps_text::List;
+
+/// Whether a mask has no lists and no motions.
+fn asks_no_more(mask: &CellMask) -> bool
+    ensures lists { result ≡ true → (mask_shown mask.now).one_of ≡ [] }
+    ensures motions { result ≡ true → (mask_shown mask.now).motions ≡ [] }
+{
+    mask.one_of.as_slice().is_empty() && mask.motions.as_slice().is_empty()
+}
 
 impl<W: ColumnWords> RowBoard<W> {
     /// All columns of the board, where rest is asked for, and else none.
@@ -117,6 +125,36 @@ impl<W: ColumnWords> RowBoard<W> {
         word
     }
 
+    /// Those of some columns of a row in which one object of each of a mask's lists stands, and each layer has the
+    /// motion that is asked for.
+    ///
+    /// Few masks ask for either, so that this is apart from what all of them need.
+    #[inline(never)]
+    fn narrowed_row(&self, mask: &CellMask, row: u32, columns: Columns<W>) -> Columns<W>
+        requires { row < self.now.planes.height }
+        ensures inside { let asked = narrowed (mask_shown mask.now) in
+            IsPartOf (⟦<RowBoard<W> as Board>⟧.grid self.now) row columns result asked }
+        ensures within { let g = ⟦<RowBoard<W> as Board>⟧.grid self.now in IsWithin g columns → IsWithin g result }
+        ensures set { IsSet result }
+    {
+        let listed = self.lists_row(mask.one_of.as_slice(), row);
+        let moving = self.motions_row(mask.motions.as_slice(), row);
+        columns.both(listed).both(moving)
+    }
+
+    /// The cells of a row that have all that a mask needs, and nothing that it bars.
+    fn free_row(&self, mask: &CellMask, row: u32, needed: Columns<W>) -> Columns<W>
+        requires row { row < self.now.planes.height }
+        requires needed { let all = held_all (mask_shown mask.now).needed in
+            IsRowOf (⟦<RowBoard<W> as Board>⟧.grid self.now) row needed all }
+        ensures inside { IsRowOf (⟦<RowBoard<W> as Board>⟧.grid self.now) row result (is_free (mask_shown mask.now)) }
+        ensures within { IsWithin (⟦<RowBoard<W> as Board>⟧.grid self.now) result }
+        ensures set { IsSet result }
+    {
+        let barred = self.any_row(mask.barred.as_slice(), row);
+        self.all_columns.both(needed).without(barred)
+    }
+
     /// The cells of a row that fit a mask.
     pub(crate) fn mask_row(&self, mask: &CellMask, row: u32) -> Columns<W>
         requires { row < self.now.planes.height }
@@ -128,10 +166,10 @@ impl<W: ColumnWords> RowBoard<W> {
         if needed.is_empty() {
             return Columns::none();
         }
-        let barred = self.any_row(mask.barred.as_slice(), row);
-        let listed = self.lists_row(mask.one_of.as_slice(), row);
-        let moving = self.motions_row(mask.motions.as_slice(), row);
-        let within = self.all_columns.both(needed);
-        within.without(barred).both(listed).both(moving)
+        let free = self.free_row(mask, row, needed);
+        if asks_no_more(mask) {
+            return free;
+        }
+        self.narrowed_row(mask, row, free)
     }
 }

@@ -15,6 +15,8 @@ enum Asked<'w> {
     Play(&'w str),
     /// That the game in this file be played, with keys from that file.
     PlayFrom(&'w str, &'w str),
+    /// That the game in this file be played in place, on a terminal of 24 rows and 80 columns.
+    View(&'w str),
     /// Whether the text in this file is a game.
     Check(&'w str),
     /// What the fault of this code is.
@@ -22,7 +24,7 @@ enum Asked<'w> {
 }
 
 /// The words of a command line that asks for something, and what they ask for.
-const LINES: [(&[&str], Asked<'static>); 11] = [
+const LINES: [(&[&str], Asked<'static>); 13] = [
     (&["ps_play", "a.game"], Asked::Play("a.game")),
     (&["ps_play", "long.game"], Asked::Play("long.game")),
     (
@@ -49,10 +51,18 @@ const LINES: [(&[&str], Asked<'static>); 11] = [
         Asked::Check("a.game"),
     ),
     (&["ps_play", "--explain", "RU7"], Asked::Explanation("RU7")),
+    (
+        &["ps_play", "a.game", "--view", "24x80"],
+        Asked::View("a.game"),
+    ),
+    (
+        &["ps_play", "--view=24x80", "long.game"],
+        Asked::View("long.game"),
+    ),
 ];
 
 /// The words of command lines that aren't right, or ask for help or the version.
-const OTHER_LINES: [&[&str]; 14] = [
+const OTHER_LINES: [&[&str]; 20] = [
     &["ps_play", "--check"],
     &["ps_play", "--keys", "a.keys"],
     &["ps_play", "a.game", "--keys"],
@@ -65,6 +75,12 @@ const OTHER_LINES: [&[&str]; 14] = [
     &["ps_play", "--explain"],
     &["ps_play", "--explain", "RU7", "a.game"],
     &["ps_play", "--other", "a.game"],
+    &["ps_play", "a.game", "--view"],
+    &["ps_play", "a.game", "--view", "24"],
+    &["ps_play", "a.game", "--view", "7x80"],
+    &["ps_play", "a.game", "--view", "24x15"],
+    &["ps_play", "a.game", "--view", "24x80", "--view", "24x80"],
+    &["ps_play", "--explain", "RU7", "--view", "24x80"],
     &["ps_play", "--help"],
     &["ps_play", "--version"],
 ];
@@ -87,6 +103,11 @@ const TOO_LONG: &str = "line 1: TX2 TooLong\n";
 
 /// What is shown of the game where it is quit at once.
 const QUIT: &str = "= T\n# level 1\n#P*O#\n\n* quit\n";
+
+/// What a terminal of 24 rows and 80 columns is handed for the game and the key `d`.
+const VIEWED: &str = "\x1b[?25l\x1b[2J\x1b[1;1H\x1b[2K#P*O#\x1b[2;1H\x1b[2K= T\x1b[3;1H\x1b[2K# level 1\
+    \x1b[4;1H\x1b[2Kw a s d move, x act, z undo, r restart, q quit\
+    \x1b[1;1H\x1b[2K#.P@#\x1b[5;1H\x1b[2K* the end\x1b[5;1H\r\n\x1b[J\x1b[?25h";
 
 /// What is shown of the game where it is checked.
 const CHECKED: &str = "ok: objects 9, layers 4, rules 1, levels 1\n";
@@ -131,6 +152,7 @@ fn done_for(outcome: &Outcome) -> Option<Asked<'_>> {
     let mut lines = opened.lines();
     match (lines.next(), lines.next(), outcome.reads) {
         (Some(path), None, 1..) if shown == PUSHED.as_bytes() => Some(Asked::Play(path)),
+        (Some(path), None, 1..) if shown == VIEWED.as_bytes() => Some(Asked::View(path)),
         (Some(path), None, 0) if shown == CHECKED.as_bytes() => Some(Asked::Check(path)),
         (Some(path), Some(file), 0) if shown == QUIT.as_bytes() => {
             Some(Asked::PlayFrom(path, file))

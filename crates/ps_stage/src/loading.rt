@@ -48,7 +48,7 @@ pub fn load<B: Board>(alloc: Global, names: &Names, level: &Level) -> Result<B, 
     )?;
     let cells = level.cells();
     for cell in 0..cells.len() {
-        fill_cell(&mut board, names, cell as u32, cells[cell].as_slice());
+        fill_cell(&mut board, names, cell as u32, cells.cell(cell));
     }
     Ok(board)
 }

@@ -4,5 +4,5 @@ use Rattle.ps_levels.specs.Cells.{cells_shown}
 use Rattle.ps_levels.proofs.ground.fill_ground.Given as goal
 
 abbrev pub invariant-loop-objects : goal.invariant-loop-objects
-invariant-loop-objects l = l.made.items ≡ map (with_ground l.names l.filler)
+invariant-loop-objects l = l.made ≡ map (with_ground l.names l.filler)
     (cells_shown (take l.objects-index l.cells))

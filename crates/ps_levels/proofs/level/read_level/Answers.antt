@@ -7,6 +7,7 @@ use Rattle.ps_model.specs.declared.pieces.ObjectId.{ObjectId}
 use Rattle.ps_model.specs.declared.limits.TheConstants.{SIDE_LIMIT}
 use Rattle.ps_model.specs.text.Lines.{Line}
 use Rattle.ps_model.specs.text.LineNumbers.{line_at, lines_between}
+use Rattle.ps_model.specs.names.Names.{Names}
 use Rattle.ps_model.specs.board.Levels.{grounded}
 use Rattle.ps_model.specs.session.LevelLines.{row_cells, in_columns}
 use Rattle.ps_levels.specs.Cells.{cells_shown, rows_shown}
@@ -44,7 +45,8 @@ returns-clause-read c =
     let cells : cells_shown c.in_ok-cells.cells.items ≡ in_columns w shown = c.in_ok-cells.ensures
     ∙ ap (λ (rs : List Row). in_columns w (rows_shown rs)) c.deref.ensures.value in
     let filled : c.in_ok-cells-2.cells ≡ grounded names (in_columns w shown) =
-    c.in_ok-cells-2.ensures ∙ ap (λ (cs : List (Bor (List ObjectId))).
+    c.in_ok-cells-2.ensures ∙ ap (λ (ns : Names). grounded ns (cells_shown c.deref-2.result.now)) c.names.ensures
+    ∙ ap (λ (cs : List (Bor (List ObjectId))).
     grounded names (cells_shown cs)) c.deref-2.ensures.value ∙ ap (grounded names) cells in (
       level-made names w c.len.result c.in_ok-cells-2.cells first below c.in_ok-width.ensures.value height (filled
           ∙ ap (λ (rs : List (List (List ObjectId))). grounded names (in_columns w rs)) c.in_ok-rows.ensures.0),

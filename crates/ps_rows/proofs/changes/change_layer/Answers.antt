@@ -1,30 +1,22 @@
 use Rattle.std.proofs.Common.{◌≡◌, ◌∙◌, ℕ, List, false, refl, sym, subst, Bool}
 use Rattle.ps_rows.specs.RowChanges.{AreRowsChanged, AreRowsLeft}
 use Rattle.ps_rows.specs.Showing.{motion_planes}
-use Rattle.ps_rows.proofs.RowChanges.{layer_made, motions_whole}
+use Rattle.ps_rows.proofs.RowChanges.{layer_made}
 use Rattle.ps_rows.proofs.changes.change_layer.Goals as goal
-
-pub change_rows-requires-clause-planes : goal.change_rows-requires-clause-planes
-change_rows-requires-clause-planes g c =
-    let p = c.args.planes.now in
-    let mid = c.change_rows-changed.new.planes in
-    rw c.change_rows-changed.ensures.height
-    (motions_whole p.height p.words.len c.args.first (motion_planes c.args.first) refl c.requires.motions
-    mid.words.items (sym mid.words.ok.0 ∙ c.change_rows-changed.ensures.count))
 
 pub returns-clause-words : goal.returns-clause-words
 returns-clause-words g c =
     let p = c.args.planes.now in
     let mid = c.change_rows-changed.new.planes in
     let P : ℕ → Type 0 = λ h. AreRowsChanged h c.args.row c.args.motions mid.words.items
-    c.change_rows.new.planes.words.items (motion_planes c.args.first) in
+    c.change_motions.new.planes.words.items (motion_planes c.args.first) in
     layer_made p.height c.args.row c.args.objects c.args.motions p.words.items mid.words.items
-    c.change_rows.new.planes.words.items c.args.places.now c.args.first c.requires.row c.requires.below
-    c.change_rows-changed.ensures.words (subst P c.change_rows-changed.ensures.height c.change_rows.ensures.words)
+    c.change_motions.new.planes.words.items c.args.places.now c.args.first c.requires.row c.requires.below
+    c.change_rows-changed.ensures.words (subst P c.change_rows-changed.ensures.height c.change_motions.ensures.words)
 
 pub returns-clause-quiet : goal.returns-clause-quiet
-returns-clause-quiet g c = λ none. c.change_rows.ensures.quiet none
-    ∙ c.change_rows-changed.ensures.quiet (c.change_rows.ensures.before none)
+returns-clause-quiet g c = λ none. c.change_motions.ensures.quiet none
+    ∙ c.change_rows-changed.ensures.quiet (c.change_motions.ensures.before none)
 
 pub returns-clause-left : goal.returns-clause-left
 returns-clause-left g c = λ objects motions.
@@ -34,5 +26,5 @@ returns-clause-left g c = λ objects motions.
     AreRowsLeft p.height c.args.row c.args.motions words (motion_planes c.args.first) in
     let H : ℕ → Type 0 = λ h. AreRowsLeft h c.args.row c.args.motions c.change_rows-changed.new.planes.words.items
     (motion_planes c.args.first) in
-    c.change_rows.ensures.left none (subst H (sym c.change_rows-changed.ensures.height)
+    c.change_motions.ensures.left none (subst H (sym c.change_rows-changed.ensures.height)
     (subst P (sym (c.change_rows-changed.ensures.quiet none)) motions))

@@ -4,7 +4,6 @@ use Rattle.std.proofs.lemmas.List.{take_all}
 use Rattle.ps_rows.specs.RowChanges.{AreRowsChanged, IsRowLeft, row_after}
 use Rattle.ps_rows.proofs.Marks.{listed_at}
 use Rattle.ps_rows.proofs.RowChanges.{changed_more, changed_none, rows_kept}
-use Rattle.ps_board.specs.ColumnSets.{set_columns}
 use Rattle.ps_rows.proofs.changes.change_rows.Goals as goal
 
 pub change_row-any-requires-clause-row : goal.change_row-any-requires-clause-row
@@ -82,7 +81,7 @@ returns-clause-quiet g c = c.loop-plane.invariant.quiet
 pub returns-clause-left : goal.returns-clause-left
 returns-clause-left g c = c.loop-plane.invariant.left
 
-pub returns-then-is_empty-clause-words : goal.returns-then-is_empty-clause-words
-returns-then-is_empty-clause-words g c =
+pub returns-then-changes_nothing-clause-words : goal.returns-then-changes_nothing-clause-words
+returns-then-changes_nothing-clause-words g c =
     rows_kept c.args.planes.now.height c.args.row c.args.change c.args.planes.now.words.items c.args.places.now
-    (ap set_columns (sym c.either.ensures) ∙ c.is_empty.ensures.none c.if-is_empty.true)
+    (c.changes_nothing.ensures c.if-changes_nothing.true)

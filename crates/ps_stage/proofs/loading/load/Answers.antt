@@ -1,6 +1,5 @@
 use Rattle.std.proofs.Common.{◌∙◌, ◌<◌, ◌≤◌, List, [], length, get_or, fold, ap, arith}
 use Rattle.std.specs.Prelude.{slice_set}
-use Rattle.std.proofs.lemmas.List.{get_or_read}
 use Rattle.ps_model.specs.declared.pieces.ObjectId.{ObjectId}
 use Rattle.ps_model.specs.declared.pieces.Motion.TheVariants.{Still}
 use Rattle.ps_model.specs.declared.pieces.Slot.{Slot}
@@ -16,7 +15,7 @@ use Rattle.ps_stage.proofs.loading.load.Goals as goal
 pub fill_cell-requires-clause-shape : goal.fill_cell-requires-clause-shape
 fill_cell-requires-clause-shape g c =
     let within : c.loop-cell.cell < length c.args.level.now.cells =
-    rw (← c.cells-cells.ensures) c.loop-cell-test.true in
+    rw (← c.cells-cells.ensures, ← c.len-cell-end.ensures) c.loop-cell-test.true in
     rw c.loop-cell.invariant.loaded (partly_shape c.args.names.now c.args.level.now c.loop-cell.cell
     c.requires.playable (omega arith))
 
@@ -24,10 +23,10 @@ pub loop-cell-preserved : goal.loop-cell-preserved
 loop-cell-preserved g c =
     let names : Names = c.args.names.now in
     let level : Level = c.args.level.now in
-    let within : c.loop-cell.cell < length level.cells = rw (← c.cells-cells.ensures) c.loop-cell-test.true in
+    let within : c.loop-cell.cell < length level.cells =
+    rw (← c.cells-cells.ensures, ← c.len-cell-end.ensures) c.loop-cell-test.true in
     let put = λ (slots : List Slot) (o : ObjectId). slice_set slots (layer_of names o) (Holds o Still) in
-    let objects = c.as_slice.ensures ∙ get_or_read c.cells-cells.result.now c.loop-cell.cell _ c.loop-cell-test.true
-    c.index-cells-cell.is [] ∙ ap (λ (cells : List (List ObjectId)).
+    let objects = c.cell.ensures ∙ ap (λ (cells : List (List ObjectId)).
     get_or cells c.loop-cell.cell []) c.cells-cells.ensures in
     record {
       loaded =
@@ -53,7 +52,8 @@ loop-cell-init g c =
 
 pub returns-clause-loaded : goal.returns-clause-loaded
 returns-clause-loaded g c =
-    let all : length c.args.level.now.cells ≤ c.loop-cell.cell = rw (← c.cells-cells.ensures) c.loop-cell-test.false in
+    let all : length c.args.level.now.cells ≤ c.loop-cell.cell =
+    rw (← c.cells-cells.ensures, ← c.len-cell-end.ensures) c.loop-cell-test.false in
     c.loop-cell.invariant.loaded ∙ all_loaded c.args.names.now c.args.level.now c.loop-cell.cell c.requires.playable all
 
 pub returns-clause-table : goal.returns-clause-table

@@ -30,20 +30,20 @@ returns g c =
     c.kept_row.result =
     c.both-kept.ensures ∙ ap (λ (set : List Bool). both_columns set c.kept_row.result) (c.without.ensures
     ∙ ap (columns_without columns) freed) in
-    let objects : c.objects_change-objects.result ≡ objects_change (own_write (Some table) c.args.layer write.layers)
+    let objects : c.layer_changes.result.0 ≡ objects_change (own_write (Some table) c.args.layer write.layers)
     columns (both_columns columns gone) =
-    c.objects_change-objects.ensures ∙ ap₂ (λ (o : Option LayerWrite) (f : List Bool).
+    c.layer_changes.ensures.objects ∙ ap₂ (λ (o : Option LayerWrite) (f : List Bool).
     objects_change o columns f) own freed in
-    let motions : c.motions_change.result
+    let motions : c.layer_changes.result.1
     ≡ motions_change c.motions_from-first.result (own_write (Some table) c.args.layer write.layers) columns
     (both_columns columns gone)
     (both_columns (columns_without columns (both_columns columns gone)) c.kept_row.result) =
-    c.motions_change.ensures ∙ ap₂ (λ (o : Option LayerWrite) (f : List Bool).
+    c.layer_changes.ensures.motions ∙ ap₂ (λ (o : Option LayerWrite) (f : List Bool).
     motions_change c.motions_from-first.result o columns f c.both-kept.result) own freed
     ∙ ap (motions_change c.motions_from-first.result (own_write (Some table) c.args.layer write.layers) columns
     (both_columns columns gone)) kept in
     layer_changed table b.width b.planes.height b.layers b.planes.words.items c.args.layer c.args.row b.planes.some_row
     b.columns c.requires.row c.requires.layer write columns gone c.kept_row.result
     c.requires.within (subst P c.as_slice-2.ensures c.gone_row.ensures) (λ moves.
-    c.kept_row.ensures (ap moves_kept own ∙ moves)) c.motions_from-first.result c.objects_change-objects.result
-    c.motions_change.result c.motions_from-first.ensures.first objects motions
+    c.kept_row.ensures (ap moves_kept own ∙ moves)) c.motions_from-first.result c.layer_changes.result.0
+    c.layer_changes.result.1 c.motions_from-first.ensures.first objects motions

@@ -1,6 +1,7 @@
-use Rattle.std.proofs.Common.{◌≡◌, ◌∙◌, ◌*◌, ◌≤◌, ◌||◌, ℕ, List, Bool, Some, false, length, [], refl, ap₂, subst, arith}
-use Rattle.std.specs.Prelude.{nat_eq}
-use Rattle.std.proofs.lemmas.Bool.{or_parts}
+use Rattle.std.proofs.Common.{◌≡◌, ◌∙◌, ◌+◌, ◌*◌, ◌<◌, ◌≤◌, ◌||◌, ℕ, List, Bool, Some, true, false, length, [], sym}
+use Rattle.std.proofs.Common.{ap₂, subst, arith}
+use Rattle.std.specs.Prelude.{nat_eq, nat_lt}
+use Rattle.std.proofs.lemmas.Bool.{le-ltb, lt-ltb, or_parts}
 use Rattle.ps_model.specs.declared.pieces.Slot.{Slot}
 use Rattle.ps_model.specs.board.Grid.{Grid}
 use Rattle.ps_model.specs.meaning.Compiled.{CellWrite}
@@ -9,25 +10,20 @@ use Rattle.ps_match.specs.InRoom.{slot_after, write_in_room}
 use Rattle.ps_rows.specs.Showing.{grid_shown}
 use Rattle.ps_rows.specs.SlotsWritten.{AreSlotsLeft, AreSlotsWritten, in_columns}
 use Rattle.ps_rows.proofs.Rests.{cells_long, slots_long}
-use Rattle.ps_rows.proofs.RowsWritten.{left_all, left_here, left_next, left_none, row_rewritten, slots_all, slots_next}
-use Rattle.ps_rows.proofs.RowsWritten.{slots_none}
+use Rattle.ps_rows.proofs.RowsWritten.{left_as, left_here, left_next, next_below, row_rewritten, slots_as, slots_next}
 use Rattle.ps_rows.proofs.row_board.RowBoard.write_columns.Goals as goal
 
 pub loop-layer-init : goal.loop-layer-init
 loop-layer-init g c =
-    let b = c.args.self.now in
-    let start : Grid = grid_shown b.members.table.items b.width b.planes.height b.layers b.planes.words.items in
-    let after : ℕ → Slot → Slot = slot_after (write_in_room (Some b.members.table.items)
-    (write_shown c.args.write.now)) in
-    let chosen : ℕ → Bool = in_columns b.planes.height c.args.row c.args.columns in
+    let done = c.write_touched-any.ensures in
     record {
-      slots = slots_none start chosen after;
-      quiet = λ none. left_none start chosen after;
-      left = λ all. refl;
-      width = refl;
-      height = refl;
-      layers = refl;
-      table = refl;
+      slots = done.slots;
+      quiet = done.quiet;
+      left = done.left;
+      width = done.width;
+      height = done.height;
+      layers = done.layers;
+      table = done.table;
     }
 
 pub loop-layer-preserved : goal.loop-layer-preserved
@@ -63,15 +59,21 @@ loop-layer-preserved g c =
     let left : L b.members.table.items b.planes.height =
     subst (λ (t : List ℕ). L t b.planes.height) was.table
     (subst (λ (h : ℕ). L before.members.table.items h) was.height c.write_if-any.ensures.left) in
+    let on : ℕ → Bool = λ k. nat_lt k layer in
+    let more : ℕ → Bool = λ k. nat_lt k (layer + 1) in
+    let off : on layer ≡ false = le-ltb layer layer (omega arith) in
+    let same : (l : ℕ) → l < b.layers → more l ≡ (nat_eq l layer || on l) = λ l low. next_below layer l in
     record {
-      slots = slots_next start chosen after now layer was.slots next was.width was.height was.layers slots;
+      slots =
+          slots_next start chosen after now on was.slots layer off next more same was.width was.height was.layers
+          slots;
       quiet = λ none.
           let parts = or_parts c.loop-layer.any c.write_if-any.result none in
-          left_next start chosen after now layer was.slots was.width was.height was.layers (was.quiet parts.0)
-          (quiet parts.1);
+          left_next start chosen after now on was.slots layer off more same was.width was.height was.layers
+          (was.quiet parts.0) (quiet parts.1);
       left = λ all.
           ap₂ (λ (x y : Bool). x || y) (was.left all)
-          (left (left_here start chosen after now layer was.slots was.width was.height was.layers all));
+          (left (left_here start chosen after now on was.slots layer off was.width was.height was.layers all));
       width = c.write_if-any.ensures.width ∙ was.width;
       height = c.write_if-any.ensures.height ∙ was.height;
       layers = c.write_if-any.ensures.layers ∙ was.layers;
@@ -98,11 +100,15 @@ returns-clause-rewritten g c =
     (last.width * last.planes.height) in
     let same_long : length now.cells ≡ b.width * b.planes.height = now_long
     ∙ ap₂ (λ (x y : ℕ). x * y) was.width was.height in
+    let on : ℕ → Bool = λ k. nat_lt k c.loop-layer.layer in
+    let all_below : b.layers ≤ c.loop-layer.layer → (l : ℕ) → l < b.layers → on l ≡ true =
+    λ far l low. lt-ltb l c.loop-layer.layer (omega (arith, far, low)) in
     row_rewritten (Some table) write start now chosen long
     (λ k low. slots_long table b.layers b.planes.height b.planes.words.items (b.width * b.planes.height) k []
     (rw long low))
     same_long
     (λ k low. slots_long last.members.table.items last.layers last.planes.height last.planes.words.items
     (last.width * last.planes.height) k [] (rw same_long low) ∙ was.layers)
-    c.loop-layer.any was.width was.height was.layers (slots_all start chosen after now c.loop-layer.layer was.slots end)
-    (λ none. left_all start chosen after now c.loop-layer.layer was.slots end (was.quiet none)) was.left
+    c.loop-layer.any was.width was.height was.layers
+    (slots_as start chosen after now on (λ l. true) (λ l low. sym (all_below end l low)) was.slots)
+    (λ none. left_as start chosen after on (λ l. true) (λ l low. sym (all_below end l low)) (was.quiet none)) was.left

@@ -1,0 +1,83 @@
+//! A game that is played.
+
+ghost use Rattle.std.specs.Prelude.{◌≡◌, false};
+
+use crate::command::Play;
+use crate::files::read_game_file;
+use crate::stops::{Stop, stop_for};
+use ps_devices::{ByteReader, ByteWriter, FromStd};
+use ps_run::{RunFault, run};
+use ps_view::{Lent, Size, Viewed};
+use std::fs;
+use std::rt::Files;
+
+/// Plays a game: on the screen as it is, or in a view of that size, in which the board stays in place.
+pub fn play_asked<R: Files + AllocGlobal, I: ByteReader, O: ByteWriter>(
+    rt: &R,
+    asked: Play<'_>,
+    keys: &mut I,
+    screen: &mut O,
+) -> Result<(), Stop>
+    requires heard { (I.state keys.old).has_failed ≡ false }
+    requires well { (O.state screen.old).has_failed ≡ false }
+{
+    let text = read_game_file(rt, asked.game).map_err(|error| stop_for(error, Stop::Game))?;
+    match asked.size {
+        None => play_from(rt, &text, asked.keys, keys, screen),
+        Some(size) => play_in_view(rt, &text, asked.keys, size, keys, screen),
+    }
+}
+
+/// Plays a game in a view.
+fn play_in_view<R: Files + AllocGlobal, I: ByteReader, O: ByteWriter>(
+    rt: &R,
+    text: &[u8],
+    file: Option<&str>,
+    size: Size,
+    keys: &mut I,
+    screen: &mut O,
+) -> Result<(), Stop>
+    requires heard { (I.state keys.old).has_failed ≡ false }
+    requires well { (O.state screen.old).has_failed ≡ false }
+{
+    let mut view = Viewed::new(rt.alloc(), size, Lent::new(screen));
+    let played = play_from(rt, text, file, keys, &mut view);
+    if view.wants_memory() {
+        return Err(Stop::Run(RunFault::Memory));
+    }
+    played
+}
+
+/// Plays a game with keys from a file, which is opened once the game's text was read; or from a reader, where no file is
+/// named.
+fn play_from<R: Files + AllocGlobal, I: ByteReader, O: ByteWriter>(
+    rt: &R,
+    text: &[u8],
+    file: Option<&str>,
+    keys: &mut I,
+    screen: &mut O,
+) -> Result<(), Stop>
+    requires heard { (I.state keys.old).has_failed ≡ false }
+    requires well { (O.state screen.old).has_failed ≡ false }
+{
+    let Some(file) = file else {
+        return play(rt, text, keys, screen);
+    };
+    let file = fs::open(rt, file).map_err(|error| stop_for(error, Stop::Run(RunFault::Read)))?;
+    let mut keys = FromStd::new(file);
+    play(rt, text, &mut keys, screen)
+}
+
+/// Plays a game with keys from a reader.
+fn play<R: AllocGlobal, I: ByteReader, O: ByteWriter>(
+    rt: &R,
+    text: &[u8],
+    keys: &mut I,
+    screen: &mut O,
+) -> Result<(), Stop>
+    requires heard { (I.state keys.old).has_failed ≡ false }
+    requires well { (O.state screen.old).has_failed ≡ false }
+{
+    let _ending = run(rt.alloc(), text, keys, screen)?;
+    Ok(())
+}

@@ -1,0 +1,95 @@
+-- What isn't marked has no cell to take away.
+use Rattle.std.proofs.Common.{◌≡◌, ◌∙◌, ℕ, ◌+◌, ◌*◌, ◌/◌, ◌%◌, ◌<◌, ◌≤◌, Bool, true, false, None, List, refl, arith}
+use Rattle.std.proofs.Common.{inl, inr, sym, ap}
+use Rattle.std.specs.Prelude.{nat_eq, slice_set, if◌then◌else◌}
+use Rattle.std.proofs.lemmas.Bool.{cases_eq, or_parts}
+use Rattle.std.proofs.lemmas.List.{set-get_or}
+use Rattle.ps_model.specs.declared.limits.TheConstants.{SIDE_LIMIT}
+use Rattle.ps_board.specs.ColumnSets.{column_at, either_columns, no_columns, with_column}
+use Rattle.ps_board.proofs.ColumnLaws.{columns-agree}
+use Rattle.ps_rows.specs.Planes.{row_of, with_cell, with_cell_in}
+use Rattle.ps_rows.specs.RowIndex.{AreRowsMarked}
+use Rattle.ps_rows.specs.Showing.{motion_planes}
+use Rattle.ps_rows.proofs.Sets.{either_at, none_at}
+
+off_by : (own off : Bool) → off ≡ false → (if own then false else off) ≡ false
+off_by true off e = refl
+off_by false off e = e
+
+without_any : (column : ℕ) → with_column no_columns column false ≡ no_columns
+without_any column = columns-agree (λ x. if nat_eq x column then false else column_at no_columns x) (λ x. false)
+    (λ x low. off_by (nat_eq x column) (column_at no_columns x) (none_at x))
+
+-- a row without columns stays as it is
+blank_stays : (words : List (List Bool)) (place column : ℕ) → row_of words place ≡ no_columns →
+    slice_set words place (with_column (row_of words place) column false) ≡ words
+blank_stays words place column blank =
+    ap (λ (row : List Bool). slice_set words place (with_column row column false)) blank
+    ∙ ap (slice_set words place) (without_any column ∙ sym blank) ∙ set-get_or words place no_columns
+
+-- and so does one that isn't marked
+pub unmarked_stays : (count height : ℕ) (words index : List (List Bool)) (plane row column : ℕ) (on : Bool) →
+    plane < count → row < height → AreRowsMarked count height words index →
+    column_at (row_of index plane) row ≡ false → on ≡ false →
+    words ≡ slice_set words (plane * height + row) (with_column (row_of words (plane * height + row)) column on)
+unmarked_stays count height words index plane row column on counted under marked clear off =
+    let place : ℕ = plane * height + row in
+    sym (blank_stays words place column (marked plane row counted under clear))
+    ∙ ap (λ (b : Bool). slice_set words place (with_column (row_of words place) column b)) (sym off)
+
+-- five planes of which none has a row marked
+none_of : (a b : List Bool) (row : ℕ) → row < SIDE_LIMIT → column_at (either_columns a b) row ≡ false →
+    (column_at a row ≡ false) × (column_at b row ≡ false)
+none_of a b row few none = or_parts (column_at a row) (column_at b row) (sym (either_at a b row few) ∙ none)
+
+pub five_clear : (index : List (List Bool)) (first row : ℕ) → row < SIDE_LIMIT →
+    column_at (either_columns (either_columns (either_columns (row_of index first) (row_of index (first + 1)))
+    (either_columns (row_of index (first + 2)) (row_of index (first + 3)))) (row_of index (first + 4))) row ≡ false →
+    (plane : ℕ) → first ≤ plane → plane ≤ first + 4 → column_at (row_of index plane) row ≡ false
+five_clear index first row few none plane low high =
+    let upright = either_columns (row_of index first) (row_of index (first + 1)) in
+    let across = either_columns (row_of index (first + 2)) (row_of index (first + 3)) in
+    let all = none_of (either_columns upright across) (row_of index (first + 4)) row few none in
+    let four = none_of upright across row few all.0 in
+    let up = none_of (row_of index first) (row_of index (first + 1)) row few four.0 in
+    let left = none_of (row_of index (first + 2)) (row_of index (first + 3)) row few four.1 in
+    elim (cases_eq plane first) [
+      | inl e ↦ rw e up.0
+      | inr a ↦ elim (cases_eq plane (first + 1)) [
+        | inl e ↦ rw e up.1
+        | inr b ↦ elim (cases_eq plane (first + 2)) [
+          | inl e ↦ rw e left.0
+          | inr c ↦ elim (cases_eq plane (first + 3)) [
+            | inl e ↦ rw e left.1
+            | inr d ↦ let e : plane ≡ first + 4 = omega arith in rw e all.1
+          ]
+        ]
+      ]
+    ]
+
+-- the cell of a row and a column in a plane, or not
+abbrev pub cell_with : ℕ → ℕ → ℕ → List (List Bool) → Bool → ℕ → List (List Bool)
+cell_with row column plane words on height =
+    slice_set words (plane * height + row) (with_column (row_of words (plane * height + row)) column on)
+
+pub cell_set : (height cell plane row column : ℕ) (words : List (List Bool)) (on : Bool) → row ≡ cell % height →
+    column ≡ cell / height → cell_with row column plane words on height ≡ with_cell height words cell plane on
+unfolding with_cell
+cell_set height cell plane row column words on r c = rw (r, c) refl
+
+-- the cell is in none of five planes
+pub five_stay : (height cell first : ℕ) (words : List (List Bool)) →
+    ((plane : ℕ) → first ≤ plane → plane ≤ first + 4 → row_of words (plane * height + cell % height) ≡ no_columns) →
+    words ≡ with_cell_in height cell None words (motion_planes first)
+unfolding with_cell_in
+five_stay height cell first words blank =
+    let stays : (plane : ℕ) → first ≤ plane → plane ≤ first + 4 → with_cell height words cell plane false ≡ words =
+    λ plane low high. sym (cell_set height cell plane (cell % height) (cell / height) words false refl refl)
+    ∙ blank_stays words (plane * height + cell % height) (cell / height) (blank plane low high) in
+    rw (
+      stays first (omega arith) (omega arith),
+      stays (first + 1) (omega arith) (omega arith),
+      stays (first + 2) (omega arith) (omega arith),
+      stays (first + 3) (omega arith) (omega arith),
+      stays (first + 4) (omega arith) (omega arith),
+    ) refl

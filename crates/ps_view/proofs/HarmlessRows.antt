@@ -1,0 +1,86 @@
+-- Rows without orders: of which all others are made.
+use Rattle.std.proofs.Common.{◌≡◌, ℕ, ◌-◌, ◌==◌, Bool, true, false, cond, List, [], ◌∷◌, ◌++◌, length, take}
+use Rattle.std.proofs.Common.{drop}
+use Rattle.std.proofs.Common.{refl, get_or}
+use Rattle.std.specs.Prelude.{All, nat_le}
+use Rattle.std.specs.Str.{chars}
+use Rattle.std.specs.Str.Lossy.{utf8_lossy}
+use Rattle.std.proofs.lemmas.List.Elements.{All-nil, All-cons, All-append, All-take, All-drop, All-map}
+use Rattle.ps_view.specs.HarmlessTexts.{is_order, harmless, harmless_text, columns_of}
+use Rattle.ps_view.specs.Rows.{more_mark, fitting, cut, wrapped, wrapped_behind, shortened}
+use Rattle.ps_view.specs.Corners.{part_from, frame_part, room_across}
+use Rattle.ps_view.specs.declared.corners.Corner.{Corner}
+use Rattle.ps_view.specs.Bounds.{IsHarmlessRow, AreHarmlessRows}
+use Rattle.ps_view.proofs.Such.{first_of, others_of, either, part_is_such}
+
+-- a character that was made harmless is
+made_harmless : (c : ℕ) (b : Bool) → is_order c ≡ b → is_order (cond b 183 c) ≡ false
+made_harmless c true is = refl
+made_harmless c false is = is
+
+harmless_is : (c : ℕ) → is_order (harmless c) ≡ false
+harmless_is c = made_harmless c (is_order c) refl
+
+pub text_is_harmless : (line : List ℕ) → IsHarmlessRow (harmless_text line)
+text_is_harmless line =
+    All-map (λ (c : ℕ). is_order c ≡ false) harmless (chars (utf8_lossy line))
+    (λ k d within. harmless_is (get_or (chars (utf8_lossy line)) k d))
+
+-- the mark is
+mark_alone : IsHarmlessRow (more_mark ∷ [])
+mark_alone = All-cons (λ (c : ℕ). is_order c ≡ false) more_mark [] refl (All-nil (λ (c : ℕ). is_order c ≡ false))
+
+none_alone : IsHarmlessRow []
+none_alone = All-nil (λ (c : ℕ). is_order c ≡ false)
+
+-- a text that is cut
+pub cut_is_harmless : (columns : ℕ) (text : List ℕ) → IsHarmlessRow text → IsHarmlessRow (cut columns text)
+cut_is_harmless columns text is =
+    either IsHarmlessRow (fitting columns text == length text) text
+    (take (fitting (columns - 1) text) text ++ more_mark ∷ [])
+    is (All-append (λ (c : ℕ). is_order c ≡ false) (take (fitting (columns - 1) text) text) (more_mark ∷ [])
+    (All-take (λ (c : ℕ). is_order c ≡ false) (fitting (columns - 1) text) text is) mark_alone)
+
+-- a text that goes on in the next row
+behind_is_harmless : (columns left : ℕ) (row text : List ℕ) → IsHarmlessRow row → IsHarmlessRow text →
+    AreHarmlessRows (wrapped_behind columns left row text)
+behind_is_harmless columns left row [] begun is = All-cons IsHarmlessRow row [] begun (All-nil IsHarmlessRow)
+behind_is_harmless columns left row (c ∷ text) begun is =
+    let P : ℕ → Type 0 = λ c. is_order c ≡ false in
+    let first : P c = first_of P c text is in
+    let others : All P text = others_of P c text is in
+    let alone : All P (c ∷ []) = All-cons P c [] first (All-nil P) in
+    elim (nat_le (columns_of c) left) as (λ fits. AreHarmlessRows (elim fits [
+      | true ↦ wrapped_behind columns (left - columns_of c) (row ++ c ∷ []) text
+      | false ↦ row ∷ wrapped_behind columns (columns - columns_of c) (c ∷ []) text
+    ])) [
+      | true ↦ behind_is_harmless columns (left - columns_of c) (row ++ c ∷ []) text
+          (All-append P row (c ∷ []) begun alone) others
+      | false ↦ All-cons IsHarmlessRow row (wrapped_behind columns (columns - columns_of c) (c ∷ []) text) begun
+          (behind_is_harmless columns (columns - columns_of c) (c ∷ []) text alone others)
+    ]
+
+pub wrapped_is_harmless : (columns : ℕ) (text : List ℕ) → IsHarmlessRow text → AreHarmlessRows (wrapped columns text)
+wrapped_is_harmless columns text is = behind_is_harmless columns columns [] text none_alone is
+
+-- rows that are shortened
+pub shortened_are_harmless : (most : ℕ) (rows : List (List ℕ)) → AreHarmlessRows rows →
+    AreHarmlessRows (shortened most rows)
+shortened_are_harmless most rows are =
+    either AreHarmlessRows (nat_le (length rows) most) rows
+    (take (most - 2) rows ++ (more_mark ∷ []) ∷ drop (length rows - 1) rows) are
+    (All-append IsHarmlessRow (take (most - 2) rows) ((more_mark ∷ []) ∷ drop (length rows - 1) rows)
+    (All-take IsHarmlessRow (most - 2) rows are)
+    (All-cons IsHarmlessRow (more_mark ∷ []) (drop (length rows - 1) rows) mark_alone
+    (All-drop IsHarmlessRow (length rows - 1) rows are)))
+
+-- a part of a frame
+pub part_is_harmless : (rows columns : ℕ) (corner : Corner) (frame : List (List ℕ)) → AreHarmlessRows frame →
+    AreHarmlessRows (frame_part rows columns corner frame)
+part_is_harmless rows columns corner frame are =
+    let part : List (List ℕ) = part_from rows corner.top (more_mark ∷ []) [] frame in
+    let shown : List ℕ → List ℕ = part_from (room_across columns frame) corner.left more_mark 32 in
+    let all : AreHarmlessRows part =
+    part_is_such IsHarmlessRow rows corner.top (more_mark ∷ []) [] frame mark_alone none_alone are in
+    All-map IsHarmlessRow shown part (λ k d within. part_is_such (λ (c : ℕ). is_order c ≡ false)
+    (room_across columns frame) corner.left more_mark 32 _ refl refl (all k d within))

@@ -1,0 +1,112 @@
+-- Views whose rows have no orders: from the first byte on.
+use Rattle.std.proofs.Common.{ℕ, ◌-◌, ◌==◌, true, false, List, [], ◌∷◌, ◌++◌, length}
+use Rattle.std.proofs.lemmas.List.Elements.{All-nil, All-cons, All-append}
+use Rattle.ps_view.specs.declared.line_kinds.LineKind.{LineKind}
+use Rattle.ps_view.specs.declared.line_kinds.LineKind.TheVariants.{Title, Level, Message, LevelDone, Ending, Empty, Row}
+use Rattle.ps_view.specs.declared.corners.Corner.{Corner}
+use Rattle.ps_view.specs.declared.sizes.Size.{Size}
+use Rattle.ps_view.specs.HarmlessTexts.{harmless_text}
+use Rattle.ps_view.specs.LineKinds.{kind_of}
+use Rattle.ps_view.specs.Rows.{cut, wrapped}
+use Rattle.ps_view.specs.Corners.{frame_part}
+use Rattle.ps_view.specs.Screens.{Told, keys_line, news_rows, rows_below, screen_of}
+use Rattle.ps_view.specs.Views.{View, Step, blank_view, quietly, drawn, with_news}
+use Rattle.ps_view.specs.Views.{with_frame}
+use Rattle.ps_view.specs.Views.{with_byte, go_on, line_told, byte_step, view_behind}
+use Rattle.ps_view.specs.Bounds.{IsHarmlessRow, AreHarmlessRows, ScreensAreHarmless}
+use Rattle.ps_view.proofs.HarmlessRows.{text_is_harmless, cut_is_harmless, wrapped_is_harmless, shortened_are_harmless}
+use Rattle.ps_view.proofs.HarmlessRows.{part_is_harmless}
+
+-- a line below a frame
+line_is_harmless : (columns : ℕ) (line : List ℕ) → IsHarmlessRow (cut columns (harmless_text line))
+line_is_harmless columns line = cut_is_harmless columns (harmless_text line) (text_is_harmless line)
+
+-- what is told last
+news_are_harmless : (size : Size) (news : List ℕ) → AreHarmlessRows (news_rows size news)
+news_are_harmless size news =
+    shortened_are_harmless (size.rows - 6) (wrapped size.columns (harmless_text news))
+    (wrapped_is_harmless size.columns (harmless_text news) (text_is_harmless news))
+
+below_is_harmless : (size : Size) (told : Told) → AreHarmlessRows (rows_below size told)
+below_is_harmless size told =
+    let line : List ℕ → List ℕ = λ bytes. cut size.columns (harmless_text bytes) in
+    let news : List (List ℕ) = news_rows size told.news in
+    All-cons IsHarmlessRow (line told.title) (line told.level ∷ line keys_line ∷ news)
+    (line_is_harmless size.columns told.title)
+    (All-cons IsHarmlessRow (line told.level) (line keys_line ∷ news) (line_is_harmless size.columns told.level)
+    (All-cons IsHarmlessRow (line keys_line) news (line_is_harmless size.columns keys_line)
+    (news_are_harmless size told.news)))
+
+-- a screen of a harmless frame
+screen_is_harmless : (size : Size) (corner : Corner) (frame : List (List ℕ)) (told : Told) → AreHarmlessRows frame →
+    AreHarmlessRows (screen_of size corner frame told)
+screen_is_harmless size corner frame told are =
+    let below : List (List ℕ) = rows_below size told in
+    All-append IsHarmlessRow (frame_part (size.rows - length below) size.columns corner frame) below
+    (part_is_harmless (size.rows - length below) size.columns corner frame are) (below_is_harmless size told)
+
+-- a view whose rows have no orders
+record IsHarmless (view : View) : Type 0 where
+  frame : AreHarmlessRows view.frame
+  begun : AreHarmlessRows view.begun
+  screen : AreHarmlessRows view.screen
+
+-- what is drawn of one is one
+drawn_is_harmless : (view : View) → AreHarmlessRows view.frame → AreHarmlessRows view.begun →
+    IsHarmless (drawn view).view
+drawn_is_harmless view frame begun = record {
+  frame = frame;
+  begun = begun;
+  screen = screen_is_harmless view.size view.corner view.frame view.told frame;
+}
+
+no_rows : AreHarmlessRows []
+no_rows = All-nil IsHarmlessRow
+
+-- a line further
+line_keeps_harmless : (view : View) (kind : LineKind) → IsHarmless view → IsHarmless (line_told view kind).view
+line_keeps_harmless view Title is = record { frame = is.frame; begun = is.begun; screen = is.screen }
+line_keeps_harmless view Level is = record { frame = no_rows; begun = is.begun; screen = is.screen }
+line_keeps_harmless view Message is = drawn_is_harmless (with_news view (view.line ++ go_on)) is.frame is.begun
+line_keeps_harmless view LevelDone is = record { frame = is.frame; begun = is.begun; screen = is.screen }
+line_keeps_harmless view Ending is =
+    let last = drawn_is_harmless (with_news view view.line) is.frame is.begun in
+    record { frame = last.frame; begun = last.begun; screen = last.screen }
+line_keeps_harmless view Empty is = drawn_is_harmless (with_frame view) is.begun no_rows
+line_keeps_harmless view Row is = record {
+  frame = is.frame;
+  begun = All-append IsHarmlessRow view.begun (harmless_text view.line ∷ []) is.begun
+      (All-cons IsHarmlessRow (harmless_text view.line) [] (text_is_harmless view.line) no_rows);
+  screen = is.screen;
+}
+
+-- a byte further
+byte_keeps_harmless : (view : View) (byte : ℕ) → IsHarmless view → IsHarmless (byte_step view byte).view
+byte_keeps_harmless view byte is =
+    let ended : Step = line_told view (kind_of view.line) in
+    let gathered : Step = quietly (with_byte view byte) in
+    elim view.is_over as (λ over. IsHarmless
+    (let step : Step = elim over [
+      | true ↦ quietly view
+      | false ↦ elim (byte == 10) [
+        | true ↦ ended
+        | false ↦ gathered
+      ]
+    ] in step.view)) [
+      | true ↦ is
+      | false ↦ elim (byte == 10) as (λ ends. IsHarmless
+          (let step : Step = elim ends [ true ↦ ended | false ↦ gathered ] in step.view)) [
+            | true ↦ line_keeps_harmless view (kind_of view.line) is
+            | false ↦ record { frame = is.frame; begun = is.begun; screen = is.screen }
+          ]
+    ]
+
+bytes_keep_harmless : (view : View) (bytes : List ℕ) → IsHarmless view → IsHarmless (view_behind view bytes)
+bytes_keep_harmless view [] is = is
+bytes_keep_harmless view (byte ∷ bytes) is =
+    bytes_keep_harmless (byte_step view byte).view bytes (byte_keeps_harmless view byte is)
+
+pub screens_are_harmless : ScreensAreHarmless
+screens_are_harmless size output =
+    let none : IsHarmless (blank_view size) = record { frame = no_rows; begun = no_rows; screen = no_rows } in
+    (bytes_keep_harmless (blank_view size) output none).screen

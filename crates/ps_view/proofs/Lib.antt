@@ -1,0 +1,8 @@
+pub mod Steps
+pub mod ShownRows
+pub mod Such
+pub mod HarmlessRows
+pub mod HarmlessViews
+pub mod Heights
+pub mod Widths
+mod ViewRows

@@ -1,0 +1,123 @@
+-- Examples of views, evaluated: both sides of each compute to the same.
+use Rattle.std.proofs.Common.{◌≡◌, ℕ, [], ◌∷◌, ◌++◌, refl}
+use Rattle.std.specs.Prelude.{codes, encode_utf8}
+use Rattle.std.specs.List.{flat_map}
+use Rattle.ps_view.specs.declared.line_kinds.LineKind.TheVariants.{Title, Level, Message, LevelDone, Ending, Empty, Row}
+use Rattle.ps_view.specs.HarmlessTexts.{harmless}
+use Rattle.ps_view.specs.LineKinds.{kind_of}
+use Rattle.ps_view.specs.Orders.{drawn_row}
+use Rattle.ps_view.specs.Rows.{fitting, cut, wrapped, shortened}
+use Rattle.ps_view.specs.Corners.{corner_moved, frame_part, moved, part_from}
+use Rattle.ps_view.specs.Screens.{changes}
+use Rattle.unicode_width.proofs.Computing.{unicode_width}
+
+-- lines ---------------------------------------------------------------------------------------------------------------
+
+title_line : kind_of (codes "= The Cellar") ≡ Title
+title_line = refl
+
+level_line : kind_of (codes "# level 2") ≡ Level
+level_line = refl
+
+message_line : kind_of (codes "! ") ≡ Message
+message_line = refl
+
+done_line : kind_of (codes "* level 1 done") ≡ LevelDone
+done_line = refl
+
+ending_line : kind_of (codes "* end of keys") ≡ Ending
+ending_line = refl
+
+empty_line : kind_of [] ≡ Empty
+empty_line = refl
+
+-- rows of a frame may begin as other lines do
+row_of_walls : kind_of (codes "#.=!*") ≡ Row
+row_of_walls = refl
+
+row_of_one_mark : kind_of (codes "*") ≡ Row
+row_of_one_mark = refl
+
+-- characters ----------------------------------------------------------------------------------------------------------
+
+escape : harmless 27 ≡ 183
+escape = refl
+
+delete : harmless 127 ≡ 183
+delete = refl
+
+begins_an_order_by_itself : harmless 155 ≡ 183
+begins_an_order_by_itself = refl
+
+blank : harmless 32 ≡ 32
+blank = refl
+
+no_break_space : harmless 160 ≡ 160
+no_break_space = refl
+
+-- a text of five characters in rows of four columns; of `漢`, which covers two, one fits into three
+cut_text : cut 4 (codes "abcde") ≡ codes "abc…"
+unfolding unicode_width
+cut_text = refl
+
+whole_text : cut 5 (codes "abcde") ≡ codes "abcde"
+unfolding unicode_width
+whole_text = refl
+
+wide_text : fitting 3 (codes "漢漢") ≡ 1
+unfolding unicode_width
+wide_text = refl
+
+wrapped_text : wrapped 4 (codes "abcde") ≡ codes "abcd" ∷ codes "e" ∷ []
+unfolding unicode_width
+wrapped_text = refl
+
+wrapped_wide_text : wrapped 3 (codes "漢漢a") ≡ codes "漢" ∷ codes "漢a" ∷ []
+unfolding unicode_width
+wrapped_wide_text = refl
+
+shortened_text : shortened 3 (codes "a" ∷ codes "b" ∷ codes "c" ∷ codes "d" ∷ [])
+    ≡ codes "a" ∷ codes "…" ∷ codes "d" ∷ []
+shortened_text = refl
+
+-- parts of frames -----------------------------------------------------------------------------------------------------
+
+-- four of six, between edges: at the left end, in the middle, at the right end
+part_at_left : part_from {A = ℕ} 4 0 0 9 (1 ∷ 2 ∷ 3 ∷ 4 ∷ 5 ∷ 6 ∷ []) ≡ 9 ∷ 1 ∷ 2 ∷ 0 ∷ []
+part_at_left = refl
+
+part_within : part_from {A = ℕ} 4 2 0 9 (1 ∷ 2 ∷ 3 ∷ 4 ∷ 5 ∷ 6 ∷ []) ≡ 0 ∷ 3 ∷ 4 ∷ 0 ∷ []
+part_within = refl
+
+part_at_right : part_from {A = ℕ} 4 4 0 9 (1 ∷ 2 ∷ 3 ∷ 4 ∷ 5 ∷ 6 ∷ []) ≡ 0 ∷ 5 ∷ 6 ∷ 9 ∷ []
+part_at_right = refl
+
+whole_list : part_from {A = ℕ} 4 2 0 9 (1 ∷ 2 ∷ 3 ∷ 4 ∷ []) ≡ 1 ∷ 2 ∷ 3 ∷ 4 ∷ []
+whole_list = refl
+
+-- three items from the fifth on: shown are the second, the sixth, the eighth
+moved_back : moved 3 5 2 ≡ 2
+moved_back = refl
+
+not_moved : moved 3 5 6 ≡ 5
+not_moved = refl
+
+moved_on : moved 3 5 8 ≡ 6
+moved_on = refl
+
+-- a frame of two rows of six in four rows of five columns: the fourth cell of its second row is the first that changed
+part_of_frame : frame_part 4 5 (corner_moved 4 5 (record { top = 0; left = 0 })
+    (codes "......" ∷ codes "....P." ∷ []) (codes "......" ∷ codes "...P.." ∷ []))
+    (codes "......" ∷ codes "...P.." ∷ []) ≡ codes "…...…" ∷ codes "…..P…" ∷ []
+unfolding unicode_width
+part_of_frame = refl
+
+-- screens -------------------------------------------------------------------------------------------------------------
+
+-- of three rows the second one changes, and the third one is no more
+changed_rows : changes (codes "a" ∷ codes "b" ∷ codes "c" ∷ []) (codes "a" ∷ codes "d" ∷ [])
+    ≡ drawn_row 2 (flat_map encode_utf8 (codes "d")) ++ (drawn_row 3 [] ++ [])
+changed_rows = refl
+
+no_changes : changes (codes "a" ∷ codes "b" ∷ []) (codes "a" ∷ codes "b" ∷ []) ≡ []
+no_changes = refl

@@ -1,0 +1,76 @@
+-- The part of a frame that is shown where the frame is larger than the terminal has room for. It is known by its
+-- upper left corner, and moves by as little as shows the first cell that changed. At each edge a mark says that there
+-- is more.
+use Rattle.std.specs.Prelude.{ℕ, suc, ◌+◌, ◌-◌, ◌/◌, ◌==◌, nat_eq, nat_lt, nat_le, Bool, true, false, if◌then◌else◌}
+use Rattle.std.specs.Prelude.{List, [], ◌∷◌, ◌++◌, length, take, drop, map, fold, max, min, slice_index_or}
+use Rattle.std.specs.Str.{bytes_eq}
+use Rattle.ps_view.specs.declared.corners.Corner.{Corner}
+use Rattle.ps_view.specs.HarmlessTexts.{columns_of}
+use Rattle.ps_view.specs.Rows.{more_mark}
+
+-- what a part shows ---------------------------------------------------------------------------------------------------
+
+-- at an edge a mark where there is more, and else nothing
+abbrev pub edge : {A : Type 0} → A → A → Bool → A
+edge mark blank more = if more then mark else blank
+
+-- what so much room shows of a list: all; or where there isn't room for all, those from a place on, between two edges
+abbrev pub part_from : {A : Type 0} → ℕ → ℕ → A → A → List A → List A
+part_from room place mark blank items =
+    if nat_le (length items) room then items
+    else (edge mark blank (nat_lt 0 place) ∷ take (room - 2) (drop place items))
+    ++ edge mark blank (nat_lt (place + (room - 2)) (length items)) ∷ []
+
+-- how many columns the widest character of a row covers, so many at least
+abbrev pub widest : ℕ → List ℕ → ℕ
+widest least row = fold (λ columns character. max columns (columns_of character)) least row
+
+-- how many columns the widest character of a frame covers, one at least
+abbrev pub cell_width : List (List ℕ) → ℕ
+cell_width frame = fold widest 1 frame
+
+-- how many characters of a frame's row so many columns have room for
+abbrev pub room_across : ℕ → List (List ℕ) → ℕ
+room_across columns frame = columns / cell_width frame
+
+-- what so many rows of so many columns show of a frame: the part at a corner, where it isn't whole
+abbrev pub frame_part : ℕ → ℕ → Corner → List (List ℕ) → List (List ℕ)
+frame_part rows columns corner frame =
+    map (part_from (room_across columns frame) corner.left more_mark 32)
+    (part_from rows corner.top (more_mark ∷ []) [] frame)
+
+-- where a part moves --------------------------------------------------------------------------------------------------
+
+-- in how many of their first items two lists are alike
+abbrev pub alike : {A : Type 0} → (A → A → Bool) → List A → List A → ℕ
+alike same [] second = 0
+alike same (item ∷ first) [] = 0
+alike same (item ∷ first) (other ∷ second) = elim (same item other) [
+  | true ↦ suc (alike same first second)
+  | false ↦ 0
+]
+
+-- where a part that begins at a place, of so many items, begins then, so that it shows the item at another place: as
+-- near as may be
+abbrev pub moved : ℕ → ℕ → ℕ → ℕ
+moved size place shown =
+    if nat_lt shown place then shown else (if nat_lt (shown - place) size then place else shown - (size - 1))
+
+-- the same for a list of so many items in so much room, of which two are edges
+abbrev pub moved_in : ℕ → ℕ → ℕ → ℕ → ℕ
+moved_in room count place shown = let size : ℕ = room - 2 in moved size (min place (count - size)) shown
+
+-- the row of a frame, from 0
+abbrev pub row_in : List (List ℕ) → ℕ → List ℕ
+row_in frame place = slice_index_or frame place []
+
+-- where the part is of a frame behind another one, in so many rows of so many columns
+abbrev pub corner_moved : ℕ → ℕ → Corner → List (List ℕ) → List (List ℕ) → Corner
+corner_moved rows columns corner before frame =
+    let row : ℕ = alike bytes_eq before frame in
+    if row == length frame then corner
+    else record {
+      top = moved_in rows (length frame) corner.top row;
+      left = moved_in (room_across columns frame) (length (row_in frame row)) corner.left
+          (alike nat_eq (row_in before row) (row_in frame row));
+    }

@@ -1,0 +1,10 @@
+pub mod Orders
+pub mod HarmlessTexts
+pub mod Rows
+pub mod Corners
+pub mod LineKinds
+pub mod Screens
+pub mod ToldLines
+pub mod Views
+pub mod Pieces
+pub mod Bounds

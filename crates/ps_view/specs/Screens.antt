@@ -1,0 +1,49 @@
+-- What the rows of a terminal show: the last frame at the top, and below it a line each for the title, the level and
+-- the keys, and what is told last.
+use Rattle.std.specs.Prelude.{ℕ, suc, ◌-◌, max, if◌then◌else◌, List, [], ◌∷◌, ◌++◌, length, codes}
+use Rattle.std.specs.Prelude.{encode_utf8}
+use Rattle.std.specs.List.{flat_map, range_with_len}
+use Rattle.std.specs.Str.{bytes_eq}
+use Rattle.ps_view.specs.declared.corners.Corner.{Corner}
+use Rattle.ps_view.specs.declared.sizes.Size.{Size}
+use Rattle.ps_view.specs.HarmlessTexts.{harmless_text}
+use Rattle.ps_view.specs.Rows.{cut, wrapped, shortened}
+use Rattle.ps_view.specs.Corners.{frame_part, row_in}
+use Rattle.ps_view.specs.Orders.{drawn_row}
+
+-- what is told beside the board: the line of the title, that of the level, and the last of all others. Each is empty
+-- until it comes
+pub record Told : Type 0 where
+  pub title : List ℕ
+  pub level : List ℕ
+  pub news : List ℕ
+
+-- what the keys do
+abbrev pub keys_line : List ℕ
+keys_line = codes "w a s d move, x act, z undo, r restart, q quit"
+
+-- the rows of what is told last: it may take all but the three lines above it, and three rows of a frame
+abbrev pub news_rows : Size → List ℕ → List (List ℕ)
+news_rows size news = shortened (size.rows - 6) (wrapped size.columns (harmless_text news))
+
+-- the rows below a frame
+abbrev pub rows_below : Size → Told → List (List ℕ)
+rows_below size told =
+    cut size.columns (harmless_text told.title) ∷ cut size.columns (harmless_text told.level)
+    ∷ cut size.columns (harmless_text keys_line) ∷ news_rows size told.news
+
+-- the rows of a terminal from the top, as far as they show something
+abbrev pub screen_of : Size → Corner → List (List ℕ) → Told → List (List ℕ)
+screen_of size corner frame told =
+    let below : List (List ℕ) = rows_below size told in
+    frame_part (size.rows - length below) size.columns corner frame ++ below
+
+-- a row is drawn where it shows something else than before
+abbrev pub row_change : List (List ℕ) → List (List ℕ) → ℕ → List ℕ
+row_change before screen place =
+    if bytes_eq (row_in before place) (row_in screen place) then []
+    else drawn_row (suc place) (flat_map encode_utf8 (row_in screen place))
+
+-- what makes one screen of another: the rows that show something else, from the top
+abbrev pub changes : List (List ℕ) → List (List ℕ) → List ℕ
+changes before screen = flat_map (row_change before screen) (range_with_len 0 (max (length before) (length screen)))

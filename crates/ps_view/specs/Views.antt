@@ -1,0 +1,173 @@
+-- The view of a run: what a terminal of some size is handed for the bytes of the run's output. Bytes are gathered until
+-- a line feed ends their line; then the line is told. A whole frame, a message and the ending are drawn at once, by the
+-- rows that they change; the title and the level with what comes next.
+use Rattle.std.specs.Prelude.{ℕ, ◌-◌, ◌==◌, Bool, true, false, List, [], ◌∷◌, ◌++◌, length, codes}
+use Rattle.ps_view.specs.declared.corners.Corner.{Corner}
+use Rattle.ps_view.specs.declared.sizes.Size.{Size}
+use Rattle.ps_view.specs.declared.line_kinds.LineKind.{LineKind}
+use Rattle.ps_view.specs.declared.line_kinds.LineKind.TheVariants.{Title, Level, Message, LevelDone, Ending, Empty, Row}
+use Rattle.ps_view.specs.HarmlessTexts.{harmless_text}
+use Rattle.ps_view.specs.LineKinds.{kind_of}
+use Rattle.ps_view.specs.Orders.{opening_orders, at_row, closing_orders}
+use Rattle.ps_view.specs.Corners.{corner_moved}
+use Rattle.ps_view.specs.Screens.{Told, screen_of, changes}
+
+-- a view: the size of the terminal; what is told beside the board; the rows of the last whole frame, as characters,
+-- the corner of the part of it that is shown, and the rows of the frame that has begun; the bytes of the line that
+-- has begun; what the rows of the terminal show; whether anything was drawn yet; and whether the ending was
+pub record View : Type 0 where
+  pub size : Size
+  pub told : Told
+  pub frame : List (List ℕ)
+  pub corner : Corner
+  pub begun : List (List ℕ)
+  pub line : List ℕ
+  pub screen : List (List ℕ)
+  pub is_open : Bool
+  pub is_over : Bool
+
+-- a view, and what the terminal is handed on the way to it
+pub record Step : Type 0 where
+  pub view : View
+  pub bytes : List ℕ
+
+-- the upper left corner of a frame
+abbrev pub first_corner : Corner
+first_corner = record { top = 0; left = 0 }
+
+-- a view before the first byte
+abbrev pub blank_view : Size → View
+blank_view size = record {
+  size = size;
+  told = record { title = []; level = []; news = [] };
+  frame = [];
+  corner = first_corner;
+  begun = [];
+  line = [];
+  screen = [];
+  is_open = false;
+  is_over = false;
+}
+
+-- drawing -------------------------------------------------------------------------------------------------------------
+
+-- nothing is drawn
+abbrev pub quietly : View → Step
+quietly view = record { view = view; bytes = [] }
+
+-- what comes before the first row that is drawn
+abbrev pub opening : Bool → List ℕ
+opening true = []
+opening false = opening_orders
+
+-- the view with another screen
+abbrev pub with_screen : View → List (List ℕ) → View
+with_screen view screen = record view { screen = screen; is_open = true }
+
+-- the rows that the view changes are drawn
+abbrev pub drawn : View → Step
+drawn view = let screen : List (List ℕ) = screen_of view.size view.corner view.frame view.told in record {
+  view = with_screen view screen;
+  bytes = opening view.is_open ++ changes view.screen screen;
+}
+
+-- the terminal is left: the cursor goes below what is drawn, and is shown
+abbrev pub left : Step → Step
+left step = record {
+  view = let view : View = step.view in record view { is_over = true };
+  bytes = step.bytes ++ (at_row (length step.view.screen) ++ closing_orders);
+}
+
+-- lines ---------------------------------------------------------------------------------------------------------------
+
+-- the view with another title, on the way to the next line
+abbrev pub with_title : View → List ℕ → View
+with_title view title = record view {
+  told = record { title = title; level = view.told.level; news = view.told.news };
+  line = [];
+}
+
+-- the view with another level, of which no frame has come yet
+abbrev pub with_level : View → List ℕ → View
+with_level view level = record view {
+  told = record { title = view.told.title; level = level; news = [] };
+  frame = [];
+  corner = first_corner;
+  line = [];
+}
+
+-- the view with other news
+abbrev pub with_news : View → List ℕ → View
+with_news view news = record view {
+  told = record { title = view.told.title; level = view.told.level; news = news };
+  line = [];
+}
+
+-- the corner of the frame that has begun: there is room for it above four lines
+abbrev pub corner_of_begun : View → Corner
+corner_of_begun view = corner_moved (view.size.rows - 4) view.size.columns view.corner view.frame view.begun
+
+-- the view with the frame that has begun in place of the last one; what was told last is gone past
+abbrev pub with_frame : View → View
+with_frame view = record view {
+  told = record { title = view.told.title; level = view.told.level; news = [] };
+  frame = view.begun;
+  corner = corner_of_begun view;
+  begun = [];
+  line = [];
+}
+
+-- the view with one row more of the frame that has begun
+abbrev pub with_row : View → List ℕ → View
+with_row view row = record view { begun = view.begun ++ harmless_text row ∷ []; line = [] }
+
+-- the view on the way to the next line
+abbrev pub with_next_line : View → View
+with_next_line view = record view { line = [] }
+
+-- what stands behind a message until it is gone past: the key that goes past it
+abbrev pub go_on : List ℕ
+go_on = codes " [x]"
+
+-- a line that has ended, by what it is. A row of a frame waits for the empty line that ends the frame, the title and
+-- the level for what is drawn next. That a level is done isn't shown: what comes next is told in the same text. What
+-- is drawn behind a message takes its place
+abbrev pub line_told : View → LineKind → Step
+line_told view Title = quietly (with_title view view.line)
+line_told view Level = quietly (with_level view view.line)
+line_told view Message = drawn (with_news view (view.line ++ go_on))
+line_told view LevelDone = quietly (with_next_line view)
+line_told view Ending = left (drawn (with_news view view.line))
+line_told view Empty = drawn (with_frame view)
+line_told view Row = quietly (with_row view view.line)
+
+-- bytes ---------------------------------------------------------------------------------------------------------------
+
+-- the view with one byte more in its line
+abbrev pub with_byte : View → ℕ → View
+with_byte view byte = record view { line = view.line ++ byte ∷ [] }
+
+-- a byte of the output; behind the ending none is heard
+abbrev pub byte_step : View → ℕ → Step
+byte_step view byte = elim view.is_over [
+  | true ↦ quietly view
+  | false ↦ elim (byte == 10) [
+    | true ↦ line_told view (kind_of view.line)
+    | false ↦ quietly (with_byte view byte)
+  ]
+]
+
+-- the view behind bytes of the output
+abbrev pub view_behind : View → List ℕ → View
+view_behind view [] = view
+view_behind view (byte ∷ bytes) = view_behind (byte_step view byte).view bytes
+
+-- what the terminal is handed for bytes of the output
+abbrev pub handed_on : View → List ℕ → List ℕ
+handed_on view [] = []
+handed_on view (byte ∷ bytes) =
+    let step : Step = byte_step view byte in step.bytes ++ handed_on step.view bytes
+
+-- what a terminal of that size is handed for an output
+abbrev pub view_of : Size → List ℕ → List ℕ
+view_of size output = handed_on (blank_view size) output

@@ -1,0 +1,75 @@
+//! The cells of a frame: how wide they are, and which is the first that changed.
+
+ghost use Rattle.std.specs.Prelude.{◌≡◌, ◌<◌, ◌≤◌, length, min, nat_eq};
+ghost use Rattle.std.specs.Str.{bytes_eq};
+ghost use Rattle.ps_view.specs.Corners.{alike, cell_width, room_across, row_in, widest};
+
+use crate::harmless_texts::columns_of;
+use crate::texts::Text;
+
+/// How many columns the widest character of a row covers, so many at least.
+fn widest(least: usize, row: &[char]) -> usize
+    ensures widest { result ≡ widest least row.now }
+    ensures least { least ≤ result }
+{
+    let mut columns = least;
+    for character in row {
+        columns = columns.max(columns_of(*character));
+    }
+    columns
+}
+
+/// How many columns the widest character of a frame covers, one at least.
+fn cell_width(frame: &[Text]) -> usize
+    ensures width { result ≡ cell_width frame.now }
+    ensures some { 0 < result }
+{
+    let mut columns = 1;
+    for row in frame {
+        columns = widest(columns, row.characters());
+    }
+    columns
+}
+
+/// How many characters of a frame's row so many columns have room for.
+pub fn room_across(columns: usize, frame: &[Text]) -> usize
+    ensures { result ≡ room_across columns frame.now }
+{
+    columns / cell_width(frame)
+}
+
+/// The row of a frame, from 0.
+pub fn row_in(frame: &[Text], place: usize) -> &[char]
+    ensures { result.now ≡ row_in frame.now place }
+{
+    match frame.get(place) {
+        Some(row) => row.characters(),
+        None => &[],
+    }
+}
+
+/// In how many of their first rows two frames are alike.
+pub fn alike_rows(before: &[Text], frame: &[Text]) -> usize
+    ensures { result ≡ alike bytes_eq before.now frame.now }
+{
+    let shorter = before.len().min(frame.len());
+    for place in 0..shorter {
+        if before[place].characters() != frame[place].characters() {
+            return place;
+        }
+    }
+    shorter
+}
+
+/// In how many of their first characters two rows are alike.
+pub fn alike_characters(before: &[char], row: &[char]) -> usize
+    ensures { result ≡ alike nat_eq before.now row.now }
+{
+    let shorter = before.len().min(row.len());
+    for place in 0..shorter {
+        if before[place] != row[place] {
+            return place;
+        }
+    }
+    shorter
+}

@@ -1,0 +1,48 @@
+//! The lines of a run's output, told apart.
+
+ghost use Rattle.std.specs.Prelude.{◌≡◌};
+ghost use Rattle.ps_view.specs.LineKinds.{kind_of};
+
+/// What a line of a run's output is.
+#[derive(Clone, Copy, PartialEq, Eq, Debug)]
+pub enum LineKind {
+    /// The title: `= ` and a text.
+    Title,
+    /// The line that opens a level: `# level ` and its number.
+    Level,
+    /// A message: `! ` and a text.
+    Message,
+    /// The line that closes a level: `* level `, its number and ` done`.
+    LevelDone,
+    /// The ending: `* ` and how the run ended.
+    Ending,
+    /// Without bytes: it ends a frame.
+    Empty,
+    /// A row of a frame: any other.
+    Row,
+}
+
+/// What a line is.
+pub fn kind_of(line: &[u8]) -> LineKind
+    ensures { result ≡ kind_of line.now }
+{
+    if line.is_empty() {
+        return LineKind::Empty;
+    }
+    if line.starts_with(b"= ") {
+        return LineKind::Title;
+    }
+    if line.starts_with(b"# ") {
+        return LineKind::Level;
+    }
+    if line.starts_with(b"! ") {
+        return LineKind::Message;
+    }
+    if line.starts_with(b"* level ") {
+        return LineKind::LevelDone;
+    }
+    if line.starts_with(b"* ") {
+        return LineKind::Ending;
+    }
+    LineKind::Row
+}

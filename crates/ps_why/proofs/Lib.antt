@@ -1,0 +1,4 @@
+pub mod HeaderLines
+pub mod LineWords
+pub mod ObjectNames
+pub mod OwnLines

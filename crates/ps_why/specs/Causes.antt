@@ -1,0 +1,164 @@
+-- What is told of a fault, and when that is true of the text.
+use Rattle.std.specs.Prelude.{◌≡◌, ◌≤◌, ◌<◌, ℕ, nat_eq, ◌-◌, Bool, false, true, ◌&&◌, ⊤, Option, Some, is_some}
+use Rattle.std.specs.Prelude.{IfSome, List, [], ◌∷◌, map, codes}
+use Rattle.std.specs.Prelude.{slice_get, encode_utf8, slice_index_or}
+use Rattle.std.specs.List.{IsAmong, list_any}
+use Rattle.std.specs.Map.{lookup}
+use Rattle.std.specs.Str.{bytes_eq, chars}
+use Rattle.ps_model.specs.declared.texts.Cut.{Cut}
+use Rattle.ps_model.specs.declared.texts.Cut.TheVariants as cuts
+use Rattle.ps_model.specs.declared.texts.Section.{Section}
+use Rattle.ps_model.specs.declared.texts.Section.TheVariants.{Prelude, Objects, Legend, Sounds, Layers, Rules, Wins}
+use Rattle.ps_model.specs.declared.texts.Section.TheVariants.{Levels}
+use Rattle.ps_model.specs.text.LineNumbers.{line_at, HasLine}
+use Rattle.ps_model.specs.text.Lines.{Line, lines_of, folded}
+use Rattle.ps_model.specs.text.RuleWords.{words_under}
+use Rattle.ps_model.specs.text.Sections.{section_lines, rank, header_lines, has_section}
+use Rattle.ps_model.specs.text.Words.{word_texts}
+use Rattle.ps_model.specs.rules.RuleSymbols.{key_words}
+use Rattle.ps_text.specs.WordViews.{IsSliceOf, span_at}
+use Rattle.ps_text.specs.declared.cutting.Word.{Word}
+use Rattle.ps_why.specs.declared.causes.Blank.{Blank}
+use Rattle.ps_why.specs.declared.causes.Blank.TheVariants.{Space, Tab, CarriageReturn, Comment}
+use Rattle.ps_why.specs.declared.causes.Hint.{Hint}
+use Rattle.ps_why.specs.declared.causes.Hint.TheVariants.{Nothing, Near, Strange, Joins}
+use Rattle.ps_why.specs.declared.causes.Cause.{Cause}
+use Rattle.ps_why.specs.declared.causes.Cause.TheVariants.{Untold, Undeclared, Meaningless, Unlayered, UnknownGlyph}
+use Rattle.ps_why.specs.declared.causes.Cause.TheVariants.{BrokenRow, LateHeader, MissingSection, Twice}
+use Rattle.ps_why.specs.declared.names.Named.{Named}
+use Rattle.ps_why.specs.Declarations.{is_declared, IsDeclaredAt}
+
+-- words ---------------------------------------------------------------------------------------------------------------
+
+-- how the lines of a section are cut into words
+abbrev pub cut_of : Section → Cut
+cut_of Prelude = cuts.Blanks
+cut_of Objects = cuts.Blanks
+cut_of Legend = cuts.Legend
+cut_of Sounds = cuts.Blanks
+cut_of Layers = cuts.Layers
+cut_of Rules = cuts.Rule
+cut_of Wins = cuts.Blanks
+cut_of Levels = cuts.Blanks
+
+-- the word is one of the line, where its line and its bytes say
+pub record IsWordOf (text : List ℕ) (line : ℕ) (word : Word) : Type 0 where
+  pub span : IsAmong (map (span_at (line_at text line))
+      (words_under (cut_of (line_at text line).section) (line_at text line).bytes)) word.span
+  pub bytes : IsSliceOf text word
+
+-- a key word of rules
+abbrev pub is_key_word : List ℕ → Bool
+is_key_word word = is_some (lookup (bytes_eq (folded word)) key_words)
+
+-- `and` or `or`
+abbrev pub joins_names : List ℕ → Bool
+joins_names word = list_any (bytes_eq (folded word)) (codes "and" ∷ codes "or" ∷ [])
+
+-- a word is one of these, its letters in either case
+abbrev pub is_one_word : List ℕ → List (List ℕ) → Bool
+is_one_word name words = list_any (λ word. bytes_eq (folded name) (folded word)) words
+
+-- a line of COLLISIONLAYERS has the word
+abbrev pub has_word : List ℕ → Line → Bool
+has_word name line = is_one_word name (word_texts cuts.Layers line.bytes)
+
+-- some line of COLLISIONLAYERS has it
+abbrev pub is_in_layers : List ℕ → List ℕ → Bool
+is_in_layers text name = list_any (has_word name) (section_lines (lines_of text) Layers)
+
+-- hints ---------------------------------------------------------------------------------------------------------------
+
+-- what is told of a word is true
+abbrev pub IsHint : List ℕ → List ℕ → Hint → Type 0
+IsHint text word Nothing = ⊤
+IsHint text word (Near named) = IsDeclaredAt text named.line named.name.now
+IsHint text word (Strange character like) = IsAmong (chars word) character × (128 ≤ character)
+IsHint text word Joins = joins_names word ≡ true
+
+-- causes --------------------------------------------------------------------------------------------------------------
+
+-- a word of the line that is declared nowhere
+pub record IsUndeclared (text : List ℕ) (line : ℕ) (word : Word) (hint : Hint) : Type 0 where
+  pub stands : IsWordOf text line word
+  pub undeclared : is_declared text word.text.now ≡ false
+  pub true_hint : IsHint text word.text.now hint
+
+-- a word of the line that is no key word, and declared nowhere
+pub record IsMeaningless (text : List ℕ) (line : ℕ) (word : Word) (hint : Hint) : Type 0 where
+  pub nowhere : IsUndeclared text line word hint
+  pub no_key_word : is_key_word word.text.now ≡ false
+
+-- a name of the line that stands in no line of COLLISIONLAYERS
+pub record IsUnlayered (text : List ℕ) (line : ℕ) (word : Word) : Type 0 where
+  pub stands : IsWordOf text line word
+  pub unlayered : is_in_layers text word.text.now ≡ false
+
+-- a character of a row that is no name
+pub record IsUnknownGlyph (text : List ℕ) (line : ℕ) (row : Word) (character column : ℕ) : Type 0 where
+  pub stands : IsWordOf text line row
+  pub counted : 1 ≤ column
+  pub place : slice_get (chars row.text.now) (column - 1) ≡ Some character
+  pub undeclared : is_declared text (encode_utf8 character) ≡ false
+
+-- the byte that begins a blank of that kind
+abbrev pub byte_of : Blank → ℕ
+byte_of Space = 32
+byte_of Tab = 9
+byte_of CarriageReturn = 13
+byte_of Comment = 40
+
+-- a blank right behind a word of the line, which isn't its last
+pub record IsBrokenRow (text : List ℕ) (line : ℕ) (row : Word) (blank : Blank) : Type 0 where
+  pub stands : IsWordOf text line row
+  pub further : Word
+  pub follows : IsWordOf text line further
+  pub behind : row.span.end < further.span.start
+  pub parts : slice_index_or text row.span.end 0 ≡ byte_of blank
+
+-- a line above is a header of the same section or of a later one
+pub record IsLaterHeader (text : List ℕ) (line above : ℕ) : Type 0 where
+  pub there : HasLine text above
+  pub higher : above < line
+  pub header : (line_at text above).is_header ≡ true
+  pub later : rank (line_at text line).section ≤ rank (line_at text above).section
+
+-- the line is a header, one stands above that belongs below it, and these are their sections
+pub record IsLateHeader (text : List ℕ) (line : ℕ) (header : Word) (section : Section) (above : ℕ) (other : Section) :
+    Type 0 where
+  pub stands : IsWordOf text line header
+  pub own : (line_at text line).section ≡ section
+  pub below : IsLaterHeader text line above
+  pub belongs_below : (line_at text above).section ≡ other
+
+-- the line begins the section
+abbrev pub begins : Section → Line → Bool
+begins section line = line.is_header && nat_eq (rank section) (rank line.section)
+
+-- a line of the text is no header
+abbrev pub IsNoHeader : List ℕ → ℕ → Type 0
+IsNoHeader text line = HasLine text line × ((line_at text line).is_header ≡ false)
+
+-- no line is a header of the section, nor is that line
+pub record IsMissing (text : List ℕ) (section : Section) (like : Option ℕ) : Type 0 where
+  pub missing : has_section (header_lines (lines_of text)) section ≡ false
+  pub unlike : IfSome like (IsNoHeader text)
+
+-- a word of the line is declared above it
+pub record IsTwice (text : List ℕ) (line : ℕ) (word : Word) (first : Named) : Type 0 where
+  pub stands : IsWordOf text line word
+  pub declared_there : IsDeclaredAt text first.line first.name.now
+  pub above : first.line < line
+  pub same : bytes_eq (folded word.text.now) (folded first.name.now) ≡ true
+
+-- what is told of a line is true of the text
+abbrev pub IsToldAt : List ℕ → ℕ → Cause → Type 0
+IsToldAt text line Untold = ⊤
+IsToldAt text line (Undeclared word hint) = IsUndeclared text line word hint
+IsToldAt text line (Meaningless word hint) = IsMeaningless text line word hint
+IsToldAt text line (Unlayered word) = IsUnlayered text line word
+IsToldAt text line (UnknownGlyph row character column) = IsUnknownGlyph text line row character column
+IsToldAt text line (BrokenRow row blank) = IsBrokenRow text line row blank
+IsToldAt text line (LateHeader header section above other) = IsLateHeader text line header section above other
+IsToldAt text line (MissingSection section like) = IsMissing text section like
+IsToldAt text line (Twice word first) = IsTwice text line word first

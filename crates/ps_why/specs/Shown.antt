@@ -1,0 +1,29 @@
+-- What is shown of a text and of a fault: no character among it that a terminal takes as an order.
+use Rattle.std.specs.Prelude.{◌≡◌, ℕ, ◌==◌, nat_lt, nat_le, Bool, ◌&&◌, ◌||◌, not, if◌then◌else◌, List, encode_utf8}
+use Rattle.std.specs.List.{flat_map}
+use Rattle.std.specs.Str.{chars}
+use Rattle.ps_why.specs.declared.causes.Cause.{Cause}
+use Rattle.ps_why.specs.Causes.{IsToldAt}
+use Rattle.ps_why.specs.Wording.{sentence}
+
+-- a terminal takes the character as an order: those below 32 but for the tab, 127, and U+0080 to U+009F
+abbrev pub is_order : ℕ → Bool
+is_order character = (nat_lt character 32 && not (character == 9)) || (nat_le 127 character && nat_lt character 160)
+
+-- the character, or a point in place of an order
+abbrev pub shown_character : ℕ → ℕ
+shown_character character = if is_order character then 183 else character
+
+-- characters as a text in which none is an order
+abbrev pub shown_characters : List ℕ → List ℕ
+shown_characters characters = flat_map (λ character. encode_utf8 (shown_character character)) characters
+
+-- a text in which none is
+abbrev pub shown_text : List ℕ → List ℕ
+shown_text text = shown_characters (chars text)
+
+-- words on a line are those of a cause that is true of the text
+pub record TellsTruth (text : List ℕ) (line : ℕ) (words : List ℕ) : Type 0 where
+  pub cause : Cause
+  pub is_true : IsToldAt text line cause
+  pub are_those : words ≡ shown_text (sentence cause)

@@ -1,0 +1,123 @@
+-- What is told of a fault, in words.
+use Rattle.std.specs.Prelude.{ℕ, nat_eq, nat_lt, true, if◌then◌else◌, Option, Some, None, List, [], ◌++◌, codes}
+use Rattle.std.specs.Prelude.{encode_utf8}
+use Rattle.std.specs.Fmt.{decimal, digits}
+use Rattle.ps_why.specs.declared.names.Named.{Named}
+use Rattle.ps_why.specs.declared.causes.Blank.{Blank}
+use Rattle.ps_why.specs.declared.causes.Blank.TheVariants.{Space, Tab, CarriageReturn, Comment}
+use Rattle.ps_why.specs.declared.causes.Hint.{Hint}
+use Rattle.ps_why.specs.declared.causes.Hint.TheVariants.{Nothing, Near, Strange, Joins}
+use Rattle.ps_why.specs.declared.causes.Cause.{Cause}
+use Rattle.ps_why.specs.declared.causes.Cause.TheVariants.{Untold, Undeclared, Meaningless, Unlayered, UnknownGlyph}
+use Rattle.ps_why.specs.declared.causes.Cause.TheVariants.{BrokenRow, LateHeader, MissingSection, Twice}
+use Rattle.std.specs.Str.{bytes_eq}
+use Rattle.ps_model.specs.text.Sections.{rank}
+use Rattle.ps_model.specs.declared.texts.Section.{Section}
+use Rattle.ps_model.specs.declared.texts.Section.TheVariants.{Prelude, Objects, Legend, Sounds, Layers, Rules, Wins}
+use Rattle.ps_model.specs.declared.texts.Section.TheVariants.{Levels}
+
+-- the zeros before the digits of a character's code, of which there are four at least
+abbrev pub zeros : ℕ → List ℕ
+zeros code = if nat_lt code 16 then codes "000" else (if nat_lt code 256 then codes "00" else (if nat_lt code
+    4096 then codes "0" else []))
+
+-- a character's code, as U+0041
+abbrev pub code_words : ℕ → List ℕ
+code_words code = codes "U+" ++ (zeros code ++ digits 16 true code)
+
+abbrev pub blank_words : Blank → List ℕ
+blank_words Space = codes "A space"
+blank_words Tab = codes "A tab"
+blank_words CarriageReturn = codes "A carriage return"
+blank_words Comment = codes "A comment"
+
+-- that a name much like the word is declared
+abbrev pub near_words : Named → List ℕ
+near_words named = codes " Line " ++ (decimal named.line ++ (codes " declares `" ++ (named.name.now ++ codes "`.")))
+
+-- that a character of the word looks like another
+abbrev pub strange_words : ℕ → List ℕ → List ℕ
+strange_words character like =
+    codes " Its character " ++ (code_words character ++ (codes " looks like " ++ (like ++ codes ".")))
+
+-- what is told of a word, behind a blank
+abbrev pub hint_words : Hint → List ℕ
+hint_words Nothing = []
+hint_words (Near named) = near_words named
+hint_words (Strange character like) = strange_words character like.now
+hint_words Joins = codes " `and` and `or` join names in LEGEND alone."
+
+-- that a word is declared nowhere
+abbrev pub undeclared_words : List ℕ → Hint → List ℕ
+undeclared_words word hint =
+    codes "`" ++ (word ++ (codes "` is declared neither in OBJECTS nor in LEGEND." ++ hint_words hint))
+
+-- that a word of a rule means nothing
+abbrev pub meaningless_words : List ℕ → Hint → List ℕ
+meaningless_words word hint =
+    codes "`" ++ (word ++ (codes "` is no key word, and is declared neither in OBJECTS nor in LEGEND."
+    ++ hint_words hint))
+
+-- that an object has no layer
+abbrev pub unlayered_words : List ℕ → List ℕ
+unlayered_words word = codes "No line of COLLISIONLAYERS has `" ++ (word ++ codes "`.")
+
+-- that a character is no name
+abbrev pub glyph_words : ℕ → ℕ → List ℕ
+glyph_words character column =
+    codes "`" ++ (encode_utf8 character ++ (codes "` (" ++ (code_words character ++ (codes ") in column "
+    ++ (decimal column ++ codes " is declared neither in OBJECTS nor in LEGEND.")))))
+
+-- that a blank parts a row
+abbrev pub broken_words : List ℕ → Blank → List ℕ
+broken_words row blank = blank_words blank ++ (codes " parts the row behind `" ++ (row ++ codes "`."))
+
+-- the word of a section's header
+abbrev pub section_name : Section → List ℕ
+section_name Prelude = codes "the prelude"
+section_name Objects = codes "OBJECTS"
+section_name Legend = codes "LEGEND"
+section_name Sounds = codes "SOUNDS"
+section_name Layers = codes "COLLISIONLAYERS"
+section_name Rules = codes "RULES"
+section_name Wins = codes "WINCONDITIONS"
+section_name Levels = codes "LEVELS"
+
+-- that a header stands below one that belongs below it
+abbrev pub late_words : Section → ℕ → Section → List ℕ
+late_words section above other =
+    if nat_eq (rank section) (rank other)
+    then codes "Line " ++ (decimal above ++ (codes " begins " ++ (section_name section ++ codes " already.")))
+    else section_name section ++ (codes " has to stand above " ++ (section_name other ++
+    (codes ", which begins in line " ++ (decimal above ++ codes "."))))
+
+-- that a line isn't a header, behind a blank, if there is one
+abbrev pub like_words : Option ℕ → List ℕ
+like_words None = []
+like_words (Some line) = codes " Line " ++ (decimal line ++ codes " isn't one: a header is that word alone.")
+
+-- that a section isn't there
+abbrev pub missing_words : Section → Option ℕ → List ℕ
+missing_words section like = codes "There is no header " ++ (section_name section ++ (codes "." ++ like_words like))
+
+-- that names are one which are written otherwise
+abbrev pub case_words : List ℕ → List ℕ → List ℕ
+case_words word name = if bytes_eq name word then [] else codes ": upper and lower case are one"
+
+-- that a word is declared above
+abbrev pub twice_words : List ℕ → Named → List ℕ
+twice_words word first =
+    codes "Line " ++ (decimal first.line ++ (codes " declares `" ++ (first.name.now ++ (codes "` already" ++
+    (case_words word first.name.now ++ codes ".")))))
+
+-- what is told of a fault
+abbrev pub sentence : Cause → List ℕ
+sentence Untold = []
+sentence (Undeclared word hint) = undeclared_words word.text.now hint
+sentence (Meaningless word hint) = meaningless_words word.text.now hint
+sentence (Unlayered word) = unlayered_words word.text.now
+sentence (UnknownGlyph row character column) = glyph_words character column
+sentence (BrokenRow row blank) = broken_words row.text.now blank
+sentence (LateHeader header section above other) = late_words section above other
+sentence (MissingSection section like) = missing_words section like
+sentence (Twice word first) = twice_words word.text.now first

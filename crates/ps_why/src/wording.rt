@@ -1,0 +1,232 @@
+//! Causes in words.
+
+ghost use Rattle.std.specs.Prelude.{◌≡◌, IfOk, string_bytes};
+ghost use Rattle.ps_why.specs.Wording.{zeros, code_words, sentence, hint_words, blank_words, near_words, strange_words};
+ghost use Rattle.ps_why.specs.Wording.{undeclared_words, meaningless_words, unlayered_words, glyph_words, broken_words};
+ghost use Rattle.ps_why.specs.Wording.{section_name, late_words, like_words, missing_words, case_words, twice_words};
+
+use crate::causes::{Blank, Cause, Hint};
+use crate::names::{Named, rank};
+use ps_model::{Memory, Section};
+use ps_text::Word;
+use std::alloc::Global;
+
+/// The zeros before the digits of a character's code, of which there are four at least.
+fn zeros(code: u32) -> &'static str
+    ensures { result.now ≡ zeros code }
+{
+    if code < 16 {
+        return "000";
+    }
+    if code < 256 {
+        return "00";
+    }
+    if code < 4096 {
+        return "0";
+    }
+    ""
+}
+
+/// A character's code, as U+0041.
+fn code_words(alloc: Global, character: char) -> Result<String, Memory>
+    ensures { IfOk result (λ words. string_bytes words ≡ code_words character) }
+{
+    let code = character as u32;
+    let zeros = zeros(code);
+    let words = format!(in alloc; "U+{zeros}{code:X}")?;
+    Ok(words)
+}
+
+/// What a blank is.
+fn blank_words(blank: Blank) -> &'static str
+    ensures { result.now ≡ blank_words blank }
+{
+    match blank {
+        Blank::Space => "A space",
+        Blank::Tab => "A tab",
+        Blank::CarriageReturn => "A carriage return",
+        Blank::Comment => "A comment",
+    }
+}
+
+/// That a name much like the word is declared.
+fn near_words(alloc: Global, named: Named<'_>) -> Result<String, Memory>
+    ensures { IfOk result (λ words. string_bytes words ≡ near_words named.entry) }
+{
+    let line = named.line;
+    let name = named.name;
+    let words = format!(in alloc; " Line {line} declares `{name}`.")?;
+    Ok(words)
+}
+
+/// That a character of the word looks like another.
+fn strange_words(alloc: Global, character: char, like: &str) -> Result<String, Memory>
+    ensures { IfOk result (λ words. string_bytes words ≡ strange_words character like.now) }
+{
+    let code = code_words(alloc, character)?;
+    let words = format!(in alloc; " Its character {code} looks like {like}.")?;
+    Ok(words)
+}
+
+/// What is told of a word, behind a blank.
+fn hint_words(alloc: Global, hint: Hint<'_>) -> Result<String, Memory>
+    ensures { IfOk result (λ words. string_bytes words ≡ hint_words hint.entry) }
+{
+    match hint {
+        Hint::Nothing => Ok(String::new(alloc)),
+        Hint::Near(named) => near_words(alloc, named),
+        Hint::Strange { character, like } => strange_words(alloc, character, like),
+        Hint::Joins => {
+            let words = String::from_str(alloc, " `and` and `or` join names in LEGEND alone.")?;
+            Ok(words)
+        }
+    }
+}
+
+/// That a word is declared nowhere.
+fn undeclared_words(alloc: Global, word: &str, hint: Hint<'_>) -> Result<String, Memory>
+    ensures { IfOk result (λ words. string_bytes words ≡ undeclared_words word.now hint.entry) }
+{
+    let more = hint_words(alloc, hint)?;
+    let words = format!(in alloc; "`{word}` is declared neither in OBJECTS nor in LEGEND.{more}")?;
+    Ok(words)
+}
+
+/// That a word of a rule means nothing.
+fn meaningless_words(alloc: Global, word: &str, hint: Hint<'_>) -> Result<String, Memory>
+    ensures { IfOk result (λ words. string_bytes words ≡ meaningless_words word.now hint.entry) }
+{
+    let more = hint_words(alloc, hint)?;
+    let words = format!(in alloc;
+        "`{word}` is no key word, and is declared neither in OBJECTS nor in LEGEND.{more}"
+    )?;
+    Ok(words)
+}
+
+/// That an object has no layer.
+fn unlayered_words(alloc: Global, word: &str) -> Result<String, Memory>
+    ensures { IfOk result (λ words. string_bytes words ≡ unlayered_words word.now) }
+{
+    let words = format!(in alloc; "No line of COLLISIONLAYERS has `{word}`.")?;
+    Ok(words)
+}
+
+/// That a character is no name.
+fn glyph_words(alloc: Global, character: char, column: usize) -> Result<String, Memory>
+    ensures { IfOk result (λ words. string_bytes words ≡ glyph_words character column) }
+{
+    let code = code_words(alloc, character)?;
+    let words = format!(in alloc;
+        "`{character}` ({code}) in column {column} is declared neither in OBJECTS nor in LEGEND."
+    )?;
+    Ok(words)
+}
+
+/// That a blank parts a row.
+fn broken_words(alloc: Global, row: &str, blank: Blank) -> Result<String, Memory>
+    ensures { IfOk result (λ words. string_bytes words ≡ broken_words row.now blank) }
+{
+    let blank = blank_words(blank);
+    let words = format!(in alloc; "{blank} parts the row behind `{row}`.")?;
+    Ok(words)
+}
+
+/// The word of a section's header.
+fn section_name(section: Section) -> &'static str
+    ensures { result.now ≡ section_name section }
+{
+    match section {
+        Section::Prelude => "the prelude",
+        Section::Objects => "OBJECTS",
+        Section::Legend => "LEGEND",
+        Section::Sounds => "SOUNDS",
+        Section::Layers => "COLLISIONLAYERS",
+        Section::Rules => "RULES",
+        Section::Wins => "WINCONDITIONS",
+        Section::Levels => "LEVELS",
+    }
+}
+
+/// That a header stands below one that belongs below it.
+fn late_words(alloc: Global, section: Section, above: u32, other: Section) -> Result<String, Memory>
+    ensures { IfOk result (λ words. string_bytes words ≡ late_words section above other) }
+{
+    let name = section_name(section);
+    let further = section_name(other);
+    if rank(section) == rank(other) {
+        let words = format!(in alloc; "Line {above} begins {name} already.")?;
+        return Ok(words);
+    }
+    let words = format!(in alloc;
+        "{name} has to stand above {further}, which begins in line {above}."
+    )?;
+    Ok(words)
+}
+
+/// That a line isn't a header, behind a blank, if there is one.
+fn like_words(alloc: Global, like: Option<u32>) -> Result<String, Memory>
+    ensures { IfOk result (λ words. string_bytes words ≡ like_words like) }
+{
+    let Some(line) = like else {
+        return Ok(String::new(alloc));
+    };
+    let words = format!(in alloc; " Line {line} isn't one: a header is that word alone.")?;
+    Ok(words)
+}
+
+/// That a section isn't there.
+fn missing_words(alloc: Global, section: Section, like: Option<u32>) -> Result<String, Memory>
+    ensures { IfOk result (λ words. string_bytes words ≡ missing_words section like) }
+{
+    let name = section_name(section);
+    let more = like_words(alloc, like)?;
+    let words = format!(in alloc; "There is no header {name}.{more}")?;
+    Ok(words)
+}
+
+/// That names are one which are written otherwise.
+fn case_words(word: &str, name: &str) -> &'static str
+    ensures { result.now ≡ case_words word.now name.now }
+{
+    if name == word {
+        return "";
+    }
+    ": upper and lower case are one"
+}
+
+/// That a word is declared above.
+fn twice_words(alloc: Global, word: &str, first: Named<'_>) -> Result<String, Memory>
+    ensures { IfOk result (λ words. string_bytes words ≡ twice_words word.now first.entry) }
+{
+    let line = first.line;
+    let name = first.name;
+    let case = case_words(word, name);
+    let words = format!(in alloc; "Line {line} declares `{name}` already{case}.")?;
+    Ok(words)
+}
+
+/// What is told of a fault: a sentence or two, and nothing where nothing is told.
+pub fn sentence(alloc: Global, cause: Cause<'_>) -> Result<String, Memory>
+    ensures { IfOk result (λ words. string_bytes words ≡ sentence cause.entry) }
+{
+    match cause {
+        Cause::Untold => Ok(String::new(alloc)),
+        Cause::Undeclared { word, hint } => undeclared_words(alloc, word.text(), hint),
+        Cause::Meaningless { word, hint } => meaningless_words(alloc, word.text(), hint),
+        Cause::Unlayered { word } => unlayered_words(alloc, word.text()),
+        Cause::UnknownGlyph {
+            character,
+            column,
+            ..
+        } => glyph_words(alloc, character, column),
+        Cause::BrokenRow { row, blank } => broken_words(alloc, row.text(), blank),
+        Cause::LateHeader {
+            section,
+            above,
+            other,
+            ..
+        } => late_words(alloc, section, above, other),
+        Cause::MissingSection { section, like } => missing_words(alloc, section, like),
+        Cause::Twice { word, first } => twice_words(alloc, word.text(), first),
+    }
+}

@@ -1,0 +1,67 @@
+"""The public calls of the crates that can answer that memory is wanting, as they stand in the sources.
+
+Public are the functions that a crate exports, the methods of types that it exports, and those of traits that it
+exports, once for all types; of crates that others stand on. A call can answer that memory is wanting where its answer
+is a `Result` whose error is `AllocError`, or one of these crates' types that is called `Memory` or has a variant of
+that name; and so can the command line.
+"""
+import re
+
+from crates import TOP, read_uses
+
+# What answers a status, and tells on standard error that memory is wanting.
+TELLING = ["run_command_line"]
+# The names that a crate exports; a type that can say that memory is wanting; what stands in a source, by lines.
+EXPORT = re.compile(r"^pub use [\w:]*?(\w+|\{[^}]*\});", re.M)
+WANTING = re.compile(r"^pub (?:struct (Memory);|enum (\w+) \{\n(?:(?!\}).*\n)*?    Memory,\n)", re.M)
+FUNCTION = r"^ *(?P<open>pub )?fn (?P<name>\w+)(?P<rest>[^{;]*)"
+PART = re.compile(r"^(?:pub )?(?P<block>(?:impl|trait)\b[^{;]*)\{|^(?P<end>\})|" + FUNCTION, re.M)
+CONTRACT = re.compile(r"\n\s*(?:requires|ensures|where)\b")
+IN_ANGLES = re.compile(r"<[^<>]*>")
+
+
+def sources_of(crate):
+    """The texts of a crate's sources."""
+    return [file.read_text() for file in sorted((TOP / "crates" / crate / "src").glob("**/*.rt"))]
+
+
+def owner_of(block):
+    """The type or the trait whose functions stand in a block, and nothing for a type's functions of a trait."""
+    while (shorter := IN_ANGLES.sub("", block)) != block:
+        block = shorter
+    return None if " for " in block else re.search(r"(?:impl|trait)\s+(\w+)", block)[1]
+
+
+def answers_in(source):
+    """The functions of a source by name, each with its type or trait and with the error that it may answer."""
+    owner, in_trait, in_block = None, False, False
+    for part in PART.finditer(source):
+        if part["block"]:
+            owner, in_trait, in_block = owner_of(part["block"]), part["block"].startswith("trait"), True
+        elif part["end"]:
+            owner, in_trait, in_block = None, False, False
+        elif part["open"] and (owner or not in_block) or in_trait:
+            answer = CONTRACT.split(part["rest"])[0].rpartition("->")[2].strip()
+            error = re.search(r"(\w+)>$", answer)
+            yield owner, part["name"], error and error[1]
+
+
+def exports_of(crate):
+    """The names that a crate exports."""
+    library = (TOP / "crates" / crate / "src/lib.rt").read_text()
+    return {name for match in EXPORT.finditer(library) for name in re.findall(r"\w+", match[1])}
+
+
+def public_calls():
+    """Those calls by name, a method behind its type or trait and `::`, each once."""
+    uses = read_uses()
+    crates = {crate: sources_of(crate) for crate in uses if any(crate in rest for rest in uses.values())}
+    found = [match for sources in crates.values() for source in sources for match in WANTING.finditer(source)]
+    errors = {"AllocError"} | {match[1] or match[2] for match in found}
+    calls = []
+    for crate, sources in crates.items():
+        exported = exports_of(crate)
+        for owner, name, error in (answer for source in sources for answer in answers_in(source)):
+            if (owner or name) in exported and (error in errors or name in TELLING):
+                calls.append(f"{owner}::{name}" if owner else name)
+    return list(dict.fromkeys(calls))
