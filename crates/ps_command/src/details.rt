@@ -4,9 +4,9 @@ ghost use Rattle.std.specs.Prelude.{◌≡◌, false, OnOk};
 
 use crate::explanations::sentence_of;
 use crate::stops::Stop;
+use ps_check::first_fault;
 use ps_devices::{ByteWriter, write_whole};
-use ps_game::read_game;
-use ps_model::{Fault, Memory, Refusal};
+use ps_model::{Fault, Memory};
 use ps_run::RunFault;
 use ps_why::why;
 use std::alloc::Global;
@@ -18,15 +18,6 @@ pub enum Detail {
     Line,
     /// Below it the line of the text, and what is to be mended.
     Why,
-}
-
-/// The first fault of a text, if it has one.
-fn first_fault(alloc: Global, text: &[u8]) -> Result<Option<Fault>, Memory> {
-    match read_game(alloc, text) {
-        Ok(_) => Ok(None),
-        Err(Refusal::Refused(fault)) => Ok(Some(fault)),
-        Err(Refusal::Memory) => Err(Memory),
-    }
 }
 
 /// The lines on a fault: that of the text, and what is to be mended, or else what the fault is.

@@ -105,7 +105,8 @@ const TOO_LONG: &str = "line 1: TX2 TooLong\n";
 const QUIT: &str = "= T\n# level 1\n#P*O#\n\n* quit\n";
 
 /// What a terminal of 24 rows and 80 columns is handed for the game and the key `d`.
-const VIEWED: &str = "\x1b[?25l\x1b[2J\x1b[1;1H\x1b[2K#P*O#\x1b[2;1H\x1b[2K= T\x1b[3;1H\x1b[2K# level 1\
+const VIEWED: &str =
+    "\x1b[?25l\x1b[2J\x1b[1;1H\x1b[2K#P*O#\x1b[2;1H\x1b[2K= T\x1b[3;1H\x1b[2K# level 1\
     \x1b[4;1H\x1b[2Kw a s d move, x act, z undo, r restart, q quit\
     \x1b[1;1H\x1b[2K#.P@#\x1b[5;1H\x1b[2K* the end\x1b[5;1H\r\n\x1b[J\x1b[?25h";
 
